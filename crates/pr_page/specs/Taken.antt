@@ -1,0 +1,13 @@
+-- Linking words, for callers: what ties a printer to the inputs that it has taken. The clauses of `Printer` say all that a caller needs of them.
+use Rattle.std.specs.Prelude.{◌≡◌, ℕ, List}
+use Rattle.pr_page.specs.Steps.{start, state_after}
+use Rattle.pr_page.specs.declared.input.Input.{Input}
+use Rattle.pr_page.specs.declared.state.State.{State}
+
+-- the printer has taken these inputs, in this order, and no others
+pub record HasTaken (inputs : List Input) (printer : State) : Type 0 where
+  pub kept : printer ≡ state_after start inputs
+
+-- how many inputs the printer has taken
+abbrev pub number_taken : State → ℕ
+number_taken printer = printer.taken

@@ -1,0 +1,22 @@
+//! The page that a VIC-1525 Graphic Printer makes of the selections and bytes that it hears.
+//!
+//! A [`Printer`] takes one [`Input`] after another and keeps the [`Paper`]: the rows printed so
+//! far, and the marks of the line that has not ended. The headline is on [`Printer::take`] and
+//! [`Printer::paper`]: the paper is the page of all inputs taken, as `specs/Page.antt` defines it.
+#![tactic(auto)]
+
+mod codes;
+pub mod input;
+pub mod paper;
+mod pending;
+pub mod printer;
+mod settings;
+mod sheet;
+mod state;
+
+pub use input::Input;
+pub use paper::{Mark, Paper, Placed, Row, Sequence};
+pub use printer::{Printer, each_list_has_one_page};
+
+/// Memory was refused.
+pub type NoMemory = std::alloc::AllocError;

@@ -1,0 +1,142 @@
+//! All that a printer keeps of what it has taken.
+
+ghost use Rattle.std.specs.Prelude.{◌≡◌, ◌^◌, ◌<◌, ◌≤◌, [], ◌∷◌, Bool, OnOk, OnErr, IsOk, IsTrue};
+ghost use Rattle.pr_page.specs.Token.{Plain};
+ghost use Rattle.pr_page.specs.declared.settings.Settings.{Settings};
+ghost use Rattle.pr_page.specs.Steps.{settings_after, begun_by, completed_by, tokens_by, state_after_tokens, step, start, GoesOn, IsInRange};
+
+use crate::codes::{COLUMN, ESCAPE, REPEAT};
+use crate::input::Input;
+use crate::paper::{Paper, Sequence};
+use crate::pending::Pending;
+use crate::settings::Settings;
+use crate::sheet::Sheet;
+use std::alloc::{AllocError, Global};
+
+/// All that the inputs taken have left behind.
+#[derive(Drop)]
+pub struct State {
+    pub settings: Settings,
+    /// The last selection (true: lower/upper case).
+    pub lower: bool,
+    pub pending: Pending,
+    pub sheet: Sheet,
+    /// The number of inputs taken.
+    pub taken: u64,
+}
+
+/// Whether a code leaves the settings and begins no command.
+#[inline(always)]
+fn leaves_settings(b: u8) -> bool
+    ensures begun { IsTrue result → begun_by b ≡ Pending.Idle }
+    ensures settings { IsTrue result → (s : Settings) → settings_after s b ≡ s }
+    ensures completed { IsTrue result → (lower : Bool) → completed_by lower b ≡ Plain lower b ∷ [] }
+{
+    b >= 160 || b >= 32 && b < 128
+}
+
+impl State {
+    /// Nothing has been taken.
+    pub fn new(alloc: Global) -> State
+        ensures { result ≡ start }
+    {
+        State {
+            settings: Settings {
+                graphic: false,
+                wide: false,
+                reverse: false,
+                override_set: None,
+            },
+            lower: false,
+            pending: Pending::Idle,
+            sheet: Sheet {
+                y: 0,
+                position: 0,
+                paper: Paper {
+                    rows: Sequence::new(alloc),
+                    held: Sequence::new(alloc),
+                },
+            },
+            taken: 0,
+        }
+    }
+
+    /// Takes a byte that no command takes.
+    #[inline(always)]
+    fn take_unclaimed(&mut self, alloc: Global, b: u8) -> Result<(), AllocError>
+        requires y { self.old.sheet.y < 2 ^ 60 }
+        requires position { self.old.sheet.position ≤ 480 }
+        ensures ok { OnOk result (self.new ≡ state_after_tokens self.old (completed_by self.old.lower b)) }
+        ensures range { OnOk result (GoesOn self.old.sheet self.new.sheet) }
+        ensures err { OnErr result (self.new ≡ self.old) }
+    {
+        if b == COLUMN || b == REPEAT || b == ESCAPE {
+            return Ok(());
+        }
+        self.sheet.print_plain(alloc, self.settings, self.lower, b)?;
+        self.settings = self.settings.after(b);
+        Ok(())
+    }
+
+    /// Does what the tokens do that a byte completes.
+    #[inline(never)]
+    fn take_tokens(&mut self, alloc: Global, b: u8) -> Result<(), AllocError>
+        requires y { self.old.sheet.y < 2 ^ 60 }
+        requires position { self.old.sheet.position ≤ 480 }
+        ensures ok { OnOk result (self.new ≡ state_after_tokens self.old (tokens_by self.old.pending self.old.lower b)) }
+        ensures range { OnOk result (GoesOn self.old.sheet self.new.sheet) }
+        ensures err { OnErr result (self.new ≡ self.old) }
+    {
+        match self.pending {
+            Pending::Idle => self.take_unclaimed(alloc, b),
+            Pending::EscapeCode => {
+                if b == COLUMN {
+                    return Ok(());
+                }
+                self.take_unclaimed(alloc, b)
+            }
+            Pending::RepeatCount(n) => {
+                if self.settings.graphic && b >= 128 {
+                    return self.sheet.print_columns(alloc, b - 128, n);
+                }
+                Ok(())
+            }
+            Pending::ColumnTens(tens) => {
+                self.sheet.move_to_column(tens, b);
+                Ok(())
+            }
+            Pending::AddressHigh(high) => {
+                self.sheet.move_to_dot(high, b);
+                Ok(())
+            }
+            Pending::ColumnCode | Pending::RepeatCode | Pending::AddressCode => Ok(()),
+        }
+    }
+
+    /// Takes an input. Refused, it leaves all as it was.
+    ///
+    /// A byte that leaves the settings goes straight to the sheet: most bytes do, and this halves
+    /// the time that they take.
+    #[inline(always)]
+    pub fn take(&mut self, alloc: Global, x: Input) -> Result<(), AllocError>
+        requires range { IsInRange self.old }
+        requires room { self.old.taken < 2 ^ 32 }
+        ensures ok { OnOk result (self.new ≡ step self.old x) }
+        ensures selects { (lower : Bool) → x ≡ Input.Select lower → IsOk result }
+        ensures range { IsInRange self.new }
+        ensures err { OnErr result (self.new ≡ self.old) }
+    {
+        match x {
+            Input::Select(lower) => self.lower = lower,
+            Input::Byte(b) if leaves_settings(b) && matches!(self.pending, Pending::Idle) => {
+                self.sheet.print_plain(alloc, self.settings, self.lower, b)?;
+            }
+            Input::Byte(b) => {
+                self.take_tokens(alloc, b)?;
+                self.pending = self.pending.after(b);
+            }
+        }
+        self.taken += 1;
+        Ok(())
+    }
+}
