@@ -1,0 +1,35 @@
+# make run          proves and builds the program (once) and prints the page of examples/hello.bas
+# make test         the gate: every proof, test and must-fail edit, then the tests outside the prover
+# make bench        speed and peak memory beside `cat` and `wc -l`
+# make install      copies the built program to $(PREFIX)/bin
+
+PREFIX ?= /usr/local
+PROGRAM := crates/print1525/out/print1525
+
+# The crates whose tests go on after a refused allocation (tests/growths).
+GROWTHS := pr_page
+
+.PHONY: run build test outside bench install
+
+run: build
+	@$(PROGRAM) pages < examples/hello.bas
+
+# `rt run` proves, builds and runs, and only runs where nothing has changed since.
+build:
+	@cd crates/print1525 && rt run -- --help > out.log 2>&1 || { cat out.log; rm -f out.log; exit 1; }; rm -f out.log
+
+test:
+	rt ci
+	@$(MAKE) --no-print-directory outside
+
+# The tests outside the prover: the built program, and the tests of crates that go on after a refusal.
+outside: build
+	@for crate in $(GROWTHS); do (cd crates/$$crate && rt test > out.log 2>&1) || { cat crates/$$crate/out.log; exit 1; }; rm -f crates/$$crate/out.log; done
+	@tests/run $(PROGRAM)
+
+bench: build
+	@tests/bench $(PROGRAM)
+
+install: build
+	install -d $(DESTDIR)$(PREFIX)/bin
+	install $(PROGRAM) $(DESTDIR)$(PREFIX)/bin/print1525

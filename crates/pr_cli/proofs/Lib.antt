@@ -1,0 +1,4 @@
+pub mod KnownSteps
+pub mod PlainLemmas
+pub mod PageLemmas
+pub mod CommandLemmas

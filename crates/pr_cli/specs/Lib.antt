@@ -1,0 +1,10 @@
+pub mod Watched
+pub mod Whole
+pub mod PageText
+pub mod Plain
+pub mod Pages
+pub mod CommandLine
+pub mod Jobs
+pub mod Gives
+pub mod Tables
+pub mod Faults

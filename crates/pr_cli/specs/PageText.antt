@@ -1,0 +1,43 @@
+-- Trusted: the page text, a line for each printer, row and mark, then the statuses and the screen's bytes.
+use Rattle.std.specs.Prelude.{ℕ, Bool, List, [], ◌∷◌, ◌++◌, codes, decimal, flat_map, if◌then◌else◌}
+use Rattle.pr_page.specs.declared.paper.Placed.{Placed}
+use Rattle.pr_page.specs.declared.paper.Row.{Row}
+use Rattle.pr_page.specs.declared.paper.Paper.{Paper}
+use Rattle.pr_page.specs.declared.paper.Mark.{Mark}
+use Rattle.pr_page.specs.declared.paper.Mark.TheVariants.{Cell, Dots}
+
+-- a word where it holds
+abbrev pub word_if : Bool → List ℕ → List ℕ
+word_if holds word = if holds then word else []
+
+-- the words on a mark, after its dot column
+abbrev pub mark_words : Mark → List ℕ
+mark_words (Cell code lower reverse wide) =
+    codes " cell " ++ decimal code ++ word_if lower (codes " lower") ++ word_if reverse (codes " reverse") ++ word_if wide (codes " wide")
+mark_words (Dots value) = codes " dots " ++ decimal value
+
+-- a mark's line
+unfoldable pub mark_text : Placed → List ℕ
+mark_text p = codes " " ++ decimal p.x ++ mark_words p.mark ++ codes "\n"
+
+-- a row's line, and those of its marks
+unfoldable pub row_text : Row → List ℕ
+row_text r = codes "row " ++ decimal r.y ++ codes "\n" ++ flat_map mark_text r.marks
+
+-- the marks of a line that has not ended
+unfoldable pub held_text : List Placed → List ℕ
+held_text [] = []
+held_text (m ∷ ms) = codes "held\n" ++ flat_map mark_text (m ∷ ms)
+
+-- a printer's part
+unfoldable pub paper_text : ℕ → Paper → List ℕ
+paper_text device p = codes "printer " ++ decimal device ++ codes "\n" ++ flat_map row_text p.rows ++ held_text p.held
+
+-- a name, and numbers after it
+unfoldable pub numbers_text : List ℕ → List ℕ → List ℕ
+numbers_text name numbers = name ++ flat_map (λ n. codes " " ++ decimal n) numbers ++ codes "\n"
+
+-- the page text of two papers, the statuses and the screen's bytes
+unfoldable pub page_text : Paper → Paper → List ℕ → List ℕ → List ℕ
+page_text four five statuses screen =
+    paper_text 4 four ++ paper_text 5 five ++ numbers_text (codes "status") statuses ++ numbers_text (codes "screen") screen

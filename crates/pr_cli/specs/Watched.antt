@@ -1,0 +1,16 @@
+-- Trusted: a reader or a writer that remembers whether it has failed.
+use Rattle.std.specs.Prelude.{ℕ, Bool, true, ◌&&◌, ◌==◌, not, Result, Ok, Err}
+use Rattle.pr_cli.specs.declared.watched.Watched.{Watched}
+
+-- the reader or writer inside
+abbrev pub wrapped : {T : Type 0} → Watched T → T
+wrapped w = w.inner
+
+-- whether a call through it has failed so far
+abbrev pub has_failed : {T : Type 0} → Watched T → Bool
+has_failed w = w.failed
+
+-- a write of n bytes fails: an error, or an answer that none of some bytes was taken
+abbrev pub write_fails : {E : Type 0} → Result ℕ E → ℕ → Bool
+write_fails (Ok taken) n = (taken == 0) && not (n == 0)
+write_fails (Err e) n = true

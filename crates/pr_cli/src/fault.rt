@@ -1,0 +1,85 @@
+//! Why there was no text, or not all of it.
+
+ghost use Rattle.std.specs.Prelude.{◌≡◌};
+
+use crate::whole::ReadFault;
+use std::alloc::{AllocError, AllocFailed};
+use thiserror::Error;
+
+/// The first fault of a script from the left, with the number of its line, counted from 1.
+#[derive(Clone, Copy, Debug, PartialEq, Eq, Error)]
+pub enum ScriptFault {
+    /// A byte, or a line's end, that the form of the line does not allow there.
+    #[error("line {0}: unknown word")]
+    UnknownWord(usize),
+    /// A string's 256th byte.
+    #[error("line {0}: too long")]
+    TooLong(usize),
+    /// The line after the one millionth.
+    #[error("line {0}: too many statements")]
+    TooMany(usize),
+}
+
+/// Why a run of the program wrote no text, or not all of it.
+#[derive(Clone, Copy, Debug, PartialEq, Eq, Error)]
+pub enum CliFault {
+    /// The script is refused.
+    #[error(transparent)]
+    Script(ScriptFault),
+    /// The input is larger than the limit.
+    #[error("input too large")]
+    TooLarge,
+    /// Memory was refused.
+    #[error("out of memory")]
+    NoMemory,
+    /// A read of the input failed.
+    #[error("read failed")]
+    ReadFailed,
+    /// A write of the output failed.
+    #[error("write failed")]
+    WriteFailed,
+}
+
+impl From<ScriptFault> for CliFault {
+    ghost use Rattle.pr_cli.specs.declared.fault.CliFault.TheVariants.{Script};
+
+    ghost from_gives = { λ e f. f ≡ Script e };
+
+    fn from(e: ScriptFault) -> CliFault {
+        CliFault::Script(e)
+    }
+}
+
+impl From<AllocError> for CliFault {
+    ghost use Rattle.pr_cli.specs.declared.fault.CliFault.TheVariants.{NoMemory};
+
+    ghost from_gives = { λ _ f. f ≡ NoMemory };
+
+    fn from(_e: AllocError) -> CliFault {
+        CliFault::NoMemory
+    }
+}
+
+impl<T: Drop> From<AllocFailed<T>> for CliFault {
+    ghost use Rattle.pr_cli.specs.declared.fault.CliFault.TheVariants.{NoMemory};
+
+    ghost from_gives = { λ _ f. f ≡ NoMemory };
+
+    fn from(_e: AllocFailed<T>) -> CliFault {
+        CliFault::NoMemory
+    }
+}
+
+impl From<ReadFault> for CliFault {
+    ghost use Rattle.pr_cli.specs.Faults.{fault_of_read};
+
+    ghost from_gives = { λ e f. f ≡ fault_of_read e };
+
+    fn from(e: ReadFault) -> CliFault {
+        match e {
+            ReadFault::TooLarge => CliFault::TooLarge,
+            ReadFault::NoMemory => CliFault::NoMemory,
+            ReadFault::ReadFailed => CliFault::ReadFailed,
+        }
+    }
+}

@@ -1,0 +1,210 @@
+//! Page texts.
+//!
+//! A page text has about twelve bytes for each byte that is printed, so what is added for a mark
+//! stands ready in tables of short texts.
+
+ghost use Rattle.std.specs.Prelude.{◌≡◌, [], ◌++◌, codes, decimal, flat_map, vec_len, OnOk, IfOk};
+ghost use Rattle.pr_cli.specs.PageText.{held_text, mark_text, mark_words, numbers_text, page_text, paper_text, row_text, word_if};
+ghost use Rattle.pr_cli.specs.Tables.{HasNumbers};
+
+use crate::short::{Short, numbers_between, push_number};
+use pr_page::{Mark, Paper, Placed, Row};
+use std::alloc::{AllocError, Global};
+
+/// The dot columns of a line.
+const LINE_DOTS: usize = 480;
+
+/// The values of a byte.
+const BYTES: usize = 256;
+
+/// The short texts of a page text.
+#[derive(Drop)]
+struct Texts {
+    /// A space and a dot column, or any smaller number.
+    numbers: Vec<Short>,
+    /// The rest of the line of a cell of standard width, by its code.
+    cells: Vec<Short>,
+    /// The rest of the line of a column of dots.
+    dots: Vec<Short>,
+    ghost numbers_count: { vec_len numbers ≡ 480 },
+    ghost numbers_right: { HasNumbers numbers.items 480 (codes " ") [] },
+    ghost cells_count: { vec_len cells ≡ 256 },
+    ghost cells_right: { HasNumbers cells.items 256 (codes " cell ") (codes "\n") },
+    ghost dots_count: { vec_len dots ≡ 256 },
+    ghost dots_right: { HasNumbers dots.items 256 (codes " dots ") (codes "\n") },
+}
+
+/// Adds a word where it holds.
+fn push_if(text: &mut Vec<u8>, holds: bool, word: &[u8]) -> Result<(), AllocError>
+    ensures { OnOk result (text.new.items ≡ text.old.items ++ word_if holds word.now) }
+{
+    if holds {
+        text.extend_from_slice(word)?;
+    }
+    Ok(())
+}
+
+/// Adds the words on a mark, of any kind.
+#[inline(never)]
+fn push_words(text: &mut Vec<u8>, mark: Mark) -> Result<(), AllocError>
+    ensures { OnOk result (text.new.items ≡ text.old.items ++ mark_words mark) }
+{
+    match mark {
+        Mark::Cell {
+            code,
+            lower,
+            reverse,
+            wide,
+        } => {
+            text.extend_from_slice(b" cell ")?;
+            push_number(text, u64::from(code))?;
+            push_if(text, lower, b" lower")?;
+            push_if(text, reverse, b" reverse")?;
+            push_if(text, wide, b" wide")
+        }
+        Mark::Dots(value) => {
+            text.extend_from_slice(b" dots ")?;
+            push_number(text, u64::from(value))
+        }
+    }
+}
+
+impl Texts {
+    fn new(alloc: Global) -> Result<Texts, AllocError> {
+        Ok(Texts {
+            numbers: numbers_between(alloc, b" ", LINE_DOTS, b"")?,
+            cells: numbers_between(alloc, b" cell ", BYTES, b"\n")?,
+            dots: numbers_between(alloc, b" dots ", BYTES, b"\n")?,
+        })
+    }
+
+    /// Adds a space and a dot column.
+    #[inline(always)]
+    fn push_column(&self, text: &mut Vec<u8>, x: u16) -> Result<(), AllocError>
+        ensures { OnOk result (text.new.items ≡ text.old.items ++ codes " " ++ decimal x) }
+    {
+        if usize::from(x) < LINE_DOTS {
+            return self.numbers[usize::from(x)].add_to(text);
+        }
+        text.push(b' ')?;
+        push_number(text, u64::from(x))
+    }
+
+    /// Adds the rest of a mark's line.
+    #[inline(always)]
+    fn push_mark_end(&self, text: &mut Vec<u8>, mark: Mark) -> Result<(), AllocError>
+        ensures { OnOk result (text.new.items ≡ text.old.items ++ mark_words mark ++ codes "\n") }
+    {
+        match mark {
+            Mark::Cell {
+                code,
+                lower: false,
+                reverse: false,
+                wide: false,
+            } => self.cells[usize::from(code)].add_to(text),
+            Mark::Dots(value) => self.dots[usize::from(value)].add_to(text),
+            _ => {
+                push_words(text, mark)?;
+                text.push(b'\n')?;
+                Ok(())
+            }
+        }
+    }
+
+    #[inline(always)]
+    #[tactic(auto, unfolding(crate::specs::PageText::mark_text))]
+    fn push_mark(&self, text: &mut Vec<u8>, placed: Placed) -> Result<(), AllocError>
+        ensures { OnOk result (text.new.items ≡ text.old.items ++ mark_text placed) }
+    {
+        self.push_column(text, placed.x)?;
+        self.push_mark_end(text, placed.mark)
+    }
+
+    fn push_marks(&self, text: &mut Vec<u8>, marks: &[Placed]) -> Result<(), AllocError>
+        ensures { OnOk result (text.new.items ≡ text.old.items ++ flat_map mark_text marks.now) }
+    {
+        for placed in marks {
+            self.push_mark(text, *placed)?;
+        }
+        Ok(())
+    }
+
+    #[tactic(auto, unfolding(crate::specs::PageText::row_text))]
+    fn push_row(&self, text: &mut Vec<u8>, row: &Row) -> Result<(), AllocError>
+        ensures { OnOk result (text.new.items ≡ text.old.items ++ row_text row.now) }
+    {
+        text.extend_from_slice(b"row ")?;
+        push_number(text, row.y)?;
+        text.push(b'\n')?;
+        self.push_marks(text, row.marks.as_slice())
+    }
+
+    fn push_rows(&self, text: &mut Vec<u8>, rows: &[Row]) -> Result<(), AllocError>
+        ensures { OnOk result (text.new.items ≡ text.old.items ++ flat_map row_text rows.now) }
+    {
+        for row in rows {
+            self.push_row(text, row)?;
+        }
+        Ok(())
+    }
+
+    #[tactic(auto, unfolding(crate::specs::PageText::held_text))]
+    fn push_held(&self, text: &mut Vec<u8>, held: &[Placed]) -> Result<(), AllocError>
+        ensures { OnOk result (text.new.items ≡ text.old.items ++ held_text held.now) }
+    {
+        if held.is_empty() {
+            return Ok(());
+        }
+        text.extend_from_slice(b"held\n")?;
+        self.push_marks(text, held)
+    }
+
+    #[tactic(auto, unfolding(crate::specs::PageText::paper_text))]
+    fn push_paper(&self, text: &mut Vec<u8>, device: u8, paper: &Paper) -> Result<(), AllocError>
+        ensures { OnOk result (text.new.items ≡ text.old.items ++ paper_text device paper.now) }
+    {
+        text.extend_from_slice(b"printer ")?;
+        push_number(text, u64::from(device))?;
+        text.push(b'\n')?;
+        self.push_rows(text, paper.rows.as_slice())?;
+        self.push_held(text, paper.held.as_slice())
+    }
+
+    /// Adds a name and numbers after it.
+    #[tactic(auto, unfolding(crate::specs::PageText::numbers_text))]
+    fn push_numbers(
+        &self,
+        text: &mut Vec<u8>,
+        name: &[u8],
+        numbers: &[u8],
+    ) -> Result<(), AllocError>
+        ensures { OnOk result (text.new.items ≡ text.old.items ++ numbers_text name.now numbers.now) }
+    {
+        text.extend_from_slice(name)?;
+        for n in numbers {
+            self.numbers[usize::from(*n)].add_to(text)?;
+        }
+        text.push(b'\n')?;
+        Ok(())
+    }
+}
+
+/// The page text of two papers, the statuses and the screen's bytes.
+#[tactic(auto, unfolding(crate::specs::PageText::page_text))]
+pub fn text_of_page(
+    alloc: Global,
+    four: &Paper,
+    five: &Paper,
+    statuses: &[u8],
+    screen: &[u8],
+) -> Result<Vec<u8>, AllocError>
+    ensures { IfOk result (λ text. text.items ≡ page_text four.now five.now statuses.now screen.now) }
+{
+    let texts = Texts::new(alloc)?;
+    let mut text = Vec::new(alloc);
+    texts.push_paper(&mut text, 4, four)?;
+    texts.push_paper(&mut text, 5, five)?;
+    texts.push_numbers(&mut text, b"status", statuses)?;
+    texts.push_numbers(&mut text, b"screen", screen)?;
+    Ok(text)
+}
