@@ -1,5 +1,5 @@
 -- From what clap says of its matches to the subcommand met.
-use Rattle.std.proofs.Common.{◌≡◌, ℕ, List, [], ◌∷◌, refl, Option, Some, None, Bool, true, false}
+use Rattle.std.proofs.Common.{◌≡◌, List, [], ◌∷◌, refl, Option, Some, None, Bool, true, false}
 use Rattle.std.specs.Prelude.{option_map, IfSome, find, if◌then◌else◌}
 use Rattle.clap.specs.Words.{Text, built, is_simple, subcommand_of}
 use Rattle.clap.specs.Simple.{Shape, argument_words, entered, names_of, rows_at, label_of}

@@ -1,9 +1,8 @@
 -- Laws of what a printer hears, string by string.
-use Rattle.std.proofs.Common.{◌≡◌, ℕ, ◌+◌, ◌<◌, List, [], ◌∷◌, ◌++◌, length, get_or, take, map, refl, ap, sym, ◌∙◌, append-nil, Bor, arith}
-use Rattle.std.specs.Prelude.{flat_map, replicate}
+use Rattle.std.proofs.Common.{◌≡◌, ℕ, ◌+◌, ◌<◌, List, [], ◌∷◌, ◌++◌, length, get_or, take, refl, ap, sym, ◌∙◌, append-nil, Bor, arith}
+use Rattle.std.specs.Prelude.{replicate}
 use Rattle.std.proofs.lemmas.Grind.{flat_map-append}
 use Rattle.std.proofs.lemmas.List.{take_more, map-append, length-map}
-use Rattle.pr_page.specs.declared.input.Input.{Input}
 use Rattle.pr_cli.specs.Plain.{inputs_of, statuses_of, string_inputs}
 use Rattle.pr_cli.proofs.PlainLemmas.{texts}
 

@@ -1,10 +1,10 @@
 -- Laws of the lines and the strings of plain scripts.
-use Rattle.std.proofs.Common.{◌≡◌, ℕ, zero, suc, ◌+◌, ◌<◌, ◌≤◌, List, [], ◌∷◌, ◌++◌, length, get_or, take, drop, refl, ap, sym, ◌∙◌, arith, Ok, Err, Result, append_assoc, map, Vec, Global, Bor}
+use Rattle.std.proofs.Common.{◌≡◌, ℕ, zero, suc, ◌+◌, ◌<◌, ◌≤◌, List, [], ◌∷◌, ◌++◌, length, get_or, take, drop, refl, ap, sym, ◌∙◌, arith, Ok, Err, Result, append_assoc, map, Bor}
 use Rattle.std.proofs.lemmas.Grind.{common_steps}
 use Rattle.std.proofs.lemmas.List.{map-append}
 use Rattle.std.specs.Prelude.{All}
 use Rattle.std.proofs.lemmas.List.Elements.{All-push}
-use Rattle.pr_cli.specs.Plain.{lines_of, onto_first, string_then, print_line, print_lines}
+use Rattle.pr_cli.specs.Plain.{lines_of, string_then, print_line, print_lines}
 use Rattle.pr_cli.specs.declared.fault.ScriptFault.{ScriptFault}
 use Rattle.pr_cli.specs.declared.fault.ScriptFault.TheVariants.{TooMany}
 

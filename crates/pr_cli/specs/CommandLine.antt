@@ -3,7 +3,7 @@ use Rattle.std.specs.Prelude.{◌≡◌, codes, true, false}
 use Rattle.clap.specs.declared.Command.{Command}
 use Rattle.clap.specs.declared.Command.TheViews.{out-Command}
 use Rattle.clap.specs.Words.{App, new_app, with_subcommand}
-use Rattle.clap.specs.Simple.{Shape, on_top}
+use Rattle.clap.specs.Simple.{on_top}
 
 -- the program, which wants a subcommand
 abbrev pub print1525 : App

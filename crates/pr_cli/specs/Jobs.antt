@@ -1,5 +1,5 @@
 -- Trusted: what a command line asks for, by clap's meaning of the command.
-use Rattle.std.specs.Prelude.{◌≡◌, ℕ, List, Option, Some, codes}
+use Rattle.std.specs.Prelude.{◌≡◌, List, Option, Some, codes}
 use Rattle.clap.specs.Words.{Row, Text}
 use Rattle.pr_cli.specs.declared.job.Job.{Job}
 use Rattle.pr_cli.specs.declared.job.Job.TheVariants.{Pages}

@@ -1,4 +1,4 @@
-use Rattle.std.proofs.Common.{ap, ◌∙◌, sym, ◌≡◌, map, subst}
+use Rattle.std.proofs.Common.{ap, ◌∙◌, sym, map, subst}
 use Rattle.std.specs.Prelude.{IfSome}
 use Rattle.clap.specs.Words.{App, is_simple, subcommand_of, takes}
 use Rattle.pr_cli.specs.Jobs.{AsksFor, IsOurs, Met}

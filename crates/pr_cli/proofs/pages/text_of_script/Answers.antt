@@ -1,4 +1,4 @@
-use Rattle.std.proofs.Common.{arith, ap, ◌∙◌, [], length, ◌≡◌, ◌+◌}
+use Rattle.std.proofs.Common.{arith, ap, ◌∙◌, []}
 use Rattle.std.proofs.lemmas.Grind.{common_steps}
 use Rattle.pr_cli.specs.PageText.{page_text}
 use Rattle.pr_cli.proofs.PlainLemmas.{texts}

@@ -1,4 +1,4 @@
-use Rattle.std.proofs.Common.{arith, ap, ◌∙◌, append-nil, Ok, ◌≤◌}
+use Rattle.std.proofs.Common.{arith, ap, ◌∙◌, append-nil, Ok}
 use Rattle.std.proofs.lemmas.Grind.{common_steps}
 use Rattle.std.proofs.lemmas.Result.{err_from_is_err_and}
 use Rattle.pr_cli.specs.Plain.{print_lines}

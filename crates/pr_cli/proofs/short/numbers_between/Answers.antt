@@ -1,4 +1,4 @@
-use Rattle.std.proofs.Common.{arith, length, decimal, ◌≤◌, ◌≡◌, ◌+◌, ap, ◌∙◌, length-append}
+use Rattle.std.proofs.Common.{arith, length, decimal, ap, length-append}
 use Rattle.std.proofs.lemmas.Fmt.{length-decimal-le}
 use Rattle.pr_cli.proofs.short.numbers_between.Goals as goal
 

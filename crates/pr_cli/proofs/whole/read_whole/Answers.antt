@@ -1,4 +1,4 @@
-use Rattle.std.proofs.Common.{arith, length, ◌≡◌, ◌<◌, ◌+◌, take}
+use Rattle.std.proofs.Common.{arith, take}
 use Rattle.pr_cli.proofs.KnownSteps.{all_taken, too_many}
 use Rattle.pr_cli.proofs.whole.read_whole.Goals as goal
 

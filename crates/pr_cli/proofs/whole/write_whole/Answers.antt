@@ -1,4 +1,4 @@
-use Rattle.std.proofs.Common.{arith, rules}
+use Rattle.std.proofs.Common.{rules}
 use Rattle.pr_cli.proofs.KnownSteps.{appends_rest, front_rest, tail_from}
 use Rattle.pr_cli.proofs.whole.write_whole.Goals as goal
 
