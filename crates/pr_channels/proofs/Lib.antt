@@ -1,0 +1,2 @@
+pub mod AddingLemmas
+pub mod TableLemmas

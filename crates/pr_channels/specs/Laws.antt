@@ -1,0 +1,24 @@
+-- Laws of the definitions. The functions of src/laws.rt prove them, and callers take them from there.
+use Rattle.std.specs.Prelude.{◌≡◌, Bool, None, List, [], ◌∷◌, ◌++◌, filter}
+use Rattle.pr_serial.specs.Elements.{Element}
+use Rattle.pr_serial.specs.Items.{items_of}
+use Rattle.pr_channels.specs.declared.file.File.{File}
+use Rattle.pr_channels.specs.Files.{Files, IsTable, open_stop}
+use Rattle.pr_channels.specs.Seen.{Seen}
+use Rattle.pr_channels.specs.Calls.{adding}
+
+-- elements added one part after another are added at once
+abbrev pub AddingInTwoParts : Type 0
+AddingInTwoParts = (es fs : List Element) (old : Seen) → old.sent ≡ items_of old.elements → adding fs (adding es old) ≡ adding (es ++ fs) old
+
+-- no more elements leave all as it is
+abbrev pub AddingNone : Type 0
+AddingNone = (old : Seen) → old.sent ≡ items_of old.elements → adding [] old ≡ old
+
+-- one more file against which nothing stands makes a file table of a file table
+abbrev pub TableWithOneMore : Type 0
+TableWithOneMore = (files : Files) (file : File) → IsTable files → open_stop files file.number ≡ None → IsTable (files ++ file ∷ [])
+
+-- some of the files of a file table are a file table
+abbrev pub TableWithSome : Type 0
+TableWithSome = (keep : File → Bool) (files : Files) → IsTable files → IsTable (filter keep files)

@@ -1,0 +1,5 @@
+pub mod Files
+pub mod Seen
+pub mod Calls
+pub mod Sending
+pub mod Laws

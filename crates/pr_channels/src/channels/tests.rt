@@ -1,0 +1,178 @@
+//! The worked channel calls over a bus without wires.
+
+use super::*;
+use pr_serial::{Direct, Input, Present};
+use std::process::Abort;
+use std::test::Fail;
+
+const BOTH: Present = Present {
+    four: true,
+    five: true,
+};
+
+const ONLY_FOUR: Present = Present {
+    four: true,
+    five: false,
+};
+
+/// Channels over a bus on which nothing was sent.
+fn over_direct(alloc: Global, present: Present) -> Channels<Direct> {
+    Channels::new(alloc, Direct::new(alloc, present))
+}
+
+fn chkout(rt: &impl Abort, channels: &mut Channels<Direct>, file: u8) -> Result<(), Fault> {
+    assert!(rt; channels.serial().items() < 1000);
+    channels.chkout(file)
+}
+
+fn chrout(rt: &impl Abort, channels: &mut Channels<Direct>, byte: u8) -> Result<(), NoMemory> {
+    assert!(rt; channels.serial().items() < 1000);
+    channels.chrout(byte)
+}
+
+fn clrchn(rt: &impl Abort, channels: &mut Channels<Direct>) -> Result<(), NoMemory> {
+    assert!(rt; channels.serial().items() < 1000);
+    channels.clrchn()
+}
+
+fn close_file(rt: &impl Abort, channels: &mut Channels<Direct>, file: u8) -> Result<(), NoMemory> {
+    assert!(rt; channels.serial().items() < 1000);
+    channels.close_file(file)
+}
+
+/// The bus has so many items, the output device and the status are these, and printer 4 heard these
+/// inputs.
+fn shows(
+    rt: &impl Abort,
+    channels: &Channels<Direct>,
+    items: u64,
+    output: u8,
+    status: u8,
+    four: &[Input],
+) {
+    assert_eq!(rt; channels.serial().items(), items);
+    assert_eq!(rt; channels.output(), output);
+    assert_eq!(rt; channels.readst(), status);
+    assert_eq!(rt; channels.serial().heard(4), four);
+}
+
+#[test]
+fn channel_calls_send_and_hold(rt: HostRuntime) -> Result<(), Fail> {
+    let mut channels = over_direct(rt.alloc(), BOTH);
+    assert_eq!(rt; channels.open_file(4, 4, None), Ok(()));
+    assert_eq!(rt; chkout(&rt, &mut channels, 4), Ok(()));
+    chrout(&rt, &mut channels, 72)?;
+    chrout(&rt, &mut channels, 73)?;
+    assert_eq!(rt; channels.serial().items(), 2);
+    clrchn(&rt, &mut channels)?;
+    let heard = [Input::Select(false), Input::Byte(72), Input::Byte(73)];
+    shows(&rt, &channels, 4, 3, 0, &heard);
+    assert!(rt; channels.serial().heard(5).is_empty());
+    Ok(())
+}
+
+#[test]
+fn close_while_output_stays(rt: HostRuntime) -> Result<(), Fail> {
+    let mut channels = over_direct(rt.alloc(), BOTH);
+    assert_eq!(rt; channels.open_file(4, 4, Some(7)), Ok(()));
+    assert_eq!(rt; chkout(&rt, &mut channels, 4), Ok(()));
+    chrout(&rt, &mut channels, 65)?;
+    close_file(&rt, &mut channels, 4)?;
+    let heard = [
+        Input::Select(false),
+        Input::Select(true),
+        Input::Byte(65),
+        Input::Select(false),
+    ];
+    shows(&rt, &channels, 4, 4, 0, &heard);
+    chrout(&rt, &mut channels, 88)?;
+    clrchn(&rt, &mut channels)?;
+    shows(&rt, &channels, 6, 3, 128, &heard);
+    Ok(())
+}
+
+#[test]
+fn unanswered_byte_stops_the_next_chkout(rt: HostRuntime) -> Result<(), Fail> {
+    let mut channels = over_direct(rt.alloc(), ONLY_FOUR);
+    assert_eq!(rt; channels.open_file(4, 4, None), Ok(()));
+    assert_eq!(rt; channels.open_file(5, 5, None), Ok(()));
+    assert_eq!(rt; chkout(&rt, &mut channels, 5), Ok(()));
+    chrout(&rt, &mut channels, 65)?;
+    chrout(&rt, &mut channels, 13)?;
+    channels.clear_status();
+    let stop = chkout(&rt, &mut channels, 4);
+    assert_eq!(rt; stop, Err(Fault::Stop(Stop::DeviceNotPresent)));
+    shows(&rt, &channels, 4, 5, 128, &[Input::Select(false)]);
+    clrchn(&rt, &mut channels)?;
+    shows(&rt, &channels, 5, 3, 128, &[Input::Select(false)]);
+    Ok(())
+}
+
+/// What a file that is not open does, what stays on the screen, and the parts in the end.
+#[test]
+fn screen_and_files_that_are_not_open(rt: HostRuntime) -> Result<(), Fail> {
+    let mut channels = over_direct(rt.alloc(), BOTH);
+    let stop = chkout(&rt, &mut channels, 4);
+    assert_eq!(rt; stop, Err(Fault::Stop(Stop::FileNotOpen)));
+    close_file(&rt, &mut channels, 4)?;
+    clrchn(&rt, &mut channels)?;
+    chrout(&rt, &mut channels, 88)?;
+    chrout(&rt, &mut channels, 13)?;
+    channels.forget();
+    shows(&rt, &channels, 0, 3, 0, &[]);
+    assert_eq!(rt; channels.serial().mark(), Some(0));
+    assert!(rt; channels.files().as_slice().is_empty());
+    assert_eq!(rt; channels.screen(), [88, 13].as_slice());
+    let (bus, screen) = channels.into_parts();
+    assert_eq!(rt; bus.items(), 0);
+    assert_eq!(rt; screen.as_slice(), [88, 13].as_slice());
+    Ok(())
+}
+
+/// The number of bytes for the screen with refused growths.
+const SCREEN_BYTES: u8 = 10;
+
+/// The number of LISTENs with refused growths.
+const LISTENS: u8 = 5;
+
+/// Bytes on the screen: a refused one leaves its list as it was, and the next is taken again. It
+/// answers how many were refused.
+fn screen_stays(rt: &impl Abort, channels: &mut Channels<Direct>) -> usize {
+    let mut written = [0; SCREEN_BYTES as usize];
+    let mut count = 0;
+    for byte in 0..SCREEN_BYTES {
+        assert!(rt; count < written.len());
+        if chrout(rt, channels, byte).is_ok() {
+            written[count] = byte;
+            count += 1;
+        }
+        assert!(rt; count <= written.len());
+        assert_eq!(rt; channels.screen(), &written[..count], "byte {byte}");
+    }
+    written.len().saturating_sub(count)
+}
+
+/// With no growth refused each call is answered. With one refused, as by `rt try --test
+/// --fail-alloc N`, a byte for the screen changes nothing, and each call that reaches the bus after
+/// a refusal by it is refused too. It prints how many calls were refused, so that a loop over N
+/// knows where to end.
+#[test]
+fn each_growth_refused(rt: HostRuntime) -> Result<(), Fail> {
+    let mut channels = over_direct(rt.alloc(), BOTH);
+    let mut refused = screen_stays(&rt, &mut channels);
+    assert_eq!(rt; channels.open_file(4, 4, Some(7)), Ok(()));
+    for call in 0..LISTENS {
+        let failed = channels.serial().failed();
+        let answer = chkout(&rt, &mut channels, 4);
+        if failed || answer.is_err() {
+            assert_eq!(rt; answer, Err(Fault::NoMemory), "call {call}");
+            assert!(rt; channels.serial().failed(), "call {call}");
+            refused = refused.saturating_add(1);
+        }
+    }
+    let failed = channels.serial().failed();
+    let answer = close_file(&rt, &mut channels, 4);
+    assert!(rt; answer.is_err() || !failed);
+    println!(rt; "{refused} calls refused")?;
+    Ok(())
+}

@@ -1,0 +1,18 @@
+//! The KERNAL's channel calls over any serial bus: the file table, the output device, and the byte
+//! that is held back until it is known whether it is the last one.
+//!
+//! The words of the contracts stand in `specs/`: `Files.antt` is the file table, `Seen.antt` what a
+//! contract sees of the channels, and `Calls.antt` what each call does.
+#![tactic(auto)]
+
+pub mod channels;
+mod faults;
+mod file;
+pub mod file_table;
+pub mod laws;
+mod sender;
+
+pub use channels::Channels;
+pub use faults::{Fault, Stop};
+pub use file::File;
+pub use file_table::FileTable;

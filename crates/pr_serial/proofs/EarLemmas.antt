@@ -1,0 +1,96 @@
+-- What the bus without wires keeps of a printer, after one more item.
+use Rattle.std.proofs.Common.{◌≡◌, ℕ, ◌+◌, ◌==◌, Bool, false, cond, ◌||◌, Option, Some, None, take, length, List, [], ◌∷◌, ◌++◌, refl, sym, ap, ◌∙◌, append-nil, append_assoc, length-append, arith}
+use Rattle.std.proofs.lemmas.List.{take-append-le}
+use Rattle.std.proofs.Math.Seq.{take-length}
+use Rattle.std.proofs.Math.Bool.{or-false}
+use Rattle.pr_serial.specs.declared.Present.{Present}
+use Rattle.pr_serial.specs.declared.Item.{Item}
+use Rattle.pr_serial.specs.declared.Item.TheVariants.{Attention, Sent}
+use Rattle.pr_serial.specs.declared.ear.Ear.{Ear}
+use Rattle.pr_page.specs.declared.input.Input.{Input}
+use Rattle.pr_serial.specs.Answers.{is_present, is_listener, inputs_at, heard_by, items_before}
+use Rattle.pr_serial.specs.Hearing.{Hears, IsWithin}
+use Rattle.pr_serial.proofs.AnswerLemmas.{is_listener-push}
+use Rattle.pr_serial.proofs.HeardLemmas.{heard_by-push}
+
+-- one more item leaves those before the mark
+pub before_push : (mark : Option ℕ) (items : List Item) (item : Item) → IsWithin mark items → items_before mark (items ++ item ∷ []) ≡ items_before mark items
+before_push None items item within = refl
+before_push (Some n) items item within = rw take-append-le
+
+-- what is heard since the mark grows as what is heard does
+grown : (present : Present) (number : ℕ) (mark : Option ℕ) (old items : List Item) (item : Item) (before after : List Input) → IsWithin mark old → items ≡ old ++ item ∷ []
+    → heard_by present number (items_before mark old) ++ before ≡ heard_by present number old
+    → after ≡ before ++ cond (is_present present number) (inputs_at number old item) []
+    → heard_by present number (items_before mark items) ++ after ≡ heard_by present number items
+grown present number mark old items item before after within sent was is =
+    ap (λ xs. heard_by present number xs ++ after) (ap (items_before mark) sent ∙ before_push mark old item within)
+    ∙ ap (λ xs. heard_by present number (items_before mark old) ++ xs) is
+    ∙ sym (append_assoc (heard_by present number (items_before mark old)) before (cond (is_present present number) (inputs_at number old item) []))
+    ∙ ap (λ xs. xs ++ cond (is_present present number) (inputs_at number old item) []) was
+    ∙ sym (ap (heard_by present number) sent ∙ heard_by-push present number old item)
+
+pub hears_attention : (present : Present) (number : ℕ) (mark : Option ℕ) (old items : List Item) (first : ℕ) (second : Option ℕ) (before after : Ear) (inputs : List Input)
+    → IsWithin mark old
+    → Hears present number mark old before
+    → items ≡ old ++ Attention first second ∷ []
+    → inputs ≡ before.inputs.items
+    → after.device ≡ before.device
+    → after.there ≡ before.there
+    → after.listens ≡ cond (first == 63) false (before.listens || first == 32 + before.device)
+    → after.inputs.items ≡ inputs ++ cond before.there (inputs_at before.device old (Attention first second)) []
+    → Hears present number mark items after
+hears_attention present number mark old items first second before after inputs within h sent room device there listens heard = record {
+  device = device ∙ h.device;
+  there = there ∙ h.there;
+  listens = listens ∙ ap (λ d. cond (first == 63) false (before.listens || first == 32 + d)) h.device ∙ ap (λ b. cond (first == 63) false (b || first == 32 + number)) h.listens ∙ sym (ap (is_listener number) sent ∙ is_listener-push number old (Attention first second));
+  inputs = grown present number mark old items (Attention first second) before.inputs.items after.inputs.items within sent h.inputs
+      (heard ∙ ap (λ xs. xs ++ cond before.there (inputs_at before.device old (Attention first second)) []) room
+      ∙ ap (λ b. before.inputs.items ++ cond b (inputs_at before.device old (Attention first second)) []) h.there
+      ∙ ap (λ d. before.inputs.items ++ cond (is_present present number) (inputs_at d old (Attention first second)) []) h.device);
+}
+
+pub hears_byte : (present : Present) (number : ℕ) (mark : Option ℕ) (old items : List Item) (b : ℕ) (eoi : Bool) (before after : Ear) (inputs : List Input)
+    → IsWithin mark old
+    → Hears present number mark old before
+    → items ≡ old ++ Sent b eoi ∷ []
+    → inputs ≡ before.inputs.items
+    → after.device ≡ before.device
+    → after.there ≡ before.there
+    → after.listens ≡ before.listens
+    → ((items : List Item) (eoi : Bool) → before.listens ≡ is_listener before.device items → after.inputs.items ≡ inputs ++ cond before.there (inputs_at before.device items (Sent b eoi)) [])
+    → Hears present number mark items after
+hears_byte present number mark old items b eoi before after inputs within h sent room device there listens heard = record {
+  device = device ∙ h.device;
+  there = there ∙ h.there;
+  listens = listens ∙ h.listens ∙ sym (ap (is_listener number) sent ∙ is_listener-push number old (Sent b eoi) ∙ or-false (is_listener number old));
+  inputs = grown present number mark old items (Sent b eoi) before.inputs.items after.inputs.items within sent h.inputs
+      (heard old eoi (h.listens ∙ ap (λ d. is_listener d old) (sym h.device))
+      ∙ ap (λ xs. xs ++ cond before.there (inputs_at before.device old (Sent b eoi)) []) room
+      ∙ ap (λ b'. before.inputs.items ++ cond b' (inputs_at before.device old (Sent b eoi)) []) h.there
+      ∙ ap (λ d. before.inputs.items ++ cond (is_present present number) (inputs_at d old (Sent b eoi)) []) h.device);
+}
+
+-- a printer whose inputs are forgotten
+pub hears_forget : (present : Present) (number : ℕ) (mark : Option ℕ) (n : ℕ) (items : List Item) (before after : Ear)
+    → Hears present number mark items before
+    → n ≡ length items
+    → after.device ≡ before.device
+    → after.there ≡ before.there
+    → after.listens ≡ before.listens
+    → after.inputs.items ≡ []
+    → Hears present number (Some n) items after
+hears_forget present number mark n items before after h is device there listens empty = record {
+  device = device ∙ h.device;
+  there = there ∙ h.there;
+  listens = listens ∙ h.listens;
+  inputs = ap (λ xs. heard_by present number (take n items) ++ xs) empty
+      ∙ append-nil (heard_by present number (take n items))
+      ∙ ap (λ k. heard_by present number (take k items)) is
+      ∙ ap (heard_by present number) (take-length items);
+}
+
+-- the mark is still not past the items
+pub within_push : (mark : Option ℕ) (old items : List Item) (item : Item) → items ≡ old ++ item ∷ [] → IsWithin mark old → IsWithin mark items
+within_push None old items item sent within = tt
+within_push (Some n) old items item sent within = omega (arith, within, ap length sent, length-append old (item ∷ []))

@@ -1,0 +1,4 @@
+pub mod ItemLemmas
+pub mod AnswerLemmas
+pub mod HeardLemmas
+pub mod EarLemmas

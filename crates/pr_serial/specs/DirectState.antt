@@ -1,0 +1,11 @@
+-- Trusted: what a contract sees of the bus without wires.
+use Rattle.std.specs.Prelude.{ℕ, Bool, Option, List}
+use Rattle.pr_serial.specs.declared.Present.{Present}
+use Rattle.pr_serial.specs.declared.Item.{Item}
+
+-- the printers that are there, what was sent, the number of items at the last `forget`, and whether it has failed
+pub record DirectState : Type 0 where
+  pub present : Present
+  pub items : List Item
+  pub mark : Option ℕ
+  pub failed : Bool

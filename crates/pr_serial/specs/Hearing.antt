@@ -1,0 +1,18 @@
+-- Linking words, for proofs: what the bus without wires keeps of a printer. No reader needs to believe them.
+use Rattle.std.specs.Prelude.{◌≡◌, ℕ, ◌≤◌, ◌++◌, Option, Some, None, List, length}
+use Rattle.pr_serial.specs.declared.Present.{Present}
+use Rattle.pr_serial.specs.declared.Item.{Item}
+use Rattle.pr_serial.specs.declared.ear.Ear.{Ear}
+use Rattle.pr_serial.specs.Answers.{is_present, is_listener, heard_by, items_before}
+
+-- it is the printer with this number, and keeps what it heard of these items since the mark
+pub record Hears (present : Present) (number : ℕ) (mark : Option ℕ) (items : List Item) (ear : Ear) : Type 0 where
+  pub device : ear.device ≡ number
+  pub there : ear.there ≡ is_present present number
+  pub listens : ear.listens ≡ is_listener number items
+  pub inputs : heard_by present number (items_before mark items) ++ ear.inputs.items ≡ heard_by present number items
+
+-- the mark isn't past the items
+abbrev pub IsWithin : Option ℕ → List Item → Type 0
+IsWithin None items = Unit {0}
+IsWithin (Some n) items = n ≤ length items

@@ -1,0 +1,25 @@
+-- Trusted: which of the elements are sent, and which byte is marked as the last one. The definition looks ahead; a talker has to wait.
+use Rattle.std.specs.Prelude.{ℕ, true, false, Option, Some, None, List, [], ◌∷◌, ◌++◌}
+use Rattle.pr_serial.specs.declared.Item.{Item}
+use Rattle.pr_serial.specs.declared.Item.TheVariants.{Attention, Sent}
+use Rattle.pr_serial.specs.Elements as element
+use Rattle.pr_serial.specs.Elements.{Element}
+
+-- an attention is sent as it stands; a byte is sent if an element follows it, with end-or-identify exactly if that is an attention
+abbrev pub item_before : Element → List Element → List Item
+item_before (element.Attention first second) rest = Attention first second ∷ []
+item_before (element.Byte b) [] = []
+item_before (element.Byte b) (element.Attention first second ∷ rest) = Sent b true ∷ []
+item_before (element.Byte b) (element.Byte c ∷ rest) = Sent b false ∷ []
+
+-- the items: the elements that are sent, in order
+abbrev pub items_of : List Element → List Item
+items_of [] = []
+items_of (e ∷ rest) = item_before e rest ++ items_of rest
+
+-- the byte that waits for a next element: the last element, if that is a byte
+abbrev pub held_of : List Element → Option ℕ
+held_of [] = None
+held_of (element.Attention first second ∷ []) = None
+held_of (element.Byte b ∷ []) = Some b
+held_of (e ∷ next ∷ rest) = held_of (next ∷ rest)

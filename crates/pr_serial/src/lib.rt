@@ -1,0 +1,36 @@
+//! The serial bus as the computer sees it: what is sent, what is answered, and what each device
+//! hears.
+//!
+//! [`Serial`] is the law of every bus of this workspace, [`Direct`] a bus without wires that keeps
+//! it. The words of both stand in `specs/`: `Items.antt` says which elements are sent, and
+//! `Answers.antt` who listens, what is answered and what a device hears.
+#![tactic(auto)]
+
+pub mod command;
+pub mod direct;
+mod ear;
+pub mod laws;
+pub mod serial;
+
+pub use direct::Direct;
+pub use pr_page::{Input, NoMemory};
+pub use serial::Serial;
+
+/// Which printers are there. It does not change during a run.
+#[derive(Clone, Copy, Debug, PartialEq, Eq)]
+pub struct Present {
+    /// Device 4 is there.
+    pub four: bool,
+    /// Device 5 is there.
+    pub five: bool,
+}
+
+/// What was sent on the bus.
+#[derive(Clone, Copy, Debug, PartialEq, Eq)]
+pub enum Item {
+    /// One or two command bytes under attention: LISTEN or UNLISTEN, and perhaps, after a LISTEN,
+    /// a secondary address (Programmer's Reference Guide, serial bus).
+    Attention(u8, Option<u8>),
+    /// A byte of data, and whether end-or-identify marked it as the last one.
+    Sent(u8, bool),
+}
