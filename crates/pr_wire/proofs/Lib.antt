@@ -1,0 +1,9 @@
+pub mod Bytes
+pub mod Walk
+pub mod PiecesWalk
+pub mod WalkPieces
+pub mod Lawful
+pub mod Reached
+pub mod DelayBounds
+pub mod LineLaws
+pub mod TextLaws

@@ -1,0 +1,11 @@
+pub mod Levels
+pub mod Delays
+pub mod Choices
+pub mod Pieces
+pub mod Table
+pub mod TraceText
+pub mod Reached
+pub mod Laws
+pub mod TextSteps
+pub mod TextLaws
+pub mod Written

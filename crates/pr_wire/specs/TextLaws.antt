@@ -1,0 +1,13 @@
+-- What is promised of trace texts: statements of the laws on a public function.
+use Rattle.std.specs.Prelude.{◌≡◌, ℕ, ◌^◌, ◌<◌, List, All}
+use Rattle.pr_wire.specs.declared.Edge.{Edge}
+use Rattle.pr_wire.specs.TraceText.{trace_text, IsTraceText, IsFirstBad}
+
+-- the text of edges spells them
+abbrev pub TextIsReadBack : Type 0
+TextIsReadBack = (edges : List Edge) → All (λ e. e.time < 2 ^ 64) edges → IsTraceText (trace_text edges) edges
+
+-- a text spells at most one list of edges, and none where it has a bad line
+pub record TextSpellsOnce : Type 0 where
+  pub edges : (text : List ℕ) (es fs : List Edge) → IsTraceText text es → IsTraceText text fs → es ≡ fs
+  pub bad : (text : List ℕ) (n : ℕ) (es : List Edge) → IsFirstBad n text → IsTraceText text es → ⊥

@@ -1,0 +1,82 @@
+//! The checker of traces.
+
+ghost use Rattle.std.specs.Prelude.{◌≡◌, ◌≢◌, OnOk, IfOk, IfErr};
+ghost use Rattle.pr_wire.specs.Pieces.{IsLawful, Spells};
+ghost use Rattle.pr_wire.specs.Laws.{LawfulIsFaultless, SpellsOnce, SpellsTheFramesReached, AllowedIsReached, LawfulIsAllowedToEnd, FaultIsReached, OneEdgeMore};
+ghost use Rattle.pr_wire.specs.Table.{fault_of};
+ghost use Rattle.pr_wire.specs.Reached.{with_frame};
+
+use crate::place::Place;
+use crate::{Edge, Frame, WaveFault};
+use std::alloc::Global;
+
+/// The frames that a lawful trace spells, in order (profile: intervals and shapes as
+/// `specs/Pieces.antt` and `specs/Table.antt` say, after the Programmer's Reference Guide's serial
+/// bus timing).
+///
+/// # Errors
+///
+/// The first fault by the table of places, with the index of its edge; so the list is not lawful.
+/// [`WaveFault::NoMemory`] where a growth of the list of frames was refused.
+pub fn analyse(alloc: Global, edges: &[Edge]) -> Result<Vec<Frame>, WaveFault>
+    ensures lawful { IfOk result (λ frames. Spells edges.now frames.items) }
+    ensures fault { IfErr result (λ fault. fault ≢ WaveFault.NoMemory → fault_of edges.now ≡ Some fault) }
+    ensures not_lawful { IfErr result (λ fault. fault ≢ WaveFault.NoMemory → IsLawful edges.now → ⊥) }
+{
+    let Some(first) = edges.first() else {
+        return Err(WaveFault::Start(0));
+    };
+    if !first.is_start() {
+        return Err(WaveFault::Start(0));
+    }
+    let mut frames = Vec::new(alloc);
+    let mut last = *first;
+    let mut place = Place::Idle(0);
+    for i in 1..edges.len() {
+        let edge = edges[i];
+        let step = match place.after(last, edge) {
+            Ok(step) => step,
+            Err(flaw) => return Err(flaw.at(i)),
+        };
+        keep(&mut frames, step.frame)?;
+        last = edge;
+        place = step.place;
+    }
+    if place.may_end() {
+        Ok(frames)
+    } else {
+        Err(WaveFault::Truncated(edges.len()))
+    }
+}
+
+/// Adds the frame that an edge ends, if it ends one.
+fn keep(frames: &mut Vec<Frame>, frame: Option<Frame>) -> Result<(), WaveFault>
+    ensures kept { OnOk result (frames.new.items ≡ with_frame frames.old.items frame) }
+    ensures refused { IfErr result (λ fault. fault ≡ WaveFault.NoMemory) }
+{
+    if let Some(frame) = frame {
+        frames.push(frame)?;
+    }
+    Ok(())
+}
+
+/// Laws, with nothing to run: the lawful traces, cut into whole pieces, are the lists without a
+/// fault in the table; and each spells one list of frames, however it is cut.
+pub fn lawful_traces()
+    ensures faultless { LawfulIsFaultless }
+    ensures once { SpellsOnce }
+{}
+
+/// Laws, with nothing to run: the places that a list of edges reaches. A list is allowed exactly
+/// if it leads somewhere, it is lawful exactly if it may end there, it then spells the frames come
+/// by, and otherwise its fault is the first on the way; one edge more goes one step on.
+pub fn allowed_traces()
+    ensures allowed { AllowedIsReached }
+    ensures lawful { LawfulIsAllowedToEnd }
+    ensures spelled { SpellsTheFramesReached }
+    ensures fault { FaultIsReached }
+    ensures step { OneEdgeMore }
+{}
+
+#[cfg(test)]
+mod tests;
