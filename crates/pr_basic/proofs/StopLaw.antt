@@ -1,0 +1,110 @@
+-- A file's device is missing exactly if the LISTEN isn't answered, or the byte directly before it isn't; where the status is kept, if the LISTEN or an item before it isn't.
+use Rattle.std.proofs.Common.{◌≡◌, ℕ, ◌+◌, Bool, true, false, not, cond, ◌||◌, ◌==◌, nat_lt, Option, Some, None, List, [], ◌∷◌, ◌++◌, length, map, refl, ap, ◌∙◌}
+use Rattle.std.specs.List.{list_any}
+use Rattle.pr_serial.specs.declared.Present.{Present}
+use Rattle.pr_serial.specs.declared.Item.{Item}
+use Rattle.pr_serial.specs.declared.Item.TheVariants as item
+use Rattle.pr_serial.specs.Elements.{Element, Attention, Byte}
+use Rattle.pr_serial.specs.Items.{items_of, held_of}
+use Rattle.pr_serial.specs.Answers.{is_answered, is_lacking}
+use Rattle.pr_serial.specs.Steps.{flushed, answers_after}
+use Rattle.pr_serial.specs.Laws.{ItemsOfOneMore, ItemsOnlyGrow, LackingAmongLater, LackingInTwoParts}
+use Rattle.pr_channels.specs.declared.file.File.{File}
+use Rattle.pr_channels.specs.declared.faults.Stop.{Stop}
+use Rattle.pr_channels.specs.declared.faults.Stop.TheVariants.{DeviceNotPresent}
+use Rattle.pr_channels.specs.Files.{file_at, open_stop}
+use Rattle.pr_channels.specs.Calls.{listen_to, second_from}
+use Rattle.pr_basic.specs.Text.{Text}
+use Rattle.pr_basic.specs.declared.statement.Statement.{Statement}
+use Rattle.pr_basic.specs.declared.statement.Statement.TheVariants.{OpenFile, Cmd, PrintTo, Print, CloseFile, Rem}
+use Rattle.pr_basic.specs.declared.session.StatusMode.{StatusMode}
+use Rattle.pr_basic.specs.declared.session.StatusMode.TheVariants.{Each, Kept}
+use Rattle.pr_basic.specs.Statements.{Setting, Effect, status_of, printed_bytes, stopping, commanding, unlistening_unless, opening, effect_of}
+use Rattle.pr_basic.specs.Runs.{found_of}
+use Rattle.pr_basic.specs.StatementLaws.{is_byte_unanswered, is_missing, command_stop, stop_in}
+use Rattle.pr_basic.proofs.KeptLaw.{kept_status}
+
+-- a status is 128 exactly where it was made so
+status_test : (b : Bool) → (cond b 128 0 == 128) ≡ b
+status_test true = refl
+status_test false = refl
+
+-- two tests and none after them, in the other order
+swapped : (a b : Bool) → (a || (b || false)) ≡ (b || a)
+swapped true true = refl
+swapped true false = refl
+swapped false true = refl
+swapped false false = refl
+
+-- what lacks an answer of the byte that waits and the attention after it
+lacking_at : (present : Present) (xs : List Item) (waits : Option ℕ) (first : ℕ) (second : Option ℕ)
+    → list_any not (answers_after present xs (flushed waits (Attention first second) ++ item.Attention first second ∷ [])) ≡ (not (is_answered present xs (item.Attention first second)) || is_byte_unanswered present xs waits)
+lacking_at present xs None first second = refl
+lacking_at present xs (Some b) first second = swapped (not (is_answered present xs (item.Sent b true))) (not (is_answered present xs (item.Attention first second)))
+
+-- the status is 128 after an attention exactly if it isn't answered, or the byte directly before it isn't
+missing_exactly : ItemsOfOneMore → LackingAmongLater → (present : Present) (before : List Element) (first : ℕ) (second : Option ℕ)
+    → (status_of present 0 before (before ++ Attention first second ∷ []) == 128) ≡ (not (is_answered present (items_of before) (item.Attention first second)) || is_byte_unanswered present (items_of before) (held_of before))
+missing_exactly one_more later present before first second =
+    status_test (is_lacking present (length (items_of before)) (items_of (before ++ Attention first second ∷ [])))
+    ∙ ap (is_lacking present (length (items_of before))) (one_more before (Attention first second))
+    ∙ later present (items_of before) (flushed (held_of before) (Attention first second) ++ item.Attention first second ∷ [])
+    ∙ lacking_at present (items_of before) (held_of before) first second
+
+-- in the kept mode a device is missing exactly if the LISTEN, or any item before it in the run, isn't answered
+missing_kept : ItemsOnlyGrow → LackingInTwoParts → (present : Present) (before : List Element) (listen : Element) → (status_of present (found_of Kept present before) before (before ++ listen ∷ []) == 128) ≡ is_lacking present 0 (items_of (before ++ listen ∷ []))
+missing_kept grow two_parts present before listen = ap (λ n. n == 128) (kept_status grow two_parts present before (listen ∷ [])) ∙ status_test (is_lacking present 0 (items_of (before ++ listen ∷ [])))
+
+-- what these laws are taken from
+pub record SendingLaws : Type 0 where
+  pub one_more : ItemsOfOneMore
+  pub grow : ItemsOnlyGrow
+  pub later : LackingAmongLater
+  pub two_parts : LackingInTwoParts
+
+-- a missing device in both modes
+missing_by : SendingLaws → (mode : StatusMode) (present : Present) (before : List Element) (file : File)
+    → (status_of present (found_of mode present before) before (before ++ listen_to file ∷ []) == 128) ≡ is_missing mode present before file
+missing_by laws Each present before file = missing_exactly laws.one_more laws.later present before (32 + file.device) (second_from 96 file.second)
+missing_by laws Kept present before file = missing_kept laws.grow laws.two_parts present before (listen_to file)
+
+-- the stop of CMD, by whether it stops
+stop_at : (b : Bool) (es : List Element) (bytes : List ℕ) (at after : Setting)
+    → let e : Effect = cond b (stopping DeviceNotPresent es at) (record { elements = es ++ map Byte bytes; screen = []; stop = None; after = after }) in e.stop ≡ cond b (Some DeviceNotPresent) None
+stop_at true es bytes at after = refl
+stop_at false es bytes at after = refl
+
+-- the stop of CMD
+commanding_stop : SendingLaws → (mode : StatusMode) (present : Present) (before : List Element) (at : Setting) (number : ℕ) (line : Text) (f : Option File)
+    → (commanding present (found_of mode present before) before at number line f).stop ≡ command_stop mode present before f
+commanding_stop laws mode present before at number line None = refl
+commanding_stop laws mode present before at number line (Some file) =
+    stop_at (status_of present (found_of mode present before) before (before ++ listen_to file ∷ []) == 128) (listen_to file ∷ []) (printed_bytes line number) at (record { files = at.files; channel = number; output = file.device })
+    ∙ ap (λ b. cond b (Some DeviceNotPresent) None) (missing_by laws mode present before file)
+
+-- UNLISTEN leaves the stop
+unlistening_stop_at : (s : Option Stop) (e : Effect) → (unlistening_unless s e).stop ≡ e.stop
+unlistening_stop_at None e = refl
+unlistening_stop_at (Some stop) e = refl
+
+-- the stop of OPEN
+opening_stop : (stop : Option Stop) (file : File) (at : Setting) → (opening stop file at).stop ≡ stop
+opening_stop None file at = refl
+opening_stop (Some stop) file at = refl
+
+-- PRINT has no stop
+print_stop : (b : Bool) (bytes : List ℕ) (at : Setting) → let e : Effect = cond b (record { elements = map Byte bytes; screen = []; stop = None; after = at }) (record { elements = []; screen = bytes; stop = None; after = at }) in e.stop ≡ None
+print_stop true bytes at = refl
+print_stop false bytes at = refl
+
+-- the stop of each statement
+pub stops_exactly : SendingLaws → (mode : StatusMode) (present : Present) (before : List Element) (at : Setting) (statement : Statement)
+    → (effect_of present (found_of mode present before) before at statement).stop ≡ stop_in mode present before at statement
+stops_exactly laws mode present before at (OpenFile file device second) = opening_stop (open_stop at.files file) (record { number = file; device = device; second = second }) at
+stops_exactly laws mode present before at (Cmd file line) = commanding_stop laws mode present before at file line (file_at at.files file)
+stops_exactly laws mode present before at (PrintTo file line) =
+    let e = commanding present (found_of mode present before) before at file line (file_at at.files file) in
+    unlistening_stop_at e.stop e ∙ commanding_stop laws mode present before at file line (file_at at.files file)
+stops_exactly laws mode present before at (Print line) = print_stop (nat_lt 3 at.output) (printed_bytes line at.channel) at
+stops_exactly laws mode present before at (CloseFile file) = refl
+stops_exactly laws mode present before at Rem = refl

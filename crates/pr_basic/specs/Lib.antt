@@ -1,0 +1,14 @@
+pub mod Limits
+pub mod Text
+pub mod Statements
+pub mod Runs
+pub mod StatementLaws
+pub mod Performing
+pub mod Lexemes
+pub mod Grammar
+pub mod Faults
+pub mod Lexing
+pub mod Reading
+pub mod ReadingScripts
+pub mod Reads
+pub mod Seen

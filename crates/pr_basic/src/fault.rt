@@ -1,0 +1,93 @@
+//! Why a script is refused.
+
+ghost use Rattle.std.specs.Prelude.{◌≡◌};
+ghost use Rattle.pr_basic.specs.Faults.{at_number};
+
+use std::alloc::{AllocError, AllocFailed};
+use thiserror::Error;
+
+/// The first fault of a script from the left, with the number of its line, counted from 1; or
+/// want of memory, which can come at any point. The rules are the profile's.
+#[derive(Clone, Copy, Debug, PartialEq, Eq, Error)]
+pub enum ScriptFault {
+    /// No keyword where a statement must begin, a byte that can't go on the statement, a comma of
+    /// CMD or PRINT# with no list after it, or a missing parenthesis.
+    #[error("line {0}: unknown word")]
+    UnknownWord(usize),
+    /// A line number above 63999, a file number that is missing or above 255, or no digits in
+    /// CHR$.
+    #[error("line {0}: bad number")]
+    BadNumber(usize),
+    /// In OPEN no comma after the file, or no device of 4 to 30 after it.
+    #[error("line {0}: bad device")]
+    BadDevice(usize),
+    /// No secondary address of at most 15 after OPEN's second comma.
+    #[error("line {0}: bad secondary address")]
+    BadSecond(usize),
+    /// A byte outside 32 to 126 in a string, or a CHR$ of more than 255.
+    #[error("line {0}: bad byte")]
+    BadByte(usize),
+    /// The 256th byte of one list.
+    #[error("line {0}: too long")]
+    TooLong(usize),
+    /// The keyword of the statement past the limit of 1,000,000.
+    #[error("line {0}: too many statements")]
+    TooMany(usize),
+    /// Memory was refused.
+    #[error("out of memory")]
+    NoMemory,
+}
+
+/// The first fault of a line.
+#[derive(Clone, Copy, Debug, PartialEq, Eq)]
+pub enum LineFault {
+    UnknownWord,
+    BadNumber,
+    BadDevice,
+    BadSecond,
+    BadByte,
+    TooLong,
+    TooMany,
+    NoMemory,
+}
+
+impl LineFault {
+    /// The fault of a script, of which this is the first line with a fault.
+    pub fn at(self, line: usize) -> ScriptFault
+        ensures { result ≡ at_number self line }
+    {
+        match self {
+            LineFault::UnknownWord => ScriptFault::UnknownWord(line),
+            LineFault::BadNumber => ScriptFault::BadNumber(line),
+            LineFault::BadDevice => ScriptFault::BadDevice(line),
+            LineFault::BadSecond => ScriptFault::BadSecond(line),
+            LineFault::BadByte => ScriptFault::BadByte(line),
+            LineFault::TooLong => ScriptFault::TooLong(line),
+            LineFault::TooMany => ScriptFault::TooMany(line),
+            LineFault::NoMemory => ScriptFault::NoMemory,
+        }
+    }
+}
+
+impl<T: Drop> From<AllocFailed<T>> for LineFault {
+    ghost use Rattle.pr_basic.specs.declared.fault.LineFault.TheVariants.{NoMemory};
+
+    ghost from_gives = { λ _ e. e ≡ NoMemory };
+
+    fn from(_e: AllocFailed<T>) -> LineFault {
+        LineFault::NoMemory
+    }
+}
+
+impl From<AllocError> for LineFault {
+    ghost use Rattle.pr_basic.specs.declared.fault.LineFault.TheVariants.{NoMemory};
+
+    ghost from_gives = { λ _ e. e ≡ NoMemory };
+
+    fn from(_e: AllocError) -> LineFault {
+        LineFault::NoMemory
+    }
+}
+
+#[cfg(test)]
+mod tests;

@@ -1,0 +1,34 @@
+//! Laws of the definitions, with nothing to run. A caller whose proof needs one calls the function.
+
+ghost use Rattle.pr_basic.specs.StatementLaws.{StopsExactly, StatusExactly, StatusFoundNext, SentAfterEarlier};
+
+use pr_serial::laws::{answers_add_up, elements_send_items};
+
+/// A law: CMD and PRINT# stop with DEVICE NOT PRESENT exactly where the file is open and the LISTEN
+/// to its device is not answered, or the element directly before it is a byte that is not answered;
+/// where the status is kept, exactly where the LISTEN or any item before it in the run is not
+/// answered. The other stops are those of the file table.
+pub fn stops_are_exact()
+    ensures { StopsExactly }
+{
+    elements_send_items();
+    answers_add_up();
+}
+
+/// A law: the status of a statement is 128 exactly where an item sent in it is not answered (where
+/// the status is kept: in it or before it), else 0; and the next statement of a run finds this
+/// status where it is kept, else 0.
+pub fn statuses_are_exact()
+    ensures status { StatusExactly }
+    ensures next { StatusFoundNext }
+{
+    elements_send_items();
+    answers_add_up();
+}
+
+/// A law: the items sent in a statement are exactly those after the items of what stood before it.
+pub fn statements_send_their_items()
+    ensures { SentAfterEarlier }
+{
+    elements_send_items();
+}

@@ -1,0 +1,26 @@
+//! BASIC scripts and statements: the grammar and its reader, and what a statement gives when it is
+//! performed over the channels.
+//!
+//! [`read_script`] is Ok exactly on the bytes that the grammar of `specs/Grammar.antt` relates to a
+//! list of statements, with that list, and otherwise answers the first fault, as
+//! `specs/Faults.antt` defines it, or want of memory. [`perform`] performs one statement: what it
+//! gives stands in `specs/Statements.antt`, and what a list of statements gives in
+//! `specs/Runs.antt`.
+#![tactic(auto)]
+
+mod fault;
+pub mod laws;
+mod lexemes;
+mod lists;
+mod numbers;
+mod performing;
+mod reader;
+mod script;
+mod session;
+mod statement;
+
+pub use fault::ScriptFault;
+pub use performing::perform;
+pub use script::{STATEMENT_LIMIT, each_text_is_a_script_or_has_one_fault, read_script};
+pub use session::{Session, StatusMode};
+pub use statement::{Device, Line, Second, Statement};

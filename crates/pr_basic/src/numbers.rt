@@ -1,0 +1,62 @@
+//! Numbers and commas of a statement.
+
+ghost use Rattle.std.specs.Prelude.{◌≡◌, ◌<◌, ◌≤◌, min, length, IfOk};
+ghost use Rattle.pr_basic.specs.Grammar.{number_of};
+ghost use Rattle.pr_basic.specs.Lexing.{here, later};
+ghost use Rattle.pr_basic.specs.Reading.{comma_in, number_in};
+ghost use Rattle.pr_basic.specs.Reads.{Passes, Reads};
+
+use crate::fault::LineFault;
+use crate::lexemes::{Lexeme, next_in_part};
+
+/// Larger numbers count as this one, which is above every bound.
+const LARGEST: u32 = 100_000;
+
+/// The number that digits spell, at most `LARGEST`.
+pub fn value_of(digits: &[u8]) -> u32
+    ensures { result ≡ min (number_of digits.now) 100000 }
+{
+    let mut n: u32 = 0;
+    for d in digits {
+        n = (10 * n + u32::from(d.saturating_sub(b'0'))).min(LARGEST);
+    }
+    n
+}
+
+/// A number within bounds at the front, and the bytes after it; the faults of a missing number
+/// and of one outside the bounds are the caller's.
+#[tactic(auto, unfolding(crate::specs::Reading::number_in))]
+pub fn number(
+    bytes: &[u8],
+    low: u32,
+    high: u32,
+    missing: LineFault,
+    outside: LineFault,
+) -> Result<(u32, &[u8]), LineFault>
+    requires { high < 100000 }
+    ensures reads { Reads result (number_in low high missing outside (here bytes.now)) (later bytes.now) }
+    ensures low { IfOk result (λ p. low ≤ p.0) }
+    ensures high { IfOk result (λ p. p.0 ≤ high) }
+    ensures shorter { IfOk result (λ p. length p.1.now ≤ length bytes.now) }
+{
+    let Some((Lexeme::Digits(digits), rest)) = next_in_part(bytes) else {
+        return Err(missing);
+    };
+    let n = value_of(digits);
+    if n < low || n > high {
+        return Err(outside);
+    }
+    Ok((n, rest))
+}
+
+/// The bytes after a comma at the front.
+#[tactic(auto, unfolding(crate::specs::Reading::comma_in))]
+pub fn comma(bytes: &[u8], missing: LineFault) -> Result<&[u8], LineFault>
+    ensures reads { Passes result (comma_in missing (here bytes.now)) (later bytes.now) }
+    ensures shorter { IfOk result (λ rest. length rest.now ≤ length bytes.now) }
+{
+    match next_in_part(bytes) {
+        Some((Lexeme::Comma, rest)) => Ok(rest),
+        _ => Err(missing),
+    }
+}

@@ -1,0 +1,274 @@
+//! Performing one statement over the channels.
+
+ghost use Rattle.std.specs.Prelude.{◌≡◌, ℕ, ◌+◌, ◌≤◌, ◌<◌, ◌^◌, ◌⊎◌, Bool, true, false, Option, Some, None, List, [], ◌∷◌, ◌++◌, length, map, IfOk, OnOk, OnErr, IsNone, is_some, if◌then◌else◌};
+ghost use Rattle.pr_serial.specs.Elements.{Byte};
+ghost use Rattle.pr_serial.specs.Items.{items_of};
+ghost use Rattle.pr_channels.specs.Files.{file_at, open_stop};
+ghost use Rattle.pr_channels.specs.Seen.{Seen};
+ghost use Rattle.std.specs.Option.{ForSome};
+ghost use Rattle.pr_channels.specs.Calls.{adding};
+ghost use Rattle.pr_basic.specs.Statements.{printed_bytes, effect_of, with_effect, setting_of, commanding, unlistening, opening, ChangesScreenAlone, Performs, found_by};
+ghost use Rattle.pr_basic.specs.Performing.{printing, Gives, IsWorking};
+
+use crate::session::{Session, StatusMode};
+use crate::statement::{Device, Line, Second, Statement};
+use pr_channels::laws::elements_add_up;
+use pr_channels::{Channels, Fault, Stop};
+use pr_serial::{NoMemory, Serial};
+use std::alloc::AllocError;
+
+/// A carriage return.
+const RETURN: u8 = 13;
+
+/// A line feed.
+const LINE_FEED: u8 = 10;
+
+/// From this channel number on a line feed follows the carriage return of a line (Programmer's
+/// Reference Guide, PRINT#).
+const LINE_FEED_CHANNEL: u8 = 128;
+
+/// Makes the status the one that a statement finds.
+fn begin<S: Serial>(channels: &mut Channels<S>, mode: StatusMode)
+    ensures status { channels.new ≡ record channels.old { status = found_by mode channels.old.status } }
+    ensures in_step { channels.old.failed ≡ false → channels.old.sent ≡ items_of channels.old.elements }
+{
+    match mode {
+        StatusMode::Each => channels.clear_status(),
+        StatusMode::Kept => {
+            let _status = channels.readst();
+        }
+    }
+}
+
+/// Writes bytes to the output device.
+fn print_bytes<S: Serial>(channels: &mut Channels<S>, bytes: &[u8]) -> Result<(), NoMemory>
+    requires room { length channels.old.sent + length bytes.now + 3 ≤ 2 ^ 32 }
+    ensures ok { OnOk result (IsWorking channels.old → channels.new ≡ printing bytes.now channels.old) }
+    ensures failed { OnOk result (channels.new.failed ≡ channels.old.failed) }
+    ensures room { length channels.new.sent ≤ length channels.old.sent + length bytes.now }
+    ensures present { channels.new.present ≡ channels.old.present }
+    ensures delays { channels.new.delays ≡ channels.old.delays }
+    ensures mark { channels.new.mark ≡ channels.old.mark }
+    ensures output { OnOk result (channels.new.output ≡ channels.old.output) }
+    ensures screen { channels.old.output ≤ 3 → ChangesScreenAlone channels.old channels.new }
+    ensures err { 3 < channels.old.output → OnErr result (channels.new.failed ≡ true) }
+{
+    elements_add_up();
+    for byte in bytes {
+        channels.chrout(*byte)?;
+    }
+    Ok(())
+}
+
+/// Prints a line to the output device.
+fn print_line<S: Serial>(
+    channels: &mut Channels<S>,
+    line: &Line,
+    channel: u8,
+) -> Result<(), NoMemory>
+    requires room { length channels.old.sent + 260 ≤ 2 ^ 32 }
+    ensures ok { OnOk result (IsWorking channels.old → channels.new ≡ printing (printed_bytes line.now channel) channels.old) }
+    ensures failed { OnOk result (channels.new.failed ≡ channels.old.failed) }
+    ensures room { length channels.new.sent ≤ length channels.old.sent + 257 }
+    ensures present { channels.new.present ≡ channels.old.present }
+    ensures delays { channels.new.delays ≡ channels.old.delays }
+    ensures mark { channels.new.mark ≡ channels.old.mark }
+    ensures output { OnOk result (channels.new.output ≡ channels.old.output) }
+    ensures screen { channels.old.output ≤ 3 → ChangesScreenAlone channels.old channels.new }
+    ensures err { 3 < channels.old.output → OnErr result (channels.new.failed ≡ true) }
+{
+    elements_add_up();
+    print_bytes(channels, &line.bytes)?;
+    if line.ends {
+        channels.chrout(RETURN)?;
+        if channel >= LINE_FEED_CHANNEL {
+            channels.chrout(LINE_FEED)?;
+        }
+    }
+    Ok(())
+}
+
+/// CMD: makes a file's device the output device, and prints a line to it. A stop is followed by
+/// CLRCHN.
+fn command<S: Serial>(
+    channels: &mut Channels<S>,
+    file: u8,
+    line: &Line,
+) -> Result<Option<Stop>, NoMemory>
+    requires room { length channels.old.sent + 270 ≤ 2 ^ 32 }
+    ensures ok { IfOk result (λ stop. IsWorking channels.old → (channel : ℕ) →
+        Gives channels.old channels.new stop (commanding channels.old.present channels.old.status channels.old.elements (setting_of channels.old channel) file line.now (file_at channels.old.files file))) }
+    ensures bus { IfOk result (λ stop. IsNone stop → 3 < channels.new.output) }
+    ensures failed { OnOk result (channels.new.failed ≡ channels.old.failed) }
+    ensures room { length channels.new.sent ≤ length channels.old.sent + 260 }
+    ensures present { channels.new.present ≡ channels.old.present }
+    ensures delays { channels.new.delays ≡ channels.old.delays }
+    ensures mark { channels.new.mark ≡ channels.old.mark }
+    ensures err { OnErr result (channels.new.failed ≡ true) }
+{
+    elements_add_up();
+    match channels.chkout(file) {
+        Ok(()) => {
+            print_line(channels, line, file)?;
+            Ok(None)
+        }
+        Err(Fault::Stop(stop)) => {
+            channels.clrchn()?;
+            Ok(Some(stop))
+        }
+        Err(Fault::NoMemory) => Err(AllocError),
+    }
+}
+
+/// PRINT#: CMD, then CLRCHN.
+fn print_to<S: Serial>(
+    channels: &mut Channels<S>,
+    file: u8,
+    line: &Line,
+) -> Result<Option<Stop>, NoMemory>
+    requires room { length channels.old.sent + 280 ≤ 2 ^ 32 }
+    ensures ok { IfOk result (λ stop. IsWorking channels.old → (channel : ℕ) →
+        Gives channels.old channels.new stop (unlistening (commanding channels.old.present channels.old.status channels.old.elements (setting_of channels.old channel) file line.now (file_at channels.old.files file)))) }
+    ensures failed { OnOk result (channels.new.failed ≡ channels.old.failed) }
+    ensures room { length channels.new.sent ≤ length channels.old.sent + 262 }
+    ensures present { channels.new.present ≡ channels.old.present }
+    ensures delays { channels.new.delays ≡ channels.old.delays }
+    ensures mark { channels.new.mark ≡ channels.old.mark }
+    ensures err { OnErr result (channels.new.failed ≡ true) }
+{
+    elements_add_up();
+    if let Some(stop) = command(channels, file, line)? {
+        return Ok(Some(stop));
+    }
+    channels.clrchn()?;
+    Ok(None)
+}
+
+/// OPEN: a stop is followed by CLRCHN.
+fn open<S: Serial>(
+    channels: &mut Channels<S>,
+    file: u8,
+    device: Device,
+    second: Option<Second>,
+) -> Result<Option<Stop>, NoMemory>
+    requires room { length channels.old.sent + 3 ≤ 2 ^ 32 }
+    ensures ok { IfOk result (λ stop. IsWorking channels.old → (channel : ℕ) →
+        Gives channels.old channels.new stop (opening (open_stop channels.old.files file) (record { number = file; device = device; second = second }) (setting_of channels.old channel))) }
+    ensures failed { OnOk result (channels.new.failed ≡ channels.old.failed) }
+    ensures room { length channels.new.sent ≤ length channels.old.sent + 2 }
+    ensures present { channels.new.present ≡ channels.old.present }
+    ensures delays { channels.new.delays ≡ channels.old.delays }
+    ensures mark { channels.new.mark ≡ channels.old.mark }
+    ensures err { OnErr result (channels.new.failed ≡ true) }
+{
+    elements_add_up();
+    let second_number = number_of(second);
+    match channels.open_file(file, device.get(), second_number) {
+        Ok(()) => Ok(None),
+        Err(stop) => {
+            channels.clrchn()?;
+            Ok(Some(stop))
+        }
+    }
+}
+
+/// The number of a secondary address, if there is one.
+fn number_of(second: Option<Second>) -> Option<u8>
+    ensures same { result ≡ second }
+    ensures in_range { ForSome result (λ s. s ≤ 15) }
+{
+    match second {
+        Some(second) => Some(second.get()),
+        None => None,
+    }
+}
+
+/// The channel number after a statement that stops or not.
+fn channel_after(stop: &Option<Stop>, channel: u8) -> u8
+    ensures { result ≡ (if is_some stop.now then 0 else channel) }
+{
+    match stop {
+        Some(_stop) => 0,
+        None => channel,
+    }
+}
+
+/// Performs one statement, and answers the error of BASIC that stops it, if one does.
+///
+/// It begins with status 0, or, where the status is kept, with the status that is there, which
+/// stands for what earlier items lacked. Then:
+///
+/// - OPEN opens the file and sends nothing.
+/// - CMD calls the file's device with LISTEN, makes it the output device and the file's number the
+///   channel number, and prints its list. PRINT# does the same, and then UNLISTEN ends listening,
+///   the screen is the output device and the channel number 0.
+/// - PRINT prints its list to the output device.
+/// - Printing a list sends its bytes, then a carriage return unless the list ends with `;`, and
+///   after that one a line feed where the channel number is 128 or more.
+/// - CLOSE takes the file out of the table, and tells its device where it has a secondary address.
+/// - A stop sends UNLISTEN where a device of the bus is the output device, makes the screen the
+///   output device and the channel number 0.
+///
+/// (Programmer's Reference Guide, OPEN, CMD, PRINT#, PRINT, CLOSE; the order of the calls and the
+/// UNLISTEN of a stop are our profile.) The printers that are there, the delay lists and the mark
+/// stay, and at most 262 items are sent.
+///
+/// # Errors
+///
+/// [`NoMemory`] where memory was refused. The session is then as before, and either the bus has
+/// failed for good, or the growth of the screen's list was refused: all but that list is then as
+/// the statement found it.
+pub fn perform<S: Serial>(
+    channels: &mut Channels<S>,
+    statement: &Statement,
+    session: &mut Session,
+) -> Result<Option<Stop>, NoMemory>
+    requires room { length channels.old.sent + 300 ≤ 2 ^ 32 }
+    ensures ok { IfOk result (λ stop. channels.old.failed ≡ false →
+        Performs channels.old channels.new (found_by session.old.mode channels.old.status) session.new.channel stop
+        (effect_of channels.old.present (found_by session.old.mode channels.old.status) channels.old.elements (setting_of channels.old session.old.channel) statement.now)) }
+    ensures mode { session.new.mode ≡ session.old.mode }
+    ensures failed { OnOk result (channels.new.failed ≡ channels.old.failed) }
+    ensures room { length channels.new.sent ≤ length channels.old.sent + 262 }
+    ensures present { channels.new.present ≡ channels.old.present }
+    ensures delays { channels.new.delays ≡ channels.old.delays }
+    ensures mark { channels.new.mark ≡ channels.old.mark }
+    ensures err { OnErr result ((channels.new.failed ≡ true) ⊎ ChangesScreenAlone (record channels.old { status = found_by session.old.mode channels.old.status }) channels.new) }
+    ensures err_session { OnErr result (session.new ≡ session.old) }
+{
+    elements_add_up();
+    begin(channels, session.mode);
+    match statement {
+        Statement::OpenFile {
+            file,
+            device,
+            second,
+        } => {
+            let stop = open(channels, *file, *device, *second)?;
+            session.channel = channel_after(&stop, session.channel);
+            Ok(stop)
+        }
+        Statement::Cmd { file, line } => {
+            let stop = command(channels, *file, line)?;
+            session.channel = channel_after(&stop, *file);
+            Ok(stop)
+        }
+        Statement::PrintTo { file, line } => {
+            let stop = print_to(channels, *file, line)?;
+            session.channel = 0;
+            Ok(stop)
+        }
+        Statement::Print { line } => {
+            print_line(channels, line, session.channel)?;
+            Ok(None)
+        }
+        Statement::CloseFile { file } => {
+            channels.close_file(*file)?;
+            Ok(None)
+        }
+        Statement::Rem => Ok(None),
+    }
+}
+
+#[cfg(test)]
+mod tests;

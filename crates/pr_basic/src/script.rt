@@ -1,0 +1,179 @@
+//! Whole scripts.
+
+ghost use Rattle.std.specs.Prelude.{◌≡◌, ℕ, List, ◌∷◌, ◌++◌, [], ◌-◌, ◌<◌, ◌≤◌, ◌⊎◌, length, Ok, Err, IfErr, IfOk, IfSome, MatchResult, OnOk};
+ghost use Rattle.pr_basic.specs.Limits.{statement_limit};
+ghost use Rattle.pr_basic.specs.Grammar.{IsScript, lines_of, parts, without_return};
+ghost use Rattle.pr_basic.specs.Faults.{IsFirstFault};
+ghost use Rattle.pr_basic.specs.Lexing.{here, later, lexemes_of};
+ghost use Rattle.pr_basic.specs.ReadingScripts.{and_more, counted, is_begun, line_statements, numbered, statements_in};
+ghost use Rattle.pr_basic.specs.Reads.{Fails, ReadsStatement, still, with_front};
+
+use crate::fault::{LineFault, ScriptFault};
+use crate::lexemes::{Keyword, Lexeme, after_colon, next_in_part, next_lexeme};
+use crate::numbers::value_of;
+use crate::reader::read_statement;
+use crate::statement::Statement;
+use std::alloc::Global;
+
+/// The most statements of a script (profile).
+pub const STATEMENT_LIMIT: usize = 1_000_000;
+
+/// The largest line number (profile, after the KERNAL's BASIC).
+const LINE_NUMBER_LIMIT: u32 = 63_999;
+
+/// The statements of a script, in order, at most [`STATEMENT_LIMIT`].
+///
+/// Ok exactly if the grammar relates the bytes to a list of statements, with that list. Else the
+/// first fault from the left with its line's number from 1, as [`ScriptFault`] says; or
+/// [`ScriptFault::NoMemory`], if memory was refused. The time is linear in the bytes. (Profile,
+/// after the Programmer's Reference Guide's OPEN, CLOSE, CMD, PRINT#, PRINT, REM and CHR$.)
+pub fn read_script(alloc: Global, bytes: &[u8]) -> Result<Vec<Statement>, ScriptFault>
+    ensures read { IfOk result (λ statements. IsScript bytes.now statements.items) }
+    ensures few { IfOk result (λ statements. length statements.items ≤ statement_limit) }
+    ensures refused { IfErr result (λ fault. (fault ≡ ScriptFault.NoMemory) ⊎ IsFirstFault bytes.now fault) }
+    ensures complete { (ss : List Statement) → IsScript bytes.now ss → MatchResult result (λ statements. statements.items ≡ ss) (λ fault. fault ≡ ScriptFault.NoMemory) }
+{
+    let mut statements = Vec::new(alloc);
+    let mut rest = bytes;
+    let mut number = 0;
+    while !rest.is_empty() {
+        let (line, more) = cut_line(rest);
+        number += 1;
+        if let Err(fault) = read_line(alloc, &mut statements, line) {
+            return Err(fault.at(number));
+        }
+        rest = more;
+    }
+    Ok(statements)
+}
+
+/// Takes the statements of a line.
+fn read_line(alloc: Global, statements: &mut Vec<Statement>, line: &[u8]) -> Result<(), LineFault>
+    requires { length statements.old.items ≤ statement_limit }
+    ensures reads { MatchResult result
+        (λ _. with_front statements.old.items (line_statements (statement_limit - length statements.old.items) line.now) ≡ Ok statements.new.items)
+        (λ e. Fails e (line_statements (statement_limit - length statements.old.items) line.now)) }
+    ensures few { OnOk result (length statements.new.items ≤ statement_limit) }
+{
+    let mut rest = Some(after_number(without_return(line))?);
+    while let Some(bytes) = rest {
+        rest = read_part(alloc, statements, bytes)?;
+    }
+    Ok(())
+}
+
+/// Takes the statement at the front, and answers what follows its colon.
+fn read_part<'a>(
+    alloc: Global,
+    statements: &mut Vec<Statement>,
+    bytes: &'a [u8],
+) -> Result<Option<&'a [u8]>, LineFault>
+    requires { length statements.old.items ≤ statement_limit }
+    ensures reads { MatchResult result
+        (λ rest. with_front statements.old.items (statements_in (statement_limit - length statements.old.items) (parts (lexemes_of bytes.entry.now))) ≡ with_front statements.new.items (still (statement_limit - length statements.new.items) rest))
+        (λ e. Fails e (statements_in (statement_limit - length statements.old.items) (parts (lexemes_of bytes.entry.now)))) }
+    ensures few { OnOk result (length statements.new.items ≤ statement_limit) }
+    ensures less { IfOk result (λ rest. IfSome rest (λ r. length r.now < length bytes.entry.now)) }
+{
+    let (statement, rest) = next_statement(alloc, statements.len(), bytes)?;
+    keep(statements, statement)?;
+    Ok(after_colon(rest))
+}
+
+/// The statement at the front, after so many others.
+#[tactic(auto, using(crate::proofs::ListLaws::fails_of))]
+fn next_statement(
+    alloc: Global,
+    count: usize,
+    bytes: &[u8],
+) -> Result<(Option<Statement>, &[u8]), LineFault>
+    requires { count ≤ statement_limit }
+    ensures reads { ReadsStatement result (counted (statement_limit - count) (here bytes.now)) (later bytes.now) }
+    ensures shorter { IfOk result (λ p. length p.1.now ≤ length bytes.now) }
+{
+    if count == STATEMENT_LIMIT && begins_statement(bytes) {
+        return Err(LineFault::TooMany);
+    }
+    read_statement(alloc, bytes)
+}
+
+/// Adds a statement, where there is one.
+fn keep(statements: &mut Vec<Statement>, statement: Option<Statement>) -> Result<(), LineFault>
+    ensures kept { OnOk result (statements.new.items ≡ statements.old.items ++ and_more statement []) }
+    ensures refused { IfErr result (λ fault. fault ≡ LineFault.NoMemory) }
+{
+    let Some(statement) = statement else {
+        return Ok(());
+    };
+    match statements.push(statement) {
+        Ok(()) => Ok(()),
+        Err(_) => Err(LineFault::NoMemory),
+    }
+}
+
+/// Whether a statement begins with this keyword.
+fn begins_statement(bytes: &[u8]) -> bool
+    ensures { result ≡ is_begun (here bytes.now) }
+{
+    match next_in_part(bytes) {
+        Some((Lexeme::Word(Keyword::Chr), _)) => false,
+        Some((Lexeme::Word(_), _)) => true,
+        Some((Lexeme::Remark, _)) => true,
+        _ => false,
+    }
+}
+
+/// What follows the line's number, if it has one.
+#[tactic(auto, unfolding(crate::specs::ReadingScripts::numbered))]
+fn after_number(bytes: &[u8]) -> Result<&[u8], LineFault>
+    ensures { MatchResult result (λ rest. numbered (lexemes_of bytes.now) ≡ Ok (lexemes_of rest.now)) (λ e. numbered (lexemes_of bytes.now) ≡ Err e) }
+{
+    match next_lexeme(bytes) {
+        Some((Lexeme::Digits(digits), rest)) => {
+            if value_of(digits) <= LINE_NUMBER_LIMIT {
+                Ok(rest)
+            } else {
+                Err(LineFault::BadNumber)
+            }
+        }
+        _ => Ok(bytes),
+    }
+}
+
+/// The first line, and what follows its end.
+fn cut_line(bytes: &[u8]) -> (&[u8], &[u8])
+    requires { 0 < length bytes.now }
+    ensures lines { lines_of bytes.now ≡ result.0.now ∷ lines_of result.1.now }
+    ensures less { length result.1.now < length bytes.now }
+{
+    for (i, b) in bytes.iter().enumerate() {
+        if *b == b'\n' {
+            return (&bytes[..i], &bytes[i + 1..]);
+        }
+    }
+    (bytes, &[])
+}
+
+/// A line without a byte 13 at its end.
+fn without_return(line: &[u8]) -> &[u8]
+    ensures { result.now ≡ without_return line.now }
+{
+    let n = line.len();
+    if n > 0 && line[n - 1] == b'\r' {
+        &line[..n - 1]
+    } else {
+        line
+    }
+}
+
+/// A law, with nothing to run: each text is a script of one list of statements, or it has one
+/// first fault, and never both.
+pub fn each_text_is_a_script_or_has_one_fault()
+    ensures one_list { (bytes : List ℕ) (ss others : List Statement) → IsScript bytes ss → IsScript bytes others → ss ≡ others }
+    ensures one_fault { (bytes : List ℕ) (fault other : ScriptFault) → IsFirstFault bytes fault → IsFirstFault bytes other → fault ≡ other }
+    ensures one_of_both { (bytes : List ℕ) → ((ss : List Statement) × IsScript bytes ss) ⊎ ((fault : ScriptFault) × IsFirstFault bytes fault) }
+    ensures not_both { (bytes : List ℕ) (ss : List Statement) (fault : ScriptFault) → IsScript bytes ss → IsFirstFault bytes fault → ⊥ }
+{}
+
+#[cfg(test)]
+mod tests;
