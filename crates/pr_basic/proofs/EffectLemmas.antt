@@ -9,10 +9,10 @@ use Rattle.pr_channels.specs.declared.file.File.{File}
 use Rattle.pr_channels.specs.declared.faults.Stop.{Stop}
 use Rattle.pr_channels.specs.declared.faults.Stop.TheVariants.{FileNotOpen, DeviceNotPresent}
 use Rattle.pr_channels.specs.Seen.{Seen}
-use Rattle.pr_channels.specs.Calls.{listen_to, unlisten, adding, chkout_of, clrchn_of, close_of}
+use Rattle.pr_channels.specs.Calls.{listen_to, unlisten, adding, chkout_of, clrchn_of}
 use Rattle.pr_basic.specs.Text.{Text}
 use Rattle.pr_basic.specs.declared.statement.Statement.{Statement}
-use Rattle.pr_basic.specs.declared.statement.Statement.TheVariants.{Print, CloseFile, Rem}
+use Rattle.pr_basic.specs.declared.statement.Statement.TheVariants.{Print, Rem}
 use Rattle.pr_basic.specs.Statements.{Setting, Effect, status_of, printed_bytes, stopping, commanding, unlistening, unlistening_unless, opening, effect_of, Performs, with_effect, setting_of}
 use Rattle.pr_basic.specs.Performing.{Gives, printing, IsWorking}
 use Rattle.pr_basic.proofs.PrintingLemmas.{AddingLaws, printing_on_bus}
@@ -235,15 +235,6 @@ print_gives laws line channel old new working is = record {
   channels = is ∙ printed_at laws (nat_lt 3 old.output) (printed_bytes line channel) channel old working;
 }
 
--- CLOSE
-pub close_gives : (file channel : ℕ) (old new : Seen) → IsWorking old → new ≡ close_of file old → Gives old new None (effect_of old.present old.status old.elements (setting_of old channel) (CloseFile file))
-close_gives file channel old new working is =
-    let e : Effect = effect_of old.present old.status old.elements (setting_of old channel) (CloseFile file) in
-    record {
-      stop = refl;
-      channels = is ∙ ap (λ xs. record (close_of file old) { screen = xs }) (sym (append-nil old.screen)) ∙ sym (effect_adding e old working);
-    }
-
 -- REM
 pub rem_gives : AddingLaws → (channel : ℕ) (old : Seen) → IsWorking old → Gives old old None (effect_of old.present old.status old.elements (setting_of old channel) Rem)
 rem_gives laws channel old working = record {
@@ -257,15 +248,6 @@ print_to_gives laws e old new after answer working gives none above is =
     let done : Commanded old new e = record { goes_on = sym gives.stop ∙ none; gives = gives.channels; output = sym (ap (λ (s : Seen). s.output) gives.channels) } in
     let last = unlistened laws e old new working done above in
     record { stop = sym last.goes_on; channels = is ∙ last.gives }
-
--- PRINT# whose CMD stops
-pub print_to_stops : (e : Effect) (old new : Seen) (answer : Option Stop) (stop : Stop) → Gives old new answer e → answer ≡ Some stop → Gives old new (Some stop) (unlistening e)
-print_to_stops e old new answer stop gives some =
-    let is : unlistening e ≡ e = ap (λ s. unlistening_unless s e) (sym gives.stop ∙ some) in
-    record {
-      stop = sym some ∙ gives.stop ∙ ap (λ (f : Effect). f.stop) (sym is);
-      channels = gives.channels ∙ ap (λ (f : Effect). with_effect old.status f old) (sym is);
-    }
 
 -- the channel number after OPEN, CMD and PRINT#
 pub opening_channel : (stop : Option Stop) (file : File) (at : Setting) → (opening stop file at).after.channel ≡ cond (is_some (opening stop file at).stop) 0 at.channel

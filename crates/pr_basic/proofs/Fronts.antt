@@ -14,6 +14,7 @@ use Rattle.pr_basic.specs.declared.lexemes.Keyword.TheVariants as word
 abbrev pub IsSpelled : List ℕ → Front → Type 0
 IsSpelled bs f = ((f ≡ (Stray, 1)) ⊎ Spells f.0 (take f.1 bs) (drop f.1 bs)) × (0 < f.1)
 
+-- a test holds of all of its prefix
 passes : (p : ℕ → Bool) (bs : List ℕ) → list_all p (take (prefix_len p bs) bs) ≡ true
 passes p [] = refl
 passes p (b ∷ bs) = step (p b) refl (passes p bs)
@@ -22,6 +23,7 @@ passes p (b ∷ bs) = step (p b) refl (passes p bs)
     step true e k = rw (e, one-add) (rw (e, k) refl)
     step false e k = rw e refl
 
+-- no digit follows the prefix of digits
 stops : (bs : List ℕ) → NoDigit (drop (prefix_len is_digit bs) bs)
 stops [] = tt
 stops (b ∷ bs) = step (is_digit b) refl (stops bs)
@@ -30,12 +32,14 @@ stops (b ∷ bs) = step (is_digit b) refl (stops bs)
     step true e k = rw (e, one-add) k
     step false e k = rw e e
 
+-- digits at the front are spelled
 digits_spelled : (b : ℕ) (bs : List ℕ) → is_digit b ≡ true → IsSpelled (b ∷ bs) (Digits (take (prefix_len is_digit (b ∷ bs)) (b ∷ bs)), prefix_len is_digit (b ∷ bs))
 digits_spelled b bs h =
     let some : 0 < prefix_len is_digit (b ∷ bs) = rw h (omega arith) in
     let size : 0 < length (take (prefix_len is_digit (b ∷ bs)) (b ∷ bs)) = rw (h, one-add) (omega arith) in
     (inr (refl, size, passes is_digit (b ∷ bs), stops (b ∷ bs)), some)
 
+-- a quote follows the prefix without one
 quote_at : (bs : List ℕ) → prefix_len is_no_quote bs < length bs → take (suc (prefix_len is_no_quote bs)) bs ≡ take (prefix_len is_no_quote bs) bs ++ 34 ∷ []
 quote_at [] h = absurd (omega arith)
 quote_at (b ∷ bs) h = step (is_no_quote b) refl (quote_at bs) h
@@ -52,6 +56,7 @@ quote_at (b ∷ bs) h = step (is_no_quote b) refl (quote_at bs) h
         let quote : b ≡ 34 = grind (arith, common_steps) in
         subst P n_is (λ l. ap (λ v. v ∷ []) quote)
 
+-- a string at the front is spelled
 text_spelled : (bs : List ℕ) → IsSpelled (34 ∷ bs) (text_front bs)
 unfolding text_front
 text_spelled bs = cases (nat_lt (prefix_len is_no_quote bs) (length bs)) refl
@@ -78,6 +83,7 @@ hash_follows_none (a ∷ b ∷ c ∷ d ∷ e ∷ f ∷ bs) p h = λ hash.
     let lower : to_ascii_lowercase f ≡ 35 = rw hash refl in
     grind (arith, common_steps)
 
+-- a keyword at the front is spelled, or none is
 word_spelled : (bs : List ℕ) → 0 < length bs → IsSpelled bs (word_front bs)
 unfolding word_front
 word_spelled bs some = tests (begins bs (codes "rem")) refl (begins bs (codes "open")) refl (begins bs (codes "close")) refl (begins bs (codes "cmd")) refl (begins bs (codes "print#")) refl (begins bs (codes "print")) refl (begins bs (codes "chr$")) refl
@@ -98,6 +104,7 @@ word_spelled bs some = tests (begins bs (codes "rem")) refl (begins bs (codes "o
     tests false e false eo false ec false em false et false ep true eh = (inr (is (codes "chr$") eh), omega arith)
     tests false e false eo false ec false em false et false ep false eh = (inl refl, omega arith)
 
+-- a sign at the front is spelled
 sign_spelled : (b : ℕ) (bs : List ℕ) (f : Front) → IsSpelled (b ∷ bs) f → IsSpelled (b ∷ bs) (sign_or b f)
 sign_spelled b bs f k = tests (b == 44) refl (b == 59) refl (b == 58) refl (b == 40) refl (b == 41) refl
   where

@@ -26,6 +26,7 @@ lexeme_front : (l : Lexeme) (bytes after : List ℕ) → IsLexeme l bytes after 
 lexeme_front l bytes after (inl h) = spelled_front l bytes after h
 lexeme_front l bytes after (inr h) = rw h.0 (stray_front bytes after h.1)
 
+-- spaces in front are passed
 spaces_read : (sp bs : List ℕ) → list_all is_space sp ≡ true → lexemes_of (sp ++ bs) ≡ lexemes_of bs
 unfolding lexemes_after
 spaces_read [] bs h = refl
@@ -46,6 +47,7 @@ lexemes_found bytes (l ∷ ls) h =
     ∙ (ap (λ (x : Front). x.0 ∷ lexemes_of (drop x.1 (h.1 ++ h.2))) f.0
     ∙ (ap (λ v. l ∷ lexemes_of v) (drop-append_seam h.1 h.2) ∙ ap (λ v. l ∷ v) (lexemes_found h.2 ls h.6)))))
 
+-- a space in front keeps the lexemes
 space_before : (b : ℕ) (bs : List ℕ) (ls : List Lexeme) → is_space b ≡ true → AreLexemes bs ls → AreLexemes (b ∷ bs) ls
 space_before b bs [] e h = rw (e, h) refl
 space_before b bs (l ∷ ls) e h = (b ∷ h.0, h.1, h.2, ap (λ v. b ∷ v) h.3, rw (e, h.4) refl, h.5, h.6)

@@ -23,6 +23,7 @@ last_line b (c ∷ bs) none =
     let rest : lines_of (c ∷ bs) ≡ (c ∷ bs) ∷ [] = last_line c bs (λ k l. none (suc k) (omega arith)) in
     grind (arith, common_steps)
 
+-- a text without a byte 10 is one line
 pub only_line : (bs : List ℕ) → 0 < length bs → ((k : ℕ) → k < length bs → get_or bs k 0 ≡ 10 → ⊥) → lines_of bs ≡ bs ∷ lines_of []
 unfolding lines_of
 only_line [] h none = absurd (omega arith)
@@ -36,6 +37,7 @@ return_cut (b ∷ c ∷ bs) h e =
     let rest : without_return (c ∷ bs) ≡ take (length (c ∷ bs) - 1) (c ∷ bs) = return_cut (c ∷ bs) (omega arith) (grind (arith, common_steps)) in
     grind (arith, common_steps)
 
+-- a line without a byte 13 at its end stays
 pub return_none : (bs : List ℕ) → (0 < length bs → get_or bs (length bs - 1) 0 ≡ 13 → ⊥) → without_return bs ≡ bs
 return_none [] none = refl
 return_none (b ∷ []) none = let ne : b ≡ 13 → ⊥ = none (omega arith) in grind (arith, common_steps)

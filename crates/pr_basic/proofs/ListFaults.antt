@@ -180,6 +180,7 @@ string_read : (bytes s : List ℕ) (ends : Bool) (ls : List Lexeme) (f : LineFau
 unfolding line_in
 string_read bytes s ends ls f h = rw h refl
 
+-- a string with a bad byte is refused for it
 bad_string : (bytes good : List ℕ) (b : ℕ) (more : List ℕ) → list_all is_printable good ≡ true → is_printable b ≡ false → length bytes + length good ≤ 255 → string_added bytes (good ++ b ∷ more) ≡ Err BadByte
 unfolding string_added
 bad_string bytes good b more all bad few =
@@ -189,6 +190,7 @@ bad_string bytes good b more all bad few =
     let less : nat_lt (length good) (length (good ++ b ∷ more)) ≡ true = grind (arith, common_steps) in
     rw (n, short, less) refl
 
+-- a string with the list's 256th byte is refused for it
 long_string : (bytes good : List ℕ) (b : ℕ) (more : List ℕ) → list_all is_printable good ≡ true → is_printable b ≡ true → length bytes + length good ≡ 255 → string_added bytes (good ++ b ∷ more) ≡ Err TooLong
 unfolding string_added
 long_string bytes good b more all fine full =

@@ -10,12 +10,15 @@ use Rattle.pr_basic.specs.declared.fault.LineFault.{LineFault}
 use Rattle.pr_basic.specs.declared.fault.LineFault.TheVariants.{UnknownWord, BadNumber, BadDevice, BadSecond, BadByte, TooLong, TooMany, NoMemory}
 use Rattle.pr_basic.specs.Text.{Text}
 
+-- bytes, and the lexemes after them
 abbrev and_rest : List Lexeme → List ℕ → Result (List ℕ × List Lexeme) LineFault
 and_rest ls more = Ok (more, ls)
 
+-- a list goes on with the lexemes after its bytes
 abbrev goes_on : List ℕ × List Lexeme → Result Text LineFault
 goes_on p = line_in p.0 true p.1
 
+-- a byte that is added, and the list after it
 after_byte : (r : Result (List ℕ) LineFault) (ls : List Lexeme) → (r >>= λ more. line_in more true ls) ≡ (r >>= and_rest ls >>= goes_on)
 after_byte (Ok bs) ls = refl
 after_byte (Err e) ls = refl
@@ -53,5 +56,6 @@ fails_along BadByte a b k h = k _ h
 fails_along TooLong a b k h = k _ h
 fails_along TooMany a b k h = k _ h
 
+-- a CHR$ that fails fails the list
 pub chr_fails : (bytes : List ℕ) (ends : Bool) (l : Lexeme) (ls : List Lexeme) (e : LineFault) → l ≡ Word Chr → Fails e (chr_added bytes ls) → Fails e (line_in bytes ends (l ∷ ls))
 chr_fails bytes ends l ls e is h = rw is (fails_along e (chr_added bytes ls) _ (λ f k. chr_step bytes ends ls ∙ rw k refl) h)

@@ -40,6 +40,7 @@ pub record IsCut (p : ℕ → Bool) (s : List ℕ) (n : ℕ) (t : Bool) : Type 0
   pub test : p b ≡ t
   pub size : length good ≡ n
 
+-- a cut further on
 further : (p : ℕ → Bool) (b : ℕ) (s : List ℕ) (n : ℕ) (t : Bool) → p b ≡ true → IsCut p s n t → IsCut p (b ∷ s) (suc n) t
 further p b s n t e c = record {
   good = b ∷ c.good;

@@ -45,19 +45,6 @@ printing_more laws xs ys old working =
     ap (λ n. cond (nat_lt 3 n) (adding (map Byte ys) (printing xs old)) (record (printing xs old) { screen = (printing xs old).screen ++ ys })) (output_stays (nat_lt 3 old.output) xs old)
     ∙ printing_at laws (nat_lt 3 old.output) xs ys old working
 
--- the bus still works, by a test on the output device
-working_at : (b : Bool) (xs : List ℕ) (old : Seen) → IsWorking old → IsWorking (cond b (adding (map Byte xs) old) (record old { screen = old.screen ++ xs }))
-working_at true xs old working = record { works = working.works; in_step = refl }
-working_at false xs old working = record { works = working.works; in_step = working.in_step }
-
--- the bus still works
-pub working_printed : (xs : List ℕ) (old : Seen) → IsWorking old → IsWorking (printing xs old)
-working_printed xs old working = working_at (nat_lt 3 old.output) xs old working
-
--- one byte more
-pub printing_byte : (b : ℕ) (old : Seen) → chrout_of b old ≡ printing (b ∷ []) old
-printing_byte b old = refl
-
 -- one byte more, after others
 pub printing_push : AddingLaws → (xs : List ℕ) (b : ℕ) (old seen : Seen) → IsWorking old → seen ≡ printing xs old → chrout_of b seen ≡ printing (xs ++ b ∷ []) old
 printing_push laws xs b old seen working is = ap (chrout_of b) is ∙ printing_more laws xs (b ∷ []) old working
@@ -67,10 +54,6 @@ pub printed_ends : (line : Text) (channel : ℕ) (feed : Bool) → line.ends ≡
 printed_ends line channel feed ends is =
     ap (λ e. line.bytes ++ cond e (13 ∷ cond (nat_le 128 channel) (10 ∷ []) []) []) ends
     ∙ ap (λ f. line.bytes ++ 13 ∷ cond f (10 ∷ []) []) is
-
--- a line that doesn't
-pub printed_stays : (line : Text) (channel : ℕ) → line.ends ≡ false → printed_bytes line channel ≡ line.bytes
-printed_stays line channel ends = ap (λ e. line.bytes ++ cond e (13 ∷ cond (nat_le 128 channel) (10 ∷ []) []) []) ends ∙ append-nil line.bytes
 
 -- with a device on the bus, what is printed are elements
 pub printing_on_bus : (bytes : List ℕ) (old : Seen) → 3 < old.output → printing bytes old ≡ adding (map Byte bytes) old

@@ -10,7 +10,7 @@ use Rattle.pr_basic.specs.declared.fault.ScriptFault.{ScriptFault}
 use Rattle.pr_basic.specs.declared.fault.ScriptFault.TheVariants.{UnknownWord, BadNumber, BadDevice, BadSecond, BadByte, TooLong, TooMany, NoMemory}
 use Rattle.pr_basic.specs.declared.statement.Statement.{Statement}
 use Rattle.pr_basic.proofs.ScriptsAgree.{script_complete, script_sound}
-use Rattle.pr_basic.proofs.ScriptFaults.{first_fault_read, script_fails}
+use Rattle.pr_basic.proofs.ScriptFaults.{Said, first_fault_read, script_fails}
 
 -- a fault but for want of memory is the first one
 pub refused : (bytes : List ℕ) (fault : ScriptFault) → FailsScript fault (script_of bytes) → (fault ≡ NoMemory) ⊎ IsFirstFault bytes fault
@@ -22,9 +22,6 @@ refused bytes (BadByte n) h = inr (script_fails bytes line.BadByte n h)
 refused bytes (TooLong n) h = inr (script_fails bytes line.TooLong n h)
 refused bytes (TooMany n) h = inr (script_fails bytes line.TooMany n h)
 refused bytes NoMemory h = inl refl
-
-abbrev Said : Type 0
-Said = Result (List Statement) (LineFault × ℕ)
 
 -- no text is a script and has a fault
 pub not_both : (bytes : List ℕ) (ss : List Statement) (fault : ScriptFault) → IsScript bytes ss → IsFirstFault bytes fault → ⊥

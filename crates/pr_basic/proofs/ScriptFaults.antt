@@ -141,7 +141,8 @@ line_fault_read room f line (ls, found, inr h) =
     let g = h.2 in
     rw (lexemes_found _ ls found, numbered_complete ls h.0 h.1, g.cut) (parts_fault_read room f g.before g.part g.after g.statements g.good g.few g.fault)
 
-abbrev Said : Type 0
+-- what is read of lines: their statements, or a fault with its line
+abbrev pub Said : Type 0
 Said = Result (List Statement) (LineFault × ℕ)
 
 -- what follows a line fails, or the line does

@@ -55,6 +55,7 @@ no_room part s h = cases (is_begun part) refl
     cases true e = let k : Err line.TooMany ≡ Ok (Some s) = sym (rw e refl) ∙ h in cc
     cases false e = begun part s e (sym (rw e refl) ∙ h)
 
+-- no more statements are kept than the limit
 pub few_kept : (old new : List Statement) (part : List Lexeme) (s : Option Statement) → length old ≤ statement_limit → counted (statement_limit - length old) part ≡ Ok s → new ≡ old ++ and_more s [] → length new ≤ statement_limit
 few_kept old new part None few h e = omega (arith, ap length e, length-append old [])
 few_kept old new part (Some s) few h e = cases (at_limit (length old))
@@ -66,10 +67,12 @@ few_kept old new part (Some s) few h e = cases (at_limit (length old))
     cases (inl full) = let none : statement_limit - length old ≡ 0 = omega arith in absurd (no_room part s (ap (λ room. counted room part) (sym none) ∙ h))
     cases (inr more) = omega (arith, ap length e, length-append old (s ∷ []))
 
+-- no statement in front changes nothing
 pub none_more : (r : Result (List Statement) LineFault) → (r >>= λ ss. Ok (and_more None ss)) ≡ r
 none_more (Ok ss) = refl
 none_more (Err e) = refl
 
+-- one statement more stands in front
 one_more : (old : List Statement) (s : Statement) (r : Result (List Statement) LineFault) → with_front old (r >>= λ ss. Ok (and_more (Some s) ss)) ≡ with_front (old ++ s ∷ []) r
 one_more old s (Ok ss) = ap Ok (sym (append_assoc old (s ∷ []) ss))
 one_more old s (Err e) = refl
@@ -90,9 +93,11 @@ unfolding statements_in parts
 still_is room rest None h = rw h refl
 still_is room rest (Some r) h = rw h.0 refl
 
+-- a part that fails fails the parts
 pub part_fails : (room : ℕ) (ls : List Lexeme) (e : LineFault) → Fails e (counted room (part_of ls)) → Fails e (statements_in room (parts ls))
 part_fails room ls e h = fails_along e _ _ (λ f k. part_step room ls ∙ rw k refl) h
 
+-- what fails behind statements fails
 front_err : {E : Type 0} (old : List Statement) (r : Result (List Statement) E) (e : E) → with_front old r ≡ Err e → r ≡ Err e
 front_err old (Ok ss) e h = absurd (cc)
 front_err old (Err f) e h = h
@@ -117,6 +122,7 @@ pub script_fails : (whole : Result (List Statement) (LineFault × ℕ)) (now : L
 unfolding lines_statements
 script_fails whole now n room l lines ls e h k fails = fails_at e n (line_statements room l) whole (λ f j. h ∙ rw (k, j) refl) fails
 
+-- lines behind statements
 then_front : (old ss : List Statement) (r : Result (List Statement) (LineFault × ℕ)) → with_front old (then_more r λ more. Ok (ss ++ more)) ≡ with_front (old ++ ss) r
 then_front old ss (Ok more) = ap Ok (sym (append_assoc old ss more))
 then_front old ss (Err e) = refl

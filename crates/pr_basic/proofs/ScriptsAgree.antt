@@ -48,6 +48,7 @@ part_sound room p ps ss more (Some s) h e k =
     let P : List Statement → Type 0 = λ v. AreParts (p ∷ ps) v × (length v ≤ room) in
     subst P e (inr (s, more, statement_sound p s c.0, refl, k.0), omega (arith, c.1, k.1))
 
+-- statements that are read
 abbrev ok_of : List Statement → Result (List Statement) LineFault
 ok_of ss = Ok ss
 

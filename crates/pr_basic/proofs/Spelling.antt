@@ -20,6 +20,7 @@ begins_as bs rest w v h =
 is_letter : (a w : ℕ) → to_ascii_lowercase a ≡ w → 97 ≤ w → 65 ≤ a
 is_letter a w h low = grind (arith, common_steps)
 
+-- a letter at the front begins a word
 front_letter : (a : ℕ) (bs : List ℕ) → 65 ≤ a → front (a ∷ bs) ≡ word_front (a ∷ bs)
 unfolding front
 front_letter a bs h = grind (arith, common_steps)
@@ -28,6 +29,7 @@ front_letter a bs h = grind (arith, common_steps)
 abbrev pub IsFront : Lexeme → List ℕ → List ℕ → Type 0
 IsFront t bytes after = (front (bytes ++ after) ≡ (t, length bytes)) × first_isnt_space (bytes ++ after) × (0 < length bytes)
 
+-- a word that is found is the front
 word_token : (t : Lexeme) (bs rest : List ℕ) (w : ℕ) (ws : List ℕ) → map to_ascii_lowercase bs ≡ w ∷ ws → 97 ≤ w → word_front (bs ++ rest) ≡ (t, length (w ∷ ws)) → IsFront t bs rest
 word_token t [] rest w ws h low e = absurd (cc)
 word_token t (a ∷ bs) rest w ws h low e =
@@ -36,41 +38,51 @@ word_token t (a ∷ bs) rest w ws h low e =
     let big : 65 ≤ a = is_letter a w first low in
     (front_letter a (bs ++ rest) big ∙ (e ∙ ap (λ n. (t, n)) (sym size)), grind (arith, common_steps), omega arith)
 
+-- OPEN is found
 open_front : (bs rest : List ℕ) → IsWord (codes "open") bs → word_front (bs ++ rest) ≡ (Word word.Open, 4)
 unfolding word_front
 open_front bs rest h = rw (begins_as bs rest (codes "open") (codes "rem") h, begins_as bs rest (codes "open") (codes "open") h) refl
 
+-- CLOSE is found
 close_front : (bs rest : List ℕ) → IsWord (codes "close") bs → word_front (bs ++ rest) ≡ (Word word.Close, 5)
 unfolding word_front
 close_front bs rest h = rw (begins_as bs rest (codes "close") (codes "rem") h, begins_as bs rest (codes "close") (codes "open") h, begins_as bs rest (codes "close") (codes "close") h) refl
 
+-- CMD is found
 cmd_front : (bs rest : List ℕ) → IsWord (codes "cmd") bs → word_front (bs ++ rest) ≡ (Word word.Cmd, 3)
 unfolding word_front
 cmd_front bs rest h = rw (begins_as bs rest (codes "cmd") (codes "rem") h, begins_as bs rest (codes "cmd") (codes "open") h, begins_as bs rest (codes "cmd") (codes "close") h, begins_as bs rest (codes "cmd") (codes "cmd") h) refl
 
+-- PRINT# is found
 print_to_front : (bs rest : List ℕ) → IsWord (codes "print#") bs → word_front (bs ++ rest) ≡ (Word word.PrintTo, 6)
 unfolding word_front
 print_to_front bs rest h = rw (begins_as bs rest (codes "print#") (codes "rem") h, begins_as bs rest (codes "print#") (codes "open") h, begins_as bs rest (codes "print#") (codes "close") h, begins_as bs rest (codes "print#") (codes "cmd") h, begins_as bs rest (codes "print#") (codes "print#") h) refl
 
+-- CHR$ is found
 chr_front : (bs rest : List ℕ) → IsWord (codes "chr$") bs → word_front (bs ++ rest) ≡ (Word word.Chr, 4)
 unfolding word_front
 chr_front bs rest h = rw (begins_as bs rest (codes "chr$") (codes "rem") h, begins_as bs rest (codes "chr$") (codes "open") h, begins_as bs rest (codes "chr$") (codes "close") h, begins_as bs rest (codes "chr$") (codes "cmd") h, begins_as bs rest (codes "chr$") (codes "print#") h, begins_as bs rest (codes "chr$") (codes "print") h, begins_as bs rest (codes "chr$") (codes "chr$") h) refl
 
+-- REM is found, with the rest of the line
 rem_front : (bs rest : List ℕ) → IsWord (codes "rem") bs → word_front (bs ++ rest) ≡ (Remark, length (bs ++ rest))
 unfolding word_front
 rem_front bs rest h = rw (begins_as bs rest (codes "rem") (codes "rem") h) refl
 
+-- what is no `#` is none in lower case
 not_hash : (r : ℕ) → (r ≡ 35 → ⊥) → (to_ascii_lowercase r ≡ 35 → ⊥)
 not_hash r h e = h (grind (arith, common_steps))
 
+-- PRINT without a `#` is not PRINT#
 no_hash : (rest : List ℕ) → NoHash rest → bytes_eq (take 6 (codes "print" ++ map to_ascii_lowercase rest)) (codes "print#") ≡ false
 no_hash [] h = refl
 no_hash (r ∷ rs) h = let e : to_ascii_lowercase r ≡ 35 → ⊥ = not_hash r h in grind (arith, common_steps)
 
+-- PRINT without a `#` is found
 print_front : (bs rest : List ℕ) → IsWord (codes "print") bs → NoHash rest → word_front (bs ++ rest) ≡ (Word word.Print, 5)
 unfolding word_front
 print_front bs rest h n = rw (begins_as bs rest (codes "print") (codes "rem") h, begins_as bs rest (codes "print") (codes "open") h, begins_as bs rest (codes "print") (codes "close") h, begins_as bs rest (codes "print") (codes "cmd") h, begins_as bs rest (codes "print") (codes "print#") h, no_hash rest n, begins_as bs rest (codes "print") (codes "print") h) refl
 
+-- a prefix of digits stops where no digit follows
 digits_stop : (ds rest : List ℕ) → list_all is_digit ds ≡ true → NoDigit rest → prefix_len is_digit (ds ++ rest) ≡ length ds
 digits_stop [] [] h n = refl
 digits_stop [] (r ∷ rs) h n = rw n refl
@@ -79,10 +91,12 @@ digits_stop (d ∷ ds) rest h n =
     let k : prefix_len is_digit (ds ++ rest) ≡ length ds = digits_stop ds rest more n in
     grind (arith, common_steps)
 
+-- a digit at the front begins a number
 front_digit : (d : ℕ) (bs : List ℕ) → is_digit d ≡ true → front (d ∷ bs) ≡ (Digits (take (prefix_len is_digit (d ∷ bs)) (d ∷ bs)), prefix_len is_digit (d ∷ bs))
 unfolding front
 front_digit d bs h = rw h refl
 
+-- digits are the front
 digits_front : (ds rest : List ℕ) → 0 < length ds → list_all is_digit ds ≡ true → NoDigit rest → IsFront (Digits ds) ds rest
 unfolding front
 digits_front [] rest some h n = absurd (omega arith)
@@ -94,6 +108,7 @@ digits_front (d ∷ ds) rest some h n =
     ∙ (ap (λ n. (Digits (take n (d ∷ (ds ++ rest))), n)) stop ∙ ap (λ v. (Digits v, length (d ∷ ds))) (take-append_seam (d ∷ ds) rest)) in
     (all, grind (arith, common_steps), omega arith)
 
+-- a prefix without a quote stops at the quote or the end
 string_stop : (s rest : List ℕ) → list_all is_no_quote s ≡ true → (rest ≡ []) ⊎ ((r : List ℕ) × (rest ≡ 34 ∷ r)) → prefix_len is_no_quote (s ++ rest) ≡ length s
 string_stop [] rest h (inl e) = rw e refl
 string_stop [] rest h (inr e) = rw e.1 refl
@@ -102,6 +117,7 @@ string_stop (b ∷ s) rest h n =
     let k : prefix_len is_no_quote (s ++ rest) ≡ length s = string_stop s rest more n in
     grind (arith, common_steps)
 
+-- a string with its last quote is found
 text_closed : (s after : List ℕ) → list_all is_no_quote s ≡ true → text_front (s ++ 34 ∷ after) ≡ (Quoted s, length s + 2)
 unfolding text_front
 text_closed s after h =
@@ -109,6 +125,7 @@ text_closed s after h =
     let less : nat_lt (length s) (length (s ++ 34 ∷ after)) ≡ true = grind (arith, common_steps, length-append s (34 ∷ after)) in
     rw (stop, less, take-append_seam s (34 ∷ after)) refl
 
+-- a string without its last quote is found
 text_open : (s : List ℕ) → list_all is_no_quote s ≡ true → text_front s ≡ (Quoted s, length s + 1)
 unfolding text_front
 text_open s h =
@@ -117,6 +134,7 @@ text_open s h =
     let all : take (length s) s ≡ s = take_all (length s) s (omega arith) in
     rw (stop, less, all) refl
 
+-- a string is the front
 quoted_front : (s bytes after : List ℕ) → list_all is_no_quote s ≡ true → (bytes ≡ 34 ∷ s ++ 34 ∷ []) ⊎ ((bytes ≡ 34 ∷ s) × (after ≡ [])) → IsFront (Quoted s) bytes after
 unfolding front
 quoted_front s bytes after h (inl e) =
@@ -128,6 +146,7 @@ quoted_front s bytes after h (inr e) =
     let one : text_front (s ++ []) ≡ (Quoted s, length s + 1) = ap text_front (append-nil s) ∙ text_open s h in
     rw (e.0, e.1, size) (one, refl, omega arith)
 
+-- a remark is the front
 remark_front : (bytes after w rest : List ℕ) → bytes ≡ w ++ rest → IsWord (codes "rem") w → after ≡ [] → IsFront Remark bytes after
 remark_front bytes after [] rest e h n = absurd (cc)
 remark_front bytes after (a ∷ w) rest e h n =

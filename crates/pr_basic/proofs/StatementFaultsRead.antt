@@ -2,7 +2,7 @@
 use Rattle.std.proofs.Common.{◌≡◌, ℕ, List, [], ◌∷◌, refl, ◌∙◌, true, false, Option, Some, None, Result, Ok, Err, inl, inr}
 use Rattle.pr_basic.specs.Lexemes.{Lexeme, Word, Remark, Comma}
 use Rattle.pr_basic.specs.Grammar.{number_of}
-use Rattle.pr_basic.specs.Faults.{AfterDevice, AfterFile, GoesTooFar, IsFaultOutsideLists, IsStatementFault, Lacks, NoNumber, begins_statement, takes_file, takes_list}
+use Rattle.pr_basic.specs.Faults.{AfterDevice, AfterFile, GoesTooFar, IsFaultOutsideLists, IsStatementFault, NoNumber, begins_statement, takes_file, takes_list}
 use Rattle.pr_basic.specs.Reading.{close_in, cmd_in, comma_in, ended, line_in, number_in, open_in, optional_line_in, print_in, print_to_in, second_in, statement_in, ◌>>=◌}
 use Rattle.pr_basic.specs.declared.lexemes.Keyword.{Keyword}
 use Rattle.pr_basic.specs.declared.lexemes.Keyword.TheVariants as word
@@ -22,13 +22,6 @@ no_keyword_read (Word word.PrintTo) ls h = absurd (cc)
 no_keyword_read (Word word.Print) ls h = absurd (cc)
 no_keyword_read Remark ls h = absurd (cc)
 no_keyword_read l ls h = refl
-
--- no comma where one must stand
-no_comma_read : (ls : List Lexeme) → Lacks Comma ls → comma_in BadDevice ls ≡ Err BadDevice
-unfolding comma_in
-no_comma_read [] h = refl
-no_comma_read (Comma ∷ ls) h = absurd (h ls refl)
-no_comma_read (l ∷ ls) h = refl
 
 -- an OPEN without a device after its file
 no_device_read : (file : ℕ) (ls : List Lexeme) → ((rest : List Lexeme) → ls ≡ Comma ∷ rest → NoNumber 4 30 rest)

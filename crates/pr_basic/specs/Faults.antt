@@ -50,13 +50,15 @@ Number low high ls rest = (ds : List ℕ) × (ls ≡ Digits ds ∷ rest) × (low
 abbrev pub NoNumber : ℕ → ℕ → List Lexeme → Type 0
 NoNumber low high ls = (rest : List Lexeme) → Number low high ls rest → ⊥
 
--- a keyword and its file, OPEN's device too, or its secondary address too, stand first, and these lexemes follow them
+-- a keyword and its file stand first, and these lexemes follow them
 abbrev pub AfterFile : Keyword → List Lexeme → List Lexeme → Type 0
 AfterFile k part rest = (ls : List Lexeme) × (part ≡ Word k ∷ ls) × Number 0 255 ls rest
 
+-- OPEN's file and device stand first, and these lexemes follow them
 abbrev pub AfterDevice : List Lexeme → List Lexeme → Type 0
 AfterDevice part rest = (ls : List Lexeme) × AfterFile word.Open part (Comma ∷ ls) × Number 4 30 ls rest
 
+-- OPEN's file, device and secondary address stand first, and these lexemes follow them
 abbrev pub AfterSecond : List Lexeme → List Lexeme → Type 0
 AfterSecond part rest = (ls : List Lexeme) × AfterDevice part (Comma ∷ ls) × Number 0 15 ls rest
 

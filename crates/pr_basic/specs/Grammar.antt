@@ -32,20 +32,24 @@ pub data Item : Type 0 where
   Quote : List ℕ → Item
   Code : List ℕ → Item
 
+-- the lexemes of an item
 abbrev pub item_lexemes : Item → List Lexeme
 item_lexemes Semi = Semicolon ∷ []
 item_lexemes (Quote s) = Quoted s ∷ []
 item_lexemes (Code ds) = Word word.Chr ∷ OpenParen ∷ Digits ds ∷ CloseParen ∷ []
 
+-- the bytes of an item
 abbrev pub item_bytes : Item → List ℕ
 item_bytes Semi = []
 item_bytes (Quote s) = s
 item_bytes (Code ds) = number_of ds ∷ []
 
+-- the lexemes of items, one after another
 abbrev pub items_lexemes : List Item → List Lexeme
 items_lexemes [] = []
 items_lexemes (i ∷ is) = item_lexemes i ++ items_lexemes is
 
+-- the bytes of items, one after another
 abbrev pub items_bytes : List Item → List ℕ
 items_bytes [] = []
 items_bytes (i ∷ is) = item_bytes i ++ items_bytes is
@@ -56,6 +60,7 @@ IsItem Semi = Unit {0}
 IsItem (Quote s) = list_all is_printable s ≡ true
 IsItem (Code ds) = number_of ds ≤ 255
 
+-- all are items
 abbrev pub AreItems : List Item → Type 0
 AreItems [] = Unit {0}
 AreItems (i ∷ is) = IsItem i × AreItems is
@@ -99,6 +104,7 @@ abbrev pub AreParts : List (List Lexeme) → List Statement → Type 0
 AreParts [] ss = ss ≡ []
 AreParts (p ∷ ps) ss = ((p ≡ []) × AreParts ps ss) ⊎ ((s : Statement) × (more : List Statement) × IsStatement s p × (ss ≡ s ∷ more) × AreParts ps more)
 
+-- an element put in front of the first list
 abbrev pub onto_first : {A : Type 0} → A → List (List A) → List (List A)
 onto_first x [] = (x ∷ []) ∷ []
 onto_first x (xs ∷ more) = (x ∷ xs) ∷ more

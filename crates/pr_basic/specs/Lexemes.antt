@@ -18,12 +18,15 @@ pub data Lexeme : Type 0 where
   CloseParen : Lexeme
   Stray : Lexeme
 
+-- byte 32 or 9
 abbrev pub is_space : ℕ → Bool
 is_space b = (b == 32) || (b == 9)
 
+-- bytes 48 to 57
 abbrev pub is_digit : ℕ → Bool
 is_digit b = nat_le 48 b && nat_le b 57
 
+-- any byte but 34
 abbrev pub is_no_quote : ℕ → Bool
 is_no_quote b = not (b == 34)
 

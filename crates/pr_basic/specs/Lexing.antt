@@ -32,6 +32,7 @@ text_front bs =
     let n = prefix_len is_no_quote bs in
     (Quoted (take n bs), if nat_lt n (length bs) then n + 2 else n + 1)
 
+-- a sign, or else another front
 abbrev pub sign_or : ℕ → Front → Front
 sign_or b other =
     if b == 44 then (Comma, 1) else (if b == 59 then (Semicolon, 1) else (if b == 58 then (Colon, 1)
@@ -50,6 +51,7 @@ lexemes_after skip [] = []
 lexemes_after zero (b ∷ bs) = if is_space b then lexemes_after 0 bs else (front (b ∷ bs)).0 ∷ lexemes_after ((front (b ∷ bs)).1 - 1) bs
 lexemes_after (suc skip) (b ∷ bs) = lexemes_after skip bs
 
+-- the lexemes of a line
 abbrev pub lexemes_of : List ℕ → List Lexeme
 lexemes_of bs = lexemes_after 0 bs
 
@@ -69,9 +71,11 @@ after_part (l ∷ ls) = after_part ls
 abbrev pub here : List ℕ → List Lexeme
 here bs = part_of (lexemes_of bs)
 
+-- the lexemes after the first colon of some bytes
 abbrev pub later : List ℕ → List Lexeme
 later bs = after_part (lexemes_of bs)
 
+-- no space stands first
 abbrev pub first_isnt_space : List ℕ → Type 0
 first_isnt_space [] = Unit {0}
 first_isnt_space (b ∷ bs) = is_space b ≡ false

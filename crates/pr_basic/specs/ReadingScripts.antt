@@ -24,10 +24,12 @@ is_begun (l ∷ ls) = begins_statement l
 abbrev pub counted : ℕ → List Lexeme → Result (Option Statement) LineFault
 counted room part = if room == 0 then (if is_begun part then Err TooMany else statement_in part) else statement_in part
 
+-- the room after a part
 abbrev pub room_after : ℕ → Option Statement → ℕ
 room_after room None = room
 room_after room (Some s) = room - 1
 
+-- the statement of a part, if it has one, before others
 abbrev pub and_more : Option Statement → List Statement → List Statement
 and_more None ss = ss
 and_more (Some s) ss = s ∷ ss
@@ -41,10 +43,12 @@ statements_in room (p ∷ ps) = counted room p >>= λ s. statements_in (room_aft
 abbrev pub line_statements : ℕ → List ℕ → Result (List Statement) LineFault
 line_statements room line = numbered (lexemes_of (without_return line)) >>= λ ls. statements_in room (parts ls)
 
+-- a line's fault, with the line's number
 abbrev pub at_line : {A : Type 0} → ℕ → Result A LineFault → Result A (LineFault × ℕ)
 at_line n (Ok x) = Ok x
 at_line n (Err e) = Err (e, n)
 
+-- what follows, unless there was a fault
 abbrev pub then_more : Result (List Statement) (LineFault × ℕ) → (List Statement → Result (List Statement) (LineFault × ℕ)) → Result (List Statement) (LineFault × ℕ)
 then_more (Ok ss) more = more ss
 then_more (Err e) more = Err e

@@ -1,7 +1,6 @@
 -- Linking words, for proofs: what a function of the reader answered is what the reading words say, unless memory ran out.
-use Rattle.std.specs.Prelude.{◌≡◌, ◌∷◌, ◌++◌, ◌≤◌, length, ℕ, List, [], Option, Some, None, Result, Ok, Err, Vec}
+use Rattle.std.specs.Prelude.{◌≡◌, ◌∷◌, ◌++◌, ◌≤◌, length, ℕ, List, [], Option, Some, None, Result, Ok, Err}
 use Rattle.std.specs.Borrow.{Bor}
-use Rattle.std.specs.Global.{Global}
 use Rattle.pr_basic.specs.Text.{Text}
 use Rattle.pr_basic.specs.Lexemes.{Lexeme}
 use Rattle.pr_basic.specs.Lexing.{here, later, lexemes_of}
@@ -19,6 +18,7 @@ abbrev pub Reads : {X : Type 0} → Result (X × Bor (List ℕ)) LineFault → R
 Reads (Ok p) said more = (said ≡ Ok (p.0, here p.1.now)) × (later p.1.now ≡ more)
 Reads (Err e) said more = said ≡ Err e
 
+-- the bytes after a comma stand for the lexemes after it, in the same part
 abbrev pub Passes : Result (Bor (List ℕ)) LineFault → Result (List Lexeme) LineFault → List Lexeme → Type 0
 Passes (Ok rest) said more = (said ≡ Ok (here rest.now)) × (later rest.now ≡ more)
 Passes (Err e) said more = said ≡ Err e
@@ -73,8 +73,3 @@ FailsScript (BadByte n) said = said ≡ Err (fault.BadByte, n)
 FailsScript (TooLong n) said = said ≡ Err (fault.TooLong, n)
 FailsScript (TooMany n) said = said ≡ Err (fault.TooMany, n)
 FailsScript NoMemory said = Unit {0}
-
--- the statements are the script's, or the fault is
-abbrev pub GivesScript : Result (Vec Statement Global) ScriptFault → Result (List Statement) (LineFault × ℕ) → Type 0
-GivesScript (Ok statements) said = said ≡ Ok statements.items
-GivesScript (Err fault) said = FailsScript fault said

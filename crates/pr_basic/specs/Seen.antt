@@ -3,6 +3,7 @@ use Rattle.pr_basic.specs.Lexemes as spec
 use Rattle.pr_basic.specs.declared.lexemes.Lexeme.{Lexeme}
 use Rattle.pr_basic.specs.declared.lexemes.Lexeme.TheVariants.{Word, Remark, Digits, Quoted, Comma, Semicolon, Colon, OpenParen, CloseParen, Stray}
 
+-- the lexeme with its bytes alone
 abbrev pub seen : Lexeme → spec.Lexeme
 seen (Word k) = spec.Word k
 seen Remark = spec.Remark
