@@ -87,16 +87,17 @@ each_push file (x ∷ xs) each is = (each.0, each_push file xs each.1 is)
 
 -- what it means that nothing stands against opening a file
 record IsOpenable (files : Files) (n : ℕ) : Type 0 where
+  named : (n == 0) ≡ false
   absent : file_at files n ≡ None
   room : (length files == 10) ≡ false
 
 -- nothing stands against it where no test finds anything
-openable_at : (files : Files) (n : ℕ) (a : Bool) (f : Option File) (b : Bool) → file_at files n ≡ f → (length files == 10) ≡ b
+openable_at : (files : Files) (n : ℕ) (a : Bool) (f : Option File) (b : Bool) → (n == 0) ≡ a → file_at files n ≡ f → (length files == 10) ≡ b
     → cond a (Some NotInputFile) (cond (is_some f) (Some FileOpen) (cond b (Some TooManyFiles) None)) ≡ None → IsOpenable files n
-openable_at files n true f b nf nb none = let clash : Some NotInputFile ≡ None = none in absurd (cc clash)
-openable_at files n false (Some f) b nf nb none = let clash : Some FileOpen ≡ None = none in absurd (cc clash)
-openable_at files n false None true nf nb none = let clash : Some TooManyFiles ≡ None = none in absurd (cc clash)
-openable_at files n false None false nf nb none = record { absent = nf; room = nb }
+openable_at files n true f b na nf nb none = let clash : Some NotInputFile ≡ None = none in absurd (cc clash)
+openable_at files n false (Some f) b na nf nb none = let clash : Some FileOpen ≡ None = none in absurd (cc clash)
+openable_at files n false None true na nf nb none = let clash : Some TooManyFiles ≡ None = none in absurd (cc clash)
+openable_at files n false None false na nf nb none = record { named = na; absent = nf; room = nb }
 
 -- at most ten and not ten
 room_left : (n : ℕ) → n ≤ 10 → (n == 10) ≡ false → n < 10
@@ -119,8 +120,25 @@ table_push files file is absent room = record {
 -- one more file against which nothing stands makes a table of a table
 pub table_opened : (files : Files) (file : File) → IsTable files → open_stop files file.number ≡ None → IsTable (files ++ file ∷ [])
 table_opened files file is none =
-    let may = openable_at files file.number (file.number == 0) (file_at files file.number) (length files == 10) refl refl none in
+    let may = openable_at files file.number (file.number == 0) (file_at files file.number) (length files == 10) refl refl refl none in
     table_push files file is may.absent may.room
+
+-- a number below ten is not ten
+below_ten : (n : ℕ) (b : Bool) → (n == 10) ≡ b → n < 10 → b ≡ false
+below_ten n true is low = let ten : n ≡ 10 = eqb-true n 10 is in absurd (omega arith)
+below_ten n false is low = refl
+
+-- what may be opened beside a table may be opened beside some of it
+pub openable_filter : (q : File → Bool) (files : Files) (n : ℕ) → IsTable files → open_stop files n ≡ None → open_stop (filter q files) n ≡ None
+openable_filter q files n is none =
+    let may = openable_at files n (n == 0) (file_at files n) (length files == 10) refl refl refl none in
+    let absent : file_at (filter q files) n ≡ None = absent_filter (λ file. file.number == n) q files may.absent in
+    let low : length files < 10 = room_left (length files) is.few may.room in
+    let shorter : length (filter q files) < 10 = omega (arith, length-filter q files) in
+    let room : (length (filter q files) == 10) ≡ false = below_ten (length (filter q files)) (length (filter q files) == 10) refl shorter in
+    ap (λ t. cond t (Some NotInputFile) (cond (is_some (file_at (filter q files) n)) (Some FileOpen) (cond (length (filter q files) == 10) (Some TooManyFiles) None))) may.named
+    ∙ ap (λ f. cond (is_some f) (Some FileOpen) (cond (length (filter q files) == 10) (Some TooManyFiles) None)) absent
+    ∙ ap (λ t. cond t (Some TooManyFiles) None) room
 
 -- nothing more is named
 or_none : (f : Option File) → option_or f None ≡ f

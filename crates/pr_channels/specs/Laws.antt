@@ -1,5 +1,5 @@
 -- Laws of the definitions. The functions of src/laws.rt prove them, and callers take them from there.
-use Rattle.std.specs.Prelude.{◌≡◌, Bool, None, List, [], ◌∷◌, ◌++◌, filter}
+use Rattle.std.specs.Prelude.{◌≡◌, ℕ, Bool, None, List, [], ◌∷◌, ◌++◌, filter}
 use Rattle.pr_serial.specs.Elements.{Element}
 use Rattle.pr_serial.specs.Items.{items_of}
 use Rattle.pr_channels.specs.declared.file.File.{File}
@@ -22,3 +22,7 @@ TableWithOneMore = (files : Files) (file : File) → IsTable files → open_stop
 -- some of the files of a file table are a file table
 abbrev pub TableWithSome : Type 0
 TableWithSome = (keep : File → Bool) (files : Files) → IsTable files → IsTable (filter keep files)
+
+-- what may be opened beside the files of a file table may be opened beside some of them
+abbrev pub OpenableAmongSome : Type 0
+OpenableAmongSome = (keep : File → Bool) (files : Files) (number : ℕ) → IsTable files → open_stop files number ≡ None → open_stop (filter keep files) number ≡ None

@@ -1,6 +1,6 @@
 //! Laws of the definitions, with nothing to run. A caller whose proof needs one calls the function.
 
-ghost use Rattle.pr_channels.specs.Laws.{AddingInTwoParts, AddingNone, TableWithOneMore, TableWithSome};
+ghost use Rattle.pr_channels.specs.Laws.{AddingInTwoParts, AddingNone, TableWithOneMore, TableWithSome, OpenableAmongSome};
 
 use pr_serial::laws::{answers_add_up, elements_send_items};
 
@@ -15,8 +15,9 @@ pub fn elements_add_up()
 }
 
 /// A law: one more file against which nothing stands makes a file table of a file table, and so
-/// does leaving files out.
+/// does leaving files out; and what may be opened beside the files may be opened beside those left.
 pub fn tables_stay_tables()
     ensures one_more { TableWithOneMore }
     ensures some { TableWithSome }
+    ensures openable { OpenableAmongSome }
 {}

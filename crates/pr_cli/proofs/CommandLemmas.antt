@@ -1,7 +1,8 @@
 -- From what clap says of its matches to the subcommand met.
-use Rattle.std.proofs.Common.{◌≡◌, List, [], ◌∷◌, refl, Option, Some, None, Bool, true, false}
-use Rattle.std.specs.Prelude.{option_map, IfSome, find, if◌then◌else◌}
-use Rattle.clap.specs.Words.{Text, built, is_simple, subcommand_of}
+use Rattle.std.proofs.Common.{◌≡◌, List, [], ◌∷◌, refl, ap, ◌∙◌, Option, Some, None, Bor, Bool, true, false}
+use Rattle.std.specs.Prelude.{option_map, unwrap_or, IfSome, find, if◌then◌else◌}
+use Rattle.clap.specs.Words.{Text, built, first_of, first_value, is_simple, rows_of, subcommand_of}
+use Rattle.clap.proofs.WalkLemmas.{first_value-rows}
 use Rattle.clap.specs.Simple.{Shape, argument_words, entered, names_of, rows_at, label_of}
 use Rattle.clap.specs.Walk.{answers_to, stop_after}
 use Rattle.clap.proofs.OnLiterals.{clap_on_literals}
@@ -37,3 +38,12 @@ subcommand_ours words = entered_ours (stop_after (built print1525).top.rules (na
 pub program_simple : is_simple print1525 ≡ true
 unfolding clap_on_literals
 program_simple = refl
+
+-- the value that is read is that of the rows
+pub text_is : (o : Option (Bor Text)) (d : Bor Text) (f : _) (id : Text) (r : Bor Text)
+    → r ≡ unwrap_or o d → option_map (λ (s : Bor Text). s.now) o ≡ first_value f id → r.now ≡ unwrap_or (first_of id (rows_of f)) d.now
+text_is o d f id r e h = rw e (text_of o d ∙ ap (λ t. unwrap_or t d.now) (h ∙ first_value-rows f id))
+  where
+    text_of : (o : Option (Bor Text)) (d : Bor Text) → (unwrap_or o d).now ≡ unwrap_or (option_map (λ (s : Bor Text). s.now) o) d.now
+    text_of None d = refl
+    text_of (Some s) d = refl

@@ -1,4 +1,2 @@
 pub mod KnownSteps
-pub mod PlainLemmas
-pub mod PageLemmas
 pub mod CommandLemmas

@@ -1,16 +1,32 @@
 -- Trusted: the program's command line, as a simple command of clap.
-use Rattle.std.specs.Prelude.{◌≡◌, codes, true, false}
+use Rattle.std.specs.Prelude.{◌≡◌, [], ◌∷◌, Some, codes, true, false}
 use Rattle.clap.specs.declared.Command.{Command}
 use Rattle.clap.specs.declared.Command.TheViews.{out-Command}
-use Rattle.clap.specs.Words.{App, new_app, with_subcommand}
+use Rattle.clap.specs.Words.{App, Rule, Text, new_app, new_rule, with_rule, with_subcommand}
 use Rattle.clap.specs.Simple.{on_top}
+
+-- an option with a value, and the value where it is not given
+abbrev pub value_rule : Text → Text → Rule
+value_rule id default = record (new_rule id) { long = Some id; defaults = default ∷ [] }
+
+-- which printers are present
+abbrev pub present_rule : Rule
+present_rule = value_rule (codes "present") (codes "both")
+
+-- how the status goes from statement to statement
+abbrev pub status_rule : Rule
+status_rule = value_rule (codes "status") (codes "each")
+
+-- the subcommand that writes pages
+abbrev pub pages_app : App
+pages_app = with_rule (with_rule (new_app (codes "pages")) present_rule) status_rule
 
 -- the program, which wants a subcommand
 abbrev pub print1525 : App
 print1525 =
     with_subcommand
     (on_top (λ s. record s { subcommand_required = true; disable_help_subcommand = true }) (new_app (codes "print1525")))
-    (new_app (codes "pages")).top
+    pages_app.top
 
 -- no option of the command holds for its subcommands too
 abbrev pub IsLocal : Command → Type 0

@@ -1,10 +1,24 @@
--- Trusted: what a fault of reading is to the program.
+-- Trusted: what a fault of a part is to the program. Want of memory is always the program's own.
+use Rattle.pr_basic.specs.declared.fault.ScriptFault.{ScriptFault}
+use Rattle.pr_basic.specs.declared.fault.ScriptFault.TheVariants as script
 use Rattle.pr_cli.specs.declared.whole.ReadFault.{ReadFault}
 use Rattle.pr_cli.specs.declared.whole.ReadFault.TheVariants as read
 use Rattle.pr_cli.specs.declared.fault.CliFault.{CliFault}
-use Rattle.pr_cli.specs.declared.fault.CliFault.TheVariants.{TooLarge, NoMemory, ReadFailed}
+use Rattle.pr_cli.specs.declared.fault.CliFault.TheVariants.{Script, TooLarge, NoMemory, ReadFailed}
 
+-- a fault of reading
 abbrev pub fault_of_read : ReadFault → CliFault
 fault_of_read read.TooLarge = TooLarge
 fault_of_read read.NoMemory = NoMemory
 fault_of_read read.ReadFailed = ReadFailed
+
+-- a fault of a script
+abbrev pub fault_of_script : ScriptFault → CliFault
+fault_of_script (script.UnknownWord line) = Script (script.UnknownWord line)
+fault_of_script (script.BadNumber line) = Script (script.BadNumber line)
+fault_of_script (script.BadDevice line) = Script (script.BadDevice line)
+fault_of_script (script.BadSecond line) = Script (script.BadSecond line)
+fault_of_script (script.BadByte line) = Script (script.BadByte line)
+fault_of_script (script.TooLong line) = Script (script.TooLong line)
+fault_of_script (script.TooMany line) = Script (script.TooMany line)
+fault_of_script script.NoMemory = NoMemory

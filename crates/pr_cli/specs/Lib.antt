@@ -1,10 +1,10 @@
 pub mod Watched
 pub mod Whole
 pub mod PageText
-pub mod Plain
 pub mod Pages
+pub mod Options
 pub mod CommandLine
 pub mod Jobs
-pub mod Gives
+pub mod Outcomes
 pub mod Tables
 pub mod Faults

@@ -1,10 +1,13 @@
--- Trusted: the page text, a line for each printer, row and mark, then the statuses and the screen's bytes.
-use Rattle.std.specs.Prelude.{ℕ, Bool, List, [], ◌∷◌, ◌++◌, codes, decimal, flat_map, if◌then◌else◌}
+-- Trusted: the page text of an outcome: a line for each printer, row and mark, then the statuses, the screen's bytes and the stop.
+use Rattle.std.specs.Prelude.{ℕ, Bool, List, [], ◌∷◌, ◌++◌, codes, decimal, flat_map, if◌then◌else◌, Option, Some, None}
 use Rattle.pr_page.specs.declared.paper.Placed.{Placed}
 use Rattle.pr_page.specs.declared.paper.Row.{Row}
 use Rattle.pr_page.specs.declared.paper.Paper.{Paper}
 use Rattle.pr_page.specs.declared.paper.Mark.{Mark}
 use Rattle.pr_page.specs.declared.paper.Mark.TheVariants.{Cell, Dots}
+use Rattle.pr_channels.specs.Files.{stop_number}
+use Rattle.pr_channels.specs.declared.faults.Stop.{Stop}
+use Rattle.pr_system.specs.declared.outcome.Outcome.{Outcome}
 
 -- a word where it holds
 abbrev pub word_if : Bool → List ℕ → List ℕ
@@ -37,7 +40,13 @@ paper_text device p = codes "printer " ++ decimal device ++ codes "\n" ++ flat_m
 unfoldable pub numbers_text : List ℕ → List ℕ → List ℕ
 numbers_text name numbers = name ++ flat_map (λ n. codes " " ++ decimal n) numbers ++ codes "\n"
 
--- the page text of two papers, the statuses and the screen's bytes
-unfoldable pub page_text : Paper → Paper → List ℕ → List ℕ → List ℕ
-page_text four five statuses screen =
-    paper_text 4 four ++ paper_text 5 five ++ numbers_text (codes "status") statuses ++ numbers_text (codes "screen") screen
+-- the stop with its place, counted from 1
+unfoldable pub stop_text : Option (ℕ × Stop) → List ℕ
+stop_text None = []
+stop_text (Some stop) = codes "stop " ++ decimal (stop_number stop.1) ++ codes " at " ++ decimal stop.0 ++ codes "\n"
+
+-- the page text of an outcome
+unfoldable pub page_text : Outcome → List ℕ
+page_text outcome =
+    paper_text 4 outcome.paper4 ++ paper_text 5 outcome.paper5
+    ++ numbers_text (codes "status") outcome.statuses ++ numbers_text (codes "screen") outcome.screen ++ stop_text outcome.stop

@@ -3,27 +3,15 @@
 ghost use Rattle.std.specs.Prelude.{◌≡◌};
 
 use crate::whole::ReadFault;
-use std::alloc::{AllocError, AllocFailed};
+use pr_basic::ScriptFault;
+use std::alloc::AllocError;
 use thiserror::Error;
-
-/// The first fault of a script from the left, with the number of its line, counted from 1.
-#[derive(Clone, Copy, Debug, PartialEq, Eq, Error)]
-pub enum ScriptFault {
-    /// A byte, or a line's end, that the form of the line does not allow there.
-    #[error("line {0}: unknown word")]
-    UnknownWord(usize),
-    /// A string's 256th byte.
-    #[error("line {0}: too long")]
-    TooLong(usize),
-    /// The line after the one millionth.
-    #[error("line {0}: too many statements")]
-    TooMany(usize),
-}
 
 /// Why a run of the program wrote no text, or not all of it.
 #[derive(Clone, Copy, Debug, PartialEq, Eq, Error)]
 pub enum CliFault {
-    /// The script is refused.
+    /// The script is refused, with its first fault and that fault's line. It is never want of
+    /// memory.
     #[error(transparent)]
     Script(ScriptFault),
     /// The input is larger than the limit.
@@ -41,12 +29,15 @@ pub enum CliFault {
 }
 
 impl From<ScriptFault> for CliFault {
-    ghost use Rattle.pr_cli.specs.declared.fault.CliFault.TheVariants.{Script};
+    ghost use Rattle.pr_cli.specs.Faults.{fault_of_script};
 
-    ghost from_gives = { λ e f. f ≡ Script e };
+    ghost from_gives = { λ e f. f ≡ fault_of_script e };
 
     fn from(e: ScriptFault) -> CliFault {
-        CliFault::Script(e)
+        match e {
+            ScriptFault::NoMemory => CliFault::NoMemory,
+            refusal => CliFault::Script(refusal),
+        }
     }
 }
 
@@ -56,16 +47,6 @@ impl From<AllocError> for CliFault {
     ghost from_gives = { λ _ f. f ≡ NoMemory };
 
     fn from(_e: AllocError) -> CliFault {
-        CliFault::NoMemory
-    }
-}
-
-impl<T: Drop> From<AllocFailed<T>> for CliFault {
-    ghost use Rattle.pr_cli.specs.declared.fault.CliFault.TheVariants.{NoMemory};
-
-    ghost from_gives = { λ _ f. f ≡ NoMemory };
-
-    fn from(_e: AllocFailed<T>) -> CliFault {
         CliFault::NoMemory
     }
 }

@@ -1,20 +1,24 @@
 //! What a command line asks for.
 
-ghost use Rattle.std.specs.Prelude.{◌≡◌, map, true, IfOk, IfErr, IfSome, IsSome};
-ghost use Rattle.clap.specs.Words.{kind_of, subcommand_of, subcommand_rows_of, takes};
+ghost use Rattle.std.specs.Prelude.{◌≡◌, ◌≢◌, map, true, unwrap_or, IfOk, IfErr, IfSome, IsErrOf, IsSome};
+ghost use Rattle.clap.specs.Words.{first_of, found_of, kind_of, rows_of, subcommand_of, subcommand_rows_of, takes};
 ghost use Rattle.pr_cli.specs.CommandLine.{print1525};
-ghost use Rattle.pr_cli.specs.Jobs.{AsksFor, IsLine, IsOurs};
+ghost use Rattle.pr_cli.specs.Jobs.{AsksFor, HasBadPresent, HasBadStatus, IsLine, IsOurs};
 
 use crate::command::make_command;
+use crate::options::{read_present, read_status};
 use clap::ArgMatches;
 use clap::error::ErrorKind;
+use pr_basic::StatusMode;
+use pr_serial::Present;
 use std::alloc::Global;
 
 /// What the program is to do.
 #[derive(Clone, Copy, Debug, PartialEq, Eq)]
 pub enum Job {
-    /// Read a script and write the page text of its run.
-    Pages,
+    /// Read a script and write the page text of its run, with these printers present and the
+    /// status going on in this way.
+    Pages(Present, StatusMode),
 }
 
 /// Why a command line asks for nothing.
@@ -22,6 +26,10 @@ pub enum Job {
 pub enum JobFault {
     /// clap refuses the words, or they ask for help: the error prints itself.
     Line(clap::Error),
+    /// The value of `--present` is not `none`, `4`, `5` or `both`.
+    BadPresent,
+    /// The value of `--status` is not `each` or `kept`.
+    BadStatus,
     /// Memory was refused.
     NoMemory,
 }
@@ -31,32 +39,56 @@ pub enum JobFault {
 /// # Errors
 ///
 /// [`JobFault::Line`] only for words that clap's meaning of the command does not take (a request
-/// for help is one), and [`JobFault::NoMemory`] where memory was refused, by clap too.
+/// for help is one), [`JobFault::BadPresent`] only for a bad value of `--present`,
+/// [`JobFault::BadStatus`] only for a good `--present` and a bad value of `--status`, and
+/// [`JobFault::NoMemory`] where memory was refused, by clap too.
 pub fn read_job<'a>(alloc: Global, words: &'a [&'a str]) -> Result<Job, JobFault>
     ensures ok { IfOk result (AsksFor (subcommand_of print1525 (map (λ s. s.now) words.entry.now))) }
+    ensures present { IsErrOf result JobFault.BadPresent → HasBadPresent (subcommand_of print1525 (map (λ s. s.now) words.entry.now)) }
+    ensures status { IsErrOf result JobFault.BadStatus → HasBadStatus (subcommand_of print1525 (map (λ s. s.now) words.entry.now)) }
     ensures line { takes print1525 (map (λ s. s.now) words.entry.now) ≡ true → IfErr result (λ e. ¬ IsLine e) }
 {
     let Ok(command) = make_command(alloc) else {
         return Err(JobFault::NoMemory);
     };
     match command.try_get_matches_from(words) {
-        Ok(matches) => Ok(job_of(&matches)),
+        Ok(matches) => job_of(&matches),
         Err(error) => Err(fault_of(error)),
     }
 }
 
 /// The job that the matches of the words ask for.
-fn job_of(_matches: &ArgMatches<'_>) -> Job
-    requires some { IsSome (subcommand_rows_of _matches.now) }
-    requires ours { IfSome (subcommand_rows_of _matches.now) (λ met. IsOurs met.0) }
-    ensures { AsksFor (subcommand_rows_of _matches.now) result }
+fn job_of(matches: &ArgMatches<'_>) -> Result<Job, JobFault>
+    requires some { IsSome (subcommand_rows_of matches.now) }
+    requires ours { IfSome (subcommand_rows_of matches.now) (λ met. IsOurs met.0) }
+    ensures ok { IfOk result (AsksFor (subcommand_rows_of matches.now)) }
+    ensures present { IsErrOf result JobFault.BadPresent → HasBadPresent (subcommand_rows_of matches.now) }
+    ensures status { IsErrOf result JobFault.BadStatus → HasBadStatus (subcommand_rows_of matches.now) }
+    ensures line { IfErr result (λ e. ¬ IsLine e) }
 {
-    Job::Pages
+    let Some((_name, options)) = matches.subcommand() else {
+        unreachable!()
+    };
+    let Some(present) = read_present(value_or(options, "present", "both")) else {
+        return Err(JobFault::BadPresent);
+    };
+    let Some(mode) = read_status(value_or(options, "status", "each")) else {
+        return Err(JobFault::BadStatus);
+    };
+    Ok(Job::Pages(present, mode))
+}
+
+/// The value of an option, or a text in its place.
+fn value_or<'a>(options: &ArgMatches<'a>, id: &str, fallback: &'a str) -> &'a str
+    ensures { result.now ≡ unwrap_or (first_of id.now (rows_of (found_of options.now))) fallback.entry.now }
+{
+    options.get_str(id).unwrap_or(fallback)
 }
 
 /// A refusal by clap. Its want of memory is the program's own.
 fn fault_of(error: clap::Error) -> JobFault
     ensures memory { kind_of error ≡ ErrorKind.OutOfMemory → ¬ IsLine result }
+    ensures line { (result ≢ JobFault.BadPresent) × (result ≢ JobFault.BadStatus) }
 {
     if error.kind() == ErrorKind::OutOfMemory {
         JobFault::NoMemory

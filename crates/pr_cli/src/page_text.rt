@@ -4,11 +4,13 @@
 //! stands ready in tables of short texts.
 
 ghost use Rattle.std.specs.Prelude.{◌≡◌, [], ◌++◌, codes, decimal, flat_map, vec_len, OnOk, IfOk};
-ghost use Rattle.pr_cli.specs.PageText.{held_text, mark_text, mark_words, numbers_text, page_text, paper_text, row_text, word_if};
+ghost use Rattle.pr_cli.specs.PageText.{held_text, mark_text, mark_words, numbers_text, page_text, paper_text, row_text, stop_text, word_if};
 ghost use Rattle.pr_cli.specs.Tables.{HasNumbers};
 
 use crate::short::{Short, numbers_between, push_number};
-use pr_page::{Mark, Paper, Placed, Row};
+use pr_channels::Stop;
+use pr_page::{Mark, NoMemory, Paper, Placed, Row};
+use pr_system::Outcome;
 use std::alloc::{AllocError, Global};
 
 /// The dot columns of a line.
@@ -189,22 +191,39 @@ impl Texts {
     }
 }
 
-/// The page text of two papers, the statuses and the screen's bytes.
+/// Adds the line of a stop, if there is one.
+#[tactic(auto, unfolding(crate::specs::PageText::stop_text))]
+fn push_stop(text: &mut Vec<u8>, stop: Option<(usize, Stop)>) -> Result<(), AllocError>
+    ensures { OnOk result (text.new.items ≡ text.old.items ++ stop_text stop) }
+{
+    let Some((place, stop)) = stop else {
+        return Ok(());
+    };
+    text.extend_from_slice(b"stop ")?;
+    push_number(text, u64::from(stop.number()))?;
+    text.extend_from_slice(b" at ")?;
+    push_number(text, place as u64)?;
+    text.push(b'\n')?;
+    Ok(())
+}
+
+/// The page text of an outcome (profile): for each printer its name and, row by row, a line for
+/// the row and one for each of its marks, then the marks held; then the statuses, the bytes of the
+/// screen, and the stop with its place from 1, if there is one. Each line ends with byte 10.
+///
+/// # Errors
+///
+/// [`NoMemory`] where memory was refused.
 #[tactic(auto, unfolding(crate::specs::PageText::page_text))]
-pub fn text_of_page(
-    alloc: Global,
-    four: &Paper,
-    five: &Paper,
-    statuses: &[u8],
-    screen: &[u8],
-) -> Result<Vec<u8>, AllocError>
-    ensures { IfOk result (λ text. text.items ≡ page_text four.now five.now statuses.now screen.now) }
+pub fn pages_text(alloc: Global, outcome: &Outcome) -> Result<Vec<u8>, NoMemory>
+    ensures { IfOk result (λ text. text.items ≡ page_text outcome.now) }
 {
     let texts = Texts::new(alloc)?;
     let mut text = Vec::new(alloc);
-    texts.push_paper(&mut text, 4, four)?;
-    texts.push_paper(&mut text, 5, five)?;
-    texts.push_numbers(&mut text, b"status", statuses)?;
-    texts.push_numbers(&mut text, b"screen", screen)?;
+    texts.push_paper(&mut text, 4, &outcome.paper4)?;
+    texts.push_paper(&mut text, 5, &outcome.paper5)?;
+    texts.push_numbers(&mut text, b"status", outcome.statuses.as_slice())?;
+    texts.push_numbers(&mut text, b"screen", outcome.screen.as_slice())?;
+    push_stop(&mut text, outcome.stop)?;
     Ok(text)
 }

@@ -1,20 +1,19 @@
 //! A script in, the page text of its run out.
 
-ghost use Rattle.std.specs.Prelude.{◌≡◌, ◌+◌, ◌^◌, ◌*◌, ◌<◌, ◌≤◌, ◌↔◌, ◌++◌, [], false, true, map, length, IfSome, IfOk, OnOk, IsErrOf, All, List};
+ghost use Rattle.std.specs.Prelude.{◌≡◌, false, true, IfSome, OnOk, IsErrOf, ◌↔◌};
 ghost use Rattle.std.specs.Io.KnownBytes.{IsAtEnd};
-ghost use Rattle.pr_page.specs.Taken.{HasTaken, number_taken};
-ghost use Rattle.pr_page.specs.declared.input.Input.{Input};
-ghost use Rattle.pr_cli.specs.Gives.{GivesText};
-ghost use Rattle.pr_cli.specs.Pages.{AnswersPages, WritesNothing};
-ghost use Rattle.pr_cli.specs.Plain.{inputs_of, string_inputs};
+ghost use Rattle.pr_basic.specs.declared.fault.ScriptFault.TheVariants as script_fault;
+ghost use Rattle.pr_cli.specs.Outcomes.{GivesOutcome};
+ghost use Rattle.pr_cli.specs.Pages.{AnswersPages, WritesNothing, ending_of};
 ghost use Rattle.pr_cli.specs.Watched.{has_failed, wrapped};
 
 use crate::fault::CliFault;
-use crate::page_text::text_of_page;
-use crate::plain::read_plain;
+use crate::page_text::pages_text;
 use crate::watched::Watched;
 use crate::whole::{WriteFault, read_whole, write_whole};
-use pr_page::{Input, NoMemory, Printer};
+use pr_basic::{StatusMode, read_script};
+use pr_serial::Present;
+use pr_system::{Outcome, run};
 use std::alloc::Global;
 use std::io::{Read, Write};
 
@@ -23,65 +22,45 @@ use std::io::{Read, Write};
 pub enum Ending {
     /// Every statement was performed.
     Done,
-    /// A BASIC error ended the run. No plain script makes one.
+    /// A BASIC error stopped the run.
     Stopped,
 }
 
 /// The longest input of a script, in bytes (profile).
 pub const SCRIPT_LIMIT: usize = 16_777_216;
 
-/// The byte after each string of a PRINT# line.
-const CARRIAGE_RETURN: u8 = 13;
-
-/// Gives a printer what it hears of a string.
-fn print_string(printer: &mut Printer, string: &[u8]) -> Result<(), NoMemory>
-    requires short { length string.now ≤ 255 }
-    requires few { number_taken printer.old + 257 < 2 ^ 32 }
-    ensures inputs { OnOk result ((before : List Input) → HasTaken before printer.old → HasTaken (before ++ string_inputs string.now) printer.new) }
-    ensures count { OnOk result (number_taken printer.new ≤ number_taken printer.old + 257) }
-{
-    printer.take(Input::Select(false))?;
-    for b in string {
-        printer.take(Input::Byte(*b))?;
+impl Ending {
+    /// How a run with this outcome ended.
+    fn of(outcome: &Outcome) -> Ending
+        ensures { result ≡ ending_of outcome.now.stop }
+    {
+        match outcome.stop {
+            None => Ending::Done,
+            Some(_) => Ending::Stopped,
+        }
     }
-    printer.take(Input::Byte(CARRIAGE_RETURN))
 }
 
-/// A printer that has taken what it hears of the strings.
-fn print_strings(alloc: Global, strings: &[&[u8]]) -> Result<Printer, NoMemory>
-    requires short { All (λ s. length s.now ≤ 255) strings.now }
-    requires few { length strings.now < 1000000 }
-    ensures { IfOk result (λ p. HasTaken (inputs_of (map (λ s. s.now) strings.now)) p) }
+/// What the run of a script gives.
+fn outcome_of(
+    alloc: Global,
+    script: &[u8],
+    present: Present,
+    mode: StatusMode,
+) -> Result<Outcome, CliFault>
+    ensures { GivesOutcome (record { present = present; mode = mode }) script.now result }
 {
-    let mut printer = Printer::new(alloc);
-    for string in strings {
-        print_string(&mut printer, string)?;
-    }
-    Ok(printer)
+    let statements = read_script(alloc, script)?;
+    let outcome = run(alloc, statements.as_slice(), present, mode)?;
+    Ok(outcome)
 }
 
-/// The page text of a script.
-fn text_of_script(alloc: Global, script: &[u8]) -> Result<Vec<u8>, CliFault>
-    ensures { GivesText result script.now }
-{
-    let strings = read_plain(alloc, script)?;
-    let four = print_strings(alloc, strings.as_slice())?;
-    let five = Printer::new(alloc);
-    let lines = if script.is_empty() {
-        0
-    } else {
-        strings.len() + 1
-    };
-    let statuses = vec![in alloc; 0u8; lines]?;
-    let text = text_of_page(alloc, four.paper(), five.paper(), statuses.as_slice(), &[])?;
-    Ok(text)
-}
-
-/// Reads a script to its end and writes the page text of its run.
+/// Reads a script to its end, runs it with these printers present and the status going on in this
+/// way, and writes the page text of the outcome.
 ///
 /// The input is read whole before anything is written, and the text is made whole before the
-/// first write. For now a script is empty, or the line `OPEN 4,4` and then lines of the form
-/// `PRINT#4,"HI"`.
+/// first write. The answer is [`Ending::Stopped`] exactly if a BASIC error stopped the run; the
+/// text is written all the same.
 ///
 /// # Errors
 ///
@@ -89,26 +68,30 @@ fn text_of_script(alloc: Global, script: &[u8]) -> Result<Vec<u8>, CliFault>
 /// - [`CliFault::TooLarge`]: only if the input has more than [`SCRIPT_LIMIT`] bytes.
 /// - [`CliFault::ReadFailed`] exactly if the input has failed, [`CliFault::WriteFailed`] exactly
 ///   if the output has; after the latter a beginning of the text has been written.
-/// - [`CliFault::NoMemory`]: memory was refused.
+/// - [`CliFault::NoMemory`]: memory was refused. It never stands inside a script's fault.
 ///
 /// After every error but `WriteFailed` nothing has been written.
 pub fn pages_over<R: Read, W: Write>(
     alloc: Global,
     input: &mut Watched<R>,
     output: &mut Watched<W>,
+    present: Present,
+    mode: StatusMode,
 ) -> Result<Ending, CliFault>
     requires input { has_failed input.old ≡ false }
     requires output { has_failed output.old ≡ false }
-    ensures pages { IfSome (R.remaining (wrapped input.old)) (λ script. AnswersPages script (W.contents (wrapped output.old)) (W.contents (wrapped output.new)) result) }
+    ensures pages { IfSome (R.remaining (wrapped input.old)) (λ script. AnswersPages (record { present = present; mode = mode }) script (W.contents (wrapped output.old)) (W.contents (wrapped output.new)) result) }
     ensures at_end { OnOk result (IsAtEnd (R.remaining (wrapped input.new))) }
     ensures nothing { WritesNothing (W.contents (wrapped output.old)) (W.contents (wrapped output.new)) result }
+    ensures memory { ¬ IsErrOf result (CliFault.Script script_fault.NoMemory) }
     ensures read_failed { IsErrOf result CliFault.ReadFailed ↔ (has_failed input.new ≡ true) }
     ensures write_failed { IsErrOf result CliFault.WriteFailed ↔ (has_failed output.new ≡ true) }
 {
     let script = read_whole(alloc, input, SCRIPT_LIMIT)?;
-    let text = text_of_script(alloc, script.as_slice())?;
+    let outcome = outcome_of(alloc, script.as_slice(), present, mode)?;
+    let text = pages_text(alloc, &outcome)?;
     match write_whole(output, text.as_slice()) {
-        Ok(()) => Ok(Ending::Done),
+        Ok(()) => Ok(Ending::of(&outcome)),
         Err(WriteFault) => Err(CliFault::WriteFailed),
     }
 }

@@ -1,7 +1,9 @@
 //! The program: words and standard input in, a text on standard output and an exit status out.
 #![tactic(auto)]
 
+use pr_basic::StatusMode;
 use pr_cli::{CliFault, Ending, Job, JobFault, Watched, pages_over, read_job};
+use pr_serial::Present;
 use std::alloc::AllocError;
 use std::io::ErrorKind;
 use std::process::ExitCode;
@@ -32,10 +34,7 @@ fn run(rt: &(impl Env + Input + Print + Eprint + AllocGlobal)) -> u8 {
             Err(AllocError) => tell(rt, CliFault::NoMemory),
         },
         Err(error) if error.kind() == ErrorKind::OutOfMemory => tell(rt, CliFault::NoMemory),
-        Err(_) => {
-            let _ = rt.eprintln(format_args!("print1525: bad arguments"));
-            REFUSED
-        }
+        Err(_) => refuse(rt, "bad arguments"),
     }
 }
 
@@ -58,7 +57,7 @@ fn do_job(
         texts.push(word.as_str())?;
     }
     match read_job(rt.alloc(), texts.as_slice()) {
-        Ok(Job::Pages) => Ok(print_pages(rt)),
+        Ok(Job::Pages(present, mode)) => Ok(print_pages(rt, present, mode)),
         Err(JobFault::Line(error)) => {
             let shown = error.print(rt);
             Ok(if error.use_stderr() {
@@ -69,19 +68,31 @@ fn do_job(
                 tell(rt, CliFault::WriteFailed)
             })
         }
+        Err(JobFault::BadPresent) => Ok(refuse(rt, "bad --present")),
+        Err(JobFault::BadStatus) => Ok(refuse(rt, "bad --status")),
         Err(JobFault::NoMemory) => Err(AllocError),
     }
 }
 
 /// The subcommand `pages`.
-fn print_pages(rt: &(impl Input + Print + Eprint + AllocGlobal)) -> u8 {
+fn print_pages(
+    rt: &(impl Input + Print + Eprint + AllocGlobal),
+    present: Present,
+    mode: StatusMode,
+) -> u8 {
     let mut input = Watched::new(rt.reader());
     let mut output = Watched::new(io::writer(rt));
-    match pages_over(rt.alloc(), &mut input, &mut output) {
+    match pages_over(rt.alloc(), &mut input, &mut output, present, mode) {
         Ok(Ending::Done) => DONE,
         Ok(Ending::Stopped) => STOPPED,
         Err(fault) => tell(rt, fault),
     }
+}
+
+/// Tells in one line on standard error why the command line is refused, and gives the exit status.
+fn refuse(rt: &impl Eprint, reason: &str) -> u8 {
+    let _ = rt.eprintln(format_args!("print1525: {reason}"));
+    REFUSED
 }
 
 /// Tells a fault in one line on standard error and gives its exit status.

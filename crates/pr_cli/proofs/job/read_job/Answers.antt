@@ -1,4 +1,4 @@
-use Rattle.std.proofs.Common.{ap, ◌∙◌, sym, map, subst}
+use Rattle.std.proofs.Common.{ap, ◌∙◌, sym, map, subst, IfOk}
 use Rattle.std.specs.Prelude.{IfSome}
 use Rattle.clap.specs.Words.{App, is_simple, subcommand_of, takes}
 use Rattle.pr_cli.specs.Jobs.{AsksFor, IsOurs, Met}
@@ -16,8 +16,8 @@ pub returns-in-Ok-try_get_matches_from-clause-ok : goal.returns-in-Ok-try_get_ma
 returns-in-Ok-try_get_matches_from-clause-ok c =
     let words = map (λ s. s.now) c.args.words.now in
     let met = (c.in-Ok-try_get_matches_from.ensures.matches (ap is_simple c.in-Ok.ensures.app ∙ program_simple)).1 ∙ ap (λ (a : App). subcommand_of a words) c.in-Ok.ensures.app in
-    let P : Met → Type 0 = λ m. AsksFor m c.job_of.result in
-    subst P met c.job_of.ensures
+    let P : Met → Type 0 = λ m. IfOk c.job_of.result (AsksFor m) in
+    subst P met c.job_of.ensures.ok
 
 pub returns-in-Err-clause-line : goal.returns-in-Err-clause-line
 returns-in-Err-clause-line c =

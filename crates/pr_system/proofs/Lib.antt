@@ -1,0 +1,6 @@
+pub mod FileLemmas
+pub mod ApartLemmas
+pub mod StepLemmas
+pub mod IsolationLemmas
+pub mod SteppingLemmas
+pub mod AgreeLemmas

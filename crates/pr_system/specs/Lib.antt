@@ -1,0 +1,4 @@
+pub mod RunningState
+pub mod InOrder
+pub mod Headline
+pub mod Without

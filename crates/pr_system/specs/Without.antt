@@ -1,0 +1,86 @@
+-- Trusted: a list of statements without one device, and what that leaves as it is.
+use Rattle.std.specs.Prelude.{◌≡◌, ◌≢◌, ℕ, Bool, false, ◌==◌, Option, Some, None, List, [], ◌∷◌, ◌++◌, if◌then◌else◌}
+use Rattle.pr_serial.specs.declared.Present.{Present}
+use Rattle.pr_channels.specs.declared.file.File.{File}
+use Rattle.pr_channels.specs.declared.faults.Stop.{Stop}
+use Rattle.pr_channels.specs.Files.{Files, file_at, without_file, open_stop}
+use Rattle.pr_basic.specs.declared.statement.Statement.{Statement}
+use Rattle.pr_basic.specs.declared.statement.Statement.TheVariants.{OpenFile, Cmd, PrintTo, Print, CloseFile, Rem}
+use Rattle.pr_basic.specs.declared.session.StatusMode.{StatusMode}
+use Rattle.pr_basic.specs.Runs.{run_of}
+use Rattle.pr_system.specs.declared.outcome.Outcome.{Outcome}
+use Rattle.pr_system.specs.Headline.{heard_in, IsOutcome}
+
+-- the files after an OPEN, which opens nothing if something stands against it
+abbrev pub files_opened : Option Stop → Files → File → Files
+files_opened None files file = files ++ file ∷ []
+files_opened (Some stop) files file = files
+
+-- the files after a statement
+abbrev pub files_after : Files → Statement → Files
+files_after files (OpenFile file device second) = files_opened (open_stop files file) files (record { number = file; device = device; second = second })
+files_after files (Cmd file line) = files
+files_after files (PrintTo file line) = files
+files_after files (Print line) = files
+files_after files (CloseFile file) = without_file file files
+files_after files Rem = files
+
+-- an open file is on the device
+abbrev pub is_on : ℕ → Option File → Bool
+is_on device None = false
+is_on device (Some file) = file.device == device
+
+-- a statement is left out with the device: it opens a file on it, or names one that is on it at that point
+abbrev pub is_left_out : ℕ → Files → Statement → Bool
+is_left_out device files (OpenFile file on second) = on == device
+is_left_out device files (Cmd file line) = is_on device (file_at files file)
+is_left_out device files (PrintTo file line) = is_on device (file_at files file)
+is_left_out device files (Print line) = false
+is_left_out device files (CloseFile file) = is_on device (file_at files file)
+is_left_out device files Rem = false
+
+-- the statements without the device, where these files are open
+abbrev pub without_from : ℕ → Files → List Statement → List Statement
+without_from device files [] = []
+without_from device files (statement ∷ statements) =
+    let rest = without_from device (files_after files statement) statements in
+    if is_left_out device files statement then rest else statement ∷ rest
+
+-- the statements without the device
+abbrev pub without : ℕ → List Statement → List Statement
+without device statements = without_from device [] statements
+
+-- neither CMD nor PRINT
+abbrev pub IsAddressed : Statement → Type 0
+IsAddressed (OpenFile file device second) = Unit {0}
+IsAddressed (Cmd file line) = ⊥
+IsAddressed (PrintTo file line) = Unit {0}
+IsAddressed (Print line) = ⊥
+IsAddressed (CloseFile file) = Unit {0}
+IsAddressed Rem = Unit {0}
+
+-- neither CMD nor PRINT is among the statements
+abbrev pub AreAddressed : List Statement → Type 0
+AreAddressed [] = Unit {0}
+AreAddressed (statement ∷ statements) = IsAddressed statement × AreAddressed statements
+
+-- a run has no stop
+abbrev pub GoesOn : StatusMode → Present → List Statement → Type 0
+GoesOn mode present statements = (run_of mode present statements).stop ≡ None
+
+-- the other list has no stop either, and every device but the one that is left out hears the same
+pub record IsSpared (mode : StatusMode) (present : Present) (left_out : ℕ) (statements rest : List Statement) : Type 0 where
+  pub goes_on : GoesOn mode present rest
+  pub same : (device : ℕ) → device ≢ left_out → heard_in mode present rest device ≡ heard_in mode present statements device
+
+-- in a list without CMD and PRINT that has no stop, leaving out one device spares the others
+abbrev pub Isolation : Type 0
+Isolation = (left_out : ℕ) (mode : StatusMode) (present : Present) (statements : List Statement) →
+    AreAddressed statements → GoesOn mode present statements → IsSpared mode present left_out statements (without left_out statements)
+
+-- so the page of each other printer is the same
+abbrev pub IsolatedPages : Type 0
+IsolatedPages = (left_out : ℕ) (mode : StatusMode) (present : Present) (statements : List Statement) (all rest : Outcome) →
+    AreAddressed statements → GoesOn mode present statements →
+    IsOutcome mode present statements all → IsOutcome mode present (without left_out statements) rest →
+    (4 ≢ left_out → rest.paper4 ≡ all.paper4) × (5 ≢ left_out → rest.paper5 ≡ all.paper5)
