@@ -7,7 +7,8 @@ PREFIX ?= /usr/local
 PROGRAM := crates/print1525/out/print1525
 
 # The crates whose tests go on after a refused allocation (tests/growths).
-GROWTHS := pr_page pr_serial pr_channels pr_wire pr_basic
+GROWTHS := pr_page pr_serial pr_channels pr_wire pr_basic pr_system
+TESTS := $(foreach crate,$(GROWTHS),crates/$(crate)/out/$(crate)_tests)
 
 .PHONY: run build test outside bench install
 
@@ -23,9 +24,12 @@ test:
 	@$(MAKE) --no-print-directory outside
 
 # The tests outside the prover: the built program, and the tests of crates that go on after a refusal.
-outside: build
-	@for crate in $(GROWTHS); do (cd crates/$$crate && rt test > out.log 2>&1) || { cat crates/$$crate/out.log; exit 1; }; rm -f crates/$$crate/out.log; done
+outside: build $(TESTS)
 	@tests/run $(PROGRAM)
+
+# `rt ci` leaves the tests built; they are built again only after a change.
+$(TESTS): $(wildcard crates/*/src/*.rt crates/*/src/*/*.rt)
+	@cd $(@D)/.. && rt test > out.log 2>&1 || { cat out.log; exit 1; }; rm -f out.log
 
 bench: build
 	@tests/bench $(PROGRAM)
