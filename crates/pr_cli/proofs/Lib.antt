@@ -1,2 +1,3 @@
 pub mod KnownSteps
 pub mod CommandLemmas
+pub mod BlockLemmas

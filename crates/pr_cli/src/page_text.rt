@@ -3,7 +3,7 @@
 //! A page text has about twelve bytes for each byte that is printed, so what is added for a mark
 //! stands ready in tables of short texts.
 
-ghost use Rattle.std.specs.Prelude.{◌≡◌, [], ◌++◌, codes, decimal, flat_map, vec_len, OnOk, IfOk};
+ghost use Rattle.std.specs.Prelude.{◌≡◌, ◌+◌, ◌≤◌, [], ◌++◌, codes, decimal, drop, flat_map, length, take, vec_len, OnOk, IfOk, IfSome, MatchOption};
 ghost use Rattle.pr_cli.specs.PageText.{held_text, mark_text, mark_words, numbers_text, page_text, paper_text, row_text, stop_text, word_if};
 ghost use Rattle.pr_cli.specs.Tables.{HasNumbers};
 
@@ -19,6 +19,12 @@ const LINE_DOTS: usize = 480;
 /// The values of a byte.
 const BYTES: usize = 256;
 
+/// The most marks of a block.
+const BLOCK_MARKS: usize = 32;
+
+/// Room for the lines of these marks, each of at most two short texts.
+const BLOCK: usize = 1024;
+
 /// The short texts of a page text.
 #[derive(Drop)]
 struct Texts {
@@ -26,12 +32,16 @@ struct Texts {
     numbers: Vec<Short>,
     /// The rest of the line of a cell of standard width, by its code.
     cells: Vec<Short>,
+    /// The same of a cell in the lower/upper case set.
+    lower_cells: Vec<Short>,
     /// The rest of the line of a column of dots.
     dots: Vec<Short>,
     ghost numbers_count: { vec_len numbers ≡ 480 },
     ghost numbers_right: { HasNumbers numbers.items 480 (codes " ") [] },
     ghost cells_count: { vec_len cells ≡ 256 },
     ghost cells_right: { HasNumbers cells.items 256 (codes " cell ") (codes "\n") },
+    ghost lower_count: { vec_len lower_cells ≡ 256 },
+    ghost lower_right: { HasNumbers lower_cells.items 256 (codes " cell ") (codes " lower\n") },
     ghost dots_count: { vec_len dots ≡ 256 },
     ghost dots_right: { HasNumbers dots.items 256 (codes " dots ") (codes "\n") },
 }
@@ -46,8 +56,7 @@ fn push_if(text: &mut Vec<u8>, holds: bool, word: &[u8]) -> Result<(), AllocErro
     Ok(())
 }
 
-/// Adds the words on a mark, of any kind.
-#[inline(never)]
+/// Adds the words on a mark.
 fn push_words(text: &mut Vec<u8>, mark: Mark) -> Result<(), AllocError>
     ensures { OnOk result (text.new.items ≡ text.old.items ++ mark_words mark) }
 {
@@ -71,31 +80,33 @@ fn push_words(text: &mut Vec<u8>, mark: Mark) -> Result<(), AllocError>
     }
 }
 
+/// Adds the line of a mark, of any kind.
+#[inline(never)]
+#[tactic(auto, unfolding(crate::specs::PageText::mark_text))]
+fn push_mark(text: &mut Vec<u8>, placed: Placed) -> Result<(), AllocError>
+    ensures { OnOk result (text.new.items ≡ text.old.items ++ mark_text placed) }
+{
+    text.push(b' ')?;
+    push_number(text, u64::from(placed.x))?;
+    push_words(text, placed.mark)?;
+    text.push(b'\n')?;
+    Ok(())
+}
+
 impl Texts {
     fn new(alloc: Global) -> Result<Texts, AllocError> {
         Ok(Texts {
             numbers: numbers_between(alloc, b" ", LINE_DOTS, b"")?,
             cells: numbers_between(alloc, b" cell ", BYTES, b"\n")?,
+            lower_cells: numbers_between(alloc, b" cell ", BYTES, b" lower\n")?,
             dots: numbers_between(alloc, b" dots ", BYTES, b"\n")?,
         })
     }
 
-    /// Adds a space and a dot column.
+    /// The rest of a mark's line, if it stands in a table.
     #[inline(always)]
-    fn push_column(&self, text: &mut Vec<u8>, x: u16) -> Result<(), AllocError>
-        ensures { OnOk result (text.new.items ≡ text.old.items ++ codes " " ++ decimal x) }
-    {
-        if usize::from(x) < LINE_DOTS {
-            return self.numbers[usize::from(x)].add_to(text);
-        }
-        text.push(b' ')?;
-        push_number(text, u64::from(x))
-    }
-
-    /// Adds the rest of a mark's line.
-    #[inline(always)]
-    fn push_mark_end(&self, text: &mut Vec<u8>, mark: Mark) -> Result<(), AllocError>
-        ensures { OnOk result (text.new.items ≡ text.old.items ++ mark_words mark ++ codes "\n") }
+    fn mark_end(&self, mark: Mark) -> Option<&Short>
+        ensures { IfSome result (λ end. end.now ≡ mark_words mark ++ codes "\n") }
     {
         match mark {
             Mark::Cell {
@@ -103,30 +114,72 @@ impl Texts {
                 lower: false,
                 reverse: false,
                 wide: false,
-            } => self.cells[usize::from(code)].add_to(text),
-            Mark::Dots(value) => self.dots[usize::from(value)].add_to(text),
-            _ => {
-                push_words(text, mark)?;
-                text.push(b'\n')?;
-                Ok(())
-            }
+            } => Some(&self.cells[usize::from(code)]),
+            Mark::Cell {
+                code,
+                lower: true,
+                reverse: false,
+                wide: false,
+            } => Some(&self.lower_cells[usize::from(code)]),
+            Mark::Cell { .. } => None,
+            Mark::Dots(value) => Some(&self.dots[usize::from(value)]),
         }
     }
 
+    /// Puts the line of a mark into a block behind its first bytes, and says how many these are
+    /// then; None, and the block as it was, for a mark whose line is in no table.
     #[inline(always)]
     #[tactic(auto, unfolding(crate::specs::PageText::mark_text))]
-    fn push_mark(&self, text: &mut Vec<u8>, placed: Placed) -> Result<(), AllocError>
-        ensures { OnOk result (text.new.items ≡ text.old.items ++ mark_text placed) }
+    fn put_mark(&self, block: &mut [u8], at: usize, placed: Placed) -> Option<usize>
+        requires { at + 32 ≤ length block.old }
+        ensures text { MatchOption result (block.new ≡ block.old) (λ end. take end block.new ≡ take at block.old ++ mark_text placed) }
+        ensures within { IfSome result (λ end. end ≤ at + 32) }
+        ensures length { length block.new ≡ length block.old }
     {
-        self.push_column(text, placed.x)?;
-        self.push_mark_end(text, placed.mark)
+        let column = self.numbers.get(usize::from(placed.x))?;
+        let rest = self.mark_end(placed.mark)?;
+        let middle = column.put(block, at);
+        Some(rest.put(block, middle))
     }
 
+    /// Puts the lines of the first marks into a block, and says of how many marks and how many
+    /// bytes these are.
+    fn fill(&self, block: &mut [u8], marks: &[Placed]) -> (usize, usize)
+        requires { length block.old ≡ 1024 }
+        ensures text { take result.1 block.new ++ flat_map mark_text (drop result.0 marks.now) ≡ flat_map mark_text marks.now }
+        ensures marks { result.0 ≤ length marks.now }
+        ensures few { result.0 ≤ 32 }
+        ensures within { result.1 ≤ 1024 }
+        ensures length { length block.new ≡ 1024 }
+    {
+        let mut end = 0;
+        for (count, placed) in marks.iter().enumerate() {
+            if count == BLOCK_MARKS {
+                return (count, end);
+            }
+            match self.put_mark(block, end, *placed) {
+                Some(next) => end = next,
+                None => return (count, end),
+            }
+        }
+        (marks.len(), end)
+    }
+
+    /// Adds the lines of marks, block by block.
     fn push_marks(&self, text: &mut Vec<u8>, marks: &[Placed]) -> Result<(), AllocError>
         ensures { OnOk result (text.new.items ≡ text.old.items ++ flat_map mark_text marks.now) }
     {
-        for placed in marks {
-            self.push_mark(text, *placed)?;
+        let mut block = [0u8; BLOCK];
+        let mut rest = marks;
+        while !rest.is_empty() {
+            let (count, end) = self.fill(&mut block, rest);
+            if count == 0 {
+                push_mark(text, rest[0])?;
+                rest = &rest[1..];
+            } else {
+                text.extend_from_slice(&block[..end])?;
+                rest = &rest[count..];
+            }
         }
         Ok(())
     }

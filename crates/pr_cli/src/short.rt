@@ -1,6 +1,6 @@
 //! Short texts that stand ready in tables.
 
-ghost use Rattle.std.specs.Prelude.{◌≡◌, ◌+◌, ◌≤◌, ◌++◌, decimal, length, vec_len, OnOk, IfOk};
+ghost use Rattle.std.specs.Prelude.{◌≡◌, ◌+◌, ◌≤◌, ◌++◌, decimal, length, take, vec_len, OnOk, IfOk};
 ghost use Rattle.pr_cli.specs.Tables.{HasNumbers};
 
 use itoa::Buffer;
@@ -12,7 +12,7 @@ const SHORT: usize = 16;
 
 /// A text of at most 16 bytes. Contracts see the text alone.
 ///
-/// It is added to a longer one by a copy of all 16 bytes, which is a single move, and a cut.
+/// It is added to a longer one by a copy of all 16 bytes, which is a single move.
 #[derive(Drop)]
 pub struct Short {
     bytes: [u8; SHORT],
@@ -44,7 +44,6 @@ impl Short {
     }
 
     /// Adds the text at the end of another.
-    #[inline(always)]
     pub fn add_to(&self, text: &mut Vec<u8>) -> Result<(), AllocError>
         ensures { OnOk result (text.new.items ≡ text.old.items ++ self.now) }
     {
@@ -52,6 +51,18 @@ impl Short {
         text.extend_from_slice(&self.bytes)?;
         text.truncate(end);
         Ok(())
+    }
+
+    /// Puts the text into a block behind its first bytes, and says how many these are then.
+    #[inline(always)]
+    pub fn put(&self, block: &mut [u8], at: usize) -> usize
+        requires { at + 16 ≤ length block.old }
+        ensures text { take result block.new ≡ take at block.old ++ self.now }
+        ensures within { result ≤ at + 16 }
+        ensures length { length block.new ≡ length block.old }
+    {
+        block[at..at + SHORT].copy_from_slice(&self.bytes);
+        at + self.len
     }
 }
 
@@ -70,7 +81,7 @@ pub fn numbers_between(
     count: usize,
     after: &[u8],
 ) -> Result<Vec<Short>, AllocError>
-    requires short { length before.now + length after.now ≤ 12 }
+    requires short { length before.now + length after.now ≤ 13 }
     requires few { count ≤ 1000 }
     ensures count { IfOk result (λ v. vec_len v ≡ count) }
     ensures texts { IfOk result (λ v. HasNumbers v.items count before.now after.now) }
