@@ -1,5 +1,5 @@
 -- From what clap says of its matches to the subcommand met.
-use Rattle.std.proofs.Common.{◌≡◌, List, [], ◌∷◌, refl, Option, Some, None, Bool, true, false}
+use Rattle.std.proofs.Common.{◌≡◌, List, [], ◌∷◌, refl, Option, Some, None, Bool, true, false, inl, inr}
 use Rattle.std.specs.Prelude.{option_map, IfSome, find, if◌then◌else◌}
 use Rattle.clap.specs.Words.{Text, built, is_simple, subcommand_of}
 use Rattle.clap.specs.Simple.{Shape, argument_words, entered, names_of, rows_at, label_of}
@@ -27,7 +27,7 @@ found_ours p words (s ∷ ss) all =
 entered_ours : (stop : Option (Text × List Text)) → IfSome (entered (built print1525) stop) (λ met. IsOurs met.0)
 unfolding AllOurs
 entered_ours None = tt
-entered_ours (Some p) = found_ours (λ s. answers_to p.0 (label_of s)) p.1 (built print1525).subs (refl, tt)
+entered_ours (Some p) = found_ours (λ s. answers_to p.0 (label_of s)) p.1 (built print1525).subs (inl refl, (inr refl, tt))
 
 -- words name one of the program's subcommands or none
 pub subcommand_ours : (words : List Text) → IfSome (subcommand_of print1525 words) (λ met. IsOurs met.0)

@@ -8,9 +8,9 @@ use Rattle.clap.specs.Simple.{on_top}
 -- the program, which wants a subcommand
 abbrev pub print1525 : App
 print1525 =
-    with_subcommand
+    with_subcommand (with_subcommand
     (on_top (λ s. record s { subcommand_required = true; disable_help_subcommand = true }) (new_app (codes "print1525")))
-    (new_app (codes "pages")).top
+    (new_app (codes "pages")).top) (new_app (codes "check")).top
 
 -- no option of the command holds for its subcommands too
 abbrev pub IsLocal : Command → Type 0

@@ -6,12 +6,14 @@ use Rattle.pr_cli.specs.Plain.{strings_of}
 use Rattle.pr_cli.specs.Pages.{IsTextOf}
 use Rattle.pr_cli.specs.declared.fault.ScriptFault.{ScriptFault}
 use Rattle.pr_cli.specs.declared.fault.CliFault.{CliFault}
-use Rattle.pr_cli.specs.declared.fault.CliFault.TheVariants.{Script, TooLarge, NoMemory, ReadFailed, WriteFailed}
+use Rattle.pr_cli.specs.declared.fault.CliFault.TheVariants.{Script, Trace, Wave, TooLarge, NoMemory, ReadFailed, WriteFailed}
 
 -- the fault is that of the definition, or want of memory
 abbrev pub Fails : {Y : Type 0} → CliFault → Result Y ScriptFault → Type 0
 Fails (Script fault) wanted = wanted ≡ Err fault
 Fails NoMemory wanted = Unit {0}
+Fails (Trace fault) wanted = ⊥
+Fails (Wave fault) wanted = ⊥
 Fails TooLarge wanted = ⊥
 Fails ReadFailed wanted = ⊥
 Fails WriteFailed wanted = ⊥

@@ -3,6 +3,7 @@
 ghost use Rattle.std.specs.Prelude.{◌≡◌};
 
 use crate::whole::ReadFault;
+use pr_wire::{CheckFault, TraceFault, WaveFault};
 use std::alloc::{AllocError, AllocFailed};
 use thiserror::Error;
 
@@ -26,6 +27,12 @@ pub enum CliFault {
     /// The script is refused.
     #[error(transparent)]
     Script(ScriptFault),
+    /// The text is no trace text.
+    #[error(transparent)]
+    Trace(TraceFault),
+    /// The edges are no lawful trace.
+    #[error(transparent)]
+    Wave(WaveFault),
     /// The input is larger than the limit.
     #[error("input too large")]
     TooLarge,
@@ -47,6 +54,19 @@ impl From<ScriptFault> for CliFault {
 
     fn from(e: ScriptFault) -> CliFault {
         CliFault::Script(e)
+    }
+}
+
+impl From<CheckFault> for CliFault {
+    ghost use Rattle.pr_cli.specs.Faults.{fault_of_check};
+
+    ghost from_gives = { λ e f. f ≡ fault_of_check e };
+
+    fn from(e: CheckFault) -> CliFault {
+        match e {
+            CheckFault::BadLine(line) => CliFault::Trace(TraceFault::BadLine(line)),
+            CheckFault::Unlawful(fault) => CliFault::Wave(fault),
+        }
     }
 }
 

@@ -15,6 +15,8 @@ use std::alloc::Global;
 pub enum Job {
     /// Read a script and write the page text of its run.
     Pages,
+    /// Read a trace and write the frames that it spells.
+    Check,
 }
 
 /// Why a command line asks for nothing.
@@ -46,12 +48,19 @@ pub fn read_job<'a>(alloc: Global, words: &'a [&'a str]) -> Result<Job, JobFault
 }
 
 /// The job that the matches of the words ask for.
-fn job_of(_matches: &ArgMatches<'_>) -> Job
-    requires some { IsSome (subcommand_rows_of _matches.now) }
-    requires ours { IfSome (subcommand_rows_of _matches.now) (λ met. IsOurs met.0) }
-    ensures { AsksFor (subcommand_rows_of _matches.now) result }
+fn job_of(matches: &ArgMatches<'_>) -> Job
+    requires some { IsSome (subcommand_rows_of matches.now) }
+    requires ours { IfSome (subcommand_rows_of matches.now) (λ met. IsOurs met.0) }
+    ensures { AsksFor (subcommand_rows_of matches.now) result }
 {
-    Job::Pages
+    let Some((name, _)) = matches.subcommand() else {
+        unreachable!()
+    };
+    if name == "check" {
+        Job::Check
+    } else {
+        Job::Pages
+    }
 }
 
 /// A refusal by clap. Its want of memory is the program's own.

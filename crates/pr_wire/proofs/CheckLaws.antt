@@ -14,12 +14,12 @@ use Rattle.pr_wire.specs.declared.checker.Verdict.{Verdict}
 use Rattle.pr_wire.specs.declared.checker.Verdict.TheVariants.{Before, Allowed, NoStart}
 use Rattle.pr_wire.specs.declared.checker.CheckFault.{CheckFault}
 use Rattle.pr_wire.specs.declared.checker.CheckFault.TheVariants.{BadLine, Unlawful}
-use Rattle.pr_wire.specs.Checked.{led_to, is_inner, IsScanned, IsFollowed, IsTaken}
+use Rattle.pr_wire.specs.Checked.{led_to, is_inner, IsScanned, IsTaken}
 use Rattle.pr_wire.specs.Checking.{AnswersText}
-use Rattle.pr_wire.specs.LineParts.{part_after, part_with, edge_of_part, is_nothing}
-use Rattle.pr_wire.specs.Reached.{Reached, begin, reached, one_more, led, add, with_frame, fault_by}
-use Rattle.pr_wire.specs.Table.{fault_of, may_end}
-use Rattle.pr_wire.specs.TraceText.{lines_of, AreEdgeLines, IsEdgeLine, IsTraceText, IsFirstBad}
+use Rattle.pr_wire.specs.LineParts.{part_after, edge_of_part, is_nothing}
+use Rattle.pr_wire.specs.Reached.{Reached, one_more, led, add, with_frame, fault_by}
+use Rattle.pr_wire.specs.Table.{may_end}
+use Rattle.pr_wire.specs.TraceText.{lines_of, AreEdgeLines, IsTraceText, IsFirstBad}
 use Rattle.pr_wire.proofs.LineLaws.{on_line, alone, at_end, no_line}
 use Rattle.pr_wire.proofs.PartLaws.{part_more, part_line, line_part, nothing_empty, something_some}
 use Rattle.pr_wire.proofs.Reached.{reached-more, with_frame-reverse, fault-reached, comes_by-spells}

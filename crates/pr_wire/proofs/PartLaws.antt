@@ -1,5 +1,5 @@
 -- A line of a trace text, byte by byte: what has come spells an edge exactly if the line does.
-use Rattle.std.proofs.Common.{◌≡◌, ℕ, ◌+◌, ◌-◌, ◌*◌, ◌<◌, ◌≤◌, ◌^◌, List, [], ◌∷◌, ◌++◌, length, refl, ap, sym, subst, ◌∙◌, arith, append_assoc, Bool, true, false, Option, Some, None}
+use Rattle.std.proofs.Common.{◌≡◌, ℕ, ◌+◌, ◌-◌, ◌*◌, ◌<◌, ◌^◌, List, [], ◌∷◌, ◌++◌, length, refl, ap, subst, ◌∙◌, arith, Bool, true, false, Option, Some, None}
 use Rattle.std.specs.List.{list_all}
 use Rattle.std.specs.Prelude.{if◌then◌else◌, ◌==◌, ◌&&◌, nat_lt}
 use Rattle.std.proofs.lemmas.Grind.{common_steps}
@@ -7,7 +7,7 @@ use Rattle.std.proofs.lemmas.Bool.{eqb-true}
 use Rattle.pr_wire.specs.declared.Edge.{Edge}
 use Rattle.pr_wire.specs.declared.part.LinePart.{LinePart}
 use Rattle.pr_wire.specs.declared.part.LinePart.TheVariants.{Nothing, Time, Space, Atn, Clock, Whole, Returned, Bad}
-use Rattle.pr_wire.specs.LineParts.{time_after, level_after, level_byte_after, part_after, part_with, edge_of_part, is_nothing}
+use Rattle.pr_wire.specs.LineParts.{time_after, level_byte_after, part_after, part_with, edge_of_part, is_nothing}
 use Rattle.pr_wire.specs.Levels.{edge_at}
 use Rattle.pr_wire.specs.TextSteps.{level_in}
 use Rattle.pr_wire.specs.TraceText.{level_digit, levels_text, is_digit, number_after, Return, return_text, IsEdgeLine}

@@ -16,7 +16,9 @@ pub returns-clause-app : goal.returns-clause-app
 returns-clause-app c =
     let top = λ (a : App). a.top in
     let program_is : app_of c.disable_help_subcommand-program.result ≡ on_top unhelped (on_top wanted (new_app (codes "print1525"))) =
-    ap app_of_fields c.disable_help_subcommand-program.ensures ∙ ap (on_top unhelped) (ap app_of_fields c.subcommand_required.ensures ∙ ap (on_top wanted) (ap app_of_fields c.about.ensures ∙ c.new-2.ensures.app)) in
+    ap app_of_fields c.disable_help_subcommand-program.ensures ∙ ap (on_top unhelped) (ap app_of_fields c.subcommand_required.ensures ∙ ap (on_top wanted) (ap app_of_fields c.about.ensures ∙ c.new-3.ensures.app)) in
     let pages_is : app_of c.about-pages.result ≡ new_app (codes "pages") = ap app_of_fields c.about-pages.ensures ∙ c.new.ensures.app in
     let local : (out-Command c.about-pages.result).has_globals ≡ false = ap (λ (f : Command-F Command). f.has_globals) c.about-pages.ensures ∙ c.new.ensures.local in
-    c.in_ok-whole.ensures.shape local ∙ ap₂ with_subcommand program_is (ap top pages_is)
+    let check_is : app_of c.about-check.result ≡ new_app (codes "check") = ap app_of_fields c.about-check.ensures ∙ c.new-2.ensures.app in
+    let check_local : (out-Command c.about-check.result).has_globals ≡ false = ap (λ (f : Command-F Command). f.has_globals) c.about-check.ensures ∙ c.new-2.ensures.local in
+    c.in_ok-whole.ensures.shape check_local ∙ ap₂ with_subcommand (c.in_ok-one.ensures.shape local ∙ ap₂ with_subcommand program_is (ap top pages_is)) (ap top check_is)

@@ -1,0 +1,1 @@
+//! Traces in, frame lines out, over readers and writers in memory.
