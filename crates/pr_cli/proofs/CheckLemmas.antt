@@ -1,16 +1,14 @@
 -- A trace text checked as it is read: the bytes that came, and the lines told of them.
-use Rattle.std.proofs.Common.{◌≡◌, ℕ, ◌+◌, ◌-◌, ◌<◌, ◌≤◌, List, [], ◌∷◌, ◌++◌, length, take, refl, ap, sym, subst, ◌∙◌, arith, append-nil, length-append, Option, Some, None, Result, Ok, Err, IfSome}
+use Rattle.std.proofs.Common.{◌≡◌, ℕ, ◌+◌, ◌-◌, ◌≤◌, List, [], ◌∷◌, ◌++◌, length, ap, sym, ◌∙◌, arith, append-nil, length-append, Option, Some, None, Result, Ok, Err}
 use Rattle.std.specs.Prelude.{flat_map, codes, IsErrAnd, Vec}
 use Rattle.std.specs.Global.{Global}
-use Rattle.std.specs.Io.KnownBytes.{Consumes, IsAtEnd}
-use Rattle.std.proofs.KnownBytes.{Consumes-nil, Consumes-trans}
+use Rattle.std.specs.Io.KnownBytes.{Consumes}
+use Rattle.std.proofs.KnownBytes.{Consumes-trans}
 use Rattle.std.proofs.lemmas.Grind.{flat_map-append}
 use Rattle.pr_wire.specs.declared.Frame.{Frame}
 use Rattle.pr_wire.specs.declared.checker.Checker.{Checker}
-use Rattle.pr_wire.specs.Checked.{HasChecked}
 use Rattle.pr_wire.specs.Reached.{with_frame}
 use Rattle.pr_cli.specs.declared.fault.CliFault.{CliFault}
-use Rattle.pr_cli.proofs.KnownSteps.{all_taken, too_many}
 use Rattle.pr_cli.specs.FrameText.{frame_line, frame_lines}
 use Rattle.pr_wire.specs.declared.checker.CheckFault.{CheckFault}
 use Rattle.pr_wire.specs.declared.checker.CheckFault.TheVariants.{BadLine, Unlawful}
@@ -46,10 +44,6 @@ told_fault text lines c fault (Ok v) h t a e = absurd e
 told_fault text lines c (BadLine n) (Err f) h t a e = rw e (h, a)
 told_fault text lines c (Unlawful w) (Err f) h t a e = rw e (h, record { edges = a.0; is_text = a.1; is_fault = a.2 })
 
--- before any byte
-pub read_none : (a : Option (List ℕ)) (c : Checker) → HasChecked [] [] c → HasRead a a [] c 1099511627776
-read_none a c h = record { text = []; taken = Consumes-nil a; told = record { frames = []; checked = h; told = refl }; room = refl }
-
 -- one block more
 pub read_more : (a b d : Option (List ℕ)) (lines all : List ℕ) (c e : Checker) (left n : ℕ) (block : List ℕ) → (r : HasRead a b lines c left) → Consumes b d block → length block ≡ n → n ≤ left
     → ((text : List ℕ) → HasTold text lines c → HasTold (text ++ block) all e) → HasRead a d all e (left - n)
@@ -60,15 +54,3 @@ read_more a b d lines all c e left n block r k l w f = record {
   room = omega (arith, length-append r.text block, r.room);
 }
 
--- all was read
-pub read_all : (a b d : Option (List ℕ)) (lines : List ℕ) (c : Checker) (left n : ℕ) (block : List ℕ) (result : Result (Vec ℕ Global) CliFault) → (r : HasRead a b lines c left)
-    → Consumes b d (take n block) → n ≡ 0 → IsAtEnd d → ((text : List ℕ) → length text ≤ 1099511627776 → HasTold text lines c → GivesLines result text) → IfSome a (λ text. GivesLines result text)
-read_all None b d lines c left n block result r k z e f = tt
-read_all (Some xs) b d lines c left n block result r k z e f =
-    let all : IfSome (Some xs) (λ s. r.text ≡ s) = all_taken (Some xs) b d r.text block n z r.taken k e in
-    subst (λ t. GivesLines result t) all (f r.text (omega (arith, r.room)) r.told)
-
--- more bytes than the limit
-pub read_too_many : (a b d : Option (List ℕ)) (lines : List ℕ) (c : Checker) (left : ℕ) (block : List ℕ) → (r : HasRead a b lines c left) → Consumes b d block → left < length block
-    → IfSome a (λ text. 1099511627776 < length text)
-read_too_many a b d lines c left block r k h = too_many a b d r.text block 1099511627776 r.taken k (omega (arith, r.room))

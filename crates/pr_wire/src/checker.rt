@@ -194,3 +194,6 @@ impl Checker {
         self.answer(last)
     }
 }
+
+#[cfg(test)]
+mod tests;

@@ -1,14 +1,14 @@
 //! The program: words and standard input in, a text on standard output and an exit status out.
 #![tactic(auto)]
 
-use pr_cli::{CliFault, Ending, Job, JobFault, Watched, pages_over, read_job};
+use pr_cli::{CliFault, Ending, Job, JobFault, Watched, check_over, pages_over, read_job};
 use std::alloc::AllocError;
 use std::io::ErrorKind;
 use std::process::ExitCode;
 use std::rt::Env;
 use std::{env, io};
 
-/// The run's last statement was performed.
+/// The run's last statement was performed, or the trace is lawful.
 const DONE: u8 = 0;
 
 /// A BASIC error ended the run.
@@ -59,6 +59,7 @@ fn do_job(
     }
     match read_job(rt.alloc(), texts.as_slice()) {
         Ok(Job::Pages) => Ok(print_pages(rt)),
+        Ok(Job::Check) => Ok(check_trace(rt)),
         Err(JobFault::Line(error)) => {
             let shown = error.print(rt);
             Ok(if error.use_stderr() {
@@ -84,11 +85,23 @@ fn print_pages(rt: &(impl Input + Print + Eprint + AllocGlobal)) -> u8 {
     }
 }
 
+/// The subcommand `check`.
+fn check_trace(rt: &(impl Input + Print + Eprint + AllocGlobal)) -> u8 {
+    let mut input = Watched::new(rt.reader());
+    let mut output = Watched::new(io::writer(rt));
+    match check_over(rt.alloc(), &mut input, &mut output) {
+        Ok(()) => DONE,
+        Err(fault) => tell(rt, fault),
+    }
+}
+
 /// Tells a fault in one line on standard error and gives its exit status.
 fn tell(rt: &impl Eprint, fault: CliFault) -> u8 {
     let _ = rt.eprintln(format_args!("print1525: {fault}"));
     match fault {
-        CliFault::Script(_) | CliFault::TooLarge => REFUSED,
+        CliFault::Script(_) | CliFault::Trace(_) | CliFault::Wave(_) | CliFault::TooLarge => {
+            REFUSED
+        }
         CliFault::NoMemory | CliFault::ReadFailed | CliFault::WriteFailed => FAILED,
     }
 }
