@@ -1,3 +1,4 @@
 pub mod KnownSteps
 pub mod CommandLemmas
 pub mod BlockLemmas
+pub mod CheckLemmas

@@ -24,9 +24,9 @@ pages_app = with_rule (with_rule (new_app (codes "pages")) present_rule) status_
 -- the program, which wants a subcommand
 abbrev pub print1525 : App
 print1525 =
-    with_subcommand
+    with_subcommand (with_subcommand
     (on_top (λ s. record s { subcommand_required = true; disable_help_subcommand = true }) (new_app (codes "print1525")))
-    pages_app.top
+    pages_app.top) (new_app (codes "check")).top
 
 -- no option of the command holds for its subcommands too
 abbrev pub IsLocal : Command → Type 0

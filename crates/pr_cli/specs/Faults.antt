@@ -1,10 +1,13 @@
 -- Trusted: what a fault of a part is to the program. Want of memory is always the program's own.
+use Rattle.pr_wire.specs.declared.checker.CheckFault.{CheckFault}
+use Rattle.pr_wire.specs.declared.checker.CheckFault.TheVariants.{BadLine, Unlawful}
+use Rattle.pr_wire.specs.declared.text.TraceFault.TheVariants as trace
 use Rattle.pr_basic.specs.declared.fault.ScriptFault.{ScriptFault}
 use Rattle.pr_basic.specs.declared.fault.ScriptFault.TheVariants as script
 use Rattle.pr_cli.specs.declared.whole.ReadFault.{ReadFault}
 use Rattle.pr_cli.specs.declared.whole.ReadFault.TheVariants as read
 use Rattle.pr_cli.specs.declared.fault.CliFault.{CliFault}
-use Rattle.pr_cli.specs.declared.fault.CliFault.TheVariants.{Script, TooLarge, NoMemory, ReadFailed}
+use Rattle.pr_cli.specs.declared.fault.CliFault.TheVariants.{Script, Trace, Wave, TooLarge, NoMemory, ReadFailed}
 
 -- a fault of reading
 abbrev pub fault_of_read : ReadFault → CliFault
@@ -22,3 +25,8 @@ fault_of_script (script.BadByte line) = Script (script.BadByte line)
 fault_of_script (script.TooLong line) = Script (script.TooLong line)
 fault_of_script (script.TooMany line) = Script (script.TooMany line)
 fault_of_script script.NoMemory = NoMemory
+
+-- a fault of a trace text or of its edges
+abbrev pub fault_of_check : CheckFault → CliFault
+fault_of_check (BadLine n) = Trace (trace.BadLine n)
+fault_of_check (Unlawful fault) = Wave fault

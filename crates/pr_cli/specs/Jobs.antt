@@ -1,10 +1,10 @@
 -- Trusted: what a command line asks for, by clap's meaning of the command.
-use Rattle.std.specs.Prelude.{◌≡◌, List, Option, Some, None, codes, unwrap_or}
+use Rattle.std.specs.Prelude.{◌≡◌, ◌⊎◌, List, Option, Some, None, codes, unwrap_or}
 use Rattle.clap.specs.Words.{Row, Text, first_of}
 use Rattle.pr_serial.specs.declared.Present.{Present}
 use Rattle.pr_cli.specs.Options.{present_of, mode_of}
 use Rattle.pr_cli.specs.declared.job.Job.{Job}
-use Rattle.pr_cli.specs.declared.job.Job.TheVariants.{Pages}
+use Rattle.pr_cli.specs.declared.job.Job.TheVariants.{Pages, Check}
 use Rattle.pr_cli.specs.declared.job.JobFault.{JobFault}
 use Rattle.pr_cli.specs.declared.job.JobFault.TheVariants as fault
 
@@ -24,6 +24,7 @@ Met = Option (Text × List Row)
 abbrev pub AsksFor : Met → Job → Type 0
 AsksFor met (Pages present mode) =
     (rows : List Row) × (met ≡ Some (codes "pages", rows)) × (present_of (present_text rows) ≡ Some present) × (mode_of (status_text rows) ≡ Some mode)
+AsksFor met Check = (rows : List Row) × (met ≡ Some (codes "check", rows))
 
 -- a value of --present that is none
 abbrev pub HasBadPresent : Met → Type 0
@@ -37,7 +38,7 @@ HasBadStatus met =
 
 -- one of the subcommands
 abbrev pub IsOurs : Text → Type 0
-IsOurs name = name ≡ codes "pages"
+IsOurs name = (name ≡ codes "pages") ⊎ (name ≡ codes "check")
 
 -- the command line is refused as clap refuses it
 abbrev pub IsLine : JobFault → Type 0

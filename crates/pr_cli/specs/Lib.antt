@@ -8,3 +8,6 @@ pub mod Jobs
 pub mod Outcomes
 pub mod Tables
 pub mod Faults
+pub mod FrameText
+pub mod Check
+pub mod Told

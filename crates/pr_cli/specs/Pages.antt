@@ -14,7 +14,7 @@ use Rattle.pr_cli.specs.Whole.{AppendsFront}
 use Rattle.pr_cli.specs.declared.pages.Ending.{Ending}
 use Rattle.pr_cli.specs.declared.pages.Ending.TheVariants.{Done, Stopped}
 use Rattle.pr_cli.specs.declared.fault.CliFault.{CliFault}
-use Rattle.pr_cli.specs.declared.fault.CliFault.TheVariants.{Script, TooLarge, NoMemory, ReadFailed, WriteFailed}
+use Rattle.pr_cli.specs.declared.fault.CliFault.TheVariants.{Script, Trace, Wave, TooLarge, NoMemory, ReadFailed, WriteFailed}
 
 -- the most bytes of a script
 abbrev pub script_limit : ℕ
@@ -43,6 +43,8 @@ AnswersPages start script old new (Ok ending) =
     (outcome : Outcome) × (text : List ℕ)
     × (length script ≤ script_limit) × IsTextOf start script outcome text × (ending ≡ ending_of outcome.stop) × Appends old new text
 AnswersPages start script old new (Err (Script fault)) = (length script ≤ script_limit) × IsFirstFault script fault × Keeps old new
+AnswersPages start script old new (Err (Trace fault)) = ⊥
+AnswersPages start script old new (Err (Wave fault)) = ⊥
 AnswersPages start script old new (Err TooLarge) = (script_limit < length script) × Keeps old new
 AnswersPages start script old new (Err NoMemory) = Keeps old new
 AnswersPages start script old new (Err ReadFailed) = Keeps old new
@@ -50,9 +52,11 @@ AnswersPages start script old new (Err WriteFailed) =
     (outcome : Outcome) × (text : List ℕ) × (length script ≤ script_limit) × IsTextOf start script outcome text × AppendsFront old new text
 
 -- every refusal but WriteFailed leaves the writer's bytes as they were, whatever the reader tells
-abbrev pub WritesNothing : Option (List ℕ) → Option (List ℕ) → Result Ending CliFault → Type 0
-WritesNothing old new (Ok ending) = Unit {0}
+abbrev pub WritesNothing : {Y : Type 0} → Option (List ℕ) → Option (List ℕ) → Result Y CliFault → Type 0
+WritesNothing old new (Ok y) = Unit {0}
 WritesNothing old new (Err (Script fault)) = Keeps old new
+WritesNothing old new (Err (Trace fault)) = Keeps old new
+WritesNothing old new (Err (Wave fault)) = Keeps old new
 WritesNothing old new (Err TooLarge) = Keeps old new
 WritesNothing old new (Err NoMemory) = Keeps old new
 WritesNothing old new (Err ReadFailed) = Keeps old new

@@ -54,10 +54,14 @@ pub fn make_command<'a>(alloc: Global) -> Result<Command<'a>, AllocError>
     ensures local { IfOk result IsLocal }
 {
     let pages = pages_command(alloc)?;
+    let check = Command::new(alloc, "check").about(
+        "Reads a trace on standard input and writes the frames that it spells, if it is lawful",
+    );
     let program = Command::new(alloc, "print1525")
         .about("The printed output of a Commodore 64 on VIC-1525 printers")
         .subcommand_required(true)
         .disable_help_subcommand(true);
-    let whole = program.subcommand(pages)?;
+    let one = program.subcommand(pages)?;
+    let whole = one.subcommand(check)?;
     Ok(whole)
 }

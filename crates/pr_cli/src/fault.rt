@@ -4,6 +4,7 @@ ghost use Rattle.std.specs.Prelude.{◌≡◌};
 
 use crate::whole::ReadFault;
 use pr_basic::ScriptFault;
+use pr_wire::{CheckFault, TraceFault, WaveFault};
 use std::alloc::AllocError;
 use thiserror::Error;
 
@@ -14,6 +15,12 @@ pub enum CliFault {
     /// memory.
     #[error(transparent)]
     Script(ScriptFault),
+    /// The text is no trace text.
+    #[error(transparent)]
+    Trace(TraceFault),
+    /// The edges are no lawful trace.
+    #[error(transparent)]
+    Wave(WaveFault),
     /// The input is larger than the limit.
     #[error("input too large")]
     TooLarge,
@@ -37,6 +44,19 @@ impl From<ScriptFault> for CliFault {
         match e {
             ScriptFault::NoMemory => CliFault::NoMemory,
             refusal => CliFault::Script(refusal),
+        }
+    }
+}
+
+impl From<CheckFault> for CliFault {
+    ghost use Rattle.pr_cli.specs.Faults.{fault_of_check};
+
+    ghost from_gives = { λ e f. f ≡ fault_of_check e };
+
+    fn from(e: CheckFault) -> CliFault {
+        match e {
+            CheckFault::BadLine(line) => CliFault::Trace(TraceFault::BadLine(line)),
+            CheckFault::Unlawful(fault) => CliFault::Wave(fault),
         }
     }
 }

@@ -19,6 +19,8 @@ pub enum Job {
     /// Read a script and write the page text of its run, with these printers present and the
     /// status going on in this way.
     Pages(Present, StatusMode),
+    /// Read a trace and write the frames that it spells.
+    Check,
 }
 
 /// Why a command line asks for nothing.
@@ -66,9 +68,12 @@ fn job_of(matches: &ArgMatches<'_>) -> Result<Job, JobFault>
     ensures status { IsErrOf result JobFault.BadStatus → HasBadStatus (subcommand_rows_of matches.now) }
     ensures line { IfErr result (λ e. ¬ IsLine e) }
 {
-    let Some((_name, options)) = matches.subcommand() else {
+    let Some((name, options)) = matches.subcommand() else {
         unreachable!()
     };
+    if name == "check" {
+        return Ok(Job::Check);
+    }
     let Some(present) = read_present(value_or(options, "present", "both")) else {
         return Err(JobFault::BadPresent);
     };

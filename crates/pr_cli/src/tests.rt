@@ -237,17 +237,17 @@ fn fault_texts(rt: HostRuntime) -> Result<(), Fail> {
 
 /// Gives and takes one byte a call, and fails at one call.
 #[derive(Drop)]
-struct Slow {
-    bytes: Vec<u8>,
+pub struct Slow {
+    pub bytes: Vec<u8>,
     at: usize,
     calls: usize,
     fail_at: usize,
     /// In place of an error a failing write takes none of its bytes.
-    takes_none: bool,
+    pub takes_none: bool,
 }
 
 impl Slow {
-    fn new(bytes: Vec<u8>, fail_at: usize) -> Slow {
+    pub fn new(bytes: Vec<u8>, fail_at: usize) -> Slow {
         Slow {
             bytes,
             at: 0,

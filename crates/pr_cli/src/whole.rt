@@ -13,7 +13,7 @@ use std::alloc::{AllocError, Global};
 use std::io::{Read, Write};
 
 /// How many bytes one read asks for.
-const BLOCK: usize = 65_536;
+pub const BLOCK: usize = 65_536;
 
 /// Why input was not read whole.
 #[derive(Clone, Copy, Debug, PartialEq, Eq)]

@@ -7,3 +7,5 @@ pub mod Reached
 pub mod DelayBounds
 pub mod LineLaws
 pub mod TextLaws
+pub mod PartLaws
+pub mod CheckLaws

@@ -14,7 +14,7 @@ use Rattle.pr_wire.specs.TraceText.{level_digit, levels_text, lines_of, onto_fir
 use Rattle.pr_wire.specs.TextSteps.{time_in, level_in, levels_with, end_in, line_with, tail_in, line_in}
 
 -- more digits make no smaller number
-grows : (n : ℕ) (ds : List ℕ) → n ≤ number_after n ds
+pub grows : (n : ℕ) (ds : List ℕ) → n ≤ number_after n ds
 grows n [] = omega arith
 grows n (d ∷ ds) = omega (arith, grows (10 * n + (d - 48)) ds)
 
@@ -66,11 +66,11 @@ front_digits (b ∷ bs) = front_step (is_digit b) refl (front_digits bs)
     front_step false e k = rw e refl
 
 -- a level's digit is read as that level, and nothing else is
-level_read : (l : Bool) → level_in (level_digit l) ≡ Some l
+pub level_read : (l : Bool) → level_in (level_digit l) ≡ Some l
 level_read true = refl
 level_read false = refl
 
-level_digit_of : (b : ℕ) (l : Bool) → level_in b ≡ Some l → b ≡ level_digit l
+pub level_digit_of : (b : ℕ) (l : Bool) → level_in b ≡ Some l → b ≡ level_digit l
 level_digit_of b true h = grind (arith, common_steps)
 level_digit_of b false h = grind (arith, common_steps)
 
@@ -126,15 +126,15 @@ tail_parts time n (s ∷ a ∷ c ∷ d ∷ end) l h =
     }
 
 -- a byte other than 10 stands in the line of what follows it
-on_line : (x : ℕ) (l m : List ℕ) (more : List (List ℕ)) → (x == 10) ≡ false → lines_of l ≡ m ∷ more → lines_of (x ∷ l) ≡ (x ∷ m) ∷ more
+pub on_line : (x : ℕ) (l m : List ℕ) (more : List (List ℕ)) → (x == 10) ≡ false → lines_of l ≡ m ∷ more → lines_of (x ∷ l) ≡ (x ∷ m) ∷ more
 unfolding lines_of
 on_line x l m more h e = rw (h, e) refl
 
-alone : (x : ℕ) → (x == 10) ≡ false → lines_of (x ∷ []) ≡ (x ∷ []) ∷ []
+pub alone : (x : ℕ) → (x == 10) ≡ false → lines_of (x ∷ []) ≡ (x ∷ []) ∷ []
 unfolding lines_of
 alone x h = rw h refl
 
-at_end : (bs : List ℕ) → lines_of (10 ∷ bs) ≡ [] ∷ lines_of bs
+pub at_end : (bs : List ℕ) → lines_of (10 ∷ bs) ≡ [] ∷ lines_of bs
 unfolding lines_of
 at_end bs = refl
 

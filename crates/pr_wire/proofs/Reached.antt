@@ -247,7 +247,7 @@ reached-allowed (e ∷ es) (r, h) =
     by false k h = absurd (cc)
 
 -- frames with one more, from the latest
-with_frame-reverse : (fs : List Frame) (f : Option Frame) → reverse (with_frame fs f) ≡ add f (reverse fs)
+pub with_frame-reverse : (fs : List Frame) (f : Option Frame) → reverse (with_frame fs f) ≡ add f (reverse fs)
 with_frame-reverse fs None = refl
 with_frame-reverse fs (Some f) = reverse-append fs (f ∷ [])
 

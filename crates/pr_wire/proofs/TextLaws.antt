@@ -52,7 +52,7 @@ pub record HasRead (text rest : List ℕ) (edges : List Edge) : Type 0 where
 pub read_none : (text : List ℕ) → HasRead text text []
 read_none text = record { good = []; lines = refl; are_edges = tt }
 
-one_line_more : (ls : List (List ℕ)) (es : List Edge) (l : List ℕ) (e : Edge) → AreEdgeLines ls es → IsEdgeLine l e → AreEdgeLines (ls ++ l ∷ []) (es ++ e ∷ [])
+pub one_line_more : (ls : List (List ℕ)) (es : List Edge) (l : List ℕ) (e : Edge) → AreEdgeLines ls es → IsEdgeLine l e → AreEdgeLines (ls ++ l ∷ []) (es ++ e ∷ [])
 one_line_more [] [] l e h k = (k, tt)
 one_line_more [] (f ∷ fs) l e h k = absurd h
 one_line_more (m ∷ ls) [] l e h k = absurd h
@@ -73,7 +73,7 @@ pub read_all : (text rest : List ℕ) (edges : List Edge) → HasRead text rest 
 read_all text rest edges h e =
     subst (λ ls. AreEdgeLines ls edges) (sym (h.lines ∙ (ap (λ bs. h.good ++ lines_of bs) e ∙ (ap (λ ls. h.good ++ ls) no_line ∙ append-nil h.good)))) h.are_edges
 
-as_many : (ls : List (List ℕ)) (es : List Edge) → AreEdgeLines ls es → length es ≡ length ls
+pub as_many : (ls : List (List ℕ)) (es : List Edge) → AreEdgeLines ls es → length es ≡ length ls
 as_many [] [] h = refl
 as_many [] (e ∷ es) h = absurd h
 as_many (l ∷ ls) [] h = absurd h

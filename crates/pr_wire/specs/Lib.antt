@@ -9,3 +9,6 @@ pub mod Laws
 pub mod TextSteps
 pub mod TextLaws
 pub mod Written
+pub mod LineParts
+pub mod Checking
+pub mod Checked

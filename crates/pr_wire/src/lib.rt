@@ -14,15 +14,18 @@ use thiserror::Error;
 
 mod analysis;
 mod bits;
+mod checker;
 mod delay;
 pub mod example;
 mod line;
+mod part;
 mod place;
 mod text;
 mod written;
 
 pub use analysis::{allowed_traces, analyse, lawful_traces};
 pub use bits::Bits;
+pub use checker::{CheckFault, Checker};
 pub use delay::{Choices, Kind, bounds, delays_within_bounds};
 pub use place::{Flaw, Place, Sending, Step};
 pub use text::{TraceFault, read_trace, trace_texts, write_trace};

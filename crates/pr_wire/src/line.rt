@@ -53,7 +53,8 @@ fn read_tail(time: Option<u64>, digits: usize, rest: &[u8]) -> Option<Line>
     Some(Line { edge, len })
 }
 
-fn is_digit(b: u8) -> bool
+#[inline(always)]
+pub fn is_digit(b: u8) -> bool
     ensures { result ≡ is_digit b }
 {
     b >= b'0' && b <= b'9'
@@ -88,7 +89,8 @@ fn read_time(digits: &[u8]) -> Option<u64>
     Some(time)
 }
 
-fn read_level(b: u8) -> Option<bool>
+#[inline(always)]
+pub fn read_level(b: u8) -> Option<bool>
     ensures { result ≡ level_in b }
 {
     match b {

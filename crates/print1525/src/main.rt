@@ -2,7 +2,7 @@
 #![tactic(auto)]
 
 use pr_basic::StatusMode;
-use pr_cli::{CliFault, Ending, Job, JobFault, Watched, pages_over, read_job};
+use pr_cli::{CliFault, Ending, Job, JobFault, Watched, check_over, pages_over, read_job};
 use pr_serial::Present;
 use std::alloc::AllocError;
 use std::io::ErrorKind;
@@ -10,7 +10,7 @@ use std::process::ExitCode;
 use std::rt::Env;
 use std::{env, io};
 
-/// The run's last statement was performed.
+/// The run's last statement was performed, or the trace is lawful.
 const DONE: u8 = 0;
 
 /// A BASIC error ended the run.
@@ -58,6 +58,7 @@ fn do_job(
     }
     match read_job(rt.alloc(), texts.as_slice()) {
         Ok(Job::Pages(present, mode)) => Ok(print_pages(rt, present, mode)),
+        Ok(Job::Check) => Ok(check_trace(rt)),
         Err(JobFault::Line(error)) => {
             let shown = error.print(rt);
             Ok(if error.use_stderr() {
@@ -89,6 +90,16 @@ fn print_pages(
     }
 }
 
+/// The subcommand `check`.
+fn check_trace(rt: &(impl Input + Print + Eprint + AllocGlobal)) -> u8 {
+    let mut input = Watched::new(rt.reader());
+    let mut output = Watched::new(io::writer(rt));
+    match check_over(rt.alloc(), &mut input, &mut output) {
+        Ok(()) => DONE,
+        Err(fault) => tell(rt, fault),
+    }
+}
+
 /// Tells in one line on standard error why the command line is refused, and gives the exit status.
 fn refuse(rt: &impl Eprint, reason: &str) -> u8 {
     let _ = rt.eprintln(format_args!("print1525: {reason}"));
@@ -99,7 +110,9 @@ fn refuse(rt: &impl Eprint, reason: &str) -> u8 {
 fn tell(rt: &impl Eprint, fault: CliFault) -> u8 {
     let _ = rt.eprintln(format_args!("print1525: {fault}"));
     match fault {
-        CliFault::Script(_) | CliFault::TooLarge => REFUSED,
+        CliFault::Script(_) | CliFault::Trace(_) | CliFault::Wave(_) | CliFault::TooLarge => {
+            REFUSED
+        }
         CliFault::NoMemory | CliFault::ReadFailed | CliFault::WriteFailed => FAILED,
     }
 }

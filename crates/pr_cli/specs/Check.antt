@@ -1,0 +1,59 @@
+-- Trusted: what `check` answers for a trace text, and what it leaves in the reader and in the writer.
+use Rattle.std.specs.Prelude.{◌≡◌, ℕ, ◌<◌, ◌≤◌, List, length, Option, Some, Result, Ok, Err}
+use Rattle.std.specs.Io.KnownBytes.{Appends, IsAtEnd, Keeps}
+use Rattle.pr_wire.specs.declared.Edge.{Edge}
+use Rattle.pr_wire.specs.declared.Frame.{Frame}
+use Rattle.pr_wire.specs.declared.WaveFault.{WaveFault}
+use Rattle.pr_wire.specs.declared.WaveFault.TheVariants as wave
+use Rattle.pr_wire.specs.declared.text.TraceFault.{TraceFault}
+use Rattle.pr_wire.specs.declared.text.TraceFault.TheVariants as trace
+use Rattle.pr_wire.specs.Pieces.{Spells}
+use Rattle.pr_wire.specs.Table.{fault_of}
+use Rattle.pr_wire.specs.TraceText.{IsFirstBad, IsTraceText}
+use Rattle.pr_cli.specs.FrameText.{frame_lines}
+use Rattle.pr_cli.specs.Whole.{AppendsFront}
+use Rattle.pr_cli.specs.declared.fault.CliFault.{CliFault}
+use Rattle.pr_cli.specs.declared.fault.CliFault.TheVariants.{Script, Trace, Wave, TooLarge, NoMemory, ReadFailed, WriteFailed}
+
+-- the text of a lawful trace that spells these frames
+pub record IsLawfulText (text : List ℕ) (frames : List Frame) : Type 0 where
+  pub edges : List Edge
+  pub is_text : IsTraceText text edges
+  pub spelled : Spells edges frames
+
+-- a text that is no trace text, by its first bad line
+abbrev pub IsBadText : List ℕ → TraceFault → Type 0
+IsBadText text (trace.BadLine n) = IsFirstBad n text
+IsBadText text trace.NoMemory = ⊥
+
+-- the text of edges that are no lawful trace, by their first fault
+pub record IsFaultyText (text : List ℕ) (fault : WaveFault) : Type 0 where
+  pub edges : List Edge
+  pub is_text : IsTraceText text edges
+  pub is_fault : fault_of edges ≡ Some fault
+
+-- the answer, by the text read and what the writer held before and after
+abbrev pub AnswersCheck : List ℕ → Option (List ℕ) → Option (List ℕ) → Result (Unit {0}) CliFault → Type 0
+AnswersCheck text old new (Ok _) = (frames : List Frame) × (length text ≤ 1099511627776) × IsLawfulText text frames × Appends old new (frame_lines frames)
+AnswersCheck text old new (Err (Script fault)) = ⊥
+AnswersCheck text old new (Err (Trace fault)) = (length text ≤ 1099511627776) × IsBadText text fault × Keeps old new
+AnswersCheck text old new (Err (Wave fault)) = (length text ≤ 1099511627776) × IsFaultyText text fault × Keeps old new
+AnswersCheck text old new (Err TooLarge) = (1099511627776 < length text) × Keeps old new
+AnswersCheck text old new (Err NoMemory) = Keeps old new
+AnswersCheck text old new (Err ReadFailed) = Keeps old new
+AnswersCheck text old new (Err WriteFailed) =
+    (frames : List Frame) × (length text ≤ 1099511627776) × IsLawfulText text frames × AppendsFront old new (frame_lines frames)
+
+-- every answer but these three comes when the input has been read to its end
+abbrev pub ReadsToEnd : Option (List ℕ) → Result (Unit {0}) CliFault → Type 0
+ReadsToEnd left (Err TooLarge) = Unit {0}
+ReadsToEnd left (Err NoMemory) = Unit {0}
+ReadsToEnd left (Err ReadFailed) = Unit {0}
+ReadsToEnd left _ = IsAtEnd left
+
+-- a fault of `check`: never one of a script, and want of memory always as itself
+abbrev pub IsCheckFault : CliFault → Type 0
+IsCheckFault (Script fault) = ⊥
+IsCheckFault (Trace trace.NoMemory) = ⊥
+IsCheckFault (Wave wave.NoMemory) = ⊥
+IsCheckFault _ = Unit {0}

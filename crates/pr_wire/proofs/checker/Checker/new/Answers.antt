@@ -1,0 +1,5 @@
+use Rattle.pr_wire.proofs.CheckLaws.{taken_none}
+use Rattle.pr_wire.proofs.checker.Checker.new.Goals as goal
+
+pub returns-clause-checked : goal.returns-clause-checked
+returns-clause-checked c = taken_none

@@ -1,0 +1,51 @@
+//! Worked trace texts, byte by byte (profile).
+
+use super::*;
+use crate::example::TRACE_TEXT;
+use std::process::Abort;
+use std::test::Fail;
+
+/// What the checker answers at the end of a text.
+fn answer(rt: &impl Abort, text: &str) -> Result<Option<Frame>, CheckFault> {
+    let mut checker = Checker::new();
+    for byte in text.as_bytes() {
+        assert!(rt; checker.count < 1000);
+        checker.take(*byte);
+    }
+    assert!(rt; checker.count < 1000);
+    checker.finish()
+}
+
+#[test]
+fn frames_come_with_their_line(rt: HostRuntime) -> Result<(), Fail> {
+    let mut checker = Checker::new();
+    let mut frames = Vec::new(rt.alloc());
+    let mut line: usize = 0;
+    for byte in TRACE_TEXT.as_bytes() {
+        assert!(rt; checker.count < 1000);
+        if let Some(frame) = checker.take(*byte) {
+            frames.push((line, frame.byte))?;
+        }
+        if *byte == b'\n' {
+            line = line.saturating_add(1);
+        }
+    }
+    assert!(rt; checker.count < 1000);
+    assert_eq!(rt; checker.finish(), Ok(None));
+    let wanted = [(22, 36), (43, 72), (63, 73), (85, 13), (106, 63)];
+    assert_eq!(rt; frames.as_slice(), wanted.as_slice());
+    Ok(())
+}
+
+#[test]
+fn faults_of_texts(rt: HostRuntime) {
+    let faults = [
+        ("", CheckFault::Unlawful(WaveFault::Start(0))),
+        ("0 111\n0 001", CheckFault::Unlawful(WaveFault::Order(1))),
+        ("0 111\n0 001\n0 121\n", CheckFault::BadLine(3)),
+        ("0 111\n100 001", CheckFault::Unlawful(WaveFault::Truncated(2))),
+    ];
+    for (text, fault) in faults {
+        assert_eq!(rt; answer(&rt, text), Err(fault), "{text}");
+    }
+}
