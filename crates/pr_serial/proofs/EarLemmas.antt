@@ -1,7 +1,6 @@
 -- What the bus without wires keeps of a printer, after one more item.
-use Rattle.std.proofs.Common.{◌≡◌, ℕ, ◌+◌, ◌==◌, Bool, false, cond, ◌||◌, Option, Some, None, take, length, List, [], ◌∷◌, ◌++◌, refl, sym, ap, ◌∙◌, append-nil, append_assoc, length-append, arith}
+use Rattle.std.proofs.Common.{◌≡◌, ℕ, ◌+◌, ◌==◌, Bool, false, cond, ◌||◌, Option, Some, None, length, List, [], ◌∷◌, ◌++◌, refl, sym, ap, ◌∙◌, append_assoc, length-append, arith}
 use Rattle.std.proofs.lemmas.List.{take-append-le}
-use Rattle.std.proofs.Math.Seq.{take-length}
 use Rattle.std.proofs.Math.Bool.{or-false}
 use Rattle.pr_serial.specs.declared.Present.{Present}
 use Rattle.pr_serial.specs.declared.Item.{Item}
@@ -69,25 +68,6 @@ hears_byte present number mark old items b eoi before after inputs within h sent
       ∙ ap (λ xs. xs ++ cond before.there (inputs_at before.device old (Sent b eoi)) []) room
       ∙ ap (λ b'. before.inputs.items ++ cond b' (inputs_at before.device old (Sent b eoi)) []) h.there
       ∙ ap (λ d. before.inputs.items ++ cond (is_present present number) (inputs_at d old (Sent b eoi)) []) h.device);
-}
-
--- a printer whose inputs are forgotten
-pub hears_forget : (present : Present) (number : ℕ) (mark : Option ℕ) (n : ℕ) (items : List Item) (before after : Ear)
-    → Hears present number mark items before
-    → n ≡ length items
-    → after.device ≡ before.device
-    → after.there ≡ before.there
-    → after.listens ≡ before.listens
-    → after.inputs.items ≡ []
-    → Hears present number (Some n) items after
-hears_forget present number mark n items before after h is device there listens empty = record {
-  device = device ∙ h.device;
-  there = there ∙ h.there;
-  listens = listens ∙ h.listens;
-  inputs = ap (λ xs. heard_by present number (take n items) ++ xs) empty
-      ∙ append-nil (heard_by present number (take n items))
-      ∙ ap (λ k. heard_by present number (take k items)) is
-      ∙ ap (heard_by present number) (take-length items);
 }
 
 -- the mark is still not past the items
