@@ -1,22 +1,18 @@
 -- A run that goes on statement by statement, beside the whole run.
-use Rattle.std.proofs.Common.{◌≡◌, ℕ, suc, ◌+◌, ◌<◌, cond, ◌&&◌, ◌||◌, get_or, drop, drop-cons, add-one, Bool, true, false, Option, Some, None, is_some, List, [], ◌∷◌, ◌++◌, length, refl, sym, ap, subst, ◌∙◌, append_assoc, append-nil}
+use Rattle.std.proofs.Common.{◌≡◌, ℕ, suc, ◌+◌, ◌<◌, get_or, drop, drop-cons, add-one, true, false, Option, Some, None, is_some, List, [], ◌∷◌, ◌++◌, length, length-append, refl, sym, ap, subst, ◌∙◌, append_assoc, append-nil, arith}
 use Rattle.pr_serial.specs.declared.Present.{Present}
 use Rattle.pr_serial.specs.Items.{items_of}
-use Rattle.std.specs.List.{flat_map}
-use Rattle.pr_serial.specs.declared.Item.{Item}
-use Rattle.pr_serial.specs.Answers.{with_before, inputs_at, is_present, heard_by}
+use Rattle.pr_serial.specs.Answers.{heard_by}
 use Rattle.pr_page.specs.declared.input.Input.{Input}
-use Rattle.pr_page.specs.declared.paper.Paper.{Paper}
-use Rattle.pr_page.specs.Token.{Column, IsUnfinished}
 use Rattle.pr_page.specs.Page.{IsPage}
-use Rattle.pr_page.specs.Evaluator.{page_of}
 use Rattle.pr_channels.specs.declared.faults.Stop.{Stop}
 use Rattle.pr_basic.specs.declared.statement.Statement.{Statement}
 use Rattle.pr_basic.specs.declared.session.StatusMode.{StatusMode}
 use Rattle.pr_basic.specs.Runs.{Run, run_after, run_from, run_of}
 use Rattle.pr_system.specs.declared.outcome.Outcome.{Outcome}
 use Rattle.pr_system.specs.RunningState.{RunningState, begun, next_effect, next_status, stepped_by, placed}
-use Rattle.pr_system.specs.Headline.{items_sent, heard_in, IsOutcome, empty_paper}
+use Rattle.pr_system.specs.StepByStep.{unless_stopped, stepped_through, IsWhole, StepsMakeTheRun}
+use Rattle.pr_system.specs.Headline.{heard_in, IsOutcome}
 
 -- the run of what is left, from a state on
 abbrev pub left_of : RunningState → ℕ → List Statement → Run
@@ -28,13 +24,6 @@ pub record Agrees (run : RunningState) (place : ℕ) (left : List Statement) (wh
   pub sends : (left_of run place left).elements ≡ whole.elements
   pub tells : run.statuses ++ (left_of run place left).statuses ≡ whole.statuses
   pub shows : run.screen ++ (left_of run place left).screen ≡ whole.screen
-
--- what was done is the whole run
-pub record Done (run : RunningState) (whole : Run) : Type 0 where
-  pub stops : run.stop ≡ whole.stop
-  pub sends : run.elements ≡ whole.elements
-  pub tells : run.statuses ≡ whole.statuses
-  pub shows : run.screen ≡ whole.screen
 
 -- the run of what is left, by the next statement's stop
 at_stop : (run : RunningState) (place : ℕ) (statement : Statement) (left : List Statement) (stop : Option Stop) → (next_effect run statement).stop ≡ stop
@@ -55,88 +44,79 @@ agrees_step run place statement left whole goes a =
     }
 
 -- after a statement that stops
-agrees_stop : (run : RunningState) (place : ℕ) (statement : Statement) (left : List Statement) (whole : Run) (stop : Stop) → (next_effect run statement).stop ≡ Some stop → length run.statuses + 1 ≡ place → Agrees run place (statement ∷ left) whole → Done (stepped_by run statement) whole
+agrees_stop : (run : RunningState) (place : ℕ) (statement : Statement) (left : List Statement) (whole : Run) (stop : Stop) → (next_effect run statement).stop ≡ Some stop → length run.statuses + 1 ≡ place → Agrees run place (statement ∷ left) whole → IsWhole (stepped_by run statement) whole
 agrees_stop run place statement left whole stop stopped counted a =
     let is = at_stop run place statement left (Some stop) stopped in
     record {
-      stops = ap (placed (length run.statuses + 1)) stopped ∙ ap (λ n. Some (n, stop)) counted ∙ ap (λ (r : Run). r.stop) (sym is) ∙ a.stops;
-      sends = ap (λ (r : Run). r.elements) (sym is) ∙ a.sends;
-      tells = ap (λ (r : Run). run.statuses ++ r.statuses) (sym is) ∙ a.tells;
-      shows = ap (λ (r : Run). run.screen ++ r.screen) (sym is) ∙ a.shows;
+      stop = ap (placed (length run.statuses + 1)) stopped ∙ ap (λ n. Some (n, stop)) counted ∙ ap (λ (r : Run). r.stop) (sym is) ∙ a.stops;
+      elements = ap (λ (r : Run). r.elements) (sym is) ∙ a.sends;
+      items = ap (λ (r : Run). items_of r.elements) (sym is) ∙ ap items_of a.sends;
+      statuses = ap (λ (r : Run). run.statuses ++ r.statuses) (sym is) ∙ a.tells;
+      screen = ap (λ (r : Run). run.screen ++ r.screen) (sym is) ∙ a.shows;
     }
 
 -- after a statement that stops, by the test on its stop
-stopped_at : (run : RunningState) (place : ℕ) (statement : Statement) (left : List Statement) (whole : Run) (stop : Option Stop) → (next_effect run statement).stop ≡ stop → is_some stop ≡ true → length run.statuses + 1 ≡ place → Agrees run place (statement ∷ left) whole → Done (stepped_by run statement) whole
+stopped_at : (run : RunningState) (place : ℕ) (statement : Statement) (left : List Statement) (whole : Run) (stop : Option Stop) → (next_effect run statement).stop ≡ stop → is_some stop ≡ true → length run.statuses + 1 ≡ place → Agrees run place (statement ∷ left) whole → IsWhole (stepped_by run statement) whole
 stopped_at run place statement left whole (Some stop) is stops counted a = agrees_stop run place statement left whole stop is counted a
 stopped_at run place statement left whole None is stops counted a = let clash : false ≡ true = stops in absurd (cc clash)
 
 -- after a statement that stops, as the call has answered it
-pub agrees_stopped : (run new : RunningState) (place : ℕ) (statement : Statement) (left : List Statement) (whole : Run) → new ≡ stepped_by run statement → is_some (next_effect run statement).stop ≡ true → length run.statuses + 1 ≡ place → Agrees run place (statement ∷ left) whole → Done new whole
+pub agrees_stopped : (run new : RunningState) (place : ℕ) (statement : Statement) (left : List Statement) (whole : Run) → new ≡ stepped_by run statement → is_some (next_effect run statement).stop ≡ true → length run.statuses + 1 ≡ place → Agrees run place (statement ∷ left) whole → IsWhole new whole
 agrees_stopped run new place statement left whole is stops counted a =
-    let P : RunningState → Type 0 = λ r. Done r whole in
+    let P : RunningState → Type 0 = λ r. IsWhole r whole in
     subst P (sym is) (stopped_at run place statement left whole (next_effect run statement).stop refl stops counted a)
 
 -- where nothing is left
-pub agrees_end : (run : RunningState) (place : ℕ) (whole : Run) → run.stop ≡ None → Agrees run place [] whole → Done run whole
-agrees_end run place whole none a = record {
-  stops = none ∙ a.stops;
-  sends = a.sends;
-  tells = sym (append-nil run.statuses) ∙ a.tells;
-  shows = sym (append-nil run.screen) ∙ a.shows;
+pub agrees_end : (run : RunningState) (place : ℕ) (whole : Run) → run.stop ≡ None → run.items ≡ items_of run.elements → Agrees run place [] whole → IsWhole run whole
+agrees_end run place whole none sent a = record {
+  stop = none ∙ a.stops;
+  elements = a.sends;
+  items = sent ∙ ap items_of a.sends;
+  statuses = sym (append-nil run.statuses) ∙ a.tells;
+  screen = sym (append-nil run.screen) ∙ a.shows;
 }
 
 -- then its outcome is the whole run's
-pub outcome_done : (mode : StatusMode) (present : Present) (statements : List Statement) (run : RunningState) (outcome : Outcome) → run.present ≡ present → run.items ≡ items_of run.elements → Done run (run_of mode present statements)
+pub outcome_done : (mode : StatusMode) (present : Present) (statements : List Statement) (run : RunningState) (outcome : Outcome) → run.present ≡ present → IsWhole run (run_of mode present statements)
     → IsPage (heard_by run.present 4 run.items) outcome.paper4 → IsPage (heard_by run.present 5 run.items) outcome.paper5 → outcome.statuses ≡ run.statuses → outcome.stop ≡ run.stop → outcome.screen ≡ run.screen
     → IsOutcome mode present statements outcome
-outcome_done mode present statements run outcome there sent done page4 page5 statuses stop screen =
-    let items : run.items ≡ items_sent mode present statements = sent ∙ ap items_of done.sends in
-    let heard : (device : ℕ) → heard_by run.present device run.items ≡ heard_in mode present statements device = λ device. ap (λ p. heard_by p device run.items) there ∙ ap (heard_by present device) items in
+outcome_done mode present statements run outcome there done page4 page5 statuses stop screen =
+    let heard : (device : ℕ) → heard_by run.present device run.items ≡ heard_in mode present statements device = λ device. ap (λ p. heard_by p device run.items) there ∙ ap (heard_by present device) done.items in
     let Four : List Input → Type 0 = λ inputs. IsPage inputs outcome.paper4 in
     let Five : List Input → Type 0 = λ inputs. IsPage inputs outcome.paper5 in
     record {
       paper4 = subst Four (heard 4) page4;
       paper5 = subst Five (heard 5) page5;
-      statuses = statuses ∙ done.tells;
-      stop = stop ∙ done.stops;
-      screen = screen ∙ done.shows;
+      statuses = statuses ∙ done.statuses;
+      stop = stop ∙ done.stop;
+      screen = screen ∙ done.screen;
     }
 
 -- before the first statement
 pub agrees_begin : (mode : StatusMode) (present : Present) (statements : List Statement) → Agrees (begun mode present) 1 statements (run_of mode present statements)
 agrees_begin mode present statements = record { stops = refl; sends = refl; tells = refl; shows = refl }
 
--- no command has begun
-none_unfinished : IsUnfinished []
-none_unfinished = record { token = Column 0 0; is_command = tt; next = 16; more = 0 ∷ 0 ∷ []; front = refl }
+-- one statement and then the rest, by the stop of that statement
+steps_at : (run : RunningState) (place : ℕ) (statement : Statement) (left : List Statement) (whole : Run) (stop : Option Stop) → (next_effect run statement).stop ≡ stop → length run.statuses + 1 ≡ place → Agrees run place (statement ∷ left) whole
+    → ((next_effect run statement).stop ≡ None → IsWhole (stepped_through (stepped_by run statement) left) whole) → IsWhole (stepped_through run (statement ∷ left)) whole
+steps_at run place statement left whole None is counted a later =
+    let P : Option Stop → Type 0 = λ s. IsWhole (unless_stopped (placed (length run.statuses + 1) s) (stepped_by run statement) (stepped_through (stepped_by run statement) left)) whole in
+    subst P (sym is) (later is)
+steps_at run place statement left whole (Some stop) is counted a later =
+    let P : Option Stop → Type 0 = λ s. IsWhole (unless_stopped (placed (length run.statuses + 1) s) (stepped_by run statement) (stepped_through (stepped_by run statement) left)) whole in
+    subst P (sym is) (agrees_stop run place statement left whole stop is counted a)
 
--- the page of nothing is the empty paper
-empty_page : IsPage [] empty_paper
-empty_page = record { tokens = []; rest = []; last = []; y = 0; are_tokens = (refl, none_unfinished); are_lines = (refl, tt, refl); held = refl }
+-- the steps of what is left make the whole run
+steps_from : (run : RunningState) (place : ℕ) (left : List Statement) (whole : Run) → run.stop ≡ None → length run.statuses + 1 ≡ place → run.items ≡ items_of run.elements → Agrees run place left whole → IsWhole (stepped_through run left) whole
+steps_from run place [] whole none counted sent a = agrees_end run place whole none sent a
+steps_from run place (statement ∷ left) whole none counted sent a =
+    let more : length (run.statuses ++ next_status run statement ∷ []) + 1 ≡ place + 1 = omega (arith, counted, length-append run.statuses (next_status run statement ∷ [])) in
+    steps_at run place statement left whole (next_effect run statement).stop refl counted a
+        (λ goes. steps_from (stepped_by run statement) (place + 1) left whole (ap (placed (length run.statuses + 1)) goes) more refl (agrees_step run place statement left whole goes a))
 
--- an absent device hears nothing
-heard_absent : (present : Present) (device : ℕ) (items : List Item) → is_present present device ≡ false → heard_by present device items ≡ []
-heard_absent present device items absent = ap (λ b. cond b (flat_map (λ p. inputs_at device p.0 p.1) (with_before [] items)) []) absent
-
--- so its paper is empty
-absent_paper : ((inputs : List Input) (paper : Paper) → IsPage inputs paper → paper ≡ page_of inputs) → (present : Present) (device : ℕ) (items : List Item) (paper : Paper) → is_present present device ≡ false → IsPage (heard_by present device items) paper → paper ≡ empty_paper
-absent_paper only present device items paper absent page =
-    only _ paper page ∙ ap page_of (heard_absent present device items absent) ∙ sym (only [] empty_paper empty_page)
-
--- true where both are, of any and false
-and_false : (b : Bool) → (b && false) ≡ false
-and_false true = refl
-and_false false = refl
-
--- without printer 4 its paper is empty
-pub absent_four : ((inputs : List Input) (paper : Paper) → IsPage inputs paper → paper ≡ page_of inputs) → (mode : StatusMode) (present : Present) (statements : List Statement) (outcome : Outcome) → present.four ≡ false → IsOutcome mode present statements outcome → outcome.paper4 ≡ empty_paper
-absent_four only mode present statements outcome absent is =
-    absent_paper only present 4 (items_sent mode present statements) outcome.paper4 (ap (λ b. (b && true) || (present.five && false)) absent ∙ and_false present.five) is.paper4
-
--- without printer 5 its paper is empty
-pub absent_five : ((inputs : List Input) (paper : Paper) → IsPage inputs paper → paper ≡ page_of inputs) → (mode : StatusMode) (present : Present) (statements : List Statement) (outcome : Outcome) → present.five ≡ false → IsOutcome mode present statements outcome → outcome.paper5 ≡ empty_paper
-absent_five only mode present statements outcome absent is =
-    absent_paper only present 5 (items_sent mode present statements) outcome.paper5 (ap (λ b. (present.four && false) || (b && true)) absent ∙ ap (λ b. b || false) (and_false present.four)) is.paper5
+-- the steps of a list of statements make the whole run of it
+pub steps_make : StepsMakeTheRun
+steps_make = λ mode present statements. steps_from (begun mode present) 1 statements (run_of mode present statements) refl refl refl (agrees_begin mode present statements)
 
 -- one statement of what is left
 pub cut_at : (xs : List Statement) (i : ℕ) (x : Statement) → i < length xs → x ≡ get_or xs i x → drop i xs ≡ x ∷ drop (i + 1) xs

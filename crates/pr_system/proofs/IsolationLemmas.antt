@@ -11,11 +11,9 @@ use Rattle.pr_basic.specs.Statements.{Effect, effect_of, status_of}
 use Rattle.pr_basic.specs.Runs.{Run, run_after, run_from, found_of}
 use Rattle.pr_basic.specs.declared.session.StatusMode.{StatusMode}
 use Rattle.pr_basic.specs.declared.session.StatusMode.TheVariants.{Each, Kept}
-use Rattle.pr_page.specs.declared.input.Input.{Input}
-use Rattle.pr_page.specs.declared.paper.Paper.{Paper}
-use Rattle.pr_page.specs.Page.{IsPage}
 use Rattle.pr_page.specs.Evaluator.{page_of}
 use Rattle.pr_system.specs.Without.{files_after, is_left_out, without_from, AreAddressed, Isolation, IsolatedPages}
+use Rattle.pr_system.proofs.AbsentLemmas.{OnlyPage}
 use Rattle.pr_system.proofs.FileLemmas.{rest_of}
 use Rattle.pr_system.proofs.ApartLemmas.{Apart, apart_begins}
 use Rattle.pr_system.proofs.StepLemmas.{Laws, standing, table_after, step_both, step_alone}
@@ -108,7 +106,7 @@ isolation laws = λ left_out mode present statements addressed none.
     record { goes_on = apart.goes_on; same = λ device other. sym (apart.apart.same device other) }
 
 -- so their pages are the same
-pub isolated_pages : Isolation → ((inputs : List Input) (paper : Paper) → IsPage inputs paper → paper ≡ page_of inputs) → IsolatedPages
+pub isolated_pages : Isolation → OnlyPage → IsolatedPages
 isolated_pages isolation only = λ left_out mode present statements all rest addressed none is_all is_rest.
     let spared = isolation left_out mode present statements addressed none in (
       λ other. only _ rest.paper4 is_rest.paper4 ∙ ap page_of (spared.same 4 other) ∙ sym (only _ all.paper4 is_all.paper4),

@@ -4,3 +4,4 @@ pub mod StepLemmas
 pub mod IsolationLemmas
 pub mod SteppingLemmas
 pub mod AgreeLemmas
+pub mod AbsentLemmas

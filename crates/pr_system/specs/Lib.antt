@@ -1,4 +1,5 @@
 pub mod RunningState
+pub mod StepByStep
 pub mod InOrder
 pub mod Headline
 pub mod Without

@@ -23,11 +23,7 @@ fn feed(printer: &mut Printer, inputs: &[Input]) -> Result<(), NoMemory>
 }
 
 /// Gives the printer with this device number what it heard since the mark.
-pub fn tell(
-    printer: &mut Printer,
-    device: u8,
-    channels: &Channels<Direct>,
-) -> Result<(), NoMemory>
+pub fn tell(printer: &mut Printer, device: u8, channels: &Channels<Direct>) -> Result<(), NoMemory>
     requires few { 2 * length channels.now.sent ≤ 2 ^ 32 }
     requires fed { IsFed channels.now.present device (items_before channels.now.mark channels.now.sent) printer.old }
     ensures { OnOk result (IsFed channels.now.present device channels.now.sent printer.new) }

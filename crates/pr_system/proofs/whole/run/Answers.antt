@@ -1,10 +1,10 @@
 use Rattle.std.proofs.Common.{◌+◌, drop, is_some, sym, ap, subst, ◌∙◌, List}
 use Rattle.std.proofs.lemmas.List.{drop_all}
-use Rattle.pr_serial.specs.Items.{items_of}
 use Rattle.pr_basic.specs.declared.statement.Statement.{Statement}
 use Rattle.pr_basic.specs.Runs.{run_of}
 use Rattle.pr_system.specs.RunningState.{RunningState}
-use Rattle.pr_system.proofs.AgreeLemmas.{Agrees, agrees_stopped, agrees_end, outcome_done, absent_four, absent_five, cut_at}
+use Rattle.pr_system.proofs.AgreeLemmas.{Agrees, agrees_stopped, agrees_end, outcome_done, cut_at}
+use Rattle.pr_system.proofs.AbsentLemmas.{absent_four, absent_five}
 use Rattle.pr_system.proofs.whole.run.Goals as goal
 
 pub returns-then-is_some-clause-headline : goal.returns-then-is_some-clause-headline
@@ -22,9 +22,8 @@ returns-then-is_some-clause-headline c =
     let done = agrees_stopped run new (at + 1) statement (drop (at + 1) c.args.statements.now) whole stepped stops (ap (λ n. n + 1) inv.count) (subst P cut inv.agrees) in
     let works = ap (λ (r : RunningState). r.failed) stepped ∙ inv.works in
     outcome_done c.args.mode c.args.present c.args.statements.now new c.finish.result
-        (ap (λ (r : RunningState). r.present) stepped ∙ inv.there)
-        (ap (λ (r : RunningState). r.items) stepped ∙ sym (ap (λ (r : RunningState). items_of r.elements) stepped))
-        done (c.finish.ensures.paper4 works) (c.finish.ensures.paper5 works) c.finish.ensures.statuses c.finish.ensures.stop c.finish.ensures.screen
+    (ap (λ (r : RunningState). r.present) stepped ∙ inv.there)
+    done (c.finish.ensures.paper4 works) (c.finish.ensures.paper5 works) c.finish.ensures.statuses c.finish.ensures.stop c.finish.ensures.screen
 
 pub returns-then-is_some-clause-absent_four : goal.returns-then-is_some-clause-absent_four
 returns-then-is_some-clause-absent_four c = λ absent. absent_four c.each_list_has_one_page.ensures.only c.args.mode c.args.present c.args.statements.now c.finish.result absent (returns-then-is_some-clause-headline c)
@@ -39,9 +38,9 @@ returns-clause-headline c =
     let run = c.loop-statement.running in
     let P : List Statement → Type 0 = λ left. Agrees run (c.loop-statement.statement-index + 1) left whole in
     let all = drop_all c.loop-statement.statement-index c.args.statements.now c.loop-statement-test.false in
-    let done = agrees_end run (c.loop-statement.statement-index + 1) whole inv.going (subst P all inv.agrees) in
-    outcome_done c.args.mode c.args.present c.args.statements.now run c.finish-2.result inv.there inv.sent done
-        (c.finish-2.ensures.paper4 inv.works) (c.finish-2.ensures.paper5 inv.works) c.finish-2.ensures.statuses c.finish-2.ensures.stop c.finish-2.ensures.screen
+    let done = agrees_end run (c.loop-statement.statement-index + 1) whole inv.going inv.sent (subst P all inv.agrees) in
+    outcome_done c.args.mode c.args.present c.args.statements.now run c.finish-2.result inv.there done
+    (c.finish-2.ensures.paper4 inv.works) (c.finish-2.ensures.paper5 inv.works) c.finish-2.ensures.statuses c.finish-2.ensures.stop c.finish-2.ensures.screen
 
 pub returns-clause-absent_four : goal.returns-clause-absent_four
 returns-clause-absent_four c = λ absent. absent_four c.each_list_has_one_page.ensures.only c.args.mode c.args.present c.args.statements.now c.finish-2.result absent (returns-clause-headline c)
