@@ -55,7 +55,6 @@ read_more a b d lines all c e left n block r k l w f = record {
   room = omega (arith, length-append r.text block, r.room);
 }
 
-
 -- a front of a block was taken, and its lines told
 pub record TellsFront (block rest old : List ℕ) (c : Checker) (new : List ℕ) (d : Checker) : Type 0 where
   pub front : List ℕ

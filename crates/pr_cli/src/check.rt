@@ -85,11 +85,7 @@ fn check_input<R: Read>(alloc: Global, input: &mut Watched<R>) -> Result<Vec<u8>
 }
 
 /// Checks the bytes of a block, and adds the lines of the frames that they end.
-fn check_block(
-    checker: &mut Checker,
-    block: &[u8],
-    lines: &mut Vec<u8>,
-) -> Result<(), AllocError>
+fn check_block(checker: &mut Checker, block: &[u8], lines: &mut Vec<u8>) -> Result<(), AllocError>
     requires few { line_count checker.old + length block.now + 1 < 2 ^ 64 }
     ensures told { OnOk result ((text : List ℕ) → HasTold text lines.old.items checker.old → HasTold (text ++ block.now) lines.new.items checker.new) }
     ensures count { OnOk result (line_count checker.new ≤ line_count checker.old + length block.now) }

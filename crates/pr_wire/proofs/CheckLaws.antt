@@ -35,6 +35,7 @@ inner_more (x ∷ xs) b h e =
     let rest : list_all is_inner xs ≡ true = grind (arith, common_steps) in
     rw (first, inner_more xs b rest e) refl
 
+-- the first byte of inner bytes, and those behind it
 first_inner : (b : ℕ) (bs : List ℕ) → list_all is_inner (b ∷ bs) ≡ true → (b == 10) ≡ false
 first_inner b bs h = grind (arith, common_steps)
 
@@ -46,15 +47,18 @@ inner_line : (line more : List ℕ) → list_all is_inner line ≡ true → line
 inner_line [] more h = at_end more
 inner_line (b ∷ bs) more h = on_line b (bs ++ 10 ∷ more) bs (lines_of more) (first_inner b bs h) (inner_line bs more (rest_inner b bs h))
 
+-- inner bytes alone are one line
 last_line : (line : List ℕ) → 0 < length line → list_all is_inner line ≡ true → lines_of line ≡ line ∷ []
 last_line [] some h = absurd (omega arith)
 last_line (b ∷ []) some h = alone b (first_inner b [] h)
 last_line (b ∷ c ∷ bs) some h =
     on_line b (c ∷ bs) (c ∷ bs) [] (first_inner b (c ∷ bs) h) (last_line (c ∷ bs) (omega arith) (rest_inner b (c ∷ bs) h))
 
+-- no byte has come
 scanned_none : IsScanned [] [] Nothing
 scanned_none = record { good = []; line = []; lines = λ more. refl; are_edges = tt; inner = refl; part_is = refl }
 
+-- one inner byte more has come
 scanned_byte : (text : List ℕ) (edges : List Edge) (part : LinePart) (b : ℕ) → (b == 10) ≡ false → IsScanned text edges part → IsScanned (text ++ b ∷ []) edges (part_after part b)
 scanned_byte text edges part b e h = record {
   good = h.good;
@@ -70,6 +74,7 @@ lines_to_end : (text : List ℕ) (edges : List Edge) (part : LinePart) (h : IsSc
 lines_to_end text edges part h more =
     ap lines_of (append_assoc text (10 ∷ []) more) ∙ (h.lines (10 ∷ more) ∙ ap (λ ls. h.good ++ ls) (inner_line h.line more h.inner))
 
+-- the line has ended, and spells an edge
 scanned_line : (text : List ℕ) (edges : List Edge) (part : LinePart) (e : Edge) → edge_of_part part ≡ Some e → IsScanned text edges part → IsScanned (text ++ 10 ∷ []) (edges ++ e ∷ []) Nothing
 scanned_line text edges part e k h = record {
   good = h.good ++ h.line ∷ [];
@@ -80,6 +85,7 @@ scanned_line text edges part e k h = record {
   part_is = refl;
 }
 
+-- the line has ended, and spells none
 scanned_bad : (text : List ℕ) (edges : List Edge) (part : LinePart) → edge_of_part part ≡ None → IsScanned text edges part → (more : List ℕ) → IsFirstBad (length edges + 1) ((text ++ 10 ∷ []) ++ more)
 scanned_bad text edges part k h more = record {
   good = h.good;
@@ -140,6 +146,7 @@ pub taken_edge : (text : List ℕ) (frames : List Frame) (part q : LinePart) (co
 taken_edge text frames part q count n verdict v e f k p m l h =
     rw p (follow text (10 ∷ []) frames part Nothing count n verdict v e f m l h (scanned_line text h.edges part e k h.scanned))
 
+-- a part of which nothing has come
 nothing_is : (p : LinePart) → is_nothing p ≡ true → p ≡ Nothing
 nothing_is Nothing h = refl
 nothing_is (Time t) h = absurd (cc)

@@ -14,8 +14,7 @@ use std::test::Fail;
 const EDGES: usize = 110;
 
 /// What `check` writes for the example trace.
-const EXAMPLE_LINES: &str =
-    "command 36\ndata 72\ndata 73\ndata 13 eoi\ncommand 63\nlawful\n";
+const EXAMPLE_LINES: &str = "command 36\ndata 72\ndata 73\ndata 13 eoi\ncommand 63\nlawful\n";
 
 /// One attention to printer 4 alone, with delays 1000 before it, 1999 to the look and 10 to the
 /// answer, all others typical.
@@ -159,7 +158,11 @@ fn refused_traces(rt: HostRuntime) {
     unlawful(&rt, "0 111\n100 001\n2101 111\n", WaveFault::TooLate(2));
     unlawful(&rt, "0 111\n100 001\n1101 010\n", WaveFault::TooLate(2));
     unlawful(&rt, "0 111\n100 001\n1099 010\n", WaveFault::TooEarly(2));
-    unlawful(&rt, "0 111\n18446744073709551615 001\n", WaveFault::Truncated(2));
+    unlawful(
+        &rt,
+        "0 111\n18446744073709551615 001\n",
+        WaveFault::Truncated(2),
+    );
 }
 
 #[test]
