@@ -1,5 +1,5 @@
 -- A trace text checked as it is read: the bytes that came, and the lines told of them.
-use Rattle.std.proofs.Common.{◌≡◌, ℕ, ◌+◌, ◌-◌, ◌≤◌, List, [], ◌∷◌, ◌++◌, length, ap, sym, ◌∙◌, arith, append-nil, length-append, Option, Some, None, Result, Ok, Err}
+use Rattle.std.proofs.Common.{◌≡◌, ℕ, ◌+◌, ◌-◌, ◌≤◌, List, [], ◌∷◌, ◌++◌, length, ap, sym, ◌∙◌, arith, append-nil, length-append, Option, Some, None, Result, Ok, Err, take, drop, take-append-drop, append_assoc, subst}
 use Rattle.std.specs.Prelude.{flat_map, codes, IsErrAnd, Vec}
 use Rattle.std.specs.Global.{Global}
 use Rattle.std.specs.Io.KnownBytes.{Consumes}
@@ -7,6 +7,7 @@ use Rattle.std.proofs.KnownBytes.{Consumes-trans}
 use Rattle.std.proofs.lemmas.Grind.{flat_map-append}
 use Rattle.pr_wire.specs.declared.Frame.{Frame}
 use Rattle.pr_wire.specs.declared.checker.Checker.{Checker}
+use Rattle.pr_wire.specs.Checked.{HasChecked}
 use Rattle.pr_wire.specs.Reached.{with_frame}
 use Rattle.pr_cli.specs.declared.fault.CliFault.{CliFault}
 use Rattle.pr_cli.specs.FrameText.{frame_line, frame_lines}
@@ -54,3 +55,23 @@ read_more a b d lines all c e left n block r k l w f = record {
   room = omega (arith, length-append r.text block, r.room);
 }
 
+-- a front of a block was taken, and its lines told
+pub record TellsFront (block rest old : List ℕ) (c : Checker) (new : List ℕ) (d : Checker) : Type 0 where
+  pub front : List ℕ
+  pub whole : block ≡ front ++ rest
+  pub told : (text : List ℕ) → HasTold text old c → HasTold (text ++ front) new d
+
+-- some bytes more, and perhaps a frame
+pub tells_more : (block rest old mid new : List ℕ) (c d e : Checker) (n : ℕ) (f : Option Frame) → TellsFront block rest old c mid d → new ≡ mid ++ line_if f
+    → ((text : List ℕ) (frames : List Frame) → HasChecked text frames d → HasChecked (text ++ take n rest) (with_frame frames f) e) → TellsFront block (drop n rest) old c new e
+tells_more block rest old mid new c d e n f t k h = record {
+  front = t.front ++ take n rest;
+  whole = t.whole ∙ (ap (λ l. t.front ++ l) (sym (take-append-drop n rest)) ∙ sym (append_assoc t.front (take n rest) (drop n rest)));
+  told = λ text u.
+      let v = t.told text u in
+      record {
+        frames = with_frame v.frames f;
+        checked = subst (λ l. HasChecked l (with_frame v.frames f) e) (append_assoc text t.front (take n rest)) (h (text ++ t.front) v.frames v.checked);
+        told = k ∙ one_line_more v.frames f mid v.told;
+      };
+}

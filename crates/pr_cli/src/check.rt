@@ -85,25 +85,23 @@ fn check_input<R: Read>(alloc: Global, input: &mut Watched<R>) -> Result<Vec<u8>
 }
 
 /// Checks the bytes of a block, and adds the lines of the frames that they end.
-fn check_block(
-    checker: &mut Checker,
-    block: &[u8],
-    lines: &mut Vec<u8>,
-) -> Result<(), AllocError>
+fn check_block(checker: &mut Checker, block: &[u8], lines: &mut Vec<u8>) -> Result<(), AllocError>
     requires few { line_count checker.old + length block.now + 1 < 2 ^ 64 }
     ensures told { OnOk result ((text : List ℕ) → HasTold text lines.old.items checker.old → HasTold (text ++ block.now) lines.new.items checker.new) }
     ensures count { OnOk result (line_count checker.new ≤ line_count checker.old + length block.now) }
 {
-    for byte in block {
-        if let Some(frame) = checker.take(*byte) {
-            push_frame(lines, frame)?;
-        }
+    let mut rest = block;
+    while !rest.is_empty() {
+        let (len, frame) = checker.take_from(rest);
+        push_if_some(lines, frame)?;
+        rest = &rest[len..];
     }
     Ok(())
 }
 
 /// Adds the line of a frame, if there is one.
-fn push_last(lines: &mut Vec<u8>, frame: Option<Frame>) -> Result<(), AllocError>
+#[inline(always)]
+fn push_if_some(lines: &mut Vec<u8>, frame: Option<Frame>) -> Result<(), AllocError>
     ensures { OnOk result (lines.new.items ≡ lines.old.items ++ line_if frame) }
 {
     match frame {
@@ -119,7 +117,7 @@ fn last_lines(checker: Checker, mut lines: Vec<u8>) -> Result<Vec<u8>, CliFault>
     ensures own { IfErr result IsTextFault }
 {
     let last = checker.finish()?;
-    push_last(&mut lines, last)?;
+    push_if_some(&mut lines, last)?;
     lines.extend_from_slice(b"lawful\n")?;
     Ok(lines)
 }

@@ -1,5 +1,5 @@
 -- A trace text that comes byte by byte: its lines, its edges, and where they lead.
-use Rattle.std.proofs.Common.{◌≡◌, ℕ, ◌+◌, ◌<◌, List, [], ◌∷◌, ◌++◌, length, reverse, refl, ap, sym, subst, ◌∙◌, arith, append_assoc, append-nil, Bool, true, false, Option, Some, None, Result, Ok, Err, length-append, ◌⊎◌, inl, inr}
+use Rattle.std.proofs.Common.{◌≡◌, ℕ, ◌+◌, ◌<◌, List, [], ◌∷◌, ◌++◌, length, take, reverse, refl, ap, sym, subst, ◌∙◌, arith, append_assoc, append-nil, Bool, true, false, Option, Some, None, Result, Ok, Err, length-append, ◌⊎◌, inl, inr}
 use Rattle.std.specs.List.{list_all}
 use Rattle.std.specs.Prelude.{◌==◌, if◌then◌else◌}
 use Rattle.std.proofs.lemmas.Grind.{common_steps}
@@ -9,18 +9,20 @@ use Rattle.pr_wire.specs.declared.WaveFault.{WaveFault}
 use Rattle.pr_wire.specs.declared.WaveFault.TheVariants.{Start, Truncated}
 use Rattle.pr_wire.specs.declared.place.Place.{Place}
 use Rattle.pr_wire.specs.declared.part.LinePart.{LinePart}
-use Rattle.pr_wire.specs.declared.part.LinePart.TheVariants.{Nothing}
+use Rattle.pr_wire.specs.declared.part.LinePart.TheVariants.{Nothing, Time, Space, Atn, Clock, Whole, Returned, Bad}
 use Rattle.pr_wire.specs.declared.checker.Verdict.{Verdict}
 use Rattle.pr_wire.specs.declared.checker.Verdict.TheVariants.{Before, Allowed, NoStart}
 use Rattle.pr_wire.specs.declared.checker.CheckFault.{CheckFault}
 use Rattle.pr_wire.specs.declared.checker.CheckFault.TheVariants.{BadLine, Unlawful}
-use Rattle.pr_wire.specs.Checked.{led_to, is_inner, IsScanned, IsTaken}
+use Rattle.pr_wire.specs.Checked.{led_to, is_inner, IsScanned, IsFollowed, IsTaken}
 use Rattle.pr_wire.specs.Checking.{AnswersText}
 use Rattle.pr_wire.specs.LineParts.{part_after, edge_of_part, is_nothing}
 use Rattle.pr_wire.specs.Reached.{Reached, one_more, led, add, with_frame, fault_by}
+use Rattle.pr_wire.specs.declared.line.Line.{Line}
+use Rattle.pr_wire.specs.TextSteps.{ended_line_in}
 use Rattle.pr_wire.specs.Table.{may_end}
 use Rattle.pr_wire.specs.TraceText.{lines_of, AreEdgeLines, IsTraceText, IsFirstBad}
-use Rattle.pr_wire.proofs.LineLaws.{on_line, alone, at_end, no_line}
+use Rattle.pr_wire.proofs.LineLaws.{EndedLine, ended_line-is, on_line, alone, at_end, no_line}
 use Rattle.pr_wire.proofs.PartLaws.{part_more, part_line, line_part, nothing_empty, something_some}
 use Rattle.pr_wire.proofs.Reached.{reached-more, with_frame-reverse, fault-reached, comes_by-spells}
 use Rattle.pr_wire.proofs.TextLaws.{one_line_more, as_many}
@@ -33,6 +35,7 @@ inner_more (x ∷ xs) b h e =
     let rest : list_all is_inner xs ≡ true = grind (arith, common_steps) in
     rw (first, inner_more xs b rest e) refl
 
+-- the first byte of inner bytes, and those behind it
 first_inner : (b : ℕ) (bs : List ℕ) → list_all is_inner (b ∷ bs) ≡ true → (b == 10) ≡ false
 first_inner b bs h = grind (arith, common_steps)
 
@@ -44,15 +47,18 @@ inner_line : (line more : List ℕ) → list_all is_inner line ≡ true → line
 inner_line [] more h = at_end more
 inner_line (b ∷ bs) more h = on_line b (bs ++ 10 ∷ more) bs (lines_of more) (first_inner b bs h) (inner_line bs more (rest_inner b bs h))
 
+-- inner bytes alone are one line
 last_line : (line : List ℕ) → 0 < length line → list_all is_inner line ≡ true → lines_of line ≡ line ∷ []
 last_line [] some h = absurd (omega arith)
 last_line (b ∷ []) some h = alone b (first_inner b [] h)
 last_line (b ∷ c ∷ bs) some h =
     on_line b (c ∷ bs) (c ∷ bs) [] (first_inner b (c ∷ bs) h) (last_line (c ∷ bs) (omega arith) (rest_inner b (c ∷ bs) h))
 
+-- no byte has come
 scanned_none : IsScanned [] [] Nothing
 scanned_none = record { good = []; line = []; lines = λ more. refl; are_edges = tt; inner = refl; part_is = refl }
 
+-- one inner byte more has come
 scanned_byte : (text : List ℕ) (edges : List Edge) (part : LinePart) (b : ℕ) → (b == 10) ≡ false → IsScanned text edges part → IsScanned (text ++ b ∷ []) edges (part_after part b)
 scanned_byte text edges part b e h = record {
   good = h.good;
@@ -68,6 +74,7 @@ lines_to_end : (text : List ℕ) (edges : List Edge) (part : LinePart) (h : IsSc
 lines_to_end text edges part h more =
     ap lines_of (append_assoc text (10 ∷ []) more) ∙ (h.lines (10 ∷ more) ∙ ap (λ ls. h.good ++ ls) (inner_line h.line more h.inner))
 
+-- the line has ended, and spells an edge
 scanned_line : (text : List ℕ) (edges : List Edge) (part : LinePart) (e : Edge) → edge_of_part part ≡ Some e → IsScanned text edges part → IsScanned (text ++ 10 ∷ []) (edges ++ e ∷ []) Nothing
 scanned_line text edges part e k h = record {
   good = h.good ++ h.line ∷ [];
@@ -78,6 +85,7 @@ scanned_line text edges part e k h = record {
   part_is = refl;
 }
 
+-- the line has ended, and spells none
 scanned_bad : (text : List ℕ) (edges : List Edge) (part : LinePart) → edge_of_part part ≡ None → IsScanned text edges part → (more : List ℕ) → IsFirstBad (length edges + 1) ((text ++ 10 ∷ []) ++ more)
 scanned_bad text edges part k h more = record {
   good = h.good;
@@ -117,19 +125,57 @@ pub taken_first_bad : (text : List ℕ) (frames gs : List Frame) (part q : LineP
 taken_first_bad text frames gs part q count verdict v k h = λ more.
     subst (λ n. IsFirstBad (n + 1) ((text ++ 10 ∷ []) ++ more)) h.count_is (scanned_bad text h.edges part k h.scanned more)
 
--- a line that spells an edge ends
-pub taken_edge : (text : List ℕ) (frames : List Frame) (part : LinePart) (count : ℕ) (verdict v : Verdict) (e : Edge) (f : Option Frame) → edge_of_part part ≡ Some e
+-- the edges lead on with one edge more
+follow : (text more : List ℕ) (frames : List Frame) (part q : LinePart) (count n : ℕ) (verdict v : Verdict) (e : Edge) (f : Option Frame) → n ≡ count + 1
     → led_to v (add f (reverse frames)) (count + 1) ≡ led (λ r. one_more r e) (led_to verdict (reverse frames) count)
-    → IsTaken false text frames part count verdict → IsTaken false (text ++ 10 ∷ []) (with_frame frames f) Nothing (count + 1) v
-taken_edge text frames part count verdict v e f k l h = record {
+    → (h : IsFollowed text frames part count verdict) → IsScanned (text ++ more) (h.edges ++ e ∷ []) q → IsTaken false (text ++ more) (with_frame frames f) q n v
+follow text more frames part q count n verdict v e f k l h s = rw k (record {
   edges = h.edges ++ e ∷ [];
-  scanned = scanned_line text h.edges part e k h.scanned;
+  scanned = s;
   count_is = length-append h.edges (e ∷ []) ∙ ap (λ n. n + 1) h.count_is;
   leads =
       reached-more h.edges e
       ∙ (ap (λ x. led (λ (r : Reached). one_more r e) x) h.leads
       ∙ (sym l ∙ ap (λ b. led_to v b (count + 1)) (sym (with_frame-reverse frames f))));
-}
+})
+
+-- a line that spells an edge ends
+pub taken_edge : (text : List ℕ) (frames : List Frame) (part q : LinePart) (count n : ℕ) (verdict v : Verdict) (e : Edge) (f : Option Frame) → edge_of_part part ≡ Some e → q ≡ Nothing → n ≡ count + 1
+    → led_to v (add f (reverse frames)) (count + 1) ≡ led (λ r. one_more r e) (led_to verdict (reverse frames) count)
+    → IsTaken false text frames part count verdict → IsTaken false (text ++ 10 ∷ []) (with_frame frames f) q n v
+taken_edge text frames part q count n verdict v e f k p m l h =
+    rw p (follow text (10 ∷ []) frames part Nothing count n verdict v e f m l h (scanned_line text h.edges part e k h.scanned))
+
+-- a part of which nothing has come
+nothing_is : (p : LinePart) → is_nothing p ≡ true → p ≡ Nothing
+nothing_is Nothing h = refl
+nothing_is (Time t) h = absurd (cc)
+nothing_is (Space t) h = absurd (cc)
+nothing_is (Atn t a) h = absurd (cc)
+nothing_is (Clock t a c) h = absurd (cc)
+nothing_is (Whole e) h = absurd (cc)
+nothing_is (Returned e) h = absurd (cc)
+nothing_is Bad h = absurd (cc)
+
+-- a whole line that spells an edge comes
+pub taken_line : (text rest : List ℕ) (frames : List Frame) (part q : LinePart) (count n : ℕ) (verdict v : Verdict) (line : Line) (f : Option Frame) → is_nothing part ≡ true → ended_line_in rest ≡ Some line → q ≡ part
+    → n ≡ count + 1 → led_to v (add f (reverse frames)) (count + 1) ≡ led (λ r. one_more r line.edge) (led_to verdict (reverse frames) count)
+    → IsTaken false text frames part count verdict → IsTaken false (text ++ take line.len rest) (with_frame frames f) q n v
+taken_line text rest frames part q count n verdict v line f p k e m l h =
+    let s = h.scanned in
+    let t = ended_line-is rest line k in
+    let none : s.line ≡ [] = nothing_empty s.line (ap is_nothing (sym s.part_is) ∙ p) in
+    rw e (follow text (take line.len rest) frames part part count n verdict v line.edge f m l h (record {
+      good = s.good ++ t.line ∷ [];
+      line = [];
+      lines = λ more. ap lines_of (append_assoc text (take line.len rest) more)
+          ∙ (s.lines (take line.len rest ++ more)
+          ∙ (ap (λ bs. s.good ++ lines_of (bs ++ (take line.len rest ++ more))) none
+          ∙ (ap (λ ls. s.good ++ ls) (t.lines more) ∙ sym (append_assoc s.good (t.line ∷ []) (lines_of more)))));
+      are_edges = one_line_more s.good h.edges t.line line.edge s.are_edges t.is_line;
+      inner = refl;
+      part_is = nothing_is part p;
+    }))
 
 -- a text whose last line has ended is bad
 pub ended_bad : (text : List ℕ) (frames : List Frame) (part : LinePart) (count : ℕ) (verdict : Verdict) → IsTaken true text frames part count verdict → IsFirstBad (count + 1) text

@@ -5,13 +5,13 @@ use Rattle.std.specs.Prelude.{if◌then◌else◌, ◌==◌}
 use Rattle.std.proofs.lemmas.Grind.{common_steps}
 use Rattle.std.proofs.lemmas.Bool.{eqb-true}
 use Rattle.std.proofs.lemmas.List.{drop_all, take-append-drop}
-use Rattle.std.proofs.Math.Seq.{drop-append-add}
+use Rattle.std.proofs.Math.Seq.{drop-append-add, take-append-add}
 use Rattle.pr_wire.specs.TraceText.Return.{WithReturn, Without}
 use Rattle.pr_wire.specs.declared.Levels.{Levels}
 use Rattle.pr_wire.specs.declared.Edge.{Edge}
 use Rattle.pr_wire.specs.declared.line.Line.{Line}
 use Rattle.pr_wire.specs.TraceText.{level_digit, levels_text, lines_of, onto_first, is_digit, number_after, Return, return_text, IsEdgeLine}
-use Rattle.pr_wire.specs.TextSteps.{time_in, level_in, levels_with, end_in, line_with, tail_in, line_in}
+use Rattle.pr_wire.specs.TextSteps.{ended_in, ended_line_in, time_in, level_in, levels_with, end_in, line_with, tail_in, line_in}
 
 -- more digits make no smaller number
 pub grows : (n : ℕ) (ds : List ℕ) → n ≤ number_after n ds
@@ -217,6 +217,9 @@ pub record FirstLine (text : List ℕ) (l : Line) : Type 0 where
   pub lines : lines_of text ≡ line ∷ lines_of (drop l.len text)
   pub is_line : IsEdgeLine line l.edge
 
+digits_counted : (bs : List ℕ) → length (take (prefix_len is_digit bs) bs) ≡ prefix_len is_digit bs
+digits_counted bs = grind (arith, common_steps)
+
 -- what is read is the first line's edge
 pub line_in-is : (text : List ℕ) (l : Line) → line_in text ≡ Some l → FirstLine text l
 unfolding line_in
@@ -238,9 +241,61 @@ line_in-is text l h =
           ∙ ap (λ bs. (ds ++ (levels_text l.edge ++ return_text e.return)) ∷ lines_of bs) (sym left));
       is_line = record { digits = ds; some = time.0; all = front_digits text; time = time.1; small = time.2; end = e.return; spelled = refl };
     }
-  where
-    digits_counted : (bs : List ℕ) → length (take (prefix_len is_digit bs) bs) ≡ prefix_len is_digit bs
-    digits_counted bs = grind (arith, common_steps)
+
+-- what follows the digits of a line that was read up to its byte 10
+record EndedTail (time : Option ℕ) (n : ℕ) (rest : List ℕ) (l : Line) : Type 0 where
+  more : List ℕ
+  time_is : time ≡ Some l.edge.time
+  rest_is : rest ≡ levels_text l.edge ++ 10 ∷ more
+  len_is : l.len ≡ n + 4 + 1
+
+ended_parts : (time : Option ℕ) (n : ℕ) (rest : List ℕ) (l : Line) → ended_in time n rest ≡ Some l → EndedTail time n rest l
+unfolding ended_in
+ended_parts time n [] l h = absurd (cc)
+ended_parts time n (s ∷ []) l h = absurd (cc)
+ended_parts time n (s ∷ a ∷ []) l h = absurd (cc)
+ended_parts time n (s ∷ a ∷ c ∷ []) l h = absurd (cc)
+ended_parts time n (s ∷ a ∷ c ∷ d ∷ []) l h = absurd (cc)
+ended_parts time n (s ∷ a ∷ c ∷ d ∷ end ∷ more) l h =
+    let space : s ≡ 32 = grind (arith, common_steps) in
+    let feed : end ≡ 10 = grind (arith, common_steps) in
+    let whole : line_with time (levels_with (level_in a) (level_in c) (level_in d)) (Some 1) n ≡ Some l = grind (arith, common_steps) in
+    let p = line_parts time (levels_with (level_in a) (level_in c) (level_in d)) (Some 1) n l whole in
+    let k = levels_parts (level_in a) (level_in c) (level_in d) l.edge.levels p.levels_are in
+    let one : p.end_len ≡ 1 = let e : Some 1 ≡ Some p.end_len = p.end_is in cc in
+    record {
+      more = more;
+      time_is = p.time_is;
+      rest_is = rw (space, feed, level_digit_of a l.edge.levels.atn k.0, level_digit_of c l.edge.levels.clock k.1, level_digit_of d l.edge.levels.line k.2) refl;
+      len_is = subst (λ x. l.len ≡ n + 4 + x) one p.len_is;
+    }
+
+-- a line in front of a text, with its byte 10, whatever comes next
+pub record EndedLine (text : List ℕ) (l : Line) : Type 0 where
+  pub line : List ℕ
+  pub lines : (more : List ℕ) → lines_of (take l.len text ++ more) ≡ line ∷ lines_of more
+  pub is_line : IsEdgeLine line l.edge
+
+-- what is read up to its byte 10 is such a line
+pub ended_line-is : (text : List ℕ) (l : Line) → ended_line_in text ≡ Some l → EndedLine text l
+unfolding ended_line_in
+ended_line-is text l h =
+    let n = prefix_len is_digit text in
+    let ds = take n text in
+    let t = ended_parts (time_in ds) n (drop n text) l h in
+    let time = time_parts ds l.edge.time t.time_is in
+    let whole : text ≡ ds ++ (levels_text l.edge ++ 10 ∷ t.more) = sym (take-append-drop n text) ∙ ap (λ bs. ds ++ bs) t.rest_is in
+    let count : length ds ≡ n = digits_counted text in
+    let front : take l.len text ≡ ds ++ (levels_text l.edge ++ 10 ∷ []) =
+    ap (λ k. take k text) (t.len_is ∙ (ap (λ k. k + 4 + 1) (sym count) ∙ omega arith))
+    ∙ (ap (take (length ds + 5)) whole ∙ take-append-add ds (levels_text l.edge ++ 10 ∷ t.more) 5) in
+    record {
+      line = ds ++ (levels_text l.edge ++ []);
+      lines = λ more. ap (λ bs. lines_of (bs ++ more)) front
+          ∙ (ap lines_of (append_assoc ds (levels_text l.edge ++ 10 ∷ []) more)
+          ∙ digits_on_line ds _ _ _ (front_digits text) (levels_on_line l.edge.levels.atn l.edge.levels.clock _ _ _ (level_at_end l.edge.levels.line more)));
+      is_line = record { digits = ds; some = time.0; all = front_digits text; time = time.1; small = time.2; end = Without; spelled = refl };
+    }
 
 -- what stands behind a line: nothing, or byte 10 and more
 pub data Behind : Type 0 where

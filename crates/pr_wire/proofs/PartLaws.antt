@@ -23,6 +23,7 @@ part_more p (c ∷ bs) b = part_more (part_after p c) bs b
 digit_more : (t b : ℕ) → is_digit b ≡ true → 10 * t + (b - 48) < 2 ^ 64 → time_after t b ≡ Time (10 * t + (b - 48))
 digit_more t b d small = grind (arith, common_steps)
 
+-- a digit is no space
 digit_no_space : (b : ℕ) → is_digit b ≡ true → (b == 32) ≡ false
 digit_no_space b d = grind (arith, common_steps)
 
@@ -93,6 +94,7 @@ small_time t b = by (is_digit b && nat_lt (10 * t + (b - 48)) 184467440737095516
     by true e = grind (arith, common_steps)
     by false e = tt
 
+-- a level keeps it small
 small_level : (p : LinePart) (l : Option Bool) → IsSmall p → IsSmall (level_byte_after p l)
 small_level p None h = tt
 small_level (Space t) (Some l) h = h
@@ -104,6 +106,7 @@ small_level (Whole e) (Some l) h = tt
 small_level (Returned e) (Some l) h = tt
 small_level Bad (Some l) h = tt
 
+-- so does any byte
 small_after : (p : LinePart) (b : ℕ) → IsSmall p → IsSmall (part_after p b)
 small_after Nothing b h = small_time 0 b
 small_after (Time t) b h = by (b == 32)
@@ -131,6 +134,7 @@ digit_before t b l e = by (is_digit b && nat_lt (10 * t + (b - 48)) 184467440737
     by true d h = (grind (arith, common_steps), h)
     by false d h = absurd h
 
+-- a digit in front of digits
 all_digits : (b : ℕ) (ds : List ℕ) → is_digit b ≡ true → list_all is_digit ds ≡ true → list_all is_digit (b ∷ ds) ≡ true
 all_digits b ds h k = rw (h, k) refl
 
@@ -191,7 +195,7 @@ part_lacks Bad [] e small h = absurd (cc)
 pub part_line : (line : List ℕ) (e : Edge) → edge_of_part (part_with Nothing line) ≡ Some e → IsEdgeLine line e
 part_line line e h = (part_lacks Nothing line e tt h).1
 
--- a part with a byte is something
+-- a time with a byte is something
 time_something : (t b : ℕ) → is_nothing (time_after t b) ≡ false
 time_something t b = by (is_digit b && nat_lt (10 * t + (b - 48)) 18446744073709551616)
   where
@@ -199,6 +203,7 @@ time_something t b = by (is_digit b && nat_lt (10 * t + (b - 48)) 18446744073709
     by true = refl
     by false = refl
 
+-- so is any part with a byte
 after_something : (p : LinePart) (b : ℕ) → is_nothing (part_after p b) ≡ false
 after_something Nothing b = time_something 0 b
 after_something (Time t) b = by (b == 32)
@@ -229,6 +234,7 @@ after_something (Whole e) b = by (b == 13)
 after_something (Returned e) b = refl
 after_something Bad b = refl
 
+-- and with more bytes
 with_something : (p : LinePart) (b : ℕ) (bs : List ℕ) → is_nothing (part_with p (b ∷ bs)) ≡ false
 with_something p b [] = after_something p b
 with_something p b (c ∷ bs) = with_something (part_after p b) c bs
@@ -238,6 +244,7 @@ pub nothing_empty : (line : List ℕ) → is_nothing (part_with Nothing line) �
 nothing_empty [] h = refl
 nothing_empty (b ∷ bs) h = absurd (let k = with_something Nothing b bs in cc)
 
+-- something has come of a line that has a byte
 pub something_some : (line : List ℕ) → is_nothing (part_with Nothing line) ≡ false → 0 < length line
 something_some [] h = absurd (cc)
 something_some (b ∷ bs) h = omega arith

@@ -43,3 +43,14 @@ tail_in time digits bs = None
 unfoldable pub line_in : List ℕ → Option Line
 line_in text =
     tail_in (time_in (take (prefix_len is_digit text) text)) (prefix_len is_digit text) (drop (prefix_len is_digit text) text)
+
+-- what follows the digits of a line that ends with byte 10 alone, and the edge with their time
+unfoldable pub ended_in : Option ℕ → ℕ → List ℕ → Option Line
+ended_in time digits (s ∷ a ∷ c ∷ d ∷ end ∷ more) =
+    if s == 32 && end == 10 then line_with time (levels_with (level_in a) (level_in c) (level_in d)) (Some 1) digits else None
+ended_in time digits bs = None
+
+-- the edge of a text's first line, which ends with byte 10 alone, and the line's length
+unfoldable pub ended_line_in : List ℕ → Option Line
+ended_line_in text =
+    ended_in (time_in (take (prefix_len is_digit text) text)) (prefix_len is_digit text) (drop (prefix_len is_digit text) text)

@@ -1,12 +1,13 @@
 //! The checker of trace texts that come byte by byte.
 
-ghost use Rattle.std.specs.Prelude.{◌≡◌, ◌+◌, ◌^◌, ◌<◌, ◌≤◌, ◌++◌, ◌∷◌, [], List, ℕ, IfErr, true};
+ghost use Rattle.std.specs.Prelude.{◌≡◌, ◌+◌, ◌^◌, ◌<◌, ◌≤◌, ◌++◌, ◌∷◌, [], List, ℕ, length, take, IfErr, true};
 ghost use Rattle.pr_wire.specs.declared.Frame.{Frame};
 ghost use Rattle.pr_wire.specs.Checking.{AnswersText, IsOwnFault};
 ghost use Rattle.pr_wire.specs.Checked.{HasChecked, line_count, led_to};
 ghost use Rattle.pr_wire.specs.LineParts.{is_nothing};
 ghost use Rattle.pr_wire.specs.Reached.{add, led, one_more, with_frame};
 
+use crate::line::read_ended_line;
 use crate::part::LinePart;
 use crate::place::{Flaw, Place};
 use crate::{Edge, Frame, WaveFault};
@@ -124,6 +125,41 @@ impl Checker {
         }
     }
 
+    /// Takes bytes from the front of a text: a whole line, where one stands there that spells an
+    /// edge, or else one byte. Gives how many, at least one, and the frame that they end. It takes
+    /// no memory.
+    pub fn take_from(&mut self, text: &[u8]) -> (usize, Option<Frame>)
+        requires few { line_count self.old + 1 < 2 ^ 64 }
+        requires some { 0 < length text.now }
+        ensures checked { (before : List ℕ) (frames : List Frame) → HasChecked before frames self.old → HasChecked (before ++ take result.0 text.now) (with_frame frames result.1) self.new }
+        ensures some { 0 < result.0 }
+        ensures within { result.0 ≤ length text.now }
+        ensures count { line_count self.new ≤ line_count self.old + 1 }
+    {
+        if self.part.is_nothing() && !self.is_bad {
+            if let Some(line) = read_ended_line(text) {
+                let frame = self.take_edge(line.edge);
+                return (line.len, frame);
+            }
+        }
+        let frame = self.take(text[0]);
+        (1, frame)
+    }
+
+    /// Takes the edge of a line that has ended.
+    fn take_edge(&mut self, edge: Edge) -> Option<Frame>
+        requires few { self.old.count + 1 < 2 ^ 64 }
+        ensures leads { (before : List Frame) → led_to self.new.verdict (add result before) (self.old.count + 1) ≡ led (λ r. one_more r edge) (led_to self.old.verdict before self.old.count) }
+        ensures count { self.new.count ≡ self.old.count + 1 }
+        ensures part { self.new.part ≡ self.old.part }
+        ensures bad { self.new.is_bad ≡ self.old.is_bad }
+    {
+        let judged = self.verdict.after(self.count, edge);
+        self.count += 1;
+        self.verdict = judged.verdict;
+        judged.frame
+    }
+
     /// Ends the line.
     fn end_line(&mut self) -> Option<Frame>
         requires few { line_count self.old + 1 < 2 ^ 64 }
@@ -137,14 +173,13 @@ impl Checker {
         if self.is_bad {
             return None;
         }
-        let Some(edge) = edge else {
-            self.is_bad = true;
-            return None;
-        };
-        let judged = self.verdict.after(self.count, edge);
-        self.count += 1;
-        self.verdict = judged.verdict;
-        judged.frame
+        match edge {
+            Some(edge) => self.take_edge(edge),
+            None => {
+                self.is_bad = true;
+                None
+            }
+        }
     }
 
     /// The answer for a text that ends with a whole line, if it ends here; the frame is that of

@@ -3,7 +3,8 @@
 //! A trace is the list of [`Edge`]s of the lines ATN, CLOCK and DATA, from `0 111` on. The headline
 //! is on [`analyse`]: it is Ok exactly on the lawful traces, which `specs/Pieces.antt` cuts into
 //! whole pieces, and gives the [`Frame`]s that they spell; any other list gets the first fault by
-//! the table of `specs/Table.antt`. A trace of this profile is meant, not any recording of a bus.
+//! the table of `specs/Table.antt`. [`Checker`] does the same for a text that comes byte by byte. A
+//! trace of this profile is meant, not any recording of a bus.
 #![tactic(auto)]
 
 ghost use Rattle.std.specs.Prelude.{◌≡◌};

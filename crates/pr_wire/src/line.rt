@@ -3,7 +3,7 @@
 ghost use Rattle.std.specs.Prelude.{◌≡◌, ◌+◌, ◌^◌, ◌<◌, ◌≤◌, length, IfSome};
 ghost use Rattle.std.specs.List.{prefix_len};
 ghost use Rattle.pr_wire.specs.TraceText.{is_digit};
-ghost use Rattle.pr_wire.specs.TextSteps.{end_in, level_in, line_in, tail_in, time_in};
+ghost use Rattle.pr_wire.specs.TextSteps.{end_in, ended_in, ended_line_in, level_in, line_in, tail_in, time_in};
 
 use crate::{Edge, Levels};
 
@@ -50,6 +50,42 @@ fn read_tail(time: Option<u64>, digits: usize, rest: &[u8]) -> Option<Line>
         levels,
     };
     let len = digits + LEVELS_LEN + read_end(end)?;
+    Some(Line { edge, len })
+}
+
+/// The edge of the first line, if the line spells one and ends with byte 10 alone.
+#[tactic(auto, unfolding(crate::specs::TextSteps::ended_line_in))]
+pub fn read_ended_line(text: &[u8]) -> Option<Line>
+    ensures line { result ≡ ended_line_in text.now }
+    ensures some { IfSome result (λ line. 0 < line.len) }
+    ensures within { IfSome result (λ line. line.len ≤ length text.now) }
+{
+    let digits = digit_count(text);
+    read_ended(read_time(&text[..digits]), digits, &text[digits..])
+}
+
+/// The edge with the time that so many digits spelled, if what follows them is the rest of a line
+/// that ends with byte 10 alone.
+#[tactic(auto, unfolding(crate::specs::TextSteps::ended_in))]
+fn read_ended(time: Option<u64>, digits: usize, rest: &[u8]) -> Option<Line>
+    requires { digits + length rest.now < 2 ^ 64 }
+    ensures line { result ≡ ended_in time digits rest.now }
+    ensures some { IfSome result (λ line. 0 < line.len) }
+    ensures within { IfSome result (λ line. line.len ≤ digits + length rest.now) }
+{
+    let [b' ', atn, clock, line, b'\n', ..] = rest else {
+        return None;
+    };
+    let levels = Levels {
+        atn: read_level(*atn)?,
+        clock: read_level(*clock)?,
+        line: read_level(*line)?,
+    };
+    let edge = Edge {
+        time: time?,
+        levels,
+    };
+    let len = digits + LEVELS_LEN + 1;
     Some(Line { edge, len })
 }
 

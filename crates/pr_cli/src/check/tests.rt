@@ -14,8 +14,7 @@ use std::test::Fail;
 const EDGES: usize = 110;
 
 /// What `check` writes for the example trace.
-const EXAMPLE_LINES: &str =
-    "command 36\ndata 72\ndata 73\ndata 13 eoi\ncommand 63\nlawful\n";
+const EXAMPLE_LINES: &str = "command 36\ndata 72\ndata 73\ndata 13 eoi\ncommand 63\nlawful\n";
 
 /// One attention to printer 4 alone, with delays 1000 before it, 1999 to the look and 10 to the
 /// answer, all others typical.
@@ -93,58 +92,53 @@ fn one_attention_with_chosen_delays(rt: HostRuntime) -> Result<(), Fail> {
     lawful(&rt, ONE_ATTENTION, "command 36\nlawful\n")
 }
 
+/// The lines of a front of so many edges of the example trace.
+fn lines_of_front(count: usize) -> Option<&'static str> {
+    match count {
+        1 => Some("lawful\n"),
+        24 => Some("command 36\nlawful\n"),
+        44 => Some("command 36\ndata 72\nlawful\n"),
+        64 => Some("command 36\ndata 72\ndata 73\nlawful\n"),
+        86 => Some("command 36\ndata 72\ndata 73\ndata 13 eoi\nlawful\n"),
+        110 => Some(EXAMPLE_LINES),
+        _ => None,
+    }
+}
+
+/// The text of a front of so many edges is answered as it should be.
+fn front_is_answered(rt: &(impl Abort + AllocGlobal), text: &[u8], count: usize) {
+    let fault = match count {
+        0 => WaveFault::Start(0),
+        _ => WaveFault::Truncated(count),
+    };
+    match (lines_of(rt, text), lines_of_front(count)) {
+        (Ok(written), Some(lines)) => {
+            assert_eq!(rt; written.as_slice(), lines.as_bytes(), "{count} edges")
+        }
+        (answer, None) => {
+            assert_eq!(rt; answer.err(), Some(CliFault::Wave(fault)), "{count} edges")
+        }
+        _ => assert!(rt; false, "{count} edges"),
+    }
+}
+
 #[test]
 fn fronts_of_the_example_trace(rt: HostRuntime) -> Result<(), Fail> {
     let edges = example(&rt)?;
     for count in 0..=EDGES {
         let text = write_trace(rt.alloc(), &edges[..count])?;
-        let lines = match count {
-            1 => "lawful\n",
-            24 => "command 36\nlawful\n",
-            44 => "command 36\ndata 72\nlawful\n",
-            64 => "command 36\ndata 72\ndata 73\nlawful\n",
-            86 => "command 36\ndata 72\ndata 73\ndata 13 eoi\nlawful\n",
-            110 => EXAMPLE_LINES,
-            _ => "",
-        };
-        match lines_of(&rt, text.as_slice()) {
-            Ok(written) => {
-                assert_eq!(rt; written.as_slice(), lines.as_bytes(), "{count} edges")
-            }
-            Err(fault) => {
-                let wanted = if count == 0 {
-                    WaveFault::Start(0)
-                } else {
-                    WaveFault::Truncated(count)
-                };
-                assert_eq!(rt; fault, CliFault::Wave(wanted), "{count} edges");
-                assert!(rt; lines.is_empty(), "{count} edges");
-            }
+        front_is_answered(&rt, text.as_slice(), count);
+        // The last line may lack its end, also where it ends a frame.
+        if let Some((_, cut)) = text.as_slice().split_last() {
+            front_is_answered(&rt, cut, count);
         }
     }
     Ok(())
 }
 
-/// A last line may lack its end, also where it ends a frame.
-#[test]
-fn last_line_without_its_end(rt: HostRuntime) -> Result<(), Fail> {
-    lawful(&rt, "0 111", "lawful\n")?;
-    lawful(&rt, "0 111\r", "lawful\n")?;
-    let edges = example(&rt)?;
-    let text = write_trace(rt.alloc(), &edges[..86])?;
-    let Some((_, front)) = text.as_slice().split_last() else {
-        return Err(Fail::new("a text"));
-    };
-    let written = lines_of(&rt, front)?;
-    assert_eq!(rt;
-        written.as_slice(),
-        b"command 36\ndata 72\ndata 73\ndata 13 eoi\nlawful\n".as_slice()
-    );
-    Ok(())
-}
-
 #[test]
 fn accepted_texts(rt: HostRuntime) -> Result<(), Fail> {
+    lawful(&rt, "0 111\r", "lawful\n")?;
     lawful(&rt, "0 111\r\n100 001\r\n1100 111\r\n", "lawful\n")?;
     lawful(
         &rt,
@@ -164,7 +158,11 @@ fn refused_traces(rt: HostRuntime) {
     unlawful(&rt, "0 111\n100 001\n2101 111\n", WaveFault::TooLate(2));
     unlawful(&rt, "0 111\n100 001\n1101 010\n", WaveFault::TooLate(2));
     unlawful(&rt, "0 111\n100 001\n1099 010\n", WaveFault::TooEarly(2));
-    unlawful(&rt, "0 111\n18446744073709551615 001\n", WaveFault::Truncated(2));
+    unlawful(
+        &rt,
+        "0 111\n18446744073709551615 001\n",
+        WaveFault::Truncated(2),
+    );
 }
 
 #[test]

@@ -43,9 +43,25 @@ fn faults_of_texts(rt: HostRuntime) {
         ("", CheckFault::Unlawful(WaveFault::Start(0))),
         ("0 111\n0 001", CheckFault::Unlawful(WaveFault::Order(1))),
         ("0 111\n0 001\n0 121\n", CheckFault::BadLine(3)),
-        ("0 111\n100 001", CheckFault::Unlawful(WaveFault::Truncated(2))),
+        (
+            "0 111\n100 001",
+            CheckFault::Unlawful(WaveFault::Truncated(2)),
+        ),
     ];
     for (text, fault) in faults {
         assert_eq!(rt; answer(&rt, text), Err(fault), "{text}");
     }
+}
+
+/// A whole line is taken at once, and a part of a line byte by byte.
+#[test]
+fn lines_are_taken_whole(rt: HostRuntime) {
+    let mut checker = Checker::new();
+    let (first, frame) = checker.take_from(b"0 111\n100 001\n");
+    assert_eq!(rt; first, 6);
+    assert_eq!(rt; frame, None);
+    let (second, _) = checker.take_from(b"100 001");
+    assert_eq!(rt; second, 1);
+    let (third, _) = checker.take_from(b"00 001\n");
+    assert_eq!(rt; third, 1);
 }

@@ -9,5 +9,5 @@ returns-in_err-last-clause-lines c = λ text h t.
 pub returns-clause-lines : goal.returns-clause-lines
 returns-clause-lines c = λ text h t.
     let k = told_lines text c.args.lines.items c.extend_from_slice.new.self.items c.args.checker c.in_ok-last.last t (c.in_ok-last.ensures.answer text t.frames t.checked)
-    (c.in_ok-extend_from_slice.ensures.items ∙ ap (λ l. l ++ codes "lawful\n") c.in_ok-push_last.ensures) in
+    (c.in_ok-extend_from_slice.ensures.items ∙ ap (λ l. l ++ codes "lawful\n") c.in_ok-push_if_some.ensures) in
     (k.0, h, k.1, k.2)

@@ -3,11 +3,12 @@ use Rattle.pr_wire.specs.declared.part.LinePart.TheVariants.{Nothing}
 use Rattle.pr_wire.proofs.CheckLaws.{taken_at, taken_first_bad, taken_edge}
 use Rattle.pr_wire.proofs.checker.Checker.end_line.Goals as goal
 
-pub returns-in_default-clause-checked : goal.returns-in_default-clause-checked
-returns-in_default-clause-checked c = λ text frames h.
-    taken_first_bad text frames frames _ Nothing _ _ c.args.self.now.verdict (sym c.edge-edge.ensures ∙ c.in_default.is) (taken_at _ false text frames _ _ _ _ c.if-self.false refl h)
+pub returns-in-None-clause-checked : goal.returns-in-None-clause-checked
+returns-in-None-clause-checked c = λ text frames h.
+    taken_first_bad text frames frames _ Nothing _ _ c.args.self.now.verdict (sym c.edge-edge.ensures ∙ c.in-None.is) (taken_at _ false text frames _ _ _ _ c.if-self.false refl h)
 
-pub returns-clause-checked : goal.returns-clause-checked
-returns-clause-checked c = λ text frames h.
-    taken_at false _ _ _ _ _ _ _ (sym c.if-self.false) refl
-    (taken_edge text frames _ _ _ _ _ _ (sym c.edge-edge.ensures ∙ c.in-Some.is) (c.after-judged.ensures (reverse frames)) (taken_at _ false text frames _ _ _ _ c.if-self.false refl h))
+pub returns-in-Some-clause-checked : goal.returns-in-Some-clause-checked
+returns-in-Some-clause-checked c = λ text frames h.
+    taken_at false _ _ _ _ _ _ _ (sym (c.take_edge.ensures.bad ∙ c.if-self.false)) refl
+    (taken_edge text frames _ _ _ _ _ _ _ _ (sym c.edge-edge.ensures ∙ c.in-Some.is) c.take_edge.ensures.part c.take_edge.ensures.count (c.take_edge.ensures.leads (reverse frames))
+    (taken_at _ false text frames _ _ _ _ c.if-self.false refl h))
