@@ -1,0 +1,13 @@
+pub mod Intervals
+pub mod TimedLawful
+pub mod Bounds
+pub mod FrameLemmas
+pub mod PrinterLemmas
+pub mod TalkLemmas
+pub mod AttentionLemmas
+pub mod EdgeCount
+pub mod Sooner
+pub mod Shares
+pub mod HeardAsFrames
+pub mod EarLemmas
+pub mod WiredLemmas

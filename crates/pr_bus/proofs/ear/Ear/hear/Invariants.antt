@@ -1,0 +1,18 @@
+use Rattle.std.proofs.Common.{◌≡◌, ◌+◌, ◌≤◌, ◌++◌, List, take}
+use Rattle.std.specs.Prelude.{vec_len, vec_capacity}
+use Rattle.pr_wire.specs.declared.Edge.{Edge}
+use Rattle.pr_wire.specs.Table.{IsAllowed}
+use Rattle.pr_receiver.specs.Taken.{device_of, number_taken}
+use Rattle.pr_bus.specs.EarState.{IsHearing}
+use Rattle.pr_bus.proofs.ear.Ear.hear.Given as goal
+
+-- the edges so far are heard
+abbrev pub invariant-loop-edge : goal.invariant-loop-edge
+invariant-loop-edge l = record {
+  hears : (forgotten trace : List Edge) → IsAllowed (trace ++ l.edges) → IsHearing forgotten trace l.fn.self → IsHearing forgotten (trace ++ take l.edge-index l.edges) l.self;
+  device : device_of l.self.receiver ≡ device_of l.fn.self.receiver;
+  there : l.self.there ≡ l.fn.self.there;
+  count : number_taken l.self.receiver ≤ number_taken l.fn.self.receiver + l.edge-index;
+  len : vec_len l.self.inputs ≤ vec_len l.fn.self.inputs + l.edge-index;
+  capacity : vec_capacity l.self.inputs ≡ vec_capacity l.fn.self.inputs;
+}

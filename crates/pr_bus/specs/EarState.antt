@@ -1,0 +1,34 @@
+-- Linking words, for proofs: what a printer has heard of a trace. No reader needs to believe them.
+use Rattle.std.specs.Prelude.{◌≡◌, ◌≤◌, ◌++◌, ℕ, Bool, true, false, List, [], length, Option, None, Result, Ok, Err}
+use Rattle.std.specs.Option.{option_to_list}
+use Rattle.pr_wire.specs.declared.Edge.{Edge}
+use Rattle.pr_wire.specs.declared.WaveFault.{WaveFault}
+use Rattle.pr_page.specs.declared.input.Input.{Input}
+use Rattle.pr_receiver.specs.Given.{inputs_with}
+use Rattle.pr_receiver.specs.Taken.{HasTaken, device_of, number_taken, refusal_of}
+use Rattle.pr_bus.specs.declared.ear.Ear.{Ear}
+
+-- the input that an edge gives, if it gives one
+abbrev pub given_list : Result (Option Input) WaveFault → List Input
+given_list (Ok o) = option_to_list o
+given_list (Err w) = []
+
+-- a printer has taken just these edges, has refused none, and keeps the inputs that came behind the forgotten ones
+pub record IsHearing (forgotten trace : List Edge) (ear : Ear) : Type 0 where
+  pub taken : HasTaken trace ear.receiver
+  pub works : refusal_of ear.receiver ≡ None
+  pub inputs : inputs_with (device_of ear.receiver) forgotten ++ ear.inputs.items ≡ inputs_with (device_of ear.receiver) trace
+
+-- the printer with this number has heard these edges if it is there, and nothing if it isn't
+pub record Hears (device : ℕ) (there : Bool) (forgotten trace : List Edge) (ear : Ear) : Type 0 where
+  pub device_is : device_of ear.receiver ≡ device
+  pub there_is : ear.there ≡ there
+  pub count : number_taken ear.receiver ≤ length trace
+  pub hears : there ≡ true → IsHearing forgotten trace ear
+  pub nothing : there ≡ false → ear.inputs.items ≡ []
+
+-- it is the ear that it was, with its inputs
+pub record IsSameEar (old new : Ear) : Type 0 where
+  pub there : new.there ≡ old.there
+  pub receiver : new.receiver ≡ old.receiver
+  pub inputs : new.inputs.items ≡ old.inputs.items

@@ -1,0 +1,11 @@
+pub mod Answers
+pub mod Timed
+pub mod Laws
+pub mod Talking
+pub mod Printers
+pub mod Talk
+pub mod Sums
+pub mod WiresState
+pub mod Wired
+pub mod DelayLaws
+pub mod EarState

@@ -1,0 +1,24 @@
+-- Machine: what the talker keeps of the printers. No reader needs to believe it.
+use Rattle.std.specs.Prelude.{◌≡◌, ℕ, ◌+◌, List, [], ◌∷◌, map, Option, Some, None}
+use Rattle.pr_bus.specs.declared.lines.Lines.{Lines}
+use Rattle.pr_bus.specs.declared.lines.Lines.TheVariants.{Pulled}
+use Rattle.pr_bus.specs.declared.hearer.Hearer.{Hearer}
+use Rattle.pr_bus.specs.declared.hearer.Together.{Together}
+use Rattle.pr_bus.specs.Timed.{greatest, least}
+
+-- none or one
+abbrev pub option_list : {A : Type 0} → Option A → List A
+option_list None = []
+option_list (Some x) = x ∷ []
+
+-- what hearers wait together
+pub record IsTogether (hs : List Hearer) (t : Together) : Type 0 where
+  pub hold : t.hold ≡ greatest (map (λ (h : Hearer). h.hold) hs)
+  pub wait : t.wait ≡ least (map (λ (h : Hearer). h.wait) hs)
+  pub end : t.end ≡ greatest (map (λ (h : Hearer). h.wait + h.answer) hs)
+  pub accept : t.accept ≡ least (map (λ (h : Hearer). h.accept) hs)
+
+-- DATA is pulled in answer to ATN at a moment, unless it is pulled
+abbrev pub answer_moment : Lines → ℕ → Option ℕ
+answer_moment Pulled t = None
+answer_moment _ t = Some t

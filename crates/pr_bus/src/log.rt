@@ -1,0 +1,99 @@
+//! What was sent, and what came of it since the mark.
+
+ghost use Rattle.std.specs.Prelude.{◌≡◌, ◌++◌, ◌∷◌, [], ◌+◌, ◌<◌, ◌≤◌, ◌^◌, ℕ, Bool, List, length, IfOk, OnOk, OnErr, vec_len, vec_capacity};
+ghost use Rattle.pr_wire.specs.declared.Edge.{Edge};
+ghost use Rattle.pr_wire.specs.Levels.{start};
+ghost use Rattle.pr_wire.specs.Table.{IsAllowed};
+ghost use Rattle.pr_receiver.specs.Taken.{number_taken};
+ghost use Rattle.pr_bus.specs.EarState.{Hears, IsSameEar};
+
+use crate::ear::Ear;
+use crate::laws::timed_traces_spell;
+use crate::lines::push;
+use pr_receiver::fronts_are_allowed;
+use pr_serial::{Item, NoMemory, Present};
+use pr_wire::Edge;
+use std::alloc::Global;
+
+/// All items, the edges since the mark, and the printers' ears.
+#[derive(Drop)]
+pub struct Log {
+    pub items: Vec<Item>,
+    pub trace: Vec<Edge>,
+    pub four: Ear,
+    pub five: Ear,
+}
+
+impl Log {
+    /// Nothing was sent; all lines are released, and the printers have heard that.
+    pub fn new(alloc: Global, present: Present) -> Result<Log, NoMemory>
+        ensures items { IfOk result (λ log. log.items.items ≡ []) }
+        ensures trace { IfOk result (λ log. log.trace.items ≡ start ∷ []) }
+        ensures four { IfOk result (λ log. Hears 4 present.four [] (start ∷ []) log.four) }
+        ensures five { IfOk result (λ log. Hears 5 present.five [] (start ∷ []) log.five) }
+    {
+        timed_traces_spell();
+        fronts_are_allowed();
+        let mut trace = Vec::new(alloc);
+        push(&mut trace, 0, true, true, true)?;
+        let mut four = Ear::new(alloc, 4, present.four);
+        let mut five = Ear::new(alloc, 5, present.five);
+        four.make_room(trace.len())?;
+        five.make_room(trace.len())?;
+        four.listen(&trace);
+        five.listen(&trace);
+        Ok(Log {
+            items: Vec::new(alloc),
+            trace,
+            four,
+            five,
+        })
+    }
+
+    /// Makes room for an item and for the inputs that its edges may give, and adds its edges.
+    pub fn grow(&mut self, edges: &[Edge]) -> Result<(), NoMemory>
+        ensures items { self.new.items.items ≡ self.old.items.items }
+        ensures four { IsSameEar self.old.four self.new.four }
+        ensures five { IsSameEar self.old.five self.new.five }
+        ensures trace { OnOk result (self.new.trace.items ≡ self.old.trace.items ++ edges.now) }
+        ensures room { OnOk result (vec_len self.new.items < vec_capacity self.new.items) }
+        ensures four_room { OnOk result (vec_len self.new.four.inputs + length edges.now ≤ vec_capacity self.new.four.inputs) }
+        ensures five_room { OnOk result (vec_len self.new.five.inputs + length edges.now ≤ vec_capacity self.new.five.inputs) }
+        ensures err { OnErr result (self.new.trace.items ≡ self.old.trace.items) }
+    {
+        self.items.reserve(1)?;
+        self.four.make_room(edges.len())?;
+        self.five.make_room(edges.len())?;
+        self.trace.extend_from_slice(edges)?;
+        Ok(())
+    }
+
+    /// Adds an item, and lets the printers hear its edges. There is room for what comes of it.
+    pub fn add(&mut self, item: Item, edges: &[Edge])
+        requires room { vec_len self.old.items < vec_capacity self.old.items }
+        requires four_room { vec_len self.old.four.inputs + length edges.now ≤ vec_capacity self.old.four.inputs }
+        requires five_room { vec_len self.old.five.inputs + length edges.now ≤ vec_capacity self.old.five.inputs }
+        requires four_taken { number_taken self.old.four.receiver + length edges.now < 2 ^ 63 }
+        requires five_taken { number_taken self.old.five.receiver + length edges.now < 2 ^ 63 }
+        ensures items { self.new.items.items ≡ self.old.items.items ++ item ∷ [] }
+        ensures trace { self.new.trace.items ≡ self.old.trace.items }
+        ensures four { (there : Bool) (forgotten trace : List Edge) → IsAllowed (trace ++ edges.now) → Hears 4 there forgotten trace self.old.four → Hears 4 there forgotten (trace ++ edges.now) self.new.four }
+        ensures five { (there : Bool) (forgotten trace : List Edge) → IsAllowed (trace ++ edges.now) → Hears 5 there forgotten trace self.old.five → Hears 5 there forgotten (trace ++ edges.now) self.new.five }
+    {
+        self.items.push_reserved(item);
+        self.four.listen(edges);
+        self.five.listen(edges);
+    }
+
+    /// Forgets the edges and the inputs, and keeps the room.
+    pub fn forget(&mut self)
+        ensures items { self.new.items.items ≡ self.old.items.items }
+        ensures trace { self.new.trace.items ≡ [] }
+        ensures four { (there : Bool) (forgotten trace : List Edge) → Hears 4 there forgotten trace self.old.four → Hears 4 there trace trace self.new.four }
+        ensures five { (there : Bool) (forgotten trace : List Edge) → Hears 5 there forgotten trace self.old.five → Hears 5 there trace trace self.new.five }
+    {
+        self.trace.clear();
+        self.four.forget();
+        self.five.forget();
+    }
+}

@@ -1,0 +1,459 @@
+//! Worked traces (profile).
+
+use super::*;
+use pr_wire::example::TRACE_TEXT;
+use pr_wire::{read_trace, write_trace};
+use std::process::Abort;
+use std::test::Fail;
+
+const NONE: Present = Present {
+    four: false,
+    five: false,
+};
+
+const ONLY_FOUR: Present = Present {
+    four: true,
+    five: false,
+};
+
+const BOTH: Present = Present {
+    four: true,
+    five: true,
+};
+
+const LISTEN_FOUR: u8 = 36;
+
+const LISTEN_FIVE: u8 = 37;
+
+const UNLISTEN: u8 = 63;
+
+/// Numbers for a party.
+fn choices(alloc: Global, numbers: &[u16]) -> Result<Choices, NoMemory> {
+    let mut list = Vec::new(alloc);
+    list.extend_from_slice(numbers)?;
+    Ok(Choices::new(list))
+}
+
+/// A bus whose parties draw on these numbers.
+fn wires(
+    rt: &impl AllocGlobal,
+    present: Present,
+    computer: &[u16],
+    four: &[u16],
+    five: &[u16],
+) -> Result<Wires, NoMemory> {
+    let alloc = rt.alloc();
+    let delays = Delays {
+        computer: choices(alloc, computer)?,
+        four: choices(alloc, four)?,
+        five: choices(alloc, five)?,
+    };
+    Wires::new(alloc, present, delays)
+}
+
+/// Sends LISTEN or UNLISTEN with no second command; it is answered or not, and ends then.
+fn command(
+    rt: &impl Abort,
+    bus: &mut Wires,
+    first: u8,
+    answered: bool,
+    end: u64,
+) -> Result<(), NoMemory> {
+    assert!(rt; first >= 32 && first <= 63);
+    assert!(rt; bus.items() < 1000);
+    assert_eq!(rt; bus.attention(first, None)?, answered, "command {first}");
+    assert_eq!(rt; bus.now(), end, "command {first}");
+    Ok(())
+}
+
+/// Sends a byte; it is answered or not, and ends then.
+fn send(
+    rt: &impl Abort,
+    bus: &mut Wires,
+    byte: u8,
+    eoi: bool,
+    answered: bool,
+    end: u64,
+) -> Result<(), NoMemory> {
+    assert!(rt; bus.items() < 1000);
+    assert_eq!(rt; bus.send(byte, eoi)?, answered, "byte {byte}");
+    assert_eq!(rt; bus.now(), end, "byte {byte}");
+    Ok(())
+}
+
+/// The trace is this text.
+fn traces(rt: &(impl Abort + AllocGlobal), bus: &Wires, text: &str) -> Result<(), Fail> {
+    let written = write_trace(rt.alloc(), bus.trace())?;
+    assert_eq!(rt; written.as_slice(), text.as_bytes());
+    Ok(())
+}
+
+/// The edges of the trace from an index on begin with those of this text.
+fn traces_from(
+    rt: &(impl Abort + AllocGlobal),
+    bus: &Wires,
+    first: usize,
+    text: &str,
+) -> Result<(), Fail> {
+    let edges = read_trace(rt.alloc(), text.as_bytes())?;
+    let shown = bus.trace();
+    assert!(rt; first <= shown.len() && edges.len() <= shown.len() - first);
+    assert_eq!(rt;
+        &shown[first..first + edges.len()],
+        edges.as_slice(),
+        "edge {first}"
+    );
+    Ok(())
+}
+
+/// The device heard these inputs, and no others.
+fn hears(rt: &impl Abort, bus: &Wires, device: u8, inputs: &[Input]) {
+    assert_eq!(rt; bus.heard(device), inputs, "device {device}");
+}
+
+/// How many edges the device's receiver has taken, if it is there.
+fn taken(bus: &Wires, device: u8) -> Option<usize> {
+    let receiver = bus.receiver(device)?;
+    Some(receiver.taken())
+}
+
+#[test]
+fn nobody_on_the_wires(rt: HostRuntime) -> Result<(), Fail> {
+    let mut bus = wires(&rt, NONE, &[], &[], &[])?;
+    traces(&rt, &bus, "0 111\n")?;
+    command(&rt, &mut bus, LISTEN_FOUR, false, 1100)?;
+    send(&rt, &mut bus, 65, false, false, 1200)?;
+    traces(&rt, &bus, "0 111\n100 001\n1100 111\n")?;
+    assert_eq!(rt; taken(&bus, 4), None);
+    Ok(())
+}
+
+/// LISTEN to printer 5 with only printer 4 present, as trace text.
+const LISTEN_TO_ANOTHER: &str = "\
+    0 111\n100 001\n200 000\n1100 010\n\
+    1150 011\n1190 001\n1260 011\n1280 000\n\
+    1350 010\n1370 001\n1440 011\n1460 000\n\
+    1530 010\n1550 000\n1620 010\n1640 001\n\
+    1710 011\n1730 000\n1800 010\n1820 000\n\
+    1890 010\n1910 001\n1930 000\n2030 100\n\
+";
+
+/// The byte dropped behind it.
+const DROPPED: &str = "2050 101\n2130 111\n";
+
+/// The UNLISTEN behind two such bytes.
+const UNLISTEN_AT_REST: &str = "\
+    2330 001\n2430 000\n3330 010\n3380 011\n\
+    3420 001\n3490 011\n3510 001\n3580 011\n\
+    3600 001\n3670 011\n3690 001\n3760 011\n\
+    3780 001\n3850 011\n3870 001\n3940 011\n\
+    3960 000\n4030 010\n4050 000\n4120 010\n\
+    4140 001\n4160 000\n4260 100\n4280 101\n\
+    4360 111\n\
+";
+
+#[test]
+fn one_printer_not_addressed(rt: HostRuntime) -> Result<(), Fail> {
+    let mut bus = wires(&rt, ONLY_FOUR, &[], &[], &[])?;
+    command(&rt, &mut bus, LISTEN_FIVE, true, 2030)?;
+    send(&rt, &mut bus, 65, false, false, 2130)?;
+    send(&rt, &mut bus, 13, true, false, 2230)?;
+    command(&rt, &mut bus, UNLISTEN, true, 4360)?;
+    assert_eq!(rt; bus.trace().len(), 51);
+    traces_from(&rt, &bus, 0, LISTEN_TO_ANOTHER)?;
+    traces_from(&rt, &bus, 24, DROPPED)?;
+    traces_from(&rt, &bus, 26, UNLISTEN_AT_REST)?;
+    hears(&rt, &bus, 4, &[]);
+    hears(&rt, &bus, 5, &[]);
+    Ok(())
+}
+
+#[test]
+fn edges_of_each_step(rt: HostRuntime) -> Result<(), Fail> {
+    let mut bus = wires(&rt, ONLY_FOUR, &[], &[], &[])?;
+    assert_eq!(rt; bus.mark(), None);
+    bus.forget();
+    assert_eq!(rt; bus.mark(), Some(0));
+    traces(&rt, &bus, "")?;
+    command(&rt, &mut bus, LISTEN_FIVE, true, 2030)?;
+    assert_eq!(rt; bus.trace().len(), 23);
+    bus.forget();
+    send(&rt, &mut bus, 65, false, false, 2130)?;
+    traces(&rt, &bus, DROPPED)?;
+    bus.forget();
+    send(&rt, &mut bus, 13, true, false, 2230)?;
+    traces(&rt, &bus, "")?;
+    bus.forget();
+    command(&rt, &mut bus, UNLISTEN, true, 4360)?;
+    traces(&rt, &bus, UNLISTEN_AT_REST)?;
+    assert_eq!(rt; taken(&bus, 4), Some(51));
+    assert_eq!(rt; bus.mark(), Some(3));
+    Ok(())
+}
+
+/// The items of the example: LISTEN to printer 4, two letters, a return, UNLISTEN.
+fn two_letters(rt: &impl Abort, bus: &mut Wires) -> Result<(), NoMemory> {
+    command(rt, bus, LISTEN_FOUR, true, 2030)?;
+    send(rt, bus, 72, false, true, 2960)?;
+    send(rt, bus, 73, false, true, 3890)?;
+    send(rt, bus, 13, true, true, 5140)?;
+    command(rt, bus, UNLISTEN, true, 7270)
+}
+
+#[test]
+fn one_printer_addressed(rt: HostRuntime) -> Result<(), Fail> {
+    let mut bus = wires(&rt, ONLY_FOUR, &[], &[], &[])?;
+    two_letters(&rt, &mut bus)?;
+    traces(&rt, &bus, TRACE_TEXT)?;
+    let inputs = [
+        Input::Select(false),
+        Input::Byte(72),
+        Input::Byte(73),
+        Input::Byte(13),
+    ];
+    hears(&rt, &bus, 4, &inputs);
+    hears(&rt, &bus, 5, &[]);
+    assert_eq!(rt; taken(&bus, 4), Some(110));
+    assert_eq!(rt; taken(&bus, 5), None);
+    Ok(())
+}
+
+#[test]
+fn trace_of_two_letters(rt: HostRuntime) -> Result<(), Fail> {
+    let mut bus = wires(&rt, BOTH, &[], &[], &[])?;
+    two_letters(&rt, &mut bus)?;
+    traces(&rt, &bus, TRACE_TEXT)?;
+    hears(&rt, &bus, 5, &[]);
+    assert_eq!(rt; taken(&bus, 5), Some(110));
+    Ok(())
+}
+
+/// The longest time of a byte and of an attention.
+const SHARES_OF_TIME: [u64; 2] = [14_790, 32_158];
+
+/// The most edges of a byte and of an attention.
+const SHARES_OF_EDGES: [usize; 2] = [22, 44];
+
+#[test]
+fn bounds_of_two_letters(rt: HostRuntime) -> Result<(), Fail> {
+    let mut bus = wires(&rt, BOTH, &[], &[], &[])?;
+    two_letters(&rt, &mut bus)?;
+    assert_eq!(rt; 3 * SHARES_OF_TIME[0] + 2 * SHARES_OF_TIME[1], 108_686);
+    assert_eq!(rt; 1 + 3 * SHARES_OF_EDGES[0] + 2 * SHARES_OF_EDGES[1], 155);
+    assert_eq!(rt; bus.now(), 7270);
+    assert_eq!(rt; bus.trace().len(), 110);
+    Ok(())
+}
+
+#[test]
+fn one_attention_with_chosen_delays(rt: HostRuntime) -> Result<(), Fail> {
+    let mut bus = wires(&rt, ONLY_FOUR, &[900, 999], &[9], &[])?;
+    command(&rt, &mut bus, LISTEN_FOUR, true, 3929)?;
+    traces(
+        &rt,
+        &bus,
+        "0 111\n1000 001\n1010 000\n2999 010\n\
+        3049 011\n3089 000\n3159 010\n3179 000\n\
+        3249 010\n3269 001\n3339 011\n3359 000\n\
+        3429 010\n3449 000\n3519 010\n3539 001\n\
+        3609 011\n3629 000\n3699 010\n3719 000\n\
+        3789 010\n3809 001\n3829 000\n3929 100\n",
+    )?;
+    Ok(())
+}
+
+#[test]
+fn answer_in_the_microsecond_of_the_look(rt: HostRuntime) -> Result<(), Fail> {
+    let mut bus = wires(&rt, ONLY_FOUR, &[], &[999], &[])?;
+    command(&rt, &mut bus, LISTEN_FOUR, true, 2030)?;
+    traces(
+        &rt,
+        &bus,
+        "0 111\n100 001\n1100 010\n\
+        1150 011\n1190 000\n1260 010\n1280 000\n\
+        1350 010\n1370 001\n1440 011\n1460 000\n\
+        1530 010\n1550 000\n1620 010\n1640 001\n\
+        1710 011\n1730 000\n1800 010\n1820 000\n\
+        1890 010\n1910 001\n1930 000\n2030 100\n",
+    )?;
+    Ok(())
+}
+
+/// LISTEN to printer 4, a return with end-or-identify and UNLISTEN, with only printer 4 present.
+#[test]
+fn all_least_delays(rt: HostRuntime) -> Result<(), Fail> {
+    let mut bus = wires(&rt, ONLY_FOUR, &[0; 100], &[0; 100], &[0; 100])?;
+    command(&rt, &mut bus, LISTEN_FOUR, true, 1523)?;
+    send(&rt, &mut bus, 13, true, true, 2226)?;
+    command(&rt, &mut bus, UNLISTEN, true, 3849)?;
+    assert_eq!(rt; bus.trace().len(), 70);
+    traces_from(&rt, &bus, 23, "1523 100\n")?;
+    traces_from(&rt, &bus, 26, "1824 110\n1904 111\n")?;
+    traces_from(&rt, &bus, 45, "2226 100\n")?;
+    traces_from(&rt, &bus, 67, "3749 100\n3750 101\n3849 111\n")?;
+    Ok(())
+}
+
+/// The same with the greatest delays. The computer's numbers are for LISTEN, the byte and UNLISTEN.
+#[test]
+fn all_greatest_delays(rt: HostRuntime) -> Result<(), Fail> {
+    let computer = [
+        900, 1000, 198, 180, 180, 180, 180, 180, 180, 180, 180, 180, 180, 180, 180, 180, 180, 180,
+        180, 100, 900, 59, 180, 180, 180, 180, 180, 180, 180, 180, 180, 180, 180, 180, 180, 180,
+        180, 180, 900, 1000, 198, 180, 180, 180, 180, 180, 180, 180, 180, 180, 180, 180, 180, 180,
+        180, 180, 180, 100, 100,
+    ];
+    let four = [999, 9999, 79, 9999, 50, 120, 79, 999, 9999, 79, 59];
+    let mut bus = wires(&rt, ONLY_FOUR, &computer, &four, &[])?;
+    command(&rt, &mut bus, LISTEN_FOUR, true, 16679)?;
+    send(&rt, &mut bus, 13, true, true, 31469)?;
+    command(&rt, &mut bus, UNLISTEN, true, 48348)?;
+    assert_eq!(rt; bus.trace().len(), 70);
+    traces_from(&rt, &bus, 23, "16679 100\n")?;
+    traces_from(&rt, &bus, 26, "27929 110\n28129 111\n")?;
+    traces_from(&rt, &bus, 45, "31469 100\n")?;
+    traces_from(&rt, &bus, 67, "48148 100\n48208 101\n48348 111\n")?;
+    Ok(())
+}
+
+/// LISTEN to printer 4 with secondary address 7, all delays the greatest.
+#[test]
+fn time_bound_is_met(rt: HostRuntime) -> Result<(), Fail> {
+    let computer = [
+        900, 1000, 198, 180, 180, 180, 180, 180, 180, 180, 180, 180, 180, 180, 180, 180, 180, 180,
+        180, 1000, 198, 180, 180, 180, 180, 180, 180, 180, 180, 180, 180, 180, 180, 180, 180, 180,
+        180, 100,
+    ];
+    let four = [999, 9999, 79, 9999, 79];
+    let mut bus = wires(&rt, ONLY_FOUR, &computer, &four, &[])?;
+    assert!(rt; bus.attention(LISTEN_FOUR, Some(103))?);
+    assert_eq!(rt; bus.now(), SHARES_OF_TIME[1]);
+    assert_eq!(rt; bus.trace().len(), SHARES_OF_EDGES[1]);
+    traces_from(&rt, &bus, 43, "32158 100\n")?;
+    hears(&rt, &bus, 4, &[Input::Select(false), Input::Select(true)]);
+    Ok(())
+}
+
+/// Both printers listen; printer 4 is as fast and printer 5 as slow as may be.
+#[test]
+fn two_printers_with_extreme_delays(rt: HostRuntime) -> Result<(), Fail> {
+    let mut bus = wires(&rt, BOTH, &[198; 200], &[0; 200], &[968; 200])?;
+    assert!(rt; bus.attention(LISTEN_FOUR, None)?);
+    assert!(rt; bus.attention(LISTEN_FIVE, None)?);
+    assert!(rt; bus.send(88, false)?);
+    assert!(rt; bus.send(13, true)?);
+    command(&rt, &mut bus, UNLISTEN, true, 14827)?;
+    assert_eq!(rt; bus.trace().len(), 112);
+    traces_from(&rt, &bus, 68, "10434 110\n10564 111\n")?;
+    traces_from(&rt, &bus, 109, "14630 100\n14639 101\n14827 111\n")?;
+    let inputs = [Input::Select(false), Input::Byte(88), Input::Byte(13)];
+    hears(&rt, &bus, 4, &inputs);
+    hears(&rt, &bus, 5, &inputs);
+    Ok(())
+}
+
+/// Two printers with lists of their own, of which only printer 4 listens: who takes which number.
+///
+/// Printer 4 takes, in order: at LISTEN AT 1+4 = 5, H 1+9 = 10, F 1+0 = 1; at the byte H 1+99 =
+/// 100, YE 200+7 = 207, EI 80+5 = 85, F 1+1 = 2; at UNLISTEN AT 1+29 = 30, H 1+3 = 4, F 1+11 = 12,
+/// DR 1+21 = 22. Printer 5 takes at LISTEN AT 1+2 = 3, H 1+19 = 20, F 1+7 = 8 and, since it does
+/// not listen, DR 1+40 = 41; at the byte nothing; at UNLISTEN AT 1+8 = 9, H 1+59 = 60, F 1+1 = 2,
+/// DR 1+6 = 7. The computer is typical.
+///
+/// LISTEN: ATN at 100, DATA at 100+3, the look at 1100, DATA released at 1100+20, CLOCK at 1120+40,
+/// the last pull at 1160+8*90 = 1880, DATA at 1880+1, ATN released at 1981. The byte: the look at
+/// 2081, DATA released at 2081+100, the answer from 2181+207 to 2388+85, CLOCK at 2473+30, the last
+/// pull at 2503+720 = 3223, DATA at 3223+2. UNLISTEN: ATN at 3325, the look at 4325, DATA released
+/// at 4325+60, CLOCK at 4425, the last pull at 5145, DATA at 5145+2, ATN released at 5247, DATA
+/// at 5247+22, CLOCK at 5347.
+#[test]
+fn numbers_of_one_listener(rt: HostRuntime) -> Result<(), Fail> {
+    let four = [4, 9, 0, 99, 7, 5, 1, 29, 3, 11, 21];
+    let five = [2, 19, 7, 40, 8, 59, 1, 6];
+    let mut bus = wires(&rt, BOTH, &[], &four, &five)?;
+    command(&rt, &mut bus, LISTEN_FOUR, true, 1981)?;
+    send(&rt, &mut bus, 65, true, true, 3225)?;
+    command(&rt, &mut bus, UNLISTEN, true, 5347)?;
+    traces(
+        &rt,
+        &bus,
+        "0 111\n100 001\n103 000\n1100 010\n\
+        1120 011\n1160 000\n1230 010\n1250 000\n\
+        1320 010\n1340 001\n1410 011\n1430 000\n\
+        1500 010\n1520 000\n1590 010\n1610 001\n\
+        1680 011\n1700 000\n1770 010\n1790 000\n\
+        1860 010\n1880 001\n1881 000\n1981 100\n\
+        2081 110\n2181 111\n2388 110\n2473 111\n\
+        2503 101\n2573 111\n2593 100\n2663 110\n\
+        2683 100\n2753 110\n2773 100\n2843 110\n\
+        2863 100\n2933 110\n2953 100\n3023 110\n\
+        3043 101\n3113 111\n3133 100\n3203 110\n\
+        3223 101\n3225 100\n\
+        3325 000\n4325 010\n4385 011\n4425 001\n\
+        4495 011\n4515 001\n4585 011\n4605 001\n\
+        4675 011\n4695 001\n4765 011\n4785 001\n\
+        4855 011\n4875 001\n4945 011\n4965 000\n\
+        5035 010\n5055 000\n5125 010\n5145 001\n\
+        5147 000\n5247 100\n5269 101\n5347 111\n",
+    )?;
+    hears(&rt, &bus, 4, &[Input::Select(false), Input::Byte(65)]);
+    hears(&rt, &bus, 5, &[]);
+    Ok(())
+}
+
+/// The number of calls of the script with refused growths.
+const CALLS: usize = 6;
+
+/// The script's call number `call`: LISTEN to printer 4 with secondary address 7, LISTEN to printer
+/// 5, and then bytes.
+fn scripted(rt: &impl Abort, bus: &mut Wires, call: usize) -> Result<bool, NoMemory> {
+    assert!(rt; call < CALLS);
+    assert!(rt; bus.items() < 1000);
+    match call {
+        0 => bus.attention(LISTEN_FOUR, Some(103)),
+        1 => bus.attention(LISTEN_FIVE, None),
+        _ => bus.send(call as u8, false),
+    }
+}
+
+/// The ends of the script's calls: 1100 for the look and 830 for each frame of an attention, 1000
+/// more for a second look, 100 for ATN's release; 930 for a byte.
+const ENDS: [u64; CALLS + 1] = [0, 3860, 5890, 6820, 7750, 8680, 9610];
+
+/// The edges so far: the start, 43 of the first attention, 22 of the second, 20 of each byte.
+const EDGES: [usize; CALLS + 1] = [1, 44, 66, 86, 106, 126, 146];
+
+/// With no growth refused each call is answered. With one refused, as by `rt try --test
+/// --fail-alloc N`, each later call is refused too, and what the bus shows stays that of the calls
+/// before it. It prints how many calls were refused, so that a loop over N knows where to end.
+#[test]
+fn each_growth_refused(rt: HostRuntime) -> Result<(), Fail> {
+    let mut inputs = [Input::Select(false); CALLS];
+    inputs[1] = Input::Select(true);
+    for call in 2..CALLS {
+        inputs[call] = Input::Byte(call as u8);
+    }
+    let mut answered = 0;
+    if let Ok(mut bus) = wires(&rt, BOTH, &[], &[], &[]) {
+        for call in 0..CALLS {
+            let answer = scripted(&rt, &mut bus, call);
+            if answered == call && answer.is_ok() {
+                assert_eq!(rt; answer, Ok(true), "call {call}");
+                answered = call + 1;
+            } else {
+                assert!(rt; answer.is_err(), "call {call} after a refusal");
+            }
+            assert_eq!(rt; bus.failed(), answered <= call, "call {call}");
+            assert_eq!(rt; bus.items(), answered as u64, "call {call}");
+            assert!(rt; answered <= CALLS);
+            assert_eq!(rt; bus.now(), ENDS[answered], "call {call}");
+            assert_eq!(rt; bus.trace().len(), EDGES[answered], "call {call}");
+            assert_eq!(rt; taken(&bus, 4), Some(EDGES[answered]), "call {call}");
+            let heard = if answered == 1 { 2 } else { answered };
+            assert_eq!(rt; bus.heard(4), &inputs[..heard], "call {call}");
+        }
+    }
+    let refused = CALLS.saturating_sub(answered);
+    println!(rt; "{refused} calls refused")?;
+    Ok(())
+}
