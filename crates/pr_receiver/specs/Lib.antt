@@ -1,0 +1,5 @@
+pub mod Heard
+pub mod Given
+pub mod Steps
+pub mod Taken
+pub mod Laws

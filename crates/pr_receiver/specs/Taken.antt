@@ -1,0 +1,35 @@
+-- Linking words, for callers: what ties a receiver to the edges that it has taken. The clauses of `Receiver` say all that a caller needs of them.
+use Rattle.std.specs.Prelude.{◌≡◌, ℕ, List, Option, Ok}
+use Rattle.pr_wire.specs.declared.Edge.{Edge}
+use Rattle.pr_wire.specs.declared.Frame.{Frame}
+use Rattle.pr_wire.specs.declared.WaveFault.{WaveFault}
+use Rattle.pr_wire.specs.Reached.{Reached, begin, reached}
+use Rattle.pr_receiver.specs.Heard.{is_listening, is_called}
+use Rattle.pr_receiver.specs.Given.{frames_ended}
+use Rattle.pr_receiver.specs.declared.listener.Listener.{Listener}
+use Rattle.pr_receiver.specs.declared.state.State.{State}
+
+-- what a device keeps of frames
+abbrev pub kept_of : ℕ → List Frame → Listener
+kept_of device frames = record { device = device; listens = is_listening device frames; called = is_called device frames }
+
+-- the receiver has taken these edges, in this order, and no others; an edge that it refused is none of them
+pub record HasTaken (edges : List Edge) (receiver : State) : Type 0 where
+  pub come : Reached
+  pub leads : reached begin edges ≡ Ok come
+  pub last : receiver.last ≡ come.last
+  pub place : receiver.place ≡ come.place
+  pub count : receiver.taken ≡ come.count
+  pub listener : receiver.listener ≡ kept_of receiver.listener.device (frames_ended edges)
+
+-- the number of the device whose receiver it is
+abbrev pub device_of : State → ℕ
+device_of receiver = receiver.listener.device
+
+-- how many edges the receiver has taken
+abbrev pub number_taken : State → ℕ
+number_taken receiver = receiver.taken
+
+-- the fault with which it refuses, if it has refused an edge
+abbrev pub refusal_of : State → Option WaveFault
+refusal_of receiver = receiver.refused

@@ -1,0 +1,36 @@
+//! Laws of the definitions, with nothing to run. A caller whose proof needs one calls the function.
+
+ghost use Rattle.pr_receiver.specs.Laws.{TracesGiveWhatIsHeard, TracesEndWhatTheySpell, EdgesGiveWhatIsHeard, InputsOfTwoParts, InputsOfOneMore, LawfulIsAllowed, FrontsAreAllowed, HeardOfOneMore, ListeningAfterOneMore, CalledAfterOneMore};
+
+use pr_wire::allowed_traces;
+
+/// A law: a trace gives a device, edge by edge, exactly what it hears of the frames that the trace
+/// spells; the edges end just these frames, and any edges give what is heard of those they end.
+pub fn traces_give_what_is_heard()
+    ensures heard { TracesGiveWhatIsHeard }
+    ensures frames { TracesEndWhatTheySpell }
+    ensures edges { EdgesGiveWhatIsHeard }
+{
+    allowed_traces();
+}
+
+/// A law: the inputs of edges and more edges, and of one edge more.
+pub fn inputs_add_up()
+    ensures two_parts { InputsOfTwoParts }
+    ensures one_more { InputsOfOneMore }
+{}
+
+/// A law: a lawful trace is allowed, and so is each front of allowed edges.
+pub fn fronts_are_allowed()
+    ensures lawful { LawfulIsAllowed }
+    ensures fronts { FrontsAreAllowed }
+{
+    allowed_traces();
+}
+
+/// A law: what a device hears of one frame more, and whether it then listens and is called.
+pub fn frames_are_heard_in_turn()
+    ensures heard { HeardOfOneMore }
+    ensures listening { ListeningAfterOneMore }
+    ensures called { CalledAfterOneMore }
+{}
