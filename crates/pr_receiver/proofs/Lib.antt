@@ -1,0 +1,4 @@
+pub mod Hearing
+pub mod Ended
+pub mod Taken
+pub mod WholeTrace

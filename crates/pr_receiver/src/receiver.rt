@@ -1,6 +1,7 @@
 //! The receiving part, and a whole trace through it.
 
 ghost use Rattle.std.specs.Prelude.{◌≡◌, ◌≢◌, ◌↔◌, ◌^◌, ◌+◌, ◌<◌, ◌≤◌, List, [], ◌∷◌, ◌++◌, length, Ok, Err, IsOk, OnOk, OnErr, IfOk, IfErr, IfSome};
+ghost use Rattle.std.specs.Option.{option_to_list};
 ghost use Rattle.std.specs.Result.{result_err};
 ghost use Rattle.pr_wire.specs.declared.Edge.{Edge};
 ghost use Rattle.pr_wire.specs.declared.Frame.{Frame};
@@ -13,7 +14,7 @@ ghost use Rattle.pr_receiver.specs.Taken.{HasTaken, device_of, number_taken, ref
 
 use crate::state::State;
 use pr_page::Input;
-use pr_wire::{Edge, WaveFault, allowed_traces};
+use pr_wire::{Edge, WaveFault, allowed_traces, lawful_traces};
 use std::alloc::Global;
 use std::marker::Model;
 
@@ -97,6 +98,7 @@ impl Receiver {
         ensures memory { IfErr result (λ fault. fault ≢ NoMemory) }
     {
         allowed_traces();
+        lawful_traces();
         self.state.finish()
     }
 
@@ -126,13 +128,24 @@ pub fn replay(alloc: Global, device: u8, edges: &[Edge]) -> Result<Vec<Input>, W
     ensures not_lawful { IfErr result (λ fault. fault ≢ NoMemory → IsLawful edges.now → ⊥) }
 {
     allowed_traces();
+    lawful_traces();
     let mut receiver = Receiver::new(device);
     let mut inputs = Vec::new(alloc);
     for edge in edges {
-        if let Some(input) = receiver.edge(*edge)? {
-            inputs.push(input)?;
-        }
+        let input = receiver.edge(*edge)?;
+        keep(&mut inputs, input)?;
     }
     receiver.finish()?;
     Ok(inputs)
+}
+
+/// Adds the input that comes with an edge, if one does.
+fn keep(inputs: &mut Vec<Input>, input: Option<Input>) -> Result<(), WaveFault>
+    ensures kept { OnOk result (inputs.new.items ≡ inputs.old.items ++ option_to_list input) }
+    ensures refused { IfErr result (λ fault. fault ≡ NoMemory) }
+{
+    if let Some(input) = input {
+        inputs.push(input)?;
+    }
+    Ok(())
 }
