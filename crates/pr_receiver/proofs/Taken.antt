@@ -62,10 +62,10 @@ takes-edge es r s e h k =
       place = refl;
       count = ap (λ n. n + 1) h.count;
       listener =
-        ap (λ l. kept_by_any l s.frame) h.listener
-        ∙ (kept-push d (frames_ended es) s.frame
-        ∙ (ap (kept_of d) (sym f)
-        ∙ ap (λ n. kept_of n (frames_ended (es ++ e ∷ []))) (sym (kept-device r.listener s.frame))));
+          ap (λ l. kept_by_any l s.frame) h.listener
+          ∙ (kept-push d (frames_ended es) s.frame
+          ∙ (ap (kept_of d) (sym f)
+          ∙ ap (λ n. kept_of n (frames_ended (es ++ e ∷ []))) (sym (kept-device r.listener s.frame))));
     }
 
 -- what one call changes: the step's clause, where nothing was refused, and the other clause

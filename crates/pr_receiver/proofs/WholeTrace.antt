@@ -52,10 +52,10 @@ gives-next allowed device edges n r new inputs kept d input g h a t f v c k =
       device_is = v ∙ g.device_is;
       count = c ∙ ap (λ l. l + 1) g.count;
       given =
-        k ∙ (ap (λ l. l ++ option_to_list input) g.given
-        ∙ (ap (λ o. inputs_with device (take n edges) ++ option_to_list o) (i ∙ ap (λ e. input_at e (take n edges) (get_or edges n d)) g.device_is)
-        ∙ (sym (each-push (λ p. option_to_list (input_at device p.0 p.1)) (take n edges) (get_or edges n d))
-        ∙ ap (inputs_with device) (sym m))));
+          k ∙ (ap (λ l. l ++ option_to_list input) g.given
+          ∙ (ap (λ o. inputs_with device (take n edges) ++ option_to_list o) (i ∙ ap (λ e. input_at e (take n edges) (get_or edges n d)) g.device_is)
+          ∙ (sym (each-push (λ p. option_to_list (input_at device p.0 p.1)) (take n edges) (get_or edges n d))
+          ∙ ap (inputs_with device) (sym m))));
     }
 
 -- the fault of the edge that was refused is that of the whole list
@@ -67,9 +67,9 @@ pub refused-whole : AllowedIsReached → FaultIsReached → (device : ℕ) (edge
 refused-whole allowed fault device edges n r inputs d w g h a f =
     let m : take (n + 1) edges ≡ take n edges ++ get_or edges n d ∷ [] = take-next edges n d h in
     let s : fault_of ((take n edges ++ get_or edges n d ∷ []) ++ drop (n + 1) edges) ≡ Some w =
-      fault-stays allowed fault (take n edges ++ get_or edges n d ∷ []) (drop (n + 1) edges) w
-      (λ i. let x : IsAnswer (Err w) (Ok (input_at (device_of r) (take n edges) (get_or edges n d))) = a (take n edges) g.taken g.refusal i in cc)
-      (f (take n edges) g.taken g.refusal) in
+    fault-stays allowed fault (take n edges ++ get_or edges n d ∷ []) (drop (n + 1) edges) w
+    (λ i. let x : IsAnswer (Err w) (Ok (input_at (device_of r) (take n edges) (get_or edges n d))) = a (take n edges) g.taken g.refusal i in cc)
+    (f (take n edges) g.taken g.refusal) in
     ap fault_of (sym (ap (λ l. l ++ drop (n + 1) edges) (sym m) ∙ take-append-drop (n + 1) edges)) ∙ s
 
 -- what holds of the fault that is handed on holds of the answer

@@ -149,3 +149,6 @@ fn keep(inputs: &mut Vec<Input>, input: Option<Input>) -> Result<(), WaveFault>
     }
     Ok(())
 }
+
+#[cfg(test)]
+mod tests;
