@@ -7,7 +7,7 @@ PREFIX ?= /usr/local
 PROGRAM := crates/print1525/out/print1525
 
 # The crates whose tests go on after a refused allocation (tests/growths).
-GROWTHS := pr_page pr_serial pr_channels pr_wire pr_basic
+GROWTHS := pr_page pr_serial pr_channels pr_wire pr_receiver pr_basic
 
 .PHONY: run build test outside bench install
 

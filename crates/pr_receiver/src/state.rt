@@ -96,8 +96,8 @@ impl State {
         ensures refused { IfSome self.now.refused (λ w. result ≡ Err w) }
         ensures memory { IfErr result (λ fault. fault ≢ NoMemory) }
     {
-        if let Some(fault) = self.refused {
-            return Err(fault);
+        if let Some(fault) = &self.refused {
+            return Err(*fault);
         }
         if self.last.is_none() {
             Err(WaveFault::Start(0))

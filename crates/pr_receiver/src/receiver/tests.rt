@@ -141,7 +141,7 @@ fn joint_pulse_of_two_listeners(rt: HostRuntime) -> Result<(), Fail> {
     let mut longest = example(&rt)?;
     longest[66].time = 4240;
     for i in 67..EDGES {
-        longest[i].time += 120;
+        longest[i].time = longest[i].time.saturating_add(120);
     }
     gives(&rt, longest.as_slice(), 4, example_inputs().as_slice())?;
     let before = analyse(rt.alloc(), example(&rt)?.as_slice())?;
@@ -150,7 +150,7 @@ fn joint_pulse_of_two_listeners(rt: HostRuntime) -> Result<(), Fail> {
 
     let mut longer = example(&rt)?;
     for i in 67..EDGES {
-        longer[i].time += 121;
+        longer[i].time = longer[i].time.saturating_add(121);
     }
     refused(&rt, longer.as_slice(), WaveFault::TooLate(67));
     Ok(())
