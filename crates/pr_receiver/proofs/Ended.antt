@@ -9,13 +9,13 @@ use Rattle.pr_wire.specs.declared.Edge.{Edge}
 use Rattle.pr_wire.specs.declared.Frame.{Frame}
 use Rattle.pr_wire.specs.declared.WaveFault.{WaveFault}
 use Rattle.pr_wire.specs.declared.place.Step.{Step}
-use Rattle.pr_wire.specs.Pieces.{IsLawful, Spells}
+use Rattle.pr_wire.specs.Pieces.{IsLawful}
 use Rattle.pr_wire.specs.Table.{fault_of, IsAllowed}
 use Rattle.pr_wire.specs.Reached.{Reached, begin, reached, step_of, onto, add, led, fault_by}
 use Rattle.pr_wire.specs.Laws.{AllowedIsReached, LawfulIsAllowedToEnd, LawfulIsFaultless, SpellsTheFramesReached, FaultIsReached}
 use Rattle.pr_page.specs.declared.input.Input.{Input}
 use Rattle.pr_receiver.specs.Heard.{with_before, input_of, heard_of}
-use Rattle.pr_receiver.specs.Given.{frame_of_step, frame_from, frame_at, frames_ended, input_at, input_of_any, inputs_behind, inputs_with}
+use Rattle.pr_receiver.specs.Given.{frame_of_step, frame_from, frame_at, frames_ended, input_of_any, inputs_behind, inputs_with}
 use Rattle.pr_receiver.specs.Laws.{TracesGiveWhatIsHeard, TracesEndWhatTheySpell, LawfulIsAllowed, FrontsAreAllowed}
 use Rattle.pr_receiver.proofs.Hearing.{each-push}
 

@@ -11,9 +11,8 @@ use Rattle.pr_wire.specs.declared.WaveFault.{WaveFault}
 use Rattle.pr_wire.specs.declared.place.Step.{Step}
 use Rattle.pr_wire.specs.Reached.{Reached, begin, reached, step_of, onto, led, fault_at_stop, fault_by}
 use Rattle.pr_page.specs.declared.input.Input.{Input}
-use Rattle.pr_receiver.specs.Heard.{is_listening, is_called}
 use Rattle.pr_receiver.specs.Given.{frame_of_step, frame_from, frame_at, frames_ended, input_at, input_of_any}
-use Rattle.pr_receiver.specs.Steps.{input_by_any, kept_by, kept_by_any, onward, silent}
+use Rattle.pr_receiver.specs.Steps.{input_by_any, kept_by_any, onward}
 use Rattle.pr_receiver.specs.Taken.{HasTaken, kept_of}
 use Rattle.pr_receiver.specs.declared.listener.Listener.{Listener}
 use Rattle.pr_receiver.specs.declared.state.State.{State}
@@ -112,3 +111,9 @@ accepted-taken r new e (Ok i) m n = λ es h. by r.refused refl n (step_of r.last
 -- the fault of edges that a receiver has taken is that of their end
 pub taken-fault : FaultIsReached → (es : List Edge) (r : State) → HasTaken es r → fault_at_stop r.last r.place r.taken ≡ fault_of es
 taken-fault fault es r h = rw (h.last, h.place, h.count) (sym (fault es ∙ ap fault_by h.leads))
+
+-- and all are then allowed
+pub accepted-allowed : AllowedIsReached → (r new : State) (e : Edge) (result : Result (Option Input) WaveFault)
+    → OnOk result ((es : List Edge) → HasTaken es r → HasTaken (es ++ e ∷ []) new) → OnOk result ((es : List Edge) → HasTaken es r → IsAllowed (es ++ e ∷ []))
+accepted-allowed allowed r new e (Ok i) t = λ es h. let x = t es h in (allowed (es ++ e ∷ [])).1 (x.come, x.leads)
+accepted-allowed allowed r new e (Err w) t = tt

@@ -6,7 +6,7 @@ use Rattle.pr_wire.specs.declared.Frame.{Frame}
 use Rattle.pr_wire.specs.Pieces.{IsLawful, Spells}
 use Rattle.pr_wire.specs.Table.{IsAllowed}
 use Rattle.pr_receiver.specs.Heard.{is_listen, is_unlisten, is_listening, is_called, input_of, heard_of}
-use Rattle.pr_receiver.specs.Given.{frame_at, frames_ended, input_at, inputs_behind, inputs_with}
+use Rattle.pr_receiver.specs.Given.{frames_ended, input_at, inputs_behind, inputs_with}
 
 -- a trace gives a device, edge by edge, exactly what it hears of the frames that the trace spells
 abbrev pub TracesGiveWhatIsHeard : Type 0

@@ -1,8 +1,7 @@
 -- Machine: what one frame and one edge change in a receiver. No reader needs to believe it.
-use Rattle.std.specs.Prelude.{◌≡◌, ◌≢◌, ℕ, ◌+◌, ◌≤◌, Bool, true, false, not, ◌&&◌, ◌||◌, ◌==◌, if◌then◌else◌, Option, Some, None, Result, Ok, Err, IfSome}
+use Rattle.std.specs.Prelude.{◌≢◌, ℕ, ◌+◌, ◌≤◌, true, false, not, ◌&&◌, ◌||◌, if◌then◌else◌, Option, Some, None, IfSome}
 use Rattle.pr_wire.specs.declared.Edge.{Edge}
 use Rattle.pr_wire.specs.declared.Frame.{Frame}
-use Rattle.pr_wire.specs.declared.WaveFault.{WaveFault}
 use Rattle.pr_wire.specs.declared.WaveFault.TheVariants.{NoMemory}
 use Rattle.pr_wire.specs.declared.place.Step.{Step}
 use Rattle.pr_wire.specs.declared.place.Place.TheVariants.{Idle}

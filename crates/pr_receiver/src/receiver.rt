@@ -69,6 +69,7 @@ impl Receiver {
     pub fn edge(&mut self, edge: Edge) -> Result<Option<Input>, WaveFault>
         requires room { number_taken self.old + 1 < 2 ^ 64 }
         ensures allowed { (edges : List Edge) → HasTaken edges self.old → refusal_of self.old ≡ None → IsAllowed (edges ++ edge ∷ []) → result ≡ Ok (input_at (device_of self.old) edges edge) }
+        ensures accepts { OnOk result ((edges : List Edge) → HasTaken edges self.old → IsAllowed (edges ++ edge ∷ [])) }
         ensures fault { IfErr result (λ fault. (edges : List Edge) → HasTaken edges self.old → refusal_of self.old ≡ None → fault_of (edges ++ edge ∷ []) ≡ Some fault) }
         ensures taken { OnOk result ((edges : List Edge) → HasTaken edges self.old → HasTaken (edges ++ edge ∷ []) self.new) }
         ensures not_taken { OnErr result ((edges : List Edge) → HasTaken edges self.old → HasTaken edges self.new) }
