@@ -2,13 +2,13 @@
 
 ghost use Rattle.std.specs.Prelude.{◌≡◌, ◌≢◌, ◌^◌, ◌+◌, ◌<◌, ◌≤◌, Some, Ok, Err, IfErr, IfSome, MatchResult};
 ghost use Rattle.pr_wire.specs.declared.WaveFault.TheVariants.{NoMemory};
-ghost use Rattle.pr_wire.specs.Reached.{first_step, step_of, fault_at_stop};
+ghost use Rattle.pr_wire.specs.Reached.{step_of, fault_at_stop};
 ghost use Rattle.pr_receiver.specs.Steps.{input_by_any, kept_by_any, onward, silent, IsSound};
 ghost use Rattle.std.specs.Result.{result_err};
 
 use crate::listener::Listener;
 use pr_page::Input;
-use pr_wire::{Edge, Frame, Place, Step, WaveFault};
+use pr_wire::{Edge, Frame, Place, WaveFault};
 
 /// How far a receiver has come.
 #[derive(Drop)]
@@ -39,16 +39,21 @@ impl State {
         }
     }
 
-    /// What an edge comes to behind those taken.
-    fn step(&self, edge: Edge) -> Result<Step, WaveFault>
-        ensures step { result ≡ step_of self.now.last self.now.place self.now.taken edge }
+    /// Goes on to the place that an edge reaches behind those taken, and gives the frame that it
+    /// ends.
+    fn go_on(&mut self, edge: Edge) -> Result<Option<Frame>, WaveFault>
+        ensures moved { MatchResult (step_of self.old.last self.old.place self.old.taken edge) (λ s. (result ≡ Ok s.frame) × (self.new ≡ record self.old { place = s.place })) (λ w. (result ≡ Err w) × (self.new ≡ self.old)) }
         ensures memory { IfErr result (λ fault. fault ≢ NoMemory) }
     {
         let Some(last) = self.last else {
-            return first_step(edge);
+            if !edge.is_start() {
+                return Err(WaveFault::Start(0));
+            }
+            self.place = Place::Idle(0);
+            return Ok(None);
         };
-        match self.place.after(last, edge) {
-            Ok(step) => Ok(step),
+        match self.place.advance(last, edge) {
+            Ok(frame) => Ok(frame),
             Err(flaw) => Err(flaw.at(self.taken)),
         }
     }
@@ -74,13 +79,11 @@ impl State {
         if let Some(fault) = self.refused {
             return Err(fault);
         }
-        match self.step(edge) {
-            Ok(step) => {
-                let input = self.hear(step.frame);
+        match self.go_on(edge) {
+            Ok(frame) => {
                 self.last = Some(edge);
-                self.place = step.place;
                 self.taken += 1;
-                Ok(input)
+                Ok(self.hear(frame))
             }
             Err(fault) => {
                 self.refused = Some(fault);
@@ -106,20 +109,5 @@ impl State {
         } else {
             Err(WaveFault::Truncated(self.taken))
         }
-    }
-}
-
-/// What the first edge of a list comes to.
-fn first_step(edge: Edge) -> Result<Step, WaveFault>
-    ensures step { result ≡ first_step edge }
-    ensures memory { IfErr result (λ fault. fault ≢ NoMemory) }
-{
-    if edge.is_start() {
-        Ok(Step {
-            place: Place::Idle(0),
-            frame: None,
-        })
-    } else {
-        Err(WaveFault::Start(0))
     }
 }

@@ -57,6 +57,15 @@ impl Bits {
         }
     }
 
+    /// One more bit comes.
+    pub fn push(&mut self, bit: bool)
+        requires { length self.old < 8 }
+        ensures { self.new ≡ self.old ++ bit ∷ [] }
+    {
+        self.levels[self.count] = bit;
+        self.count += 1;
+    }
+
     /// The same bits.
     pub fn copied(&self) -> Bits
         ensures { result ≡ self.now }

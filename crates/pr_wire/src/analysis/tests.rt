@@ -148,6 +148,29 @@ fn steps_of_an_unanswered_call(rt: HostRuntime) -> Result<(), Fail> {
     Ok(())
 }
 
+/// A place goes on edge by edge, and gives each frame with the edge that acknowledges it.
+#[test]
+fn a_place_advances_over_the_example_trace(rt: HostRuntime) -> Result<(), Fail> {
+    let edges = example(&rt)?;
+    let mut place = Place::Idle(0);
+    for i in 1..EDGES {
+        let Ok(frame) = place.advance(edges[i - 1], edges[i]) else {
+            return Err(Fail::new("a lawful edge"));
+        };
+        let byte = match i {
+            22 => Some(36),
+            43 => Some(72),
+            63 => Some(73),
+            85 => Some(13),
+            106 => Some(63),
+            _ => None,
+        };
+        assert_eq!(rt; frame.map(|frame| frame.byte), byte, "edge {i}");
+    }
+    assert!(rt; place.may_end());
+    Ok(())
+}
+
 #[test]
 fn fault_texts(rt: HostRuntime) -> Result<(), Fail> {
     let alloc = rt.alloc();
