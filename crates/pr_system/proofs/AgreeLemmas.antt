@@ -112,7 +112,7 @@ steps_from run place [] whole none counted sent a = agrees_end run place whole n
 steps_from run place (statement ∷ left) whole none counted sent a =
     let more : length (run.statuses ++ next_status run statement ∷ []) + 1 ≡ place + 1 = omega (arith, counted, length-append run.statuses (next_status run statement ∷ [])) in
     steps_at run place statement left whole (next_effect run statement).stop refl counted a
-        (λ goes. steps_from (stepped_by run statement) (place + 1) left whole (ap (placed (length run.statuses + 1)) goes) more refl (agrees_step run place statement left whole goes a))
+    (λ goes. steps_from (stepped_by run statement) (place + 1) left whole (ap (placed (length run.statuses + 1)) goes) more refl (agrees_step run place statement left whole goes a))
 
 -- the steps of a list of statements make the whole run of it
 pub steps_make : StepsMakeTheRun
