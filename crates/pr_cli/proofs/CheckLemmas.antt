@@ -14,7 +14,7 @@ use Rattle.pr_cli.specs.FrameText.{frame_line, frame_lines}
 use Rattle.pr_wire.specs.declared.checker.CheckFault.{CheckFault}
 use Rattle.pr_wire.specs.declared.checker.CheckFault.TheVariants.{BadLine, Unlawful}
 use Rattle.pr_wire.specs.Checking.{AnswersText}
-use Rattle.pr_cli.specs.Check.{IsLawfulText}
+use Rattle.pr_cli.specs.Check.{IsLawfulText, trace_limit}
 use Rattle.pr_cli.specs.Faults.{fault_of_check}
 use Rattle.pr_cli.specs.Told.{HasTold, line_if, GivesLines}
 
@@ -29,7 +29,7 @@ pub record HasRead (before after : Option (List ℕ)) (lines : List ℕ) (c : Ch
   pub text : List ℕ
   pub taken : Consumes before after text
   pub told : HasTold text lines c
-  pub room : length text + left ≡ 1099511627776
+  pub room : length text + left ≡ trace_limit
 
 -- the lines of a text that has ended
 pub told_lines : (text lines all : List ℕ) (c : Checker) (last : Option Frame) → (t : HasTold text lines c) → AnswersText text t.frames (Ok last)
@@ -39,7 +39,7 @@ told_lines text lines all c last t a e =
     (with_frame t.frames last, record { edges = a.0; is_text = a.1; spelled = a.2 }, e ∙ ap (λ l. l ++ codes "lawful\n") (one_line_more t.frames last lines t.told))
 
 -- the fault of a text that has ended
-pub told_fault : (text lines : List ℕ) (c : Checker) (fault : CheckFault) (r : Result (Vec ℕ Global) CliFault) → length text ≤ 1099511627776 → (t : HasTold text lines c)
+pub told_fault : (text lines : List ℕ) (c : Checker) (fault : CheckFault) (r : Result (Vec ℕ Global) CliFault) → length text ≤ trace_limit → (t : HasTold text lines c)
     → AnswersText text t.frames (Err fault) → IsErrAnd r (λ f. f ≡ fault_of_check fault) → GivesLines r text
 told_fault text lines c fault (Ok v) h t a e = absurd e
 told_fault text lines c (BadLine n) (Err f) h t a e = rw e (h, a)

@@ -15,6 +15,10 @@ use Rattle.pr_cli.specs.Whole.{AppendsFront}
 use Rattle.pr_cli.specs.declared.fault.CliFault.{CliFault}
 use Rattle.pr_cli.specs.declared.fault.CliFault.TheVariants.{Script, Trace, Wave, TooLarge, NoMemory, ReadFailed, WriteFailed}
 
+-- the most bytes of a trace text
+abbrev pub trace_limit : ℕ
+trace_limit = 1099511627776
+
 -- the text of a lawful trace that spells these frames
 pub record IsLawfulText (text : List ℕ) (frames : List Frame) : Type 0 where
   pub edges : List Edge
@@ -34,15 +38,15 @@ pub record IsFaultyText (text : List ℕ) (fault : WaveFault) : Type 0 where
 
 -- the answer, by the text read and what the writer held before and after
 abbrev pub AnswersCheck : List ℕ → Option (List ℕ) → Option (List ℕ) → Result (Unit {0}) CliFault → Type 0
-AnswersCheck text old new (Ok _) = (frames : List Frame) × (length text ≤ 1099511627776) × IsLawfulText text frames × Appends old new (frame_lines frames)
+AnswersCheck text old new (Ok _) = (frames : List Frame) × (length text ≤ trace_limit) × IsLawfulText text frames × Appends old new (frame_lines frames)
 AnswersCheck text old new (Err (Script fault)) = ⊥
-AnswersCheck text old new (Err (Trace fault)) = (length text ≤ 1099511627776) × IsBadText text fault × Keeps old new
-AnswersCheck text old new (Err (Wave fault)) = (length text ≤ 1099511627776) × IsFaultyText text fault × Keeps old new
-AnswersCheck text old new (Err TooLarge) = (1099511627776 < length text) × Keeps old new
+AnswersCheck text old new (Err (Trace fault)) = (length text ≤ trace_limit) × IsBadText text fault × Keeps old new
+AnswersCheck text old new (Err (Wave fault)) = (length text ≤ trace_limit) × IsFaultyText text fault × Keeps old new
+AnswersCheck text old new (Err TooLarge) = (trace_limit < length text) × Keeps old new
 AnswersCheck text old new (Err NoMemory) = Keeps old new
 AnswersCheck text old new (Err ReadFailed) = Keeps old new
 AnswersCheck text old new (Err WriteFailed) =
-    (frames : List Frame) × (length text ≤ 1099511627776) × IsLawfulText text frames × AppendsFront old new (frame_lines frames)
+    (frames : List Frame) × (length text ≤ trace_limit) × IsLawfulText text frames × AppendsFront old new (frame_lines frames)
 
 -- every answer but these three comes when the input has been read to its end
 abbrev pub ReadsToEnd : Option (List ℕ) → Result (Unit {0}) CliFault → Type 0

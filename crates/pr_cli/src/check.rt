@@ -2,7 +2,7 @@
 
 ghost use Rattle.std.specs.Prelude.{◌≡◌, ◌+◌, ◌^◌, ◌<◌, ◌≤◌, ◌++◌, ◌↔◌, List, ℕ, length, false, true, IfSome, IfErr, OnOk, IsErrOf};
 ghost use Rattle.pr_wire.specs.Checked.{line_count};
-ghost use Rattle.pr_cli.specs.Check.{AnswersCheck, IsCheckFault, ReadsToEnd};
+ghost use Rattle.pr_cli.specs.Check.{AnswersCheck, IsCheckFault, ReadsToEnd, trace_limit};
 ghost use Rattle.pr_cli.specs.Told.{GivesLines, HasReadToEnd, HasTold, IsInputFault, IsTextFault, line_if};
 ghost use Rattle.pr_cli.specs.Pages.{WritesNothing};
 ghost use Rattle.pr_cli.specs.Watched.{has_failed, wrapped};
@@ -113,7 +113,7 @@ fn push_if_some(lines: &mut Vec<u8>, frame: Option<Frame>) -> Result<(), AllocEr
 /// Ends the text that was checked, and gives all of its lines.
 fn last_lines(checker: Checker, mut lines: Vec<u8>) -> Result<Vec<u8>, CliFault>
     requires few { line_count checker + 1 < 2 ^ 64 }
-    ensures lines { (text : List ℕ) → length text ≤ 1099511627776 → HasTold text lines.items checker → GivesLines result text }
+    ensures lines { (text : List ℕ) → length text ≤ trace_limit → HasTold text lines.items checker → GivesLines result text }
     ensures own { IfErr result IsTextFault }
 {
     let last = checker.finish()?;
