@@ -28,74 +28,54 @@ const LISTEN_FIVE: u8 = 37;
 const UNLISTEN: u8 = 63;
 
 /// Numbers for a party.
-fn choices(alloc: Global, numbers: &[u16]) -> Result<Choices, NoMemory> {
-    let mut list = Vec::new(alloc);
-    list.extend_from_slice(numbers)?;
-    Ok(Choices::new(list))
+fn choices(rt: &(impl Abort + AllocGlobal), numbers: &[u16]) -> Choices {
+    let mut list = Vec::new(rt.alloc());
+    list.extend_from_slice(numbers).expect(rt, "memory");
+    Choices::new(list)
 }
 
 /// A bus whose parties draw on these numbers.
 fn wires(
-    rt: &impl AllocGlobal,
+    rt: &(impl Abort + AllocGlobal),
     present: Present,
     computer: &[u16],
     four: &[u16],
     five: &[u16],
-) -> Result<Wires, NoMemory> {
-    let alloc = rt.alloc();
+) -> Wires {
     let delays = Delays {
-        computer: choices(alloc, computer)?,
-        four: choices(alloc, four)?,
-        five: choices(alloc, five)?,
+        computer: choices(rt, computer),
+        four: choices(rt, four),
+        five: choices(rt, five),
     };
-    Wires::new(alloc, present, delays)
+    Wires::new(rt.alloc(), present, delays).expect(rt, "memory")
 }
 
 /// Sends LISTEN or UNLISTEN with no second command; it is answered or not, and ends then.
-fn command(
-    rt: &impl Abort,
-    bus: &mut Wires,
-    first: u8,
-    answered: bool,
-    end: u64,
-) -> Result<(), NoMemory> {
+fn command(rt: &impl Abort, bus: &mut Wires, first: u8, answered: bool, end: u64) {
     assert!(rt; first >= 32 && first <= 63);
     assert!(rt; bus.items() < 1000);
-    assert_eq!(rt; bus.attention(first, None)?, answered, "command {first}");
+    let answer = bus.attention(first, None).expect(rt, "memory");
+    assert_eq!(rt; answer, answered, "command {first}");
     assert_eq!(rt; bus.now(), end, "command {first}");
-    Ok(())
 }
 
 /// Sends a byte; it is answered or not, and ends then.
-fn send(
-    rt: &impl Abort,
-    bus: &mut Wires,
-    byte: u8,
-    eoi: bool,
-    answered: bool,
-    end: u64,
-) -> Result<(), NoMemory> {
+fn send(rt: &impl Abort, bus: &mut Wires, byte: u8, eoi: bool, answered: bool, end: u64) {
     assert!(rt; bus.items() < 1000);
-    assert_eq!(rt; bus.send(byte, eoi)?, answered, "byte {byte}");
+    let answer = bus.send(byte, eoi).expect(rt, "memory");
+    assert_eq!(rt; answer, answered, "byte {byte}");
     assert_eq!(rt; bus.now(), end, "byte {byte}");
-    Ok(())
 }
 
 /// The trace is this text.
-fn traces(rt: &(impl Abort + AllocGlobal), bus: &Wires, text: &str) -> Result<(), Fail> {
-    let written = write_trace(rt.alloc(), bus.trace())?;
+fn traces(rt: &(impl Abort + AllocGlobal), bus: &Wires, text: &str) {
+    let written = write_trace(rt.alloc(), bus.trace()).expect(rt, "memory");
     assert_eq!(rt; written.as_slice(), text.as_bytes());
-    Ok(())
 }
 
 /// The edges of the trace from an index on begin with those of this text.
-fn traces_from(
-    rt: &(impl Abort + AllocGlobal),
-    bus: &Wires,
-    first: usize,
-    text: &str,
-) -> Result<(), Fail> {
-    let edges = read_trace(rt.alloc(), text.as_bytes())?;
+fn traces_from(rt: &(impl Abort + AllocGlobal), bus: &Wires, first: usize, text: &str) {
+    let edges = read_trace(rt.alloc(), text.as_bytes()).expect(rt, "a trace");
     let shown = bus.trace();
     assert!(rt; first <= shown.len() && edges.len() <= shown.len() - first);
     assert_eq!(rt;
@@ -103,7 +83,6 @@ fn traces_from(
         edges.as_slice(),
         "edge {first}"
     );
-    Ok(())
 }
 
 /// The device heard these inputs, and no others.
@@ -118,14 +97,13 @@ fn taken(bus: &Wires, device: u8) -> Option<usize> {
 }
 
 #[test]
-fn nobody_on_the_wires(rt: HostRuntime) -> Result<(), Fail> {
-    let mut bus = wires(&rt, NONE, &[], &[], &[])?;
-    traces(&rt, &bus, "0 111\n")?;
-    command(&rt, &mut bus, LISTEN_FOUR, false, 1100)?;
-    send(&rt, &mut bus, 65, false, false, 1200)?;
-    traces(&rt, &bus, "0 111\n100 001\n1100 111\n")?;
+fn nobody_on_the_wires(rt: HostRuntime) {
+    let mut bus = wires(&rt, NONE, &[], &[], &[]);
+    traces(&rt, &bus, "0 111\n");
+    command(&rt, &mut bus, LISTEN_FOUR, false, 1100);
+    send(&rt, &mut bus, 65, false, false, 1200);
+    traces(&rt, &bus, "0 111\n100 001\n1100 111\n");
     assert_eq!(rt; taken(&bus, 4), None);
-    Ok(())
 }
 
 /// LISTEN to printer 5 with only printer 4 present, as trace text.
@@ -153,58 +131,56 @@ const UNLISTEN_AT_REST: &str = "\
 ";
 
 #[test]
-fn one_printer_not_addressed(rt: HostRuntime) -> Result<(), Fail> {
-    let mut bus = wires(&rt, ONLY_FOUR, &[], &[], &[])?;
-    command(&rt, &mut bus, LISTEN_FIVE, true, 2030)?;
-    send(&rt, &mut bus, 65, false, false, 2130)?;
-    send(&rt, &mut bus, 13, true, false, 2230)?;
-    command(&rt, &mut bus, UNLISTEN, true, 4360)?;
+fn one_printer_not_addressed(rt: HostRuntime) {
+    let mut bus = wires(&rt, ONLY_FOUR, &[], &[], &[]);
+    command(&rt, &mut bus, LISTEN_FIVE, true, 2030);
+    send(&rt, &mut bus, 65, false, false, 2130);
+    send(&rt, &mut bus, 13, true, false, 2230);
+    command(&rt, &mut bus, UNLISTEN, true, 4360);
     assert_eq!(rt; bus.trace().len(), 51);
-    traces_from(&rt, &bus, 0, LISTEN_TO_ANOTHER)?;
-    traces_from(&rt, &bus, 24, DROPPED)?;
-    traces_from(&rt, &bus, 26, UNLISTEN_AT_REST)?;
+    traces_from(&rt, &bus, 0, LISTEN_TO_ANOTHER);
+    traces_from(&rt, &bus, 24, DROPPED);
+    traces_from(&rt, &bus, 26, UNLISTEN_AT_REST);
     hears(&rt, &bus, 4, &[]);
     hears(&rt, &bus, 5, &[]);
-    Ok(())
 }
 
 #[test]
-fn edges_of_each_step(rt: HostRuntime) -> Result<(), Fail> {
-    let mut bus = wires(&rt, ONLY_FOUR, &[], &[], &[])?;
+fn edges_of_each_step(rt: HostRuntime) {
+    let mut bus = wires(&rt, ONLY_FOUR, &[], &[], &[]);
     assert_eq!(rt; bus.mark(), None);
     bus.forget();
     assert_eq!(rt; bus.mark(), Some(0));
-    traces(&rt, &bus, "")?;
-    command(&rt, &mut bus, LISTEN_FIVE, true, 2030)?;
+    traces(&rt, &bus, "");
+    command(&rt, &mut bus, LISTEN_FIVE, true, 2030);
     assert_eq!(rt; bus.trace().len(), 23);
     bus.forget();
-    send(&rt, &mut bus, 65, false, false, 2130)?;
-    traces(&rt, &bus, DROPPED)?;
+    send(&rt, &mut bus, 65, false, false, 2130);
+    traces(&rt, &bus, DROPPED);
     bus.forget();
-    send(&rt, &mut bus, 13, true, false, 2230)?;
-    traces(&rt, &bus, "")?;
+    send(&rt, &mut bus, 13, true, false, 2230);
+    traces(&rt, &bus, "");
     bus.forget();
-    command(&rt, &mut bus, UNLISTEN, true, 4360)?;
-    traces(&rt, &bus, UNLISTEN_AT_REST)?;
+    command(&rt, &mut bus, UNLISTEN, true, 4360);
+    traces(&rt, &bus, UNLISTEN_AT_REST);
     assert_eq!(rt; taken(&bus, 4), Some(51));
     assert_eq!(rt; bus.mark(), Some(3));
-    Ok(())
 }
 
 /// The items of the example: LISTEN to printer 4, two letters, a return, UNLISTEN.
-fn two_letters(rt: &impl Abort, bus: &mut Wires) -> Result<(), NoMemory> {
-    command(rt, bus, LISTEN_FOUR, true, 2030)?;
-    send(rt, bus, 72, false, true, 2960)?;
-    send(rt, bus, 73, false, true, 3890)?;
-    send(rt, bus, 13, true, true, 5140)?;
-    command(rt, bus, UNLISTEN, true, 7270)
+fn two_letters(rt: &impl Abort, bus: &mut Wires) {
+    command(rt, bus, LISTEN_FOUR, true, 2030);
+    send(rt, bus, 72, false, true, 2960);
+    send(rt, bus, 73, false, true, 3890);
+    send(rt, bus, 13, true, true, 5140);
+    command(rt, bus, UNLISTEN, true, 7270);
 }
 
 #[test]
-fn one_printer_addressed(rt: HostRuntime) -> Result<(), Fail> {
-    let mut bus = wires(&rt, ONLY_FOUR, &[], &[], &[])?;
-    two_letters(&rt, &mut bus)?;
-    traces(&rt, &bus, TRACE_TEXT)?;
+fn one_printer_addressed(rt: HostRuntime) {
+    let mut bus = wires(&rt, ONLY_FOUR, &[], &[], &[]);
+    two_letters(&rt, &mut bus);
+    traces(&rt, &bus, TRACE_TEXT);
     let inputs = [
         Input::Select(false),
         Input::Byte(72),
@@ -215,17 +191,15 @@ fn one_printer_addressed(rt: HostRuntime) -> Result<(), Fail> {
     hears(&rt, &bus, 5, &[]);
     assert_eq!(rt; taken(&bus, 4), Some(110));
     assert_eq!(rt; taken(&bus, 5), None);
-    Ok(())
 }
 
 #[test]
-fn trace_of_two_letters(rt: HostRuntime) -> Result<(), Fail> {
-    let mut bus = wires(&rt, BOTH, &[], &[], &[])?;
-    two_letters(&rt, &mut bus)?;
-    traces(&rt, &bus, TRACE_TEXT)?;
+fn trace_of_two_letters(rt: HostRuntime) {
+    let mut bus = wires(&rt, BOTH, &[], &[], &[]);
+    two_letters(&rt, &mut bus);
+    traces(&rt, &bus, TRACE_TEXT);
     hears(&rt, &bus, 5, &[]);
     assert_eq!(rt; taken(&bus, 5), Some(110));
-    Ok(())
 }
 
 /// The longest time of a byte and of an attention.
@@ -235,20 +209,19 @@ const SHARES_OF_TIME: [u64; 2] = [14_790, 32_158];
 const SHARES_OF_EDGES: [usize; 2] = [22, 44];
 
 #[test]
-fn bounds_of_two_letters(rt: HostRuntime) -> Result<(), Fail> {
-    let mut bus = wires(&rt, BOTH, &[], &[], &[])?;
-    two_letters(&rt, &mut bus)?;
+fn bounds_of_two_letters(rt: HostRuntime) {
+    let mut bus = wires(&rt, BOTH, &[], &[], &[]);
+    two_letters(&rt, &mut bus);
     assert_eq!(rt; 3 * SHARES_OF_TIME[0] + 2 * SHARES_OF_TIME[1], 108_686);
     assert_eq!(rt; 1 + 3 * SHARES_OF_EDGES[0] + 2 * SHARES_OF_EDGES[1], 155);
     assert_eq!(rt; bus.now(), 7270);
     assert_eq!(rt; bus.trace().len(), 110);
-    Ok(())
 }
 
 #[test]
-fn one_attention_with_chosen_delays(rt: HostRuntime) -> Result<(), Fail> {
-    let mut bus = wires(&rt, ONLY_FOUR, &[900, 999], &[9], &[])?;
-    command(&rt, &mut bus, LISTEN_FOUR, true, 3929)?;
+fn one_attention_with_chosen_delays(rt: HostRuntime) {
+    let mut bus = wires(&rt, ONLY_FOUR, &[900, 999], &[9], &[]);
+    command(&rt, &mut bus, LISTEN_FOUR, true, 3929);
     traces(
         &rt,
         &bus,
@@ -258,14 +231,13 @@ fn one_attention_with_chosen_delays(rt: HostRuntime) -> Result<(), Fail> {
         3429 010\n3449 000\n3519 010\n3539 001\n\
         3609 011\n3629 000\n3699 010\n3719 000\n\
         3789 010\n3809 001\n3829 000\n3929 100\n",
-    )?;
-    Ok(())
+    );
 }
 
 #[test]
-fn answer_in_the_microsecond_of_the_look(rt: HostRuntime) -> Result<(), Fail> {
-    let mut bus = wires(&rt, ONLY_FOUR, &[], &[999], &[])?;
-    command(&rt, &mut bus, LISTEN_FOUR, true, 2030)?;
+fn answer_in_the_microsecond_of_the_look(rt: HostRuntime) {
+    let mut bus = wires(&rt, ONLY_FOUR, &[], &[999], &[]);
+    command(&rt, &mut bus, LISTEN_FOUR, true, 2030);
     traces(
         &rt,
         &bus,
@@ -275,28 +247,26 @@ fn answer_in_the_microsecond_of_the_look(rt: HostRuntime) -> Result<(), Fail> {
         1530 010\n1550 000\n1620 010\n1640 001\n\
         1710 011\n1730 000\n1800 010\n1820 000\n\
         1890 010\n1910 001\n1930 000\n2030 100\n",
-    )?;
-    Ok(())
+    );
 }
 
 /// LISTEN to printer 4, a return with end-or-identify and UNLISTEN, with only printer 4 present.
 #[test]
-fn all_least_delays(rt: HostRuntime) -> Result<(), Fail> {
-    let mut bus = wires(&rt, ONLY_FOUR, &[0; 100], &[0; 100], &[0; 100])?;
-    command(&rt, &mut bus, LISTEN_FOUR, true, 1523)?;
-    send(&rt, &mut bus, 13, true, true, 2226)?;
-    command(&rt, &mut bus, UNLISTEN, true, 3849)?;
+fn all_least_delays(rt: HostRuntime) {
+    let mut bus = wires(&rt, ONLY_FOUR, &[0; 100], &[0; 100], &[0; 100]);
+    command(&rt, &mut bus, LISTEN_FOUR, true, 1523);
+    send(&rt, &mut bus, 13, true, true, 2226);
+    command(&rt, &mut bus, UNLISTEN, true, 3849);
     assert_eq!(rt; bus.trace().len(), 70);
-    traces_from(&rt, &bus, 23, "1523 100\n")?;
-    traces_from(&rt, &bus, 26, "1824 110\n1904 111\n")?;
-    traces_from(&rt, &bus, 45, "2226 100\n")?;
-    traces_from(&rt, &bus, 67, "3749 100\n3750 101\n3849 111\n")?;
-    Ok(())
+    traces_from(&rt, &bus, 23, "1523 100\n");
+    traces_from(&rt, &bus, 26, "1824 110\n1904 111\n");
+    traces_from(&rt, &bus, 45, "2226 100\n");
+    traces_from(&rt, &bus, 67, "3749 100\n3750 101\n3849 111\n");
 }
 
 /// The same with the greatest delays. The computer's numbers are for LISTEN, the byte and UNLISTEN.
 #[test]
-fn all_greatest_delays(rt: HostRuntime) -> Result<(), Fail> {
+fn all_greatest_delays(rt: HostRuntime) {
     let computer = [
         900, 1000, 198, 180, 180, 180, 180, 180, 180, 180, 180, 180, 180, 180, 180, 180, 180, 180,
         180, 100, 900, 59, 180, 180, 180, 180, 180, 180, 180, 180, 180, 180, 180, 180, 180, 180,
@@ -304,52 +274,51 @@ fn all_greatest_delays(rt: HostRuntime) -> Result<(), Fail> {
         180, 180, 180, 100, 100,
     ];
     let four = [999, 9999, 79, 9999, 50, 120, 79, 999, 9999, 79, 59];
-    let mut bus = wires(&rt, ONLY_FOUR, &computer, &four, &[])?;
-    command(&rt, &mut bus, LISTEN_FOUR, true, 16679)?;
-    send(&rt, &mut bus, 13, true, true, 31469)?;
-    command(&rt, &mut bus, UNLISTEN, true, 48348)?;
+    let mut bus = wires(&rt, ONLY_FOUR, &computer, &four, &[]);
+    command(&rt, &mut bus, LISTEN_FOUR, true, 16679);
+    send(&rt, &mut bus, 13, true, true, 31469);
+    command(&rt, &mut bus, UNLISTEN, true, 48348);
     assert_eq!(rt; bus.trace().len(), 70);
-    traces_from(&rt, &bus, 23, "16679 100\n")?;
-    traces_from(&rt, &bus, 26, "27929 110\n28129 111\n")?;
-    traces_from(&rt, &bus, 45, "31469 100\n")?;
-    traces_from(&rt, &bus, 67, "48148 100\n48208 101\n48348 111\n")?;
-    Ok(())
+    traces_from(&rt, &bus, 23, "16679 100\n");
+    traces_from(&rt, &bus, 26, "27929 110\n28129 111\n");
+    traces_from(&rt, &bus, 45, "31469 100\n");
+    traces_from(&rt, &bus, 67, "48148 100\n48208 101\n48348 111\n");
 }
 
 /// LISTEN to printer 4 with secondary address 7, all delays the greatest.
 #[test]
-fn time_bound_is_met(rt: HostRuntime) -> Result<(), Fail> {
+fn time_bound_is_met(rt: HostRuntime) {
     let computer = [
         900, 1000, 198, 180, 180, 180, 180, 180, 180, 180, 180, 180, 180, 180, 180, 180, 180, 180,
         180, 1000, 198, 180, 180, 180, 180, 180, 180, 180, 180, 180, 180, 180, 180, 180, 180, 180,
         180, 100,
     ];
     let four = [999, 9999, 79, 9999, 79];
-    let mut bus = wires(&rt, ONLY_FOUR, &computer, &four, &[])?;
-    assert!(rt; bus.attention(LISTEN_FOUR, Some(103))?);
+    let mut bus = wires(&rt, ONLY_FOUR, &computer, &four, &[]);
+    assert!(rt; bus.items() < 1000);
+    let answered = bus.attention(LISTEN_FOUR, Some(103)).expect(&rt, "memory");
+    assert!(rt; answered);
     assert_eq!(rt; bus.now(), SHARES_OF_TIME[1]);
     assert_eq!(rt; bus.trace().len(), SHARES_OF_EDGES[1]);
-    traces_from(&rt, &bus, 43, "32158 100\n")?;
+    traces_from(&rt, &bus, 43, "32158 100\n");
     hears(&rt, &bus, 4, &[Input::Select(false), Input::Select(true)]);
-    Ok(())
 }
 
 /// Both printers listen; printer 4 is as fast and printer 5 as slow as may be.
 #[test]
-fn two_printers_with_extreme_delays(rt: HostRuntime) -> Result<(), Fail> {
-    let mut bus = wires(&rt, BOTH, &[198; 200], &[0; 200], &[968; 200])?;
-    assert!(rt; bus.attention(LISTEN_FOUR, None)?);
-    assert!(rt; bus.attention(LISTEN_FIVE, None)?);
-    assert!(rt; bus.send(88, false)?);
-    assert!(rt; bus.send(13, true)?);
-    command(&rt, &mut bus, UNLISTEN, true, 14827)?;
+fn two_printers_with_extreme_delays(rt: HostRuntime) {
+    let mut bus = wires(&rt, BOTH, &[198; 200], &[0; 200], &[968; 200]);
+    command(&rt, &mut bus, LISTEN_FOUR, true, 3454);
+    command(&rt, &mut bus, LISTEN_FIVE, true, 6908);
+    send(&rt, &mut bus, 88, false, true, 8967);
+    send(&rt, &mut bus, 13, true, true, 11176);
+    command(&rt, &mut bus, UNLISTEN, true, 14827);
     assert_eq!(rt; bus.trace().len(), 112);
-    traces_from(&rt, &bus, 68, "10434 110\n10564 111\n")?;
-    traces_from(&rt, &bus, 109, "14630 100\n14639 101\n14827 111\n")?;
+    traces_from(&rt, &bus, 68, "10434 110\n10564 111\n");
+    traces_from(&rt, &bus, 109, "14630 100\n14639 101\n14827 111\n");
     let inputs = [Input::Select(false), Input::Byte(88), Input::Byte(13)];
     hears(&rt, &bus, 4, &inputs);
     hears(&rt, &bus, 5, &inputs);
-    Ok(())
 }
 
 /// Two printers with lists of their own, of which only printer 4 listens: who takes which number.
@@ -367,13 +336,13 @@ fn two_printers_with_extreme_delays(rt: HostRuntime) -> Result<(), Fail> {
 /// at 4325+60, CLOCK at 4425, the last pull at 5145, DATA at 5145+2, ATN released at 5247, DATA
 /// at 5247+22, CLOCK at 5347.
 #[test]
-fn numbers_of_one_listener(rt: HostRuntime) -> Result<(), Fail> {
+fn numbers_of_one_listener(rt: HostRuntime) {
     let four = [4, 9, 0, 99, 7, 5, 1, 29, 3, 11, 21];
     let five = [2, 19, 7, 40, 8, 59, 1, 6];
-    let mut bus = wires(&rt, BOTH, &[], &four, &five)?;
-    command(&rt, &mut bus, LISTEN_FOUR, true, 1981)?;
-    send(&rt, &mut bus, 65, true, true, 3225)?;
-    command(&rt, &mut bus, UNLISTEN, true, 5347)?;
+    let mut bus = wires(&rt, BOTH, &[], &four, &five);
+    command(&rt, &mut bus, LISTEN_FOUR, true, 1981);
+    send(&rt, &mut bus, 65, true, true, 3225);
+    command(&rt, &mut bus, UNLISTEN, true, 5347);
     traces(
         &rt,
         &bus,
@@ -395,10 +364,9 @@ fn numbers_of_one_listener(rt: HostRuntime) -> Result<(), Fail> {
         4855 011\n4875 001\n4945 011\n4965 000\n\
         5035 010\n5055 000\n5125 010\n5145 001\n\
         5147 000\n5247 100\n5269 101\n5347 111\n",
-    )?;
+    );
     hears(&rt, &bus, 4, &[Input::Select(false), Input::Byte(65)]);
     hears(&rt, &bus, 5, &[]);
-    Ok(())
 }
 
 /// The number of calls of the script with refused growths.
@@ -423,6 +391,15 @@ const ENDS: [u64; CALLS + 1] = [0, 3860, 5890, 6820, 7750, 8680, 9610];
 /// The edges so far: the start, 43 of the first attention, 22 of the second, 20 of each byte.
 const EDGES: [usize; CALLS + 1] = [1, 44, 66, 86, 106, 126, 146];
 
+/// Delays that are all typical.
+fn typical(alloc: Global) -> Delays {
+    Delays {
+        computer: Choices::new(Vec::new(alloc)),
+        four: Choices::new(Vec::new(alloc)),
+        five: Choices::new(Vec::new(alloc)),
+    }
+}
+
 /// With no growth refused each call is answered. With one refused, as by `rt try --test
 /// --fail-alloc N`, each later call is refused too, and what the bus shows stays that of the calls
 /// before it. It prints how many calls were refused, so that a loop over N knows where to end.
@@ -434,7 +411,7 @@ fn each_growth_refused(rt: HostRuntime) -> Result<(), Fail> {
         inputs[call] = Input::Byte(call as u8);
     }
     let mut answered = 0;
-    if let Ok(mut bus) = wires(&rt, BOTH, &[], &[], &[]) {
+    if let Ok(mut bus) = Wires::new(rt.alloc(), BOTH, typical(rt.alloc())) {
         for call in 0..CALLS {
             let answer = scripted(&rt, &mut bus, call);
             if answered == call && answer.is_ok() {
