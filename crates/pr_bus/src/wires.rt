@@ -32,6 +32,7 @@ const FIVE: u8 = 5;
 /// The raw numbers that each party draws its delays from.
 #[derive(Drop)]
 pub struct Delays {
+    /// The computer.
     pub computer: Choices,
     /// Printer 4.
     pub four: Choices,

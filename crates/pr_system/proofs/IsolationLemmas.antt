@@ -52,12 +52,6 @@ Holds mode present left_out statements =
     → (run_from mode present p one (standing files) statements).stop ≡ None
     → AreApart present left_out (run_from mode present p one (standing files) statements) (run_from mode present q two (standing (rest_of left_out files)) (without_from left_out files statements))
 
-apart_runs : (present : Present) (left_out : ℕ) (one two other another : Run) → one ≡ other → two ≡ another → AreApart present left_out one two → AreApart present left_out other another
-apart_runs present left_out one two other another p q apart =
-    let P : Run → Type 0 = λ r. AreApart present left_out r two in
-    let Q : Run → Type 0 = λ r. AreApart present left_out other r in
-    subst Q q (subst P p apart)
-
 holds_cons : Laws → (mode : StatusMode) (present : Present) (left_out : ℕ) (statement : Statement) (statements : List Statement) → Holds mode present left_out statements
     → (p q : ℕ) (files : Files) (one two : List Element) (out : Bool) → is_left_out left_out files statement ≡ out → IsTable files → Apart present left_out one two → AreAddressed (statement ∷ statements)
     → (run_from mode present p one (standing files) (statement ∷ statements)).stop ≡ None
