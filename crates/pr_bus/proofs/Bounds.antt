@@ -23,6 +23,7 @@ command-lasts look f h = by f.pulse h.opened
     by None o = omega (arith, last-soon f.pull f.bits h.clocked, h.eight, h.ack.to, h.free.to, o.to)
     by (Some p) o = absurd (let k : false ≡ true = o.0 in cc)
 
+-- a data byte's frame ends within 13,790 of its look
 pub data-lasts : (look : ℕ) (f : FrameTimes) → IsFrame true look f → f.ack ≤ look + 13790
 data-lasts look f h = by f.pulse h.opened
   where

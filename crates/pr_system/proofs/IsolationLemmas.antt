@@ -29,13 +29,16 @@ record IsPassed (place : ℕ) (before : List Element) (status : ℕ) (e : Effect
   later : rest.stop ≡ None
   elements : (run_after place before status e e.stop rest).elements ≡ rest.elements
 
+-- by its stop: a run whose statement and rest have none has passed that statement
 goes_at : (place : ℕ) (before : List Element) (status : ℕ) (e : Effect) (rest : Run) (stop : Option Stop) → e.stop ≡ stop → (run_after place before status e stop rest).stop ≡ None → IsPassed place before status e rest
 goes_at place before status e rest None is none = record { none = is; later = none; elements = ap (λ s. (run_after place before status e s rest).elements) is }
 goes_at place before status e rest (Some stop) is none = let clash : Some (place, stop) ≡ None = none in absurd (cc clash)
 
+-- a run without a stop has passed its first statement
 goes : (place : ℕ) (before : List Element) (status : ℕ) (e : Effect) (rest : Run) → (run_after place before status e e.stop rest).stop ≡ None → IsPassed place before status e rest
 goes place before status e rest none = goes_at place before status e rest e.stop refl none
 
+-- a status of 0 stays one where nothing more lacks an answer
 kinder_at : (one two : Bool) → (one ≡ false → two ≡ false) → (cond one 128 0 == 128) ≡ false → (cond two 128 0 == 128) ≡ false
 kinder_at true two kinder clear = let clash : true ≡ false = clear in absurd (cc clash)
 kinder_at false two kinder clear = ap (λ b. cond b 128 0 == 128) (kinder refl)
@@ -52,6 +55,7 @@ Holds mode present left_out statements =
     → (run_from mode present p one (standing files) statements).stop ≡ None
     → AreApart present left_out (run_from mode present p one (standing files) statements) (run_from mode present q two (standing (rest_of left_out files)) (without_from left_out files statements))
 
+-- one statement more in front, left out or not
 holds_cons : Laws → (mode : StatusMode) (present : Present) (left_out : ℕ) (statement : Statement) (statements : List Statement) → Holds mode present left_out statements
     → (p q : ℕ) (files : Files) (one two : List Element) (out : Bool) → is_left_out left_out files statement ≡ out → IsTable files → Apart present left_out one two → AreAddressed (statement ∷ statements)
     → (run_from mode present p one (standing files) (statement ∷ statements)).stop ≡ None
@@ -88,6 +92,7 @@ holds_cons laws mode present left_out statement statements later p q files one t
           subst P (ap (λ at. (run_from mode present (p + 1) (one ++ e.elements) at statements).elements) (sym step.after_one) ∙ sym first.elements) (subst Q (sym (ap (λ (r : Run). r.elements) whole)) rest.apart);
     }
 
+-- the law of every list of statements
 holds : Laws → (mode : StatusMode) (present : Present) (left_out : ℕ) (statements : List Statement) → Holds mode present left_out statements
 holds laws mode present left_out [] = λ p q files one two table apart addressed none. record { goes_on = refl; apart = apart }
 holds laws mode present left_out (statement ∷ statements) = λ p q files one two table apart addressed none.

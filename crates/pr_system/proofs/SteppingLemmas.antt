@@ -60,6 +60,7 @@ pub record Advanced (old new : Seen) (mode : StatusMode) : Type 0 where
   pub works : new.failed ≡ false
   pub found : found_by mode new.status ≡ found_of mode new.present new.elements
 
+-- a statement that was performed behind a mark brings the run on by one step
 pub advanced : StatusFoundNext → (old mid new : Seen) (mode : StatusMode) (channel number : ℕ) (answer : Option Stop) (statement : Statement)
     → old.failed ≡ false → old.sent ≡ items_of old.elements → found_by mode old.status ≡ found_of mode old.present old.elements
     → mid ≡ record old { mark = Some (length old.sent) }

@@ -39,6 +39,7 @@ inner_more (x ∷ xs) b h e =
 first_inner : (b : ℕ) (bs : List ℕ) → list_all is_inner (b ∷ bs) ≡ true → (b == 10) ≡ false
 first_inner b bs h = grind (arith, common_steps)
 
+-- the bytes behind the first of inner bytes are inner bytes
 rest_inner : (b : ℕ) (bs : List ℕ) → list_all is_inner (b ∷ bs) ≡ true → list_all is_inner bs ≡ true
 rest_inner b bs h = grind (arith, common_steps)
 
