@@ -10,14 +10,20 @@ PROGRAM := crates/print1525/out/print1525
 GROWTHS := pr_page pr_serial pr_wire pr_receiver pr_bus pr_channels pr_basic pr_system
 TESTS := $(foreach crate,$(GROWTHS),crates/$(crate)/out/$(crate)_tests)
 
+# What the program and the tests are built from.
+SOURCES := crates.txt $(shell find crates -path '*/out' -prune -o \( -name '*.rt' -o -name '*.antt' \) -print)
+
 .PHONY: run build test outside bench install
 
 run: build
 	@$(PROGRAM) pages < examples/hello.bas
 
-# `rt run` proves, builds and runs, and only runs where nothing has changed since.
-build:
+build: $(PROGRAM)
+
+# `rt run` proves, builds and runs. `rt ci` leaves the program too: it is built again only after a change.
+$(PROGRAM): $(SOURCES)
 	@cd crates/print1525 && rt run -- --help > out.log 2>&1 || { cat out.log; rm -f out.log; exit 1; }; rm -f out.log
+	@touch $@
 
 test:
 	rt ci
@@ -27,8 +33,8 @@ test:
 outside: build $(TESTS)
 	@tests/run $(PROGRAM)
 
-# `rt ci` leaves the tests built; they are built again only after a change.
-$(TESTS): $(wildcard crates/*/src/*.rt crates/*/src/*/*.rt)
+# So are the tests.
+$(TESTS): $(SOURCES)
 	@cd $(@D)/.. && rt test > out.log 2>&1 || { cat out.log; exit 1; }; rm -f out.log
 
 bench: build
