@@ -1,6 +1,7 @@
 -- Trusted: a list of statements without one device, and what that leaves as it is.
 use Rattle.std.specs.Prelude.{◌≡◌, ◌≢◌, ℕ, Bool, false, ◌==◌, Option, Some, None, List, [], ◌∷◌, ◌++◌, if◌then◌else◌}
 use Rattle.pr_serial.specs.declared.Present.{Present}
+use Rattle.pr_serial.specs.Bus.{DelayNumbers}
 use Rattle.pr_channels.specs.declared.file.File.{File}
 use Rattle.pr_channels.specs.declared.faults.Stop.{Stop}
 use Rattle.pr_channels.specs.Files.{Files, file_at, without_file, open_stop}
@@ -9,7 +10,7 @@ use Rattle.pr_basic.specs.declared.statement.Statement.TheVariants.{OpenFile, Cm
 use Rattle.pr_basic.specs.declared.session.StatusMode.{StatusMode}
 use Rattle.pr_basic.specs.Runs.{run_of}
 use Rattle.pr_system.specs.declared.outcome.Outcome.{Outcome}
-use Rattle.pr_system.specs.Headline.{heard_in, IsOutcome}
+use Rattle.pr_system.specs.Headline.{heard_in, IsOutcome, IsTrueTrace}
 
 -- the files after an OPEN, which opens nothing if something stands against it
 abbrev pub files_opened : Option Stop → Files → File → Files
@@ -78,9 +79,25 @@ abbrev pub Isolation : Type 0
 Isolation = (left_out : ℕ) (mode : StatusMode) (present : Present) (statements : List Statement) →
     AreAddressed statements → GoesOn mode present statements → IsSpared mode present left_out statements (without left_out statements)
 
+-- the paper of each printer but the one that is left out is the same
+abbrev pub KeepsPapers : ℕ → Outcome → Outcome → Type 0
+KeepsPapers left_out all rest = (4 ≢ left_out → rest.paper4 ≡ all.paper4) × (5 ≢ left_out → rest.paper5 ≡ all.paper5)
+
+-- what a run with these delay numbers gives: the headline and the true trace
+pub record IsGiven (mode : StatusMode) (present : Present) (delays : DelayNumbers) (statements : List Statement) (outcome : Outcome) : Type 0 where
+  pub headline : IsOutcome mode present statements outcome
+  pub true_trace : IsTrueTrace mode present delays statements outcome.trace
+
 -- so the page of each other printer is the same
 abbrev pub IsolatedPages : Type 0
 IsolatedPages = (left_out : ℕ) (mode : StatusMode) (present : Present) (statements : List Statement) (all rest : Outcome) →
     AreAddressed statements → GoesOn mode present statements →
     IsOutcome mode present statements all → IsOutcome mode present (without left_out statements) rest →
-    (4 ≢ left_out → rest.paper4 ≡ all.paper4) × (5 ≢ left_out → rest.paper5 ≡ all.paper5)
+    KeepsPapers left_out all rest
+
+-- even with other delays: what two runs give, each with delay numbers of its own
+abbrev pub IsolatedWithOtherDelays : Type 0
+IsolatedWithOtherDelays = (left_out : ℕ) (mode : StatusMode) (present : Present) (delays others : DelayNumbers) (statements : List Statement) (all rest : Outcome) →
+    AreAddressed statements → GoesOn mode present statements →
+    IsGiven mode present delays statements all → IsGiven mode present others (without left_out statements) rest →
+    KeepsPapers left_out all rest

@@ -20,3 +20,7 @@ returns-clause-hearing c = isolation (record {
 
 pub returns-clause-pages : goal.returns-clause-pages
 returns-clause-pages c = isolated_pages (returns-clause-hearing c) c.each_list_has_one_page.ensures.only
+
+pub returns-clause-delays : goal.returns-clause-delays
+returns-clause-delays c = λ left_out mode present delays others statements all rest addressed goes_on one two.
+    returns-clause-pages c left_out mode present statements all rest addressed goes_on one.headline two.headline
