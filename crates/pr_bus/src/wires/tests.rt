@@ -3,7 +3,6 @@
 ghost use Rattle.std.specs.Prelude.{◌≤◌};
 
 use super::*;
-use pr_page::Printer as Paging;
 use pr_wire::example::TRACE_TEXT;
 use pr_wire::{read_trace, write_trace};
 use std::process::Abort;
@@ -94,7 +93,7 @@ fn hears(rt: &impl Abort, bus: &Wires, device: u8, inputs: &[Input]) {
 
 /// A printer that takes what the device heard prints one empty row at the top of its paper.
 fn prints_an_empty_row(rt: &(impl Abort + AllocGlobal), bus: &Wires, device: u8) {
-    let mut printer = Paging::new(rt.alloc());
+    let mut printer = pr_page::Printer::new(rt.alloc());
     for input in bus.heard(device) {
         assert!(rt; printer.taken() < 1000);
         printer.take(*input).expect(rt, "memory");
