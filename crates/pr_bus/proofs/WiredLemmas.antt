@@ -1,5 +1,6 @@
 -- One item more on the wires.
 use Rattle.std.proofs.Common.{◌≡◌, ℕ, zero, suc, ◌+◌, ◌<◌, ◌≤◌, ◌^◌, Bool, true, false, cond, ◌&&◌, ◌||◌, Option, Some, None, List, [], ◌∷◌, ◌++◌, length, drop, take, append_assoc, append-nil, length-append, refl, sym, subst, ap, ◌∙◌, arith, Result, Ok, Err, OnOk, OnErr, is_err}
+use Rattle.std.specs.Prelude.{vec_capacity}
 use Rattle.std.specs.List.{flat_map}
 use Rattle.std.proofs.lemmas.List.{take-append-le}
 use Rattle.std.proofs.Math.Seq.{take-length}
@@ -8,11 +9,13 @@ use Rattle.pr_serial.specs.declared.Item.{Item}
 use Rattle.pr_serial.specs.declared.Item.TheVariants.{Attention, Sent}
 use Rattle.pr_serial.specs.Bus.{DelayNumbers}
 use Rattle.pr_serial.specs.Answers.{with_before, is_present, inputs_at, heard_by, items_before}
+use Rattle.pr_serial.specs.Laws.{HeardOfOneMore, InputsOfAnItem}
+use Rattle.pr_page.specs.declared.input.Input.{Input}
 use Rattle.pr_wire.specs.declared.Edge.{Edge}
 use Rattle.pr_wire.specs.Table.{IsAllowed}
 use Rattle.pr_receiver.specs.Given.{inputs_with}
 use Rattle.pr_receiver.specs.Laws.{LawfulIsAllowed}
-use Rattle.pr_receiver.specs.Taken.{number_taken}
+use Rattle.pr_receiver.specs.Taken.{device_of, number_taken}
 use Rattle.pr_bus.specs.declared.ear.Ear.{Ear}
 use Rattle.pr_bus.specs.declared.log.Log.{Log}
 use Rattle.pr_bus.specs.declared.talker.Talker.{Talker}
@@ -22,7 +25,7 @@ use Rattle.pr_bus.specs.Timed.{BusState, wires, done, item_edges}
 use Rattle.pr_bus.specs.Talk.{state_of, IsTuned, IsSameTalker}
 use Rattle.pr_bus.specs.Laws.{IsItem, AreItems, TimedTracesSpell, TimedTracesAreBounded, ItemsKeepTheirShares, WiresAreHeard}
 use Rattle.pr_bus.specs.Sums.{time_bound, edge_share}
-use Rattle.pr_bus.specs.EarState.{Hears, IsSameEar}
+use Rattle.pr_bus.specs.EarState.{Hears, IsSameEar, HasRoom, MayHear}
 use Rattle.pr_bus.specs.WiresState.{state_from, trace_from, trace_until}
 use Rattle.pr_bus.specs.Wired.{numbers_of, IsWithin, AreHearing, IsWired}
 use Rattle.pr_bus.proofs.EarLemmas.{hears-same}
@@ -190,36 +193,6 @@ ears-small bounded shares w x es grown h f i l e s4 s5 =
       taken-small bounded shares w.present d items x es (trace_until w.present d w.mark items) 5 w.present.five w.log.five grown.five h.items i l edges s5 h.ears.five,
     )
 
--- the items before a mark keep the bus's conditions
-are-before : (mark : Option ℕ) (items : List Item) → AreItems items → AreItems (items_before mark items)
-are-before None items a = tt
-are-before (Some n) items a = are-taken n items a
-  where
-    are-taken : (n : ℕ) (items : List Item) → AreItems items → AreItems (take n items)
-    are-taken zero items a = tt
-    are-taken (suc n) [] a = tt
-    are-taken (suc n) (x ∷ xs) a = (a.0, are-taken n xs a.1)
-
--- what came of the forgotten edges
-heard-until : WiresAreHeard → (present : Present) (d : DelayNumbers) (mark : Option ℕ) (items : List Item) (device : ℕ) → AreItems items → is_present present device ≡ true
-    → inputs_with device (trace_until present d mark items) ≡ heard_by present device (items_before mark items)
-heard-until law present d None items device a p = sym (ap (λ v. cond v [] []) p)
-heard-until law present d (Some n) items device a p = law present d device (take n items) (are-before (Some n) items a) p
-
--- a printer keeps what it heard since the mark
-pub heard-since : WiresAreHeard → (present : Present) (d : DelayNumbers) (mark : Option ℕ) (items : List Item) (device : ℕ) (there : Bool) (ear : Ear) → AreItems items → is_present present device ≡ there
-    → Hears device there (trace_until present d mark items) (trace_from present d items) ear → heard_by present device (items_before mark items) ++ ear.inputs.items ≡ heard_by present device items
-heard-since law present d mark items device true ear a p h =
-    let k = h.hears refl in
-    ap (λ l. l ++ ear.inputs.items) (sym (heard-until law present d mark items device a p) ∙ ap (λ n. inputs_with n (trace_until present d mark items)) (sym h.device_is))
-    ∙ k.inputs ∙ ap (λ n. inputs_with n (trace_from present d items)) h.device_is ∙ law present d device items a p
-heard-since law present d mark items device false ear a p h =
-    ap (λ l. heard_by present device (items_before mark items) ++ l) (h.nothing refl) ∙ append-nil (heard_by present device (items_before mark items))
-    ∙ absent (items_before mark items) ∙ sym (absent items)
-  where
-    absent : (xs : List Item) → heard_by present device xs ≡ []
-    absent xs = ap (λ v. cond v (flat_map (λ p. inputs_at device p.0 p.1) (with_before [] xs)) []) p
-
 -- the devices of the printers
 pub present-four : (present : Present) → is_present present 4 ≡ present.four
 present-four present = by present.four present.five
@@ -238,6 +211,90 @@ present-five present = by present.four present.five
     by true false = refl
     by false true = refl
     by false false = refl
+
+-- the items before a mark keep the bus's conditions
+are-before : (mark : Option ℕ) (items : List Item) → AreItems items → AreItems (items_before mark items)
+are-before None items a = tt
+are-before (Some n) items a = are-taken n items a
+  where
+    are-taken : (n : ℕ) (items : List Item) → AreItems items → AreItems (take n items)
+    are-taken zero items a = tt
+    are-taken (suc n) [] a = tt
+    are-taken (suc n) (x ∷ xs) a = (a.0, are-taken n xs a.1)
+
+-- what came of the forgotten edges
+heard-until : WiresAreHeard → (present : Present) (d : DelayNumbers) (mark : Option ℕ) (items : List Item) (device : ℕ) → AreItems items → is_present present device ≡ true
+    → inputs_with device (trace_until present d mark items) ≡ heard_by present device (items_before mark items)
+heard-until law present d None items device a p = sym (ap (λ v. cond v [] []) p)
+heard-until law present d (Some n) items device a p = law present d device (take n items) (are-before (Some n) items a) p
+
+-- the laws on which the ears' room rests
+pub record RoomLaws : Type 0 where
+  pub traces : TraceLaws
+  pub wires : WiresAreHeard
+  pub item : HeardOfOneMore
+  pub few : InputsOfAnItem
+
+-- a printer may hear the edges of one item more, since they give at most two inputs
+may-more : RoomLaws → (present : Present) (d : DelayNumbers) (mark : Option ℕ) (items : List Item) (x : Item) (es : List Edge) (device : ℕ) (there : Bool) (old grown : Ear) → IsItem x → AreItems items → is_present present device ≡ there
+    → es ≡ item_edges (state_from present d items) x → IsSameEar old grown → HasRoom grown → Hears device there (trace_until present d mark items) (trace_from present d items) old → grown.there ≡ true → MayHear es grown
+may-more laws present d mark items x es device there old grown i a p e s room h t =
+    let yes : there ≡ true = sym h.there_is ∙ sym s.there ∙ t in
+    let forgotten = trace_until present d mark items in
+    let trace = trace_from present d items in
+    let k = (hears-same device there forgotten trace old grown s h).hears yes in
+    let is : device_of grown.receiver ≡ device = ap device_of s.receiver ∙ h.device_is in
+    let whole : trace_from present d (items ++ x ∷ []) ≡ trace ++ es = trace-more present d items x ∙ ap (λ l. trace ++ l) (sym e) in
+    let more : inputs_with device (trace ++ es) ≡ heard_by present device items ++ inputs_at device items x =
+    ap (inputs_with device) (sym whole) ∙ laws.wires present d device (items ++ x ∷ []) (are-more items x a i) (p ∙ yes) ∙ laws.item present device items x ∙ ap (λ v. heard_by present device items ++ cond v (inputs_at device items x) []) (p ∙ yes) in
+    let since : inputs_with device forgotten ++ grown.inputs.items ≡ heard_by present device items =
+    subst (λ n. inputs_with n forgotten ++ grown.inputs.items ≡ inputs_with n trace) is k.inputs ∙ laws.wires present d device items a (p ∙ yes) in
+    let fits : length (inputs_with device (trace ++ es)) ≤ length (inputs_with device forgotten) + vec_capacity grown.inputs =
+    omega (
+      arith,
+      room t,
+      grown.inputs.ok.0,
+      laws.few device items x,
+      ap {A = List Input} (λ l. length l) more,
+      length-append (heard_by present device items) (inputs_at device items x),
+      ap {A = List Input} (λ l. length l) since,
+      length-append (inputs_with device forgotten) grown.inputs.items,
+    ) in (
+      forgotten,
+      trace,
+      record {
+        hears = k;
+        allowed = subst IsAllowed whole (trace-allowed laws.traces present d (items ++ x ∷ []) (are-more items x a i));
+        room = subst (λ n. length (inputs_with n (trace ++ es)) ≤ length (inputs_with n forgotten) + vec_capacity grown.inputs) (sym is) fits;
+      },
+    )
+
+-- both printers may
+pub ears-may : RoomLaws → (w : Inside) (x : Item) (es : List Edge) (grown : Log) → IsWired w → w.failed ≡ false → IsItem x → ((before : List Item) → IsTuned before w.talker → es ≡ item_edges (state_of before w.talker) x)
+    → IsSameEar w.log.four grown.four → IsSameEar w.log.five grown.five → HasRoom grown.four → HasRoom grown.five
+    → (grown.four.there ≡ true → MayHear es grown.four) × (grown.five.there ≡ true → MayHear es grown.five)
+ears-may laws w x es grown h f i e s4 s5 r4 r5 =
+    let at = h.at f in
+    let d = numbers_of w.begun w.talker in
+    let items = w.log.items.items in
+    let edges : es ≡ item_edges (state_from w.present d items) x = e items at.tuned ∙ ap (λ (v : BusState). item_edges v x) at.state in (
+      may-more laws w.present d w.mark items x es 4 w.present.four w.log.four grown.four i h.items (present-four w.present) edges s4 r4 h.ears.four,
+      may-more laws w.present d w.mark items x es 5 w.present.five w.log.five grown.five i h.items (present-five w.present) edges s5 r5 h.ears.five,
+    )
+
+-- a printer keeps what it heard since the mark
+pub heard-since : WiresAreHeard → (present : Present) (d : DelayNumbers) (mark : Option ℕ) (items : List Item) (device : ℕ) (there : Bool) (ear : Ear) → AreItems items → is_present present device ≡ there
+    → Hears device there (trace_until present d mark items) (trace_from present d items) ear → heard_by present device (items_before mark items) ++ ear.inputs.items ≡ heard_by present device items
+heard-since law present d mark items device true ear a p h =
+    let k = h.hears refl in
+    ap (λ l. l ++ ear.inputs.items) (sym (heard-until law present d mark items device a p) ∙ ap (λ n. inputs_with n (trace_until present d mark items)) (sym h.device_is))
+    ∙ k.inputs ∙ ap (λ n. inputs_with n (trace_from present d items)) h.device_is ∙ law present d device items a p
+heard-since law present d mark items device false ear a p h =
+    ap (λ l. heard_by present device (items_before mark items) ++ l) (h.nothing refl) ∙ append-nil (heard_by present device (items_before mark items))
+    ∙ absent (items_before mark items) ∙ sym (absent items)
+  where
+    absent : (xs : List Item) → heard_by present device xs ≡ []
+    absent xs = ap (λ v. cond v (flat_map (λ p. inputs_at device p.0 p.1) (with_before [] xs)) []) p
 
 -- the bus on wires after all that came was forgotten
 pub wired-forgotten : (w : Inside) (log : Log) (n : ℕ) → IsWired w → n ≡ length log.items.items → log.items.items ≡ w.log.items.items → log.trace.items ≡ []

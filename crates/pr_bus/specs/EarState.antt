@@ -1,8 +1,9 @@
 -- Linking words, for proofs: what a printer has heard of a trace. No reader needs to believe them.
-use Rattle.std.specs.Prelude.{◌≡◌, ◌≤◌, ◌++◌, ℕ, Bool, true, false, List, [], length, Option, None, Result, Ok, Err}
+use Rattle.std.specs.Prelude.{◌≡◌, ◌≤◌, ◌+◌, ◌++◌, ℕ, Bool, true, false, List, [], length, Option, None, Result, Ok, Err, vec_len, vec_capacity}
 use Rattle.std.specs.Option.{option_to_list}
 use Rattle.pr_wire.specs.declared.Edge.{Edge}
 use Rattle.pr_wire.specs.declared.WaveFault.{WaveFault}
+use Rattle.pr_wire.specs.Table.{IsAllowed}
 use Rattle.pr_page.specs.declared.input.Input.{Input}
 use Rattle.pr_receiver.specs.Given.{inputs_with}
 use Rattle.pr_receiver.specs.Taken.{HasTaken, device_of, number_taken, refusal_of}
@@ -32,3 +33,17 @@ pub record IsSameEar (old new : Ear) : Type 0 where
   pub there : new.there ≡ old.there
   pub receiver : new.receiver ≡ old.receiver
   pub inputs : new.inputs.items ≡ old.inputs.items
+
+-- if it is there, it has room for the two inputs that an item gives at most
+abbrev pub HasRoom : Ear → Type 0
+HasRoom ear = ear.there ≡ true → vec_len ear.inputs + 2 ≤ vec_capacity ear.inputs
+
+-- a printer that has heard a trace may hear these edges behind it: they are allowed, and there is room for all inputs behind the forgotten edges
+pub record IsReady (forgotten trace edges : List Edge) (ear : Ear) : Type 0 where
+  pub hears : IsHearing forgotten trace ear
+  pub allowed : IsAllowed (trace ++ edges)
+  pub room : length (inputs_with (device_of ear.receiver) (trace ++ edges)) ≤ length (inputs_with (device_of ear.receiver) forgotten) + vec_capacity ear.inputs
+
+-- the printer may hear these edges behind the trace that it has heard
+abbrev pub MayHear : List Edge → Ear → Type 0
+MayHear edges ear = (forgotten : List Edge) × (trace : List Edge) × IsReady forgotten trace edges ear

@@ -4,13 +4,17 @@ ghost use Rattle.std.specs.Prelude.{◌≡◌, ◌++◌, ◌∷◌, [], ◌+◌,
 ghost use Rattle.pr_wire.specs.declared.Edge.{Edge};
 ghost use Rattle.pr_wire.specs.Table.{IsAllowed};
 ghost use Rattle.pr_receiver.specs.Taken.{device_of, number_taken};
-ghost use Rattle.pr_bus.specs.EarState.{given_list, IsHearing, Hears, IsSameEar};
+ghost use Rattle.pr_bus.specs.EarState.{given_list, IsHearing, Hears, IsSameEar, HasRoom, MayHear};
 
 use pr_page::Input;
 use pr_receiver::{Receiver, fronts_are_allowed, inputs_add_up};
 use pr_serial::NoMemory;
 use pr_wire::{Edge, WaveFault};
 use std::alloc::Global;
+
+/// An item gives a device at most so many inputs: a LISTEN with secondary address 7 selects a
+/// character set twice.
+const INPUTS_OF_AN_ITEM: usize = 2;
 
 /// A printer's receiving part, and the inputs that it has given since the mark. The part of an
 /// absent printer is given no edge.
@@ -21,12 +25,11 @@ pub struct Ear {
     pub inputs: Vec<Input>,
 }
 
-/// Keeps an input that was given, for which there is room.
+/// Keeps an input, if one was given. There is room for it.
 #[inline(always)]
 fn push_given(inputs: &mut Vec<Input>, given: Result<Option<Input>, WaveFault>)
-    requires { vec_len inputs.old < vec_capacity inputs.old }
+    requires { vec_len inputs.old + length (given_list given) ≤ vec_capacity inputs.old }
     ensures items { inputs.new.items ≡ inputs.old.items ++ given_list given }
-    ensures len { vec_len inputs.new ≤ vec_len inputs.old + 1 }
     ensures capacity { vec_capacity inputs.new ≡ vec_capacity inputs.old }
 {
     if let Ok(Some(input)) = given {
@@ -48,24 +51,26 @@ impl Ear {
         }
     }
 
-    /// Makes room for the inputs that so many edges may give.
-    pub fn make_room(&mut self, count: usize) -> Result<(), NoMemory>
+    /// Makes room for the inputs of an item, if the printer is there.
+    pub fn make_room(&mut self) -> Result<(), NoMemory>
         ensures same { IsSameEar self.old self.new }
-        ensures room { OnOk result (vec_len self.new.inputs + count ≤ vec_capacity self.new.inputs) }
+        ensures room { OnOk result (HasRoom self.new) }
     {
-        self.inputs.reserve(count)
+        if self.there {
+            self.inputs.reserve(INPUTS_OF_AN_ITEM)?;
+        }
+        Ok(())
     }
 
     /// Hears an edge, for whose input there is room.
     #[inline(always)]
     fn hear_one(&mut self, edge: Edge)
         requires taken { number_taken self.old.receiver + 1 < 2 ^ 64 }
-        requires room { vec_len self.old.inputs < vec_capacity self.old.inputs }
+        requires may { MayHear (edge ∷ []) self.old }
         ensures hears { (forgotten trace : List Edge) → IsAllowed (trace ++ edge ∷ []) → IsHearing forgotten trace self.old → IsHearing forgotten (trace ++ edge ∷ []) self.new }
         ensures device { device_of self.new.receiver ≡ device_of self.old.receiver }
         ensures there { self.new.there ≡ self.old.there }
         ensures count { number_taken self.new.receiver ≤ number_taken self.old.receiver + 1 }
-        ensures len { vec_len self.new.inputs ≤ vec_len self.old.inputs + 1 }
         ensures capacity { vec_capacity self.new.inputs ≡ vec_capacity self.old.inputs }
     {
         inputs_add_up();
@@ -76,13 +81,14 @@ impl Ear {
     /// Hears edges, for whose inputs there is room.
     fn hear(&mut self, edges: &[Edge])
         requires taken { number_taken self.old.receiver + length edges.now < 2 ^ 63 }
-        requires room { vec_len self.old.inputs + length edges.now ≤ vec_capacity self.old.inputs }
+        requires may { MayHear edges.now self.old }
         ensures hears { (forgotten trace : List Edge) → IsAllowed (trace ++ edges.now) → IsHearing forgotten trace self.old → IsHearing forgotten (trace ++ edges.now) self.new }
         ensures device { device_of self.new.receiver ≡ device_of self.old.receiver }
         ensures there { self.new.there ≡ self.old.there }
         ensures count { number_taken self.new.receiver ≤ number_taken self.old.receiver + length edges.now }
     {
         fronts_are_allowed();
+        inputs_add_up();
         for edge in edges {
             self.hear_one(*edge);
         }
@@ -91,7 +97,7 @@ impl Ear {
     /// Hears edges, for whose inputs there is room, if the printer is there.
     pub fn listen(&mut self, edges: &[Edge])
         requires taken { number_taken self.old.receiver + length edges.now < 2 ^ 63 }
-        requires room { vec_len self.old.inputs + length edges.now ≤ vec_capacity self.old.inputs }
+        requires may { self.old.there ≡ true → MayHear edges.now self.old }
         ensures { (device : ℕ) (there : Bool) (forgotten trace : List Edge) → IsAllowed (trace ++ edges.now) → Hears device there forgotten trace self.old → Hears device there forgotten (trace ++ edges.now) self.new }
     {
         if self.there {

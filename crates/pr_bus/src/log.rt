@@ -1,11 +1,11 @@
 //! What was sent, and what came of it since the mark.
 
-ghost use Rattle.std.specs.Prelude.{◌≡◌, ◌++◌, ◌∷◌, [], ◌+◌, ◌<◌, ◌≤◌, ◌^◌, ℕ, Bool, List, length, IfOk, OnOk, OnErr, vec_len, vec_capacity};
+ghost use Rattle.std.specs.Prelude.{◌≡◌, ◌++◌, ◌∷◌, [], ◌+◌, ◌<◌, ◌^◌, Bool, true, List, length, IfOk, OnOk, OnErr, vec_len, vec_capacity};
 ghost use Rattle.pr_wire.specs.declared.Edge.{Edge};
 ghost use Rattle.pr_wire.specs.Levels.{start};
 ghost use Rattle.pr_wire.specs.Table.{IsAllowed};
 ghost use Rattle.pr_receiver.specs.Taken.{number_taken};
-ghost use Rattle.pr_bus.specs.EarState.{Hears, IsSameEar};
+ghost use Rattle.pr_bus.specs.EarState.{Hears, IsSameEar, HasRoom, MayHear};
 
 use crate::ear::Ear;
 use crate::laws::timed_traces_spell;
@@ -38,8 +38,6 @@ impl Log {
         push(&mut trace, 0, true, true, true)?;
         let mut four = Ear::new(alloc, 4, present.four);
         let mut five = Ear::new(alloc, 5, present.five);
-        four.make_room(trace.len())?;
-        five.make_room(trace.len())?;
         four.listen(&trace);
         five.listen(&trace);
         Ok(Log {
@@ -50,20 +48,20 @@ impl Log {
         })
     }
 
-    /// Makes room for an item and for the inputs that its edges may give, and adds its edges.
+    /// Makes room for an item and its inputs, and adds its edges.
     pub fn grow(&mut self, edges: &[Edge]) -> Result<(), NoMemory>
         ensures items { self.new.items.items ≡ self.old.items.items }
         ensures four { IsSameEar self.old.four self.new.four }
         ensures five { IsSameEar self.old.five self.new.five }
         ensures trace { OnOk result (self.new.trace.items ≡ self.old.trace.items ++ edges.now) }
         ensures room { OnOk result (vec_len self.new.items < vec_capacity self.new.items) }
-        ensures four_room { OnOk result (vec_len self.new.four.inputs + length edges.now ≤ vec_capacity self.new.four.inputs) }
-        ensures five_room { OnOk result (vec_len self.new.five.inputs + length edges.now ≤ vec_capacity self.new.five.inputs) }
+        ensures four_room { OnOk result (HasRoom self.new.four) }
+        ensures five_room { OnOk result (HasRoom self.new.five) }
         ensures err { OnErr result (self.new.trace.items ≡ self.old.trace.items) }
     {
         self.items.reserve(1)?;
-        self.four.make_room(edges.len())?;
-        self.five.make_room(edges.len())?;
+        self.four.make_room()?;
+        self.five.make_room()?;
         self.trace.extend_from_slice(edges)?;
         Ok(())
     }
@@ -71,8 +69,8 @@ impl Log {
     /// Adds an item, and lets the printers hear its edges. There is room for what comes of it.
     pub fn add(&mut self, item: Item, edges: &[Edge])
         requires room { vec_len self.old.items < vec_capacity self.old.items }
-        requires four_room { vec_len self.old.four.inputs + length edges.now ≤ vec_capacity self.old.four.inputs }
-        requires five_room { vec_len self.old.five.inputs + length edges.now ≤ vec_capacity self.old.five.inputs }
+        requires four_may { self.old.four.there ≡ true → MayHear edges.now self.old.four }
+        requires five_may { self.old.five.there ≡ true → MayHear edges.now self.old.five }
         requires four_taken { number_taken self.old.four.receiver + length edges.now < 2 ^ 63 }
         requires five_taken { number_taken self.old.five.receiver + length edges.now < 2 ^ 63 }
         ensures items { self.new.items.items ≡ self.old.items.items ++ item ∷ [] }

@@ -97,7 +97,7 @@ length-inputs_at_byte true byte = omega arith
 length-inputs_at_byte false byte = omega arith
 
 -- an item gives at most two inputs
-length-inputs_at : (device : ℕ) (before : List Item) (item : Item) → length (inputs_at device before item) ≤ 2
+pub length-inputs_at : (device : ℕ) (before : List Item) (item : Item) → length (inputs_at device before item) ≤ 2
 length-inputs_at device before (Attention first None) = length-inputs_at_listen (first == 32 + device) false None
 length-inputs_at device before (Attention first (Some s)) = length-inputs_at_listen (first == 32 + device) (s == 103) None
 length-inputs_at device before (Sent b eoi) = length-inputs_at_byte (is_listener device before) b

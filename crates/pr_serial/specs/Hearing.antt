@@ -1,5 +1,5 @@
 -- Linking words, for proofs: what the bus without wires keeps of a printer. No reader needs to believe them.
-use Rattle.std.specs.Prelude.{◌≡◌, ℕ, ◌≤◌, ◌++◌, Option, Some, None, List, length}
+use Rattle.std.specs.Prelude.{◌≡◌, ℕ, ◌+◌, ◌≤◌, ◌++◌, true, Option, Some, None, List, length, vec_len, vec_capacity}
 use Rattle.pr_serial.specs.declared.Present.{Present}
 use Rattle.pr_serial.specs.declared.Item.{Item}
 use Rattle.pr_serial.specs.declared.ear.Ear.{Ear}
@@ -16,3 +16,14 @@ pub record Hears (present : Present) (number : ℕ) (mark : Option ℕ) (items :
 abbrev pub IsWithin : Option ℕ → List Item → Type 0
 IsWithin None items = Unit {0}
 IsWithin (Some n) items = n ≤ length items
+
+-- it is the printer that it was, with its inputs
+pub record IsSameEar (old new : Ear) : Type 0 where
+  pub device : new.device ≡ old.device
+  pub there : new.there ≡ old.there
+  pub listens : new.listens ≡ old.listens
+  pub inputs : new.inputs.items ≡ old.inputs.items
+
+-- if it is there, it has room for the two inputs that an item gives at most
+abbrev pub HasRoom : Ear → Type 0
+HasRoom ear = ear.there ≡ true → vec_len ear.inputs + 2 ≤ vec_capacity ear.inputs

@@ -60,6 +60,10 @@ HeardOfTwoParts = (present : Present) (device : ℕ) (xs ys : List Item) → is_
 abbrev pub HeardUncalled : Type 0
 HeardUncalled = (present : Present) (device : ℕ) (items : List Item) → IsNotCalled device items → heard_by present device items ≡ []
 
--- at most two inputs come of an item
+-- an item gives a device at most two inputs
+abbrev pub InputsOfAnItem : Type 0
+InputsOfAnItem = (device : ℕ) (items : List Item) (item : Item) → length (inputs_at device items item) ≤ 2
+
+-- a device hears at most two inputs for each item
 abbrev pub HeardIsBounded : Type 0
 HeardIsBounded = (present : Present) (device : ℕ) (items : List Item) → length (heard_by present device items) ≤ 2 * length items

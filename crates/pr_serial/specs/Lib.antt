@@ -1,6 +1,7 @@
 pub mod Elements
 pub mod Items
 pub mod Answers
+pub mod Telling
 pub mod Bus
 pub mod DirectState
 pub mod Hearing

@@ -1,6 +1,7 @@
 //! A bus without wires.
 
-ghost use Rattle.std.specs.Prelude.{◌≡◌, ◌+◌, ◌*◌, ◌≤◌, ◌<◌, Bool, true, false, None, List, [], ◌++◌, length, OnOk, vec_len, vec_capacity};
+ghost use Rattle.std.specs.Prelude.{◌≡◌, ◌<◌, false, None, [], OnOk, vec_len, vec_capacity};
+ghost use Rattle.pr_serial.specs.Hearing.{IsSameEar, HasRoom};
 
 use crate::ear::Ear;
 use crate::serial::Serial;
@@ -14,9 +15,6 @@ const FOUR: u8 = 4;
 
 /// The device number of the second printer.
 const FIVE: u8 = 5;
-
-/// An item gives a device at most so many inputs.
-const INPUTS_OF_AN_ITEM: usize = 2;
 
 /// A bus without wires. It keeps what was sent, and what each printer heard of it since the mark;
 /// it draws on no delay numbers.
@@ -43,7 +41,7 @@ impl Model for Direct {
 }
 
 impl Direct {
-    ghost use Rattle.pr_serial.specs.Answers.{is_present, heard_by, items_before};
+    ghost use Rattle.pr_serial.specs.Telling.{TellsHeard};
 
     /// A bus with these printers, on which nothing was sent and nobody listens. It takes no memory.
     pub fn new(alloc: Global, present: Present) -> Direct
@@ -65,10 +63,7 @@ impl Direct {
     /// What a device heard since the last [`Serial::forget`] (before the first: of all items), in
     /// order: the empty list if the device is absent. After a refusal it answers as before.
     pub fn heard(&self, device: u8) -> &[Input]
-        ensures heard { heard_by self.now.present device (items_before self.now.mark self.now.items) ++ result.now ≡ heard_by self.now.present device self.now.items }
-        ensures absent { is_present self.now.present device ≡ false → result.now ≡ [] }
-        ensures bounded { length (heard_by self.now.present device self.now.items) ≤ 2 * length self.now.items }
-        ensures short { length result.now ≤ 2 * length self.now.items }
+        ensures { TellsHeard self.now.present self.now.mark self.now.items device result.now }
     {
         match device {
             FOUR => &self.four.inputs,
@@ -78,27 +73,28 @@ impl Direct {
     }
 }
 
-/// Makes room for one item, and for what each printer hears of it, unless the bus has failed.
+/// Makes room for one item, and for what each printer that is there hears of it, unless the bus has
+/// failed.
 fn make_room(
     failed: bool,
     items: &mut Vec<Item>,
-    four: &mut Vec<Input>,
-    five: &mut Vec<Input>,
+    four: &mut Ear,
+    five: &mut Ear,
 ) -> Result<(), NoMemory>
     ensures works { OnOk result (failed ≡ false) }
     ensures items { items.new.items ≡ items.old.items }
-    ensures four { four.new.items ≡ four.old.items }
-    ensures five { five.new.items ≡ five.old.items }
+    ensures four { IsSameEar four.old four.new }
+    ensures five { IsSameEar five.old five.new }
     ensures items_room { OnOk result (vec_len items.new < vec_capacity items.new) }
-    ensures four_room { OnOk result (vec_len four.new + 2 ≤ vec_capacity four.new) }
-    ensures five_room { OnOk result (vec_len five.new + 2 ≤ vec_capacity five.new) }
+    ensures four_room { OnOk result (HasRoom four.new) }
+    ensures five_room { OnOk result (HasRoom five.new) }
 {
     if failed {
         return Err(AllocError);
     }
     items.reserve(1)?;
-    four.reserve(INPUTS_OF_AN_ITEM)?;
-    five.reserve(INPUTS_OF_AN_ITEM)
+    four.make_room()?;
+    five.make_room()
 }
 
 impl Serial for Direct {
@@ -115,14 +111,7 @@ impl Serial for Direct {
     ghost has_failed = { λ d. d.failed };
 
     fn attention(&mut self, first: u8, second: Option<u8>) -> Result<bool, NoMemory> {
-        if make_room(
-            self.failed,
-            &mut self.items,
-            &mut self.four.inputs,
-            &mut self.five.inputs,
-        )
-        .is_err()
-        {
+        if make_room(self.failed, &mut self.items, &mut self.four, &mut self.five).is_err() {
             self.failed = true;
             return Err(AllocError);
         }
@@ -133,14 +122,7 @@ impl Serial for Direct {
     }
 
     fn send(&mut self, byte: u8, eoi: bool) -> Result<bool, NoMemory> {
-        if make_room(
-            self.failed,
-            &mut self.items,
-            &mut self.four.inputs,
-            &mut self.five.inputs,
-        )
-        .is_err()
-        {
+        if make_room(self.failed, &mut self.items, &mut self.four, &mut self.five).is_err() {
             self.failed = true;
             return Err(AllocError);
         }

@@ -1,13 +1,19 @@
 //! What one printer hears.
 
-ghost use Rattle.std.specs.Prelude.{◌≡◌, ◌+◌, ◌≤◌, ◌<◌, ◌==◌, ◌||◌, ◌&&◌, Bool, false, List, [], ◌++◌, vec_len, vec_capacity, if◌then◌else◌};
+ghost use Rattle.std.specs.Prelude.{◌≡◌, ◌+◌, ◌<◌, ◌==◌, ◌||◌, ◌&&◌, Bool, false, List, [], ◌++◌, OnOk, if◌then◌else◌};
 ghost use Rattle.pr_serial.specs.declared.Item.{Item};
 ghost use Rattle.pr_serial.specs.declared.Item.TheVariants.{Attention, Sent};
 ghost use Rattle.pr_serial.specs.Answers.{inputs_at, is_listener};
+ghost use Rattle.pr_serial.specs.Hearing.{IsSameEar, HasRoom};
 
+use crate::NoMemory;
 use crate::command::{LISTEN, LOWER_CASE, UNLISTEN};
 use pr_page::Input;
 use std::alloc::Global;
+
+/// An item gives a device at most so many inputs: a LISTEN with secondary address 7 selects a
+/// character set twice.
+const INPUTS_OF_AN_ITEM: usize = 2;
 
 /// A printer's place on the bus: whether it listens, and what it has heard if it is there.
 #[derive(Drop)]
@@ -41,10 +47,21 @@ impl Ear {
         self.there && self.listens
     }
 
-    /// Hears an attention. There is room for two inputs.
+    /// Makes room for the inputs of an item, if it is there.
+    pub fn make_room(&mut self) -> Result<(), NoMemory>
+        ensures same { IsSameEar self.old self.new }
+        ensures room { OnOk result (HasRoom self.new) }
+    {
+        if self.there {
+            self.inputs.reserve(INPUTS_OF_AN_ITEM)?;
+        }
+        Ok(())
+    }
+
+    /// Hears an attention, for whose inputs there is room.
     pub fn attention(&mut self, first: u8, second: Option<u8>)
         requires device { self.old.device < 31 }
-        requires room { vec_len self.old.inputs + 2 ≤ vec_capacity self.old.inputs }
+        requires room { HasRoom self.old }
         ensures device { self.new.device ≡ self.old.device }
         ensures there { self.new.there ≡ self.old.there }
         ensures listens { self.new.listens ≡ (if first == 63 then false else (self.old.listens || first == 32 + self.old.device)) }
@@ -64,9 +81,9 @@ impl Ear {
         }
     }
 
-    /// Hears a byte. There is room for one input.
+    /// Hears a byte, for whose input there is room.
     pub fn byte(&mut self, byte: u8)
-        requires { vec_len self.old.inputs < vec_capacity self.old.inputs }
+        requires { HasRoom self.old }
         ensures device { self.new.device ≡ self.old.device }
         ensures there { self.new.there ≡ self.old.there }
         ensures listens { self.new.listens ≡ self.old.listens }

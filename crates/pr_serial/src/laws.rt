@@ -1,6 +1,6 @@
 //! Laws of the definitions, with nothing to run. A caller whose proof needs one calls the function.
 
-ghost use Rattle.pr_serial.specs.Laws.{ItemsOfOneMore, HeldAfterOneMore, ItemsOnlyGrow, ItemsOfTwoParts, ListenerAfterOneMore, LackingAmongLater, LackingInTwoParts, LackingInNone, LackingInOne, HeardOfOneMore, HeardOfTwoParts, HeardUncalled, HeardIsBounded};
+ghost use Rattle.pr_serial.specs.Laws.{ItemsOfOneMore, HeldAfterOneMore, ItemsOnlyGrow, ItemsOfTwoParts, ListenerAfterOneMore, LackingAmongLater, LackingInTwoParts, LackingInNone, LackingInOne, HeardOfOneMore, HeardOfTwoParts, HeardUncalled, InputsOfAnItem, HeardIsBounded};
 
 /// A law: one more element sends the byte that was held back and, if it is an attention, itself;
 /// more elements only send more items; and after elements that leave nothing held back, others
@@ -33,5 +33,6 @@ pub fn hearing_is_local()
     ensures one_more { HeardOfOneMore }
     ensures two_parts { HeardOfTwoParts }
     ensures uncalled { HeardUncalled }
+    ensures few { InputsOfAnItem }
     ensures bounded { HeardIsBounded }
 {}

@@ -1,17 +1,20 @@
 //! The serial bus as the computer sees it: what is sent, what is answered, and what each device
 //! hears.
 //!
-//! [`Serial`] is the law of every bus of this workspace, [`Direct`] a bus without wires that keeps
-//! it. The words of both stand in `specs/`: `Items.antt` says which elements are sent, and
-//! `Answers.antt` who listens, what is answered and what a device hears.
+//! [`Serial`] is the law of every bus of this workspace, [`Bus`] the same with what each device
+//! heard, and [`Direct`] a bus without wires that keeps both. Their words stand in `specs/`:
+//! `Items.antt` says which elements are sent, and `Answers.antt` who listens, what is answered and
+//! what a device hears.
 #![tactic(auto)]
 
+pub mod bus;
 pub mod command;
 pub mod direct;
 mod ear;
 pub mod laws;
 pub mod serial;
 
+pub use bus::Bus;
 pub use direct::Direct;
 pub use pr_page::{Input, NoMemory};
 pub use serial::Serial;

@@ -35,7 +35,7 @@ pub trait Serial {
     /// them.
     ///
     /// The first byte is 0x20 to 0x3f; a second comes only after a LISTEN, and is 0x60 to 0x6f or
-    /// 0xe0 to 0xef.
+    /// 0xe0 to 0xef. Fewer than 2^32 items were sent before.
     ///
     /// # Errors
     ///
@@ -53,7 +53,7 @@ pub trait Serial {
         ensures err { OnErr result ((sent self.new ≡ sent self.old) × (has_failed self.new ≡ true)) };
 
     /// Sends a byte to the devices that listen, with or without end-or-identify, and answers
-    /// whether one acknowledged it.
+    /// whether one acknowledged it. Fewer than 2^32 items were sent before.
     ///
     /// # Errors
     ///

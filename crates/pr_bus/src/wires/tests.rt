@@ -1,10 +1,11 @@
 //! Worked traces (profile).
 
+ghost use Rattle.std.specs.Prelude.{◌≤◌};
+
 use super::*;
 use pr_wire::example::TRACE_TEXT;
 use pr_wire::{read_trace, write_trace};
 use std::process::Abort;
-use std::test::Fail;
 
 const NONE: Present = Present {
     four: false,
@@ -90,6 +91,22 @@ fn hears(rt: &impl Abort, bus: &Wires, device: u8, inputs: &[Input]) {
     assert_eq!(rt; bus.heard(device), inputs, "device {device}");
 }
 
+/// A printer that takes what the device heard prints one empty row at the top of its paper.
+fn prints_an_empty_row(rt: &(impl Abort + AllocGlobal), bus: &Wires, device: u8) {
+    let mut printer = pr_page::Printer::new(rt.alloc());
+    for input in bus.heard(device) {
+        assert!(rt; printer.taken() < 1000);
+        printer.take(*input).expect(rt, "memory");
+    }
+    let paper = printer.paper();
+    assert_eq!(rt; paper.rows.len(), 1);
+    for row in paper.rows.as_slice() {
+        assert_eq!(rt; row.y, 0);
+        assert!(rt; row.marks.is_empty());
+    }
+    assert!(rt; paper.held.is_empty());
+}
+
 /// How many edges the device's receiver has taken, if it is there.
 fn taken(bus: &Wires, device: u8) -> Option<usize> {
     let receiver = bus.receiver(device)?;
@@ -101,14 +118,16 @@ fn nobody_on_the_wires(rt: HostRuntime) {
     let mut bus = wires(&rt, NONE, &[], &[], &[]);
     traces(&rt, &bus, "0 111\n");
     command(&rt, &mut bus, LISTEN_FOUR, false, 1100);
+    traces(&rt, &bus, "0 111\n100 001\n1100 111\n");
     send(&rt, &mut bus, 65, false, false, 1200);
     traces(&rt, &bus, "0 111\n100 001\n1100 111\n");
+    hears(&rt, &bus, 4, &[]);
     assert_eq!(rt; taken(&bus, 4), None);
 }
 
-/// LISTEN to printer 5 with only printer 4 present, as trace text.
+/// LISTEN to printer 5 with only printer 4 present, as trace text, behind the start.
 const LISTEN_TO_ANOTHER: &str = "\
-    0 111\n100 001\n200 000\n1100 010\n\
+    100 001\n200 000\n1100 010\n\
     1150 011\n1190 001\n1260 011\n1280 000\n\
     1350 010\n1370 001\n1440 011\n1460 000\n\
     1530 010\n1550 000\n1620 010\n1640 001\n\
@@ -138,7 +157,8 @@ fn one_printer_not_addressed(rt: HostRuntime) {
     send(&rt, &mut bus, 13, true, false, 2230);
     command(&rt, &mut bus, UNLISTEN, true, 4360);
     assert_eq!(rt; bus.trace().len(), 51);
-    traces_from(&rt, &bus, 0, LISTEN_TO_ANOTHER);
+    traces_from(&rt, &bus, 0, "0 111\n");
+    traces_from(&rt, &bus, 1, LISTEN_TO_ANOTHER);
     traces_from(&rt, &bus, 24, DROPPED);
     traces_from(&rt, &bus, 26, UNLISTEN_AT_REST);
     hears(&rt, &bus, 4, &[]);
@@ -153,6 +173,7 @@ fn edges_of_each_step(rt: HostRuntime) {
     assert_eq!(rt; bus.mark(), Some(0));
     traces(&rt, &bus, "");
     command(&rt, &mut bus, LISTEN_FIVE, true, 2030);
+    traces(&rt, &bus, LISTEN_TO_ANOTHER);
     assert_eq!(rt; bus.trace().len(), 23);
     bus.forget();
     send(&rt, &mut bus, 65, false, false, 2130);
@@ -167,27 +188,45 @@ fn edges_of_each_step(rt: HostRuntime) {
     assert_eq!(rt; bus.mark(), Some(3));
 }
 
-/// The items of the example: LISTEN to printer 4, two letters, a return, UNLISTEN.
-fn two_letters(rt: &impl Abort, bus: &mut Wires) {
-    command(rt, bus, LISTEN_FOUR, true, 2030);
-    send(rt, bus, 72, false, true, 2960);
-    send(rt, bus, 73, false, true, 3890);
-    send(rt, bus, 13, true, true, 5140);
-    command(rt, bus, UNLISTEN, true, 7270);
+/// The items of the example, LISTEN to printer 4, two letters, a return and UNLISTEN, and the end
+/// of each.
+const TWO_LETTERS: [(Item, u64); 5] = [
+    (Item::Attention(LISTEN_FOUR, None), 2030),
+    (Item::Sent(72, false), 2960),
+    (Item::Sent(73, false), 3890),
+    (Item::Sent(13, true), 5140),
+    (Item::Attention(UNLISTEN, None), 7270),
+];
+
+/// Sends an item, an attention with no second command; it is answered, and ends then.
+fn put(rt: &impl Abort, bus: &mut Wires, item: Item, end: u64) {
+    match item {
+        Item::Attention(first, _) => command(rt, bus, first, true, end),
+        Item::Sent(byte, eoi) => send(rt, bus, byte, eoi, true, end),
+    }
 }
+
+/// Sends the items of the example.
+fn two_letters(rt: &impl Abort, bus: &mut Wires) {
+    for (item, end) in TWO_LETTERS {
+        put(rt, bus, item, end);
+    }
+}
+
+/// What printer 4 hears of the example.
+const LETTERS_HEARD: [Input; 4] = [
+    Input::Select(false),
+    Input::Byte(72),
+    Input::Byte(73),
+    Input::Byte(13),
+];
 
 #[test]
 fn one_printer_addressed(rt: HostRuntime) {
     let mut bus = wires(&rt, ONLY_FOUR, &[], &[], &[]);
     two_letters(&rt, &mut bus);
     traces(&rt, &bus, TRACE_TEXT);
-    let inputs = [
-        Input::Select(false),
-        Input::Byte(72),
-        Input::Byte(73),
-        Input::Byte(13),
-    ];
-    hears(&rt, &bus, 4, &inputs);
+    hears(&rt, &bus, 4, &LETTERS_HEARD);
     hears(&rt, &bus, 5, &[]);
     assert_eq!(rt; taken(&bus, 4), Some(110));
     assert_eq!(rt; taken(&bus, 5), None);
@@ -198,22 +237,85 @@ fn trace_of_two_letters(rt: HostRuntime) {
     let mut bus = wires(&rt, BOTH, &[], &[], &[]);
     two_letters(&rt, &mut bus);
     traces(&rt, &bus, TRACE_TEXT);
+    hears(&rt, &bus, 4, &LETTERS_HEARD);
     hears(&rt, &bus, 5, &[]);
+    assert_eq!(rt; taken(&bus, 4), Some(110));
     assert_eq!(rt; taken(&bus, 5), Some(110));
 }
 
-/// The longest time of a byte and of an attention.
-const SHARES_OF_TIME: [u64; 2] = [14_790, 32_158];
+/// A mark hides the inputs and edges before it, and a printer listens on.
+#[test]
+fn inputs_since_the_mark(rt: HostRuntime) {
+    let mut bus = wires(&rt, BOTH, &[], &[], &[]);
+    command(&rt, &mut bus, LISTEN_FOUR, true, 2030);
+    send(&rt, &mut bus, 72, false, true, 2960);
+    hears(&rt, &bus, 4, &LETTERS_HEARD[..2]);
+    bus.forget();
+    assert_eq!(rt; bus.mark(), Some(2));
+    hears(&rt, &bus, 4, &[]);
+    send(&rt, &mut bus, 73, false, true, 3890);
+    hears(&rt, &bus, 4, &LETTERS_HEARD[2..3]);
+    assert_eq!(rt; bus.trace().len(), 20);
+    bus.forget();
+    send(&rt, &mut bus, 13, true, true, 5140);
+    command(&rt, &mut bus, UNLISTEN, true, 7270);
+    hears(&rt, &bus, 4, &LETTERS_HEARD[3..]);
+    hears(&rt, &bus, 5, &[]);
+    assert_eq!(rt; bus.trace().len(), 46);
+    assert_eq!(rt; taken(&bus, 4), Some(110));
+}
 
-/// The most edges of a byte and of an attention.
-const SHARES_OF_EDGES: [usize; 2] = [22, 44];
+/// Room is kept for the inputs of an item, not for as many as it has edges, and none for a printer
+/// that is absent.
+#[test]
+fn room_for_inputs(rt: HostRuntime) {
+    let mut bus = wires(&rt, ONLY_FOUR, &[], &[], &[]);
+    command(&rt, &mut bus, LISTEN_FOUR, true, 2030);
+    assert!(rt; bus.log.four.inputs.capacity() < 20);
+    assert_eq!(rt; bus.log.five.inputs.capacity(), 0);
+}
 
+/// The longest time of an item in microseconds: its wait, and the greatest delays of its frames.
+fn longest(item: Item) -> u64
+    ensures { result ≤ 32158 }
+{
+    match item {
+        Item::Sent(_, _) => 1000 + 10_000 + 250 + 200 + 60 + 8 * 400 + 80,
+        Item::Attention(_, _) => 1000 + 2 * (2000 + 10_000 + 199 + 8 * 400 + 80) + 200,
+    }
+}
+
+/// The most edges of an item.
+fn most_edges(item: Item) -> usize
+    ensures { result ≤ 44 }
+{
+    match item {
+        Item::Sent(_, _) => 22,
+        Item::Attention(_, _) => 44,
+    }
+}
+
+/// Each item keeps to its own share of time and edges, and all of them to the sums.
 #[test]
 fn bounds_of_two_letters(rt: HostRuntime) {
     let mut bus = wires(&rt, BOTH, &[], &[], &[]);
-    two_letters(&rt, &mut bus);
-    assert_eq!(rt; 3 * SHARES_OF_TIME[0] + 2 * SHARES_OF_TIME[1], 108_686);
-    assert_eq!(rt; 1 + 3 * SHARES_OF_EDGES[0] + 2 * SHARES_OF_EDGES[1], 155);
+    let mut time = 0;
+    let mut edges = 1;
+    for (item, end) in TWO_LETTERS {
+        let (now, count) = (bus.now(), bus.trace().len());
+        put(&rt, &mut bus, item, end);
+        assert!(rt; now < 1_000_000 && count < 1000);
+        assert!(rt; bus.now() <= now + longest(item), "time of {item:?}");
+        assert!(rt;
+            bus.trace().len() <= count + most_edges(item),
+            "edges of {item:?}"
+        );
+        assert!(rt; time < 1_000_000 && edges < 1000);
+        time += longest(item);
+        edges += most_edges(item);
+    }
+    assert_eq!(rt; time, 108_686);
+    assert_eq!(rt; edges, 155);
     assert_eq!(rt; bus.now(), 7270);
     assert_eq!(rt; bus.trace().len(), 110);
 }
@@ -232,6 +334,7 @@ fn one_attention_with_chosen_delays(rt: HostRuntime) {
         3609 011\n3629 000\n3699 010\n3719 000\n\
         3789 010\n3809 001\n3829 000\n3929 100\n",
     );
+    hears(&rt, &bus, 4, &[Input::Select(false)]);
 }
 
 #[test]
@@ -248,6 +351,8 @@ fn answer_in_the_microsecond_of_the_look(rt: HostRuntime) {
         1710 011\n1730 000\n1800 010\n1820 000\n\
         1890 010\n1910 001\n1930 000\n2030 100\n",
     );
+    assert_eq!(rt; bus.trace().len(), 23);
+    hears(&rt, &bus, 4, &[Input::Select(false)]);
 }
 
 /// LISTEN to printer 4, a return with end-or-identify and UNLISTEN, with only printer 4 present.
@@ -262,6 +367,9 @@ fn all_least_delays(rt: HostRuntime) {
     traces_from(&rt, &bus, 26, "1824 110\n1904 111\n");
     traces_from(&rt, &bus, 45, "2226 100\n");
     traces_from(&rt, &bus, 67, "3749 100\n3750 101\n3849 111\n");
+    hears(&rt, &bus, 4, &[Input::Select(false), Input::Byte(13)]);
+    hears(&rt, &bus, 5, &[]);
+    prints_an_empty_row(&rt, &bus, 4);
 }
 
 /// The same with the greatest delays. The computer's numbers are for LISTEN, the byte and UNLISTEN.
@@ -283,6 +391,9 @@ fn all_greatest_delays(rt: HostRuntime) {
     traces_from(&rt, &bus, 26, "27929 110\n28129 111\n");
     traces_from(&rt, &bus, 45, "31469 100\n");
     traces_from(&rt, &bus, 67, "48148 100\n48208 101\n48348 111\n");
+    hears(&rt, &bus, 4, &[Input::Select(false), Input::Byte(13)]);
+    hears(&rt, &bus, 5, &[]);
+    prints_an_empty_row(&rt, &bus, 4);
 }
 
 /// LISTEN to printer 4 with secondary address 7, all delays the greatest.
@@ -298,8 +409,9 @@ fn time_bound_is_met(rt: HostRuntime) {
     assert!(rt; bus.items() < 1000);
     let answered = bus.attention(LISTEN_FOUR, Some(103)).expect(&rt, "memory");
     assert!(rt; answered);
-    assert_eq!(rt; bus.now(), SHARES_OF_TIME[1]);
-    assert_eq!(rt; bus.trace().len(), SHARES_OF_EDGES[1]);
+    let item = Item::Attention(LISTEN_FOUR, Some(103));
+    assert_eq!(rt; bus.now(), longest(item));
+    assert_eq!(rt; bus.trace().len(), most_edges(item));
     traces_from(&rt, &bus, 43, "32158 100\n");
     hears(&rt, &bus, 4, &[Input::Select(false), Input::Select(true)]);
 }
@@ -391,6 +503,36 @@ const ENDS: [u64; CALLS + 1] = [0, 3860, 5890, 6820, 7750, 8680, 9610];
 /// The edges so far: the start, 43 of the first attention, 22 of the second, 20 of each byte.
 const EDGES: [usize; CALLS + 1] = [1, 44, 66, 86, 106, 126, 146];
 
+/// What printer 4 hears of the script: the first attention selects twice.
+const FOUR_HEARS: [Input; 6] = [
+    Input::Select(false),
+    Input::Select(true),
+    Input::Byte(2),
+    Input::Byte(3),
+    Input::Byte(4),
+    Input::Byte(5),
+];
+
+/// What printer 5 hears of the script.
+const FIVE_HEARS: [Input; 5] = [
+    Input::Select(false),
+    Input::Byte(2),
+    Input::Byte(3),
+    Input::Byte(4),
+    Input::Byte(5),
+];
+
+/// How many inputs of the script each printer has heard after so many calls.
+const INPUTS: [(usize, usize); CALLS + 1] = [
+    (0, 0),
+    (2, 0),
+    (2, 1),
+    (3, 2),
+    (4, 3),
+    (5, 4),
+    (6, 5),
+];
+
 /// Delays that are all typical.
 fn typical(alloc: Global) -> Delays {
     Delays {
@@ -400,37 +542,66 @@ fn typical(alloc: Global) -> Delays {
     }
 }
 
-/// With no growth refused each call is answered. With one refused, as by `rt try --test
-/// --fail-alloc N`, each later call is refused too, and what the bus shows stays that of the calls
-/// before it. It prints how many calls were refused, so that a loop over N knows where to end.
-#[test]
-fn each_growth_refused(rt: HostRuntime) -> Result<(), Fail> {
-    let mut inputs = [Input::Select(false); CALLS];
-    inputs[1] = Input::Select(true);
-    for call in 2..CALLS {
-        inputs[call] = Input::Byte(call as u8);
+/// A bus with both printers. Where one growth is refused, a second try is not.
+fn bus_of_both(rt: &(impl Abort + AllocGlobal)) -> Wires {
+    match Wires::new(rt.alloc(), BOTH, typical(rt.alloc())) {
+        Ok(bus) => bus,
+        Err(_) => Wires::new(rt.alloc(), BOTH, typical(rt.alloc())).expect(rt, "memory"),
     }
+}
+
+/// The bus shows what came of so many calls of the script, and no more.
+fn shows(rt: &impl Abort, bus: &Wires, answered: usize) {
+    assert!(rt; answered <= CALLS);
+    assert_eq!(rt; bus.items(), answered as u64);
+    assert_eq!(rt; bus.now(), ENDS[answered]);
+    assert_eq!(rt; bus.trace().len(), EDGES[answered]);
+    assert_eq!(rt; taken(bus, 4), Some(EDGES[answered]));
+    assert_eq!(rt; taken(bus, 5), Some(EDGES[answered]));
+    let (four, five) = INPUTS[answered];
+    assert!(rt; four <= 6 && five <= 5);
+    hears(rt, bus, 4, &FOUR_HEARS[..four]);
+    hears(rt, bus, 5, &FIVE_HEARS[..five]);
+}
+
+/// Makes the script's calls, and tells how many were answered. Behind the first that is refused each
+/// call is refused, and the bus shows what it showed before.
+fn calls_answered(rt: &impl Abort, bus: &mut Wires) -> usize
+    ensures { result ≤ 6 }
+{
     let mut answered = 0;
-    if let Ok(mut bus) = Wires::new(rt.alloc(), BOTH, typical(rt.alloc())) {
-        for call in 0..CALLS {
-            let answer = scripted(&rt, &mut bus, call);
-            if answered == call && answer.is_ok() {
-                assert_eq!(rt; answer, Ok(true), "call {call}");
-                answered = call + 1;
-            } else {
-                assert!(rt; answer.is_err(), "call {call} after a refusal");
-            }
-            assert_eq!(rt; bus.failed(), answered <= call, "call {call}");
-            assert_eq!(rt; bus.items(), answered as u64, "call {call}");
-            assert!(rt; answered <= CALLS);
-            assert_eq!(rt; bus.now(), ENDS[answered], "call {call}");
-            assert_eq!(rt; bus.trace().len(), EDGES[answered], "call {call}");
-            assert_eq!(rt; taken(&bus, 4), Some(EDGES[answered]), "call {call}");
-            let heard = if answered == 1 { 2 } else { answered };
-            assert_eq!(rt; bus.heard(4), &inputs[..heard], "call {call}");
+    for call in 0..CALLS {
+        let answer = scripted(rt, bus, call);
+        if answered == call && answer.is_ok() {
+            assert_eq!(rt; answer, Ok(true), "call {call}");
+            answered = call + 1;
+        } else {
+            assert!(rt; answer.is_err(), "call {call} behind a refusal");
         }
+        assert_eq!(rt; bus.failed(), answered <= call, "call {call}");
+        shows(rt, bus, answered);
     }
-    let refused = CALLS.saturating_sub(answered);
-    println!(rt; "{refused} calls refused")?;
-    Ok(())
+    assert!(rt; answered <= CALLS);
+    answered
+}
+
+/// One trace is a front of the other.
+fn same_front(rt: &impl Abort, first: &[Edge], second: &[Edge]) {
+    for (edge, other) in first.iter().zip(second) {
+        assert_eq!(rt; edge, other);
+    }
+}
+
+/// `tests/growths` runs this with each growth in turn refused. Since only one is, at least one of two
+/// runs of the script is answered whole, and the other's trace is a front of its trace.
+#[test]
+fn each_growth_refused(rt: HostRuntime) {
+    let (mut first, mut second) = (bus_of_both(&rt), bus_of_both(&rt));
+    let answered = calls_answered(&rt, &mut first);
+    let again = calls_answered(&rt, &mut second);
+    assert!(rt;
+        answered == CALLS || again == CALLS,
+        "{answered} and {again} answered"
+    );
+    same_front(&rt, first.trace(), second.trace());
 }

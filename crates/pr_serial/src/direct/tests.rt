@@ -120,37 +120,81 @@ fn scripted(rt: &impl Abort, bus: &mut Direct, call: usize) -> Result<bool, NoMe
     }
 }
 
-/// With no growth refused each call is answered. With one refused, as by `rt try --test
-/// --fail-alloc N`, each later call is refused too, and the inputs heard stay those of the calls
-/// before it. It prints how many calls were refused, so that a loop over N knows where to end.
-#[test]
-fn each_growth_refused(rt: HostRuntime) -> Result<(), Fail> {
-    let mut four = [Input::Select(false); CALLS];
-    four[1] = Input::Select(true);
-    let mut five = [Input::Select(false); CALLS - 1];
-    for call in 2..CALLS {
-        four[call] = Input::Byte(call as u8);
-        five[call - 1] = Input::Byte(call as u8);
-    }
+/// What printer 4 hears of the script: the first attention selects twice.
+const FOUR_HEARS: [Input; 6] = [
+    Input::Select(false),
+    Input::Select(true),
+    Input::Byte(2),
+    Input::Byte(3),
+    Input::Byte(4),
+    Input::Byte(5),
+];
+
+/// What printer 5 hears of the script.
+const FIVE_HEARS: [Input; 5] = [
+    Input::Select(false),
+    Input::Byte(2),
+    Input::Byte(3),
+    Input::Byte(4),
+    Input::Byte(5),
+];
+
+/// How many inputs of the script each printer has heard after so many calls.
+const INPUTS: [(usize, usize); CALLS + 1] = [
+    (0, 0),
+    (2, 0),
+    (2, 1),
+    (3, 2),
+    (4, 3),
+    (5, 4),
+    (6, 5),
+];
+
+/// The bus shows what came of so many calls of the script, and no more.
+fn shows(rt: &impl Abort, bus: &Direct, answered: usize) {
+    assert!(rt; answered <= CALLS);
+    assert_eq!(rt; bus.items(), answered as u64);
+    let (four, five) = INPUTS[answered];
+    assert!(rt; four <= 6 && five <= 5);
+    hears(rt, bus, 4, &FOUR_HEARS[..four]);
+    hears(rt, bus, 5, &FIVE_HEARS[..five]);
+}
+
+/// Makes the script's calls on a new bus, and tells how many were answered. Behind the first that is
+/// refused each call is refused, and the bus shows what it showed before.
+fn calls_answered(rt: &(impl Abort + AllocGlobal)) -> usize {
     let mut bus = Direct::new(rt.alloc(), BOTH);
     let mut answered = 0;
     for call in 0..CALLS {
-        let answer = scripted(&rt, &mut bus, call);
+        let answer = scripted(rt, &mut bus, call);
         if answered == call && answer.is_ok() {
             assert_eq!(rt; answer, Ok(true), "call {call}");
             answered = call + 1;
         } else {
-            assert!(rt; answer.is_err(), "call {call} after a refusal");
+            assert!(rt; answer.is_err(), "call {call} behind a refusal");
         }
         assert_eq!(rt; bus.failed(), answered <= call, "call {call}");
-        assert_eq!(rt; bus.items(), answered as u64, "call {call}");
-        assert!(rt; answered <= CALLS);
-        let by_four = if answered == 1 { 2 } else { answered };
-        let by_five = answered.saturating_sub(1);
-        assert_eq!(rt; bus.heard(4), &four[..by_four], "call {call}");
-        assert_eq!(rt; bus.heard(5), &five[..by_five], "call {call}");
+        shows(rt, &bus, answered);
     }
-    let refused = CALLS.saturating_sub(answered);
-    println!(rt; "{refused} calls refused")?;
+    answered
+}
+
+/// `tests/growths` runs this with each growth in turn refused. Since only one is, at least one of two
+/// runs of the script is answered whole.
+#[test]
+fn each_growth_refused(rt: HostRuntime) {
+    let answered = calls_answered(&rt);
+    let again = calls_answered(&rt);
+    assert!(rt;
+        answered == CALLS || again == CALLS,
+        "{answered} and {again} answered"
+    );
+}
+
+/// An absent printer has no room for inputs.
+#[test]
+fn room_for_inputs(rt: HostRuntime) -> Result<(), Fail> {
+    let bus = line_is_answered(&rt, ONLY_FOUR, LISTEN_FOUR, [true; 4])?;
+    assert_eq!(rt; bus.five.inputs.capacity(), 0);
     Ok(())
 }

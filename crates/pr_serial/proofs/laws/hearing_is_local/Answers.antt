@@ -1,4 +1,4 @@
-use Rattle.pr_serial.proofs.HeardLemmas.{heard_by-push, heard_by-append, heard_by-uncalled, length-heard_by}
+use Rattle.pr_serial.proofs.HeardLemmas.{heard_by-push, heard_by-append, heard_by-uncalled, length-inputs_at, length-heard_by}
 use Rattle.pr_serial.proofs.laws.hearing_is_local.Goals as goal
 
 pub returns-clause-one_more : goal.returns-clause-one_more
@@ -12,3 +12,6 @@ returns-clause-uncalled c = heard_by-uncalled
 
 pub returns-clause-bounded : goal.returns-clause-bounded
 returns-clause-bounded c = length-heard_by
+
+pub returns-clause-few : goal.returns-clause-few
+returns-clause-few c = length-inputs_at

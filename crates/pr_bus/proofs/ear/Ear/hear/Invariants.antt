@@ -1,5 +1,5 @@
 use Rattle.std.proofs.Common.{◌≡◌, ◌+◌, ◌≤◌, ◌++◌, List, take}
-use Rattle.std.specs.Prelude.{vec_len, vec_capacity}
+use Rattle.std.specs.Prelude.{vec_capacity}
 use Rattle.pr_wire.specs.declared.Edge.{Edge}
 use Rattle.pr_wire.specs.Table.{IsAllowed}
 use Rattle.pr_receiver.specs.Taken.{device_of, number_taken}
@@ -13,6 +13,5 @@ invariant-loop-edge l = record {
   device : device_of l.self.receiver ≡ device_of l.fn.self.receiver;
   there : l.self.there ≡ l.fn.self.there;
   count : number_taken l.self.receiver ≤ number_taken l.fn.self.receiver + l.edge-index;
-  len : vec_len l.self.inputs ≤ vec_len l.fn.self.inputs + l.edge-index;
   capacity : vec_capacity l.self.inputs ≡ vec_capacity l.fn.self.inputs;
 }

@@ -1,4 +1,5 @@
 use Rattle.std.proofs.Common.{◌≡◌, ◌≤◌, ◌*◌, ◌++◌, List, length, ap, ◌∙◌, arith, length-append, subst, sym}
+use Rattle.std.proofs.lemmas.Grind.{common_steps}
 use Rattle.pr_page.specs.declared.input.Input.{Input}
 use Rattle.pr_serial.specs.Answers.{heard_by, items_before}
 use Rattle.pr_bus.specs.WiresState.{WiresState}
@@ -16,38 +17,44 @@ five-since c =
     let w = c.self.inside in
     heard-since c.items_are_heard_on_wires.ensures.wires w.present (numbers_of w.begun w.talker) w.mark w.log.items.items 5 w.present.five w.log.five c.self.invariant.items (present-five w.present) c.self.invariant.ears.five
 
-pub returns-in-4-clause-heard : goal.returns-in-4-clause-heard
-returns-in-4-clause-heard c =
-    subst (λ k. heard_by c.args.self.now.present k (items_before c.args.self.now.mark c.args.self.now.items) ++ c.deref.result.now ≡ heard_by c.args.self.now.present k c.args.self.now.items) (sym c.in-4.is)
-    (subst (λ (v : WiresState). heard_by v.present 4 (items_before v.mark v.items) ++ c.deref.result.now ≡ heard_by v.present 4 v.items) c.self.view_is
-    (ap (λ l. heard_by c.self.inside.present 4 (items_before c.self.inside.mark c.self.inside.log.items.items) ++ l) c.deref.ensures.value ∙ four-since c))
-
-pub returns-in-4-clause-short : goal.returns-in-4-clause-short
-returns-in-4-clause-short c =
+pub returns-in-4 : goal.returns-in-4
+returns-in-4 c =
     let w = c.self.inside in
-    subst (λ (v : WiresState). length c.deref.result.now ≤ 2 * length v.items) c.self.view_is
-    (omega (
-      arith,
-      ap {A = List Input} (λ l. length l) c.deref.ensures.value,
-      ap {A = List Input} (λ l. length l) (four-since c),
-      length-append (heard_by w.present 4 (items_before w.mark w.log.items.items)) w.log.four.inputs.items,
-      c.hearing_is_local.ensures.bounded w.present 4 w.log.items.items,
-    ))
+    record {
+      heard =
+          subst (λ k. heard_by c.args.self.now.present k (items_before c.args.self.now.mark c.args.self.now.items) ++ c.deref.result.now ≡ heard_by c.args.self.now.present k c.args.self.now.items) (sym c.in-4.is)
+          (subst (λ (v : WiresState). heard_by v.present 4 (items_before v.mark v.items) ++ c.deref.result.now ≡ heard_by v.present 4 v.items) c.self.view_is
+          (ap (λ l. heard_by w.present 4 (items_before w.mark w.log.items.items) ++ l) c.deref.ensures.value ∙ four-since c));
+      absent = grind (arith, common_steps);
+      bounded = c.hearing_is_local.ensures.bounded c.args.self.now.present c.args.device c.args.self.now.items;
+      short =
+          subst (λ (v : WiresState). length c.deref.result.now ≤ 2 * length v.items) c.self.view_is
+          (omega (
+            arith,
+            ap {A = List Input} (λ l. length l) c.deref.ensures.value,
+            ap {A = List Input} (λ l. length l) (four-since c),
+            length-append (heard_by w.present 4 (items_before w.mark w.log.items.items)) w.log.four.inputs.items,
+            c.hearing_is_local.ensures.bounded w.present 4 w.log.items.items,
+          ));
+    }
 
-pub returns-in-5-clause-heard : goal.returns-in-5-clause-heard
-returns-in-5-clause-heard c =
-    subst (λ k. heard_by c.args.self.now.present k (items_before c.args.self.now.mark c.args.self.now.items) ++ c.deref-in-5.result.now ≡ heard_by c.args.self.now.present k c.args.self.now.items) (sym c.in-5.is)
-    (subst (λ (v : WiresState). heard_by v.present 5 (items_before v.mark v.items) ++ c.deref-in-5.result.now ≡ heard_by v.present 5 v.items) c.self.view_is
-    (ap (λ l. heard_by c.self.inside.present 5 (items_before c.self.inside.mark c.self.inside.log.items.items) ++ l) c.deref-in-5.ensures.value ∙ five-since c))
-
-pub returns-in-5-clause-short : goal.returns-in-5-clause-short
-returns-in-5-clause-short c =
+pub returns-in-5 : goal.returns-in-5
+returns-in-5 c =
     let w = c.self.inside in
-    subst (λ (v : WiresState). length c.deref-in-5.result.now ≤ 2 * length v.items) c.self.view_is
-    (omega (
-      arith,
-      ap {A = List Input} (λ l. length l) c.deref-in-5.ensures.value,
-      ap {A = List Input} (λ l. length l) (five-since c),
-      length-append (heard_by w.present 5 (items_before w.mark w.log.items.items)) w.log.five.inputs.items,
-      c.hearing_is_local.ensures.bounded w.present 5 w.log.items.items,
-    ))
+    record {
+      heard =
+          subst (λ k. heard_by c.args.self.now.present k (items_before c.args.self.now.mark c.args.self.now.items) ++ c.deref-in-5.result.now ≡ heard_by c.args.self.now.present k c.args.self.now.items) (sym c.in-5.is)
+          (subst (λ (v : WiresState). heard_by v.present 5 (items_before v.mark v.items) ++ c.deref-in-5.result.now ≡ heard_by v.present 5 v.items) c.self.view_is
+          (ap (λ l. heard_by w.present 5 (items_before w.mark w.log.items.items) ++ l) c.deref-in-5.ensures.value ∙ five-since c));
+      absent = grind (arith, common_steps);
+      bounded = c.hearing_is_local.ensures.bounded c.args.self.now.present c.args.device c.args.self.now.items;
+      short =
+          subst (λ (v : WiresState). length c.deref-in-5.result.now ≤ 2 * length v.items) c.self.view_is
+          (omega (
+            arith,
+            ap {A = List Input} (λ l. length l) c.deref-in-5.ensures.value,
+            ap {A = List Input} (λ l. length l) (five-since c),
+            length-append (heard_by w.present 5 (items_before w.mark w.log.items.items)) w.log.five.inputs.items,
+            c.hearing_is_local.ensures.bounded w.present 5 w.log.items.items,
+          ));
+    }

@@ -1,7 +1,7 @@
 use Rattle.std.proofs.Common.{ap, sym, subst, ◌∙◌, ◌++◌, ◌∷◌, [], length, ◌<◌, ◌^◌, refl, true}
 use Rattle.pr_serial.specs.declared.Item.TheVariants.{Attention}
 use Rattle.pr_bus.specs.WiresState.{WiresState}
-use Rattle.pr_bus.proofs.WiredLemmas.{ok-of, err-of, time-small, TraceLaws, wired-after, wired-failed, wired-still, same-ear, ears-small}
+use Rattle.pr_bus.proofs.WiredLemmas.{ok-of, err-of, time-small, TraceLaws, wired-after, wired-failed, wired-still, same-ear, ears-small, RoomLaws, ears-may}
 use Rattle.pr_bus.specs.declared.wires.Wires.TheInside.{Inside}
 use Rattle.pr_bus.specs.Wired.{numbers_of, IsWired}
 use Rattle.pr_bus.proofs.wires.WiresSerial.attention.Goals as goal
@@ -24,6 +24,34 @@ add-requires-clause-five_taken c =
     (ears-small c.timed_traces_are_bounded.ensures.whole c.timed_traces_are_bounded.ensures.shares c.self.inside (Attention c.args.first c.args.second) c.deref-2.result.now c.grow.new.self c.self.invariant c.if-self.false c.requires.may_send
     (subst (λ (v : WiresState). length v.items < 2 ^ 32) (sym c.self.view_is) c.requires.room)
     (λ before i. c.deref-2.ensures.value ∙ ok-of c.attention.result (sym c.is_err.ensures.value ∙ c.if-is_err.false) c.attention.ensures.edges before i) c.grow.ensures.four c.grow.ensures.five).1
+
+pub add-requires-clause-four_may : goal.add-requires-clause-four_may
+add-requires-clause-four_may c =
+    let laws : RoomLaws =
+    record {
+      traces = record { spell = c.timed_traces_spell.ensures; lawful = c.fronts_are_allowed.ensures.lawful };
+      wires = c.items_are_heard_on_wires.ensures.wires;
+      item = c.hearing_is_local.ensures.one_more;
+      few = c.hearing_is_local.ensures.few;
+    } in
+    let grown = sym c.is_err-else-is_err.ensures.value ∙ c.if-is_err-2.false in
+    (ears-may laws c.self.inside (Attention c.args.first c.args.second) c.deref-2.result.now c.grow.new.self c.self.invariant c.if-self.false c.requires.may_send
+    (λ before i. c.deref-2.ensures.value ∙ ok-of c.attention.result (sym c.is_err.ensures.value ∙ c.if-is_err.false) c.attention.ensures.edges before i) c.grow.ensures.four c.grow.ensures.five
+    (ok-of c.grow.result grown c.grow.ensures.four_room) (ok-of c.grow.result grown c.grow.ensures.five_room)).0
+
+pub add-requires-clause-five_may : goal.add-requires-clause-five_may
+add-requires-clause-five_may c =
+    let laws : RoomLaws =
+    record {
+      traces = record { spell = c.timed_traces_spell.ensures; lawful = c.fronts_are_allowed.ensures.lawful };
+      wires = c.items_are_heard_on_wires.ensures.wires;
+      item = c.hearing_is_local.ensures.one_more;
+      few = c.hearing_is_local.ensures.few;
+    } in
+    let grown = sym c.is_err-else-is_err.ensures.value ∙ c.if-is_err-2.false in
+    (ears-may laws c.self.inside (Attention c.args.first c.args.second) c.deref-2.result.now c.grow.new.self c.self.invariant c.if-self.false c.requires.may_send
+    (λ before i. c.deref-2.ensures.value ∙ ok-of c.attention.result (sym c.is_err.ensures.value ∙ c.if-is_err.false) c.attention.ensures.edges before i) c.grow.ensures.four c.grow.ensures.five
+    (ok-of c.grow.result grown c.grow.ensures.four_room) (ok-of c.grow.result grown c.grow.ensures.five_room)).1
 
 pub invariant_of-self : goal.invariant_of-self
 invariant_of-self c = elim c.then-self.branch [
