@@ -49,7 +49,7 @@ push-step : (r q p : Reached) (es : List Edge) (e : Edge) → reached r es ≡ O
 push-step r q p es e h k = reached-append es r e ∙ (ap (λ v. led (λ x. one_more x e) v) h ∙ k)
 
 -- edges behind others
-reached-both : (es fs : List Edge) (r : Reached) → reached r (es ++ fs) ≡ led (λ q. reached q fs) (reached r es)
+pub reached-both : (es fs : List Edge) (r : Reached) → reached r (es ++ fs) ≡ led (λ q. reached q fs) (reached r es)
 reached-both [] fs r = refl
 reached-both (e ∷ es) fs r = by (step_of r.last r.place r.count e) (λ s. reached-both es fs (onto r e s))
   where

@@ -1,9 +1,12 @@
-use Rattle.std.proofs.Common.{arith}
-use Rattle.std.proofs.lemmas.List.{take_rest}
-use Rattle.pr_wire.proofs.WholeFrames.{passes-plain}
+use Rattle.std.proofs.Common.{◌≡◌, arith}
 use Rattle.pr_wire.proofs.ahead.frame_ahead.Goals as goal
 
-pub returns-clause-passes : goal.returns-clause-passes
-returns-clause-passes c =
-    let g = rw take_rest at c.in_ok-byte.ensures.brings in
-    passes-plain c.args.last c.args.start c.in_ok-byte.byte c.args.edges.now _ (omega arith) (c.is_begun.ensures c.if-not-is_begun.false) (c.is_pulled.ensures c.if-not-is_pulled.false) g
+pub returns-then-len-eq-PLAIN_EDGES-clause-passes : goal.returns-then-len-eq-PLAIN_EDGES-clause-passes
+returns-then-len-eq-PLAIN_EDGES-clause-passes c =
+    let e : c.args.len ≡ 20 = omega (arith, c.if-len-eq-PLAIN_EDGES.true) in
+    rw e c.in_ok-byte.ensures.passes
+
+pub returns-then-len-eq-ANSWERED_EDGES-clause-passes : goal.returns-then-len-eq-ANSWERED_EDGES-clause-passes
+returns-then-len-eq-ANSWERED_EDGES-clause-passes c =
+    let e : c.args.len ≡ 22 = omega (arith, c.if-len-eq-ANSWERED_EDGES.true) in
+    rw e c.in_ok-byte-2.ensures.passes
