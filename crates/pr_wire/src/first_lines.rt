@@ -1,0 +1,62 @@
+//! The first lines of a text, up to those of a frame.
+
+ghost use Rattle.std.specs.Prelude.{◌≡◌, ◌+◌, ◌≤◌, true, length};
+ghost use Rattle.pr_wire.specs.FirstLines.{AreFirstLines};
+
+use crate::ahead::ANSWERED_EDGES;
+use crate::line::read_ended_line;
+use crate::{Edge, Levels};
+
+/// The edges of the first lines of a text, so many, at most those of a frame; and how long these
+/// lines are with their ends, in bytes.
+#[derive(Drop)]
+pub struct FirstLines {
+    pub edges: [Edge; ANSWERED_EDGES],
+    pub count: usize,
+    pub len: usize,
+}
+
+impl FirstLines {
+    /// No line yet.
+    #[inline(always)]
+    pub fn new() -> FirstLines
+        ensures count { result.count ≡ 0 }
+        ensures len { result.len ≡ 0 }
+        ensures room { length result.edges ≡ 22 }
+    {
+        let levels = Levels {
+            atn: false,
+            clock: false,
+            line: false,
+        };
+        FirstLines {
+            edges: [Edge { time: 0, levels }; ANSWERED_EDGES],
+            count: 0,
+            len: 0,
+        }
+    }
+
+    /// Reads on until there are `count` lines, and tells whether there are: each spells an edge and
+    /// ends with byte 10 alone.
+    #[inline(always)]
+    pub fn read_to(&mut self, text: &[u8], count: usize) -> bool
+        requires few { count ≤ 22 }
+        requires more { self.old.count ≤ count }
+        requires within { self.old.len ≤ length text.now }
+        requires bytes { self.old.count ≤ self.old.len }
+        ensures lines { AreFirstLines text.now self.old → AreFirstLines text.now self.new }
+        ensures count { result ≡ true → self.new.count ≡ count }
+        ensures within { self.new.len ≤ length text.now }
+        ensures bytes { self.new.count ≤ self.new.len }
+    {
+        while self.count < count {
+            let Some(line) = read_ended_line(&text[self.len..]) else {
+                return false;
+            };
+            self.edges[self.count] = line.edge;
+            self.count += 1;
+            self.len += line.len;
+        }
+        true
+    }
+}
