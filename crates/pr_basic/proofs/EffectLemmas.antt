@@ -30,30 +30,6 @@ effect_adding e old working =
       screen = old.screen ++ e.screen;
     }) (ap length (sym working.in_step))
 
--- the same by a test on the output device
-clrchn_at : AddingLaws → (b : Bool) (es : List Element) (old : Seen) → IsWorking old
-    → record (cond b (adding (unlisten ∷ []) (adding es old)) (adding es old)) { output = 3 } ≡ record (adding (es ++ cond b (unlisten ∷ []) []) old) { output = 3 }
-clrchn_at laws true es old working = ap (λ (s : Seen). record s { output = 3 }) (laws.two_parts es (unlisten ∷ []) old working.in_step)
-clrchn_at laws false es old working = ap (λ xs. record (adding xs old) { output = 3 }) (sym (append-nil es))
-
--- CLRCHN after more elements
-pub clrchn_after : AddingLaws → (es : List Element) (old : Seen) → IsWorking old
-    → clrchn_of (adding es old) ≡ record (adding (es ++ cond (nat_lt 3 old.output) (unlisten ∷ []) []) old) { output = 3 }
-clrchn_after laws es old working = clrchn_at laws (nat_lt 3 old.output) es old working
-
--- a stop after more elements
-pub stopping_after : AddingLaws → (stop : Stop) (es : List Element) (channel : ℕ) (old : Seen) → IsWorking old
-    → clrchn_of (adding es old) ≡ with_effect old.status (stopping stop es (setting_of old channel)) old
-stopping_after laws stop es channel old working =
-    clrchn_after laws es old working
-    ∙ ap (λ xs. record (adding (es ++ cond (nat_lt 3 old.output) (unlisten ∷ []) []) old) { output = 3; screen = xs }) (sym (append-nil old.screen))
-    ∙ sym (effect_adding (stopping stop es (setting_of old channel)) old working)
-
--- a stop at once
-pub stopping_now : AddingLaws → (stop : Stop) (channel : ℕ) (old : Seen) → IsWorking old
-    → clrchn_of old ≡ with_effect old.status (stopping stop [] (setting_of old channel)) old
-stopping_now laws stop channel old working = ap clrchn_of (sym (laws.none old working.in_step)) ∙ stopping_after laws stop [] channel old working
-
 -- the status after LISTEN, as the channels and as the statement tell it
 listen_status : (file : File) (old : Seen) → IsWorking old → (adding (listen_to file ∷ []) old).status ≡ status_of old.present old.status old.elements (old.elements ++ listen_to file ∷ [])
 listen_status file old working = ap (λ n. cond (is_lacking old.present n (items_of (old.elements ++ listen_to file ∷ []))) 128 old.status) (ap length working.in_step)
@@ -109,36 +85,6 @@ commanded laws None old new channel number line working gives above =
     let clash : Some FileNotOpen ≡ None = ap (λ (p : Seen × Option Stop). p.1) gives in
     absurd (cc clash)
 commanded laws (Some file) old new channel number line working gives above = commanded_at laws file old new channel number line ((adding (listen_to file ∷ []) old).status == 128) refl working gives above
-
--- a stop in CMD, and the CLRCHN after it
-pub record Stopped (old new : Seen) (stop : Stop) (e : Effect) : Type 0 where
-  pub stops : e.stop ≡ Some stop
-  pub gives : clrchn_of new ≡ with_effect old.status e old
-
--- CLRCHN after a LISTEN that stops
-stopped_at : AddingLaws → (file : File) (old new : Seen) (channel number : ℕ) (line : Text) (stop : Stop) (b : Bool) → ((adding (listen_to file ∷ []) old).status == 128) ≡ b → IsWorking old → chkout_of (Some file) old ≡ (new, Some stop)
-    → Stopped old new stop (commanding old.present old.status old.elements (setting_of old channel) number line (Some file))
-stopped_at laws file old new channel number line stop true is working gives =
-    let both = sym gives ∙ chkout_goes file old true is in
-    let which : Some stop ≡ Some DeviceNotPresent = ap (λ (p : Seen × Option Stop). p.1) both in
-    let now : new ≡ adding (listen_to file ∷ []) old = ap (λ (p : Seen × Option Stop). p.0) both in
-    let P : Effect → Type 0 = λ f. Stopped old new stop f in
-    subst P (sym (commanding_goes file old channel number line true working is)) (record {
-      stops = sym which;
-      gives = ap clrchn_of now ∙ stopping_after laws DeviceNotPresent (listen_to file ∷ []) channel old working;
-    })
-stopped_at laws file old new channel number line stop false is working gives =
-    let clash : None ≡ Some stop = ap (λ (p : Seen × Option Stop). p.1) (sym (chkout_goes file old false is) ∙ gives) in
-    absurd (cc clash)
-
--- the same for a file that may not be open
-pub stopped : AddingLaws → (f : Option File) (old new : Seen) (channel number : ℕ) (line : Text) (stop : Stop) → IsWorking old → chkout_of f old ≡ (new, Some stop)
-    → Stopped old new stop (commanding old.present old.status old.elements (setting_of old channel) number line f)
-stopped laws None old new channel number line stop working gives = record {
-  stops = ap (λ (p : Seen × Option Stop). p.1) gives;
-  gives = ap clrchn_of (ap (λ (p : Seen × Option Stop). p.0) (sym gives)) ∙ stopping_now laws FileNotOpen channel old working;
-}
-stopped laws (Some file) old new channel number line stop working gives = stopped_at laws file old new channel number line stop ((adding (listen_to file ∷ []) old).status == 128) refl working gives
 
 -- UNLISTEN after an effect that went on
 pub record Unlistened (old new : Seen) (e : Effect) : Type 0 where
@@ -207,13 +153,6 @@ opened_stop stop file channel old none = ap (λ s. (opening s file (setting_of o
 -- OPEN that goes on
 pub opening_gives : AddingLaws → (stop : Option Stop) (file : File) (channel : ℕ) (old new : Seen) → IsWorking old → stop ≡ None → new ≡ record old { files = old.files ++ file ∷ [] } → Gives old new None (opening stop file (setting_of old channel))
 opening_gives laws stop file channel old new working none is = record { stop = opened_stop stop file channel old none; channels = is ∙ opened laws stop file channel old working none }
-
--- OPEN that stops
-pub opening_stops : AddingLaws → (answer : Option Stop) (stop : Stop) (file : File) (channel : ℕ) (old : Seen) → IsWorking old → answer ≡ Some stop → Gives old (clrchn_of old) (Some stop) (opening answer file (setting_of old channel))
-opening_stops laws answer stop file channel old working is = record {
-  stop = ap (λ s. (opening s file (setting_of old channel)).stop) (sym is);
-  channels = stopping_now laws stop channel old working ∙ ap (λ s. with_effect old.status (opening s file (setting_of old channel)) old) (sym is);
-}
 
 -- a line printed where the output device is
 printed_at : AddingLaws → (b : Bool) (bytes : List ℕ) (channel : ℕ) (old : Seen) → IsWorking old

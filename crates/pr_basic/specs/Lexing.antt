@@ -1,4 +1,4 @@
--- Linking words, for proofs: the lexemes of a line, one after another as the reader takes them. The laws of the crate tie them to the grammar's own words; no reader needs to believe them.
+-- Linking words: the lexemes of a line, one after another as the reader takes them. The laws of the crate tie them to the grammar's own words. No reader needs to believe them.
 use Rattle.std.specs.Prelude.{◌≡◌, ℕ, zero, suc, ◌+◌, ◌-◌, ◌==◌, Bool, false, List, [], ◌∷◌, length, take, map, codes, nat_lt, if◌then◌else◌}
 use Rattle.std.specs.List.{prefix_len}
 use Rattle.std.specs.Str.{bytes_eq}

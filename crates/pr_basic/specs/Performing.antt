@@ -1,4 +1,4 @@
--- Linking words, for proofs: what the parts of a statement do to the channels. No reader needs to believe them.
+-- Linking words: what the parts of a statement do to the channels. No reader needs to believe them.
 use Rattle.std.specs.Prelude.{◌≡◌, ℕ, false, nat_lt, Option, List, ◌++◌, map, if◌then◌else◌}
 use Rattle.pr_serial.specs.Elements.{Byte}
 use Rattle.pr_serial.specs.Items.{items_of}

@@ -1,4 +1,4 @@
--- Linking words, for proofs: the statements of a script, or its first fault, read line by line. The laws of the crate tie them to the grammar and to the table of faults; no reader needs to believe them.
+-- Linking words: the statements of a script, or its first fault, read line by line. The laws of the crate tie them to the grammar and to the table of faults. No reader needs to believe them.
 use Rattle.std.specs.Prelude.{ℕ, ◌+◌, ◌-◌, ◌==◌, List, [], ◌∷◌, length, ◌++◌, Bool, false, Option, Some, None, Result, Ok, Err, nat_le, if◌then◌else◌}
 use Rattle.pr_basic.specs.Limits.{statement_limit}
 use Rattle.pr_basic.specs.Lexemes.{Lexeme, Digits}

@@ -1,4 +1,4 @@
--- Linking words, for proofs: what a function of the reader answered is what the reading words say, unless memory ran out.
+-- Linking words: what a function of the reader answered is what the reading words say, unless memory ran out. No reader needs to believe it.
 use Rattle.std.specs.Prelude.{◌≡◌, ◌∷◌, ◌++◌, ◌≤◌, length, ℕ, List, [], Option, Some, None, Result, Ok, Err}
 use Rattle.std.specs.Borrow.{Bor}
 use Rattle.pr_basic.specs.Text.{Text}

@@ -6,7 +6,7 @@ ghost use Rattle.pr_serial.specs.Items.{items_of};
 ghost use Rattle.pr_channels.specs.Files.{file_at, open_stop};
 ghost use Rattle.pr_channels.specs.Seen.{Seen};
 ghost use Rattle.std.specs.Option.{ForSome};
-ghost use Rattle.pr_channels.specs.Calls.{adding};
+ghost use Rattle.pr_channels.specs.Calls.{adding, clrchn_of};
 ghost use Rattle.pr_basic.specs.Statements.{printed_bytes, effect_of, with_effect, setting_of, commanding, unlistening, opening, ChangesScreenAlone, Performs, found_by};
 ghost use Rattle.pr_basic.specs.Performing.{printing, Gives, IsWorking};
 
@@ -32,11 +32,11 @@ fn begin<S: Serial>(channels: &mut Channels<S>, mode: StatusMode)
     ensures status { channels.new ≡ record channels.old { status = found_by mode channels.old.status } }
     ensures in_step { channels.old.failed ≡ false → channels.old.sent ≡ items_of channels.old.elements }
 {
+    // For the prover alone: the items are those of the elements.
+    let _bus = channels.serial();
     match mode {
         StatusMode::Each => channels.clear_status(),
-        StatusMode::Kept => {
-            let _status = channels.readst();
-        }
+        StatusMode::Kept => {}
     }
 }
 
@@ -88,6 +88,22 @@ fn print_line<S: Serial>(
     Ok(())
 }
 
+/// A stop: CLRCHN. It answers the stop.
+fn stopped<S: Serial>(channels: &mut Channels<S>, stop: Stop) -> Result<Option<Stop>, NoMemory>
+    requires room { length channels.old.sent + 3 ≤ 2 ^ 32 }
+    ensures stop { IfOk result (λ answer. answer ≡ Some stop) }
+    ensures ok { OnOk result (channels.new ≡ clrchn_of channels.old) }
+    ensures failed { OnOk result (channels.new.failed ≡ channels.old.failed) }
+    ensures room { length channels.new.sent ≤ length channels.old.sent + 2 }
+    ensures present { channels.new.present ≡ channels.old.present }
+    ensures delays { channels.new.delays ≡ channels.old.delays }
+    ensures mark { channels.new.mark ≡ channels.old.mark }
+    ensures err { OnErr result (channels.new.failed ≡ true) }
+{
+    channels.clrchn()?;
+    Ok(Some(stop))
+}
+
 /// CMD: makes a file's device the output device, and prints a line to it. A stop is followed by
 /// CLRCHN.
 fn command<S: Serial>(
@@ -112,10 +128,7 @@ fn command<S: Serial>(
             print_line(channels, line, file)?;
             Ok(None)
         }
-        Err(Fault::Stop(stop)) => {
-            channels.clrchn()?;
-            Ok(Some(stop))
-        }
+        Err(Fault::Stop(stop)) => stopped(channels, stop),
         Err(Fault::NoMemory) => Err(AllocError),
     }
 }
@@ -165,10 +178,7 @@ fn open<S: Serial>(
     let second_number = number_of(second);
     match channels.open_file(file, device.get(), second_number) {
         Ok(()) => Ok(None),
-        Err(stop) => {
-            channels.clrchn()?;
-            Ok(Some(stop))
-        }
+        Err(stop) => stopped(channels, stop),
     }
 }
 
@@ -215,9 +225,10 @@ fn channel_after(stop: &Option<Stop>, channel: u8) -> u8
 ///
 /// # Errors
 ///
-/// [`NoMemory`] where memory was refused. The session is then as before, and either the bus has
-/// failed for good, or the growth of the screen's list was refused: all but that list is then as
-/// the statement found it.
+/// [`NoMemory`] where memory was refused. The session is then as before, and one of two holds. The
+/// bus has failed for good, and nothing else is said of the channels. Or the growth of the screen's
+/// list was refused: then the status is the one with which the statement began, the screen's list
+/// may have changed, and all else is as before.
 pub fn perform<S: Serial>(
     channels: &mut Channels<S>,
     statement: &Statement,

@@ -1,4 +1,4 @@
--- Laws of the definitions. The functions of src/laws.rt prove them, and callers take them from there.
+-- Laws: what follows from the definitions. The functions of src/laws.rt prove them, and callers take them from there.
 use Rattle.std.specs.Prelude.{◌≡◌, ℕ, Bool, None, List, [], ◌∷◌, ◌++◌, filter}
 use Rattle.pr_serial.specs.Elements.{Element}
 use Rattle.pr_serial.specs.Items.{items_of}

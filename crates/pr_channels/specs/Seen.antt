@@ -1,10 +1,11 @@
--- Trusted: what a contract sees of the channels.
-use Rattle.std.specs.Prelude.{ℕ, Bool, Option, Some, None, List, [], ◌∷◌, ◌++◌, map}
+-- Trusted: what a contract sees of the channels, and what holds of any channels.
+use Rattle.std.specs.Prelude.{◌≡◌, ℕ, Bool, false, Option, Some, None, List, [], ◌∷◌, ◌++◌, map}
 use Rattle.pr_serial.specs.declared.Present.{Present}
 use Rattle.pr_serial.specs.declared.Item.{Item}
 use Rattle.pr_serial.specs.declared.Item.TheVariants as item
 use Rattle.pr_serial.specs.Bus.{DelayNumbers}
 use Rattle.pr_serial.specs.Elements.{Element, Attention, Byte}
+use Rattle.pr_serial.specs.Items.{items_of, held_of}
 use Rattle.pr_channels.specs.Files.{Files}
 
 -- of the bus its printers, delays, mark, whether it has failed, and the items sent; the elements, the files, the output device, the status and the screen's bytes
@@ -29,3 +30,8 @@ element_of (item.Sent b eoi) = Byte b
 abbrev pub elements_from : List Item → Option ℕ → List Element
 elements_from items None = map element_of items
 elements_from items (Some b) = map element_of items ++ Byte b ∷ []
+
+-- as long as the bus works, the items are those that the elements send, and the elements are those of the items and then the byte held back
+pub record IsInStep (seen : Seen) : Type 0 where
+  pub items : seen.failed ≡ false → seen.sent ≡ items_of seen.elements
+  pub elements : seen.failed ≡ false → seen.elements ≡ elements_from seen.sent (held_of seen.elements)

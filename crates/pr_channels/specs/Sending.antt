@@ -1,4 +1,4 @@
--- Linking words, for proofs: what goes out on the bus, and the byte that is held back. No reader needs to believe them.
+-- Linking words: what goes out on the bus, and the byte that is held back. No reader needs to believe them.
 use Rattle.std.specs.Prelude.{◌≡◌, ℕ, Bool, false, Option, Some, None, List, [], ◌∷◌, ◌++◌, length, if◌then◌else◌}
 use Rattle.pr_serial.specs.declared.Present.{Present}
 use Rattle.pr_serial.specs.declared.Item.{Item}
@@ -23,7 +23,7 @@ pub record Sending : Type 0 where
   pub status : ℕ
 
 -- while the bus works, what was sent is what its elements send, and the byte held back is the one that waits
-pub record IsInStep (failed : Bool) (items : List Item) (waiting : Option ℕ) : Type 0 where
+pub record HoldsBack (failed : Bool) (items : List Item) (waiting : Option ℕ) : Type 0 where
   pub sent : failed ≡ false → items ≡ items_of (elements_from items waiting)
   pub held : failed ≡ false → waiting ≡ held_of (elements_from items waiting)
 

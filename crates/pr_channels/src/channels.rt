@@ -2,7 +2,6 @@
 
 ghost use Rattle.std.specs.Prelude.{◌≡◌, ◌+◌, ◌≤◌, ◌<◌, ◌^◌, ◌⊎◌, true, false, None, Some, [], ◌∷◌, ◌++◌, length, ◌≢◌, Err, IfErr, IsOk, OnOk, OnErr};
 ghost use Rattle.std.specs.Option.{ForSome};
-ghost use Rattle.pr_serial.specs.Items.{items_of, held_of};
 ghost use Rattle.pr_channels.specs.Files.{file_at, open_stop, without_file};
 ghost use Rattle.pr_channels.specs.Calls.{second_from, closing, adding};
 
@@ -24,10 +23,12 @@ const SCREEN: u8 = 3;
 /// A byte for a serial device is held back until the next element: it goes out without
 /// end-or-identify before another byte, with it before an attention. Contracts see the elements,
 /// which are those of the bus's items and then the byte held back; as long as the bus works, the
-/// items are those that the elements send.
+/// items are those that the elements send. [`Channels::serial`] shows this of any channels, by the
+/// name `IsInStep` of `specs/Seen.antt`.
 ///
-/// Once the bus has refused a call for want of memory, each later call that reaches it answers
-/// [`NoMemory`], and nothing else is said of the state.
+/// A call that reaches the bus asks for room for 3 items: that `items()` of the bus and 3 are at
+/// most 2^32. Once the bus has refused a call for want of memory, each later call that reaches it
+/// answers [`NoMemory`], and nothing else is said of the state.
 #[derive(Drop)]
 pub struct Channels<S: Serial> {
     sender: Sender<S>,
@@ -60,7 +61,7 @@ fn second_command(second: Option<u8>) -> Option<u8>
 }
 
 impl<S: Serial> Channels<S> {
-    ghost use Rattle.pr_channels.specs.Seen.{elements_from};
+    ghost use Rattle.pr_channels.specs.Seen.{IsInStep};
     ghost use Rattle.pr_channels.specs.Calls.{chkout_of, chrout_of, clrchn_of, close_of, IsFault};
 
     /// No file is open, the screen (device 3) is the output device, the status is 0. The bus has
@@ -109,7 +110,7 @@ impl<S: Serial> Channels<S> {
     ///   before: the output device is as before (profile).
     /// - [`Fault::NoMemory`] where the bus refused; it has then failed for good.
     pub fn chkout(&mut self, file: u8) -> Result<(), Fault>
-        requires { length self.old.sent + 3 ≤ 2 ^ 32 }
+        requires room { file_at self.old.files file ≢ None → length self.old.sent + 3 ≤ 2 ^ 32 }
         ensures ok { OnOk result (chkout_of (file_at self.old.files file) self.old ≡ (self.new, None)) }
         ensures bus { OnOk result (3 < self.new.output) }
         ensures works { OnOk result (self.old.failed ≡ false) }
@@ -145,7 +146,7 @@ impl<S: Serial> Channels<S> {
     /// [`NoMemory`]: on the screen where the growth of its list was refused, which changes nothing;
     /// for a serial device where the bus refused, in this call or an earlier one.
     pub fn chrout(&mut self, byte: u8) -> Result<(), NoMemory>
-        requires { length self.old.sent + 3 ≤ 2 ^ 32 }
+        requires room { 3 < self.old.output → length self.old.sent + 3 ≤ 2 ^ 32 }
         ensures ok { OnOk result (self.new ≡ chrout_of byte self.old) }
         ensures works { 3 < self.old.output → OnOk result (self.old.failed ≡ false) }
         ensures screen { self.old.output ≤ 3 → OnErr result (self.new ≡ self.old) }
@@ -172,7 +173,7 @@ impl<S: Serial> Channels<S> {
     /// [`NoMemory`] where the bus refused, in this call or an earlier one; never where the screen
     /// is the output device, since then nothing is sent.
     pub fn clrchn(&mut self) -> Result<(), NoMemory>
-        requires { length self.old.sent + 3 ≤ 2 ^ 32 }
+        requires room { 3 < self.old.output → length self.old.sent + 3 ≤ 2 ^ 32 }
         ensures ok { OnOk result (self.new ≡ clrchn_of self.old) }
         ensures works { 3 < self.old.output → OnOk result (self.old.failed ≡ false) }
         ensures screen { self.old.output ≤ 3 → IsOk result }
@@ -191,7 +192,7 @@ impl<S: Serial> Channels<S> {
 
     /// Tells the device of an open file with a secondary address that the file is closed.
     fn tell_closed(&mut self, file: u8) -> Result<(), NoMemory>
-        requires { length self.old.sent + 3 ≤ 2 ^ 32 }
+        requires room { closing (file_at self.old.files file) ≢ [] → length self.old.sent + 3 ≤ 2 ^ 32 }
         ensures ok { OnOk result (self.old.failed ≡ false → self.new ≡ adding (closing (file_at self.old.files file)) self.old) }
         ensures works { self.old.failed ≡ true → OnOk result (closing (file_at self.old.files file) ≡ []) }
         ensures quiet { closing (file_at self.old.files file) ≡ [] → IsOk result × (self.new ≡ self.old) }
@@ -203,7 +204,8 @@ impl<S: Serial> Channels<S> {
         ensures mark { self.new.mark ≡ self.old.mark }
     {
         elements_add_up();
-        let _in_step = self.sender.status();
+        // For the prover alone: the items are those of the elements.
+        let _bus = self.sender.bus();
         let Some(entry) = self.files.get(file) else {
             return Ok(());
         };
@@ -222,7 +224,7 @@ impl<S: Serial> Channels<S> {
     /// [`NoMemory`] where the bus refused, in this call or an earlier one; never where nothing is
     /// sent.
     pub fn close_file(&mut self, file: u8) -> Result<(), NoMemory>
-        requires { length self.old.sent + 3 ≤ 2 ^ 32 }
+        requires room { closing (file_at self.old.files file) ≢ [] → length self.old.sent + 3 ≤ 2 ^ 32 }
         ensures ok { OnOk result (self.old.failed ≡ false → self.new ≡ close_of file self.old) }
         ensures works { self.old.failed ≡ true → OnOk result (closing (file_at self.old.files file) ≡ []) }
         ensures quiet { closing (file_at self.old.files file) ≡ [] → IsOk result × (self.new ≡ record self.old { files = without_file file self.old.files }) }
@@ -244,8 +246,6 @@ impl<S: Serial> Channels<S> {
     pub fn readst(&self) -> u8
         ensures status { result ≡ self.now.status }
         ensures values { (result ≡ 0) ⊎ (result ≡ 128) }
-        ensures in_step { self.now.failed ≡ false → self.now.sent ≡ items_of self.now.elements }
-        ensures elements { self.now.failed ≡ false → self.now.elements ≡ elements_from self.now.sent (held_of self.now.elements) }
     {
         self.sender.status()
     }
@@ -253,7 +253,6 @@ impl<S: Serial> Channels<S> {
     /// Makes the status 0.
     pub fn clear_status(&mut self)
         ensures status { self.new ≡ record self.old { status = 0 } }
-        ensures in_step { self.old.failed ≡ false → self.old.sent ≡ items_of self.old.elements }
     {
         self.sender.clear_status();
     }
@@ -261,7 +260,6 @@ impl<S: Serial> Channels<S> {
     /// Marks the items so far, as [`Serial::forget`]; nothing else changes. It takes no memory.
     pub fn forget(&mut self)
         ensures mark { self.new ≡ record self.old { mark = Some (length self.old.sent) } }
-        ensures in_step { self.old.failed ≡ false → self.old.sent ≡ items_of self.old.elements }
     {
         self.sender.forget();
     }
@@ -289,13 +287,15 @@ impl<S: Serial> Channels<S> {
         &self.files
     }
 
-    /// The bus.
+    /// The bus. As long as it works, its items are those that the elements send, and the elements
+    /// are those of its items and then the byte held back.
     pub fn serial(&self) -> &S
         ensures present { S.printers result.now ≡ self.now.present }
         ensures delays { S.delays result.now ≡ self.now.delays }
         ensures mark { S.marked result.now ≡ self.now.mark }
         ensures failed { S.has_failed result.now ≡ self.now.failed }
         ensures sent { S.sent result.now ≡ self.now.sent }
+        ensures in_step { IsInStep self.now }
     {
         self.sender.bus()
     }
@@ -309,7 +309,7 @@ impl<S: Serial> Channels<S> {
         ensures failed { S.has_failed result.0 ≡ self.failed }
         ensures sent { S.sent result.0 ≡ self.sent }
         ensures screen { result.1.items ≡ self.screen }
-        ensures in_step { self.failed ≡ false → self.sent ≡ items_of self.elements }
+        ensures in_step { IsInStep self }
     {
         (self.sender.into_bus(), self.screen)
     }

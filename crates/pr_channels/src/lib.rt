@@ -2,7 +2,8 @@
 //! that is held back until it is known whether it is the last one.
 //!
 //! The words of the contracts stand in `specs/`: `Files.antt` is the file table, `Seen.antt` what a
-//! contract sees of the channels, and `Calls.antt` what each call does.
+//! contract sees of the channels and what holds of them always (`IsInStep`), and `Calls.antt` what
+//! each call does.
 #![tactic(auto)]
 
 pub mod channels;

@@ -27,7 +27,7 @@ pub struct Sender<S: Serial> {
 
 impl<S: Serial> Model for Sender<S> {
     ghost use Rattle.pr_channels.specs.Seen.{elements_from};
-    ghost use Rattle.pr_channels.specs.Sending.{Sending, IsInStep, status_at};
+    ghost use Rattle.pr_channels.specs.Sending.{Sending, HoldsBack, status_at};
 
     ghost Value = { Sending };
 
@@ -42,7 +42,7 @@ impl<S: Serial> Model for Sender<S> {
       status = status_at s.unanswered;
     } };
 
-    ghost invariant = { λ s. IsInStep (S.has_failed s.bus) (S.sent s.bus) s.held };
+    ghost invariant = { λ s. HoldsBack (S.has_failed s.bus) (S.sent s.bus) s.held };
 }
 
 /// Sends the byte that was held back, if there is one.
@@ -198,8 +198,6 @@ impl<S: Serial> Sender<S> {
     pub fn status(&self) -> u8
         ensures value { result ≡ self.now.status }
         ensures values { (result ≡ 0) ⊎ (result ≡ 128) }
-        ensures in_step { self.now.failed ≡ false → self.now.sent ≡ items_of self.now.elements }
-        ensures elements { self.now.failed ≡ false → self.now.elements ≡ elements_from self.now.sent (held_of self.now.elements) }
     {
         if self.unanswered { NOT_PRESENT } else { 0 }
     }
@@ -207,7 +205,6 @@ impl<S: Serial> Sender<S> {
     /// Makes the status 0.
     pub fn clear_status(&mut self)
         ensures status { self.new ≡ record self.old { status = 0 } }
-        ensures in_step { self.old.failed ≡ false → self.old.sent ≡ items_of self.old.elements }
     {
         self.unanswered = false;
     }
@@ -215,7 +212,6 @@ impl<S: Serial> Sender<S> {
     /// Marks the items so far.
     pub fn forget(&mut self)
         ensures mark { self.new ≡ record self.old { mark = Some (length self.old.sent) } }
-        ensures in_step { self.old.failed ≡ false → self.old.sent ≡ items_of self.old.elements }
     {
         self.bus.forget();
     }
@@ -227,6 +223,8 @@ impl<S: Serial> Sender<S> {
         ensures mark { S.marked result.now ≡ self.now.mark }
         ensures failed { S.has_failed result.now ≡ self.now.failed }
         ensures sent { S.sent result.now ≡ self.now.sent }
+        ensures in_step { self.now.failed ≡ false → self.now.sent ≡ items_of self.now.elements }
+        ensures elements { self.now.failed ≡ false → self.now.elements ≡ elements_from self.now.sent (held_of self.now.elements) }
     {
         &self.bus
     }
@@ -239,6 +237,7 @@ impl<S: Serial> Sender<S> {
         ensures failed { S.has_failed result ≡ self.failed }
         ensures sent { S.sent result ≡ self.sent }
         ensures in_step { self.failed ≡ false → self.sent ≡ items_of self.elements }
+        ensures elements { self.failed ≡ false → self.elements ≡ elements_from self.sent (held_of self.elements) }
     {
         self.bus
     }

@@ -2,28 +2,38 @@
 use Rattle.std.proofs.Common.{◌≡◌, ◌≢◌, ℕ, Bool, List, [], ◌∷◌, ◌++◌, inl, inr, map, refl, sym, ap, ◌∙◌, append_assoc}
 use Rattle.std.proofs.lemmas.List.{append-nil, map-append}
 use Rattle.std.proofs.lemmas.Bool.Decides.{eqb_tells}
-use Rattle.pr_page.specs.Token.{Came, bytes_of, selected, Token, Column, Repeat, Address, Nothing, Plain, spelling_of, HasParameters, IsNoAddress, MayStand, IsUnfinished, AreTokens}
+use Rattle.pr_page.specs.Token.{Came, bytes_of, Token, Column, Repeat, Address, Nothing, Plain, spelling_of, HasParameters, IsNoAddress, MayStand, IsUnfinished, AreTokens}
 use Rattle.pr_page.specs.Steps.{begun_by, completed_by, pending_after, tokens_by}
 use Rattle.pr_page.specs.declared.input.Input.{Input}
 use Rattle.pr_page.specs.declared.input.Input.TheVariants.{Select, Byte}
 use Rattle.pr_page.specs.declared.pending.Pending.{Pending}
 use Rattle.pr_page.specs.declared.pending.Pending.TheVariants.{Idle, ColumnCode, ColumnTens, RepeatCode, RepeatCount, EscapeCode, AddressCode, AddressHigh}
 
+-- the last selection of a list of inputs, or else the first argument
+abbrev pub selected : Bool → List Input → Bool
+selected set [] = set
+selected set (Select lower ∷ inputs) = selected lower inputs
+selected set (Byte b ∷ inputs) = selected set inputs
+
+-- a selection is no byte
 pub bytes_of-select : (set lower : Bool) (inputs : List Input) → bytes_of set (inputs ++ Select lower ∷ []) ≡ bytes_of set inputs
 bytes_of-select set lower [] = refl
 bytes_of-select set lower (Select x ∷ inputs) = bytes_of-select x lower inputs
 bytes_of-select set lower (Byte b ∷ inputs) = ap (λ bytes. record { byte = b; lower = set } ∷ bytes) (bytes_of-select set lower inputs)
 
+-- one byte more comes with the last selection
 pub bytes_of-byte : (set : Bool) (c : ℕ) (inputs : List Input) → bytes_of set (inputs ++ Byte c ∷ []) ≡ bytes_of set inputs ++ record { byte = c; lower = selected set inputs } ∷ []
 bytes_of-byte set c [] = refl
 bytes_of-byte set c (Select x ∷ inputs) = bytes_of-byte x c inputs
 bytes_of-byte set c (Byte b ∷ inputs) = ap (λ bytes. record { byte = b; lower = set } ∷ bytes) (bytes_of-byte set c inputs)
 
+-- a selection more is the last one
 pub selected-select : (set lower : Bool) (inputs : List Input) → selected set (inputs ++ Select lower ∷ []) ≡ lower
 selected-select set lower [] = refl
 selected-select set lower (Select x ∷ inputs) = selected-select x lower inputs
 selected-select set lower (Byte b ∷ inputs) = selected-select set lower inputs
 
+-- a byte selects nothing
 pub selected-byte : (set : Bool) (c : ℕ) (inputs : List Input) → selected set (inputs ++ Byte c ∷ []) ≡ selected set inputs
 selected-byte set c [] = refl
 selected-byte set c (Select x ∷ inputs) = selected-byte x c inputs

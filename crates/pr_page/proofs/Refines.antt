@@ -2,14 +2,14 @@
 use Rattle.std.proofs.Common.{◌≡◌, ℕ, zero, suc, Bool, true, false, List, [], ◌∷◌, ◌++◌, length, refl, sym, ap, ◌∙◌, subst, append_assoc, arith, ◌+◌, ◌*◌, ◌≤◌, length-append}
 use Rattle.std.specs.Prelude.{Result, Ok, Err, OnOk, reverse, nat_le, replicate, if◌then◌else◌, ◌==◌, ◌||◌, ◌&&◌}
 use Rattle.std.proofs.lemmas.List.{append-nil, reverse-append}
-use Rattle.pr_page.specs.Token.{Came, bytes_of, selected, Token, Column, Repeat, Address, Nothing, Plain}
+use Rattle.pr_page.specs.Token.{Came, bytes_of, Token, Column, Repeat, Address, Nothing, Plain}
 use Rattle.pr_page.specs.Settings.{settings_at}
 use Rattle.pr_page.specs.Acts.{Act, acts_in, acts_of, is_cell, is_digit, column_of, dots_of}
 use Rattle.pr_page.specs.Page.{IsPage}
 use Rattle.pr_page.specs.Steps.{pending_after, tokens_by, settings_after_token, state_after_token, state_after_tokens, step, state_after, start}
 use Rattle.pr_page.specs.Evaluator.{page_of}
 use Rattle.pr_page.specs.Taken.{HasTaken}
-use Rattle.pr_page.proofs.Cutting.{bytes_of-select, bytes_of-byte, selected-select, selected-byte, AreTokens-push, Cut, Cut-none, Cut-push}
+use Rattle.pr_page.proofs.Cutting.{selected, bytes_of-select, bytes_of-byte, selected-select, selected-byte, AreTokens-push, Cut, Cut-none, Cut-push}
 use Rattle.pr_page.proofs.Paging.{IsSheet, IsSheet-append, AreNarrow}
 use Rattle.pr_page.specs.declared.input.Input.{Input}
 use Rattle.pr_page.specs.declared.input.Input.TheVariants.{Select, Byte}

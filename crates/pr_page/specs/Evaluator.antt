@@ -1,4 +1,4 @@
--- Linking words: the page, computed step by step. The law on `each_list_has_one_page` says that it is the one page of the inputs.
+-- Linking words: the page, computed step by step. The law on `each_list_has_one_page` says that it is the one page of the inputs. No reader needs to believe them.
 use Rattle.std.specs.Prelude.{List}
 use Rattle.pr_page.specs.Steps.{start, state_after}
 use Rattle.pr_page.specs.declared.input.Input.{Input}

@@ -1,4 +1,4 @@
--- Machine steps, for proofs: what one input does to what a printer keeps. No reader needs to believe them.
+-- Machine steps: what one input does to what a printer keeps. No reader needs to believe them.
 use Rattle.std.specs.Prelude.{ℕ, zero, suc, ◌+◌, ◌*◌, ◌≤◌, ◌^◌, Bool, true, false, List, [], ◌∷◌, ◌++◌, Some, None, ◌==◌, ◌||◌, ◌&&◌, not, nat_le, if◌then◌else◌}
 use Rattle.pr_page.specs.Token.{Token, Column, Repeat, Address, Nothing, Plain}
 use Rattle.pr_page.specs.Acts.{Act, End, Move, Print, acts_in}

@@ -1,4 +1,4 @@
--- Linking words, for callers: what ties a printer to the inputs that it has taken. The clauses of `Printer` say all that a caller needs of them.
+-- Linking words: what ties a printer to the inputs that it has taken. The clauses of `Printer` say all that a caller needs of them. No reader needs to believe them.
 use Rattle.std.specs.Prelude.{◌≡◌, ℕ, List}
 use Rattle.pr_page.specs.Steps.{start, state_after}
 use Rattle.pr_page.specs.declared.input.Input.{Input}

@@ -1,28 +1,31 @@
--- Trusted: which frame an edge ends, and which input comes with an edge. Where edges lead is said by the table of lawful traces (`reached` and `step_of` of pr_wire).
-use Rattle.std.specs.Prelude.{ℕ, List, [], Option, Some, None, Result, Ok, Err}
+-- Trusted: which frame an edge ends by the table of lawful traces, and which input comes with an edge.
+use Rattle.std.specs.Prelude.{ℕ, List, [], ◌∷◌, Option, Some, None, Result, Ok, Err, if◌then◌else◌}
 use Rattle.std.specs.List.{flat_map}
 use Rattle.std.specs.Option.{option_to_list}
 use Rattle.pr_wire.specs.declared.Edge.{Edge}
 use Rattle.pr_wire.specs.declared.Frame.{Frame}
-use Rattle.pr_wire.specs.declared.WaveFault.{WaveFault}
+use Rattle.pr_wire.specs.declared.place.Flaw.{Flaw}
+use Rattle.pr_wire.specs.declared.place.Place.{Place}
+use Rattle.pr_wire.specs.declared.place.Place.TheVariants.{Idle}
 use Rattle.pr_wire.specs.declared.place.Step.{Step}
-use Rattle.pr_wire.specs.Reached.{Reached, begin, reached, step_of}
+use Rattle.pr_wire.specs.Table.{verdict, is_start}
 use Rattle.pr_page.specs.declared.input.Input.{Input}
 use Rattle.pr_receiver.specs.Heard.{with_before, input_of}
 
--- the frame that a step ends
-abbrev pub frame_of_step : Result Step WaveFault → Option Frame
-frame_of_step (Ok step) = step.frame
-frame_of_step (Err fault) = None
+-- what comes of an edge that the table allows; of another nothing
+abbrev pub if_allowed : Result Step Flaw → (Step → Option Frame) → Option Frame
+if_allowed (Ok step) next = next step
+if_allowed (Err flaw) next = None
 
--- the frame that an edge ends where those before it lead
-abbrev pub frame_from : Result Reached WaveFault → Edge → Option Frame
-frame_from (Ok r) edge = frame_of_step (step_of r.last r.place r.count edge)
-frame_from (Err fault) edge = None
+-- the frame that an edge ends behind edges that follow the last one in its place: that of the table's row by which it comes
+abbrev pub frame_from : Edge → Place → List Edge → Edge → Option Frame
+frame_from last p [] edge = if_allowed (verdict last p edge) (λ step. step.frame)
+frame_from last p (e ∷ es) edge = if_allowed (verdict last p e) (λ step. frame_from e step.place es edge)
 
--- the frame that an edge ends behind those before it, with its acknowledgement
+-- the frame that an edge ends behind those before it, with its acknowledgement; the first edge ends none, nor does one behind edges that are not allowed
 abbrev pub frame_at : List Edge → Edge → Option Frame
-frame_at before edge = frame_from (reached begin before) edge
+frame_at [] edge = None
+frame_at (e ∷ es) edge = if is_start e then frame_from e (Idle 0) es edge else None
 
 -- the frames that edges end, in order
 abbrev pub frames_ended : List Edge → List Frame

@@ -1,4 +1,4 @@
--- What is promised of inputs and edges: statements of the laws on public functions.
+-- Laws: the frames and inputs that come with edges, and what a device hears of frames. The functions of src/laws.rt prove them, and callers take them from there.
 use Rattle.std.specs.Prelude.{◌≡◌, ℕ, false, ◌||◌, if◌then◌else◌, List, [], ◌∷◌, ◌++◌}
 use Rattle.std.specs.Option.{option_to_list}
 use Rattle.pr_wire.specs.declared.Edge.{Edge}
@@ -16,6 +16,15 @@ TracesGiveWhatIsHeard =
 -- the edges of a trace end just the frames that it spells
 abbrev pub TracesEndWhatTheySpell : Type 0
 TracesEndWhatTheySpell = (edges : List Edge) (frames : List Frame) → Spells edges frames → frames_ended edges ≡ frames
+
+-- the frames that the edges of a front end are a front of those that all the edges end
+abbrev pub FrontsEndAFront : Type 0
+FrontsEndAFront = (edges more : List Edge) → (later : List Frame) × (frames_ended (edges ++ more) ≡ frames_ended edges ++ later)
+
+-- the frames that the edges of a front of a trace end are a front of those that the trace spells
+abbrev pub FrontsOfTracesEndAFront : Type 0
+FrontsOfTracesEndAFront =
+    (edges more : List Edge) (frames : List Frame) → Spells (edges ++ more) frames → (later : List Frame) × (frames ≡ frames_ended edges ++ later)
 
 -- whatever the edges, they give a device what it hears of the frames that they end
 abbrev pub EdgesGiveWhatIsHeard : Type 0

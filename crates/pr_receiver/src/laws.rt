@@ -1,14 +1,17 @@
 //! Laws of the definitions, with nothing to run. A caller whose proof needs one calls the function.
 
-ghost use Rattle.pr_receiver.specs.Laws.{TracesGiveWhatIsHeard, TracesEndWhatTheySpell, EdgesGiveWhatIsHeard, InputsOfTwoParts, InputsOfOneMore, LawfulIsAllowed, FrontsAreAllowed, HeardOfOneMore, ListeningAfterOneMore, CalledAfterOneMore};
+ghost use Rattle.pr_receiver.specs.Laws.{TracesGiveWhatIsHeard, TracesEndWhatTheySpell, FrontsEndAFront, FrontsOfTracesEndAFront, EdgesGiveWhatIsHeard, InputsOfTwoParts, InputsOfOneMore, LawfulIsAllowed, FrontsAreAllowed, HeardOfOneMore, ListeningAfterOneMore, CalledAfterOneMore};
 
 use pr_wire::allowed_traces;
 
 /// A law: a trace gives a device, edge by edge, exactly what it hears of the frames that the trace
-/// spells; the edges end just these frames, and any edges give what is heard of those they end.
+/// spells; the edges end just these frames, those of a front of it a front of these, and any edges
+/// give what is heard of the frames that they end.
 pub fn traces_give_what_is_heard()
     ensures heard { TracesGiveWhatIsHeard }
     ensures frames { TracesEndWhatTheySpell }
+    ensures fronts { FrontsEndAFront }
+    ensures fronts_of_traces { FrontsOfTracesEndAFront }
     ensures edges { EdgesGiveWhatIsHeard }
 {
     allowed_traces();

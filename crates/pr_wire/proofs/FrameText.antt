@@ -15,7 +15,8 @@ use Rattle.pr_wire.specs.Ahead.{PassesFrame, last_of}
 use Rattle.pr_wire.specs.Checked.{IsTaken, led_to}
 use Rattle.pr_wire.specs.FirstLines.{AreFirstLines}
 use Rattle.pr_wire.specs.LineParts.{is_nothing}
-use Rattle.pr_wire.specs.Reached.{begin, reached, led, with_frame}
+use Rattle.pr_wire.specs.Reached.{begin, reached, led}
+use Rattle.pr_wire.specs.Checking.{with_frame}
 use Rattle.pr_wire.specs.TextSteps.{ended_line_in}
 use Rattle.pr_wire.specs.TraceText.{lines_of, AreEdgeLines}
 use Rattle.pr_wire.proofs.CheckLaws.{nothing_is}

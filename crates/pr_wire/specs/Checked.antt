@@ -1,4 +1,4 @@
--- Linking words, for callers and proofs: what a checker has taken of a text, and which frames came by. The clauses of `Checker` say all that a caller needs of them.
+-- Linking words: what a checker has taken of a text, and which frames came by. The clauses of `Checker` say all that a caller needs of them. No reader needs to believe them.
 use Rattle.std.specs.Prelude.{◌≡◌, ℕ, ◌+◌, Bool, true, false, not, ◌==◌, List, ◌++◌, length, reverse, Some, None, Result, Ok, Err}
 use Rattle.std.specs.List.{list_all}
 use Rattle.pr_wire.specs.declared.Edge.{Edge}

@@ -1,4 +1,4 @@
--- Linking words, for callers: a party's raw numbers, and which of them have been taken. The clauses of `Choices` say all that a caller needs of them.
+-- Trusted: what a contract sees of a party's raw numbers, and which of them are left.
 use Rattle.std.specs.Prelude.{ℕ, List, drop}
 
 -- what contracts see of a `Choices`

@@ -1,4 +1,4 @@
--- Machine steps, for proofs: a line of a trace text, byte by byte. No reader needs to believe them.
+-- Machine steps: a line of a trace text, byte by byte. No reader needs to believe them.
 use Rattle.std.specs.Prelude.{ℕ, ◌+◌, ◌-◌, ◌*◌, ◌==◌, ◌&&◌, Bool, true, false, List, [], ◌∷◌, Option, Some, None, nat_lt, if◌then◌else◌}
 use Rattle.pr_wire.specs.declared.Edge.{Edge}
 use Rattle.pr_wire.specs.declared.part.LinePart.{LinePart}

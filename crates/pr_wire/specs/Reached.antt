@@ -1,5 +1,5 @@
--- Linking words, for crates above: how far a list of edges comes in the table, edge by edge. The laws on `allowed_traces` tie them to lawful traces, frames and faults.
-use Rattle.std.specs.Prelude.{◌≡◌, ℕ, ◌+◌, Bool, false, List, [], ◌∷◌, ◌++◌, Option, Some, None, Result, Ok, Err, if◌then◌else◌}
+-- Linking words: how far a list of edges comes in the table, edge by edge, for crates above. The laws on `allowed_traces` tie them to lawful traces, frames and faults. No reader needs to believe them.
+use Rattle.std.specs.Prelude.{◌≡◌, ℕ, ◌+◌, Bool, false, List, [], ◌∷◌, Option, Some, None, Result, Ok, Err, if◌then◌else◌}
 use Rattle.pr_wire.specs.declared.Edge.{Edge}
 use Rattle.pr_wire.specs.declared.Frame.{Frame}
 use Rattle.pr_wire.specs.declared.WaveFault.{WaveFault}
@@ -73,11 +73,6 @@ fault_at_stop (Some last) p n = if may_end p then None else Some (Truncated n)
 abbrev pub fault_by : Result Reached WaveFault → Option WaveFault
 fault_by (Err w) = Some w
 fault_by (Ok r) = fault_at_stop r.last r.place r.count
-
--- the frames, with the one that an edge ends behind them
-abbrev pub with_frame : List Frame → Option Frame → List Frame
-with_frame fs None = fs
-with_frame fs (Some f) = fs ++ f ∷ []
 
 -- the edges are whole lawful pieces behind what stands there, and spell the frames
 pub record Onwards (b : Between) (es : List Edge) (fs : List Frame) : Type 0 where

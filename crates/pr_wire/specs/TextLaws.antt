@@ -1,4 +1,4 @@
--- What is promised of trace texts: statements of the laws on a public function.
+-- Laws: trace texts. `trace_texts` proves them, and callers take them from there.
 use Rattle.std.specs.Prelude.{◌≡◌, ℕ, ◌^◌, ◌<◌, List, All}
 use Rattle.pr_wire.specs.declared.Edge.{Edge}
 use Rattle.pr_wire.specs.TraceText.{trace_text, IsTraceText, IsFirstBad}

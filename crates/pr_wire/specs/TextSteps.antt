@@ -1,4 +1,4 @@
--- Machine steps, for proofs: how the first line of a text is read. No reader needs to believe them.
+-- Machine steps: how the first line of a text is read. No reader needs to believe them.
 use Rattle.std.specs.Prelude.{ℕ, ◌+◌, ◌==◌, ◌&&◌, Bool, true, false, List, [], ◌∷◌, length, take, drop, Option, Some, None, nat_lt, if◌then◌else◌}
 use Rattle.std.specs.List.{prefix_len}
 use Rattle.pr_wire.specs.declared.Levels.{Levels}

@@ -1,4 +1,4 @@
--- Machine steps, for proofs: how a line is written in two parts. No reader needs to believe them.
+-- Machine steps: how a line is written in two parts. No reader needs to believe them.
 use Rattle.std.specs.Prelude.{ℕ, ◌+◌, ◌/◌, ◌%◌, List, [], ◌∷◌}
 use Rattle.pr_wire.specs.declared.Levels.{Levels}
 use Rattle.pr_wire.specs.TraceText.{level_digit}

@@ -4,7 +4,7 @@ ghost use Rattle.std.specs.Prelude.{◌≡◌, ◌≢◌, OnOk, IfOk, IfErr};
 ghost use Rattle.pr_wire.specs.Pieces.{IsLawful, Spells};
 ghost use Rattle.pr_wire.specs.Laws.{LawfulIsFaultless, SpellsOnce, SpellsTheFramesReached, AllowedIsReached, LawfulIsAllowedToEnd, FaultIsReached, OneEdgeMore};
 ghost use Rattle.pr_wire.specs.Table.{fault_of};
-ghost use Rattle.pr_wire.specs.Reached.{with_frame};
+ghost use Rattle.pr_wire.specs.Checking.{with_frame};
 
 use crate::place::Place;
 use crate::{Edge, Frame, WaveFault};

@@ -1,7 +1,10 @@
 //! Statements over a bus without wires.
 
+ghost use Rattle.std.specs.Prelude.{◌≡◌, []};
+
 use super::*;
-use pr_serial::{Direct, Input, Present};
+use crate::read_script;
+use pr_serial::{Direct, Input, Item, Present};
 use std::alloc::Global;
 use std::process::Abort;
 use std::test::Fail;
@@ -24,10 +27,89 @@ fn over_direct(alloc: Global, present: Present) -> Channels<Direct> {
     Channels::new(alloc, Direct::new(alloc, present))
 }
 
+/// A bus notes at most so many items.
+const NOTED: usize = 16;
+
+/// A bus without wires that notes its first items.
+#[derive(Drop)]
+struct Noting {
+    bus: Direct,
+    noted: [Item; NOTED],
+    count: usize,
+}
+
+impl Noting {
+    fn new(alloc: Global, present: Present) -> Noting
+        ensures { result.bus.items ≡ [] }
+    {
+        Noting {
+            bus: Direct::new(alloc, present),
+            noted: [Item::Sent(0, false); NOTED],
+            count: 0,
+        }
+    }
+
+    /// The first items, in order.
+    fn items(&self) -> &[Item] {
+        &self.noted[..self.count.min(NOTED)]
+    }
+}
+
+/// Notes an item, where there is room.
+fn note(noted: &mut [Item; NOTED], count: &mut usize, item: Item) {
+    if *count < NOTED {
+        noted[*count] = item;
+        *count += 1;
+    }
+}
+
+impl Serial for Noting {
+    ghost use Rattle.pr_serial.specs.Bus.{no_delays};
+
+    ghost printers = { λ n. n.bus.present };
+
+    ghost delays = { λ n. no_delays };
+
+    ghost sent = { λ n. n.bus.items };
+
+    ghost marked = { λ n. n.bus.mark };
+
+    ghost has_failed = { λ n. n.bus.failed };
+
+    fn attention(&mut self, first: u8, second: Option<u8>) -> Result<bool, NoMemory> {
+        let answered = self.bus.attention(first, second)?;
+        let item = Item::Attention(first, second);
+        note(&mut self.noted, &mut self.count, item);
+        Ok(answered)
+    }
+
+    fn send(&mut self, byte: u8, eoi: bool) -> Result<bool, NoMemory> {
+        let answered = self.bus.send(byte, eoi)?;
+        note(&mut self.noted, &mut self.count, Item::Sent(byte, eoi));
+        Ok(answered)
+    }
+
+    fn forget(&mut self) {
+        self.bus.forget();
+    }
+
+    fn mark(&self) -> Option<u64> {
+        self.bus.mark()
+    }
+
+    fn items(&self) -> u64 {
+        self.bus.items()
+    }
+
+    fn failed(&self) -> bool {
+        self.bus.failed()
+    }
+}
+
 /// Performs one statement on a bus with few items: it stops so or not, and leaves this status.
-fn leaves(
+fn leaves<S: Serial>(
     rt: &impl Abort,
-    channels: &mut Channels<Direct>,
+    channels: &mut Channels<S>,
     session: &mut Session,
     statement: &Statement,
     stop: Option<Stop>,
@@ -40,9 +122,9 @@ fn leaves(
 }
 
 /// OPEN on a device of the bus, with a secondary address of 0 to 15 or (with a greater one) none.
-fn opens(
+fn opens<S: Serial>(
     rt: &impl Abort,
-    channels: &mut Channels<Direct>,
+    channels: &mut Channels<S>,
     session: &mut Session,
     place: (u8, u8, u8),
     stop: Option<Stop>,
@@ -63,9 +145,9 @@ fn opens(
 }
 
 /// PRINT# with a line that ends.
-fn prints_to(
+fn prints_to<S: Serial>(
     rt: &(impl Abort + AllocGlobal),
-    channels: &mut Channels<Direct>,
+    channels: &mut Channels<S>,
     session: &mut Session,
     file: u8,
     text: &[u8],
@@ -151,10 +233,20 @@ fn line_feed_channel(rt: HostRuntime) -> Result<(), Fail> {
 
 #[test]
 fn return_inside_a_list(rt: HostRuntime) -> Result<(), Fail> {
-    let mut channels = over_direct(rt.alloc(), BOTH);
+    let mut channels = Channels::new(rt.alloc(), Noting::new(rt.alloc(), BOTH));
     let mut session = Session::new(StatusMode::Each);
     opens(&rt, &mut channels, &mut session, (130, 4, NONE), None)?;
     prints_to(&rt, &mut channels, &mut session, 130, b"A\rB", None, 0)?;
+    let items = [
+        Item::Attention(0x24, None),
+        Item::Sent(65, false),
+        Item::Sent(13, false),
+        Item::Sent(66, false),
+        Item::Sent(13, false),
+        Item::Sent(10, true),
+        Item::Attention(0x3f, None),
+    ];
+    assert_eq!(rt; channels.serial().items(), items.as_slice());
     let heard = [
         Input::Select(false),
         Input::Byte(65),
@@ -163,8 +255,9 @@ fn return_inside_a_list(rt: HostRuntime) -> Result<(), Fail> {
         Input::Byte(13),
         Input::Byte(10),
     ];
-    assert_eq!(rt; channels.serial().heard(4), heard.as_slice());
-    shows(&rt, &channels, session, 0, 3, 7);
+    assert_eq!(rt; channels.serial().bus.heard(4), heard.as_slice());
+    assert_eq!(rt; session.channel, 0);
+    assert_eq!(rt; channels.output(), 3);
     Ok(())
 }
 
@@ -253,5 +346,91 @@ fn channel_number_follows(rt: HostRuntime) -> Result<(), Fail> {
     shows(&rt, &channels, session, 0, 3, 8);
     prints(&rt, &mut channels, &mut session, 0)?;
     assert_eq!(rt; channels.screen(), [88, 13].as_slice());
+    Ok(())
+}
+
+/// Whether a statement reaches the bus, where its file is open with a secondary address.
+fn reaches_bus(channels: &Channels<Direct>, statement: &Statement) -> bool {
+    match statement {
+        Statement::Cmd { file: _, line: _ } => true,
+        Statement::PrintTo { file: _, line: _ } => true,
+        Statement::CloseFile { file: _ } => true,
+        Statement::Print { line: _ } => channels.output() > 3,
+        _ => false,
+    }
+}
+
+/// Performs a statement, and tells whether it was refused. Then the session is as before, and
+/// either the bus has failed or only the screen's list is longer. A statement that reaches a bus
+/// that has failed is refused.
+fn is_refused(
+    rt: &impl Abort,
+    channels: &mut Channels<Direct>,
+    session: &mut Session,
+    statement: &Statement,
+) -> bool {
+    let (before, items, output) = (*session, channels.serial().items(), channels.output());
+    let (shown, open) = (channels.screen().len(), channels.files().as_slice().len());
+    let lost = channels.serial().failed() && reaches_bus(channels, statement);
+    assert!(rt; items < 1000);
+    match perform(channels, statement, session) {
+        Ok(stop) => {
+            assert_eq!(rt; stop, None);
+            assert!(rt; !lost);
+            false
+        }
+        Err(_refused) => {
+            assert_eq!(rt; *session, before);
+            if !channels.serial().failed() {
+                assert_eq!(rt; channels.serial().items(), items);
+                assert_eq!(rt; channels.output(), output);
+                assert_eq!(rt; channels.files().as_slice().len(), open);
+                assert_eq!(rt; channels.readst(), 0);
+                assert!(rt; channels.screen().len() >= shown);
+            }
+            true
+        }
+    }
+}
+
+/// Performs a script on a new bus, and tells whether memory was refused. If none was, the bus has
+/// so many items, and the screen these bytes.
+fn is_script_refused(
+    rt: &(impl Abort + AllocGlobal),
+    script: &[u8],
+    items: u64,
+    screen: &[u8],
+) -> bool {
+    let Ok(statements) = read_script(rt.alloc(), script) else {
+        return true;
+    };
+    let mut channels = over_direct(rt.alloc(), BOTH);
+    let mut session = Session::new(StatusMode::Each);
+    let mut refused = false;
+    for statement in statements.as_slice() {
+        refused |= is_refused(rt, &mut channels, &mut session, statement);
+    }
+    if !refused {
+        assert_eq!(rt; channels.serial().items(), items);
+        assert_eq!(rt; channels.screen(), screen);
+    }
+    refused
+}
+
+/// Growths of the screen's list and of the bus. `make test` runs this with each allocation refused
+/// in turn: at most one script then meets a refusal, and with no growth refused none does.
+#[test]
+fn each_growth_refused(rt: HostRuntime) -> Result<(), Fail> {
+    let screen = b"OPEN 4,4,7:PRINT\"123456789\":PRINT#4:PRINT\"X";
+    let command = b"OPEN 4,4,7:CMD 4,\"ABC\":PRINT\"D\":PRINT#4,\"E\":CLOSE 4";
+    let closes = b"OPEN 4,4,7:PRINT#4:CLOSE 4:REM:PRINT;";
+    let refused = [
+        is_script_refused(&rt, screen, 3, b"123456789\rX\r"),
+        is_script_refused(&rt, command, 13, b""),
+        is_script_refused(&rt, closes, 5, b""),
+    ];
+    let refused = refused.iter().filter(|refused| **refused).count();
+    assert!(rt; refused <= 1, "{refused} refusals");
+    println!(rt; "{refused} refusals")?;
     Ok(())
 }

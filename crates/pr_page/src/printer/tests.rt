@@ -2,7 +2,9 @@
 
 use super::*;
 use crate::paper::{Mark, Placed, Sequence};
+use std::env::FillError;
 use std::process::Abort;
+use std::rt::Env;
 use std::test::Fail;
 
 const LOWER: u8 = 1;
@@ -312,28 +314,84 @@ fn list_made_from_a_vector(rt: HostRuntime) -> Result<(), Fail> {
     Ok(())
 }
 
-/// Where an allocation fails, the printer is as before and takes the input when it is given again.
-/// `make test` runs this with each allocation refused in turn. The twin is one input behind.
-#[test]
-fn refused_take_changes_nothing(rt: HostRuntime) -> Result<(), Fail> {
-    let bytes = [
-        65, 66, 13, 8, 27, 16, 1, 222, 255, 27, 16, 1, 222, 26, 3, 255, 13,
-    ];
+/// How many calls may be refused: one where `tests/faults.c` refuses an allocation, else none.
+fn most_refusals(rt: &impl Env) -> usize {
+    match rt.var("FAULT_ALLOC", &mut [0; 8]) {
+        Err(FillError::NotPresent) => 0,
+        _ => 1,
+    }
+}
+
+/// Gives a printer these bytes, and has the page that [`has_page`] tells. Where a byte is refused,
+/// the paper is that of another printer which is one byte behind, and the byte is taken when it is
+/// given again. It answers how many were refused.
+fn refusals(
+    rt: &(impl Abort + AllocGlobal),
+    bytes: &[u8],
+    rows: &[u64],
+    marks: &[(u64, Placed)],
+    held: &[Placed],
+) -> Result<usize, NoMemory> {
+    let mut refused: usize = 0;
     let mut printer = Printer::new(rt.alloc());
-    let mut twin = Printer::new(rt.alloc());
+    let mut behind = Printer::new(rt.alloc());
     for b in bytes {
         assert!(rt; printer.taken() < 1000);
-        if printer.take(Input::Byte(b)).is_err() {
-            assert_eq!(rt; printer.taken(), twin.taken());
-            assert!(rt; printer.paper() == twin.paper(), "refused at {b}");
-            printer.take(Input::Byte(b))?;
+        if printer.take(Input::Byte(*b)).is_err() {
+            refused = refused.saturating_add(1);
+            assert_eq!(rt; printer.taken(), behind.taken());
+            assert!(rt; printer.paper() == behind.paper(), "refused at {b}");
+            printer.take(Input::Byte(*b))?;
         }
-        assert!(rt; twin.taken() < 1000);
-        if twin.take(Input::Byte(b)).is_err() {
-            twin.take(Input::Byte(b))?;
+        assert!(rt; behind.taken() < 1000);
+        if behind.take(Input::Byte(*b)).is_err() {
+            refused = refused.saturating_add(1);
+            behind.take(Input::Byte(*b))?;
         }
     }
-    assert_eq!(rt; printer.paper().rows.len(), 3);
-    assert!(rt; printer.paper() == twin.paper());
+    has_page(rt, printer, rows, marks, held);
+    Ok(refused)
+}
+
+/// The marks of a row that a repeat fills up from the mark at dot 470 on.
+fn filled_row() -> [(u64, Placed); 10] {
+    let mut marks = [(0, dots(127, 470)); 10];
+    for (column, mark) in marks.iter_mut().enumerate().skip(1) {
+        *mark = (0, dots(65, 470 + column as u16));
+    }
+    marks
+}
+
+/// `make test` runs this with each allocation refused in turn: at most one call is then refused,
+/// and with no growth refused none is. Each printer is new, so that its first row makes the list of
+/// rows grow.
+#[test]
+fn refused_take_changes_nothing(rt: HostRuntime) -> Result<(), Fail> {
+    // A line ends: its marks are copied, and its row is added.
+    let marks = [(0, cell(65, 0)), (0, cell(66, 6))];
+    let mut refused = refusals(&rt, &[65, 66, 13], &[0], &marks, &[])?;
+
+    // A single mark wraps: a list for the new line is made, and the full row is added.
+    let wraps = [8, 27, 16, 1, 223, 255, 254];
+    let marks = [(0, dots(127, 479))];
+    let more = refusals(&rt, &wraps, &[0], &marks, &[dots(126, 0)])?;
+    refused = refused.saturating_add(more);
+
+    // A wide cell wraps where nothing stands before it: the new line's list grows with it.
+    let wide = [styled(65, 0, WIDE)];
+    let more = refusals(&rt, &[16, 55, 57, 14, 65], &[0], &[], &wide)?;
+    refused = refused.saturating_add(more);
+
+    // A repeat within the line: the list grows while its columns are added.
+    let held = [0u16, 1, 2, 3, 4].map(|x| dots(65, x));
+    let more = refusals(&rt, &[8, 26, 5, 193], &[], &[], &held)?;
+    refused = refused.saturating_add(more);
+
+    // A repeat over the edge: both lists grow while columns are added, and the full row is added.
+    let over = [8, 27, 16, 1, 214, 255, 26, 14, 193];
+    let more = refusals(&rt, &over, &[0], &filled_row(), &held)?;
+    refused = refused.saturating_add(more);
+
+    assert!(rt; refused <= most_refusals(&rt), "{refused} refusals");
     Ok(())
 }

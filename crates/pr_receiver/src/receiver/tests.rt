@@ -5,7 +5,9 @@ ghost use Rattle.std.specs.Prelude.{◌≡◌, ◌≤◌, IfOk, vec_len};
 use super::*;
 use pr_wire::example::TRACE_TEXT;
 use pr_wire::{TraceFault, analyse, read_trace};
+use std::env::FillError;
 use std::process::Abort;
+use std::rt::Env;
 use std::test::Fail;
 
 /// How many edges the example trace has.
@@ -74,6 +76,17 @@ fn example_inputs() -> [Input; 4] {
     ]
 }
 
+/// The inputs that the trace with secondary address 7 gives the device that it addresses.
+fn lower_case_inputs() -> [Input; 5] {
+    [
+        Input::Select(false),
+        Input::Select(true),
+        Input::Byte(65),
+        Input::Byte(13),
+        Input::Select(false),
+    ]
+}
+
 /// The edges give a device these inputs.
 fn gives(
     rt: &(impl Abort + AllocGlobal),
@@ -125,14 +138,12 @@ fn replay_of_the_example_trace(rt: HostRuntime) -> Result<(), Fail> {
     assert_eq!(rt; receiver.finish(), Ok(()));
 
     let lower_case = read_trace(rt.alloc(), LOWER_CASE_TEXT.as_bytes())?;
-    let wanted = [
-        Input::Select(false),
-        Input::Select(true),
-        Input::Byte(65),
-        Input::Byte(13),
-        Input::Select(false),
-    ];
-    gives(&rt, lower_case.as_slice(), 4, wanted.as_slice())
+    gives(
+        &rt,
+        lower_case.as_slice(),
+        4,
+        lower_case_inputs().as_slice(),
+    )
 }
 
 /// A pulse of 250 that one listener cannot make, but two can; of 251 none.
@@ -250,24 +261,37 @@ fn refusal_is_for_good(rt: HostRuntime) -> Result<(), Fail> {
     Ok(())
 }
 
-/// Where an allocation fails, want of memory is told, and the next call answers as ever. `make
-/// test` runs this with each allocation refused in turn.
+/// How many calls may be refused: one where `tests/faults.c` refuses an allocation, else none.
+fn most_refusals(rt: &impl Env) -> usize {
+    match rt.var("FAULT_ALLOC", &mut [0; 8]) {
+        Err(FillError::NotPresent) => 0,
+        _ => 1,
+    }
+}
+
+/// Replays a trace whose fifth input makes the list grow once more. `make test` runs this with each
+/// allocation refused in turn: at most one call is then refused, it tells want of memory, and the
+/// same call again answers as ever. With no growth refused no call is.
 #[test]
 fn each_growth_refused(rt: HostRuntime) -> Result<(), Fail> {
-    let edges = match read_trace(rt.alloc(), TRACE_TEXT.as_bytes()) {
+    let mut refused: usize = 0;
+    let edges = match read_trace(rt.alloc(), LOWER_CASE_TEXT.as_bytes()) {
         Ok(edges) => edges,
         Err(fault) => {
             assert_eq!(rt; fault, TraceFault::NoMemory);
-            example(&rt)?
+            refused = refused.saturating_add(1);
+            read_trace(rt.alloc(), LOWER_CASE_TEXT.as_bytes())?
         }
     };
     let inputs = match replay(rt.alloc(), 4, edges.as_slice()) {
         Ok(inputs) => inputs,
         Err(fault) => {
             assert_eq!(rt; fault, WaveFault::NoMemory);
+            refused = refused.saturating_add(1);
             replay(rt.alloc(), 4, edges.as_slice())?
         }
     };
-    assert_eq!(rt; inputs.as_slice(), example_inputs().as_slice());
+    assert_eq!(rt; inputs.as_slice(), lower_case_inputs().as_slice());
+    assert!(rt; refused <= most_refusals(&rt), "{refused} refusals");
     Ok(())
 }

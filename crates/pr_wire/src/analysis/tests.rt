@@ -5,7 +5,9 @@ ghost use Rattle.std.specs.Prelude.{◌≡◌, IfOk, vec_len};
 use super::*;
 use crate::example::TRACE_TEXT;
 use crate::{TraceFault, read_trace, write_trace};
+use std::env::FillError;
 use std::process::Abort;
+use std::rt::Env;
 use std::test::Fail;
 
 /// How many edges the example trace has.
@@ -36,6 +38,17 @@ fn data_byte(byte: u8, eoi: bool) -> Frame {
         byte,
         eoi,
     }
+}
+
+/// The frames that the example trace spells.
+fn example_frames() -> [Frame; 5] {
+    [
+        command(36),
+        data_byte(72, false),
+        data_byte(73, false),
+        data_byte(13, true),
+        command(63),
+    ]
 }
 
 /// The edges have this fault.
@@ -71,14 +84,7 @@ fn refused_traces(rt: HostRuntime) -> Result<(), Fail> {
 fn frames_of_the_example_trace(rt: HostRuntime) -> Result<(), Fail> {
     let edges = example(&rt)?;
     let frames = analyse(rt.alloc(), edges.as_slice())?;
-    let wanted = [
-        command(36),
-        data_byte(72, false),
-        data_byte(73, false),
-        data_byte(13, true),
-        command(63),
-    ];
-    assert_eq!(rt; frames.as_slice(), wanted.as_slice());
+    assert_eq!(rt; frames.as_slice(), example_frames().as_slice());
     Ok(())
 }
 
@@ -188,29 +194,45 @@ fn fault_texts(rt: HostRuntime) -> Result<(), Fail> {
     Ok(())
 }
 
-/// Where an allocation fails, want of memory is told, and the next call answers as ever. `make
-/// test` runs this with each allocation refused in turn.
+/// How many calls may be refused: one where `tests/faults.c` refuses an allocation, else none.
+fn most_refusals(rt: &impl Env) -> usize {
+    match rt.var("FAULT_ALLOC", &mut [0; 8]) {
+        Err(FillError::NotPresent) => 0,
+        _ => 1,
+    }
+}
+
+/// Reads, writes and analyses the example trace. `make test` runs this with each allocation refused
+/// in turn: at most one call is then refused, it tells want of memory, and the same call again
+/// answers as ever. With no growth refused no call is.
 #[test]
 fn refused_memory_is_told(rt: HostRuntime) -> Result<(), Fail> {
+    let mut refused: usize = 0;
     let edges = match read_trace(rt.alloc(), TRACE_TEXT.as_bytes()) {
         Ok(edges) => edges,
         Err(fault) => {
             assert_eq!(rt; fault, TraceFault::NoMemory);
+            refused = refused.saturating_add(1);
             example(&rt)?
         }
     };
     let text = match write_trace(rt.alloc(), edges.as_slice()) {
         Ok(text) => text,
-        Err(_) => write_trace(rt.alloc(), edges.as_slice())?,
+        Err(_) => {
+            refused = refused.saturating_add(1);
+            write_trace(rt.alloc(), edges.as_slice())?
+        }
     };
     assert_eq!(rt; text.as_slice(), TRACE_TEXT.as_bytes());
     let frames = match analyse(rt.alloc(), edges.as_slice()) {
         Ok(frames) => frames,
         Err(fault) => {
             assert_eq!(rt; fault, WaveFault::NoMemory);
+            refused = refused.saturating_add(1);
             analyse(rt.alloc(), edges.as_slice())?
         }
     };
-    assert_eq!(rt; frames.len(), 5);
+    assert_eq!(rt; frames.as_slice(), example_frames().as_slice());
+    assert!(rt; refused <= most_refusals(&rt), "{refused} refusals");
     Ok(())
 }

@@ -1,6 +1,6 @@
 use Rattle.std.proofs.Common.{None, sym, ◌∙◌}
 use Rattle.pr_channels.specs.Files.{file_at}
-use Rattle.pr_basic.proofs.EffectLemmas.{chkout_working, commanded, stopped}
+use Rattle.pr_basic.proofs.EffectLemmas.{chkout_working, commanded}
 use Rattle.pr_basic.proofs.PrintingLemmas.{laws_of}
 use Rattle.pr_basic.proofs.performing.command.Goals as goal
 
@@ -12,11 +12,3 @@ returns-in_ok-print_line-in-Ok-clause-ok g c working channel =
     let printed = c.in_ok-print_line-in-Ok.ensures.ok (chkout_working file old c.chkout.new.self None working gives) in
     let done = commanded (laws_of c.elements_add_up.ensures.two_parts c.elements_add_up.ensures.none) file old c.chkout.new.self channel c.args.file c.args.line.now working gives c.in-Ok.ensures.bus in
     record { stop = sym done.goes_on; channels = printed ∙ done.gives }
-
-pub returns-in_ok-clrchn-in-Err-Stop-clause-ok : goal.returns-in_ok-clrchn-in-Err-Stop-clause-ok
-returns-in_ok-clrchn-in-Err-Stop-clause-ok g c working channel =
-    let old = c.args.channels.now in
-    let file = file_at old.files c.args.file in
-    let gives = rw c.in-Err-Stop.field-0-is at c.in-Err-Stop.ensures.err in
-    let done = stopped (laws_of c.elements_add_up.ensures.two_parts c.elements_add_up.ensures.none) file old c.chkout.new.self channel c.args.file c.args.line.now c.in-Err-Stop.stop working gives in
-    record { stop = sym done.stops; channels = c.in_ok-clrchn-in-Err-Stop.ensures.ok ∙ done.gives }

@@ -1,7 +1,6 @@
 use Rattle.std.proofs.Common.{ℕ, Option, ◌∷◌, [], ◌++◌, ap, ◌∙◌}
 use Rattle.pr_channels.specs.Files.{open_stop}
-use Rattle.pr_channels.specs.Calls.{clrchn_of}
-use Rattle.pr_basic.proofs.EffectLemmas.{opening_gives, opening_stops}
+use Rattle.pr_basic.proofs.EffectLemmas.{opening_gives}
 use Rattle.pr_basic.proofs.PrintingLemmas.{laws_of}
 use Rattle.pr_basic.proofs.performing.open.Goals as goal
 
@@ -12,9 +11,3 @@ returns-in-Ok-clause-ok g c working channel =
     (c.in-Ok.ensures.ok.1
     ∙ ap (λ (d : ℕ). record old { files = old.files ++ record { number = c.args.file; device = d; second = c.number_of-second_number.result } ∷ [] }) c.get.ensures.number
     ∙ ap (λ (s : Option ℕ). record old { files = old.files ++ record { number = c.args.file; device = c.args.device; second = s } ∷ [] }) c.number_of-second_number.ensures.same)
-
-pub returns-in_ok-clrchn-in-Err-clause-ok : goal.returns-in_ok-clrchn-in-Err-clause-ok
-returns-in_ok-clrchn-in-Err-clause-ok g c working channel =
-    let old = c.args.channels.now in
-    let gives = opening_stops (laws_of c.elements_add_up.ensures.two_parts c.elements_add_up.ensures.none) (open_stop old.files c.args.file) c.in-Err.stop (record { number = c.args.file; device = c.args.device; second = c.args.second }) channel old working c.in-Err.ensures.err.0 in
-    record { stop = gives.stop; channels = c.in_ok-clrchn-in-Err.ensures.ok ∙ ap clrchn_of c.in-Err.ensures.err.1 ∙ gives.channels }

@@ -1,6 +1,6 @@
 use Rattle.std.proofs.Common.{true, false, refl, sym, ap, Some, ◌∙◌}
 use Rattle.pr_wire.specs.declared.WaveFault.{WaveFault}
-use Rattle.pr_wire.specs.Reached.{with_frame}
+use Rattle.pr_wire.specs.Checking.{with_frame}
 use Rattle.pr_wire.proofs.CheckLaws.{taken_at, ended_bad, ended_lawful, ended_cut, ended_faulty, ended_unstarted}
 use Rattle.pr_wire.proofs.checker.Checker.answer.Goals as goal
 
