@@ -1,6 +1,7 @@
 # make run          proves and builds the program (once) and prints the page of examples/hello.bas
 # make test         the gate: every proof, test and must-fail edit, then the tests outside the prover
 # make bench        speed and peak memory beside `cat` and `wc -l`
+# make peer         traces of runs, read by sigrok's decoder of the bus (sigrok-cli and libsigrokdecode4)
 # make install      copies the built program to $(PREFIX)/bin
 
 PREFIX ?= /usr/local
@@ -13,7 +14,7 @@ TESTS := $(foreach crate,$(GROWTHS),crates/$(crate)/out/$(crate)_tests)
 # What the program and the tests are built from.
 SOURCES := crates.txt $(shell find crates -path '*/out' -prune -o \( -name '*.rt' -o -name '*.antt' \) -print)
 
-.PHONY: run build test outside bench install
+.PHONY: run build test outside bench peer install
 
 run: build
 	@$(PROGRAM) pages < examples/hello.bas
@@ -39,6 +40,10 @@ $(TESTS): $(SOURCES)
 
 bench: build
 	@tests/bench $(PROGRAM)
+
+# Not a part of the gate.
+peer: build
+	@tests/peer $(PROGRAM)
 
 install: build
 	install -d $(DESTDIR)$(PREFIX)/bin
