@@ -1,6 +1,8 @@
 -- Trace texts: line by line, and what is written.
-use Rattle.std.proofs.Common.{◌≡◌, ℕ, suc, ◌+◌, ◌<◌, ◌^◌, ◌/◌, ◌%◌, ◌≤◌, List, [], ◌∷◌, ◌++◌, length, drop, refl, ap, sym, subst, ◌∙◌, arith, append_assoc, append-nil, rules, true, Option, Some, None, decimal}
+use Rattle.std.proofs.Common.{◌≡◌, ℕ, suc, ◌+◌, ◌<◌, ◌^◌, ◌/◌, ◌%◌, ◌≤◌, List, [], ◌∷◌, ◌++◌, length, take, drop, refl, ap, sym, subst, ◌∙◌, arith, append_assoc, append-nil, rules, true, Option, Some, None, decimal}
 use Rattle.std.specs.List.{list_all}
+use Rattle.std.proofs.lemmas.Grind.{flat_map-append}
+use Rattle.std.proofs.lemmas.List.{take-append-drop}
 use Rattle.std.specs.Prelude.{All}
 use Rattle.std.proofs.lemmas.Fmt.{decimal_step, digits_decimal, digits_value-decimal, decimal_nonempty}
 use Rattle.std.proofs.lemmas.Str.Parse.{IsNumeralModel, numerals_by_fold}
@@ -157,6 +159,14 @@ written_long old mid e lo hi h =
     let parts : decimal e.time ++ levels_line e.levels ≡ front ++ (tail ++ levels_line e.levels) =
     ap (λ v. v ++ levels_line e.levels) (decimal_three e.time lo hi) ∙ append_assoc front tail (levels_line e.levels) in
     ap (λ v. old ++ v) parts ∙ (sym (append_assoc old front (tail ++ levels_line e.levels)) ∙ ap (λ v. v ++ (tail ++ levels_line e.levels)) (sym h))
+
+-- the lines of the first edges that are left are added
+pub more_edges : (old new block whole : List ℕ) (rest : List Edge) (n : ℕ) → new ≡ old ++ block → block ≡ trace_text (take n rest) → old ++ trace_text rest ≡ whole → new ++ trace_text (drop n rest) ≡ whole
+more_edges old new block whole rest n a b h =
+    ap (λ t. t ++ trace_text (drop n rest)) (a ∙ ap (λ t. old ++ t) b)
+    ∙ (append_assoc old (trace_text (take n rest)) (trace_text (drop n rest))
+    ∙ (ap (λ t. old ++ t) (sym (flat_map-append edge_text (take n rest) (drop n rest)))
+    ∙ (ap (λ es. old ++ trace_text es) (take-append-drop n rest) ∙ h)))
 
 -- a text without a byte is empty
 pub empty_list : (bs : List ℕ) → length bs ≡ 0 → bs ≡ []

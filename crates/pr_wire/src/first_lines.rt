@@ -1,6 +1,6 @@
 //! The first lines of a text, up to those of a frame.
 
-ghost use Rattle.std.specs.Prelude.{◌≡◌, ◌+◌, ◌≤◌, true, length};
+ghost use Rattle.std.specs.Prelude.{◌≡◌, ◌+◌, ◌≤◌, List, ℕ, true, length};
 ghost use Rattle.pr_wire.specs.FirstLines.{AreFirstLines};
 
 use crate::ahead::ANSWERED_EDGES;
@@ -20,9 +20,8 @@ impl FirstLines {
     /// No line yet.
     #[inline(always)]
     pub fn new() -> FirstLines
-        ensures count { result.count ≡ 0 }
-        ensures len { result.len ≡ 0 }
-        ensures room { length result.edges ≡ 22 }
+        ensures none { (result.count ≡ 0) × (result.len ≡ 0) }
+        ensures lines { (text : List ℕ) → AreFirstLines text result }
     {
         let levels = Levels {
             atn: false,
@@ -38,13 +37,13 @@ impl FirstLines {
 
     /// Reads on until there are `count` lines, and tells whether there are: each spells an edge and
     /// ends with byte 10 alone.
-    #[inline(always)]
     pub fn read_to(&mut self, text: &[u8], count: usize) -> bool
         requires few { count ≤ 22 }
         requires more { self.old.count ≤ count }
         requires within { self.old.len ≤ length text.now }
         requires bytes { self.old.count ≤ self.old.len }
         ensures lines { AreFirstLines text.now self.old → AreFirstLines text.now self.new }
+        ensures few { self.new.count ≤ count }
         ensures count { result ≡ true → self.new.count ≡ count }
         ensures within { self.new.len ≤ length text.now }
         ensures bytes { self.new.count ≤ self.new.len }

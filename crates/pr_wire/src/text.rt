@@ -69,9 +69,7 @@ pub fn write_trace(alloc: Global, edges: &[Edge]) -> Result<Vec<u8>, NoMemory>
 {
     let mut writer = Writer::new();
     let mut text = Vec::new(alloc);
-    for edge in edges {
-        writer.push_edge(&mut text, *edge)?;
-    }
+    writer.push_edges(&mut text, edges)?;
     Ok(text)
 }
 

@@ -295,3 +295,31 @@ fn each_growth_refused(rt: HostRuntime) -> Result<(), Fail> {
     assert!(rt; refused <= most_refusals(&rt), "{refused} refusals");
     Ok(())
 }
+
+/// Whole frames are taken at once, those of commands too, and two edges more where end-or-identify
+/// is answered; the inputs are those that come edge by edge.
+#[test]
+fn frames_are_taken_whole(rt: HostRuntime) -> Result<(), Fail> {
+    let edges = example(&rt)?;
+    let mut receiver = Receiver::new(4);
+    let mut inputs = Vec::new(rt.alloc());
+    let mut at: usize = 0;
+    for wanted in [0, 0, 0, 20, 0, 20, 20, 22, 0, 20, 0, 0, 0] {
+        assert!(rt; at < EDGES && receiver.taken() < 1000);
+        let passed = receiver.pass_frame(&edges[at..]);
+        assert_eq!(rt; passed.count, wanted, "from edge {at}");
+        let input = if passed.count == 0 {
+            assert!(rt; receiver.taken() < 1000);
+            receiver.edge(edges[at])?
+        } else {
+            passed.input
+        };
+        if let Some(input) = input {
+            inputs.push(input)?;
+        }
+        at = at.saturating_add(passed.count.max(1));
+    }
+    assert_eq!(rt; at, EDGES);
+    assert_eq!(rt; inputs.as_slice(), example_inputs().as_slice());
+    Ok(())
+}

@@ -65,3 +65,40 @@ fn lines_are_taken_whole(rt: HostRuntime) {
     let (third, _) = checker.take_from(b"00 001\n");
     assert_eq!(rt; third, 1);
 }
+
+/// The lines of whole frames are taken at once, those of commands too, and two more where
+/// end-or-identify is answered; other lines one by one.
+#[test]
+fn frames_are_taken_whole(rt: HostRuntime) {
+    let wanted = [
+        (1, None),
+        (1, None),
+        (1, None),
+        (20, Some(36)),
+        (1, None),
+        (20, Some(72)),
+        (20, Some(73)),
+        (22, Some(13)),
+        (1, None),
+        (20, Some(63)),
+        (1, None),
+        (1, None),
+        (1, None),
+    ];
+    let mut checker = Checker::new();
+    let mut rest = TRACE_TEXT.as_bytes();
+    for (lines, byte) in wanted {
+        assert!(rt; !rest.is_empty() && rest.len() < 10000 && checker.count < 1000);
+        let before = checker.count;
+        let (len, frame) = checker.take_front(rest);
+        assert_eq!(rt;
+            checker.count.saturating_sub(before),
+            lines,
+            "from line {before}"
+        );
+        assert_eq!(rt; frame.map(|frame| frame.byte), byte, "from line {before}");
+        rest = &rest[len..];
+    }
+    assert!(rt; rest.is_empty() && checker.count < 1000);
+    assert_eq!(rt; checker.finish(), Ok(None));
+}
