@@ -1,5 +1,5 @@
-/* Runs a command and tells its wall time in seconds and its peak memory in megabytes.
- * usage: measure NAME BYTES COMMAND WORD..   (BYTES: how many its input has) */
+/* Runs a command and tells its wall time in seconds, its speed, and its peak memory in megabytes.
+ * usage: measure NAME COUNT UNIT COMMAND WORD..   (what it reads or writes: COUNT bytes, told as MB, or COUNT edges, told as M edges) */
 #include <stdio.h>
 #include <stdlib.h>
 #include <sys/resource.h>
@@ -16,12 +16,12 @@ static double seconds(void)
 
 int main(int count, char **words)
 {
-    if (count < 4)
+    if (count < 5)
         return 2;
     double start = seconds();
     pid_t child = fork();
     if (child == 0) {
-        execvp(words[3], words + 3);
+        execvp(words[4], words + 4);
         _exit(127);
     }
     int status;
@@ -29,7 +29,7 @@ int main(int count, char **words)
     if (child < 0 || wait4(child, &status, 0, &used) < 0 || !WIFEXITED(status) || WEXITSTATUS(status) != 0)
         return 1;
     double took = seconds() - start;
-    fprintf(stderr, "%-28s %8.3f s %9.1f MB/s %9.1f MB peak\n", words[1], took,
-            took > 0 ? atof(words[2]) / 1e6 / took : 0, used.ru_maxrss / 1024.0);
+    fprintf(stderr, "%-34s %8.3f s %9.1f %s/s %9.1f MB peak\n", words[1], took,
+            took > 0 ? atof(words[2]) / 1e6 / took : 0, words[3], used.ru_maxrss / 1024.0);
     return 0;
 }

@@ -17,16 +17,23 @@ present_rule = value_rule (codes "present") (codes "both")
 abbrev pub status_rule : Rule
 status_rule = value_rule (codes "status") (codes "each")
 
--- the subcommand that writes pages
-abbrev pub pages_app : App
-pages_app = with_rule (with_rule (new_app (codes "pages")) present_rule) status_rule
+-- the delays of the wires
+abbrev pub delays_rule : Rule
+delays_rule = value_rule (codes "delays") []
 
--- the program, which wants a subcommand
+-- a subcommand that runs a script
+abbrev pub run_app : Text → App
+run_app name = with_rule (with_rule (with_rule (new_app name) present_rule) delays_rule) status_rule
+
+-- the program without its subcommands, of which it wants one
+abbrev pub program_app : App
+program_app = on_top (λ s. record s { subcommand_required = true; disable_help_subcommand = true }) (new_app (codes "print1525"))
+
+-- the program
 abbrev pub print1525 : App
 print1525 =
-    with_subcommand (with_subcommand
-    (on_top (λ s. record s { subcommand_required = true; disable_help_subcommand = true }) (new_app (codes "print1525")))
-    pages_app.top) (new_app (codes "check")).top
+    with_subcommand (with_subcommand (with_subcommand program_app (run_app (codes "pages")).top) (run_app (codes "bus")).top)
+    (new_app (codes "check")).top
 
 -- no option of the command holds for its subcommands too
 abbrev pub IsLocal : Command → Type 0

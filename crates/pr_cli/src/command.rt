@@ -2,7 +2,7 @@
 
 ghost use Rattle.std.specs.Prelude.{◌≡◌, IfOk, false};
 ghost use Rattle.clap.specs.Words.{app_of, rule_of};
-ghost use Rattle.pr_cli.specs.CommandLine.{IsLocal, pages_app, present_rule, print1525, status_rule, value_rule};
+ghost use Rattle.pr_cli.specs.CommandLine.{IsLocal, delays_rule, present_rule, print1525, run_app, status_rule, value_rule};
 
 use clap::{Arg, Command};
 use std::alloc::{AllocError, Global};
@@ -33,18 +33,28 @@ fn status_option<'a>(alloc: Global) -> Arg<'a>
     )
 }
 
-/// The subcommand that writes pages.
-fn pages_command<'a>(alloc: Global) -> Result<Command<'a>, AllocError>
-    ensures app { IfOk result (λ c. app_of c ≡ pages_app) }
+/// The option `--delays`.
+fn delays_option<'a>(alloc: Global) -> Arg<'a>
+    ensures rule { rule_of result ≡ delays_rule }
+    ensures local { result.global ≡ false }
+{
+    value_option(alloc, "delays", "").help(
+        "The raw delay numbers: lists for the computer, printer 4 and printer 5, as in 900,999/9",
+    )
+}
+
+/// A subcommand that runs a script.
+fn run_command<'a>(alloc: Global, name: &'a str, about: &'a str) -> Result<Command<'a>, AllocError>
+    ensures app { IfOk result (λ c. app_of c ≡ run_app name.entry.now) }
     ensures local { IfOk result IsLocal }
 {
     let present = present_option(alloc);
+    let delays = delays_option(alloc);
     let status = status_option(alloc);
-    let command = Command::new(alloc, "pages").about(
-        "Reads a script on standard input and writes the pages that it prints",
-    );
-    let command = command.arg(present)?;
-    let whole = command.arg(status)?;
+    let command = Command::new(alloc, name).about(about);
+    let one = command.arg(present)?;
+    let two = one.arg(delays)?;
+    let whole = two.arg(status)?;
     Ok(whole)
 }
 
@@ -53,7 +63,16 @@ pub fn make_command<'a>(alloc: Global) -> Result<Command<'a>, AllocError>
     ensures app { IfOk result (λ c. app_of c ≡ print1525) }
     ensures local { IfOk result IsLocal }
 {
-    let pages = pages_command(alloc)?;
+    let pages = run_command(
+        alloc,
+        "pages",
+        "Reads a script on standard input and writes the pages that it prints",
+    )?;
+    let bus = run_command(
+        alloc,
+        "bus",
+        "Reads a script on standard input and writes the trace of the bus wires during its run",
+    )?;
     let check = Command::new(alloc, "check").about(
         "Reads a trace on standard input and writes the frames that it spells, if it is lawful",
     );
@@ -62,6 +81,7 @@ pub fn make_command<'a>(alloc: Global) -> Result<Command<'a>, AllocError>
         .subcommand_required(true)
         .disable_help_subcommand(true);
     let one = program.subcommand(pages)?;
-    let whole = one.subcommand(check)?;
+    let two = one.subcommand(bus)?;
+    let whole = two.subcommand(check)?;
     Ok(whole)
 }

@@ -3,22 +3,27 @@
 ghost use Rattle.std.specs.Prelude.{◌≡◌, ◌≢◌, map, true, unwrap_or, IfOk, IfErr, IfSome, IsErrOf, IsSome};
 ghost use Rattle.clap.specs.Words.{first_of, found_of, kind_of, rows_of, subcommand_of, subcommand_rows_of, takes};
 ghost use Rattle.pr_cli.specs.CommandLine.{print1525};
-ghost use Rattle.pr_cli.specs.Jobs.{AsksFor, HasBadPresent, HasBadStatus, IsLine, IsOurs};
+ghost use Rattle.pr_cli.specs.Jobs.{AsksFor, HasBadDelays, HasBadPresent, HasBadStatus, IsLine, IsOurs};
 
 use crate::command::make_command;
+use crate::delays::{DelayFault, read_delays};
 use crate::options::{read_present, read_status};
 use clap::ArgMatches;
 use clap::error::ErrorKind;
 use pr_basic::StatusMode;
+use pr_bus::Delays;
 use pr_serial::Present;
 use std::alloc::Global;
 
 /// What the program is to do.
-#[derive(Clone, Copy, Debug, PartialEq, Eq)]
+#[derive(Drop)]
 pub enum Job {
-    /// Read a script and write the page text of its run, with these printers present and the
-    /// status going on in this way.
-    Pages(Present, StatusMode),
+    /// Read a script and write the page text of its run, with these printers present, these
+    /// delays, and the status going on in this way.
+    Pages(Present, Delays, StatusMode),
+    /// Read a script and write the trace of its run, with these printers present, these delays,
+    /// and the status going on in this way.
+    Bus(Present, Delays, StatusMode),
     /// Read a trace and write the frames that it spells.
     Check,
 }
@@ -30,10 +35,25 @@ pub enum JobFault {
     Line(clap::Error),
     /// The value of `--present` is not `none`, `4`, `5` or `both`.
     BadPresent,
+    /// The value of `--delays` is not at most three lists of numbers, as [`read_delays`] reads them.
+    BadDelays,
     /// The value of `--status` is not `each` or `kept`.
     BadStatus,
     /// Memory was refused.
     NoMemory,
+}
+
+impl From<DelayFault> for JobFault {
+    ghost use Rattle.pr_cli.specs.Faults.{fault_of_delays};
+
+    ghost from_gives = { λ e f. f ≡ fault_of_delays e };
+
+    fn from(e: DelayFault) -> JobFault {
+        match e {
+            DelayFault::BadDelays => JobFault::BadDelays,
+            DelayFault::NoMemory => JobFault::NoMemory,
+        }
+    }
 }
 
 /// Reads a command line, of which the program's name is the first word.
@@ -42,11 +62,13 @@ pub enum JobFault {
 ///
 /// [`JobFault::Line`] only for words that clap's meaning of the command does not take (a request
 /// for help is one), [`JobFault::BadPresent`] only for a bad value of `--present`,
-/// [`JobFault::BadStatus`] only for a good `--present` and a bad value of `--status`, and
+/// [`JobFault::BadDelays`] only for a good `--present` and a bad value of `--delays`,
+/// [`JobFault::BadStatus`] only where both are good and the value of `--status` is bad, and
 /// [`JobFault::NoMemory`] where memory was refused, by clap too.
 pub fn read_job<'a>(alloc: Global, words: &'a [&'a str]) -> Result<Job, JobFault>
     ensures ok { IfOk result (AsksFor (subcommand_of print1525 (map (λ s. s.now) words.entry.now))) }
     ensures present { IsErrOf result JobFault.BadPresent → HasBadPresent (subcommand_of print1525 (map (λ s. s.now) words.entry.now)) }
+    ensures delays { IsErrOf result JobFault.BadDelays → HasBadDelays (subcommand_of print1525 (map (λ s. s.now) words.entry.now)) }
     ensures status { IsErrOf result JobFault.BadStatus → HasBadStatus (subcommand_of print1525 (map (λ s. s.now) words.entry.now)) }
     ensures line { takes print1525 (map (λ s. s.now) words.entry.now) ≡ true → IfErr result (λ e. ¬ IsLine e) }
 {
@@ -54,17 +76,18 @@ pub fn read_job<'a>(alloc: Global, words: &'a [&'a str]) -> Result<Job, JobFault
         return Err(JobFault::NoMemory);
     };
     match command.try_get_matches_from(words) {
-        Ok(matches) => job_of(&matches),
+        Ok(matches) => job_of(alloc, &matches),
         Err(error) => Err(fault_of(error)),
     }
 }
 
 /// The job that the matches of the words ask for.
-fn job_of(matches: &ArgMatches<'_>) -> Result<Job, JobFault>
+fn job_of(alloc: Global, matches: &ArgMatches<'_>) -> Result<Job, JobFault>
     requires some { IsSome (subcommand_rows_of matches.now) }
     requires ours { IfSome (subcommand_rows_of matches.now) (λ met. IsOurs met.0) }
     ensures ok { IfOk result (AsksFor (subcommand_rows_of matches.now)) }
     ensures present { IsErrOf result JobFault.BadPresent → HasBadPresent (subcommand_rows_of matches.now) }
+    ensures delays { IsErrOf result JobFault.BadDelays → HasBadDelays (subcommand_rows_of matches.now) }
     ensures status { IsErrOf result JobFault.BadStatus → HasBadStatus (subcommand_rows_of matches.now) }
     ensures line { IfErr result (λ e. ¬ IsLine e) }
 {
@@ -77,10 +100,14 @@ fn job_of(matches: &ArgMatches<'_>) -> Result<Job, JobFault>
     let Some(present) = read_present(value_or(options, "present", "both")) else {
         return Err(JobFault::BadPresent);
     };
+    let delays = read_delays(alloc, value_or(options, "delays", ""))?;
     let Some(mode) = read_status(value_or(options, "status", "each")) else {
         return Err(JobFault::BadStatus);
     };
-    Ok(Job::Pages(present, mode))
+    if name == "bus" {
+        return Ok(Job::Bus(present, delays, mode));
+    }
+    Ok(Job::Pages(present, delays, mode))
 }
 
 /// The value of an option, or a text in its place.
@@ -93,7 +120,7 @@ fn value_or<'a>(options: &ArgMatches<'a>, id: &str, fallback: &'a str) -> &'a st
 /// A refusal by clap. Its want of memory is the program's own.
 fn fault_of(error: clap::Error) -> JobFault
     ensures memory { kind_of error ≡ ErrorKind.OutOfMemory → ¬ IsLine result }
-    ensures line { (result ≢ JobFault.BadPresent) × (result ≢ JobFault.BadStatus) }
+    ensures line { (result ≢ JobFault.BadPresent) × (result ≢ JobFault.BadDelays) × (result ≢ JobFault.BadStatus) }
 {
     if error.kind() == ErrorKind::OutOfMemory {
         JobFault::NoMemory

@@ -339,8 +339,8 @@ fn fault_texts_of_traces(rt: HostRuntime) -> Result<(), Fail> {
 
 #[test]
 fn check_takes_no_option(rt: HostRuntime) {
-    let job = read_job(rt.alloc(), &["print1525", "check"]);
-    assert_eq!(rt; job.ok(), Some(Job::Check));
+    let words = ["print1525", "check"];
+    assert!(rt; matches!(read_job(rt.alloc(), &words), Ok(Job::Check)));
     match read_job(rt.alloc(), &["print1525", "check", "--delays", "1"]) {
         Err(JobFault::Line(error)) => assert_eq!(rt; error.exit_code(), 2),
         _ => assert!(rt; false),
