@@ -8,7 +8,7 @@ use Rattle.std.proofs.lemmas.Grind.{flat_map-append}
 use Rattle.pr_wire.specs.declared.Frame.{Frame}
 use Rattle.pr_wire.specs.declared.checker.Checker.{Checker}
 use Rattle.pr_wire.specs.Checked.{HasChecked}
-use Rattle.pr_wire.specs.Reached.{with_frame}
+use Rattle.pr_wire.specs.Checking.{with_frame}
 use Rattle.pr_cli.specs.declared.fault.CliFault.{CliFault}
 use Rattle.pr_cli.specs.FrameText.{frame_line, frame_lines}
 use Rattle.pr_wire.specs.declared.checker.CheckFault.{CheckFault}
