@@ -1,4 +1,4 @@
--- Trusted: how the delays fit together, whatever the numbers: statements of the law on `delays_fit_together`.
+-- Laws: how the delays fit together, whatever the numbers. `delays_fit_together` proves them, and callers take them from there.
 use Rattle.std.specs.Prelude.{ℕ, ◌+◌, ◌<◌, ◌≤◌, List}
 use Rattle.pr_wire.specs.declared.delay.Kind.TheVariants.{Bb, Aw, Ne, R, Cr, At, Ye, Ei, F, Dr}
 use Rattle.pr_wire.specs.Delays.{delay_at}

@@ -1,4 +1,4 @@
--- Laws of the definitions. The functions of src/laws.rt prove them, and callers take them from there.
+-- Laws: what follows from the definitions. The functions of src/laws.rt prove them, and callers take them from there.
 use Rattle.std.specs.Prelude.{◌≡◌, ℕ, ◌*◌, ◌≤◌, false, not, ◌||◌, None, List, [], ◌∷◌, ◌++◌, length, if◌then◌else◌}
 use Rattle.std.specs.List.{list_any}
 use Rattle.pr_serial.specs.declared.Present.{Present}

@@ -416,7 +416,8 @@ fn time_bound_is_met(rt: HostRuntime) {
     hears(&rt, &bus, 4, &[Input::Select(false), Input::Select(true)]);
 }
 
-/// Both printers listen; printer 4 is as fast and printer 5 as slow as may be.
+/// Both printers listen. Printer 4 has the least delays; printer 5 answers after 969 microseconds (AT and
+/// H), acknowledges and lets go after 9 (F and DR), and has 250 and 80 for end-or-identify.
 #[test]
 fn two_printers_with_extreme_delays(rt: HostRuntime) {
     let mut bus = wires(&rt, BOTH, &[198; 200], &[0; 200], &[968; 200]);
