@@ -1,4 +1,4 @@
--- Machine: what the talker keeps of the printers. No reader needs to believe it.
+-- Machine steps: what the talker keeps of the printers. No reader needs to believe it.
 use Rattle.std.specs.Prelude.{◌≡◌, ℕ, ◌+◌, List, [], ◌∷◌, map, Option, Some, None}
 use Rattle.pr_bus.specs.declared.lines.Lines.{Lines}
 use Rattle.pr_bus.specs.declared.lines.Lines.TheVariants.{Pulled}

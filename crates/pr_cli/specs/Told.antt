@@ -1,4 +1,4 @@
--- Linking words, for proofs: which lines a checker has told of a text, and what a part of `check` answers.
+-- Linking words, for proofs: which lines a checker has told of a text, and what a part of `check` answers. No reader needs to believe them.
 use Rattle.std.specs.Prelude.{◌≡◌, ℕ, ◌<◌, ◌≤◌, List, [], flat_map, length, Option, Some, None, Result, Ok, Err, Vec}
 use Rattle.std.specs.Global.{Global}
 use Rattle.std.specs.Io.KnownBytes.{IsAtEnd}

@@ -11,7 +11,7 @@ use crate::command::{LISTEN, LOWER_CASE, UNLISTEN};
 use pr_page::Input;
 use std::alloc::Global;
 
-/// An item gives a device at most so many inputs: a LISTEN with secondary address 7 selects a
+/// An item gives a device at most two inputs: a LISTEN with secondary address 7 selects a
 /// character set twice.
 const INPUTS_OF_AN_ITEM: usize = 2;
 

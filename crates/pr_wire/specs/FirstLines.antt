@@ -1,4 +1,4 @@
--- Linking words, for proofs: which edges the first lines of a text spell.
+-- Linking words, for proofs: which edges the first lines of a text spell. No reader needs to believe them.
 use Rattle.std.specs.Prelude.{◌≡◌, List, ◌++◌, ℕ, length, take}
 use Rattle.pr_wire.specs.declared.first_lines.FirstLines.{FirstLines}
 use Rattle.pr_wire.specs.TraceText.{AreEdgeLines, lines_of}

@@ -5,9 +5,9 @@ use Rattle.pr_cli.proofs.check.check_block.Goals as goal
 
 pub loop-rest-preserved : goal.loop-rest-preserved
 loop-rest-preserved c =
-    let n = c.take_from-len.result.0 in
+    let n = c.take_front-len.result.0 in
     let rest = c.loop-rest.rest.now in
     rw take_rest (record {
-      told = tells_more _ rest _ _ _ _ _ _ n c.take_from-len.result.1 c.loop-rest.invariant.told c.in_ok-push_if_some.ensures c.take_from-len.ensures.checked;
-      count = omega (arith, length-drop n rest, c.take_from-len.ensures.count, c.take_from-len.ensures.some, c.take_from-len.ensures.within, c.loop-rest.invariant.count);
+      told = tells_more _ rest _ _ _ _ _ _ n c.take_front-len.result.1 c.loop-rest.invariant.told c.in_ok-push_if_some.ensures c.take_front-len.ensures.checked;
+      count = omega (arith, length-drop n rest, c.take_front-len.ensures.count, c.take_front-len.ensures.some, c.take_front-len.ensures.within, c.loop-rest.invariant.count);
     })
