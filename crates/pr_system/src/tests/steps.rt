@@ -3,8 +3,7 @@
 ghost use Rattle.std.specs.Prelude.{◌≡◌, None};
 
 use super::*;
-use pr_bus::Bus;
-use pr_serial::Direct;
+use pr_serial::{Bus, Direct};
 
 /// Performs a script of one statement in a run, which answers this stop or none.
 fn answers<B: Bus + Drop>(
