@@ -1,6 +1,6 @@
 # make run          proves and builds the program (once) and prints the page of examples/hello.bas
 # make test         the gate: every proof, test and must-fail edit, then the tests outside the prover
-# make bench        speed and peak memory beside `cat` and `wc -l`
+# make bench        speed and peak memory beside `wc -l`, with the aim of each
 # make peer         traces of runs, read by sigrok's decoder of the bus (sigrok-cli and libsigrokdecode4)
 # make install      copies the built program to $(PREFIX)/bin
 
@@ -38,7 +38,7 @@ outside: build $(TESTS)
 $(TESTS): $(SOURCES)
 	@cd $(@D)/.. && rt test > out.log 2>&1 || { cat out.log; exit 1; }; rm -f out.log
 
-bench: build
+bench: build $(TESTS)
 	@tests/bench $(PROGRAM)
 
 # Not a part of the gate.
