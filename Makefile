@@ -1,9 +1,11 @@
 # make run          proves and builds the program (once) and prints the page of examples/hello.bas
+# make try          prints that page within a minute or two, by a build of which nothing is proved
 # make test         the gate: every proof, test and must-fail edit, then the tests outside the prover
 # make bench        speed and peak memory beside `wc -l`, with the aim of each
 # make peer         traces of runs, read by sigrok's decoder of the bus (sigrok-cli and libsigrokdecode4)
 # make install      copies the built program to $(PREFIX)/bin
 
+SHELL := /bin/bash
 PREFIX ?= /usr/local
 PROGRAM := crates/print1525/out/print1525
 
@@ -14,7 +16,7 @@ TESTS := $(foreach crate,$(GROWTHS),crates/$(crate)/out/$(crate)_tests)
 # What the program and the tests are built from.
 SOURCES := crates.txt $(shell find crates -path '*/out' -prune -o \( -name '*.rt' -o -name '*.antt' \) -print)
 
-.PHONY: run build test outside bench peer install
+.PHONY: run try build test outside bench peer install
 
 run: build
 	@$(PROGRAM) pages < examples/hello.bas
@@ -23,8 +25,13 @@ build: $(PROGRAM)
 
 # `rt run` proves, builds and runs. `rt ci` leaves the program too: it is built again only after a change.
 $(PROGRAM): $(SOURCES)
-	@cd crates/print1525 && rt run -- --help > out.log 2>&1 || { cat out.log; rm -f out.log; exit 1; }; rm -f out.log
+	@cd crates/print1525 && set -o pipefail && rt run -- --help 2>&1 | tee out.log | awk -f ../../tests/progress.awk || \
+		{ cat out.log; rm -f out.log; exit 1; }; rm -f out.log
 	@touch $@
+
+try:
+	@echo 'Nothing is proved in this build: it only shows a page. make run proves it.'
+	@cd crates/print1525 && rt try -- pages < ../../examples/hello.bas
 
 test:
 	rt ci
