@@ -1,5 +1,5 @@
 -- The edges before a frame's bits, and a whole frame at once.
-use Rattle.std.proofs.Common.{◌≡◌, ℕ, ◌+◌, ◌≤◌, Bool, true, false, not, List, [], ◌∷◌, ◌++◌, length, take, drop, get_or, Result, Ok, Err, refl, sym, subst, ap, ◌∙◌, arith}
+use Rattle.std.proofs.Common.{◌≡◌, ℕ, ◌+◌, ◌≤◌, Bool, true, false, not, List, [], ◌∷◌, ◌++◌, length, take, drop, get_or, Result, Ok, Err, MatchResult, refl, sym, subst, ap, ◌∙◌, arith}
 use Rattle.std.proofs.lemmas.Bool.{lt-ltb, le-ltb}
 use Rattle.pr_wire.specs.declared.Edge.{Edge}
 use Rattle.pr_wire.specs.declared.Levels.{Levels}
@@ -14,7 +14,8 @@ use Rattle.pr_wire.specs.declared.ahead.Start.{Start}
 use Rattle.pr_wire.specs.Levels.{edge_at}
 use Rattle.pr_wire.specs.Table.{atn_of}
 use Rattle.pr_wire.specs.Reached.{Reached, reached, one_more, led, onto, step_of}
-use Rattle.pr_wire.specs.Ahead.{behind, last_of, IsEdgeIn, IsBegunBy, IsPulledBy, IsAnsweredBy, BringsByte, Begins, PassesFrame}
+use Rattle.pr_wire.specs.Ahead.{behind, last_of}
+use Rattle.pr_wire.specs.AheadSteps.{IsEdgeIn, IsBegunBy, IsPulledBy, IsAnsweredBy, BringsByte, Begins, PassesTo}
 use Rattle.pr_wire.proofs.Walk.{same-self}
 use Rattle.pr_wire.proofs.Reached.{reached-append}
 use Rattle.pr_wire.proofs.BitPairs.{edge-is}
@@ -118,34 +119,48 @@ opens-answered old s last look free pulse release pull before n d b o k =
     (behind-both (After release.time) (Bit pull.time Data true [] pull.levels.line) true true true true false pull.levels.line release pull before (n + 1 + 1 + 1 + 1) (record { old_is = q; new_is = z })
     (pulls-after release.time pull.time pull.levels.line before (n + 1 + 1 + 1 + 1) k.pulls.from k.pulls.to))
 
+-- edges behind others come by no frame more
+both-same : (es fs : List Edge) (r q : Reached) → reached r es ≡ Ok q → MatchResult (reached q fs) (λ p. p.before ≡ r.before) (λ _. ⊥) → MatchResult (reached r (es ++ fs)) (λ p. p.before ≡ r.before) (λ _. ⊥)
+both-same es fs r q h k = rw (reached-both es fs r, h) k
+
 -- a whole frame without end-or-identify
 pub passes-plain : (last : Edge) (s : Start) (byte : ℕ) (edges : List Edge) (d : Edge) → 3 ≤ length edges → IsBegunBy last s (get_or edges 0 d) (get_or edges 1 d) → IsPulledBy s.sending (get_or edges 1 d) (get_or edges 2 d)
-    → BringsByte (get_or edges 2 d) (drop 3 edges) byte → (old : Place) → Begins old s
-    → PassesFrame last old edges 20 (Ack (last_of edges 20).time s.sending byte) (record { attention = not (atn_of s.sending); byte = byte; eoi = false })
-passes-plain last s byte [] d h o k g old b before n = absurd (omega arith)
-passes-plain last s byte (look ∷ []) d h o k g old b before n = absurd (omega arith)
-passes-plain last s byte (look ∷ free ∷ []) d h o k g old b before n = absurd (omega arith)
-passes-plain last s byte (look ∷ free ∷ pull ∷ rest) d h o k g old b before n =
-    let e : n + 1 + 1 + 1 + 17 ≡ n + 20 = omega arith in
-    reached-both (look ∷ free ∷ pull ∷ []) (take 17 rest) (behind last old before n)
-    ∙ (ap (λ v. led (λ q. reached q (take 17 rest)) v) (opens old s last look free pull before n b o k)
-    ∙ (g s.sending false before (n + 1 + 1 + 1) (sym k.atn)
-    ∙ ap (λ t. Ok (behind (last_of rest 17) (Ack (last_of rest 17).time s.sending byte) (record { attention = not (atn_of s.sending); byte = byte; eoi = false } ∷ before) t)) e))
+    → BringsByte (get_or edges 2 d) (drop 3 edges) byte → PassesTo last s edges 20 (record { byte = byte; eoi = false })
+passes-plain last s byte [] d h o k g = absurd (omega arith)
+passes-plain last s byte (look ∷ []) d h o k g = absurd (omega arith)
+passes-plain last s byte (look ∷ free ∷ []) d h o k g = absurd (omega arith)
+passes-plain last s byte (look ∷ free ∷ pull ∷ rest) d h o k g =
+    record {
+      passes = λ old b before n.
+          let e : n + 1 + 1 + 1 + 17 ≡ n + 20 = omega arith in
+          reached-both (look ∷ free ∷ pull ∷ []) (take 17 rest) (behind last old before n)
+          ∙ (ap (λ v. led (λ q. reached q (take 17 rest)) v) (opens old s last look free pull before n b o k)
+          ∙ (g.leads s.sending false before (n + 1 + 1 + 1) (sym k.atn)
+          ∙ ap (λ t. Ok (behind (last_of rest 17) (Ack (last_of rest 17).time s.sending byte) (record { attention = not (atn_of s.sending); byte = byte; eoi = false } ∷ before) t)) e));
+      sooner = λ old b before n.
+          both-same (look ∷ free ∷ pull ∷ []) (take 16 rest) (behind last old before n) _ (opens old s last look free pull before n b o k)
+          (g.sooner s.sending false (sym k.atn) before (n + 1 + 1 + 1));
+    }
 
 -- a whole data frame with it
 pub passes-answered : (last : Edge) (s : Start) (byte : ℕ) (edges : List Edge) (d : Edge) → s.sending ≡ Data → 5 ≤ length edges → IsBegunBy last s (get_or edges 0 d) (get_or edges 1 d)
-    → IsAnsweredBy (get_or edges 1 d) (get_or edges 2 d) (get_or edges 3 d) (get_or edges 4 d) → BringsByte (get_or edges 4 d) (drop 5 edges) byte → (old : Place) → Begins old s
-    → PassesFrame last old edges 22 (Ack (last_of edges 22).time s.sending byte) (record { attention = not (atn_of s.sending); byte = byte; eoi = true })
-passes-answered last s byte [] d w h o k g old b before n = absurd (omega arith)
-passes-answered last s byte (look ∷ []) d w h o k g old b before n = absurd (omega arith)
-passes-answered last s byte (look ∷ free ∷ []) d w h o k g old b before n = absurd (omega arith)
-passes-answered last s byte (look ∷ free ∷ pulse ∷ []) d w h o k g old b before n = absurd (omega arith)
-passes-answered last s byte (look ∷ free ∷ pulse ∷ release ∷ []) d w h o k g old b before n = absurd (omega arith)
-passes-answered last s byte (look ∷ free ∷ pulse ∷ release ∷ pull ∷ rest) d w h o k g old b before n =
-    let e : n + 1 + 1 + 1 + 1 + 1 + 17 ≡ n + 22 = omega arith in
+    → IsAnsweredBy (get_or edges 1 d) (get_or edges 2 d) (get_or edges 3 d) (get_or edges 4 d) → BringsByte (get_or edges 4 d) (drop 5 edges) byte → PassesTo last s edges 22 (record { byte = byte; eoi = true })
+passes-answered last s byte [] d w h o k g = absurd (omega arith)
+passes-answered last s byte (look ∷ []) d w h o k g = absurd (omega arith)
+passes-answered last s byte (look ∷ free ∷ []) d w h o k g = absurd (omega arith)
+passes-answered last s byte (look ∷ free ∷ pulse ∷ []) d w h o k g = absurd (omega arith)
+passes-answered last s byte (look ∷ free ∷ pulse ∷ release ∷ []) d w h o k g = absurd (omega arith)
+passes-answered last s byte (look ∷ free ∷ pulse ∷ release ∷ pull ∷ rest) d w h o k g =
     let f : Sending → Frame = λ z. record { attention = not (atn_of z); byte = byte; eoi = true } in
-    reached-both (look ∷ free ∷ pulse ∷ release ∷ pull ∷ []) (take 17 rest) (behind last old before n)
-    ∙ (ap (λ v. led (λ q. reached q (take 17 rest)) v) (opens-answered old s last look free pulse release pull before n w b o k)
-    ∙ (g Data true before (n + 1 + 1 + 1 + 1 + 1) (sym k.pulls.atn)
-    ∙ (ap (λ t. Ok (behind (last_of rest 17) (Ack (last_of rest 17).time Data byte) (f Data ∷ before) t)) e
-    ∙ ap (λ z. Ok (behind (last_of rest 17) (Ack (last_of rest 17).time z byte) (f z ∷ before) (n + 22))) (sym w))))
+    record {
+      passes = λ old b before n.
+          let e : n + 1 + 1 + 1 + 1 + 1 + 17 ≡ n + 22 = omega arith in
+          reached-both (look ∷ free ∷ pulse ∷ release ∷ pull ∷ []) (take 17 rest) (behind last old before n)
+          ∙ (ap (λ v. led (λ q. reached q (take 17 rest)) v) (opens-answered old s last look free pulse release pull before n w b o k)
+          ∙ (g.leads Data true before (n + 1 + 1 + 1 + 1 + 1) (sym k.pulls.atn)
+          ∙ (ap (λ t. Ok (behind (last_of rest 17) (Ack (last_of rest 17).time Data byte) (f Data ∷ before) t)) e
+          ∙ ap (λ z. Ok (behind (last_of rest 17) (Ack (last_of rest 17).time z byte) (f z ∷ before) (n + 22))) (sym w))));
+      sooner = λ old b before n.
+          both-same (look ∷ free ∷ pulse ∷ release ∷ pull ∷ []) (take 16 rest) (behind last old before n) _ (opens-answered old s last look free pulse release pull before n w b o k)
+          (g.sooner Data true (sym k.pulls.atn) before (n + 1 + 1 + 1 + 1 + 1));
+    }

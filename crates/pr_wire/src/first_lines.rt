@@ -4,7 +4,7 @@ ghost use Rattle.std.specs.Prelude.{◌≡◌, ◌+◌, ◌≤◌, List, ℕ, tr
 ghost use Rattle.pr_wire.specs.FirstLines.{AreFirstLines};
 
 use crate::ahead::ANSWERED_EDGES;
-use crate::line::read_ended_line;
+use crate::front::{Front, read_next};
 use crate::{Edge, Levels};
 
 /// The edges of the first lines of a text, so many, at most those of a frame; and how long these
@@ -14,6 +14,8 @@ pub struct FirstLines {
     pub edges: [Edge; ANSWERED_EDGES],
     pub count: usize,
     pub len: usize,
+    /// What the last lines begin with, but for the last three digits of their times.
+    front: Option<Front>,
 }
 
 impl FirstLines {
@@ -32,6 +34,7 @@ impl FirstLines {
             edges: [Edge { time: 0, levels }; ANSWERED_EDGES],
             count: 0,
             len: 0,
+            front: None,
         }
     }
 
@@ -49,7 +52,7 @@ impl FirstLines {
         ensures bytes { self.new.count ≤ self.new.len }
     {
         while self.count < count {
-            let Some(line) = read_ended_line(&text[self.len..]) else {
+            let Some(line) = read_next(&mut self.front, &text[self.len..]) else {
                 return false;
             };
             self.edges[self.count] = line.edge;

@@ -9,7 +9,7 @@ loop-self-preserved c =
     let old = c.loop-self.self in
     let text = c.args.text.now in
     let line = c.in-Some.line in
-    let read : ended_line_in (drop old.len text) ≡ Some line = rw take_rest at (sym c.read_ended_line.ensures.line ∙ c.in-Some.is) in
+    let read : ended_line_in (drop old.len text) ≡ Some line = rw take_rest at (sym c.read_next.ensures.line ∙ c.in-Some.is) in
     let within : line.len ≤ length (drop old.len text) = rw take_rest at c.in-Some.ensures.within in
     record {
       lines = λ h. more_lines text old _ line (omega (arith, c.loop-self-test.true, c.requires.few)) read refl refl refl (c.loop-self.invariant.lines h);
