@@ -14,7 +14,7 @@ use Rattle.pr_cli.specs.FrameText.{frame_line, frame_lines}
 use Rattle.pr_wire.specs.declared.checker.CheckFault.{CheckFault}
 use Rattle.pr_wire.specs.declared.checker.CheckFault.TheVariants.{BadLine, Unlawful}
 use Rattle.pr_wire.specs.Checking.{AnswersText}
-use Rattle.pr_cli.specs.Check.{IsLawfulText, trace_limit}
+use Rattle.pr_cli.specs.Check.{IsLawfulText}
 use Rattle.pr_cli.specs.Faults.{fault_of_check}
 use Rattle.pr_cli.specs.Told.{HasTold, line_if, GivesLines}
 
@@ -25,11 +25,11 @@ one_line_more frames (Some f) lines h =
     ap (λ l. l ++ frame_line f) h ∙ (ap (λ l. flat_map frame_line frames ++ l) (sym (append-nil (frame_line f))) ∙ sym (flat_map-append frame_line frames (f ∷ [])))
 
 -- the bytes that came from a reader, with the lines told of them, and how many more may come
-pub record HasRead (before after : Option (List ℕ)) (lines : List ℕ) (c : Checker) (left : ℕ) : Type 0 where
+pub record HasRead (limit : ℕ) (before after : Option (List ℕ)) (lines : List ℕ) (c : Checker) (left : ℕ) : Type 0 where
   pub text : List ℕ
   pub taken : Consumes before after text
   pub told : HasTold text lines c
-  pub room : length text + left ≡ trace_limit
+  pub room : length text + left ≡ limit
 
 -- the lines of a text that has ended
 pub told_lines : (text lines all : List ℕ) (c : Checker) (last : Option Frame) → (t : HasTold text lines c) → AnswersText text t.frames (Ok last)
@@ -39,16 +39,16 @@ told_lines text lines all c last t a e =
     (with_frame t.frames last, record { edges = a.0; is_text = a.1; spelled = a.2 }, e ∙ ap (λ l. l ++ codes "lawful\n") (one_line_more t.frames last lines t.told))
 
 -- the fault of a text that has ended
-pub told_fault : (text lines : List ℕ) (c : Checker) (fault : CheckFault) (r : Result (Vec ℕ Global) CliFault) → length text ≤ trace_limit → (t : HasTold text lines c)
-    → AnswersText text t.frames (Err fault) → IsErrAnd r (λ f. f ≡ fault_of_check fault) → GivesLines r text
-told_fault text lines c fault (Ok v) h t a e = absurd e
-told_fault text lines c (BadLine n) (Err f) h t a e = rw e (h, a)
-told_fault text lines c (Unlawful w) (Err f) h t a e = rw e (h, record { edges = a.0; is_text = a.1; is_fault = a.2 })
+pub told_fault : (limit : ℕ) (text lines : List ℕ) (c : Checker) (fault : CheckFault) (r : Result (Vec ℕ Global) CliFault) → length text ≤ limit → (t : HasTold text lines c)
+    → AnswersText text t.frames (Err fault) → IsErrAnd r (λ f. f ≡ fault_of_check fault) → GivesLines limit r text
+told_fault limit text lines c fault (Ok v) h t a e = absurd e
+told_fault limit text lines c (BadLine n) (Err f) h t a e = rw e (h, a)
+told_fault limit text lines c (Unlawful w) (Err f) h t a e = rw e (h, record { edges = a.0; is_text = a.1; is_fault = a.2 })
 
 -- one block more
-pub read_more : (a b d : Option (List ℕ)) (lines all : List ℕ) (c e : Checker) (left n : ℕ) (block : List ℕ) → (r : HasRead a b lines c left) → Consumes b d block → length block ≡ n → n ≤ left
-    → ((text : List ℕ) → HasTold text lines c → HasTold (text ++ block) all e) → HasRead a d all e (left - n)
-read_more a b d lines all c e left n block r k l w f = record {
+pub read_more : (limit : ℕ) (a b d : Option (List ℕ)) (lines all : List ℕ) (c e : Checker) (left n : ℕ) (block : List ℕ) → (r : HasRead limit a b lines c left) → Consumes b d block → length block ≡ n → n ≤ left
+    → ((text : List ℕ) → HasTold text lines c → HasTold (text ++ block) all e) → HasRead limit a d all e (left - n)
+read_more limit a b d lines all c e left n block r k l w f = record {
   text = r.text ++ block;
   taken = Consumes-trans a b d r.text block r.taken k;
   told = f r.text r.told;

@@ -7,7 +7,7 @@ use Rattle.pr_wire.specs.declared.WaveFault.TheVariants as wave
 use Rattle.pr_wire.specs.declared.text.TraceFault.TheVariants as trace
 use Rattle.pr_wire.specs.declared.checker.Checker.{Checker}
 use Rattle.pr_wire.specs.Checked.{HasChecked}
-use Rattle.pr_cli.specs.Check.{IsBadText, IsFaultyText, IsLawfulText, trace_limit}
+use Rattle.pr_cli.specs.Check.{IsBadText, IsFaultyText, IsLawfulText}
 use Rattle.pr_cli.specs.FrameText.{frame_line, frame_lines}
 use Rattle.pr_cli.specs.declared.fault.CliFault.{CliFault}
 use Rattle.pr_cli.specs.declared.fault.CliFault.TheVariants.{Script, Trace, Wave, TooLarge, NoMemory, ReadFailed, WriteFailed}
@@ -23,16 +23,16 @@ abbrev pub line_if : Option Frame → List ℕ
 line_if None = []
 line_if (Some f) = frame_line f
 
--- the frame lines of a text, or its fault
-abbrev pub GivesLines : Result (Vec ℕ Global) CliFault → List ℕ → Type 0
-GivesLines (Ok lines) text = (frames : List Frame) × (length text ≤ trace_limit) × IsLawfulText text frames × (lines.items ≡ frame_lines frames)
-GivesLines (Err (Trace fault)) text = (length text ≤ trace_limit) × IsBadText text fault
-GivesLines (Err (Wave fault)) text = (length text ≤ trace_limit) × IsFaultyText text fault
-GivesLines (Err TooLarge) text = trace_limit < length text
-GivesLines (Err NoMemory) text = Unit {0}
-GivesLines (Err ReadFailed) text = Unit {0}
-GivesLines (Err WriteFailed) text = ⊥
-GivesLines (Err (Script fault)) text = ⊥
+-- the frame lines of a text of at most so many bytes, or its fault
+abbrev pub GivesLines : ℕ → Result (Vec ℕ Global) CliFault → List ℕ → Type 0
+GivesLines limit (Ok lines) text = (frames : List Frame) × (length text ≤ limit) × IsLawfulText text frames × (lines.items ≡ frame_lines frames)
+GivesLines limit (Err (Trace fault)) text = (length text ≤ limit) × IsBadText text fault
+GivesLines limit (Err (Wave fault)) text = (length text ≤ limit) × IsFaultyText text fault
+GivesLines limit (Err TooLarge) text = limit < length text
+GivesLines limit (Err NoMemory) text = Unit {0}
+GivesLines limit (Err ReadFailed) text = Unit {0}
+GivesLines limit (Err WriteFailed) text = ⊥
+GivesLines limit (Err (Script fault)) text = ⊥
 
 -- so far as its end was read
 abbrev pub HasReadToEnd : Option (List ℕ) → Result (Vec ℕ Global) CliFault → Type 0

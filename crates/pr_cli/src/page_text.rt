@@ -7,7 +7,8 @@ ghost use Rattle.std.specs.Prelude.{◌≡◌, ◌+◌, ◌≤◌, [], ◌++◌,
 ghost use Rattle.pr_cli.specs.PageText.{held_text, mark_text, mark_words, numbers_text, page_text, paper_text, row_text, stop_text, word_if};
 ghost use Rattle.pr_cli.specs.Tables.{HasNumbers};
 
-use crate::short::{Short, numbers_between, push_number};
+use crate::short::{Short, numbers_between};
+use crate::text::Text;
 use pr_channels::Stop;
 use pr_page::{Mark, NoMemory, Paper, Placed, Row};
 use pr_system::Outcome;
@@ -47,18 +48,18 @@ struct Texts {
 }
 
 /// Adds a word where it holds.
-fn push_if(text: &mut Vec<u8>, holds: bool, word: &[u8]) -> Result<(), AllocError>
-    ensures { OnOk result (text.new.items ≡ text.old.items ++ word_if holds word.now) }
+fn push_if(text: &mut Text, holds: bool, word: &[u8]) -> Result<(), AllocError>
+    ensures { OnOk result (text.new ≡ text.old ++ word_if holds word.now) }
 {
     if holds {
-        text.extend_from_slice(word)?;
+        text.add(word)?;
     }
     Ok(())
 }
 
 /// Adds the words on a mark.
-fn push_words(text: &mut Vec<u8>, mark: Mark) -> Result<(), AllocError>
-    ensures { OnOk result (text.new.items ≡ text.old.items ++ mark_words mark) }
+fn push_words(text: &mut Text, mark: Mark) -> Result<(), AllocError>
+    ensures { OnOk result (text.new ≡ text.old ++ mark_words mark) }
 {
     match mark {
         Mark::Cell {
@@ -67,15 +68,15 @@ fn push_words(text: &mut Vec<u8>, mark: Mark) -> Result<(), AllocError>
             reverse,
             wide,
         } => {
-            text.extend_from_slice(b" cell ")?;
-            push_number(text, u64::from(code))?;
+            text.add(b" cell ")?;
+            text.add_number(u64::from(code))?;
             push_if(text, lower, b" lower")?;
             push_if(text, reverse, b" reverse")?;
             push_if(text, wide, b" wide")
         }
         Mark::Dots(value) => {
-            text.extend_from_slice(b" dots ")?;
-            push_number(text, u64::from(value))
+            text.add(b" dots ")?;
+            text.add_number(u64::from(value))
         }
     }
 }
@@ -83,14 +84,13 @@ fn push_words(text: &mut Vec<u8>, mark: Mark) -> Result<(), AllocError>
 /// Adds the line of a mark, of any kind.
 #[inline(never)]
 #[tactic(auto, unfolding(crate::specs::PageText::mark_text))]
-fn push_mark(text: &mut Vec<u8>, placed: Placed) -> Result<(), AllocError>
-    ensures { OnOk result (text.new.items ≡ text.old.items ++ mark_text placed) }
+fn push_mark(text: &mut Text, placed: Placed) -> Result<(), AllocError>
+    ensures { OnOk result (text.new ≡ text.old ++ mark_text placed) }
 {
-    text.push(b' ')?;
-    push_number(text, u64::from(placed.x))?;
+    text.add(b" ")?;
+    text.add_number(u64::from(placed.x))?;
     push_words(text, placed.mark)?;
-    text.push(b'\n')?;
-    Ok(())
+    text.add(b"\n")
 }
 
 impl Texts {
@@ -166,8 +166,8 @@ impl Texts {
     }
 
     /// Adds the lines of marks, block by block.
-    fn push_marks(&self, text: &mut Vec<u8>, marks: &[Placed]) -> Result<(), AllocError>
-        ensures { OnOk result (text.new.items ≡ text.old.items ++ flat_map mark_text marks.now) }
+    fn push_marks(&self, text: &mut Text, marks: &[Placed]) -> Result<(), AllocError>
+        ensures { OnOk result (text.new ≡ text.old ++ flat_map mark_text marks.now) }
     {
         let mut block = [0u8; BLOCK];
         let mut rest = marks;
@@ -177,7 +177,7 @@ impl Texts {
                 push_mark(text, rest[0])?;
                 rest = &rest[1..];
             } else {
-                text.extend_from_slice(&block[..end])?;
+                text.add(&block[..end])?;
                 rest = &rest[count..];
             }
         }
@@ -185,17 +185,17 @@ impl Texts {
     }
 
     #[tactic(auto, unfolding(crate::specs::PageText::row_text))]
-    fn push_row(&self, text: &mut Vec<u8>, row: &Row) -> Result<(), AllocError>
-        ensures { OnOk result (text.new.items ≡ text.old.items ++ row_text row.now) }
+    fn push_row(&self, text: &mut Text, row: &Row) -> Result<(), AllocError>
+        ensures { OnOk result (text.new ≡ text.old ++ row_text row.now) }
     {
-        text.extend_from_slice(b"row ")?;
-        push_number(text, row.y)?;
-        text.push(b'\n')?;
+        text.add(b"row ")?;
+        text.add_number(row.y)?;
+        text.add(b"\n")?;
         self.push_marks(text, row.marks.as_slice())
     }
 
-    fn push_rows(&self, text: &mut Vec<u8>, rows: &[Row]) -> Result<(), AllocError>
-        ensures { OnOk result (text.new.items ≡ text.old.items ++ flat_map row_text rows.now) }
+    fn push_rows(&self, text: &mut Text, rows: &[Row]) -> Result<(), AllocError>
+        ensures { OnOk result (text.new ≡ text.old ++ flat_map row_text rows.now) }
     {
         for row in rows {
             self.push_row(text, row)?;
@@ -204,60 +204,96 @@ impl Texts {
     }
 
     #[tactic(auto, unfolding(crate::specs::PageText::held_text))]
-    fn push_held(&self, text: &mut Vec<u8>, held: &[Placed]) -> Result<(), AllocError>
-        ensures { OnOk result (text.new.items ≡ text.old.items ++ held_text held.now) }
+    fn push_held(&self, text: &mut Text, held: &[Placed]) -> Result<(), AllocError>
+        ensures { OnOk result (text.new ≡ text.old ++ held_text held.now) }
     {
         if held.is_empty() {
             return Ok(());
         }
-        text.extend_from_slice(b"held\n")?;
+        text.add(b"held\n")?;
         self.push_marks(text, held)
     }
 
     #[tactic(auto, unfolding(crate::specs::PageText::paper_text))]
-    fn push_paper(&self, text: &mut Vec<u8>, device: u8, paper: &Paper) -> Result<(), AllocError>
-        ensures { OnOk result (text.new.items ≡ text.old.items ++ paper_text device paper.now) }
+    fn push_paper(&self, text: &mut Text, device: u8, paper: &Paper) -> Result<(), AllocError>
+        ensures { OnOk result (text.new ≡ text.old ++ paper_text device paper.now) }
     {
-        text.extend_from_slice(b"printer ")?;
-        push_number(text, u64::from(device))?;
-        text.push(b'\n')?;
+        push_name(text, device)?;
         self.push_rows(text, paper.rows.as_slice())?;
         self.push_held(text, paper.held.as_slice())
     }
 
+    /// Adds the lines of rows, and lets go each row whose lines stand there.
+    fn move_rows(&self, text: &mut Text, rows: Vec<Row>) -> Result<(), AllocError>
+        ensures { OnOk result (text.new ≡ text.old ++ flat_map row_text rows.items) }
+    {
+        for row in rows {
+            self.push_row(text, &row)?;
+        }
+        Ok(())
+    }
+
+    /// Adds the part of a printer, and lets go what it was made of.
+    #[tactic(auto, unfolding(crate::specs::PageText::paper_text))]
+    fn move_paper(&self, text: &mut Text, device: u8, paper: Paper) -> Result<(), AllocError>
+        ensures { OnOk result (text.new ≡ text.old ++ paper_text device paper) }
+    {
+        let Paper { rows, held } = paper;
+        push_name(text, device)?;
+        self.move_rows(text, rows.into_vec())?;
+        self.push_held(text, held.as_slice())
+    }
+
     /// Adds a name and numbers after it.
     #[tactic(auto, unfolding(crate::specs::PageText::numbers_text))]
-    fn push_numbers(
-        &self,
-        text: &mut Vec<u8>,
-        name: &[u8],
-        numbers: &[u8],
-    ) -> Result<(), AllocError>
-        ensures { OnOk result (text.new.items ≡ text.old.items ++ numbers_text name.now numbers.now) }
+    fn push_numbers(&self, text: &mut Text, name: &[u8], numbers: &[u8]) -> Result<(), AllocError>
+        ensures { OnOk result (text.new ≡ text.old ++ numbers_text name.now numbers.now) }
     {
-        text.extend_from_slice(name)?;
+        text.add(name)?;
         for n in numbers {
             self.numbers[usize::from(*n)].add_to(text)?;
         }
-        text.push(b'\n')?;
-        Ok(())
+        text.add(b"\n")
     }
+
+    /// Adds what stands behind the printers: the statuses, the bytes of the screen and the stop.
+    fn push_end(
+        &self,
+        text: &mut Text,
+        statuses: &[u8],
+        screen: &[u8],
+        stop: Option<(usize, Stop)>,
+    ) -> Result<(), AllocError>
+        ensures { OnOk result (text.new ≡ text.old ++ numbers_text (codes "status") statuses.now ++ numbers_text (codes "screen") screen.now ++ stop_text stop) }
+    {
+        self.push_numbers(text, b"status", statuses)?;
+        self.push_numbers(text, b"screen", screen)?;
+        push_stop(text, stop)
+    }
+}
+
+/// Adds the line of a printer.
+fn push_name(text: &mut Text, device: u8) -> Result<(), AllocError>
+    ensures { OnOk result (text.new ≡ text.old ++ codes "printer " ++ decimal device ++ codes "\n") }
+{
+    text.add(b"printer ")?;
+    text.add_number(u64::from(device))?;
+    text.add(b"\n")
 }
 
 /// Adds the line of a stop, if there is one.
 #[tactic(auto, unfolding(crate::specs::PageText::stop_text))]
-fn push_stop(text: &mut Vec<u8>, stop: Option<(usize, Stop)>) -> Result<(), AllocError>
-    ensures { OnOk result (text.new.items ≡ text.old.items ++ stop_text stop) }
+fn push_stop(text: &mut Text, stop: Option<(usize, Stop)>) -> Result<(), AllocError>
+    ensures { OnOk result (text.new ≡ text.old ++ stop_text stop) }
 {
     let Some((place, stop)) = stop else {
         return Ok(());
     };
-    text.extend_from_slice(b"stop ")?;
-    push_number(text, u64::from(stop.number()))?;
-    text.extend_from_slice(b" at ")?;
-    push_number(text, place as u64)?;
-    text.push(b'\n')?;
-    Ok(())
+    text.add(b"stop ")?;
+    text.add_number(u64::from(stop.number()))?;
+    text.add(b" at ")?;
+    text.add_number(place as u64)?;
+    text.add(b"\n")
 }
 
 /// The page text of an outcome (profile): for each printer its name and, row by row, a line for
@@ -272,11 +308,33 @@ pub fn pages_text(alloc: Global, outcome: &Outcome) -> Result<Vec<u8>, NoMemory>
     ensures { IfOk result (λ text. text.items ≡ page_text outcome.now) }
 {
     let texts = Texts::new(alloc)?;
-    let mut text = Vec::new(alloc);
+    let mut text = Text::new(alloc);
     texts.push_paper(&mut text, 4, &outcome.paper4)?;
     texts.push_paper(&mut text, 5, &outcome.paper5)?;
-    texts.push_numbers(&mut text, b"status", outcome.statuses.as_slice())?;
-    texts.push_numbers(&mut text, b"screen", outcome.screen.as_slice())?;
-    push_stop(&mut text, outcome.stop)?;
+    let statuses = outcome.statuses.as_slice();
+    let screen = outcome.screen.as_slice();
+    texts.push_end(&mut text, statuses, screen, outcome.stop)?;
+    text.into_vec()
+}
+
+/// The page text of an outcome, in blocks. Each row is let go when its lines stand there, so the
+/// text takes the place of the marks.
+#[tactic(auto, unfolding(crate::specs::PageText::page_text))]
+pub(crate) fn text_from(alloc: Global, outcome: Outcome) -> Result<Text, NoMemory>
+    ensures { IfOk result (λ text. text ≡ page_text outcome) }
+{
+    let Outcome {
+        paper4,
+        paper5,
+        statuses,
+        stop,
+        screen,
+        trace: _,
+    } = outcome;
+    let texts = Texts::new(alloc)?;
+    let mut text = Text::new(alloc);
+    texts.move_paper(&mut text, 4, paper4)?;
+    texts.move_paper(&mut text, 5, paper5)?;
+    texts.push_end(&mut text, statuses.as_slice(), screen.as_slice(), stop)?;
     Ok(text)
 }

@@ -3,6 +3,7 @@
 ghost use Rattle.std.specs.Prelude.{◌≡◌, ◌+◌, ◌≤◌, ◌++◌, decimal, length, take, vec_len, OnOk, IfOk};
 ghost use Rattle.pr_cli.specs.Tables.{HasNumbers};
 
+use crate::text::Text;
 use itoa::Buffer;
 use std::alloc::{AllocError, Global};
 use std::marker::Model;
@@ -44,13 +45,10 @@ impl Short {
     }
 
     /// Adds the text at the end of another.
-    pub fn add_to(&self, text: &mut Vec<u8>) -> Result<(), AllocError>
-        ensures { OnOk result (text.new.items ≡ text.old.items ++ self.now) }
+    pub fn add_to(&self, text: &mut Text) -> Result<(), AllocError>
+        ensures { OnOk result (text.new ≡ text.old ++ self.now) }
     {
-        let end = text.len() + self.len;
-        text.extend_from_slice(&self.bytes)?;
-        text.truncate(end);
-        Ok(())
+        text.add_front(&self.bytes, self.len)
     }
 
     /// Puts the text into a block behind its first bytes, and says how many these are then.

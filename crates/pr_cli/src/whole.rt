@@ -4,7 +4,7 @@
 //! they could answer `Ok` although a call through the [`Watched`] has failed.
 
 ghost use Rattle.std.specs.Prelude.{◌≡◌, ◌≤◌, ◌<◌, ◌↔◌, IfSome, IfOk, IsErr, IsErrOf, OnOk, OnErr, false, true, length};
-ghost use Rattle.std.specs.Io.KnownBytes.{Appends, IsAtEnd};
+ghost use Rattle.std.specs.Io.KnownBytes.{Appends, IsAtEnd, Keeps};
 ghost use Rattle.pr_cli.specs.Watched.{has_failed, wrapped};
 ghost use Rattle.pr_cli.specs.Whole.{AppendsFront};
 
@@ -12,7 +12,7 @@ use crate::watched::Watched;
 use std::alloc::{AllocError, Global};
 use std::io::{Read, Write};
 
-/// How many bytes one read asks for.
+/// How many bytes one read asks for, and a block of a page text has.
 pub const BLOCK: usize = 65_536;
 
 /// Why input was not read whole.
@@ -86,7 +86,18 @@ pub fn write_whole<W: Write>(output: &mut Watched<W>, text: &[u8]) -> Result<(),
     ensures err { OnErr result (AppendsFront (W.contents (wrapped output.old)) (W.contents (wrapped output.new)) text.now) }
     ensures failed { IsErr result ↔ (has_failed output.new ≡ true) }
 {
-    let mut rest = text;
+    write_piece(output, text)?;
+    flush(output)
+}
+
+/// Writes all of a piece of text, and does not flush. Refused, it has written a beginning of it.
+pub(crate) fn write_piece<W: Write>(output: &mut Watched<W>, piece: &[u8]) -> Result<(), WriteFault>
+    requires fresh { has_failed output.old ≡ false }
+    ensures ok { OnOk result (Appends (W.contents (wrapped output.old)) (W.contents (wrapped output.new)) piece.now) }
+    ensures err { OnErr result (AppendsFront (W.contents (wrapped output.old)) (W.contents (wrapped output.new)) piece.now) }
+    ensures failed { IsErr result ↔ (has_failed output.new ≡ true) }
+{
+    let mut rest = piece;
     while !rest.is_empty() {
         match output.write(rest) {
             Err(_) => return Err(WriteFault),
@@ -94,6 +105,15 @@ pub fn write_whole<W: Write>(output: &mut Watched<W>, text: &[u8]) -> Result<(),
             Ok(n) => rest = &rest[n..],
         }
     }
+    Ok(())
+}
+
+/// Flushes. Nothing is written by it.
+pub(crate) fn flush<W: Write>(output: &mut Watched<W>) -> Result<(), WriteFault>
+    requires fresh { has_failed output.old ≡ false }
+    ensures kept { Keeps (W.contents (wrapped output.old)) (W.contents (wrapped output.new)) }
+    ensures failed { IsErr result ↔ (has_failed output.new ≡ true) }
+{
     match output.flush() {
         Ok(()) => Ok(()),
         Err(_) => Err(WriteFault),

@@ -4,7 +4,7 @@ ghost use Rattle.std.specs.Prelude.{◌≡◌, IfOk, vec_len};
 
 use super::*;
 use crate::job::{Job, JobFault, read_job};
-use crate::tests::Slow;
+use crate::tests::{ENDLESS, Endless, Slow};
 use pr_wire::example::TRACE_TEXT;
 use pr_wire::{Edge, TraceFault, WaveFault, read_trace, write_trace};
 use std::process::Abort;
@@ -335,6 +335,36 @@ fn fault_texts_of_traces(rt: HostRuntime) -> Result<(), Fail> {
         assert_eq!(rt; format!(in rt.alloc(); "{fault}")?.as_str(), text);
     }
     Ok(())
+}
+
+/// The limit of `check` is a terabyte, so its reading is tried with small ones.
+#[test]
+fn text_up_to_the_limit(rt: HostRuntime) {
+    for (most, limit, given) in ENDLESS {
+        let mut input = Watched::new(Endless::new(most));
+        let answer = check_input(rt.alloc(), &mut input, limit).err();
+        assert_eq!(rt;
+            answer,
+            Some(CliFault::TooLarge),
+            "{most} bytes a call, limit {limit}"
+        );
+        assert!(rt; !input.failed());
+        assert_eq!(rt; input.into_inner().given, given);
+    }
+    let whole = TRACE_TEXT.len();
+    for limit in whole - 2..whole + 2 {
+        let mut input = Watched::new(TRACE_TEXT.as_bytes());
+        match check_input(rt.alloc(), &mut input, limit) {
+            Ok(lines) => {
+                assert!(rt; whole <= limit, "{limit}");
+                assert_eq!(rt; lines.as_slice(), EXAMPLE_LINES.as_bytes());
+            }
+            Err(fault) => {
+                assert!(rt; limit < whole, "{limit}");
+                assert_eq!(rt; fault, CliFault::TooLarge);
+            }
+        }
+    }
 }
 
 #[test]

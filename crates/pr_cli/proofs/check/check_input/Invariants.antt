@@ -1,14 +1,13 @@
 use Rattle.std.proofs.Common.{◌≡◌, ◌+◌, ◌≤◌, false}
 use Rattle.pr_wire.specs.Checked.{line_count}
-use Rattle.pr_cli.specs.Check.{trace_limit}
 use Rattle.pr_cli.proofs.CheckLemmas.{HasRead}
 use Rattle.pr_cli.proofs.check.check_input.Given as goal
 
 -- the bytes so far were taken from the front and told of, and nothing has failed
 abbrev pub invariant-pieces : goal.invariant-pieces
 invariant-pieces g l = record {
-  read : HasRead (g.R.Read.remaining l.fn.input.inner) (g.R.Read.remaining l.input.inner) l.lines.items l.checker l.left;
-  few : line_count l.checker + l.left ≤ trace_limit;
+  read : HasRead l.limit (g.R.Read.remaining l.fn.input.inner) (g.R.Read.remaining l.input.inner) l.lines.items l.checker l.left;
+  few : line_count l.checker + l.left ≤ l.limit;
   fresh : l.input.failed ≡ false;
 }
 

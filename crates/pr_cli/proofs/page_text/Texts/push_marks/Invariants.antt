@@ -5,7 +5,7 @@ use Rattle.pr_cli.proofs.page_text.Texts.push_marks.Given as goal
 
 -- the text so far and that of what is left make the whole
 abbrev pub invariant-loop-rest : goal.invariant-loop-rest
-invariant-loop-rest l = l.text.items ++ flat_map mark_text l.rest ≡ l.fn.text.items ++ flat_map mark_text l.marks
+invariant-loop-rest l = l.text ++ flat_map mark_text l.rest ≡ l.fn.text ++ flat_map mark_text l.marks
 
 abbrev pub decreases-loop-rest : goal.decreases-loop-rest
 decreases-loop-rest l = length l.rest

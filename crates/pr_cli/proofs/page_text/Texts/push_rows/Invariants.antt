@@ -5,4 +5,4 @@ use Rattle.pr_cli.proofs.page_text.Texts.push_rows.Given as goal
 
 -- the text so far and that of what is left make the whole
 abbrev pub invariant-loop-row : goal.invariant-loop-row
-invariant-loop-row l = l.text.items ++ flat_map row_text (drop l.row-index l.rows) ≡ l.fn.text.items ++ flat_map row_text l.rows
+invariant-loop-row l = l.text ++ flat_map row_text (drop l.row-index l.rows) ≡ l.fn.text ++ flat_map row_text l.rows
