@@ -1,14 +1,14 @@
 # make run          proves and builds the program (once) and prints the page of examples/hello.bas
 # make test         the gate: every proof, test and must-fail edit, then the tests outside the prover
 # make bench        speed and peak memory beside `cat` and `wc -l`
-# make peer         traces of runs, read by sigrok's decoder of the bus (sigrok-cli and libsigrokdecode4)
+# make peer         traces of runs, read by sigrok's decoder of the bus (sigrok-cli, libsigrokdecode4); pictures, by xmllint and rsvg-convert
 # make install      copies the built program to $(PREFIX)/bin
 
 PREFIX ?= /usr/local
 PROGRAM := crates/print1525/out/print1525
 
 # The crates whose tests go on after a refused allocation (tests/growths).
-GROWTHS := pr_page pr_serial pr_wire pr_receiver pr_bus pr_channels pr_basic pr_system
+GROWTHS := pr_page pr_serial pr_wire pr_receiver pr_bus pr_channels pr_basic pr_system pr_picture
 TESTS := $(foreach crate,$(GROWTHS),crates/$(crate)/out/$(crate)_tests)
 
 # What the program and the tests are built from.
@@ -44,6 +44,7 @@ bench: build
 # Not a part of the gate.
 peer: build
 	@tests/peer $(PROGRAM)
+	@tests/pictures $(PROGRAM)
 
 install: build
 	install -d $(DESTDIR)$(PREFIX)/bin
