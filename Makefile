@@ -1,8 +1,13 @@
 # make run          proves and builds the program (once) and prints the page of examples/hello.bas
 # make try          prints that page within a minute or two, by a build of which nothing is proved
 # make test         the gate: every proof, test and must-fail edit, then the tests outside the prover
+<<<<<<< HEAD
 # make bench        speed and peak memory beside `wc -l`, with the aim of each
 # make peer         traces of runs, read by sigrok's decoder of the bus (sigrok-cli and libsigrokdecode4)
+=======
+# make bench        speed and peak memory beside `cat` and `wc -l`
+# make peer         traces of runs, read by sigrok's decoder of the bus (sigrok-cli, libsigrokdecode4); pictures, by xmllint and rsvg-convert
+>>>>>>> c4
 # make install      copies the built program to $(PREFIX)/bin
 
 SHELL := /bin/bash
@@ -10,7 +15,7 @@ PREFIX ?= /usr/local
 PROGRAM := crates/print1525/out/print1525
 
 # The crates whose tests go on after a refused allocation (tests/growths).
-GROWTHS := pr_page pr_serial pr_wire pr_receiver pr_bus pr_channels pr_basic pr_system pr_cli
+GROWTHS := pr_page pr_serial pr_wire pr_receiver pr_bus pr_channels pr_basic pr_system pr_picture pr_cli
 TESTS := $(foreach crate,$(GROWTHS),crates/$(crate)/out/$(crate)_tests)
 
 # What the program and the tests are built from.
@@ -51,6 +56,7 @@ bench: build $(TESTS)
 # Not a part of the gate.
 peer: build
 	@tests/peer $(PROGRAM)
+	@tests/pictures $(PROGRAM)
 
 install: build
 	install -d $(DESTDIR)$(PREFIX)/bin

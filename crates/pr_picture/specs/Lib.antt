@@ -1,0 +1,7 @@
+pub mod Characters
+pub mod Parts
+pub mod Pens
+pub mod Plain
+pub mod Svg
+pub mod Tables
+pub mod Words

@@ -1,0 +1,17 @@
+//! Pictures of pages, for people to look at.
+#![tactic(auto)]
+
+mod adding;
+mod characters;
+mod columns;
+mod drawing;
+mod letters;
+mod marks;
+mod parts;
+mod plain;
+mod runs;
+#[cfg(test)]
+mod tests;
+
+pub use drawing::svg;
+pub use plain::text;
