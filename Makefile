@@ -1,13 +1,8 @@
 # make run          proves and builds the program (once) and prints the page of examples/hello.bas
 # make try          prints that page within a minute or two, by a build of which nothing is proved
 # make test         the gate: every proof, test and must-fail edit, then the tests outside the prover
-<<<<<<< HEAD
 # make bench        speed and peak memory beside `wc -l`, with the aim of each
-# make peer         traces of runs, read by sigrok's decoder of the bus (sigrok-cli and libsigrokdecode4)
-=======
-# make bench        speed and peak memory beside `cat` and `wc -l`
 # make peer         traces of runs, read by sigrok's decoder of the bus (sigrok-cli, libsigrokdecode4); pictures, by xmllint and rsvg-convert
->>>>>>> c4
 # make install      copies the built program to $(PREFIX)/bin
 
 SHELL := /bin/bash
