@@ -79,8 +79,7 @@ impl Log {
         ensures five { (there : Bool) (forgotten trace : List Edge) → IsAllowed (trace ++ edges.now) → Hears 5 there forgotten trace self.old.five → Hears 5 there forgotten (trace ++ edges.now) self.new.five }
     {
         self.items.push_reserved(item);
-        self.four.listen(edges);
-        self.five.listen(edges);
+        self.four.listen_with(&mut self.five, edges);
     }
 
     /// Forgets the edges and the inputs, and keeps the room.

@@ -3,3 +3,4 @@ pub mod Given
 pub mod Steps
 pub mod Taken
 pub mod Laws
+pub mod AtOnce

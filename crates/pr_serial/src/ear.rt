@@ -11,9 +11,9 @@ use crate::command::{LISTEN, LOWER_CASE, UNLISTEN};
 use pr_page::Input;
 use std::alloc::Global;
 
-/// An item gives a device at most two inputs: a LISTEN with secondary address 7 selects a
+/// How many inputs an item gives a device at most: a LISTEN with secondary address 7 selects a
 /// character set twice.
-const INPUTS_OF_AN_ITEM: usize = 2;
+pub const INPUTS_OF_AN_ITEM: usize = 2;
 
 /// A printer's place on the bus: whether it listens, and what it has heard if it is there.
 #[derive(Drop)]

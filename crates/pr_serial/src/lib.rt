@@ -16,6 +16,7 @@ pub mod serial;
 
 pub use bus::Bus;
 pub use direct::Direct;
+pub use ear::INPUTS_OF_AN_ITEM;
 pub use pr_page::{Input, NoMemory};
 pub use serial::Serial;
 

@@ -323,3 +323,50 @@ fn frames_are_taken_whole(rt: HostRuntime) -> Result<(), Fail> {
     assert_eq!(rt; inputs.as_slice(), example_inputs().as_slice());
     Ok(())
 }
+
+/// Two receivers take the same frames at once, and each gives its own inputs.
+#[test]
+fn frames_are_taken_whole_by_two(rt: HostRuntime) -> Result<(), Fail> {
+    let edges = example(&rt)?;
+    let (mut four, mut five) = (Receiver::new(4), Receiver::new(5));
+    let mut inputs = Vec::new(rt.alloc());
+    let mut at: usize = 0;
+    for wanted in [0, 0, 0, 20, 0, 20, 20, 22, 0, 20, 0, 0, 0] {
+        assert!(rt; at < EDGES && four.taken() < 1000 && five.taken() < 1000);
+        let passed = five.pass_frame_with(&mut four, &edges[at..]);
+        assert_eq!(rt; passed.count, wanted, "from edge {at}");
+        assert_eq!(rt; passed.input, None);
+        let input = if passed.count == 0 {
+            assert!(rt; four.taken() < 1000 && five.taken() < 1000);
+            assert_eq!(rt; five.edge(edges[at])?, None);
+            four.edge(edges[at])?
+        } else {
+            passed.other
+        };
+        if let Some(input) = input {
+            inputs.push(input)?;
+        }
+        at = at.saturating_add(passed.count.max(1));
+    }
+    assert_eq!(rt; inputs.as_slice(), example_inputs().as_slice());
+    assert_eq!(rt; four.taken(), EDGES);
+    assert_eq!(rt; five.taken(), EDGES);
+    Ok(())
+}
+
+/// A receiver that has not come so far keeps both from taking a frame.
+#[test]
+fn receiver_behind_takes_no_frame(rt: HostRuntime) -> Result<(), Fail> {
+    let edges = example(&rt)?;
+    let (mut four, mut five) = (Receiver::new(4), Receiver::new(5));
+    for at in 0..3 {
+        assert!(rt; at < EDGES && four.taken() < 1000);
+        assert_eq!(rt; four.edge(edges[at])?, None);
+    }
+    assert!(rt; four.taken() < 1000 && five.taken() < 1000);
+    let passed = four.pass_frame_with(&mut five, &edges[3..]);
+    assert_eq!(rt; passed.count, 0);
+    assert_eq!(rt; four.taken(), 3);
+    assert_eq!(rt; five.taken(), 0);
+    Ok(())
+}

@@ -1,0 +1,69 @@
+//! Two receivers that take the edges of a frame at once.
+
+ghost use Rattle.std.specs.Prelude.{◌≡◌, ◌^◌, ◌+◌, ◌<◌, ◌≤◌, false, length};
+ghost use Rattle.pr_receiver.specs.AtOnce.{MayPass};
+ghost use Rattle.pr_receiver.specs.Steps.{IsSound};
+
+use crate::state::State;
+use pr_page::Input;
+use pr_wire::Edge;
+
+/// How many edges two receivers have taken at once, and the inputs that come with the last of them.
+#[derive(Clone, Copy, Debug, PartialEq, Eq)]
+pub struct PassedBoth {
+    /// 0, or how many edges a frame has.
+    pub count: usize,
+    /// What the frame gives the first device, if anything.
+    pub input: Option<Input>,
+    /// What it gives the other one.
+    pub other: Option<Input>,
+}
+
+/// Whether an edge is not the same as another.
+#[inline(always)]
+fn differ(edge: Edge, other: Edge) -> bool
+    ensures { result ≡ false → other ≡ edge }
+{
+    edge != other
+}
+
+impl State {
+    /// Takes the edges of a frame at once, where this place and the other's find them next.
+    #[inline(always)]
+    pub fn pass_frame_with(&mut self, other: &mut State, edges: &[Edge]) -> PassedBoth
+        requires room { self.old.taken + length edges.now < 2 ^ 64 }
+        requires other_room { other.old.taken + length edges.now < 2 ^ 64 }
+        requires sound { IsSound self.old }
+        requires other_sound { IsSound other.old }
+        ensures within { result.count ≤ length edges.now }
+        ensures passes { MayPass self.old edges.now result.count result.input self.new }
+        ensures other_passes { MayPass other.old edges.now result.count result.other other.new }
+        ensures sound { IsSound self.new }
+        ensures other_sound { IsSound other.new }
+    {
+        let none = PassedBoth {
+            count: 0,
+            input: None,
+            other: None,
+        };
+        let (None, Some(last)) = (self.refused, self.last) else {
+            return none;
+        };
+        let (None, Some(beside)) = (other.refused, other.last) else {
+            return none;
+        };
+        if differ(last, beside) {
+            return none;
+        }
+        let Some(whole) = self.place.pass_frame_with(&mut other.place, last, edges) else {
+            return none;
+        };
+        let (frame, count) = (whole.frame, whole.len);
+        let end = edges[count - 1];
+        PassedBoth {
+            count,
+            input: self.take_frame(end, count, frame),
+            other: other.take_frame(end, count, frame),
+        }
+    }
+}
