@@ -12,7 +12,8 @@ use Rattle.pr_basic.specs.Runs.{Run, run_after, run_from, found_of}
 use Rattle.pr_basic.specs.declared.session.StatusMode.{StatusMode}
 use Rattle.pr_basic.specs.declared.session.StatusMode.TheVariants.{Each, Kept}
 use Rattle.pr_page.specs.Evaluator.{page_of}
-use Rattle.pr_system.specs.Without.{files_after, is_left_out, without_from, AreAddressed, Isolation, IsolatedPages}
+use Rattle.pr_system.specs.Without.{files_after, is_left_out, without_from, AreAddressed}
+use Rattle.pr_system.specs.Laws.{Isolation, IsolatedPages}
 use Rattle.pr_system.proofs.AbsentLemmas.{OnlyPage}
 use Rattle.pr_system.proofs.FileLemmas.{rest_of}
 use Rattle.pr_system.proofs.ApartLemmas.{Apart, apart_begins}

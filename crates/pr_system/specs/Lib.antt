@@ -3,3 +3,4 @@ pub mod StepByStep
 pub mod InOrder
 pub mod Headline
 pub mod Without
+pub mod Laws

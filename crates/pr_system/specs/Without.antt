@@ -74,11 +74,6 @@ pub record IsSpared (mode : StatusMode) (present : Present) (left_out : ℕ) (st
   pub goes_on : GoesOn mode present rest
   pub same : (device : ℕ) → device ≢ left_out → heard_in mode present rest device ≡ heard_in mode present statements device
 
--- in a list without CMD and PRINT that has no stop, leaving out one device spares the others
-abbrev pub Isolation : Type 0
-Isolation = (left_out : ℕ) (mode : StatusMode) (present : Present) (statements : List Statement) →
-    AreAddressed statements → GoesOn mode present statements → IsSpared mode present left_out statements (without left_out statements)
-
 -- the paper of each printer but the one that is left out is the same
 abbrev pub KeepsPapers : ℕ → Outcome → Outcome → Type 0
 KeepsPapers left_out all rest = (4 ≢ left_out → rest.paper4 ≡ all.paper4) × (5 ≢ left_out → rest.paper5 ≡ all.paper5)
@@ -87,17 +82,3 @@ KeepsPapers left_out all rest = (4 ≢ left_out → rest.paper4 ≡ all.paper4) 
 pub record IsGiven (mode : StatusMode) (present : Present) (delays : DelayNumbers) (statements : List Statement) (outcome : Outcome) : Type 0 where
   pub headline : IsOutcome mode present statements outcome
   pub true_trace : IsTrueTrace mode present delays statements outcome.trace
-
--- so the page of each other printer is the same
-abbrev pub IsolatedPages : Type 0
-IsolatedPages = (left_out : ℕ) (mode : StatusMode) (present : Present) (statements : List Statement) (all rest : Outcome) →
-    AreAddressed statements → GoesOn mode present statements →
-    IsOutcome mode present statements all → IsOutcome mode present (without left_out statements) rest →
-    KeepsPapers left_out all rest
-
--- even with other delays: what two runs give, each with delay numbers of its own
-abbrev pub IsolatedWithOtherDelays : Type 0
-IsolatedWithOtherDelays = (left_out : ℕ) (mode : StatusMode) (present : Present) (delays others : DelayNumbers) (statements : List Statement) (all rest : Outcome) →
-    AreAddressed statements → GoesOn mode present statements →
-    IsGiven mode present delays statements all → IsGiven mode present others (without left_out statements) rest →
-    KeepsPapers left_out all rest

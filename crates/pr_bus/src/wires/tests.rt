@@ -7,6 +7,8 @@ use pr_wire::example::TRACE_TEXT;
 use pr_wire::{read_trace, write_trace};
 use std::process::Abort;
 
+mod many_bytes;
+
 const NONE: Present = Present {
     four: false,
     five: false,

@@ -1,0 +1,45 @@
+//! As many bytes over the wires as the environment asks for, which `make bench` measures.
+
+use super::*;
+use std::env::FillError;
+use std::rt::Env;
+
+/// How many bytes are sent before their edges are forgotten.
+const ROUND_BYTES: u64 = 1000;
+
+/// How many times 1,000 bytes the variable BUS_ROUNDS asks for, or 1.
+fn rounds_wanted(rt: &(impl Abort + Env)) -> u64 {
+    let mut digits = [0; 8];
+    let count = match rt.var("BUS_ROUNDS", &mut digits) {
+        Err(FillError::NotPresent) => return 1,
+        other => other.ok().expect(rt, "at most 8 digits"),
+    };
+    assert!(rt; count <= digits.len());
+    let text = str::from_utf8(&digits[..count]).expect(rt, "text");
+    text.parse().expect(rt, "a number")
+}
+
+/// Sends 1,000 bytes, which are answered, and forgets their edges.
+fn send_round(rt: &impl Abort, bus: &mut Wires) {
+    for _byte in 0..ROUND_BYTES {
+        assert!(rt; bus.items() < 4_000_000_000);
+        assert_eq!(rt; bus.send(72, false), Ok(true));
+    }
+    assert_eq!(rt; bus.trace().len(), 20 * ROUND_BYTES as usize);
+    assert_eq!(rt; bus.heard(4).len(), ROUND_BYTES as usize);
+    bus.forget();
+}
+
+/// Both printers hear each byte's 20 edges, in 930 microseconds; printer 4 listens.
+#[test]
+fn many_bytes_over_the_wires(rt: HostRuntime) {
+    let rounds = rounds_wanted(&rt);
+    assert!(rt; rounds <= 1_000_000);
+    let mut bus = wires(&rt, BOTH, &[], &[], &[]);
+    command(&rt, &mut bus, LISTEN_FOUR, true, 2030);
+    bus.forget();
+    for _round in 0..rounds {
+        send_round(&rt, &mut bus);
+    }
+    assert_eq!(rt; bus.now(), 2030 + 930 * ROUND_BYTES * rounds);
+}
