@@ -25,7 +25,7 @@ sheet_name = codes " 1050)\">\n<text font-size=\"210\" fill=\"#555\" y=\"-210\">
 unfoldable pub sheet_paper : List ℕ
 sheet_paper = codes "</text>\n<rect width=\"12600\" height=\""
 
--- the rest of the paper, and the group of its marks: there a unit is a dot across and 1/126 inch down, half an inch inside the tear-off lines.
+-- the rest of the paper, and the group of its marks: there a unit is a dot across and 1/126 inch down.
 -- A letter of DejaVu Sans Mono, 1233/2048 of the font's size wide, is six dots wide at this size.
 unfoldable pub sheet_marks : List ℕ
 sheet_marks = codes "\" fill=\"url(#paper)\" stroke=\"#b4afa2\" stroke-width=\"10\"/>\n<g transform=\"translate(1260 630)scale(21 10)\" font-size=\"9.966\" shape-rendering=\"crispEdges\">\n"

@@ -1,5 +1,5 @@
 -- Trusted: the picture of an outcome as an SVG document.
--- A unit of the document is 1/1260 inch: a dot column is 21 units wide, 1/126 inch is 10 units, and a line of text 210 units (one pica, `pc`).
+-- A unit of the document is 1/1260 inch: a dot column is 21 units wide, 1/126 inch is 10 units, and a line of text 210 units (a pica, `pc`).
 use Rattle.std.specs.Prelude.{ℕ, ◌+◌, ◌*◌, ◌/◌, ◌%◌, Bool, true, false, not, List, [], ◌∷◌, ◌++◌, ◌==◌, ◌||◌, ◌&&◌, nat_le, nat_lt, max, codes, decimal, length, replicate, if◌then◌else◌, Option, Some, None}
 use Rattle.pr_page.specs.declared.paper.Placed.{Placed}
 use Rattle.pr_page.specs.declared.paper.Row.{Row}
@@ -26,7 +26,9 @@ escaped u = if is_plain u then u ∷ [] else codes "&#" ++ decimal u ++ codes ";
 -- the black box of a reversed cell
 abbrev pub cell_box : ℕ → Bool → Bool → List ℕ
 cell_box x reverse wide =
-    text_if reverse (codes "<rect x=\"" ++ decimal x ++ either_text wide (codes "\" y=\"-7\" width=\"12\" height=\"7\"/>\n") (codes "\" y=\"-7\" width=\"6\" height=\"7\"/>\n"))
+    text_if reverse
+    (codes "<rect x=\"" ++ decimal x
+    ++ either_text wide (codes "\" y=\"-7\" width=\"12\" height=\"7\"/>\n") (codes "\" y=\"-7\" width=\"6\" height=\"7\"/>\n"))
 
 -- where a reversed cell's character stands, white, a dot higher and smaller, so that it lies in its box
 abbrev pub white_place : ℕ → Bool → List ℕ
@@ -34,7 +36,9 @@ white_place x wide = white_begin ++ decimal x ++ either_text wide (codes " -1)sc
 
 -- where another cell's character stands, on the base line, drawn twice as wide where the cell is wide
 abbrev pub black_place : ℕ → Bool → List ℕ
-black_place x wide = if wide then codes "<text transform=\"translate(" ++ decimal x ++ codes ")scale(2 1)" else codes "<text x=\"" ++ decimal x
+black_place x wide =
+    if wide then codes "<text transform=\"translate(" ++ decimal x ++ codes ")scale(2 1)"
+    else codes "<text x=\"" ++ decimal x
 
 -- a cell's character, six dots wide before it is drawn wider
 unfoldable pub character_svg : ℕ → ℕ → Bool → Bool → List ℕ

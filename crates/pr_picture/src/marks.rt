@@ -1,9 +1,8 @@
 //! The marks of a line as elements of a picture.
 
-ghost use Rattle.std.specs.Prelude.{◌≡◌, false, true, List, [], ◌∷◌, ◌++◌, OnOk, IfOk};
-ghost use Rattle.pr_page.specs.declared.paper.Placed.{Placed};
-ghost use Rattle.pr_picture.specs.Pens.{IsClosed, left_svg};
-ghost use Rattle.pr_picture.specs.Svg.{black_place, cell_box, cell_svg, character_svg, column_svg, is_dots, is_letter, joint, letters_svg, mark_svg, marks_svg, shows_blank, shows_letter, white_place};
+ghost use Rattle.std.specs.Prelude.{◌≡◌, false, true, [], ◌++◌, OnOk, IfOk};
+ghost use Rattle.pr_picture.specs.Pens.{HasDrawn, IsClosed, ended_svg};
+ghost use Rattle.pr_picture.specs.Svg.{black_place, cell_box, cell_svg, character_svg, column_svg, is_dots, is_letter, joint, mark_svg, marks_svg, shows_blank, shows_letter, white_place};
 
 use crate::adding::{either, is_blank, push_between, push_small};
 use crate::characters::character;
@@ -202,7 +201,7 @@ impl Pen {
 
     /// Ends what is open before a mark, a column of dots or not. A run may begin at a dot column.
     fn end(&mut self, text: &mut Vec<u8>, dots: bool, next: u16) -> Result<(), AllocError>
-        ensures text { OnOk result (text.new.items ≡ text.old.items ++ (letters_svg self.old.letters.x self.old.letters.count self.old.letters.text.items ++ joint self.old.column dots)) }
+        ensures text { OnOk result (text.new.items ≡ text.old.items ++ ended_svg self.old dots) }
         ensures column { OnOk result (self.new.column ≡ dots) }
         ensures x { OnOk result (self.new.letters.x ≡ next) }
         ensures count { OnOk result (self.new.letters.count ≡ 0) }
@@ -218,7 +217,7 @@ impl Pen {
     /// Draws a letter, in the run that it follows or as the first of another.
     fn draw_letter(&mut self, text: &mut Vec<u8>, placed: Placed) -> Result<(), AllocError>
         requires { shows_letter placed.mark ≡ true }
-        ensures { (rest : List Placed) → OnOk result (text.new.items ++ left_svg self.new rest ≡ text.old.items ++ left_svg self.old (placed ∷ rest)) }
+        ensures { OnOk result (HasDrawn placed text.old.items self.old text.new.items self.new) }
     {
         if !self.letters.are_followed_at(placed.x) {
             self.end(text, false, placed.x)?;
@@ -228,7 +227,7 @@ impl Pen {
 
     /// Draws a mark.
     fn draw_mark(&mut self, text: &mut Vec<u8>, placed: Placed) -> Result<(), AllocError>
-        ensures { (rest : List Placed) → OnOk result (text.new.items ++ left_svg self.new rest ≡ text.old.items ++ left_svg self.old (placed ∷ rest)) }
+        ensures { OnOk result (HasDrawn placed text.old.items self.old text.new.items self.new) }
     {
         if shows_blank(placed.mark) && self.letters.are_followed_at(placed.x) {
             self.letters.add_blank();

@@ -51,7 +51,7 @@ pub fn sheet_paper() -> &'static [u8]
     b"</text>\n<rect width=\"12600\" height=\""
 }
 
-/// The rest of the paper, and the group of its marks: there a unit is a dot across and 1/126 inch down, half an inch inside the tear-off lines.
+/// The rest of the paper, and the group of its marks: there a unit is a dot across and 1/126 inch down.
 #[tactic(auto, unfolding(crate::specs::Parts::sheet_marks))]
 pub fn sheet_marks() -> &'static [u8]
     ensures { result.now ≡ sheet_marks }

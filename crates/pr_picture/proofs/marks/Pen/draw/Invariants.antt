@@ -6,4 +6,5 @@ use Rattle.pr_picture.proofs.marks.Pen.draw.Given as goal
 
 -- the text so far and what is left, behind what is open, make the whole
 abbrev pub invariant-loop-placed : goal.invariant-loop-placed
-invariant-loop-placed l = l.text.items ++ left_svg l.self (drop l.placed-index l.marks) ≡ l.fn.text.items ++ marks_svg false 0 0 0 [] l.marks
+invariant-loop-placed l =
+    l.text.items ++ left_svg l.self (drop l.placed-index l.marks) ≡ l.fn.text.items ++ marks_svg false 0 0 0 [] l.marks
