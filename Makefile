@@ -2,7 +2,7 @@
 # make try          prints that page within a minute or two, by a build of which nothing is proved
 # make test         the gate: every proof, test and must-fail edit, then the tests outside the prover
 # make bench        speed and peak memory beside `wc -l`, with the aim of each
-# make peer         traces of runs, read by sigrok's decoder of the bus (sigrok-cli, libsigrokdecode4); pictures, by xmllint and rsvg-convert
+# make peer         traces of runs, read by sigrok's decoder of the bus (sigrok-cli and libsigrokdecode4)
 # make install      copies the built program to $(PREFIX)/bin
 
 SHELL := /bin/bash
@@ -51,7 +51,6 @@ bench: build $(TESTS)
 # Not a part of the gate.
 peer: build
 	@tests/peer $(PROGRAM)
-	@tests/pictures $(PROGRAM)
 
 install: build
 	install -d $(DESTDIR)$(PREFIX)/bin

@@ -1,6 +1,7 @@
 //! Worked traces (profile).
 
-ghost use Rattle.std.specs.Prelude.{◌≤◌};
+ghost use Rattle.std.specs.Prelude.{◌≡◌, ◌≤◌};
+ghost use Rattle.pr_bus.specs.Sums.{edge_share, time_share};
 
 use super::*;
 use pr_wire::example::TRACE_TEXT;
@@ -279,7 +280,8 @@ fn room_for_inputs(rt: HostRuntime) {
 
 /// The longest time of an item in microseconds: its wait, and the greatest delays of its frames.
 fn longest(item: Item) -> u64
-    ensures { result ≤ 32158 }
+    ensures share { result ≡ time_share item }
+    ensures within { result ≤ 32158 }
 {
     match item {
         Item::Sent(_, _) => 1000 + 10_000 + 250 + 200 + 60 + 8 * 400 + 80,
@@ -289,7 +291,8 @@ fn longest(item: Item) -> u64
 
 /// The most edges of an item.
 fn most_edges(item: Item) -> usize
-    ensures { result ≤ 44 }
+    ensures share { result ≡ edge_share item }
+    ensures within { result ≤ 44 }
 {
     match item {
         Item::Sent(_, _) => 22,
