@@ -1,6 +1,7 @@
 # A page text drawn once more, apart from the proved code. usage: awk -v as=svg|text -v present=both|4|5|none -f pictures.awk PAGE-TEXT
+# a character in UTF-8, also where awk writes it so by itself (gawk in a UTF-8 locale)
 function utf8(u) {
-    if (u < 128) return sprintf("%c", u)
+    if (u < 128 || sprintf("%c", 9608) == "\342\226\210") return sprintf("%c", u)
     if (u < 2048) return sprintf("%c%c", 192 + int(u / 64), 128 + u % 64)
     if (u < 65536) return sprintf("%c%c%c", 224 + int(u / 4096), 128 + int(u / 64) % 64, 128 + u % 64)
     return sprintf("%c%c%c%c", 240 + int(u / 262144), 128 + int(u / 4096) % 64, 128 + int(u / 64) % 64, 128 + u % 64)
@@ -151,7 +152,7 @@ $1 == "stop" { stop = name[$2] " in statement " $4; next }
     kind[marks] = $2
     code[marks] = $3
     words[marks] = (/ lower/ ? " lower" : "") (/ reverse/ ? " reverse" : "") (/ wide/ ? " wide" : "")
-    u = $2 == "cell" ? character($3, / lower/) : 0
+    u = $2 == "cell" ? character($3, $0 ~ / lower/) : 0
     letter[marks] = $2 != "cell" || / reverse| wide/ ? 0 : u == 32 || u == 160 ? 1 : u < 127 ? 2 : 0
 }
 END { printf "%s", as == "svg" ? picture() : text_lines() }
