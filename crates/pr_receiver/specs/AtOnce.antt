@@ -1,28 +1,32 @@
--- Linking words, for proofs: a receiver that takes the edges of a frame at once, as it would one by one. No reader needs to believe them.
-use Rattle.std.specs.Prelude.{◌≡◌, ℕ, ◌+◌, ◌<◌, List, [], ◌∷◌, ◌++◌, take, Option, None}
+-- Linking words: what ties edges that a receiver takes at once to the same edges one by one. The clauses of `Receiver` say with them all that a caller needs. No reader needs to believe them.
+use Rattle.std.specs.Prelude.{◌≡◌, ℕ, ◌+◌, ◌-◌, ◌<◌, List, [], ◌∷◌, ◌++◌, take, Option, None}
 use Rattle.std.specs.Option.{option_to_list}
 use Rattle.pr_wire.specs.declared.Edge.{Edge}
 use Rattle.pr_wire.specs.declared.Frame.{Frame}
 use Rattle.pr_wire.specs.Table.{IsAllowed}
 use Rattle.pr_page.specs.declared.input.Input.{Input}
 use Rattle.pr_receiver.specs.Given.{frames_ended, inputs_with}
-use Rattle.pr_receiver.specs.Steps.{IsPassed}
 use Rattle.pr_receiver.specs.Taken.{HasTaken, device_of, number_taken, refusal_of}
 use Rattle.pr_receiver.specs.declared.state.State.{State}
-
--- what stays, where no edge was taken at once, and what was, where some were
-abbrev pub MayPass : State → List Edge → ℕ → Option Input → State → Type 0
-MayPass r edges n i new = (0 < n → IsPassed r edges n i new) × (n ≡ 0 → (new ≡ r) × (i ≡ None))
 
 -- edges behind others end one frame
 abbrev pub EndOneFrame : List Edge → List Edge → Type 0
 EndOneFrame before edges = (frame : Frame) × (frames_ended (before ++ edges) ≡ frames_ended before ++ frame ∷ [])
 
+-- edges behind others end no frame, and so bring no device an input
+abbrev pub EndNoFrame : List Edge → List Edge → Type 0
+EndNoFrame before edges = frames_ended (before ++ edges) ≡ frames_ended before
+
+-- edges behind others bring a device this input, if it is one, and no other
+abbrev pub BringInput : ℕ → List Edge → List Edge → Option Input → Type 0
+BringInput device before edges input = inputs_with device (before ++ edges) ≡ inputs_with device before ++ option_to_list input
+
 -- a receiver has taken so many edges in front, edge by edge, and this input came with the last of them; if none, it is as it was
 pub record TakesAtOnce (old : State) (edges : List Edge) (n : ℕ) (input : Option Input) (new : State) : Type 0 where
   pub taken : (before : List Edge) → HasTaken before old → HasTaken (before ++ take n edges) new
-  pub inputs : (before : List Edge) → HasTaken before old → inputs_with (device_of old) (before ++ take n edges) ≡ inputs_with (device_of old) before ++ option_to_list input
+  pub inputs : (before : List Edge) → HasTaken before old → BringInput (device_of old) before (take n edges) input
   pub ends : 0 < n → (before : List Edge) → HasTaken before old → EndOneFrame before (take n edges)
+  pub sooner : (before : List Edge) → HasTaken before old → EndNoFrame before (take (n - 1) edges)
   pub allowed : (before : List Edge) → HasTaken before old → IsAllowed (before ++ take n edges)
   pub count : number_taken new ≡ number_taken old + n
   pub works : 0 < n → refusal_of old ≡ None

@@ -24,7 +24,8 @@ FrontsEndAFront = (edges more : List Edge) → (later : List Frame) × (frames_e
 -- the frames that the edges of a front of a trace end are a front of those that the trace spells
 abbrev pub FrontsOfTracesEndAFront : Type 0
 FrontsOfTracesEndAFront =
-    (edges more : List Edge) (frames : List Frame) → Spells (edges ++ more) frames → (later : List Frame) × (frames ≡ frames_ended edges ++ later)
+    (edges more : List Edge) (frames : List Frame) → Spells (edges ++ more) frames
+    → (later : List Frame) × (frames ≡ frames_ended edges ++ later)
 
 -- whatever the edges, they give a device what it hears of the frames that they end
 abbrev pub EdgesGiveWhatIsHeard : Type 0
@@ -33,7 +34,8 @@ EdgesGiveWhatIsHeard = (device : ℕ) (edges : List Edge) → inputs_with device
 -- the inputs of edges and more edges are those of the first, then those of the others
 abbrev pub InputsOfTwoParts : Type 0
 InputsOfTwoParts =
-    (device : ℕ) (before edges : List Edge) → inputs_with device (before ++ edges) ≡ inputs_with device before ++ inputs_behind device before edges
+    (device : ℕ) (before edges : List Edge)
+    → inputs_with device (before ++ edges) ≡ inputs_with device before ++ inputs_behind device before edges
 
 -- one edge more gives at most one input more
 abbrev pub InputsOfOneMore : Type 0
@@ -59,7 +61,8 @@ HeardOfOneMore =
 abbrev pub ListeningAfterOneMore : Type 0
 ListeningAfterOneMore =
     (device : ℕ) (frames : List Frame) (frame : Frame)
-    → is_listening device (frames ++ frame ∷ []) ≡ (if is_unlisten frame then false else (is_listening device frames || is_listen device frame))
+    → is_listening device (frames ++ frame ∷ [])
+    ≡ (if is_unlisten frame then false else (is_listening device frames || is_listen device frame))
 
 -- only the last frame can have called the device
 abbrev pub CalledAfterOneMore : Type 0

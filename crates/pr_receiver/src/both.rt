@@ -1,8 +1,7 @@
 //! Two receivers that take the edges of a frame at once.
 
 ghost use Rattle.std.specs.Prelude.{◌≡◌, ◌^◌, ◌+◌, ◌<◌, ◌≤◌, false, length};
-ghost use Rattle.pr_receiver.specs.AtOnce.{MayPass};
-ghost use Rattle.pr_receiver.specs.Steps.{IsSound};
+ghost use Rattle.pr_receiver.specs.Steps.{IsSound, MayPass};
 
 use crate::state::State;
 use pr_page::Input;

@@ -39,7 +39,8 @@ pub record BringsByte (pull : Edge) (edges : List Edge) (byte : ℕ) : Type 0 wh
       → let ack : Edge = last_of edges 17 in
       reached (behind pull (Bit pull.time s eoi [] pull.levels.line) before count) (take 17 edges)
       ≡ Ok (behind ack (Ack ack.time s byte) (record { attention = not (atn_of s); byte = byte; eoi = eoi } ∷ before) (count + 17))
-  pub sooner : (s : Sending) (eoi : Bool) → atn_of s ≡ pull.levels.atn → EndsNoneSooner pull (Bit pull.time s eoi [] pull.levels.line) edges 17
+  pub sooner : (s : Sending) (eoi : Bool) → atn_of s ≡ pull.levels.atn
+      → EndsNoneSooner pull (Bit pull.time s eoi [] pull.levels.line) edges 17
 
 -- an edge has these levels, and comes so long after a moment
 pub record IsEdgeIn (edge : Edge) (levels : Levels) (since least greatest : ℕ) : Type 0 where
@@ -77,5 +78,6 @@ Begins p s =
 -- from any place where a frame may begin so, so many edges lead to its acknowledgement, the last of them
 pub record PassesTo (last : Edge) (s : Start) (edges : List Edge) (len : ℕ) (a : Ahead) : Type 0 where
   pub passes : (old : Place) → Begins old s
-      → PassesFrame last old edges len (Ack (last_of edges len).time s.sending a.byte) (record { attention = not (atn_of s.sending); byte = a.byte; eoi = a.eoi })
+      → PassesFrame last old edges len (Ack (last_of edges len).time s.sending a.byte)
+      (record { attention = not (atn_of s.sending); byte = a.byte; eoi = a.eoi })
   pub sooner : (old : Place) → Begins old s → EndsNoneSooner last old edges len

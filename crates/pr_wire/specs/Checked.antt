@@ -1,5 +1,5 @@
 -- Linking words: what a checker has taken of a text, and which frames came by. The clauses of `Checker` say all that a caller needs of them. No reader needs to believe them.
-use Rattle.std.specs.Prelude.{◌≡◌, ℕ, ◌+◌, Bool, true, false, not, ◌==◌, List, ◌++◌, length, reverse, Some, None, Result, Ok, Err}
+use Rattle.std.specs.Prelude.{◌≡◌, ℕ, ◌+◌, Bool, true, false, not, ◌==◌, List, ◌++◌, length, reverse, Option, Some, None, Result, Ok, Err}
 use Rattle.std.specs.List.{list_all}
 use Rattle.pr_wire.specs.declared.Edge.{Edge}
 use Rattle.pr_wire.specs.declared.Frame.{Frame}
@@ -11,8 +11,9 @@ use Rattle.pr_wire.specs.declared.place.Place.TheVariants.{Idle}
 use Rattle.pr_wire.specs.declared.checker.Checker.{Checker}
 use Rattle.pr_wire.specs.declared.checker.Verdict.{Verdict}
 use Rattle.pr_wire.specs.declared.checker.Verdict.TheVariants.{Before, Allowed, NoStart, Flawed}
+use Rattle.pr_wire.specs.Checking.{with_frame}
 use Rattle.pr_wire.specs.LineParts.{part_with}
-use Rattle.pr_wire.specs.Reached.{Reached, begin, reached}
+use Rattle.pr_wire.specs.Reached.{Reached, begin, reached, add, led, one_more}
 use Rattle.pr_wire.specs.Table.{fault_at}
 use Rattle.pr_wire.specs.TraceText.{AreEdgeLines, IsFirstBad, lines_of}
 
@@ -55,3 +56,13 @@ IsTaken false text frames part count verdict = IsFollowed text frames part count
 -- the checker has taken the text, and these frames came by
 abbrev pub HasChecked : List ℕ → List Frame → Checker → Type 0
 HasChecked text frames c = IsTaken c.is_bad text frames c.part c.count c.verdict
+
+-- the checker has taken these bytes too, behind whatever it had taken, and the frame that they end came by, if they end one
+abbrev pub ChecksMore : List ℕ → Option Frame → Checker → Checker → Type 0
+ChecksMore more frame old new =
+    (text : List ℕ) (frames : List Frame) → HasChecked text frames old → HasChecked (text ++ more) (with_frame frames frame) new
+
+-- one edge more leads from one verdict to the next as it leads in the table, and ends this frame, if it ends one
+abbrev pub GoesOn : Verdict → ℕ → Edge → Option Frame → Verdict → Type 0
+GoesOn old index edge frame new =
+    (before : List Frame) → led_to new (add frame before) (index + 1) ≡ led (λ r. one_more r edge) (led_to old before index)

@@ -6,7 +6,8 @@ use Rattle.pr_wire.specs.TraceText.{is_digit, number_after}
 -- the four bytes from a place on, as one number
 abbrev pub word_at : List ℕ → ℕ → ℕ
 word_at text i =
-    from_le_bytes w32 (slice_index_or text i 0 ∷ slice_index_or text (i + 1) 0 ∷ slice_index_or text (i + 2) 0 ∷ slice_index_or text (i + 3) 0 ∷ [])
+    from_le_bytes w32
+    (slice_index_or text i 0 ∷ slice_index_or text (i + 1) 0 ∷ slice_index_or text (i + 2) 0 ∷ slice_index_or text (i + 3) 0 ∷ [])
 
 -- so many digits stand in front, and spell these thousands
 pub record SpellsThousands (text : List ℕ) (len time : ℕ) : Type 0 where
@@ -17,5 +18,5 @@ pub record SpellsThousands (text : List ℕ) (len time : ℕ) : Type 0 where
 pub record IsFront (len first last time : ℕ) : Type 0 where
   pub least : 4 ≤ len
   pub greatest : len ≤ 8
-  pub spells : (text : List ℕ) → ((i : ℕ) → slice_index_or text i 0 < 256) → len ≤ length text → word_at text 0 ≡ first → word_at text (len - 4) ≡ last
-      → SpellsThousands text len time
+  pub spells : (text : List ℕ) → ((i : ℕ) → slice_index_or text i 0 < 256)
+      → len ≤ length text → word_at text 0 ≡ first → word_at text (len - 4) ≡ last → SpellsThousands text len time

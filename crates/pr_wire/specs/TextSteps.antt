@@ -7,7 +7,8 @@ use Rattle.pr_wire.specs.TraceText.{is_digit, number_after}
 
 -- the time that some digits spell, where there are any and it is below 2^64
 unfoldable pub time_in : List ℕ → Option ℕ
-time_in digits = if nat_lt 0 (length digits) && nat_lt (number_after 0 digits) 18446744073709551616 then Some (number_after 0 digits) else None
+time_in digits =
+    if nat_lt 0 (length digits) && nat_lt (number_after 0 digits) 18446744073709551616 then Some (number_after 0 digits) else None
 
 abbrev pub level_in : ℕ → Option Bool
 level_in b = if b == 48 then Some false else (if b == 49 then Some true else None)
@@ -28,7 +29,8 @@ end_in [] = Some 0
 end_in (b ∷ bs) = if b == 10 then Some 1 else (if b == 13 then end_after_return bs else None)
 
 abbrev pub line_with : Option ℕ → Option Levels → Option ℕ → ℕ → Option Line
-line_with (Some time) (Some levels) (Some end) digits = Some (record { edge = record { time = time; levels = levels }; len = digits + 4 + end })
+line_with (Some time) (Some levels) (Some end) digits =
+    Some (record { edge = record { time = time; levels = levels }; len = digits + 4 + end })
 line_with (Some time) (Some levels) None digits = None
 line_with (Some time) None end digits = None
 line_with None levels end digits = None

@@ -1,7 +1,7 @@
 //! A whole frame at once, in two places.
 
 ghost use Rattle.std.specs.Prelude.{◌≡◌, ◌<◌, ◌≤◌, true, length, IfSome, IsNone};
-ghost use Rattle.pr_wire.specs.Ahead.{PassesFrame};
+ghost use Rattle.pr_wire.specs.Ahead.{PassesFrame, EndsNoneSooner};
 
 use super::{Ahead, Start, WholeFrame, frame_ahead};
 use crate::place::Place;
@@ -23,7 +23,7 @@ impl Start {
 impl Place {
     /// Goes over the edges of a whole frame at once from two places, behind the same edge, where it
     /// begins in both in the same way: as [`Place::pass_frame`] from each of them, with one test of
-    /// the edges. Otherwise both places stay as they are.
+    /// the edges. Otherwise both places stay as they are. It may go over none.
     #[inline(always)]
     pub fn pass_frame_with(
         &mut self,
@@ -35,6 +35,8 @@ impl Place {
         ensures enough { IfSome result (λ whole. whole.len ≤ length edges.now) }
         ensures passes { IfSome result (λ whole. PassesFrame last self.old edges.now whole.len self.new whole.frame) }
         ensures other_passes { IfSome result (λ whole. PassesFrame last other.old edges.now whole.len other.new whole.frame) }
+        ensures sooner { IfSome result (λ whole. EndsNoneSooner last self.old edges.now whole.len) }
+        ensures other_sooner { IfSome result (λ whole. EndsNoneSooner last other.old edges.now whole.len) }
         ensures stays { IsNone result → self.new ≡ self.old }
         ensures other_stays { IsNone result → other.new ≡ other.old }
     {

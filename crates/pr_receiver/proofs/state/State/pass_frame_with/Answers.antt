@@ -12,6 +12,7 @@ returns-clause-other_passes c = (
     works = c.in-None-Some-2.is-0;
     last_is = c.in-None-Some-2.is-1 ∙ ap {B = Option Edge} (λ e. Some e) (c.differ.ensures c.if-differ.false);
     leads = λ before count. rw c.take_frame-2.ensures.taken (c.in-Some.ensures.other_passes before count);
+    sooner = c.in-Some.ensures.other_sooner;
     new_is = rw c.take_frame-2.ensures.taken refl;
     input_is = c.take_frame-2.ensures.input;
   },
