@@ -1,6 +1,6 @@
 //! The lexemes of a line.
 
-ghost use Rattle.std.specs.Prelude.{◌≡◌, ◌∷◌, [], ◌<◌, ◌≤◌, ◌+◌, length, map, MatchOption, IsTrue};
+ghost use Rattle.std.specs.Prelude.{◌≡◌, ◌∷◌, [], ◌<◌, ◌≤◌, ◌+◌, length, take, drop, map, codes, MatchOption, IsTrue};
 ghost use Rattle.std.specs.List.{prefix_len};
 ghost use Rattle.pr_basic.specs.Lexemes.{is_digit, is_no_quote, is_space};
 ghost use Rattle.pr_basic.specs.Lexing.{begins, first_isnt_space, front, here, later, lexemes_of, text_front, word_front};

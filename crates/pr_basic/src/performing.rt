@@ -1,10 +1,12 @@
 //! Performing one statement over the channels.
 
-ghost use Rattle.std.specs.Prelude.{◌≡◌, ℕ, ◌+◌, ◌≤◌, ◌<◌, ◌^◌, ◌⊎◌, true, false, Option, Some, None, length, IfOk, OnOk, OnErr, IsNone, is_some, if◌then◌else◌};
+ghost use Rattle.std.specs.Prelude.{◌≡◌, ℕ, ◌+◌, ◌≤◌, ◌<◌, ◌^◌, ◌⊎◌, Bool, true, false, Option, Some, None, List, [], ◌∷◌, ◌++◌, length, map, IfOk, OnOk, OnErr, IsNone, is_some, if◌then◌else◌};
+ghost use Rattle.pr_serial.specs.Elements.{Byte};
 ghost use Rattle.pr_serial.specs.Items.{items_of};
 ghost use Rattle.pr_channels.specs.Files.{open_stop};
+ghost use Rattle.pr_channels.specs.Seen.{Seen};
 ghost use Rattle.std.specs.Option.{ForSome};
-ghost use Rattle.pr_channels.specs.Calls.{clrchn_of};
+ghost use Rattle.pr_channels.specs.Calls.{adding, clrchn_of};
 ghost use Rattle.pr_basic.specs.Statements.{printed_bytes, unlistening, opening};
 ghost use Rattle.pr_basic.specs.Performing.{printing, Gives, IsWorking, setting_of, effect_on, commanding_on, ChangesScreenAlone, Performs, found_by};
 
