@@ -2,8 +2,9 @@
 use Rattle.std.specs.Prelude.{◌≡◌, ℕ, ◌+◌, ◌-◌, ◌≤◌, ◌<◌, ◌⊎◌, Bool, true, false, List, [], ◌∷◌, ◌++◌, length}
 use Rattle.std.specs.List.{list_all}
 use Rattle.pr_basic.specs.Limits.{statement_limit}
+use Rattle.pr_basic.specs.ListLimit.{byte_limit}
 use Rattle.pr_basic.specs.Lexemes.{AreLexemes, Lexeme, Word, Remark, Digits, Quoted, Comma, Semicolon, OpenParen, CloseParen}
-use Rattle.pr_basic.specs.Grammar.{Item, AreItems, AreLines, AreParts, HasNumber, is_printable, items_bytes, items_lexemes, lines_of, number_of, parts, without_return, byte_limit}
+use Rattle.pr_basic.specs.Grammar.{Item, AreItems, AreLines, AreParts, HasNumber, is_printable, items_bytes, items_lexemes, lines_of, number_of, parts, without_return}
 use Rattle.pr_basic.specs.declared.lexemes.Keyword.{Keyword}
 use Rattle.pr_basic.specs.declared.lexemes.Keyword.TheVariants as word
 use Rattle.pr_basic.specs.declared.statement.Statement.{Statement}

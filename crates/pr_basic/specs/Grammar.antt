@@ -2,6 +2,7 @@
 use Rattle.std.specs.Prelude.{◌≡◌, ℕ, ◌+◌, ◌-◌, ◌*◌, ◌≤◌, ◌<◌, ◌⊎◌, ◌&&◌, ◌==◌, Bool, true, false, List, [], ◌∷◌, ◌++◌, length, Some, None, nat_le, if◌then◌else◌}
 use Rattle.std.specs.List.{list_all}
 use Rattle.pr_basic.specs.Limits.{statement_limit}
+use Rattle.pr_basic.specs.ListLimit.{byte_limit}
 use Rattle.pr_basic.specs.Text.{Text}
 use Rattle.pr_basic.specs.Lexemes.{AreLexemes, Lexeme, Word, Remark, Digits, Quoted, Comma, Semicolon, Colon, OpenParen, CloseParen}
 use Rattle.pr_basic.specs.declared.lexemes.Keyword.{Keyword}
@@ -71,10 +72,6 @@ ends_after ends [] = ends
 ends_after ends (Semi ∷ is) = ends_after false is
 ends_after ends (Quote s ∷ is) = ends_after true is
 ends_after ends (Code ds ∷ is) = ends_after true is
-
--- the most bytes of a list (profile)
-abbrev pub byte_limit : ℕ
-byte_limit = 255
 
 -- the lexemes are a list's: those of its items; its bytes are theirs
 pub record IsList (lexemes : List Lexeme) (line : Text) : Type 0 where
