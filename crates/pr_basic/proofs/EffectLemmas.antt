@@ -9,12 +9,13 @@ use Rattle.pr_channels.specs.declared.file.File.{File}
 use Rattle.pr_channels.specs.declared.faults.Stop.{Stop}
 use Rattle.pr_channels.specs.declared.faults.Stop.TheVariants.{FileNotOpen, DeviceNotPresent}
 use Rattle.pr_channels.specs.Seen.{Seen}
-use Rattle.pr_channels.specs.Calls.{listen_to, unlisten, adding, chkout_of, clrchn_of}
+use Rattle.pr_channels.specs.Calls.{adding, chkout_of, clrchn_of}
+use Rattle.pr_channels.specs.Commands.{listen_to, unlisten}
 use Rattle.pr_basic.specs.Text.{Text}
 use Rattle.pr_basic.specs.declared.statement.Statement.{Statement}
 use Rattle.pr_basic.specs.declared.statement.Statement.TheVariants.{Print, Rem}
-use Rattle.pr_basic.specs.Statements.{Setting, Effect, status_of, printed_bytes, stopping, commanding, unlistening, unlistening_unless, opening, effect_of, Performs, with_effect, setting_of}
-use Rattle.pr_basic.specs.Performing.{Gives, printing, IsWorking}
+use Rattle.pr_basic.specs.Statements.{Setting, Effect, status_of, printed_bytes, stopping, commanding, unlistening, opening, effect_of}
+use Rattle.pr_basic.specs.Performing.{Gives, printing, IsWorking, Performs, with_effect, setting_of}
 use Rattle.pr_basic.proofs.PrintingLemmas.{AddingLaws, printing_on_bus}
 
 -- an effect with the status found is its elements added, and what else it changes
@@ -99,7 +100,7 @@ clrchn_on_bus new above = ap (λ t. record (cond t (adding (unlisten ∷ []) new
 pub unlistened : AddingLaws → (e : Effect) (old new : Seen) → IsWorking old → Commanded old new e → 3 < new.output → Unlistened old new e
 unlistened laws e old new working done above =
     let ends : Effect = record e { elements = e.elements ++ unlisten ∷ []; after = record { files = e.after.files; channel = 0; output = 3 } } in
-    let is : unlistening e ≡ record e { elements = e.elements ++ unlisten ∷ []; after = record { files = e.after.files; channel = 0; output = 3 } } = ap (λ s. unlistening_unless s e) done.goes_on in
+    let is : unlistening e ≡ record e { elements = e.elements ++ unlisten ∷ []; after = record { files = e.after.files; channel = 0; output = 3 } } = ap (λ s. cond (is_some s) e (record e { elements = e.elements ++ unlisten ∷ []; after = record { files = e.after.files; channel = 0; output = 3 } })) done.goes_on in
     let now : new ≡ record (adding e.elements old) { files = e.after.files; output = e.after.output; screen = old.screen ++ e.screen } = done.gives ∙ effect_adding e old working in
     record {
       goes_on = ap (λ (f : Effect). f.stop) is ∙ done.goes_on;
@@ -206,13 +207,14 @@ commanding_channel present found before at number line None = refl
 commanding_channel present found before at number line (Some file) = commanding_channel_at (status_of present found before (before ++ listen_to file ∷ []) == 128) (listen_to file ∷ []) (printed_bytes line number) at number file.device
 
 -- the channel number after PRINT#, by whether its CMD stops
-unlistening_channel_at : (s : Option Stop) (e : Effect) (n : ℕ) → s ≡ e.stop → e.after.channel ≡ cond (is_some e.stop) 0 n → (unlistening_unless s e).after.channel ≡ 0
-unlistening_channel_at None e n is h = refl
-unlistening_channel_at (Some stop) e n is h = h ∙ ap (λ t. cond (is_some t) 0 n) (sym is)
+unlistening_channel_at : (stops : Bool) (e : Effect) (n : ℕ) → is_some e.stop ≡ stops → e.after.channel ≡ cond (is_some e.stop) 0 n
+    → let after : Effect = cond stops e (record e { elements = e.elements ++ unlisten ∷ []; after = record { files = e.after.files; channel = 0; output = 3 } }) in after.after.channel ≡ 0
+unlistening_channel_at false e n is h = refl
+unlistening_channel_at true e n is h = h ∙ ap (λ b. cond b 0 n) is
 
 -- the channel number after PRINT#
 pub unlistening_channel : (e : Effect) (n : ℕ) → e.after.channel ≡ cond (is_some e.stop) 0 n → (unlistening e).after.channel ≡ 0
-unlistening_channel e n h = unlistening_channel_at e.stop e n refl h
+unlistening_channel e n h = unlistening_channel_at (is_some e.stop) e n refl h
 
 -- the channels with another status work as before
 pub begun_working : (old mid : Seen) (found : ℕ) → mid ≡ record old { status = found } → (old.failed ≡ false → old.sent ≡ items_of old.elements) → old.failed ≡ false → IsWorking mid

@@ -7,8 +7,8 @@ use Rattle.pr_channels.specs.Calls.{adding, chrout_of}
 use Rattle.pr_channels.specs.Laws.{AddingInTwoParts, AddingNone}
 use Rattle.std.proofs.lemmas.Bool.{lt-ltb, le-ltb}
 use Rattle.pr_basic.specs.Text.{Text}
-use Rattle.pr_basic.specs.Statements.{ChangesScreenAlone, printed_bytes}
-use Rattle.pr_basic.specs.Performing.{printing, IsWorking}
+use Rattle.pr_basic.specs.Statements.{printed_bytes}
+use Rattle.pr_basic.specs.Performing.{printing, IsWorking, ChangesScreenAlone}
 
 -- elements added in two parts, and none added
 pub record AddingLaws : Type 0 where

@@ -1,25 +1,25 @@
 -- A file's device is missing exactly if the LISTEN isn't answered, or the byte directly before it isn't; where the status is kept, if the LISTEN or an item before it isn't.
-use Rattle.std.proofs.Common.{◌≡◌, ℕ, ◌+◌, Bool, true, false, not, cond, ◌||◌, ◌==◌, nat_lt, Option, Some, None, List, [], ◌∷◌, ◌++◌, length, map, refl, ap, ◌∙◌}
+use Rattle.std.proofs.Common.{◌≡◌, ℕ, ◌+◌, Bool, true, false, not, cond, ◌||◌, ◌==◌, nat_lt, Option, Some, None, is_some, List, [], ◌∷◌, ◌++◌, length, map, refl, ap, ◌∙◌}
 use Rattle.std.specs.List.{list_any}
 use Rattle.pr_serial.specs.declared.Present.{Present}
 use Rattle.pr_serial.specs.declared.Item.{Item}
 use Rattle.pr_serial.specs.declared.Item.TheVariants as item
 use Rattle.pr_serial.specs.Elements.{Element, Attention, Byte}
-use Rattle.pr_serial.specs.Items.{items_of, held_of}
+use Rattle.pr_serial.specs.Items.{items_of}
 use Rattle.pr_serial.specs.Answers.{is_answered, is_lacking}
-use Rattle.pr_serial.specs.Steps.{flushed, answers_after}
+use Rattle.pr_serial.specs.Steps.{flushed, answers_after, held_of}
 use Rattle.pr_serial.specs.Laws.{ItemsOfOneMore, ItemsOnlyGrow, LackingAmongLater, LackingInTwoParts}
 use Rattle.pr_channels.specs.declared.file.File.{File}
 use Rattle.pr_channels.specs.declared.faults.Stop.{Stop}
 use Rattle.pr_channels.specs.declared.faults.Stop.TheVariants.{DeviceNotPresent}
 use Rattle.pr_channels.specs.Files.{file_at, open_stop}
-use Rattle.pr_channels.specs.Calls.{listen_to, second_from}
+use Rattle.pr_channels.specs.Commands.{listen_to, second_from, unlisten}
 use Rattle.pr_basic.specs.Text.{Text}
 use Rattle.pr_basic.specs.declared.statement.Statement.{Statement}
 use Rattle.pr_basic.specs.declared.statement.Statement.TheVariants.{OpenFile, Cmd, PrintTo, Print, CloseFile, Rem}
 use Rattle.pr_basic.specs.declared.session.StatusMode.{StatusMode}
 use Rattle.pr_basic.specs.declared.session.StatusMode.TheVariants.{Each, Kept}
-use Rattle.pr_basic.specs.Statements.{Setting, Effect, status_of, printed_bytes, stopping, commanding, unlistening_unless, opening, effect_of}
+use Rattle.pr_basic.specs.Statements.{Setting, Effect, status_of, printed_bytes, stopping, commanding, opening, effect_of}
 use Rattle.pr_basic.specs.Runs.{found_of}
 use Rattle.pr_basic.specs.StatementLaws.{is_byte_unanswered, is_missing, command_stop, stop_in}
 use Rattle.pr_basic.proofs.KeptLaw.{kept_status}
@@ -83,9 +83,10 @@ commanding_stop laws mode present before at number line (Some file) =
     ∙ ap (λ b. cond b (Some DeviceNotPresent) None) (missing_by laws mode present before file)
 
 -- UNLISTEN leaves the stop
-unlistening_stop_at : (s : Option Stop) (e : Effect) → (unlistening_unless s e).stop ≡ e.stop
-unlistening_stop_at None e = refl
-unlistening_stop_at (Some stop) e = refl
+unlistening_stop_at : (stops : Bool) (e : Effect)
+    → let after : Effect = cond stops e (record e { elements = e.elements ++ unlisten ∷ []; after = record { files = e.after.files; channel = 0; output = 3 } }) in after.stop ≡ e.stop
+unlistening_stop_at false e = refl
+unlistening_stop_at true e = refl
 
 -- the stop of OPEN
 opening_stop : (stop : Option Stop) (file : File) (at : Setting) → (opening stop file at).stop ≡ stop
@@ -104,7 +105,7 @@ stops_exactly laws mode present before at (OpenFile file device second) = openin
 stops_exactly laws mode present before at (Cmd file line) = commanding_stop laws mode present before at file line (file_at at.files file)
 stops_exactly laws mode present before at (PrintTo file line) =
     let e = commanding present (found_of mode present before) before at file line (file_at at.files file) in
-    unlistening_stop_at e.stop e ∙ commanding_stop laws mode present before at file line (file_at at.files file)
+    unlistening_stop_at (is_some e.stop) e ∙ commanding_stop laws mode present before at file line (file_at at.files file)
 stops_exactly laws mode present before at (Print line) = print_stop (nat_lt 3 at.output) (printed_bytes line at.channel) at
 stops_exactly laws mode present before at (CloseFile file) = refl
 stops_exactly laws mode present before at Rem = refl

@@ -1,7 +1,8 @@
 -- Trusted: the first fault of a script, from the left: what stands before it is in the grammar, and there a rule of the table of faults holds.
 use Rattle.std.specs.Prelude.{◌≡◌, ℕ, ◌+◌, ◌-◌, ◌≤◌, ◌<◌, ◌⊎◌, Bool, true, false, List, [], ◌∷◌, ◌++◌, length}
 use Rattle.std.specs.List.{list_all}
-use Rattle.pr_basic.specs.Limits.{byte_limit, statement_limit}
+use Rattle.pr_basic.specs.Limits.{statement_limit}
+use Rattle.pr_basic.specs.ListLimit.{byte_limit}
 use Rattle.pr_basic.specs.Lexemes.{AreLexemes, Lexeme, Word, Remark, Digits, Quoted, Comma, Semicolon, OpenParen, CloseParen}
 use Rattle.pr_basic.specs.Grammar.{Item, AreItems, AreLines, AreParts, HasNumber, is_printable, items_bytes, items_lexemes, lines_of, number_of, parts, without_return}
 use Rattle.pr_basic.specs.declared.lexemes.Keyword.{Keyword}
@@ -83,7 +84,8 @@ IsFaultOutsideLists UnknownWord part = ((l : Lexeme) × (ls : List Lexeme) × (p
 -- a file that is missing or above 255
 IsFaultOutsideLists BadNumber part = (k : Keyword) × (ls : List Lexeme) × (part ≡ Word k ∷ ls) × (takes_file k ≡ true) × NoNumber 0 255 ls
 -- in OPEN no comma after the file, or no device of 4 to 30 after it
-IsFaultOutsideLists BadDevice part = (ls : List Lexeme) × AfterFile word.Open part ls × ((rest : List Lexeme) → ls ≡ Comma ∷ rest → NoNumber 4 30 rest)
+IsFaultOutsideLists BadDevice part = (ls : List Lexeme) × AfterFile word.Open part ls
+    × ((rest : List Lexeme) → ls ≡ Comma ∷ rest → NoNumber 4 30 rest)
 -- after OPEN's second comma no secondary address of at most 15
 IsFaultOutsideLists BadSecond part = (ls : List Lexeme) × AfterDevice part (Comma ∷ ls) × NoNumber 0 15 ls
 IsFaultOutsideLists f part = ⊥
@@ -93,7 +95,8 @@ abbrev pub IsItemFault : LineFault → ℕ → List Lexeme → Type 0
 -- what begins no item; a missing parenthesis
 IsItemFault UnknownWord n next = ((l : Lexeme) × (rest : List Lexeme) × (next ≡ l ∷ rest) × (begins_item l ≡ false))
     ⊎ (((rest : List Lexeme) × (next ≡ Word word.Chr ∷ rest) × Lacks OpenParen rest)
-    ⊎ ((ds : List ℕ) × (rest : List Lexeme) × (next ≡ Word word.Chr ∷ OpenParen ∷ Digits ds ∷ rest) × (number_of ds ≤ 255) × Lacks CloseParen rest))
+    ⊎ ((ds : List ℕ) × (rest : List Lexeme) × (next ≡ Word word.Chr ∷ OpenParen ∷ Digits ds ∷ rest)
+    × (number_of ds ≤ 255) × Lacks CloseParen rest))
 -- no digits in CHR$
 IsItemFault BadNumber n next = (rest : List Lexeme) × (next ≡ Word word.Chr ∷ OpenParen ∷ rest) × ((ds : List ℕ) → Lacks (Digits ds) rest)
 -- a byte outside 32 to 126 in a string, after at most 255 bytes; a CHR$ of more than 255
@@ -103,7 +106,8 @@ IsItemFault BadByte n next = ((good : List ℕ) × (b : ℕ) × (more : List ℕ
 -- the 256th byte: one of a string that may stand there, or that of a whole CHR$
 IsItemFault TooLong n next = ((good : List ℕ) × (b : ℕ) × (more : List ℕ) × (rest : List Lexeme) × (next ≡ Quoted (good ++ b ∷ more) ∷ rest)
     × (list_all is_printable good ≡ true) × (is_printable b ≡ true) × (n + length good ≡ byte_limit))
-    ⊎ ((ds : List ℕ) × (rest : List Lexeme) × (next ≡ Word word.Chr ∷ OpenParen ∷ Digits ds ∷ CloseParen ∷ rest) × (number_of ds ≤ 255) × (n ≡ byte_limit))
+    ⊎ ((ds : List ℕ) × (rest : List Lexeme) × (next ≡ Word word.Chr ∷ OpenParen ∷ Digits ds ∷ CloseParen ∷ rest)
+    × (number_of ds ≤ 255) × (n ≡ byte_limit))
 IsItemFault f n next = ⊥
 
 -- good items, of at most 255 bytes, and then a fault, in a list of which so many bytes stand already
@@ -125,7 +129,8 @@ BeginsStatement part = (l : Lexeme) × (ls : List Lexeme) × (part ≡ l ∷ ls)
 
 -- the first fault of a part of a line, where there is room for so many more statements: where there is none, a statement's keyword is one
 abbrev pub IsPartFault : ℕ → LineFault → List Lexeme → Type 0
-IsPartFault room f part = ((f ≡ TooMany) × (room ≡ 0) × BeginsStatement part) ⊎ (IsStatementFault f part × (room ≡ 0 → BeginsStatement part → ⊥))
+IsPartFault room f part = ((f ≡ TooMany) × (room ≡ 0) × BeginsStatement part)
+    ⊎ (IsStatementFault f part × (room ≡ 0 → BeginsStatement part → ⊥))
 
 -- good parts, no more statements than there is room for, and then a part with a fault
 pub record ArePartsFault (room : ℕ) (f : LineFault) (ps : List (List Lexeme)) : Type 0 where
@@ -169,4 +174,5 @@ at_number NoMemory n = script.NoMemory
 
 -- this is the first fault of the bytes, with the number of its line from 1
 abbrev pub IsFirstFault : List ℕ → ScriptFault → Type 0
-IsFirstFault bytes fault = (f : LineFault) × (place : ℕ) × AreLinesFault statement_limit f place (lines_of bytes) × (fault ≡ at_number f (place + 1))
+IsFirstFault bytes fault = (f : LineFault) × (place : ℕ)
+    × AreLinesFault statement_limit f place (lines_of bytes) × (fault ≡ at_number f (place + 1))

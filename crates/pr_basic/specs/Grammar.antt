@@ -1,7 +1,8 @@
 -- Trusted: the grammar of scripts: which bytes are a script of which statements. It says nothing of faults, and nothing of how a script is read.
 use Rattle.std.specs.Prelude.{◌≡◌, ℕ, ◌+◌, ◌-◌, ◌*◌, ◌≤◌, ◌<◌, ◌⊎◌, ◌&&◌, ◌==◌, Bool, true, false, List, [], ◌∷◌, ◌++◌, length, Some, None, nat_le, if◌then◌else◌}
 use Rattle.std.specs.List.{list_all}
-use Rattle.pr_basic.specs.Limits.{byte_limit, statement_limit}
+use Rattle.pr_basic.specs.Limits.{statement_limit}
+use Rattle.pr_basic.specs.ListLimit.{byte_limit}
 use Rattle.pr_basic.specs.Text.{Text}
 use Rattle.pr_basic.specs.Lexemes.{AreLexemes, Lexeme, Word, Remark, Digits, Quoted, Comma, Semicolon, Colon, OpenParen, CloseParen}
 use Rattle.pr_basic.specs.declared.lexemes.Keyword.{Keyword}
@@ -89,9 +90,11 @@ IsPrinting k file line lexemes = (f : List ℕ) × IsNumber 0 255 file f
 
 -- the lexemes are a statement's
 abbrev pub IsStatement : Statement → List Lexeme → Type 0
-IsStatement (OpenFile file device None) lexemes = (f : List ℕ) × (d : List ℕ) × (lexemes ≡ Word word.Open ∷ Digits f ∷ Comma ∷ Digits d ∷ [])
+IsStatement (OpenFile file device None) lexemes = (f : List ℕ) × (d : List ℕ)
+    × (lexemes ≡ Word word.Open ∷ Digits f ∷ Comma ∷ Digits d ∷ [])
     × IsNumber 0 255 file f × IsNumber 4 30 device d
-IsStatement (OpenFile file device (Some second)) lexemes = (f : List ℕ) × (d : List ℕ) × (s : List ℕ) × (lexemes ≡ Word word.Open ∷ Digits f ∷ Comma ∷ Digits d ∷ Comma ∷ Digits s ∷ [])
+IsStatement (OpenFile file device (Some second)) lexemes = (f : List ℕ) × (d : List ℕ) × (s : List ℕ)
+    × (lexemes ≡ Word word.Open ∷ Digits f ∷ Comma ∷ Digits d ∷ Comma ∷ Digits s ∷ [])
     × IsNumber 0 255 file f × IsNumber 4 30 device d × IsNumber 0 15 second s
 IsStatement (CloseFile file) lexemes = (f : List ℕ) × (lexemes ≡ Word word.Close ∷ Digits f ∷ []) × IsNumber 0 255 file f
 IsStatement (Cmd file line) lexemes = IsPrinting word.Cmd file line lexemes
@@ -102,7 +105,8 @@ IsStatement Rem lexemes = (rest : List Lexeme) × (lexemes ≡ Remark ∷ rest)
 -- each part of a line is empty or a statement
 abbrev pub AreParts : List (List Lexeme) → List Statement → Type 0
 AreParts [] ss = ss ≡ []
-AreParts (p ∷ ps) ss = ((p ≡ []) × AreParts ps ss) ⊎ ((s : Statement) × (more : List Statement) × IsStatement s p × (ss ≡ s ∷ more) × AreParts ps more)
+AreParts (p ∷ ps) ss = ((p ≡ []) × AreParts ps ss)
+    ⊎ ((s : Statement) × (more : List Statement) × IsStatement s p × (ss ≡ s ∷ more) × AreParts ps more)
 
 -- an element put in front of the first list
 abbrev pub onto_first : {A : Type 0} → A → List (List A) → List (List A)
@@ -122,7 +126,8 @@ HasNumber lexemes rest = ((lexemes ≡ rest) × ((ds : List ℕ) (more : List Le
 
 -- a line without its end: perhaps a number, then statements parted by colons
 abbrev pub IsLine : List ℕ → List Statement → Type 0
-IsLine line ss = (lexemes : List Lexeme) × (rest : List Lexeme) × AreLexemes line lexemes × HasNumber lexemes rest × AreParts (parts rest) ss
+IsLine line ss = (lexemes : List Lexeme) × (rest : List Lexeme)
+    × AreLexemes line lexemes × HasNumber lexemes rest × AreParts (parts rest) ss
 
 -- the lines of a text: each ends with byte 10, the last with the text; a text that ends with byte 10 has no further line
 unfoldable pub lines_of : List ℕ → List (List ℕ)
@@ -138,7 +143,8 @@ without_return (b ∷ c ∷ bs) = b ∷ without_return (c ∷ bs)
 -- the statements of lines, one line after another
 abbrev pub AreLines : List (List ℕ) → List Statement → Type 0
 AreLines [] ss = ss ≡ []
-AreLines (l ∷ ls) ss = (first : List Statement) × (more : List Statement) × IsLine (without_return l) first × (ss ≡ first ++ more) × AreLines ls more
+AreLines (l ∷ ls) ss = (first : List Statement) × (more : List Statement)
+    × IsLine (without_return l) first × (ss ≡ first ++ more) × AreLines ls more
 
 -- the bytes are a script of these statements: those of its lines, as many as the limit at most
 abbrev pub IsScript : List ℕ → List Statement → Type 0

@@ -79,4 +79,5 @@ IsLexeme l bytes after = Spells l bytes after ⊎ ((l ≡ Stray) × IsStray byte
 -- a line's bytes are these lexemes, with spaces around them
 abbrev pub AreLexemes : List ℕ → List Lexeme → Type 0
 AreLexemes line [] = list_all is_space line ≡ true
-AreLexemes line (l ∷ ls) = (spaces : List ℕ) × (bytes : List ℕ) × (after : List ℕ) × (line ≡ spaces ++ (bytes ++ after)) × (list_all is_space spaces ≡ true) × IsLexeme l bytes after × AreLexemes after ls
+AreLexemes line (l ∷ ls) = (spaces : List ℕ) × (bytes : List ℕ) × (after : List ℕ)
+    × (line ≡ spaces ++ (bytes ++ after)) × (list_all is_space spaces ≡ true) × IsLexeme l bytes after × AreLexemes after ls

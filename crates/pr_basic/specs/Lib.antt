@@ -1,4 +1,5 @@
 pub mod Limits
+pub mod ListLimit
 pub mod Text
 pub mod Statements
 pub mod Runs

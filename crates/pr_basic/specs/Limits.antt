@@ -1,10 +1,6 @@
--- Trusted: the limits of a script (profile).
+-- Trusted: the limit of a script (profile).
 use Rattle.std.specs.Prelude.{ℕ}
 
 -- the most statements of a script
 abbrev pub statement_limit : ℕ
 statement_limit = 1000000
-
--- the most bytes of a list
-abbrev pub byte_limit : ℕ
-byte_limit = 255

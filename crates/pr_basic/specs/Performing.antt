@@ -1,11 +1,56 @@
--- Linking words: what the parts of a statement do to the channels. No reader needs to believe them.
+-- Linking words: what a statement and its parts do to the channels. No reader needs to believe them.
 use Rattle.std.specs.Prelude.{◌≡◌, ℕ, false, nat_lt, Option, List, ◌++◌, map, if◌then◌else◌}
 use Rattle.pr_serial.specs.Elements.{Byte}
 use Rattle.pr_serial.specs.Items.{items_of}
 use Rattle.pr_channels.specs.declared.faults.Stop.{Stop}
+use Rattle.pr_channels.specs.Files.{file_at}
 use Rattle.pr_channels.specs.Seen.{Seen}
 use Rattle.pr_channels.specs.Calls.{adding}
-use Rattle.pr_basic.specs.Statements.{Effect, with_effect}
+use Rattle.pr_basic.specs.declared.session.StatusMode.{StatusMode}
+use Rattle.pr_basic.specs.declared.session.StatusMode.TheVariants.{Each, Kept}
+use Rattle.pr_basic.specs.Text.{Text}
+use Rattle.pr_basic.specs.declared.statement.Statement.{Statement}
+use Rattle.pr_basic.specs.Statements.{Setting, Effect, status_of, commanding, effect_of}
+
+-- what stands before a statement, as the channels and the channel number show it
+abbrev pub setting_of : Seen → ℕ → Setting
+setting_of seen channel = record { files = seen.files; channel = channel; output = seen.output }
+
+-- the status that a statement finds where this one was left: 0, unless the status is kept
+abbrev pub found_by : StatusMode → ℕ → ℕ
+found_by Each left = 0
+found_by Kept left = left
+
+-- what a statement gives on these channels, with the status found and the channel number
+abbrev pub effect_on : Seen → ℕ → ℕ → Statement → Effect
+effect_on seen found channel statement = effect_of seen.present found seen.elements (setting_of seen channel) statement
+
+-- what CMD gives on these channels, with their status and the channel number
+abbrev pub commanding_on : Seen → ℕ → ℕ → Text → Effect
+commanding_on seen channel number line =
+    commanding seen.present seen.status seen.elements (setting_of seen channel) number line (file_at seen.files number)
+
+-- the channels, once a statement has given this, with the status found
+abbrev pub with_effect : ℕ → Effect → Seen → Seen
+with_effect found e old = record old {
+  elements = old.elements ++ e.elements;
+  sent = items_of (old.elements ++ e.elements);
+  status = status_of old.present found old.elements (old.elements ++ e.elements);
+  files = e.after.files;
+  output = e.after.output;
+  screen = old.screen ++ e.screen;
+}
+
+-- the effect's stop is answered, and the channels are those that it leaves
+pub record Gives (old new : Seen) (answer : Option Stop) (e : Effect) : Type 0 where
+  pub stop : answer ≡ e.stop
+  pub channels : new ≡ with_effect old.status e old
+
+-- the same for a statement that finds this status, with the channel number that it leaves
+pub record Performs (old new : Seen) (found number : ℕ) (answer : Option Stop) (e : Effect) : Type 0 where
+  pub stop : answer ≡ e.stop
+  pub channel : number ≡ e.after.channel
+  pub channels : new ≡ with_effect found e old
 
 -- bytes printed to the output device
 abbrev pub printing : List ℕ → Seen → Seen
@@ -16,7 +61,6 @@ pub record IsWorking (seen : Seen) : Type 0 where
   pub works : seen.failed ≡ false
   pub in_step : seen.sent ≡ items_of seen.elements
 
--- the effect's stop is answered, and the channels are those that it leaves
-pub record Gives (old new : Seen) (answer : Option Stop) (e : Effect) : Type 0 where
-  pub stop : answer ≡ e.stop
-  pub channels : new ≡ with_effect old.status e old
+-- all but the screen's list is as before
+abbrev pub ChangesScreenAlone : Seen → Seen → Type 0
+ChangesScreenAlone old new = new ≡ record old { screen = new.screen }

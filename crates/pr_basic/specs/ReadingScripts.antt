@@ -49,7 +49,8 @@ at_line n (Ok x) = Ok x
 at_line n (Err e) = Err (e, n)
 
 -- what follows, unless there was a fault
-abbrev pub then_more : Result (List Statement) (LineFault × ℕ) → (List Statement → Result (List Statement) (LineFault × ℕ)) → Result (List Statement) (LineFault × ℕ)
+abbrev pub then_more : Result (List Statement) (LineFault × ℕ)
+    → (List Statement → Result (List Statement) (LineFault × ℕ)) → Result (List Statement) (LineFault × ℕ)
 then_more (Ok ss) more = more ss
 then_more (Err e) more = Err e
 

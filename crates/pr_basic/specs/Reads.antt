@@ -41,7 +41,8 @@ Fails fault.TooMany said = said ≡ Err fault.TooMany
 
 -- the list that went on with a lexeme and the bytes behind it goes on with the rest
 abbrev pub TakesItem : Text → Text → Lexeme → List ℕ → Bor (List ℕ) → Type 0
-TakesItem old new l bytes rest = (line_in old.bytes old.ends (l ∷ here bytes) ≡ line_in new.bytes new.ends (here rest.now)) × (later rest.now ≡ later bytes) × (length rest.now ≤ length bytes)
+TakesItem old new l bytes rest = (line_in old.bytes old.ends (l ∷ here bytes) ≡ line_in new.bytes new.ends (here rest.now))
+    × (later rest.now ≡ later bytes) × (length rest.now ≤ length bytes)
 
 -- a whole part, of which a list was read
 abbrev pub ReadsLine : Result (Text × Bor (List ℕ)) LineFault → Result Text LineFault → List Lexeme → Type 0

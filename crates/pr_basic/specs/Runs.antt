@@ -1,6 +1,7 @@
--- Trusted: what a list of statements gives.
+-- Trusted: what a list of statements gives and sends.
 use Rattle.std.specs.Prelude.{ℕ, ◌+◌, if◌then◌else◌, Option, Some, None, List, [], ◌∷◌, ◌++◌}
 use Rattle.pr_serial.specs.declared.Present.{Present}
+use Rattle.pr_serial.specs.declared.Item.{Item}
 use Rattle.pr_serial.specs.Elements.{Element}
 use Rattle.pr_serial.specs.Items.{items_of}
 use Rattle.pr_serial.specs.Answers.{is_lacking}
@@ -34,8 +35,13 @@ run_from mode present place before at [] = record { elements = before; statuses 
 run_from mode present place before at (statement ∷ statements) =
     let found = found_of mode present before in
     let e = effect_of present found before at statement in
-    run_after place before (status_of present found before (before ++ e.elements)) e e.stop (run_from mode present (place + 1) (before ++ e.elements) e.after statements)
+    let all = before ++ e.elements in
+    run_after place before (status_of present found before all) e e.stop (run_from mode present (place + 1) all e.after statements)
 
 -- a whole run: no file is open, the channel number is 0, and the screen is the output device
 abbrev pub run_of : StatusMode → Present → List Statement → Run
 run_of mode present statements = run_from mode present 1 [] (record { files = []; channel = 0; output = 3 }) statements
+
+-- the items that a run sends
+abbrev pub items_sent : StatusMode → Present → List Statement → List Item
+items_sent mode present statements = items_of (run_of mode present statements).elements

@@ -4,18 +4,20 @@ use Rattle.pr_serial.specs.declared.Present.{Present}
 use Rattle.pr_serial.specs.declared.Item.{Item}
 use Rattle.pr_serial.specs.declared.Item.TheVariants as item
 use Rattle.pr_serial.specs.Elements.{Element}
-use Rattle.pr_serial.specs.Items.{items_of, held_of}
+use Rattle.pr_serial.specs.Items.{items_of}
+use Rattle.pr_serial.specs.Steps.{held_of}
 use Rattle.pr_serial.specs.Answers.{is_answered, is_lacking}
 use Rattle.pr_channels.specs.declared.file.File.{File}
 use Rattle.pr_channels.specs.declared.faults.Stop.{Stop}
 use Rattle.pr_channels.specs.declared.faults.Stop.TheVariants.{FileNotOpen, DeviceNotPresent}
 use Rattle.pr_channels.specs.Files.{file_at, open_stop}
-use Rattle.pr_channels.specs.Calls.{second_from, listen_to}
+use Rattle.pr_channels.specs.Commands.{second_from, listen_to}
 use Rattle.pr_basic.specs.declared.statement.Statement.{Statement}
 use Rattle.pr_basic.specs.declared.statement.Statement.TheVariants.{OpenFile, Cmd, PrintTo, Print, CloseFile, Rem}
 use Rattle.pr_basic.specs.declared.session.StatusMode.{StatusMode}
 use Rattle.pr_basic.specs.declared.session.StatusMode.TheVariants.{Each, Kept}
-use Rattle.pr_basic.specs.Statements.{Setting, effect_of, status_of, found_by}
+use Rattle.pr_basic.specs.Statements.{Setting, effect_of, status_of}
+use Rattle.pr_basic.specs.Performing.{found_by}
 use Rattle.pr_basic.specs.Runs.{found_of}
 
 -- the items sent in a statement: those after the items of what stood before it
@@ -61,7 +63,8 @@ StopsExactly = (mode : StatusMode) (present : Present) (before : List Element) (
 -- the status of a statement is 128 exactly where such an item isn't answered, else 0
 abbrev pub StatusExactly : Type 0
 StatusExactly = (mode : StatusMode) (present : Present) (before es : List Element) →
-    status_of present (found_of mode present before) before (before ++ es) ≡ (if is_unanswered_in mode present before (before ++ es) then 128 else 0)
+    status_of present (found_of mode present before) before (before ++ es)
+    ≡ (if is_unanswered_in mode present before (before ++ es) then 128 else 0)
 
 -- the next statement finds the status that this one leaves, or 0
 abbrev pub StatusFoundNext : Type 0

@@ -1,5 +1,5 @@
 -- Trusted: what one statement gives.
-use Rattle.std.specs.Prelude.{◌≡◌, ℕ, ◌==◌, nat_lt, nat_le, Option, Some, None, List, [], ◌∷◌, ◌++◌, length, map, if◌then◌else◌}
+use Rattle.std.specs.Prelude.{ℕ, ◌==◌, nat_lt, nat_le, Option, Some, None, is_some, List, [], ◌∷◌, ◌++◌, length, map, if◌then◌else◌}
 use Rattle.pr_serial.specs.declared.Present.{Present}
 use Rattle.pr_serial.specs.Elements.{Element, Byte}
 use Rattle.pr_serial.specs.Items.{items_of}
@@ -8,13 +8,10 @@ use Rattle.pr_channels.specs.declared.file.File.{File}
 use Rattle.pr_channels.specs.declared.faults.Stop.{Stop}
 use Rattle.pr_channels.specs.declared.faults.Stop.TheVariants.{FileNotOpen, DeviceNotPresent}
 use Rattle.pr_channels.specs.Files.{Files, file_at, without_file, open_stop}
-use Rattle.pr_channels.specs.Seen.{Seen}
-use Rattle.pr_channels.specs.Calls.{listen_to, unlisten, closing}
+use Rattle.pr_channels.specs.Commands.{listen_to, unlisten, closing}
 use Rattle.pr_basic.specs.Text.{Text}
 use Rattle.pr_basic.specs.declared.statement.Statement.{Statement}
 use Rattle.pr_basic.specs.declared.statement.Statement.TheVariants.{OpenFile, Cmd, PrintTo, Print, CloseFile, Rem}
-use Rattle.pr_basic.specs.declared.session.StatusMode.{StatusMode}
-use Rattle.pr_basic.specs.declared.session.StatusMode.TheVariants.{Each, Kept}
 
 -- what a line prints under a channel number: its bytes, a return if it ends, and after it a line feed from channel 128 on
 abbrev pub printed_bytes : Text → ℕ → List ℕ
@@ -61,13 +58,10 @@ commanding present found before at number line (Some file) =
     }
 
 -- UNLISTEN after an effect, unless that is a stop; then the channel number is 0 and the screen is the output device
-abbrev pub unlistening_unless : Option Stop → Effect → Effect
-unlistening_unless None e =
-    record e { elements = e.elements ++ unlisten ∷ []; after = record { files = e.after.files; channel = 0; output = 3 } }
-unlistening_unless (Some stop) e = e
-
 abbrev pub unlistening : Effect → Effect
-unlistening e = unlistening_unless e.stop e
+unlistening e =
+    if is_some e.stop then e
+    else record e { elements = e.elements ++ unlisten ∷ []; after = record { files = e.after.files; channel = 0; output = 3 } }
 
 -- OPEN: nothing is sent
 abbrev pub opening : Option Stop → File → Setting → Effect
@@ -85,35 +79,6 @@ effect_of present found before at (Print line) =
     then record { elements = map Byte (printed_bytes line at.channel); screen = []; stop = None; after = at }
     else record { elements = []; screen = printed_bytes line at.channel; stop = None; after = at }
 effect_of present found before at (CloseFile file) =
-    record { elements = closing (file_at at.files file); screen = []; stop = None; after = record at { files = without_file file at.files } }
+    let left = without_file file at.files in
+    record { elements = closing (file_at at.files file); screen = []; stop = None; after = record at { files = left } }
 effect_of present found before at Rem = record { elements = []; screen = []; stop = None; after = at }
-
--- the channels, once a statement has given this, with the status found
-abbrev pub with_effect : ℕ → Effect → Seen → Seen
-with_effect found e old = record old {
-  elements = old.elements ++ e.elements;
-  sent = items_of (old.elements ++ e.elements);
-  status = status_of old.present found old.elements (old.elements ++ e.elements);
-  files = e.after.files;
-  output = e.after.output;
-  screen = old.screen ++ e.screen;
-}
-
--- what stands before a statement, as the channels and the channel number show it
-abbrev pub setting_of : Seen → ℕ → Setting
-setting_of seen channel = record { files = seen.files; channel = channel; output = seen.output }
-
--- the status that a statement finds where this one was left: 0, unless the status is kept
-abbrev pub found_by : StatusMode → ℕ → ℕ
-found_by Each left = 0
-found_by Kept left = left
-
--- the same for a statement that finds this status, with the channel number that it leaves
-pub record Performs (old new : Seen) (found number : ℕ) (answer : Option Stop) (e : Effect) : Type 0 where
-  pub stop : answer ≡ e.stop
-  pub channel : number ≡ e.after.channel
-  pub channels : new ≡ with_effect found e old
-
--- all but the screen's list is as before
-abbrev pub ChangesScreenAlone : Seen → Seen → Type 0
-ChangesScreenAlone old new = new ≡ record old { screen = new.screen }

@@ -153,7 +153,8 @@ fn front(bytes: &[u8]) -> (Lexeme<'_>, usize)
 
 /// The next lexeme, and the bytes after it. None where only spaces are left.
 pub fn next_lexeme(bytes: &[u8]) -> Option<(Lexeme<'_>, &[u8])>
-    ensures { MatchOption result (lexemes_of bytes.now ≡ []) (λ r. (lexemes_of bytes.now ≡ seen r.0 ∷ lexemes_of r.1.now) × (length r.1.now < length bytes.now)) }
+    ensures { MatchOption result (lexemes_of bytes.now ≡ [])
+        (λ r. (lexemes_of bytes.now ≡ seen r.0 ∷ lexemes_of r.1.now) × (length r.1.now < length bytes.now)) }
 {
     let bytes = after_spaces(bytes);
     if bytes.is_empty() {
@@ -165,7 +166,8 @@ pub fn next_lexeme(bytes: &[u8]) -> Option<(Lexeme<'_>, &[u8])>
 
 /// The next lexeme of the statement at the front, and the bytes after it. None at its end.
 pub fn next_in_part(bytes: &[u8]) -> Option<(Lexeme<'_>, &[u8])>
-    ensures { MatchOption result (here bytes.now ≡ []) (λ r. (here bytes.now ≡ seen r.0 ∷ here r.1.now) × (later bytes.now ≡ later r.1.now) × (length r.1.now < length bytes.now)) }
+    ensures { MatchOption result (here bytes.now ≡ [])
+        (λ r. (here bytes.now ≡ seen r.0 ∷ here r.1.now) × (later bytes.now ≡ later r.1.now) × (length r.1.now < length bytes.now)) }
 {
     let Some((lexeme, rest)) = next_lexeme(bytes) else {
         return None;
@@ -178,7 +180,8 @@ pub fn next_in_part(bytes: &[u8]) -> Option<(Lexeme<'_>, &[u8])>
 
 /// The bytes after the colon that ends the statement at the front, if one does.
 pub fn after_colon(bytes: &[u8]) -> Option<&[u8]>
-    ensures { MatchOption result (later bytes.now ≡ []) (λ rest. (later bytes.now ≡ lexemes_of rest.now) × (length rest.now < length bytes.now)) }
+    ensures { MatchOption result (later bytes.now ≡ [])
+        (λ rest. (later bytes.now ≡ lexemes_of rest.now) × (length rest.now < length bytes.now)) }
 {
     let mut rest = bytes;
     while let Some((lexeme, more)) = next_lexeme(rest) {

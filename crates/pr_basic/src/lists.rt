@@ -2,7 +2,7 @@
 
 ghost use Rattle.std.specs.Prelude.{◌≡◌, ◌∷◌, ◌++◌, [], ◌<◌, ◌≤◌, length, true, Ok, IfOk, OnOk, OnErr, IfErr, MatchResult};
 ghost use Rattle.std.specs.List.{prefix_len};
-ghost use Rattle.pr_basic.specs.Limits.{byte_limit};
+ghost use Rattle.pr_basic.specs.ListLimit.{byte_limit};
 ghost use Rattle.pr_basic.specs.Grammar.{is_printable};
 ghost use Rattle.pr_basic.specs.Lexing.{here, later};
 ghost use Rattle.pr_basic.specs.Reading.{byte_added, chr_added, chr_in, line_in, string_added};
@@ -32,7 +32,8 @@ pub fn no_line(alloc: Global) -> Line
 #[tactic(auto, unfolding(crate::specs::Reading::byte_added))]
 fn add_byte(bytes: &mut Vec<u8>, b: u8) -> Result<(), LineFault>
     requires { length bytes.old.items ≤ byte_limit }
-    ensures added { MatchResult result (λ _. byte_added bytes.old.items b ≡ Ok bytes.new.items) (λ e. Fails e (byte_added bytes.old.items b)) }
+    ensures added { MatchResult result (λ _. byte_added bytes.old.items b ≡ Ok bytes.new.items)
+        (λ e. Fails e (byte_added bytes.old.items b)) }
     ensures short { length bytes.new.items ≤ byte_limit }
 {
     if bytes.len() >= BYTE_LIMIT {
@@ -59,7 +60,8 @@ fn printable_count(string: &[u8]) -> usize
 #[tactic(auto, unfolding(crate::specs::Reading::string_added))]
 fn add_string(bytes: &mut Vec<u8>, string: &[u8]) -> Result<(), LineFault>
     requires { length bytes.old.items ≤ byte_limit }
-    ensures added { MatchResult result (λ _. string_added bytes.old.items string.now ≡ Ok bytes.new.items) (λ e. Fails e (string_added bytes.old.items string.now)) }
+    ensures added { MatchResult result (λ _. string_added bytes.old.items string.now ≡ Ok bytes.new.items)
+        (λ e. Fails e (string_added bytes.old.items string.now)) }
     ensures short { length bytes.new.items ≤ byte_limit }
 {
     let good = printable_count(string);
@@ -94,7 +96,10 @@ fn chr(bytes: &[u8]) -> Result<(u32, &[u8]), LineFault>
 #[tactic(auto, unfolding(crate::specs::Reading::chr_added))]
 fn add_chr<'a>(bytes: &mut Vec<u8>, more: &'a [u8]) -> Result<&'a [u8], LineFault>
     requires { length bytes.old.items ≤ byte_limit }
-    ensures added { MatchResult result (λ rest. (chr_added bytes.old.items (here more.entry.now) ≡ Ok (bytes.new.items, here rest.now)) × (later rest.now ≡ later more.entry.now) × (length rest.now ≤ length more.entry.now)) (λ e. Fails e (chr_added bytes.old.items (here more.entry.now))) }
+    ensures added { MatchResult result
+        (λ rest. (chr_added bytes.old.items (here more.entry.now) ≡ Ok (bytes.new.items, here rest.now))
+        × (later rest.now ≡ later more.entry.now) × (length rest.now ≤ length more.entry.now))
+        (λ e. Fails e (chr_added bytes.old.items (here more.entry.now))) }
     ensures short { length bytes.new.items ≤ byte_limit }
 {
     let (n, rest) = chr(more)?;
@@ -105,7 +110,8 @@ fn add_chr<'a>(bytes: &mut Vec<u8>, more: &'a [u8]) -> Result<&'a [u8], LineFaul
 /// Takes one item of a list, of which this is the first lexeme.
 #[tactic(auto, using(crate::proofs::ListLaws::chr_step), unfolding(crate::specs::Reading::line_in))]
 fn list_item<'a>(line: &mut Line, lexeme: Lexeme<'a>, more: &'a [u8]) -> Result<&'a [u8], LineFault>
-    ensures { MatchResult result (TakesItem line.old line.new (seen lexeme.entry) more.entry.now) (λ e. Fails e (line_in line.old.bytes line.old.ends (seen lexeme.entry ∷ here more.entry.now))) }
+    ensures { MatchResult result (TakesItem line.old line.new (seen lexeme.entry) more.entry.now)
+        (λ e. Fails e (line_in line.old.bytes line.old.ends (seen lexeme.entry ∷ here more.entry.now))) }
 {
     match lexeme {
         Lexeme::Semicolon => {

@@ -3,12 +3,12 @@
 ghost use Rattle.std.specs.Prelude.{◌≡◌, ℕ, ◌+◌, ◌≤◌, ◌<◌, ◌^◌, ◌⊎◌, Bool, true, false, Option, Some, None, List, [], ◌∷◌, ◌++◌, length, map, IfOk, OnOk, OnErr, IsNone, is_some, if◌then◌else◌};
 ghost use Rattle.pr_serial.specs.Elements.{Byte};
 ghost use Rattle.pr_serial.specs.Items.{items_of};
-ghost use Rattle.pr_channels.specs.Files.{file_at, open_stop};
+ghost use Rattle.pr_channels.specs.Files.{open_stop};
 ghost use Rattle.pr_channels.specs.Seen.{Seen};
 ghost use Rattle.std.specs.Option.{ForSome};
 ghost use Rattle.pr_channels.specs.Calls.{adding, clrchn_of};
-ghost use Rattle.pr_basic.specs.Statements.{printed_bytes, effect_of, with_effect, setting_of, commanding, unlistening, opening, ChangesScreenAlone, Performs, found_by};
-ghost use Rattle.pr_basic.specs.Performing.{printing, Gives, IsWorking};
+ghost use Rattle.pr_basic.specs.Statements.{printed_bytes, unlistening, opening};
+ghost use Rattle.pr_basic.specs.Performing.{printing, Gives, IsWorking, setting_of, effect_on, commanding_on, ChangesScreenAlone, Performs, found_by};
 
 use crate::session::{Session, StatusMode};
 use crate::statement::{Device, Line, Second, Statement};
@@ -113,7 +113,7 @@ fn command<S: Serial>(
 ) -> Result<Option<Stop>, NoMemory>
     requires room { length channels.old.sent + 270 ≤ 2 ^ 32 }
     ensures ok { IfOk result (λ stop. IsWorking channels.old → (channel : ℕ) →
-        Gives channels.old channels.new stop (commanding channels.old.present channels.old.status channels.old.elements (setting_of channels.old channel) file line.now (file_at channels.old.files file))) }
+        Gives channels.old channels.new stop (commanding_on channels.old channel file line.now)) }
     ensures bus { IfOk result (λ stop. IsNone stop → 3 < channels.new.output) }
     ensures failed { OnOk result (channels.new.failed ≡ channels.old.failed) }
     ensures room { length channels.new.sent ≤ length channels.old.sent + 260 }
@@ -141,7 +141,7 @@ fn print_to<S: Serial>(
 ) -> Result<Option<Stop>, NoMemory>
     requires room { length channels.old.sent + 280 ≤ 2 ^ 32 }
     ensures ok { IfOk result (λ stop. IsWorking channels.old → (channel : ℕ) →
-        Gives channels.old channels.new stop (unlistening (commanding channels.old.present channels.old.status channels.old.elements (setting_of channels.old channel) file line.now (file_at channels.old.files file)))) }
+        Gives channels.old channels.new stop (unlistening (commanding_on channels.old channel file line.now))) }
     ensures failed { OnOk result (channels.new.failed ≡ channels.old.failed) }
     ensures room { length channels.new.sent ≤ length channels.old.sent + 262 }
     ensures present { channels.new.present ≡ channels.old.present }
@@ -166,7 +166,8 @@ fn open<S: Serial>(
 ) -> Result<Option<Stop>, NoMemory>
     requires room { length channels.old.sent + 3 ≤ 2 ^ 32 }
     ensures ok { IfOk result (λ stop. IsWorking channels.old → (channel : ℕ) →
-        Gives channels.old channels.new stop (opening (open_stop channels.old.files file) (record { number = file; device = device; second = second }) (setting_of channels.old channel))) }
+        Gives channels.old channels.new stop (opening (open_stop channels.old.files file)
+        (record { number = file; device = device; second = second }) (setting_of channels.old channel))) }
     ensures failed { OnOk result (channels.new.failed ≡ channels.old.failed) }
     ensures room { length channels.new.sent ≤ length channels.old.sent + 2 }
     ensures present { channels.new.present ≡ channels.old.present }
@@ -237,14 +238,15 @@ pub fn perform<S: Serial>(
     requires room { length channels.old.sent + 300 ≤ 2 ^ 32 }
     ensures ok { IfOk result (λ stop. channels.old.failed ≡ false →
         Performs channels.old channels.new (found_by session.old.mode channels.old.status) session.new.channel stop
-        (effect_of channels.old.present (found_by session.old.mode channels.old.status) channels.old.elements (setting_of channels.old session.old.channel) statement.now)) }
+        (effect_on channels.old (found_by session.old.mode channels.old.status) session.old.channel statement.now)) }
     ensures mode { session.new.mode ≡ session.old.mode }
     ensures failed { OnOk result (channels.new.failed ≡ channels.old.failed) }
     ensures room { length channels.new.sent ≤ length channels.old.sent + 262 }
     ensures present { channels.new.present ≡ channels.old.present }
     ensures delays { channels.new.delays ≡ channels.old.delays }
     ensures mark { channels.new.mark ≡ channels.old.mark }
-    ensures err { OnErr result ((channels.new.failed ≡ true) ⊎ ChangesScreenAlone (record channels.old { status = found_by session.old.mode channels.old.status }) channels.new) }
+    ensures err { OnErr result ((channels.new.failed ≡ true)
+        ⊎ ChangesScreenAlone (record channels.old { status = found_by session.old.mode channels.old.status }) channels.new) }
     ensures err_session { OnErr result (session.new ≡ session.old) }
 {
     elements_add_up();

@@ -31,7 +31,8 @@ pub fn read_script(alloc: Global, bytes: &[u8]) -> Result<Vec<Statement>, Script
     ensures read { IfOk result (λ statements. IsScript bytes.now statements.items) }
     ensures few { IfOk result (λ statements. length statements.items ≤ statement_limit) }
     ensures refused { IfErr result (λ fault. (fault ≡ ScriptFault.NoMemory) ⊎ IsFirstFault bytes.now fault) }
-    ensures complete { (ss : List Statement) → IsScript bytes.now ss → MatchResult result (λ statements. statements.items ≡ ss) (λ fault. fault ≡ ScriptFault.NoMemory) }
+    ensures complete { (ss : List Statement) → IsScript bytes.now ss → MatchResult result (λ statements. statements.items ≡ ss)
+        (λ fault. fault ≡ ScriptFault.NoMemory) }
 {
     let mut statements = Vec::new(alloc);
     let mut rest = bytes;
@@ -51,7 +52,8 @@ pub fn read_script(alloc: Global, bytes: &[u8]) -> Result<Vec<Statement>, Script
 fn read_line(alloc: Global, statements: &mut Vec<Statement>, line: &[u8]) -> Result<(), LineFault>
     requires { length statements.old.items ≤ statement_limit }
     ensures reads { MatchResult result
-        (λ _. with_front statements.old.items (line_statements (statement_limit - length statements.old.items) line.now) ≡ Ok statements.new.items)
+        (λ _. with_front statements.old.items (line_statements (statement_limit - length statements.old.items) line.now)
+            ≡ Ok statements.new.items)
         (λ e. Fails e (line_statements (statement_limit - length statements.old.items) line.now)) }
     ensures few { OnOk result (length statements.new.items ≤ statement_limit) }
 {
@@ -70,7 +72,9 @@ fn read_part<'a>(
 ) -> Result<Option<&'a [u8]>, LineFault>
     requires { length statements.old.items ≤ statement_limit }
     ensures reads { MatchResult result
-        (λ rest. with_front statements.old.items (statements_in (statement_limit - length statements.old.items) (parts (lexemes_of bytes.entry.now))) ≡ with_front statements.new.items (still (statement_limit - length statements.new.items) rest))
+        (λ rest. with_front statements.old.items
+            (statements_in (statement_limit - length statements.old.items) (parts (lexemes_of bytes.entry.now)))
+            ≡ with_front statements.new.items (still (statement_limit - length statements.new.items) rest))
         (λ e. Fails e (statements_in (statement_limit - length statements.old.items) (parts (lexemes_of bytes.entry.now)))) }
     ensures few { OnOk result (length statements.new.items ≤ statement_limit) }
     ensures less { IfOk result (λ rest. IfSome rest (λ r. length r.now < length bytes.entry.now)) }
@@ -126,7 +130,8 @@ fn begins_statement(bytes: &[u8]) -> bool
 /// What follows the line's number, if it has one.
 #[tactic(auto, unfolding(crate::specs::ReadingScripts::numbered))]
 fn after_number(bytes: &[u8]) -> Result<&[u8], LineFault>
-    ensures { MatchResult result (λ rest. numbered (lexemes_of bytes.now) ≡ Ok (lexemes_of rest.now)) (λ e. numbered (lexemes_of bytes.now) ≡ Err e) }
+    ensures { MatchResult result (λ rest. numbered (lexemes_of bytes.now) ≡ Ok (lexemes_of rest.now))
+        (λ e. numbered (lexemes_of bytes.now) ≡ Err e) }
 {
     match next_lexeme(bytes) {
         Some((Lexeme::Digits(digits), rest)) => {
@@ -171,7 +176,8 @@ fn without_return(line: &[u8]) -> &[u8]
 pub fn each_text_is_a_script_or_has_one_fault()
     ensures one_list { (bytes : List ℕ) (ss others : List Statement) → IsScript bytes ss → IsScript bytes others → ss ≡ others }
     ensures one_fault { (bytes : List ℕ) (fault other : ScriptFault) → IsFirstFault bytes fault → IsFirstFault bytes other → fault ≡ other }
-    ensures one_of_both { (bytes : List ℕ) → ((ss : List Statement) × IsScript bytes ss) ⊎ ((fault : ScriptFault) × IsFirstFault bytes fault) }
+    ensures one_of_both { (bytes : List ℕ) → ((ss : List Statement) × IsScript bytes ss)
+        ⊎ ((fault : ScriptFault) × IsFirstFault bytes fault) }
     ensures not_both { (bytes : List ℕ) (ss : List Statement) (fault : ScriptFault) → IsScript bytes ss → IsFirstFault bytes fault → ⊥ }
 {}
 

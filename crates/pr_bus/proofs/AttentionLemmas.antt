@@ -5,7 +5,7 @@ use Rattle.std.proofs.lemmas.Bool.Decides.{eqb_tells}
 use Rattle.pr_serial.specs.declared.Item.{Item}
 use Rattle.pr_serial.specs.declared.Item.TheVariants.{Attention}
 use Rattle.pr_serial.specs.Answers.{is_listener}
-use Rattle.pr_serial.specs.Bus.{MaySend}
+use Rattle.pr_serial.specs.Sendable.{MaySend}
 use Rattle.pr_serial.specs.Laws.{ListenerAfterOneMore}
 use Rattle.pr_wire.specs.declared.Edge.{Edge}
 use Rattle.pr_wire.specs.declared.delay.Kind.TheVariants.{Bb, Aw, R, Cr, Dr}

@@ -6,7 +6,8 @@ use Rattle.pr_page.specs.declared.input.Input.TheVariants.{Select, Byte}
 use Rattle.pr_serial.specs.declared.Present.{Present}
 use Rattle.pr_serial.specs.declared.Item.{Item}
 use Rattle.pr_serial.specs.declared.Item.TheVariants.{Attention, Sent}
-use Rattle.pr_serial.specs.Answers.{is_present, is_listener, is_answered, inputs_at, heard_by}
+use Rattle.pr_serial.specs.Answers.{is_listener, is_answered}
+use Rattle.pr_serial.specs.Heard.{is_present, inputs_at, heard_by}
 use Rattle.pr_serial.specs.Laws as serial
 use Rattle.pr_wire.specs.declared.Frame.{Frame}
 use Rattle.pr_receiver.specs.Heard.{is_listening, is_called, input_of, heard_of}

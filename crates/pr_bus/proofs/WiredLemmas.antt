@@ -8,7 +8,9 @@ use Rattle.pr_serial.specs.declared.Present.{Present}
 use Rattle.pr_serial.specs.declared.Item.{Item}
 use Rattle.pr_serial.specs.declared.Item.TheVariants.{Attention, Sent}
 use Rattle.pr_serial.specs.Bus.{DelayNumbers}
-use Rattle.pr_serial.specs.Answers.{with_before, is_present, inputs_at, heard_by, items_before}
+use Rattle.pr_page.specs.Before.{with_before}
+use Rattle.pr_serial.specs.Heard.{is_present, inputs_at, heard_by}
+use Rattle.pr_serial.specs.Telling.{items_before}
 use Rattle.pr_serial.specs.Laws.{HeardOfOneMore, InputsOfAnItem}
 use Rattle.pr_page.specs.declared.input.Input.{Input}
 use Rattle.pr_wire.specs.declared.Edge.{Edge}

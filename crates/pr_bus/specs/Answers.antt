@@ -4,7 +4,8 @@ use Rattle.std.specs.List.{flat_map}
 use Rattle.pr_serial.specs.declared.Present.{Present}
 use Rattle.pr_serial.specs.declared.Item.{Item}
 use Rattle.pr_serial.specs.declared.Item.TheVariants.{Attention, Sent}
-use Rattle.pr_serial.specs.Answers.{with_before, is_answered}
+use Rattle.pr_page.specs.Before.{with_before}
+use Rattle.pr_serial.specs.Answers.{is_answered}
 use Rattle.pr_wire.specs.declared.Frame.{Frame}
 
 -- the frames of an item that is answered

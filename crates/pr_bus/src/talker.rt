@@ -9,7 +9,7 @@ ghost use Rattle.pr_wire.specs.Choices.{left};
 ghost use Rattle.pr_wire.specs.Levels.{edge_at};
 ghost use Rattle.pr_wire.specs.Pieces.{frame_edges, answer_edges, second_edges, ending_edges};
 ghost use Rattle.pr_bus.specs.Talk.{state_of, IsTuned, IsSameTalker, IsSameTuned, heard_frame, command_frame, printers_of, ending_of, end_of, rest_of, second_of, final_ack_of, second_takes, second_taking, tuned_to};
-ghost use Rattle.pr_serial.specs.Bus.{MaySend};
+ghost use Rattle.pr_serial.specs.Sendable.{MaySend};
 
 use crate::frame::push_frame;
 use crate::hearer::joined;

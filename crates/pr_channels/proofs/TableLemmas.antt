@@ -5,7 +5,8 @@ use Rattle.std.proofs.lemmas.List.Folds.{find-append}
 use Rattle.std.proofs.lemmas.Bool.{eq-eqb, eqb-true}
 use Rattle.pr_channels.specs.declared.file.File.{File}
 use Rattle.pr_channels.specs.declared.faults.Stop.TheVariants.{TooManyFiles, FileOpen, NotInputFile}
-use Rattle.pr_channels.specs.Files.{Files, file_at, without_file, open_stop, IsFile, IsOnce, AreFiles, IsTable}
+use Rattle.pr_channels.specs.Files.{Files, file_at, without_file, open_stop}
+use Rattle.pr_channels.specs.Table.{IsFile, IsOnce, AreFiles, IsTable}
 
 -- with one less or not, the rest of the files are no more than all
 filter_cons : (p : File → Bool) (x : File) (xs : Files) (a : Bool) → p x ≡ a → length (filter p xs) ≤ length xs → length (filter p (x ∷ xs)) ≤ length (x ∷ xs)

@@ -1,6 +1,6 @@
--- Trusted: what each call does.
-use Rattle.std.specs.Prelude.{◌≡◌, ℕ, ◌+◌, true, ◌==◌, Option, Some, None, List, [], ◌∷◌, ◌++◌, length, nat_lt, if◌then◌else◌}
-use Rattle.pr_serial.specs.Elements.{Element, Attention, Byte}
+-- Linking words: what each call does to the channels. Clauses of `Channels` say it; what a statement gives is defined without it. No reader needs to believe them.
+use Rattle.std.specs.Prelude.{◌≡◌, ℕ, true, ◌==◌, Option, Some, None, List, [], ◌∷◌, ◌++◌, length, nat_lt, if◌then◌else◌}
+use Rattle.pr_serial.specs.Elements.{Element, Byte}
 use Rattle.pr_serial.specs.Items.{items_of}
 use Rattle.pr_serial.specs.Answers.{is_lacking}
 use Rattle.pr_channels.specs.declared.file.File.{File}
@@ -9,29 +9,8 @@ use Rattle.pr_channels.specs.declared.faults.Stop.TheVariants.{FileNotOpen, Devi
 use Rattle.pr_channels.specs.declared.faults.Fault.{Fault}
 use Rattle.pr_channels.specs.declared.faults.Fault.TheVariants as fault
 use Rattle.pr_channels.specs.Files.{file_at, without_file}
+use Rattle.pr_channels.specs.Commands.{listen_to, unlisten, closing}
 use Rattle.pr_channels.specs.Seen.{Seen}
-
--- a second command: a base and the secondary address, if there is one
-abbrev pub second_from : ℕ → Option ℕ → Option ℕ
-second_from base None = None
-second_from base (Some s) = Some (base + s)
-
--- LISTEN to the file's device, with its secondary address
-abbrev pub listen_to : File → Element
-listen_to file = Attention (32 + file.device) (second_from 96 file.second)
-
--- UNLISTEN
-abbrev pub unlisten : Element
-unlisten = Attention 63 None
-
--- what CLOSE sends for a file: its device is told, if the file has a secondary address
-abbrev pub closing : Option File → List Element
-closing None = []
-closing (Some file) = closing_second file.device file.second
-  where
-    closing_second : ℕ → Option ℕ → List Element
-    closing_second device None = []
-    closing_second device (Some s) = Attention (32 + device) (Some (224 + s)) ∷ unlisten ∷ []
 
 -- more elements: the items are those of all elements, and the status is 128 if an item that is new isn't answered
 abbrev pub adding : List Element → Seen → Seen

@@ -3,13 +3,15 @@ use Rattle.std.specs.Prelude.{◌≡◌, ℕ, Bool, None, List, [], ◌∷◌, �
 use Rattle.pr_serial.specs.Elements.{Element}
 use Rattle.pr_serial.specs.Items.{items_of}
 use Rattle.pr_channels.specs.declared.file.File.{File}
-use Rattle.pr_channels.specs.Files.{Files, IsTable, open_stop}
+use Rattle.pr_channels.specs.Files.{Files, open_stop}
+use Rattle.pr_channels.specs.Table.{IsTable}
 use Rattle.pr_channels.specs.Seen.{Seen}
 use Rattle.pr_channels.specs.Calls.{adding}
 
 -- elements added one part after another are added at once
 abbrev pub AddingInTwoParts : Type 0
-AddingInTwoParts = (es fs : List Element) (old : Seen) → old.sent ≡ items_of old.elements → adding fs (adding es old) ≡ adding (es ++ fs) old
+AddingInTwoParts = (es fs : List Element) (old : Seen) →
+    old.sent ≡ items_of old.elements → adding fs (adding es old) ≡ adding (es ++ fs) old
 
 -- no more elements leave all as it is
 abbrev pub AddingNone : Type 0
@@ -25,4 +27,5 @@ TableWithSome = (keep : File → Bool) (files : Files) → IsTable files → IsT
 
 -- what may be opened beside the files of a file table may be opened beside some of them
 abbrev pub OpenableAmongSome : Type 0
-OpenableAmongSome = (keep : File → Bool) (files : Files) (number : ℕ) → IsTable files → open_stop files number ≡ None → open_stop (filter keep files) number ≡ None
+OpenableAmongSome = (keep : File → Bool) (files : Files) (number : ℕ) →
+    IsTable files → open_stop files number ≡ None → open_stop (filter keep files) number ≡ None

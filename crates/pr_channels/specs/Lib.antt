@@ -1,4 +1,7 @@
 pub mod Files
+pub mod Stops
+pub mod Table
+pub mod Commands
 pub mod Seen
 pub mod Calls
 pub mod Sending

@@ -1,11 +1,12 @@
--- Trusted: what a contract sees of the channels, and what holds of any channels.
+-- Linking words: what a contract sees of the channels, and what holds of any channels. No reader needs to believe them.
 use Rattle.std.specs.Prelude.{◌≡◌, ℕ, Bool, false, Option, Some, None, List, [], ◌∷◌, ◌++◌, map}
 use Rattle.pr_serial.specs.declared.Present.{Present}
 use Rattle.pr_serial.specs.declared.Item.{Item}
 use Rattle.pr_serial.specs.declared.Item.TheVariants as item
 use Rattle.pr_serial.specs.Bus.{DelayNumbers}
 use Rattle.pr_serial.specs.Elements.{Element, Attention, Byte}
-use Rattle.pr_serial.specs.Items.{items_of, held_of}
+use Rattle.pr_serial.specs.Items.{items_of}
+use Rattle.pr_serial.specs.Steps.{held_of}
 use Rattle.pr_channels.specs.Files.{Files}
 
 -- of the bus its printers, delays, mark, whether it has failed, and the items sent; the elements, the files, the output device, the status and the screen's bytes

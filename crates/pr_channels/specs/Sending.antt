@@ -5,8 +5,8 @@ use Rattle.pr_serial.specs.declared.Item.{Item}
 use Rattle.pr_serial.specs.declared.Item.TheVariants as item
 use Rattle.pr_serial.specs.Bus.{DelayNumbers}
 use Rattle.pr_serial.specs.Elements.{Element}
-use Rattle.pr_serial.specs.Items.{items_of, held_of}
-use Rattle.pr_serial.specs.Steps.{held_at}
+use Rattle.pr_serial.specs.Items.{items_of}
+use Rattle.pr_serial.specs.Steps.{held_at, held_of}
 use Rattle.pr_serial.specs.Answers.{is_lacking}
 use Rattle.pr_channels.specs.Files.{Files}
 use Rattle.pr_channels.specs.Seen.{Seen, elements_from}

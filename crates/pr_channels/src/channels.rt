@@ -3,7 +3,8 @@
 ghost use Rattle.std.specs.Prelude.{◌≡◌, ◌+◌, ◌≤◌, ◌<◌, ◌^◌, ◌⊎◌, true, false, None, Some, [], ◌∷◌, ◌++◌, length, ◌≢◌, Err, IfErr, IsOk, OnOk, OnErr};
 ghost use Rattle.std.specs.Option.{ForSome};
 ghost use Rattle.pr_channels.specs.Files.{file_at, open_stop, without_file};
-ghost use Rattle.pr_channels.specs.Calls.{second_from, closing, adding};
+ghost use Rattle.pr_channels.specs.Calls.{adding};
+ghost use Rattle.pr_channels.specs.Commands.{second_from, closing};
 
 use crate::faults::{Fault, Stop};
 use crate::file_table::FileTable;
@@ -94,7 +95,8 @@ impl<S: Serial> Channels<S> {
         requires low { 4 ≤ device }
         requires high { device ≤ 30 }
         requires second { ForSome second (λ s. s ≤ 15) }
-        ensures ok { OnOk result ((open_stop self.old.files file ≡ None) × (self.new ≡ record self.old { files = self.old.files ++ record { number = file; device = device; second = second } ∷ [] })) }
+        ensures ok { OnOk result ((open_stop self.old.files file ≡ None)
+            × (self.new ≡ record self.old { files = self.old.files ++ record { number = file; device = device; second = second } ∷ [] })) }
         ensures err { IfErr result (λ stop. (open_stop self.old.files file ≡ Some stop) × (self.new ≡ self.old)) }
     {
         self.files.open(file, device, second)
@@ -227,7 +229,8 @@ impl<S: Serial> Channels<S> {
         requires room { closing (file_at self.old.files file) ≢ [] → length self.old.sent + 3 ≤ 2 ^ 32 }
         ensures ok { OnOk result (self.old.failed ≡ false → self.new ≡ close_of file self.old) }
         ensures works { self.old.failed ≡ true → OnOk result (closing (file_at self.old.files file) ≡ []) }
-        ensures quiet { closing (file_at self.old.files file) ≡ [] → IsOk result × (self.new ≡ record self.old { files = without_file file self.old.files }) }
+        ensures quiet { closing (file_at self.old.files file) ≡ [] → IsOk result
+            × (self.new ≡ record self.old { files = without_file file self.old.files }) }
         ensures unsent { OnOk result (self.old.failed ≡ true → self.new.sent ≡ self.old.sent) }
         ensures failed { OnOk result (self.new.failed ≡ self.old.failed) }
         ensures err { OnErr result (self.new.failed ≡ true) }

@@ -1,7 +1,7 @@
 //! How a channel call stops or fails.
 
 ghost use Rattle.std.specs.Prelude.{◌≡◌};
-ghost use Rattle.pr_channels.specs.Files.{stop_number};
+ghost use Rattle.pr_channels.specs.Stops.{stop_number};
 
 use thiserror::Error;
 

@@ -2,7 +2,8 @@
 
 ghost use Rattle.std.specs.Prelude.{◌≡◌, ℕ, ◌≤◌, ◌==◌, None, Some, [], ◌∷◌, ◌++◌, IfErr, OnOk, if◌then◌else◌};
 ghost use Rattle.std.specs.Option.{ForSome};
-ghost use Rattle.pr_channels.specs.Files.{IsFile, AreFiles, IsTable, file_at, open_stop, without_file};
+ghost use Rattle.pr_channels.specs.Files.{file_at, open_stop, without_file};
+ghost use Rattle.pr_channels.specs.Table.{IsFile, AreFiles, IsTable};
 
 use crate::faults::Stop;
 use crate::file::File;
@@ -21,7 +22,8 @@ pub struct FileTable {
 }
 
 impl Model for FileTable {
-    ghost use Rattle.pr_channels.specs.Files.{Files, IsTable, AreFiles};
+    ghost use Rattle.pr_channels.specs.Files.{Files};
+    ghost use Rattle.pr_channels.specs.Table.{IsTable, AreFiles};
 
     ghost Value = { Files };
 
@@ -68,8 +70,10 @@ impl FileTable {
         requires low { 4 ≤ device }
         requires high { device ≤ 30 }
         requires second { ForSome second (λ s. s ≤ 15) }
-        ensures ok { OnOk result ((open_stop self.old number ≡ None) × (self.new ≡ self.old ++ record { number = number; device = device; second = second } ∷ [])) }
-        ensures map { OnOk result ((n : ℕ) → file_at self.new n ≡ (if number == n then Some (record { number = number; device = device; second = second }) else file_at self.old n)) }
+        ensures ok { OnOk result ((open_stop self.old number ≡ None)
+            × (self.new ≡ self.old ++ record { number = number; device = device; second = second } ∷ [])) }
+        ensures map { OnOk result ((n : ℕ) → file_at self.new n ≡
+            (if number == n then Some (record { number = number; device = device; second = second }) else file_at self.old n)) }
         ensures err { IfErr result (λ stop. (open_stop self.old number ≡ Some stop) × (self.new ≡ self.old)) }
     {
         if number == 0 {

@@ -1,11 +1,11 @@
 //! What goes out on the bus: a byte is held back until it is known whether it is the last one.
 
 ghost use Rattle.std.specs.Prelude.{◌≡◌, ◌+◌, ◌≤◌, ◌<◌, ◌^◌, ◌⊎◌, false, true, None, Some, [], ◌∷◌, ◌++◌, length, OnOk, OnErr, IsSome, IsNone, if◌then◌else◌};
-ghost use Rattle.pr_serial.specs.Bus.{MaySend};
+ghost use Rattle.pr_serial.specs.Sendable.{MaySend};
 ghost use Rattle.pr_serial.specs.declared.Item.TheVariants as item;
 ghost use Rattle.pr_serial.specs.Elements.{Attention, Byte};
 ghost use Rattle.pr_serial.specs.Answers.{is_lacking};
-ghost use Rattle.pr_channels.specs.Calls.{unlisten};
+ghost use Rattle.pr_channels.specs.Commands.{unlisten};
 ghost use Rattle.pr_channels.specs.Sending.{putting, flushed_as};
 
 use pr_serial::command::{CLOSE, LISTEN, UNLISTEN};
@@ -57,7 +57,8 @@ fn flush<S: Serial>(
     ensures delays { S.delays bus.new ≡ S.delays bus.old }
     ensures mark { S.marked bus.new ≡ S.marked bus.old }
     ensures sent { OnOk result (S.sent bus.new ≡ S.sent bus.old ++ flushed_as held eoi) }
-    ensures unanswered { OnOk result (unanswered.new ≡ (if is_lacking (S.printers bus.old) (length (S.sent bus.old)) (S.sent bus.new) then true else unanswered.old)) }
+    ensures unanswered { OnOk result (unanswered.new ≡
+        (if is_lacking (S.printers bus.old) (length (S.sent bus.old)) (S.sent bus.new) then true else unanswered.old)) }
     ensures failed { OnOk result (S.has_failed bus.new ≡ S.has_failed bus.old) }
     ensures err { OnErr result (S.has_failed bus.new ≡ true) }
     ensures room { length (S.sent bus.new) ≤ length (S.sent bus.old) + 1 }
@@ -86,7 +87,8 @@ fn send_attention<S: Serial>(
     ensures delays { S.delays bus.new ≡ S.delays bus.old }
     ensures mark { S.marked bus.new ≡ S.marked bus.old }
     ensures sent { OnOk result (S.sent bus.new ≡ S.sent bus.old ++ item.Attention first second ∷ []) }
-    ensures unanswered { OnOk result (unanswered.new ≡ (if is_lacking (S.printers bus.old) (length (S.sent bus.old)) (S.sent bus.new) then true else unanswered.old)) }
+    ensures unanswered { OnOk result (unanswered.new ≡
+        (if is_lacking (S.printers bus.old) (length (S.sent bus.old)) (S.sent bus.new) then true else unanswered.old)) }
     ensures works { OnOk result ((S.has_failed bus.old ≡ false) × (S.has_failed bus.new ≡ false)) }
     ensures err { OnErr result (S.has_failed bus.new ≡ true) }
     ensures room { length (S.sent bus.new) ≤ length (S.sent bus.old) + 1 }
@@ -99,7 +101,8 @@ fn send_attention<S: Serial>(
 }
 
 impl<S: Serial> Sender<S> {
-    ghost use Rattle.pr_serial.specs.Items.{items_of, held_of};
+    ghost use Rattle.pr_serial.specs.Items.{items_of};
+    ghost use Rattle.pr_serial.specs.Steps.{held_of};
     ghost use Rattle.pr_channels.specs.Seen.{elements_from};
 
     /// Nothing is held back, and nothing lacks an answer.

@@ -5,7 +5,7 @@ use Rattle.pr_page.specs.declared.paper.Row.{Row}
 use Rattle.pr_page.specs.declared.paper.Paper.{Paper}
 use Rattle.pr_page.specs.declared.paper.Mark.{Mark}
 use Rattle.pr_page.specs.declared.paper.Mark.TheVariants.{Cell, Dots}
-use Rattle.pr_channels.specs.Files.{stop_number}
+use Rattle.pr_channels.specs.Stops.{stop_number}
 use Rattle.pr_channels.specs.declared.faults.Stop.{Stop}
 use Rattle.pr_system.specs.declared.outcome.Outcome.{Outcome}
 

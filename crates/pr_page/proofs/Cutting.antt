@@ -2,7 +2,7 @@
 use Rattle.std.proofs.Common.{◌≡◌, ◌≢◌, ℕ, Bool, List, [], ◌∷◌, ◌++◌, inl, inr, map, refl, sym, ap, ◌∙◌, append_assoc}
 use Rattle.std.proofs.lemmas.List.{append-nil, map-append}
 use Rattle.std.proofs.lemmas.Bool.Decides.{eqb_tells}
-use Rattle.pr_page.specs.Token.{Came, bytes_of, Token, Column, Repeat, Address, Nothing, Plain, spelling_of, HasParameters, IsNoAddress, MayStand, IsUnfinished, AreTokens}
+use Rattle.pr_page.specs.Token.{Came, bytes_of, Token, Column, Repeat, Address, Nothing, Plain, spelling_of, IsNoAddress, MayStand, IsUnfinished, AreTokens}
 use Rattle.pr_page.specs.Steps.{begun_by, completed_by, pending_after, tokens_by}
 use Rattle.pr_page.specs.declared.input.Input.{Input}
 use Rattle.pr_page.specs.declared.input.Input.TheVariants.{Select, Byte}
@@ -78,20 +78,20 @@ pending_bytes AddressCode = 27 ∷ 16 ∷ []
 pending_bytes (AddressHigh h) = 27 ∷ 16 ∷ h ∷ []
 
 -- what is pending can become a command
-completes : (bytes : List Came) (p : Pending) (t : Token) → HasParameters t → (next : ℕ) (more : List ℕ) →
+completes : (bytes : List Came) (p : Pending) (t : Token) → (next : ℕ) (more : List ℕ) →
     map (λ c. c.byte) bytes ≡ pending_bytes p → spelling_of t ≡ pending_bytes p ++ next ∷ more → IsUnfinished bytes
-completes bytes p t command next more h e =
-    record { token = t; is_command = command; next = next; more = more; front = e ∙ ap (λ bs. bs ++ next ∷ more) (sym h) }
+completes bytes p t next more h e =
+    record { token = t; next = next; more = more; front = e ∙ ap (λ bs. bs ++ next ∷ more) (sym h) }
 
 unfinished : (bytes : List Came) (p : Pending) → map (λ c. c.byte) bytes ≡ pending_bytes p → IsUnfinished bytes
-unfinished bytes Idle h = completes bytes Idle (Column 0 0) tt 16 (0 ∷ 0 ∷ []) h refl
-unfinished bytes ColumnCode h = completes bytes ColumnCode (Column 0 0) tt 0 (0 ∷ []) h refl
-unfinished bytes (ColumnTens a) h = completes bytes (ColumnTens a) (Column a 0) tt 0 [] h refl
-unfinished bytes RepeatCode h = completes bytes RepeatCode (Repeat 0 0) tt 0 (0 ∷ []) h refl
-unfinished bytes (RepeatCount n) h = completes bytes (RepeatCount n) (Repeat n 0) tt 0 [] h refl
-unfinished bytes EscapeCode h = completes bytes EscapeCode (Address 0 0) tt 16 (0 ∷ 0 ∷ []) h refl
-unfinished bytes AddressCode h = completes bytes AddressCode (Address 0 0) tt 0 (0 ∷ []) h refl
-unfinished bytes (AddressHigh a) h = completes bytes (AddressHigh a) (Address a 0) tt 0 [] h refl
+unfinished bytes Idle h = completes bytes Idle (Column 0 0) 16 (0 ∷ 0 ∷ []) h refl
+unfinished bytes ColumnCode h = completes bytes ColumnCode (Column 0 0) 0 (0 ∷ []) h refl
+unfinished bytes (ColumnTens a) h = completes bytes (ColumnTens a) (Column a 0) 0 [] h refl
+unfinished bytes RepeatCode h = completes bytes RepeatCode (Repeat 0 0) 0 (0 ∷ []) h refl
+unfinished bytes (RepeatCount n) h = completes bytes (RepeatCount n) (Repeat n 0) 0 [] h refl
+unfinished bytes EscapeCode h = completes bytes EscapeCode (Address 0 0) 16 (0 ∷ 0 ∷ []) h refl
+unfinished bytes AddressCode h = completes bytes AddressCode (Address 0 0) 0 (0 ∷ []) h refl
+unfinished bytes (AddressHigh a) h = completes bytes (AddressHigh a) (Address a 0) 0 [] h refl
 
 -- the bytes are these tokens, and then what is pending
 pub record Cut (bytes : List Came) (tokens : List Token) (p : Pending) : Type 0 where

@@ -5,10 +5,22 @@ use Rattle.std.proofs.lemmas.List.{append-nil}
 use Rattle.std.proofs.lemmas.Grind.{reverse_onto}
 use Rattle.std.proofs.lemmas.Bool.Decides.{leb_tells}
 use Rattle.pr_page.specs.Acts.{Act, End, Move, Print}
-use Rattle.pr_page.specs.Lines.{place_after, IsLine, marks_of, pitch_before, left_after, AreLines}
+use Rattle.pr_page.specs.Lines.{place_after, IsLine, marks_of, pitch_before, left_after, BeginsWithRow, AreLines}
 use Rattle.pr_page.specs.Steps.{sheet_after, sheet_after_all}
 use Rattle.pr_page.specs.declared.paper.Row.{Row}
 use Rattle.pr_page.specs.declared.sheet.Sheet.{Sheet}
+
+-- the acts fall into these rows and a line, which is at the last number
+abbrev pub AreLinesTo : ℕ → List Act → List Row → List Act → ℕ → Type 0
+AreLinesTo y acts [] line end = (acts ≡ reverse line) × IsLine line × (y ≡ end)
+AreLinesTo y acts (row ∷ rows) line end =
+    (first : BeginsWithRow y acts row) × AreLinesTo (y + pitch_before first.next) (left_after first.next first.more) rows line end
+
+-- wherever the last line is
+pub AreLinesTo-lines : (y : ℕ) (acts : List Act) (rows : List Row) (line : List Act) (end : ℕ) → AreLinesTo y acts rows line end → AreLines y acts rows line
+AreLinesTo-lines y acts [] line end h = (h.0, h.1)
+AreLinesTo-lines y acts (row ∷ rows) line end (first, h) =
+    (first, AreLinesTo-lines (y + pitch_before first.next) (left_after first.next first.more) rows line end h)
 
 left_after-push : (next : Act) (more : List Act) (a : Act) → left_after next more ++ a ∷ [] ≡ left_after next (more ++ a ∷ [])
 left_after-push (End g) more a = refl
@@ -16,11 +28,11 @@ left_after-push (Print g m w) more a = refl
 left_after-push (Move x) more a = refl
 
 -- an act that goes on the last line
-pub AreLines-push : (y : ℕ) (acts : List Act) (rows : List Row) (last : List Act) (end : ℕ) (a : Act) → IsLine (a ∷ last) →
-    AreLines y acts rows last end → AreLines y (acts ++ a ∷ []) rows (a ∷ last) end
-AreLines-push y acts [] last end a line h =
+pub AreLinesTo-push : (y : ℕ) (acts : List Act) (rows : List Row) (last : List Act) (end : ℕ) (a : Act) → IsLine (a ∷ last) →
+    AreLinesTo y acts rows last end → AreLinesTo y (acts ++ a ∷ []) rows (a ∷ last) end
+AreLinesTo-push y acts [] last end a line h =
     (ap (λ acts. acts ++ a ∷ []) h.0 ∙ sym (reverse_onto last a []), line, h.2)
-AreLines-push y acts (row ∷ rows) last end a line (first, h) = (
+AreLinesTo-push y acts (row ∷ rows) last end a line (first, h) = (
   record {
     line = first.line;
     next = first.next;
@@ -30,15 +42,15 @@ AreLines-push y acts (row ∷ rows) last end a line (first, h) = (
     is_longest = first.is_longest;
     is_row = first.is_row;
   },
-  rw (← left_after-push first.next first.more a) (AreLines-push (y + pitch_before first.next) (left_after first.next first.more) rows last end a line h),
+  rw (← left_after-push first.next first.more a) (AreLinesTo-push (y + pitch_before first.next) (left_after first.next first.more) rows last end a line h),
 )
 
 -- an act that closes the last line, and what it leaves is a line
-pub AreLines-close : (y : ℕ) (acts : List Act) (rows : List Row) (last : List Act) (end : ℕ) (a : Act) (line : List Act) →
+pub AreLinesTo-close : (y : ℕ) (acts : List Act) (rows : List Row) (last : List Act) (end : ℕ) (a : Act) (line : List Act) →
     (IsLine (a ∷ last) → ⊥) → left_after a [] ≡ reverse line → IsLine line →
-    AreLines y acts rows last end →
-    AreLines y (acts ++ a ∷ []) (rows ++ record { y = end; marks = marks_of last } ∷ []) line (end + pitch_before a)
-AreLines-close y acts [] last end a line longest left is_line h = (
+    AreLinesTo y acts rows last end →
+    AreLinesTo y (acts ++ a ∷ []) (rows ++ record { y = end; marks = marks_of last } ∷ []) line (end + pitch_before a)
+AreLinesTo-close y acts [] last end a line longest left is_line h = (
   record {
     line = last;
     next = a;
@@ -50,7 +62,7 @@ AreLines-close y acts [] last end a line longest left is_line h = (
   },
   (left, is_line, ap (λ y. y + pitch_before a) h.2),
 )
-AreLines-close y acts (row ∷ rows) last end a line longest left is_line (first, h) = (
+AreLinesTo-close y acts (row ∷ rows) last end a line longest left is_line (first, h) = (
   record {
     line = first.line;
     next = first.next;
@@ -60,14 +72,14 @@ AreLines-close y acts (row ∷ rows) last end a line longest left is_line (first
     is_longest = first.is_longest;
     is_row = first.is_row;
   },
-  rw (← left_after-push first.next first.more a) (AreLines-close (y + pitch_before first.next) (left_after first.next first.more) rows last end a line longest left is_line h),
+  rw (← left_after-push first.next first.more a) (AreLinesTo-close (y + pitch_before first.next) (left_after first.next first.more) rows last end a line longest left is_line h),
 )
 
 -- the sheet has the lines of the acts
 pub record IsSheet (acts : List Act) (sheet : Sheet) : Type 0 where
   pub last : List Act
   pub is_line : IsLine last
-  pub are_lines : AreLines 0 acts sheet.paper.rows last sheet.y
+  pub are_lines : AreLinesTo 0 acts sheet.paper.rows last sheet.y
   pub held : sheet.paper.held ≡ marks_of last
   pub position : sheet.position ≡ place_after last
 
@@ -84,10 +96,10 @@ row_held sheet last h rows = ap (λ marks. rows ++ record { y = sheet.y; marks =
 
 closes : (acts : List Act) (sheet : Sheet) (a : Act) (line : List Act) (s : IsSheet acts sheet) →
     (IsLine (a ∷ s.last) → ⊥) → left_after a [] ≡ reverse line → IsLine line →
-    AreLines 0 (acts ++ a ∷ []) (sheet.paper.rows ++ record { y = sheet.y; marks = sheet.paper.held } ∷ []) line (sheet.y + pitch_before a)
+    AreLinesTo 0 (acts ++ a ∷ []) (sheet.paper.rows ++ record { y = sheet.y; marks = sheet.paper.held } ∷ []) line (sheet.y + pitch_before a)
 closes acts sheet a line s longest left is_line =
-    subst (λ rows. AreLines 0 (acts ++ a ∷ []) rows line (sheet.y + pitch_before a)) (row_held sheet s.last s.held sheet.paper.rows)
-    (AreLines-close 0 acts sheet.paper.rows s.last sheet.y a line longest left is_line s.are_lines)
+    subst (λ rows. AreLinesTo 0 (acts ++ a ∷ []) rows line (sheet.y + pitch_before a)) (row_held sheet s.last s.held sheet.paper.rows)
+    (AreLinesTo-close 0 acts sheet.paper.rows s.last sheet.y a line longest left is_line s.are_lines)
 
 pub IsSheet-push : (acts : List Act) (sheet : Sheet) (a : Act) → IsNarrow a → IsSheet acts sheet → IsSheet (acts ++ a ∷ []) (sheet_after sheet a)
 IsSheet-push acts sheet (End g) narrow s = record {
@@ -100,7 +112,7 @@ IsSheet-push acts sheet (End g) narrow s = record {
 IsSheet-push acts sheet (Move x) narrow s = record {
   last = Move x ∷ s.last;
   is_line = s.is_line;
-  are_lines = AreLines-push 0 acts sheet.paper.rows s.last sheet.y (Move x) s.is_line s.are_lines;
+  are_lines = AreLinesTo-push 0 acts sheet.paper.rows s.last sheet.y (Move x) s.is_line s.are_lines;
   held = s.held;
   position = refl;
 }
@@ -110,7 +122,7 @@ IsSheet-push acts sheet (Print g m w) narrow s = elim (leb_tells (sheet.position
       record {
         last = Print g m w ∷ s.last;
         is_line = (fits, s.is_line);
-        are_lines = AreLines-push 0 acts sheet.paper.rows s.last sheet.y (Print g m w) (fits, s.is_line) s.are_lines;
+        are_lines = AreLinesTo-push 0 acts sheet.paper.rows s.last sheet.y (Print g m w) (fits, s.is_line) s.are_lines;
         held = rw (s.held, s.position);
         position = rw s.position;
       })

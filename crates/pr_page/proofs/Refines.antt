@@ -3,14 +3,15 @@ use Rattle.std.proofs.Common.{◌≡◌, ℕ, zero, suc, Bool, true, false, List
 use Rattle.std.specs.Prelude.{Result, Ok, Err, OnOk, reverse, nat_le, replicate, if◌then◌else◌, ◌==◌, ◌||◌, ◌&&◌}
 use Rattle.std.proofs.lemmas.List.{append-nil, reverse-append}
 use Rattle.pr_page.specs.Token.{Came, bytes_of, Token, Column, Repeat, Address, Nothing, Plain}
-use Rattle.pr_page.specs.Settings.{settings_at}
+use Rattle.pr_page.specs.Modes.{Modes, modes_at}
 use Rattle.pr_page.specs.Acts.{Act, acts_in, acts_of, is_cell, is_digit, column_of, dots_of}
 use Rattle.pr_page.specs.Page.{IsPage}
-use Rattle.pr_page.specs.Steps.{pending_after, tokens_by, settings_after_token, state_after_token, state_after_tokens, step, state_after, start}
+use Rattle.pr_page.specs.Linked.{modes_of, settings_of}
+use Rattle.pr_page.specs.Steps.{pending_after, tokens_by, settings_after, settings_after_token, state_after_token, state_after_tokens, step, state_after, start}
 use Rattle.pr_page.specs.Evaluator.{page_of}
 use Rattle.pr_page.specs.Taken.{HasTaken}
 use Rattle.pr_page.proofs.Cutting.{selected, bytes_of-select, bytes_of-byte, selected-select, selected-byte, AreTokens-push, Cut, Cut-none, Cut-push}
-use Rattle.pr_page.proofs.Paging.{IsSheet, IsSheet-append, AreNarrow}
+use Rattle.pr_page.proofs.Paging.{IsSheet, IsSheet-append, AreLinesTo-lines, AreNarrow}
 use Rattle.pr_page.specs.declared.input.Input.{Input}
 use Rattle.pr_page.specs.declared.input.Input.TheVariants.{Select, Byte}
 use Rattle.pr_page.specs.declared.settings.Settings.{Settings}
@@ -18,40 +19,41 @@ use Rattle.pr_page.specs.declared.state.State.{State}
 use Rattle.pr_page.specs.declared.pending.Pending.{Pending}
 use Rattle.pr_page.specs.declared.pending.Pending.TheVariants.{Idle}
 
-settings_at-push : (t : Token) (before : List Token) → settings_at (t ∷ before) ≡ settings_after_token (settings_at before) t
-settings_at-push (Plain lower b) before = refl
-settings_at-push (Column x y) before = refl
-settings_at-push (Repeat x y) before = refl
-settings_at-push (Address x y) before = refl
-settings_at-push Nothing before = refl
+-- the settings that the code keeps say the modes after one token more
+modes_at-push : (s : Settings) (t : Token) (before : List Token) → modes_of s ≡ modes_at before → modes_of (settings_after_token s t) ≡ modes_at (t ∷ before)
+modes_at-push s (Plain lower b) before h = ap (λ m. modes_of (settings_after (settings_of m) b)) h
+modes_at-push s (Column x y) before h = h
+modes_at-push s (Repeat x y) before h = h
+modes_at-push s (Address x y) before h = h
+modes_at-push s Nothing before h = h
 
 -- a choice of two lists of narrow acts
 narrow_if : (b : Bool) (xs ys : List Act) → AreNarrow xs → AreNarrow ys → AreNarrow (if b then xs else ys)
 narrow_if true xs ys h k = h
 narrow_if false xs ys h k = k
 
-narrow_columns : (n : ℕ) (s : Settings) (d : ℕ) → AreNarrow (replicate n (dots_of s d))
-narrow_columns zero s d = tt
-narrow_columns (suc n) s d = (omega arith, narrow_columns n s d)
+narrow_columns : (n : ℕ) (m : Modes) (d : ℕ) → AreNarrow (replicate n (dots_of m d))
+narrow_columns zero m d = tt
+narrow_columns (suc n) m d = (omega arith, narrow_columns n m d)
 
 narrow_cell : (wide : Bool) → (if wide then 12 else 6) ≤ 480
 narrow_cell true = omega arith
 narrow_cell false = omega arith
 
-acts_in-narrow : (s : Settings) (t : Token) → AreNarrow (acts_in s t)
-acts_in-narrow s (Plain lower b) =
+acts_in-narrow : (m : Modes) (t : Token) → AreNarrow (acts_in m t)
+acts_in-narrow m (Plain lower b) =
     narrow_if (b == 10 || b == 13) _ _ (tt, tt)
-    (narrow_if s.graphic _ _
+    (narrow_if m.graphic _ _
     (narrow_if (nat_le 128 b) _ _ (omega arith, tt) tt)
-    (narrow_if (is_cell b) _ _ (narrow_cell s.wide, tt) tt))
-acts_in-narrow s (Repeat n d) = narrow_if (s.graphic && nat_le 128 d) _ _ (narrow_columns n s d) tt
-acts_in-narrow s (Column a b) = narrow_if ((is_digit a && is_digit b) && nat_le (column_of a b) 79) _ _ (tt, tt) tt
-acts_in-narrow s (Address h l) = narrow_if (nat_le (256 * h + l) 479) _ _ (tt, tt) tt
-acts_in-narrow s Nothing = tt
+    (narrow_if (is_cell b) _ _ (narrow_cell m.wide, tt) tt))
+acts_in-narrow m (Repeat n d) = narrow_if (m.graphic && nat_le 128 d) _ _ (narrow_columns n m d) tt
+acts_in-narrow m (Column a b) = narrow_if ((is_digit a && is_digit b) && nat_le (column_of a b) 79) _ _ (tt, tt) tt
+acts_in-narrow m (Address h l) = narrow_if (nat_le (256 * h + l) 479) _ _ (tt, tt) tt
+acts_in-narrow m Nothing = tt
 
 -- settings and sheet are those of the tokens
 pub record IsOf (tokens : List Token) (s : State) : Type 0 where
-  pub settings : s.settings ≡ settings_at (reverse tokens)
+  pub settings : modes_of s.settings ≡ modes_at (reverse tokens)
   pub sheet : IsSheet (acts_of (reverse tokens)) s.sheet
 
 reverse-push : (tokens : List Token) (t : Token) → reverse (tokens ++ t ∷ []) ≡ t ∷ reverse tokens
@@ -59,10 +61,11 @@ reverse-push tokens t = reverse-append tokens (t ∷ [])
 
 IsOf-token : (tokens : List Token) (s : State) (t : Token) → IsOf tokens s → IsOf (tokens ++ t ∷ []) (state_after_token s t)
 IsOf-token tokens s t h = record {
-  settings = sym (ap settings_at (reverse-push tokens t) ∙ settings_at-push t (reverse tokens) ∙ ap (λ x. settings_after_token x t) (sym h.settings));
+  settings = modes_at-push s.settings t (reverse tokens) h.settings ∙ sym (ap modes_at (reverse-push tokens t));
   sheet =
       subst (λ back. IsSheet (acts_of back) (state_after_token s t).sheet) (sym (reverse-push tokens t))
-      (rw (← h.settings) (IsSheet-append (acts_of (reverse tokens)) s.sheet (acts_in s.settings t) (acts_in-narrow s.settings t) h.sheet));
+      (subst (λ m. IsSheet (acts_of (reverse tokens) ++ acts_in m t) (state_after_token s t).sheet) h.settings
+      (IsSheet-append (acts_of (reverse tokens)) s.sheet (acts_in (modes_of s.settings) t) (acts_in-narrow (modes_of s.settings) t) h.sheet));
 }
 
 IsOf-tokens : (tokens : List Token) (s : State) (more : List Token) → IsOf tokens s → IsOf (tokens ++ more) (state_after_tokens s more)
@@ -143,9 +146,8 @@ state_after-page inputs =
       tokens = h.tokens;
       rest = h.cut.rest;
       last = h.of_tokens.sheet.last;
-      y = (state_after start inputs).sheet.y;
       are_tokens = h.cut.are_tokens;
-      are_lines = h.of_tokens.sheet.are_lines;
+      are_lines = AreLinesTo-lines 0 _ _ h.of_tokens.sheet.last _ h.of_tokens.sheet.are_lines;
       held = h.of_tokens.sheet.held;
     }
 

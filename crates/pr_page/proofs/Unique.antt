@@ -4,7 +4,7 @@ use Rattle.std.specs.Prelude.{reverse}
 use Rattle.std.proofs.lemmas.List.{reverse-reverse}
 use Rattle.std.proofs.lemmas.Bool.Decides.{eqb_tells}
 use mathlib.Core.List.{reverse_aux}
-use Rattle.pr_page.specs.Token.{Came, Token, Column, Repeat, Address, Nothing, Plain, spelling_of, HasParameters, IsNoAddress, MayStand, AreTokens}
+use Rattle.pr_page.specs.Token.{Came, Token, Column, Repeat, Address, Nothing, Plain, spelling_of, IsNoAddress, MayStand, AreTokens}
 use Rattle.pr_page.specs.Acts.{Act, End, Move, Print, acts_of}
 use Rattle.pr_page.specs.Lines.{IsLine, marks_of, pitch_before, left_after, BeginsWithRow, AreLines}
 use Rattle.pr_page.specs.Page.{IsPage}
@@ -125,16 +125,23 @@ module _ (a b next : ℕ) (more : List ℕ) where
   address_rest (x ∷ y ∷ z ∷ w ∷ []) h = absurd cc
   address_rest (x ∷ y ∷ z ∷ w ∷ v ∷ rest) h = absurd cc
 
-rest_run : (rest : List Came) (t : Token) (next : ℕ) (more : List ℕ) → HasParameters t → spelling_of t ≡ map (λ c. c.byte) rest ++ next ∷ more → run Idle rest ≡ []
-rest_run rest (Column a b) next more k h = column_rest a b next more rest (sym h)
-rest_run rest (Repeat a b) next more k h = repeat_rest a b next more rest (sym h)
-rest_run rest (Address a b) next more k h = address_rest a b next more rest (sym h)
-rest_run rest Nothing next more k h = absurd k
-rest_run rest (Plain lower b) next more k h = absurd k
+-- before one byte stands nothing
+one_rest : (b next : ℕ) (more : List ℕ) (rest : List Came) → map (λ c. c.byte) rest ++ next ∷ more ≡ b ∷ [] → run Idle rest ≡ []
+one_rest b next more [] h = refl
+one_rest b next more (x ∷ []) h = absurd cc
+one_rest b next more (x ∷ y ∷ rest) h = absurd cc
+
+-- the bytes that are left complete no token
+rest_run : (rest : List Came) (t : Token) (next : ℕ) (more : List ℕ) → spelling_of t ≡ map (λ c. c.byte) rest ++ next ∷ more → run Idle rest ≡ []
+rest_run rest (Column a b) next more h = column_rest a b next more rest (sym h)
+rest_run rest (Repeat a b) next more h = repeat_rest a b next more rest (sym h)
+rest_run rest (Address a b) next more h = address_rest a b next more rest (sym h)
+rest_run rest Nothing next more h = one_rest 27 next more rest (sym h)
+rest_run rest (Plain lower b) next more h = one_rest b next more rest (sym h)
 
 -- bytes have one cutting into tokens
 AreTokens-run : (bytes : List Came) (tokens : List Token) (rest : List Came) → AreTokens bytes tokens rest → run Idle bytes ≡ tokens
-AreTokens-run bytes [] rest h = rw h.0 (rest_run rest h.1.token h.1.next h.1.more h.1.is_command h.1.front)
+AreTokens-run bytes [] rest h = rw h.0 (rest_run rest h.1.token h.1.next h.1.more h.1.front)
 AreTokens-run bytes (t ∷ tokens) rest (first, h) =
     rw first.parts (front_run first.front first.more t first.spelled first.allowed ∙ ap (λ tokens. t ∷ tokens) (AreTokens-run first.more tokens rest h))
 
@@ -210,24 +217,24 @@ record SameLines (rows rows' : List Row) (last last' : List Act) : Type 0 where
   rows_same : rows ≡ rows'
   last_same : last ≡ last'
 
-one_paging : (rows : List Row) (y : ℕ) (acts : List Act) (last : List Act) (end : ℕ) (rows' : List Row) (last' : List Act) (end' : ℕ) →
-    AreLines y acts rows last end → AreLines y acts rows' last' end' → SameLines rows rows' last last'
-one_paging [] y acts last end [] last' end' h k =
+one_paging : (rows : List Row) (y : ℕ) (acts : List Act) (last : List Act) (rows' : List Row) (last' : List Act) →
+    AreLines y acts rows last → AreLines y acts rows' last' → SameLines rows rows' last last'
+one_paging [] y acts last [] last' h k =
     record { rows_same = refl; last_same = sym (reverse-reverse last) ∙ ap reverse (sym h.0 ∙ k.0) ∙ reverse-reverse last' }
-one_paging [] y acts last end (row' ∷ rows') last' end' h (b, k) = absurd (no_row y acts row' last h.0 h.1 b)
-one_paging (row ∷ rows) y acts last end [] last' end' (a, h) k = absurd (no_row y acts row last' k.0 k.1 a)
-one_paging (row ∷ rows) y acts last end (row' ∷ rows') last' end' (a, h) (b, k) =
+one_paging [] y acts last (row' ∷ rows') last' h (b, k) = absurd (no_row y acts row' last h.0 h.1 b)
+one_paging (row ∷ rows) y acts last [] last' (a, h) k = absurd (no_row y acts row last' k.0 k.1 a)
+one_paging (row ∷ rows) y acts last (row' ∷ rows') last' (a, h) (b, k) =
     let one = one_row y acts row row' a b in
-    let k' : AreLines (y + pitch_before a.next) (left_after a.next a.more) rows' last' end' = rw (one.next, one.more) k in
-    let rest = one_paging rows (y + pitch_before a.next) (left_after a.next a.more) last end rows' last' end' h k' in
+    let k' : AreLines (y + pitch_before a.next) (left_after a.next a.more) rows' last' = rw (one.next, one.more) k in
+    let rest = one_paging rows (y + pitch_before a.next) (left_after a.next a.more) last rows' last' h k' in
     record { rows_same = cc (one.one, rest.rows_same); last_same = rest.last_same }
 
 -- a list of inputs has one page
 pub IsPage-unique : (inputs : List Input) (p q : Paper) → IsPage inputs p → IsPage inputs q → p ≡ q
 IsPage-unique inputs p q a b =
     let tokens : a.tokens ≡ b.tokens = sym (AreTokens-run _ a.tokens a.rest a.are_tokens) ∙ AreTokens-run _ b.tokens b.rest b.are_tokens in
-    let lines : AreLines 0 (acts_of (reverse a.tokens)) q.rows b.last b.y = rw tokens b.are_lines in
-    let one = one_paging p.rows 0 (acts_of (reverse a.tokens)) a.last a.y q.rows b.last b.y a.are_lines lines in
+    let lines : AreLines 0 (acts_of (reverse a.tokens)) q.rows b.last = rw tokens b.are_lines in
+    let one = one_paging p.rows 0 (acts_of (reverse a.tokens)) a.last q.rows b.last a.are_lines lines in
     let held : p.held ≡ q.held = a.held ∙ ap marks_of one.last_same ∙ sym b.held in
     let make : List Row → List Placed → Paper = λ rows marks. record { rows = rows; held = marks } in
     ap (λ rows. make rows p.held) one.rows_same ∙ ap (make q.rows) held

@@ -1,8 +1,10 @@
+pub mod Before
 pub mod Token
-pub mod Settings
+pub mod Modes
 pub mod Acts
 pub mod Lines
 pub mod Page
+pub mod Linked
 pub mod Steps
 pub mod Evaluator
 pub mod Taken

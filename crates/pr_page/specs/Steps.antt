@@ -5,6 +5,7 @@ use Rattle.pr_page.specs.Acts.{Act, End, Move, Print, acts_in}
 use Rattle.pr_page.specs.Lines.{pitch_of}
 use Rattle.pr_page.specs.declared.input.Input.{Input}
 use Rattle.pr_page.specs.declared.input.Input.TheVariants.{Select, Byte}
+use Rattle.pr_page.specs.Linked.{modes_of}
 use Rattle.pr_page.specs.declared.settings.Settings.{Settings}
 use Rattle.pr_page.specs.declared.paper.Mark.{Mark}
 use Rattle.pr_page.specs.declared.paper.Mark.TheVariants.{Dots}
@@ -96,7 +97,7 @@ sheet_after_all s (act ∷ acts) = sheet_after_all (sheet_after s act) acts
 abbrev pub state_after_token : State → Token → State
 state_after_token s t = record s {
   settings = settings_after_token s.settings t;
-  sheet = sheet_after_all s.sheet (acts_in s.settings t);
+  sheet = sheet_after_all s.sheet (acts_in (modes_of s.settings) t);
 }
 
 -- what is kept after tokens

@@ -5,6 +5,7 @@ ghost use Rattle.pr_page.specs.Token.{Plain};
 ghost use Rattle.pr_page.specs.Acts.{Print, acts_in, is_cell, moves_to_column, moves_to_dot};
 ghost use Rattle.pr_page.specs.Steps.{ended, printed, columns_from, sheet_after_all, GoesOn};
 ghost use Rattle.pr_page.specs.Lines.{pitch_of};
+ghost use Rattle.pr_page.specs.Linked.{modes_of};
 
 use crate::codes::{CARRIAGE_RETURN, LINE_FEED};
 use crate::paper::{Mark, Paper, Placed, Row, Sequence};
@@ -195,7 +196,7 @@ impl Sheet {
     ) -> Result<(), AllocError>
         requires y { self.old.y < 2 ^ 60 }
         requires position { self.old.position ≤ 480 }
-        ensures ok { OnOk result (self.new ≡ sheet_after_all self.old (acts_in settings (Plain lower b))) }
+        ensures ok { OnOk result (self.new ≡ sheet_after_all self.old (acts_in (modes_of settings) (Plain lower b))) }
         ensures range { OnOk result (GoesOn self.old self.new) }
         ensures err { OnErr result (self.new ≡ self.old) }
     {

@@ -7,7 +7,8 @@ use Rattle.std.proofs.Math.Seq.{drop-length, drop-append_seam}
 use Rattle.std.proofs.Math.Bool.{or-false}
 use Rattle.pr_serial.specs.declared.Present.{Present}
 use Rattle.pr_serial.specs.declared.Item.{Item}
-use Rattle.pr_serial.specs.Answers.{with_before, is_unlisten, is_listen, is_listener, is_answered, is_lacking}
+use Rattle.pr_page.specs.Before.{with_before}
+use Rattle.pr_serial.specs.Answers.{is_unlisten, is_listen, is_listener, is_answered, is_lacking}
 use Rattle.pr_serial.specs.Steps.{answers_after}
 
 -- how many elements at the end pass the test, with one more

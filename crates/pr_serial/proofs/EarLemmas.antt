@@ -7,18 +7,20 @@ use Rattle.pr_serial.specs.declared.Item.{Item}
 use Rattle.pr_serial.specs.declared.Item.TheVariants.{Attention, Sent}
 use Rattle.pr_serial.specs.declared.ear.Ear.{Ear}
 use Rattle.pr_page.specs.declared.input.Input.{Input}
-use Rattle.pr_serial.specs.Answers.{is_present, is_listener, inputs_at, heard_by, items_before}
-use Rattle.pr_serial.specs.Hearing.{Hears, IsWithin, IsSameEar}
+use Rattle.pr_serial.specs.Answers.{is_listener}
+use Rattle.pr_serial.specs.Heard.{is_present, inputs_at, heard_by}
+use Rattle.pr_serial.specs.Telling.{items_before, IsReached}
+use Rattle.pr_serial.specs.Hearing.{Hears, IsSameEar}
 use Rattle.pr_serial.proofs.AnswerLemmas.{is_listener-push}
 use Rattle.pr_serial.proofs.HeardLemmas.{heard_by-push}
 
 -- one more item leaves those before the mark
-pub before_push : (mark : Option ℕ) (items : List Item) (item : Item) → IsWithin mark items → items_before mark (items ++ item ∷ []) ≡ items_before mark items
+pub before_push : (mark : Option ℕ) (items : List Item) (item : Item) → IsReached mark items → items_before mark (items ++ item ∷ []) ≡ items_before mark items
 before_push None items item within = refl
 before_push (Some n) items item within = rw take-append-le
 
 -- what is heard since the mark grows as what is heard does
-grown : (present : Present) (number : ℕ) (mark : Option ℕ) (old items : List Item) (item : Item) (before after : List Input) → IsWithin mark old → items ≡ old ++ item ∷ []
+grown : (present : Present) (number : ℕ) (mark : Option ℕ) (old items : List Item) (item : Item) (before after : List Input) → IsReached mark old → items ≡ old ++ item ∷ []
     → heard_by present number (items_before mark old) ++ before ≡ heard_by present number old
     → after ≡ before ++ cond (is_present present number) (inputs_at number old item) []
     → heard_by present number (items_before mark items) ++ after ≡ heard_by present number items
@@ -40,7 +42,7 @@ hears_same present number mark items before after same h = record {
 
 -- a printer after one more attention
 pub hears_attention : (present : Present) (number : ℕ) (mark : Option ℕ) (old items : List Item) (first : ℕ) (second : Option ℕ) (before after : Ear)
-    → IsWithin mark old
+    → IsReached mark old
     → Hears present number mark old before
     → items ≡ old ++ Attention first second ∷ []
     → after.device ≡ before.device
@@ -60,7 +62,7 @@ hears_attention present number mark old items first second before after within h
 
 -- a printer after one more byte
 pub hears_byte : (present : Present) (number : ℕ) (mark : Option ℕ) (old items : List Item) (b : ℕ) (eoi : Bool) (before after : Ear)
-    → IsWithin mark old
+    → IsReached mark old
     → Hears present number mark old before
     → items ≡ old ++ Sent b eoi ∷ []
     → after.device ≡ before.device
@@ -79,6 +81,6 @@ hears_byte present number mark old items b eoi before after within h sent device
 }
 
 -- the mark is still not past the items
-pub within_push : (mark : Option ℕ) (old items : List Item) (item : Item) → items ≡ old ++ item ∷ [] → IsWithin mark old → IsWithin mark items
-within_push None old items item sent within = tt
-within_push (Some n) old items item sent within = omega (arith, within, ap length sent, length-append old (item ∷ []))
+pub reached_push : (mark : Option ℕ) (old items : List Item) (item : Item) → items ≡ old ++ item ∷ [] → IsReached mark old → IsReached mark items
+reached_push None old items item sent within = tt
+reached_push (Some n) old items item sent within = omega (arith, within, ap length sent, length-append old (item ∷ []))

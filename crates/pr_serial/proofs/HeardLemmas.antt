@@ -7,7 +7,9 @@ use Rattle.pr_serial.specs.declared.Item.{Item}
 use Rattle.pr_serial.specs.declared.Item.TheVariants.{Attention, Sent}
 use Rattle.pr_page.specs.declared.input.Input.{Input}
 use Rattle.pr_page.specs.declared.input.Input.TheVariants.{Select, Byte}
-use Rattle.pr_serial.specs.Answers.{with_before, is_present, is_unlisten, is_listen, is_listener, inputs_at, heard_by}
+use Rattle.pr_page.specs.Before.{with_before}
+use Rattle.pr_serial.specs.Answers.{is_unlisten, is_listen, is_listener}
+use Rattle.pr_serial.specs.Heard.{is_present, inputs_at, heard_by}
 use Rattle.pr_serial.specs.Steps.{IsNotCalled}
 use Rattle.pr_serial.proofs.AnswerLemmas.{is_listener-push, with_before-append}
 

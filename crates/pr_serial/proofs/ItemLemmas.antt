@@ -4,8 +4,8 @@ use Rattle.pr_serial.specs.declared.Item.{Item}
 use Rattle.pr_serial.specs.declared.Item.TheVariants.{Attention, Sent}
 use Rattle.pr_serial.specs.Elements as element
 use Rattle.pr_serial.specs.Elements.{Element}
-use Rattle.pr_serial.specs.Items.{items_of, held_of}
-use Rattle.pr_serial.specs.Steps.{flushed, sent_at_once, held_at}
+use Rattle.pr_serial.specs.Items.{items_of}
+use Rattle.pr_serial.specs.Steps.{flushed, sent_at_once, held_at, held_of}
 
 -- one more element sends the byte held back and, if it is an attention, itself
 pub items_of-push : (es : List Element) (e : Element) → items_of (es ++ e ∷ []) ≡ items_of es ++ (flushed (held_of es) e ++ sent_at_once e)

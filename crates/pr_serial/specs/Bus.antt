@@ -1,21 +1,8 @@
--- Trusted: what a bus may be asked to send, and the delays that it draws on.
-use Rattle.std.specs.Prelude.{ℕ, ◌≤◌, ◌<◌, ◌⊎◌, Option, Some, None, List, []}
+-- Trusted: the delays that a bus draws on.
+use Rattle.std.specs.Prelude.{ℕ, List}
 
 -- the raw delay numbers of the computer and of the two printers
 pub record DelayNumbers : Type 0 where
   pub computer : List ℕ
   pub four : List ℕ
   pub five : List ℕ
-
--- the delay numbers of a bus without wires
-abbrev pub no_delays : DelayNumbers
-no_delays = record { computer = []; four = []; five = [] }
-
--- a secondary address: 96 to 111 selects a channel, 224 to 239 closes one
-abbrev pub IsSecondary : ℕ → Type 0
-IsSecondary s = ((96 ≤ s) × (s ≤ 111)) ⊎ ((224 ≤ s) × (s ≤ 239))
-
--- an attention that may be sent: LISTEN or UNLISTEN, and after LISTEN perhaps a secondary address
-abbrev pub MaySend : ℕ → Option ℕ → Type 0
-MaySend first None = (32 ≤ first) × (first ≤ 63)
-MaySend first (Some s) = (32 ≤ first) × (first < 63) × IsSecondary s

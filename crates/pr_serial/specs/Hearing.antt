@@ -1,9 +1,11 @@
 -- Linking words, for proofs: what the bus without wires keeps of a printer. No reader needs to believe them.
-use Rattle.std.specs.Prelude.{◌≡◌, ℕ, ◌+◌, ◌≤◌, ◌++◌, true, Option, Some, None, List, length, vec_len, vec_capacity}
+use Rattle.std.specs.Prelude.{◌≡◌, ℕ, ◌+◌, ◌≤◌, ◌++◌, true, Option, List, vec_len, vec_capacity}
 use Rattle.pr_serial.specs.declared.Present.{Present}
 use Rattle.pr_serial.specs.declared.Item.{Item}
 use Rattle.pr_serial.specs.declared.ear.Ear.{Ear}
-use Rattle.pr_serial.specs.Answers.{is_present, is_listener, heard_by, items_before}
+use Rattle.pr_serial.specs.Answers.{is_listener}
+use Rattle.pr_serial.specs.Heard.{is_present, heard_by}
+use Rattle.pr_serial.specs.Telling.{items_before}
 
 -- it is the printer with this number, and keeps what it heard of these items since the mark
 pub record Hears (present : Present) (number : ℕ) (mark : Option ℕ) (items : List Item) (ear : Ear) : Type 0 where
@@ -11,11 +13,6 @@ pub record Hears (present : Present) (number : ℕ) (mark : Option ℕ) (items :
   pub there : ear.there ≡ is_present present number
   pub listens : ear.listens ≡ is_listener number items
   pub inputs : heard_by present number (items_before mark items) ++ ear.inputs.items ≡ heard_by present number items
-
--- the mark isn't past the items
-abbrev pub IsWithin : Option ℕ → List Item → Type 0
-IsWithin None items = Unit {0}
-IsWithin (Some n) items = n ≤ length items
 
 -- it is the printer that it was, with its inputs
 pub record IsSameEar (old new : Ear) : Type 0 where

@@ -1,5 +1,5 @@
 -- Trusted: which of the elements are sent, and which byte is marked as the last one. The definition looks ahead; a talker has to wait.
-use Rattle.std.specs.Prelude.{ℕ, true, false, Option, Some, None, List, [], ◌∷◌, ◌++◌}
+use Rattle.std.specs.Prelude.{true, false, List, [], ◌∷◌, ◌++◌}
 use Rattle.pr_serial.specs.declared.Item.{Item}
 use Rattle.pr_serial.specs.declared.Item.TheVariants.{Attention, Sent}
 use Rattle.pr_serial.specs.Elements as element
@@ -16,10 +16,3 @@ item_before (element.Byte b) (element.Byte c ∷ rest) = Sent b false ∷ []
 abbrev pub items_of : List Element → List Item
 items_of [] = []
 items_of (e ∷ rest) = item_before e rest ++ items_of rest
-
--- the byte that waits for a next element: the last element, if that is a byte
-abbrev pub held_of : List Element → Option ℕ
-held_of [] = None
-held_of (element.Attention first second ∷ []) = None
-held_of (element.Byte b ∷ []) = Some b
-held_of (e ∷ next ∷ rest) = held_of (next ∷ rest)

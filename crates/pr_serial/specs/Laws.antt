@@ -4,9 +4,10 @@ use Rattle.std.specs.List.{list_any}
 use Rattle.pr_serial.specs.declared.Present.{Present}
 use Rattle.pr_serial.specs.declared.Item.{Item}
 use Rattle.pr_serial.specs.Elements.{Element}
-use Rattle.pr_serial.specs.Items.{items_of, held_of}
-use Rattle.pr_serial.specs.Answers.{is_present, is_unlisten, is_listen, is_listener, is_answered, is_lacking, inputs_at, heard_by}
-use Rattle.pr_serial.specs.Steps.{flushed, sent_at_once, held_at, answers_after, IsNotCalled}
+use Rattle.pr_serial.specs.Items.{items_of}
+use Rattle.pr_serial.specs.Answers.{is_unlisten, is_listen, is_listener, is_answered, is_lacking}
+use Rattle.pr_serial.specs.Heard.{is_present, inputs_at, heard_by}
+use Rattle.pr_serial.specs.Steps.{flushed, sent_at_once, held_at, answers_after, IsNotCalled, held_of}
 
 -- one more element sends the byte held back and, if it is an attention, itself
 abbrev pub ItemsOfOneMore : Type 0
@@ -31,12 +32,14 @@ ListenerAfterOneMore = (device : ℕ) (items : List Item) (item : Item) →
 
 -- whether a later item lacks an answer is told by the answers to the later ones
 abbrev pub LackingAmongLater : Type 0
-LackingAmongLater = (present : Present) (xs ys : List Item) → is_lacking present (length xs) (xs ++ ys) ≡ list_any not (answers_after present xs ys)
+LackingAmongLater = (present : Present) (xs ys : List Item) →
+    is_lacking present (length xs) (xs ++ ys) ≡ list_any not (answers_after present xs ys)
 
 -- an item of two parts lacks an answer if one of the first part or one of the second does
 abbrev pub LackingInTwoParts : Type 0
 LackingInTwoParts = (present : Present) (xs ys zs : List Item) →
-    is_lacking present (length xs) ((xs ++ ys) ++ zs) ≡ (is_lacking present (length xs) (xs ++ ys) || is_lacking present (length (xs ++ ys)) ((xs ++ ys) ++ zs))
+    is_lacking present (length xs) ((xs ++ ys) ++ zs)
+    ≡ (is_lacking present (length xs) (xs ++ ys) || is_lacking present (length (xs ++ ys)) ((xs ++ ys) ++ zs))
 
 -- where nothing more is sent, nothing lacks an answer
 abbrev pub LackingInNone : Type 0
@@ -44,12 +47,14 @@ LackingInNone = (present : Present) (xs : List Item) → is_lacking present (len
 
 -- one more item lacks an answer exactly if it isn't answered
 abbrev pub LackingInOne : Type 0
-LackingInOne = (present : Present) (xs : List Item) (x : Item) → is_lacking present (length xs) (xs ++ x ∷ []) ≡ not (is_answered present xs x)
+LackingInOne = (present : Present) (xs : List Item) (x : Item) →
+    is_lacking present (length xs) (xs ++ x ∷ []) ≡ not (is_answered present xs x)
 
 -- what a device that is there hears of one more item is what that gives after those before it
 abbrev pub HeardOfOneMore : Type 0
 HeardOfOneMore = (present : Present) (device : ℕ) (items : List Item) (item : Item) →
-    heard_by present device (items ++ item ∷ []) ≡ heard_by present device items ++ (if is_present present device then inputs_at device items item else [])
+    heard_by present device (items ++ item ∷ [])
+    ≡ heard_by present device items ++ (if is_present present device then inputs_at device items item else [])
 
 -- with the device not listening in between, the second part is heard as if it came first
 abbrev pub HeardOfTwoParts : Type 0

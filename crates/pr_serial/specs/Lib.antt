@@ -1,8 +1,10 @@
 pub mod Elements
 pub mod Items
 pub mod Answers
+pub mod Heard
 pub mod Telling
 pub mod Bus
+pub mod Sendable
 pub mod DirectState
 pub mod Hearing
 pub mod Steps

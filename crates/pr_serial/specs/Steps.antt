@@ -5,13 +5,21 @@ use Rattle.pr_serial.specs.declared.Item.{Item}
 use Rattle.pr_serial.specs.declared.Item.TheVariants.{Attention, Sent}
 use Rattle.pr_serial.specs.Elements as element
 use Rattle.pr_serial.specs.Elements.{Element}
-use Rattle.pr_serial.specs.Answers.{with_before, is_listen, is_answered}
+use Rattle.pr_page.specs.Before.{with_before}
+use Rattle.pr_serial.specs.Answers.{is_listen, is_answered}
 
 -- a byte held back is sent before the next element, with end-or-identify if that is an attention
 abbrev pub flushed : Option ℕ → Element → List Item
 flushed None e = []
 flushed (Some b) (element.Attention first second) = Sent b true ∷ []
 flushed (Some b) (element.Byte c) = Sent b false ∷ []
+
+-- the byte that waits for a next element: the last element, if that is a byte
+abbrev pub held_of : List Element → Option ℕ
+held_of [] = None
+held_of (element.Attention first second ∷ []) = None
+held_of (element.Byte b ∷ []) = Some b
+held_of (e ∷ next ∷ rest) = held_of (next ∷ rest)
 
 -- what an element sends at once
 abbrev pub sent_at_once : Element → List Item

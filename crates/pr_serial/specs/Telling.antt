@@ -1,9 +1,19 @@
--- Trusted: what a bus tells of what a device heard.
-use Rattle.std.specs.Prelude.{◌≡◌, ℕ, ◌*◌, ◌≤◌, ◌++◌, false, Option, List, [], length}
+-- Linking words: what a bus tells of what a device heard. The clause of `Bus` on what was heard says all that a caller needs. No reader needs to believe them.
+use Rattle.std.specs.Prelude.{◌≡◌, ℕ, ◌*◌, ◌≤◌, ◌++◌, false, Option, Some, None, List, [], length, take}
 use Rattle.pr_serial.specs.declared.Present.{Present}
 use Rattle.pr_serial.specs.declared.Item.{Item}
 use Rattle.pr_page.specs.declared.input.Input.{Input}
-use Rattle.pr_serial.specs.Answers.{is_present, heard_by, items_before}
+use Rattle.pr_serial.specs.Heard.{is_present, heard_by}
+
+-- the items before a mark
+abbrev pub items_before : Option ℕ → List Item → List Item
+items_before None items = []
+items_before (Some n) items = take n items
+
+-- the items have come to the mark: it isn't past them
+abbrev pub IsReached : Option ℕ → List Item → Type 0
+IsReached None items = Unit {0}
+IsReached (Some n) items = n ≤ length items
 
 -- the inputs are what the device heard of the items behind the mark: none if it is absent, and with those before the mark at most two for each item
 pub record TellsHeard (present : Present) (mark : Option ℕ) (items : List Item) (device : ℕ) (inputs : List Input) : Type 0 where

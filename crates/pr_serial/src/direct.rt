@@ -33,11 +33,13 @@ impl Model for Direct {
 
     ghost Value = { DirectState };
 
-    ghost use Rattle.pr_serial.specs.Hearing.{Hears, IsWithin};
+    ghost use Rattle.pr_serial.specs.Hearing.{Hears};
+    ghost use Rattle.pr_serial.specs.Telling.{IsReached};
 
     ghost view = { λ d. record { present = d.present; items = d.items.items; mark = d.mark; failed = d.failed } };
 
-    ghost invariant = { λ d. Hears d.present 4 d.mark d.items.items d.four × Hears d.present 5 d.mark d.items.items d.five × IsWithin d.mark d.items.items };
+    ghost invariant = { λ d. Hears d.present 4 d.mark d.items.items d.four × Hears d.present 5 d.mark d.items.items d.five
+        × IsReached d.mark d.items.items };
 }
 
 impl Direct {
@@ -98,7 +100,7 @@ fn make_room(
 }
 
 impl Serial for Direct {
-    ghost use Rattle.pr_serial.specs.Bus.{no_delays};
+    ghost use Rattle.pr_serial.specs.DirectState.{no_delays};
 
     ghost printers = { λ d. d.present };
 

@@ -3,7 +3,8 @@
 ghost use Rattle.std.specs.Prelude.{◌≡◌, ◌+◌, ◌<◌, ◌==◌, ◌||◌, ◌&&◌, Bool, false, List, [], ◌++◌, OnOk, if◌then◌else◌};
 ghost use Rattle.pr_serial.specs.declared.Item.{Item};
 ghost use Rattle.pr_serial.specs.declared.Item.TheVariants.{Attention, Sent};
-ghost use Rattle.pr_serial.specs.Answers.{inputs_at, is_listener};
+ghost use Rattle.pr_serial.specs.Answers.{is_listener};
+ghost use Rattle.pr_serial.specs.Heard.{inputs_at};
 ghost use Rattle.pr_serial.specs.Hearing.{IsSameEar, HasRoom};
 
 use crate::NoMemory;
@@ -65,7 +66,8 @@ impl Ear {
         ensures device { self.new.device ≡ self.old.device }
         ensures there { self.new.there ≡ self.old.there }
         ensures listens { self.new.listens ≡ (if first == 63 then false else (self.old.listens || first == 32 + self.old.device)) }
-        ensures inputs { (items : List Item) → self.new.inputs.items ≡ self.old.inputs.items ++ (if self.old.there then inputs_at self.old.device items (Attention first second) else []) }
+        ensures inputs { (items : List Item) → self.new.inputs.items ≡ self.old.inputs.items ++
+            (if self.old.there then inputs_at self.old.device items (Attention first second) else []) }
     {
         if first == UNLISTEN {
             self.listens = false;
@@ -87,7 +89,8 @@ impl Ear {
         ensures device { self.new.device ≡ self.old.device }
         ensures there { self.new.there ≡ self.old.there }
         ensures listens { self.new.listens ≡ self.old.listens }
-        ensures inputs { (items : List Item) (eoi : Bool) → self.old.listens ≡ is_listener self.old.device items → self.new.inputs.items ≡ self.old.inputs.items ++ (if self.old.there then inputs_at self.old.device items (Sent byte eoi) else []) }
+        ensures inputs { (items : List Item) (eoi : Bool) → self.old.listens ≡ is_listener self.old.device items → self.new.inputs.items
+            ≡ self.old.inputs.items ++ (if self.old.there then inputs_at self.old.device items (Sent byte eoi) else []) }
     {
         if self.answers() {
             self.inputs.push_reserved(Input::Byte(byte));

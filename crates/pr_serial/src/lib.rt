@@ -3,8 +3,8 @@
 //!
 //! [`Serial`] is the law of every bus of this workspace, [`Bus`] the same with what each device
 //! heard, and [`Direct`] a bus without wires that keeps both. Their words stand in `specs/`:
-//! `Items.antt` says which elements are sent, and `Answers.antt` who listens, what is answered and
-//! what a device hears.
+//! `Items.antt` says which elements are sent, `Answers.antt` who listens and what is answered, and
+//! `Heard.antt` what a device hears.
 #![tactic(auto)]
 
 pub mod bus;

@@ -4,7 +4,8 @@ ghost use Rattle.std.specs.Prelude.{◌≡◌, ℕ, ◌<◌, ◌^◌, Bool, true
 ghost use Rattle.pr_serial.specs.declared.Present.{Present};
 ghost use Rattle.pr_serial.specs.declared.Item.{Item};
 ghost use Rattle.pr_serial.specs.declared.Item.TheVariants.{Attention, Sent};
-ghost use Rattle.pr_serial.specs.Bus.{DelayNumbers, MaySend};
+ghost use Rattle.pr_serial.specs.Bus.{DelayNumbers};
+ghost use Rattle.pr_serial.specs.Sendable.{MaySend};
 ghost use Rattle.pr_serial.specs.Answers.{is_answered};
 
 use crate::NoMemory;

@@ -3,7 +3,8 @@ use Rattle.std.proofs.Common.{◌≡◌, ℕ, cond, ◌&&◌, ◌||◌, Bool, tr
 use Rattle.std.specs.List.{flat_map}
 use Rattle.pr_serial.specs.declared.Present.{Present}
 use Rattle.pr_serial.specs.declared.Item.{Item}
-use Rattle.pr_serial.specs.Answers.{with_before, inputs_at, is_present, heard_by}
+use Rattle.pr_page.specs.Before.{with_before}
+use Rattle.pr_serial.specs.Heard.{inputs_at, is_present, heard_by}
 use Rattle.pr_page.specs.declared.input.Input.{Input}
 use Rattle.pr_page.specs.declared.paper.Paper.{Paper}
 use Rattle.pr_page.specs.Token.{Column, IsUnfinished}
@@ -11,8 +12,9 @@ use Rattle.pr_page.specs.Page.{IsPage}
 use Rattle.pr_page.specs.Evaluator.{page_of}
 use Rattle.pr_basic.specs.declared.statement.Statement.{Statement}
 use Rattle.pr_basic.specs.declared.session.StatusMode.{StatusMode}
+use Rattle.pr_basic.specs.Runs.{items_sent}
 use Rattle.pr_system.specs.declared.outcome.Outcome.{Outcome}
-use Rattle.pr_system.specs.Headline.{items_sent, IsOutcome, empty_paper}
+use Rattle.pr_system.specs.Headline.{IsOutcome, empty_paper}
 
 -- each page is the one that the evaluator computes
 abbrev pub OnlyPage : Type 0
@@ -20,11 +22,11 @@ OnlyPage = (inputs : List Input) (paper : Paper) → IsPage inputs paper → pap
 
 -- no command has begun
 none_unfinished : IsUnfinished []
-none_unfinished = record { token = Column 0 0; is_command = tt; next = 16; more = 0 ∷ 0 ∷ []; front = refl }
+none_unfinished = record { token = Column 0 0; next = 16; more = 0 ∷ 0 ∷ []; front = refl }
 
 -- the page of nothing is the empty paper
 empty_page : IsPage [] empty_paper
-empty_page = record { tokens = []; rest = []; last = []; y = 0; are_tokens = (refl, none_unfinished); are_lines = (refl, tt, refl); held = refl }
+empty_page = record { tokens = []; rest = []; last = []; are_tokens = (refl, none_unfinished); are_lines = (refl, tt); held = refl }
 
 -- an absent device hears nothing
 heard_absent : (present : Present) (device : ℕ) (items : List Item) → is_present present device ≡ false → heard_by present device items ≡ []

@@ -6,11 +6,13 @@ use Rattle.pr_serial.specs.declared.Present.{Present}
 use Rattle.pr_serial.specs.declared.Item.{Item}
 use Rattle.pr_serial.specs.declared.Item.TheVariants as item
 use Rattle.pr_serial.specs.Elements.{Element, Byte}
-use Rattle.pr_serial.specs.Items.{items_of, held_of}
-use Rattle.pr_serial.specs.Answers.{with_before, inputs_at, is_present, is_listener, is_answered, is_lacking, heard_by}
-use Rattle.pr_serial.specs.Steps.{flushed, answers_after, IsNotCalled}
+use Rattle.pr_serial.specs.Items.{items_of}
+use Rattle.pr_page.specs.Before.{with_before}
+use Rattle.pr_serial.specs.Answers.{is_listener, is_answered, is_lacking}
+use Rattle.pr_serial.specs.Heard.{inputs_at, is_present, heard_by}
+use Rattle.pr_serial.specs.Steps.{flushed, answers_after, IsNotCalled, held_of}
 use Rattle.pr_serial.specs.Laws.{ItemsOfOneMore, HeldAfterOneMore, ItemsOfTwoParts, ListenerAfterOneMore, LackingAmongLater, LackingInTwoParts, HeardOfTwoParts, HeardUncalled}
-use Rattle.pr_channels.specs.Calls.{unlisten}
+use Rattle.pr_channels.specs.Commands.{unlisten}
 
 -- the laws of pr_serial that isolation rests on
 pub record BusLaws : Type 0 where

@@ -3,7 +3,8 @@ use Rattle.std.proofs.Common.{◌≡◌, ℕ, Bool, true, false, not, cond, ◌=
 use Rattle.std.proofs.lemmas.List.Elements.{filter-append}
 use Rattle.std.proofs.lemmas.Bool.{eqb-true}
 use Rattle.pr_channels.specs.declared.file.File.{File}
-use Rattle.pr_channels.specs.Files.{Files, file_at, without_file, IsOnce}
+use Rattle.pr_channels.specs.Files.{Files, file_at, without_file}
+use Rattle.pr_channels.specs.Table.{IsOnce}
 use Rattle.pr_system.specs.Without.{is_on}
 
 -- the files that aren't on the device

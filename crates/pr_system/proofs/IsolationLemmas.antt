@@ -5,7 +5,8 @@ use Rattle.pr_serial.specs.Elements.{Element}
 use Rattle.pr_serial.specs.Items.{items_of}
 use Rattle.pr_serial.specs.Answers.{is_lacking}
 use Rattle.pr_channels.specs.declared.faults.Stop.{Stop}
-use Rattle.pr_channels.specs.Files.{Files, IsTable}
+use Rattle.pr_channels.specs.Files.{Files}
+use Rattle.pr_channels.specs.Table.{IsTable}
 use Rattle.pr_basic.specs.declared.statement.Statement.{Statement}
 use Rattle.pr_basic.specs.Statements.{Effect, effect_of, status_of}
 use Rattle.pr_basic.specs.Runs.{Run, run_after, run_from, found_of}

@@ -7,8 +7,9 @@ use Rattle.pr_serial.specs.Answers.{is_lacking}
 use Rattle.pr_channels.specs.declared.file.File.{File}
 use Rattle.pr_channels.specs.declared.faults.Stop.{Stop}
 use Rattle.pr_channels.specs.declared.faults.Stop.TheVariants.{FileNotOpen, DeviceNotPresent}
-use Rattle.pr_channels.specs.Files.{Files, IsTable, file_at, open_stop}
-use Rattle.pr_channels.specs.Calls.{listen_to, unlisten, closing}
+use Rattle.pr_channels.specs.Files.{Files, file_at, open_stop}
+use Rattle.pr_channels.specs.Table.{IsTable}
+use Rattle.pr_channels.specs.Commands.{listen_to, unlisten, closing}
 use Rattle.pr_channels.specs.Laws.{TableWithOneMore, TableWithSome, OpenableAmongSome}
 use Rattle.pr_basic.specs.Text.{Text}
 use Rattle.pr_basic.specs.declared.statement.Statement.{Statement}

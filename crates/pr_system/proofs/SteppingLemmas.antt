@@ -5,7 +5,8 @@ use Rattle.pr_serial.specs.declared.Present.{Present}
 use Rattle.pr_serial.specs.declared.Item.{Item}
 use Rattle.pr_serial.specs.Elements.{Element}
 use Rattle.pr_serial.specs.Items.{items_of}
-use Rattle.pr_serial.specs.Answers.{heard_by, items_before}
+use Rattle.pr_serial.specs.Heard.{heard_by}
+use Rattle.pr_serial.specs.Telling.{items_before}
 use Rattle.pr_serial.specs.Laws.{ItemsOnlyGrow}
 use Rattle.pr_page.specs.declared.input.Input.{Input}
 use Rattle.pr_page.specs.declared.state.State.{State}
@@ -14,7 +15,8 @@ use Rattle.pr_channels.specs.declared.faults.Stop.{Stop}
 use Rattle.pr_channels.specs.Seen.{Seen}
 use Rattle.pr_basic.specs.declared.statement.Statement.{Statement}
 use Rattle.pr_basic.specs.declared.session.StatusMode.{StatusMode}
-use Rattle.pr_basic.specs.Statements.{effect_of, setting_of, found_by, Performs}
+use Rattle.pr_basic.specs.Statements.{effect_of}
+use Rattle.pr_basic.specs.Performing.{setting_of, found_by, Performs}
 use Rattle.pr_basic.specs.Runs.{found_of}
 use Rattle.pr_system.specs.InOrder.{IsFed}
 use Rattle.pr_basic.specs.StatementLaws.{StatusFoundNext}

@@ -3,12 +3,12 @@ use Rattle.std.specs.Prelude.{◌≡◌, ◌≤◌, ℕ, ◌*◌, false, List, l
 use Rattle.pr_serial.specs.declared.Present.{Present}
 use Rattle.pr_serial.specs.declared.Item.{Item}
 use Rattle.pr_serial.specs.Items.{items_of}
-use Rattle.pr_serial.specs.Answers.{heard_by}
+use Rattle.pr_serial.specs.Heard.{heard_by}
 use Rattle.pr_page.specs.declared.state.State.{State}
 use Rattle.pr_page.specs.Taken.{HasTaken, number_taken}
 use Rattle.pr_channels.specs.Seen.{Seen}
 use Rattle.pr_basic.specs.declared.session.StatusMode.{StatusMode}
-use Rattle.pr_basic.specs.Statements.{found_by}
+use Rattle.pr_basic.specs.Performing.{found_by}
 use Rattle.pr_basic.specs.Runs.{found_of}
 
 -- the printer has taken just what the device heard of the items

@@ -6,10 +6,10 @@ use Rattle.pr_serial.specs.Bus.{DelayNumbers}
 use Rattle.pr_serial.specs.Items.{items_of}
 use Rattle.pr_basic.specs.declared.statement.Statement.{Statement}
 use Rattle.pr_basic.specs.declared.session.StatusMode.{StatusMode}
-use Rattle.pr_basic.specs.Runs.{run_of}
+use Rattle.pr_basic.specs.Runs.{run_of, items_sent}
 use Rattle.pr_bus.specs.WiresState.{trace_from}
 use Rattle.pr_system.specs.declared.outcome.Outcome.{Outcome}
-use Rattle.pr_system.specs.Headline.{items_sent, IsOutcome}
+use Rattle.pr_system.specs.Headline.{IsOutcome}
 use Rattle.pr_system.specs.RunningState.{RunningState, begun, stepped_by, trace_before, trace_so_far}
 use Rattle.pr_system.specs.StepByStep.{stepped_through, IsWhole}
 use Rattle.pr_system.specs.Without.{without, AreAddressed, GoesOn, IsSpared, KeepsPapers, IsGiven}
@@ -48,7 +48,8 @@ IsolatedPages = (left_out : ℕ) (mode : StatusMode) (present : Present) (statem
 
 -- even with other delays: what two runs give, each with delay numbers of its own
 abbrev pub IsolatedWithOtherDelays : Type 0
-IsolatedWithOtherDelays = (left_out : ℕ) (mode : StatusMode) (present : Present) (delays others : DelayNumbers) (statements : List Statement) (all rest : Outcome) →
+IsolatedWithOtherDelays = (left_out : ℕ) (mode : StatusMode) (present : Present) (delays others : DelayNumbers)
+    (statements : List Statement) (all rest : Outcome) →
     AreAddressed statements → GoesOn mode present statements →
     IsGiven mode present delays statements all → IsGiven mode present others (without left_out statements) rest →
     KeepsPapers left_out all rest

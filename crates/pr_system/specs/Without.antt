@@ -6,11 +6,12 @@ use Rattle.pr_channels.specs.declared.file.File.{File}
 use Rattle.pr_channels.specs.declared.faults.Stop.{Stop}
 use Rattle.pr_channels.specs.Files.{Files, file_at, without_file, open_stop}
 use Rattle.pr_basic.specs.declared.statement.Statement.{Statement}
-use Rattle.pr_basic.specs.declared.statement.Statement.TheVariants.{OpenFile, Cmd, PrintTo, Print, CloseFile, Rem}
+use Rattle.pr_basic.specs.declared.statement.Statement.TheVariants.{OpenFile, Cmd, PrintTo, Print, CloseFile}
 use Rattle.pr_basic.specs.declared.session.StatusMode.{StatusMode}
 use Rattle.pr_basic.specs.Runs.{run_of}
 use Rattle.pr_system.specs.declared.outcome.Outcome.{Outcome}
-use Rattle.pr_system.specs.Headline.{heard_in, IsOutcome, IsTrueTrace}
+use Rattle.pr_system.specs.Headline.{heard_in, IsOutcome}
+use Rattle.pr_system.specs.TrueTrace.{IsTrueTrace}
 
 -- the files after an OPEN, which opens nothing if something stands against it
 abbrev pub files_opened : Option Stop → Files → File → Files
@@ -19,12 +20,10 @@ files_opened (Some stop) files file = files
 
 -- the files after a statement
 abbrev pub files_after : Files → Statement → Files
-files_after files (OpenFile file device second) = files_opened (open_stop files file) files (record { number = file; device = device; second = second })
-files_after files (Cmd file line) = files
-files_after files (PrintTo file line) = files
-files_after files (Print line) = files
+files_after files (OpenFile file device second) =
+    files_opened (open_stop files file) files (record { number = file; device = device; second = second })
 files_after files (CloseFile file) = without_file file files
-files_after files Rem = files
+files_after files statement = files
 
 -- an open file is on the device
 abbrev pub is_on : ℕ → Option File → Bool
@@ -36,9 +35,8 @@ abbrev pub is_left_out : ℕ → Files → Statement → Bool
 is_left_out device files (OpenFile file on second) = on == device
 is_left_out device files (Cmd file line) = is_on device (file_at files file)
 is_left_out device files (PrintTo file line) = is_on device (file_at files file)
-is_left_out device files (Print line) = false
 is_left_out device files (CloseFile file) = is_on device (file_at files file)
-is_left_out device files Rem = false
+is_left_out device files statement = false
 
 -- the statements without the device, where these files are open
 abbrev pub without_from : ℕ → Files → List Statement → List Statement
@@ -53,12 +51,9 @@ without device statements = without_from device [] statements
 
 -- neither CMD nor PRINT
 abbrev pub IsAddressed : Statement → Type 0
-IsAddressed (OpenFile file device second) = Unit {0}
 IsAddressed (Cmd file line) = ⊥
-IsAddressed (PrintTo file line) = Unit {0}
 IsAddressed (Print line) = ⊥
-IsAddressed (CloseFile file) = Unit {0}
-IsAddressed Rem = Unit {0}
+IsAddressed statement = Unit {0}
 
 -- neither CMD nor PRINT is among the statements
 abbrev pub AreAddressed : List Statement → Type 0
@@ -79,6 +74,7 @@ abbrev pub KeepsPapers : ℕ → Outcome → Outcome → Type 0
 KeepsPapers left_out all rest = (4 ≢ left_out → rest.paper4 ≡ all.paper4) × (5 ≢ left_out → rest.paper5 ≡ all.paper5)
 
 -- what a run with these delay numbers gives: the headline and the true trace
-pub record IsGiven (mode : StatusMode) (present : Present) (delays : DelayNumbers) (statements : List Statement) (outcome : Outcome) : Type 0 where
+pub record IsGiven (mode : StatusMode) (present : Present) (delays : DelayNumbers)
+    (statements : List Statement) (outcome : Outcome) : Type 0 where
   pub headline : IsOutcome mode present statements outcome
   pub true_trace : IsTrueTrace mode present delays statements outcome.trace

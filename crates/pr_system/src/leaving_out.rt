@@ -82,7 +82,9 @@ pub fn without_device(
 ) -> Result<Vec<Statement>, NoMemory>
     ensures list { IfOk result (λ rest. rest.items ≡ without device statements.now) }
     ensures short { IfOk result (λ rest. length rest.items ≤ length statements.now) }
-    ensures isolated { IfOk result (λ rest. (mode : StatusMode) (present : Present) → AreAddressed statements.now → GoesOn mode present statements.now → IsSpared mode present device statements.now rest.items) }
+    ensures isolated { IfOk result
+        (λ rest. (mode : StatusMode) (present : Present) → AreAddressed statements.now → GoesOn mode present statements.now →
+        IsSpared mode present device statements.now rest.items) }
 {
     printers_are_isolated();
     let mut files = FileTable::new();

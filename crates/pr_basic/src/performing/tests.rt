@@ -66,7 +66,7 @@ fn note(noted: &mut [Item; NOTED], count: &mut usize, item: Item) {
 }
 
 impl Serial for Noting {
-    ghost use Rattle.pr_serial.specs.Bus.{no_delays};
+    ghost use Rattle.pr_serial.specs.DirectState.{no_delays};
 
     ghost printers = { λ n. n.bus.present };
 

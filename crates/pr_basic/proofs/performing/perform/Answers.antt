@@ -2,7 +2,8 @@ use Rattle.std.proofs.Common.{None, is_some, cond, refl, sym, ap, ◌∙◌, sub
 use Rattle.pr_channels.specs.Files.{open_stop, file_at}
 use Rattle.pr_basic.specs.declared.statement.Statement.{Statement}
 use Rattle.pr_basic.specs.declared.statement.Statement.TheVariants.{OpenFile, Cmd, PrintTo, Print, Rem}
-use Rattle.pr_basic.specs.Statements.{effect_of, setting_of, commanding, Performs, found_by}
+use Rattle.pr_basic.specs.Statements.{effect_of, commanding}
+use Rattle.pr_basic.specs.Performing.{setting_of, Performs, found_by}
 use Rattle.pr_basic.proofs.EffectLemmas.{begun_working, performs_from, opening_channel, commanding_channel, unlistening_channel, print_gives, print_channel, rem_gives}
 use Rattle.pr_basic.proofs.PrintingLemmas.{laws_of}
 use Rattle.pr_basic.proofs.performing.perform.Goals as goal

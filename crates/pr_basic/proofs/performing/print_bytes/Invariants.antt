@@ -1,6 +1,5 @@
 use Rattle.std.proofs.Common.{◌≡◌, ◌+◌, ◌≤◌, take, length}
-use Rattle.pr_basic.specs.Statements.{ChangesScreenAlone}
-use Rattle.pr_basic.specs.Performing.{printing, IsWorking}
+use Rattle.pr_basic.specs.Performing.{printing, IsWorking, ChangesScreenAlone}
 use Rattle.pr_basic.proofs.performing.print_bytes.Given as goal
 
 abbrev pub invariant-loop-byte : goal.invariant-loop-byte

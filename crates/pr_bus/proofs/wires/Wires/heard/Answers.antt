@@ -1,7 +1,8 @@
 use Rattle.std.proofs.Common.{◌≡◌, ◌≤◌, ◌*◌, ◌++◌, List, length, ap, ◌∙◌, arith, length-append, subst, sym}
 use Rattle.std.proofs.lemmas.Grind.{common_steps}
 use Rattle.pr_page.specs.declared.input.Input.{Input}
-use Rattle.pr_serial.specs.Answers.{heard_by, items_before}
+use Rattle.pr_serial.specs.Heard.{heard_by}
+use Rattle.pr_serial.specs.Telling.{items_before}
 use Rattle.pr_bus.specs.WiresState.{WiresState}
 use Rattle.pr_bus.specs.Wired.{numbers_of}
 use Rattle.pr_bus.proofs.WiredLemmas.{heard-since, present-four, present-five}

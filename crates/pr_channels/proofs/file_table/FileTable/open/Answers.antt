@@ -1,5 +1,6 @@
 use Rattle.std.proofs.Common.{◌≡◌, None, ap, sym, ◌∙◌}
-use Rattle.pr_channels.specs.Files.{Files, file_at, IsFile}
+use Rattle.pr_channels.specs.Files.{Files, file_at}
+use Rattle.pr_channels.specs.Table.{IsFile}
 use Rattle.pr_channels.proofs.TableLemmas.{named_none, table_push, each_push, named-push}
 use Rattle.pr_channels.proofs.file_table.FileTable.open.Goals as goal
 

@@ -1,0 +1,23 @@
+-- Trusted: what is put on the bus for a file.
+use Rattle.std.specs.Prelude.{ℕ, ◌+◌, Option, Some, None, is_some, List, [], ◌∷◌, if◌then◌else◌}
+use Rattle.pr_serial.specs.Elements.{Element, Attention}
+use Rattle.pr_channels.specs.declared.file.File.{File}
+
+-- a second command: a base and the secondary address, if there is one
+abbrev pub second_from : ℕ → Option ℕ → Option ℕ
+second_from base None = None
+second_from base (Some s) = Some (base + s)
+
+-- LISTEN to the file's device, with its secondary address
+abbrev pub listen_to : File → Element
+listen_to file = Attention (32 + file.device) (second_from 96 file.second)
+
+-- UNLISTEN
+abbrev pub unlisten : Element
+unlisten = Attention 63 None
+
+-- what CLOSE sends for a file: its device is told, if the file has a secondary address
+abbrev pub closing : Option File → List Element
+closing None = []
+closing (Some file) =
+    if is_some file.second then Attention (32 + file.device) (second_from 224 file.second) ∷ unlisten ∷ [] else []

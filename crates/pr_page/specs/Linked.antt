@@ -1,0 +1,11 @@
+-- Linking words: the modes that the code keeps, as the definitions have them. No reader needs to believe them.
+use Rattle.pr_page.specs.Modes.{Modes}
+use Rattle.pr_page.specs.declared.settings.Settings.{Settings}
+
+-- what settings of the code say of the modes
+abbrev pub modes_of : Settings → Modes
+modes_of s = record { graphic = s.graphic; wide = s.wide; reverse = s.reverse; override_set = s.override_set }
+
+-- the settings of the code that say these modes
+abbrev pub settings_of : Modes → Settings
+settings_of m = record { graphic = m.graphic; wide = m.wide; reverse = m.reverse; override_set = m.override_set }
