@@ -1,8 +1,8 @@
 -- The bytes of a printer printed as they are read.
-use Rattle.std.proofs.Common.{◌≡◌, ℕ, ◌+◌, ◌-◌, ◌≤◌, Bool, List, [], ◌∷◌, ◌++◌, length, ap, sym, ◌∙◌, arith, length-append, Option, subst}
+use Rattle.std.proofs.Common.{◌≡◌, ℕ, ◌+◌, ◌-◌, ◌≤◌, Bool, List, [], ◌∷◌, ◌++◌, length, ap, sym, arith, length-append, Option, subst}
 use Rattle.std.specs.Prelude.{map}
 use Rattle.std.specs.Io.KnownBytes.{Consumes}
-use Rattle.std.proofs.KnownBytes.{Consumes-trans}
+use Rattle.std.proofs.KnownBytes.{Consumes-nil, Consumes-trans}
 use Rattle.std.proofs.lemmas.List.{map-append}
 use Rattle.pr_page.specs.Taken.{HasTaken}
 use Rattle.pr_page.specs.declared.input.Input.{Input}
@@ -16,6 +16,10 @@ pub record HasPrinted (limit : ℕ) (before after : Option (List ℕ)) (lower : 
   pub taken : Consumes before after bytes
   pub printed : HasTaken (raw_inputs lower bytes) printer
   pub room : length bytes + left ≡ limit
+
+-- before the first byte the selection is taken
+pub none_printed : (limit : ℕ) (a : Option (List ℕ)) (lower : Bool) (p : State) → HasTaken (Select lower ∷ []) p → HasPrinted limit a a lower p limit
+none_printed limit a lower p h = record { bytes = []; taken = Consumes-nil a; printed = h; room = omega arith }
 
 -- the inputs of more bytes
 pub inputs_of_more : (lower : Bool) (bytes more : List ℕ) → raw_inputs lower bytes ++ map Byte more ≡ raw_inputs lower (bytes ++ more)

@@ -48,8 +48,9 @@ fn set_option<'a>(alloc: Global) -> Arg<'a>
     ensures rule { rule_of result ≡ set_rule }
     ensures local { result.global ≡ false }
 {
-    value_option(alloc, "set", "upper")
-        .help("The character set selected first: upper (graphic/upper case) or lower (lower/upper case)")
+    value_option(alloc, "set", "upper").help(
+        "The character set selected first: upper (graphic/upper case) or lower (lower/upper case)",
+    )
 }
 
 /// The option `--as`.
@@ -99,8 +100,9 @@ fn raw_command<'a>(alloc: Global) -> Result<Command<'a>, AllocError>
 {
     let set = set_option(alloc);
     let format = as_option(alloc);
-    let command = Command::new(alloc, "raw")
-        .about("Reads the bytes that a printer gets on standard input and writes its page");
+    let command = Command::new(alloc, "raw").about(
+        "Reads the bytes that a printer gets on standard input and writes its page",
+    );
     let one = command.arg(set)?;
     let whole = one.arg(format)?;
     Ok(whole)

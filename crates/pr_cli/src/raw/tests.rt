@@ -28,12 +28,7 @@ fn prints(rt: &(impl Abort + AllocGlobal), bytes: &[u8], lower: bool, text: &str
 
 #[test]
 fn worked_pages(rt: HostRuntime) {
-    prints(
-        &rt,
-        b"",
-        false,
-        "printer 4\nprinter 5\nstatus\nscreen\n",
-    );
+    prints(&rt, b"", false, "printer 4\nprinter 5\nstatus\nscreen\n");
     prints(
         &rt,
         HI,

@@ -1,6 +1,13 @@
-use Rattle.std.proofs.Common.{◌≡◌, ◌≤◌, arith, rules, take, length, length-take}
-use Rattle.pr_cli.proofs.RawLemmas.{print_more}
+use Rattle.std.proofs.Common.{◌≡◌, ◌≤◌, [], arith, rules, take, length, length-take}
+use Rattle.pr_cli.proofs.RawLemmas.{none_printed, print_more}
 use Rattle.pr_cli.proofs.raw.print_input.Goals as goal
+
+pub pieces-init : goal.pieces-init
+pieces-init g c = record {
+  printed = none_printed _ (g.R.Read.remaining c.args.input.now.inner) _ _ (c.in_ok-take.ensures.ok [] c.new-printer.ensures.inputs);
+  count = omega (arith, c.in_ok-take.ensures.count, c.new-printer.ensures.count);
+  fresh = c.requires.fresh;
+}
 
 pub pieces-preserved : goal.pieces-preserved
 pieces-preserved g c =
