@@ -2,7 +2,8 @@
 # make try          prints that page within a minute or two, by a build of which nothing is proved
 # make test         the gate: every proof, test and must-fail edit, then the tests outside the prover
 # make bench        speed and peak memory beside `wc -l`, with the aim of each
-# make peer         traces of runs, read by sigrok's decoder of the bus (sigrok-cli and libsigrokdecode4)
+# make peer         traces and pictures of runs, read by others: sigrok's decoder of the bus (sigrok-cli and libsigrokdecode4),
+#                   xmllint and rsvg-convert (libxml2-utils, librsvg2-bin and netpbm)
 # make install      copies the built program to $(PREFIX)/bin
 
 SHELL := /bin/bash
@@ -51,6 +52,7 @@ bench: build $(TESTS)
 # Not a part of the gate.
 peer: build
 	@tests/peer $(PROGRAM)
+	@tests/pictures $(PROGRAM)
 
 install: build
 	install -d $(DESTDIR)$(PREFIX)/bin

@@ -25,6 +25,22 @@ delays_rule = value_rule (codes "delays") []
 abbrev pub run_app : Text → App
 run_app name = with_rule (with_rule (with_rule (new_app name) present_rule) delays_rule) status_rule
 
+-- the character set that is selected
+abbrev pub set_rule : Rule
+set_rule = value_rule (codes "set") (codes "upper")
+
+-- the format of the page
+abbrev pub as_rule : Rule
+as_rule = value_rule (codes "as") (codes "list")
+
+-- the subcommand that writes the pages of a script
+abbrev pub pages_app : App
+pages_app = with_rule (run_app (codes "pages")) as_rule
+
+-- the subcommand that writes the page of a printer's bytes
+abbrev pub raw_app : App
+raw_app = with_rule (with_rule (new_app (codes "raw")) set_rule) as_rule
+
 -- the program without its subcommands, of which it wants one
 abbrev pub program_app : App
 program_app = on_top (λ s. record s { subcommand_required = true; disable_help_subcommand = true }) (new_app (codes "print1525"))
@@ -32,8 +48,8 @@ program_app = on_top (λ s. record s { subcommand_required = true; disable_help_
 -- the program
 abbrev pub print1525 : App
 print1525 =
-    with_subcommand (with_subcommand (with_subcommand program_app (run_app (codes "pages")).top) (run_app (codes "bus")).top)
-    (new_app (codes "check")).top
+    with_subcommand (with_subcommand (with_subcommand (with_subcommand program_app pages_app.top) (run_app (codes "bus")).top)
+    (new_app (codes "check")).top) raw_app.top
 
 -- no option of the command holds for its subcommands too
 abbrev pub IsLocal : Command → Type 0

@@ -1,5 +1,5 @@
 -- Trusted: what a command line asks for, by clap's meaning of the command.
-use Rattle.std.specs.Prelude.{◌≡◌, ◌⊎◌, List, [], Option, Some, None, codes, unwrap_or}
+use Rattle.std.specs.Prelude.{◌≡◌, ◌⊎◌, Bool, List, [], Option, Some, None, codes, unwrap_or}
 use Rattle.clap.specs.Words.{Row, Text, first_of}
 use Rattle.pr_serial.specs.declared.Present.{Present}
 use Rattle.pr_serial.specs.Bus.{DelayNumbers}
@@ -7,9 +7,10 @@ use Rattle.pr_bus.specs.declared.wires.Delays.{Delays}
 use Rattle.pr_bus.specs.DelaysLeft.{numbers_left}
 use Rattle.pr_basic.specs.declared.session.StatusMode.{StatusMode}
 use Rattle.pr_cli.specs.DelayLists.{delays_of}
-use Rattle.pr_cli.specs.Options.{present_of, mode_of}
+use Rattle.pr_cli.specs.Options.{format_of, mode_of, present_of, set_of}
+use Rattle.pr_cli.specs.declared.format.Format.{Format}
 use Rattle.pr_cli.specs.declared.job.Job.{Job}
-use Rattle.pr_cli.specs.declared.job.Job.TheVariants.{Pages, Bus, Check}
+use Rattle.pr_cli.specs.declared.job.Job.TheVariants.{Pages, Bus, Check, Raw}
 use Rattle.pr_cli.specs.declared.job.JobFault.{JobFault}
 use Rattle.pr_cli.specs.declared.job.JobFault.TheVariants as fault
 
@@ -25,6 +26,14 @@ delays_text rows = unwrap_or (first_of (codes "delays") rows) []
 abbrev pub status_text : List Row → Text
 status_text rows = unwrap_or (first_of (codes "status") rows) (codes "each")
 
+-- the value of --set, `upper` where it is not given
+abbrev pub set_text : List Row → Text
+set_text rows = unwrap_or (first_of (codes "set") rows) (codes "upper")
+
+-- the value of --as, `list` where it is not given
+abbrev pub as_text : List Row → Text
+as_text rows = unwrap_or (first_of (codes "as") rows) (codes "list")
+
 -- the subcommand met, with the rows of its options
 abbrev pub Met : Type 0
 Met = Option (Text × List Row)
@@ -37,11 +46,24 @@ pub record AsksToRun (met : Met) (name : Text) (present : Present) (delays : Del
   pub are_delays : delays_of (delays_text rows) ≡ Some (numbers_left delays)
   pub is_mode : mode_of (status_text rows) ≡ Some mode
 
+-- the subcommand of this name was met, and its page is to have this format
+pub record AsksAs (met : Met) (name : Text) (format : Format) : Type 0 where
+  pub rows : List Row
+  pub is_met : met ≡ Some (name, rows)
+  pub is_format : format_of (as_text rows) ≡ Some format
+
+-- the subcommand `raw` was met, and this set is to be selected, lower/upper case or not
+pub record AsksToSelect (met : Met) (lower : Bool) : Type 0 where
+  pub rows : List Row
+  pub is_met : met ≡ Some (codes "raw", rows)
+  pub is_set : set_of (set_text rows) ≡ Some lower
+
 -- the subcommand met asks for the job
 abbrev pub AsksFor : Met → Job → Type 0
-AsksFor met (Pages present delays mode) = AsksToRun met (codes "pages") present delays mode
+AsksFor met (Pages present delays mode format) = AsksToRun met (codes "pages") present delays mode × AsksAs met (codes "pages") format
 AsksFor met (Bus present delays mode) = AsksToRun met (codes "bus") present delays mode
 AsksFor met Check = (rows : List Row) × (met ≡ Some (codes "check", rows))
+AsksFor met (Raw lower format) = AsksToSelect met lower × AsksAs met (codes "raw") format
 
 -- a value of --present that is none
 pub record HasBadPresent (met : Met) : Type 0 where
@@ -70,9 +92,36 @@ pub record HasBadStatus (met : Met) : Type 0 where
   pub are_delays : delays_of (delays_text rows) ≡ Some delays
   pub is_bad : mode_of (status_text rows) ≡ None
 
+-- good values of --present, --delays and --status
+pub record IsGoodRun (rows : List Row) : Type 0 where
+  pub present : Present
+  pub delays : DelayNumbers
+  pub mode : StatusMode
+  pub is_present : present_of (present_text rows) ≡ Some present
+  pub are_delays : delays_of (delays_text rows) ≡ Some delays
+  pub is_mode : mode_of (status_text rows) ≡ Some mode
+
+-- a good --present, good --delays, a good --status, and a value of --set that is none
+pub record HasBadSet (met : Met) : Type 0 where
+  pub name : Text
+  pub rows : List Row
+  pub is_met : met ≡ Some (name, rows)
+  pub is_run : IsGoodRun rows
+  pub is_bad : set_of (set_text rows) ≡ None
+
+-- good values of all other options, and a value of --as that is none
+pub record HasBadAs (met : Met) : Type 0 where
+  pub name : Text
+  pub rows : List Row
+  pub lower : Bool
+  pub is_met : met ≡ Some (name, rows)
+  pub is_run : IsGoodRun rows
+  pub is_set : set_of (set_text rows) ≡ Some lower
+  pub is_bad : format_of (as_text rows) ≡ None
+
 -- one of the subcommands
 abbrev pub IsOurs : Text → Type 0
-IsOurs name = (name ≡ codes "pages") ⊎ ((name ≡ codes "bus") ⊎ (name ≡ codes "check"))
+IsOurs name = (name ≡ codes "pages") ⊎ ((name ≡ codes "bus") ⊎ ((name ≡ codes "check") ⊎ (name ≡ codes "raw")))
 
 -- the command line is refused as clap refuses it
 abbrev pub IsLine : JobFault → Type 0
@@ -80,4 +129,6 @@ IsLine (fault.Line e) = Unit {0}
 IsLine fault.BadPresent = ⊥
 IsLine fault.BadDelays = ⊥
 IsLine fault.BadStatus = ⊥
+IsLine fault.BadSet = ⊥
+IsLine fault.BadAs = ⊥
 IsLine fault.NoMemory = ⊥

@@ -2,7 +2,7 @@
 
 ghost use Rattle.std.specs.Prelude.{◌≡◌, IfOk, false};
 ghost use Rattle.clap.specs.Words.{app_of, rule_of};
-ghost use Rattle.pr_cli.specs.CommandLine.{IsLocal, delays_rule, present_rule, print1525, run_app, status_rule, value_rule};
+ghost use Rattle.pr_cli.specs.CommandLine.{IsLocal, as_rule, delays_rule, pages_app, present_rule, print1525, raw_app, run_app, set_rule, status_rule, value_rule};
 
 use clap::{Arg, Command};
 use std::alloc::{AllocError, Global};
@@ -43,6 +43,26 @@ fn delays_option<'a>(alloc: Global) -> Arg<'a>
     )
 }
 
+/// The option `--set`.
+fn set_option<'a>(alloc: Global) -> Arg<'a>
+    ensures rule { rule_of result ≡ set_rule }
+    ensures local { result.global ≡ false }
+{
+    value_option(alloc, "set", "upper").help(
+        "The character set selected first: upper (graphic/upper case) or lower (lower/upper case)",
+    )
+}
+
+/// The option `--as`.
+fn as_option<'a>(alloc: Global) -> Arg<'a>
+    ensures rule { rule_of result ≡ as_rule }
+    ensures local { result.global ≡ false }
+{
+    value_option(alloc, "as", "list").help(
+        "The format: list (rows and marks), text (lines of 80 columns) or svg (a picture)",
+    )
+}
+
 /// A subcommand that runs a script.
 fn run_command<'a>(alloc: Global, name: &'a str, about: &'a str) -> Result<Command<'a>, AllocError>
     ensures app { IfOk result (λ c. app_of c ≡ run_app name.entry.now) }
@@ -58,16 +78,42 @@ fn run_command<'a>(alloc: Global, name: &'a str, about: &'a str) -> Result<Comma
     Ok(whole)
 }
 
+/// The subcommand `pages`.
+fn pages_command<'a>(alloc: Global) -> Result<Command<'a>, AllocError>
+    ensures app { IfOk result (λ c. app_of c ≡ pages_app) }
+    ensures local { IfOk result IsLocal }
+{
+    let format = as_option(alloc);
+    let command = run_command(
+        alloc,
+        "pages",
+        "Reads a script on standard input and writes the pages that it prints",
+    )?;
+    let whole = command.arg(format)?;
+    Ok(whole)
+}
+
+/// The subcommand `raw`.
+fn raw_command<'a>(alloc: Global) -> Result<Command<'a>, AllocError>
+    ensures app { IfOk result (λ c. app_of c ≡ raw_app) }
+    ensures local { IfOk result IsLocal }
+{
+    let set = set_option(alloc);
+    let format = as_option(alloc);
+    let command = Command::new(alloc, "raw").about(
+        "Reads the bytes that a printer gets on standard input and writes its page",
+    );
+    let one = command.arg(set)?;
+    let whole = one.arg(format)?;
+    Ok(whole)
+}
+
 /// The command with its subcommands.
 pub fn make_command<'a>(alloc: Global) -> Result<Command<'a>, AllocError>
     ensures app { IfOk result (λ c. app_of c ≡ print1525) }
     ensures local { IfOk result IsLocal }
 {
-    let pages = run_command(
-        alloc,
-        "pages",
-        "Reads a script on standard input and writes the pages that it prints",
-    )?;
+    let pages = pages_command(alloc)?;
     let bus = run_command(
         alloc,
         "bus",
@@ -76,12 +122,14 @@ pub fn make_command<'a>(alloc: Global) -> Result<Command<'a>, AllocError>
     let check = Command::new(alloc, "check").about(
         "Reads a trace on standard input and writes the frames that it spells, if it is lawful",
     );
+    let raw = raw_command(alloc)?;
     let program = Command::new(alloc, "print1525")
         .about("The printed output of a Commodore 64 on VIC-1525 printers")
         .subcommand_required(true)
         .disable_help_subcommand(true);
     let one = program.subcommand(pages)?;
     let two = one.subcommand(bus)?;
-    let whole = two.subcommand(check)?;
+    let three = two.subcommand(check)?;
+    let whole = three.subcommand(raw)?;
     Ok(whole)
 }

@@ -3,11 +3,12 @@
 ghost use Rattle.std.specs.Prelude.{◌≡◌, ◌≢◌, map, true, unwrap_or, IfOk, IfErr, IfSome, IsErrOf, IsSome};
 ghost use Rattle.clap.specs.Words.{first_of, found_of, kind_of, rows_of, subcommand_of, subcommand_rows_of, takes};
 ghost use Rattle.pr_cli.specs.CommandLine.{print1525};
-ghost use Rattle.pr_cli.specs.Jobs.{AsksFor, HasBadDelays, HasBadPresent, HasBadStatus, IsLine, IsOurs};
+ghost use Rattle.pr_cli.specs.Jobs.{AsksFor, HasBadAs, HasBadDelays, HasBadPresent, HasBadSet, HasBadStatus, IsLine, IsOurs};
 
 use crate::command::make_command;
 use crate::delays::{DelayFault, read_delays};
-use crate::options::{read_present, read_status};
+use crate::format::Format;
+use crate::options::{read_format, read_present, read_set, read_status};
 use clap::ArgMatches;
 use clap::error::ErrorKind;
 use pr_basic::StatusMode;
@@ -18,14 +19,21 @@ use std::alloc::Global;
 /// What the program is to do.
 #[derive(Drop)]
 pub enum Job {
-    /// Read a script and write the page text of its run, with these printers present, these
-    /// delays, and the status going on in this way.
-    Pages(Present, Delays, StatusMode),
+    /// Read a script and write the pages of its run, with these printers present, these delays,
+    /// and the status going on in this way, in this format.
+    Pages(Present, Delays, StatusMode, Format),
     /// Read a script and write the trace of its run, with these printers present, these delays,
     /// and the status going on in this way.
     Bus(Present, Delays, StatusMode),
     /// Read a trace and write the frames that it spells.
     Check,
+    /// Read the bytes of a printer and write its page.
+    Raw {
+        /// The lower/upper case set is selected first, else the graphic/upper case set.
+        lower: bool,
+        /// The format of the page.
+        format: Format,
+    },
 }
 
 /// Why a command line asks for nothing.
@@ -39,6 +47,10 @@ pub enum JobFault {
     BadDelays,
     /// The value of `--status` is not `each` or `kept`.
     BadStatus,
+    /// The value of `--set` is not `upper` or `lower`.
+    BadSet,
+    /// The value of `--as` is not `list`, `text` or `svg`.
+    BadAs,
     /// Memory was refused.
     NoMemory,
 }
@@ -63,13 +75,17 @@ impl From<DelayFault> for JobFault {
 /// [`JobFault::Line`] only for words that clap's meaning of the command does not take (a request
 /// for help is one), [`JobFault::BadPresent`] only for a bad value of `--present`,
 /// [`JobFault::BadDelays`] only for a good `--present` and a bad value of `--delays`,
-/// [`JobFault::BadStatus`] only where both are good and the value of `--status` is bad, and
+/// [`JobFault::BadStatus`] only where both are good and the value of `--status` is bad,
+/// [`JobFault::BadSet`] only where these three are good and the value of `--set` is bad,
+/// [`JobFault::BadAs`] only where all others are good and the value of `--as` is bad, and
 /// [`JobFault::NoMemory`] where memory was refused, by clap too.
 pub fn read_job<'a>(alloc: Global, words: &'a [&'a str]) -> Result<Job, JobFault>
     ensures ok { IfOk result (AsksFor (subcommand_of print1525 (map (λ s. s.now) words.entry.now))) }
     ensures present { IsErrOf result JobFault.BadPresent → HasBadPresent (subcommand_of print1525 (map (λ s. s.now) words.entry.now)) }
     ensures delays { IsErrOf result JobFault.BadDelays → HasBadDelays (subcommand_of print1525 (map (λ s. s.now) words.entry.now)) }
     ensures status { IsErrOf result JobFault.BadStatus → HasBadStatus (subcommand_of print1525 (map (λ s. s.now) words.entry.now)) }
+    ensures set { IsErrOf result JobFault.BadSet → HasBadSet (subcommand_of print1525 (map (λ s. s.now) words.entry.now)) }
+    ensures form { IsErrOf result JobFault.BadAs → HasBadAs (subcommand_of print1525 (map (λ s. s.now) words.entry.now)) }
     ensures line { takes print1525 (map (λ s. s.now) words.entry.now) ≡ true → IfErr result (λ e. ¬ IsLine e) }
 {
     let Ok(command) = make_command(alloc) else {
@@ -81,7 +97,8 @@ pub fn read_job<'a>(alloc: Global, words: &'a [&'a str]) -> Result<Job, JobFault
     }
 }
 
-/// The job that the matches of the words ask for.
+/// The job that the matches of the words ask for. Each value is read whichever subcommand was met:
+/// an option that the subcommand does not have has its default there.
 fn job_of(alloc: Global, matches: &ArgMatches<'_>) -> Result<Job, JobFault>
     requires some { IsSome (subcommand_rows_of matches.now) }
     requires ours { IfSome (subcommand_rows_of matches.now) (λ met. IsOurs met.0) }
@@ -89,14 +106,13 @@ fn job_of(alloc: Global, matches: &ArgMatches<'_>) -> Result<Job, JobFault>
     ensures present { IsErrOf result JobFault.BadPresent → HasBadPresent (subcommand_rows_of matches.now) }
     ensures delays { IsErrOf result JobFault.BadDelays → HasBadDelays (subcommand_rows_of matches.now) }
     ensures status { IsErrOf result JobFault.BadStatus → HasBadStatus (subcommand_rows_of matches.now) }
+    ensures set { IsErrOf result JobFault.BadSet → HasBadSet (subcommand_rows_of matches.now) }
+    ensures form { IsErrOf result JobFault.BadAs → HasBadAs (subcommand_rows_of matches.now) }
     ensures line { IfErr result (λ e. ¬ IsLine e) }
 {
     let Some((name, options)) = matches.subcommand() else {
         unreachable!()
     };
-    if name == "check" {
-        return Ok(Job::Check);
-    }
     let Some(present) = read_present(value_or(options, "present", "both")) else {
         return Err(JobFault::BadPresent);
     };
@@ -104,10 +120,22 @@ fn job_of(alloc: Global, matches: &ArgMatches<'_>) -> Result<Job, JobFault>
     let Some(mode) = read_status(value_or(options, "status", "each")) else {
         return Err(JobFault::BadStatus);
     };
+    let Some(lower) = read_set(value_or(options, "set", "upper")) else {
+        return Err(JobFault::BadSet);
+    };
+    let Some(format) = read_format(value_or(options, "as", "list")) else {
+        return Err(JobFault::BadAs);
+    };
+    if name == "check" {
+        return Ok(Job::Check);
+    }
+    if name == "raw" {
+        return Ok(Job::Raw { lower, format });
+    }
     if name == "bus" {
         return Ok(Job::Bus(present, delays, mode));
     }
-    Ok(Job::Pages(present, delays, mode))
+    Ok(Job::Pages(present, delays, mode, format))
 }
 
 /// The value of an option, or a text in its place.
@@ -121,6 +149,7 @@ fn value_or<'a>(options: &ArgMatches<'a>, id: &str, fallback: &'a str) -> &'a st
 fn fault_of(error: clap::Error) -> JobFault
     ensures memory { kind_of error ≡ ErrorKind.OutOfMemory → ¬ IsLine result }
     ensures line { (result ≢ JobFault.BadPresent) × (result ≢ JobFault.BadDelays) × (result ≢ JobFault.BadStatus) }
+    ensures page { (result ≢ JobFault.BadSet) × (result ≢ JobFault.BadAs) }
 {
     if error.kind() == ErrorKind::OutOfMemory {
         JobFault::NoMemory

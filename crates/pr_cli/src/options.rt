@@ -1,8 +1,9 @@
 //! The values of the program's options.
 
 ghost use Rattle.std.specs.Prelude.{◌≡◌};
-ghost use Rattle.pr_cli.specs.Options.{mode_of, present_of};
+ghost use Rattle.pr_cli.specs.Options.{format_of, mode_of, present_of, set_of};
 
+use crate::format::Format;
 use pr_basic::StatusMode;
 use pr_serial::Present;
 
@@ -28,6 +29,30 @@ pub fn read_status(text: &str) -> Option<StatusMode>
     match text {
         "each" => Some(StatusMode::Each),
         "kept" => Some(StatusMode::Kept),
+        _ => None,
+    }
+}
+
+/// Whether the character set to select is lower/upper case: `upper` (graphic/upper case) or
+/// `lower` (profile). None for any other text.
+pub fn read_set(text: &str) -> Option<bool>
+    ensures { result ≡ set_of text.now }
+{
+    match text {
+        "upper" => Some(false),
+        "lower" => Some(true),
+        _ => None,
+    }
+}
+
+/// The format of the page: `list`, `text` or `svg` (profile). None for any other text.
+pub fn read_format(text: &str) -> Option<Format>
+    ensures { result ≡ format_of text.now }
+{
+    match text {
+        "list" => Some(Format::List),
+        "text" => Some(Format::Lines),
+        "svg" => Some(Format::Picture),
         _ => None,
     }
 }

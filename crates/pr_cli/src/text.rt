@@ -16,7 +16,8 @@ use std::io::Write;
 use std::marker::Model;
 use std::mem;
 
-/// A text in blocks of [`BLOCK`] bytes or a few fewer. Contracts see its bytes alone.
+/// A text in blocks of [`BLOCK`] bytes or a few fewer, or in the one piece in which it was given.
+/// Contracts see its bytes alone.
 #[derive(Drop)]
 pub struct Text {
     alloc: Global,
@@ -44,6 +45,17 @@ impl Text {
             alloc,
             full: Vec::new(alloc),
             last: Vec::new(alloc),
+        }
+    }
+
+    /// The text of a vector's bytes. It takes no memory.
+    pub fn from_vec(alloc: Global, bytes: Vec<u8>) -> Text
+        ensures { result ≡ bytes.items }
+    {
+        Text {
+            alloc,
+            full: Vec::new(alloc),
+            last: bytes,
         }
     }
 

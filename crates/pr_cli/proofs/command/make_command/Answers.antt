@@ -19,7 +19,8 @@ returns-clause-app c =
     ap app_of_fields c.disable_help_subcommand-program.ensures ∙ ap (on_top unhelped) (ap app_of_fields c.subcommand_required.ensures ∙ ap (on_top wanted) (ap app_of_fields c.about.ensures ∙ c.new-2.ensures.app)) in
     let check_is : app_of c.about-check.result ≡ new_app (codes "check") = ap app_of_fields c.about-check.ensures ∙ c.new.ensures.app in
     let check_local : (out-Command c.about-check.result).has_globals ≡ false = ap (λ (f : Command-F Command). f.has_globals) c.about-check.ensures ∙ c.new.ensures.local in
-    c.in_ok-whole.ensures.shape check_local
+    c.in_ok-whole.ensures.shape c.in_ok-raw.ensures.local
+    ∙ ap₂ with_subcommand (c.in_ok-three.ensures.shape check_local
     ∙ ap₂ with_subcommand (c.in_ok-two.ensures.shape c.in_ok-bus.ensures.local
     ∙ ap₂ with_subcommand (c.in_ok-one.ensures.shape c.in_ok-pages.ensures.local ∙ ap₂ with_subcommand program_is (ap top c.in_ok-pages.ensures.app))
-    (ap top c.in_ok-bus.ensures.app)) (ap top check_is)
+    (ap top c.in_ok-bus.ensures.app)) (ap top check_is)) (ap top c.in_ok-raw.ensures.app)

@@ -1,0 +1,31 @@
+-- Linking words, for proofs: what a part of `raw` answers for the bytes of a printer. No reader needs to believe them.
+use Rattle.std.specs.Prelude.{ℕ, Bool, ◌<◌, ◌≤◌, List, length, Option, Result, Ok, Err}
+use Rattle.std.specs.Io.KnownBytes.{IsAtEnd}
+use Rattle.pr_page.specs.Page.{IsPage}
+use Rattle.pr_page.specs.declared.paper.Paper.{Paper}
+use Rattle.pr_cli.specs.Raw.{raw_inputs}
+use Rattle.pr_cli.specs.declared.fault.CliFault.{CliFault}
+use Rattle.pr_cli.specs.declared.fault.CliFault.TheVariants.{Script, Trace, Wave, TooLarge, NoMemory, ReadFailed, WriteFailed}
+
+-- the page of at most so many bytes, or why there is none
+abbrev pub GivesPaper : ℕ → Bool → Result Paper CliFault → List ℕ → Type 0
+GivesPaper limit lower (Ok paper) bytes = (length bytes ≤ limit) × IsPage (raw_inputs lower bytes) paper
+GivesPaper limit lower (Err TooLarge) bytes = limit < length bytes
+GivesPaper limit lower (Err NoMemory) bytes = Unit {0}
+GivesPaper limit lower (Err ReadFailed) bytes = Unit {0}
+GivesPaper limit lower (Err WriteFailed) bytes = ⊥
+GivesPaper limit lower (Err (Script fault)) bytes = ⊥
+GivesPaper limit lower (Err (Trace fault)) bytes = ⊥
+GivesPaper limit lower (Err (Wave fault)) bytes = ⊥
+
+-- with the paper its end was read
+abbrev pub HasReadAll : Option (List ℕ) → Result Paper CliFault → Type 0
+HasReadAll left (Ok paper) = IsAtEnd left
+HasReadAll left (Err fault) = Unit {0}
+
+-- a fault of reading, or want of memory
+abbrev pub IsReadingFault : CliFault → Type 0
+IsReadingFault TooLarge = Unit {0}
+IsReadingFault NoMemory = Unit {0}
+IsReadingFault ReadFailed = Unit {0}
+IsReadingFault _ = ⊥

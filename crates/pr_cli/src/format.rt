@@ -1,0 +1,47 @@
+//! The formats in which a page is written.
+
+ghost use Rattle.std.specs.Prelude.{◌≡◌, IfOk};
+ghost use Rattle.pr_cli.specs.Formats.{text_in};
+
+use crate::page_text::text_from;
+use crate::text::Text;
+use pr_page::NoMemory;
+use pr_serial::Present;
+use pr_system::Outcome;
+use std::alloc::Global;
+
+/// How a page is written.
+#[derive(Clone, Copy, Debug, PartialEq, Eq)]
+pub enum Format {
+    /// The page text, a line for each row and each mark.
+    List,
+    /// Lines of 80 columns, for a terminal, mail and `diff`.
+    Lines,
+    /// An SVG document, for a browser.
+    Picture,
+}
+
+/// The text of an outcome in a format. Lines and the picture show the sheets of the printers that
+/// are present.
+///
+/// # Errors
+///
+/// [`NoMemory`] where memory was refused.
+pub(crate) fn text_in_format(
+    alloc: Global,
+    outcome: Outcome,
+    present: Present,
+    format: Format,
+) -> Result<Text, NoMemory>
+    ensures { IfOk result (λ text. text ≡ text_in format present outcome) }
+{
+    let text = match format {
+        Format::List => return text_from(alloc, outcome),
+        Format::Lines => pr_picture::text(alloc, &outcome, present)?,
+        Format::Picture => pr_picture::svg(alloc, &outcome, present)?,
+    };
+    Ok(Text::from_vec(alloc, text))
+}
+
+#[cfg(test)]
+mod tests;
