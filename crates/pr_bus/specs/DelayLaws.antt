@@ -11,12 +11,14 @@ NoAnswerByMistake = (computer printer : List ℕ) (i j : ℕ) → delay_at Ne co
 abbrev pub SlowerListenerHasAcknowledged : Type 0
 SlowerListenerHasAcknowledged =
     (computer printer : List ℕ) (i j : ℕ)
-    → (delay_at F printer j < delay_at Bb computer i) × (delay_at F printer j < delay_at R computer i) × (delay_at F printer j < delay_at Aw computer i)
+    → (delay_at F printer j < delay_at Bb computer i) × (delay_at F printer j < delay_at R computer i)
+    × (delay_at F printer j < delay_at Aw computer i)
 
 -- a printer that doesn't listen releases DATA before the computer's next act
 abbrev pub SlowerPrinterHasReleased : Type 0
 SlowerPrinterHasReleased =
-    (computer printer : List ℕ) (i j : ℕ) → (delay_at Dr printer j < delay_at Bb computer i) × (delay_at Dr printer j < delay_at Cr computer i)
+    (computer printer : List ℕ) (i j : ℕ)
+    → (delay_at Dr printer j < delay_at Bb computer i) × (delay_at Dr printer j < delay_at Cr computer i)
 
 -- an answer to end-or-identify begins before another one ends, so that two make one pulse
 abbrev pub AnswersOverlap : Type 0

@@ -28,6 +28,22 @@ pub record Hears (device : ℕ) (there : Bool) (forgotten trace : List Edge) (ea
   pub hears : there ≡ true → IsHearing forgotten trace ear
   pub nothing : there ≡ false → ear.inputs.items ≡ []
 
+-- a printer has heard these edges behind whatever it had heard
+abbrev pub HearsOn : List Edge → Ear → Ear → Type 0
+HearsOn edges old new =
+    (forgotten trace : List Edge) → IsAllowed (trace ++ edges) → IsHearing forgotten trace old → IsHearing forgotten (trace ++ edges) new
+
+-- the printer with this number, if it is there, has heard these edges behind whatever it had heard; if it isn't, it has heard nothing
+abbrev pub ListensAs : ℕ → List Edge → Ear → Ear → Type 0
+ListensAs device edges old new =
+    (there : Bool) (forgotten trace : List Edge) → IsAllowed (trace ++ edges) → Hears device there forgotten trace old
+    → Hears device there forgotten (trace ++ edges) new
+
+-- the printer with this number has forgotten the inputs given so far
+abbrev pub ForgetsAs : ℕ → Ear → Ear → Type 0
+ForgetsAs device old new =
+    (there : Bool) (forgotten trace : List Edge) → Hears device there forgotten trace old → Hears device there trace trace new
+
 -- it is the ear that it was, with its inputs
 pub record IsSameEar (old new : Ear) : Type 0 where
   pub there : new.there ≡ old.there
@@ -42,7 +58,8 @@ HasRoom ear = ear.there ≡ true → vec_len ear.inputs + 2 ≤ vec_capacity ear
 pub record IsReady (forgotten trace edges : List Edge) (ear : Ear) : Type 0 where
   pub hears : IsHearing forgotten trace ear
   pub allowed : IsAllowed (trace ++ edges)
-  pub room : length (inputs_with (device_of ear.receiver) (trace ++ edges)) ≤ length (inputs_with (device_of ear.receiver) forgotten) + vec_capacity ear.inputs
+  pub room : length (inputs_with (device_of ear.receiver) (trace ++ edges))
+      ≤ length (inputs_with (device_of ear.receiver) forgotten) + vec_capacity ear.inputs
 
 -- the printer may hear these edges behind the trace that it has heard
 abbrev pub MayHear : List Edge → Ear → Type 0

@@ -15,7 +15,13 @@ use Rattle.pr_bus.specs.Printers.{printer_list, heeding, IsSamePrinter}
 
 -- the wires, after these items
 abbrev pub state_of : List Item → Talker → BusState
-state_of before t = record { before = before; now = t.time; lines = t.lines; computer = left t.computer; printers = printer_list t.four ++ printer_list t.five }
+state_of before t = record {
+  before = before;
+  now = t.time;
+  lines = t.lines;
+  computer = left t.computer;
+  printers = printer_list t.four ++ printer_list t.five;
+}
 
 -- the talker knows who listens after these items
 pub record IsTuned (before : List Item) (t : Talker) : Type 0 where
@@ -57,7 +63,11 @@ abbrev pub closed_at : Talker → ℕ → ℕ
 closed_at t ack = freed_at t ack + delay_at Cr (left t.computer) 1
 
 abbrev pub ending_of : Talker → ℕ → Bool → Ending
-ending_of t ack unlisten = record { atn = freed_at t ack; line = cond unlisten (Some (due_at t ack)) None; clock = cond unlisten (Some (closed_at t ack)) None }
+ending_of t ack unlisten = record {
+  atn = freed_at t ack;
+  line = cond unlisten (Some (due_at t ack)) None;
+  clock = cond unlisten (Some (closed_at t ack)) None;
+}
 
 -- the end of an attention
 abbrev pub end_of : Talker → ℕ → Bool → ℕ
@@ -65,7 +75,8 @@ end_of t ack unlisten = cond unlisten (closed_at t ack) (freed_at t ack)
 
 -- the lines after an attention
 abbrev pub rest_of : Talker → ℕ → Bool → Lines
-rest_of t ack unlisten = cond unlisten Free (cond ((t.four.there && t.four.listens) || (t.five.there && t.five.listens)) Pulled (Due (due_at t ack)))
+rest_of t ack unlisten =
+    cond unlisten Free (cond ((t.four.there && t.four.listens) || (t.five.there && t.five.listens)) Pulled (Due (due_at t ack)))
 
 -- a second command's frame, after the first acknowledgement
 abbrev pub second_of : Talker → ℕ → Option ℕ → Option SecondFrame

@@ -1,14 +1,13 @@
 -- Linking words, for proofs: what a printer hears of edges beside another one. No reader needs to believe them.
-use Rattle.std.specs.Prelude.{◌≡◌, ◌≤◌, ◌+◌, ◌++◌, ℕ, Bool, List, take, vec_capacity}
+use Rattle.std.specs.Prelude.{◌≡◌, ◌≤◌, ◌+◌, ℕ, List, take, vec_capacity}
 use Rattle.pr_wire.specs.declared.Edge.{Edge}
-use Rattle.pr_wire.specs.Table.{IsAllowed}
 use Rattle.pr_receiver.specs.Taken.{device_of, number_taken}
 use Rattle.pr_bus.specs.declared.ear.Ear.{Ear}
-use Rattle.pr_bus.specs.EarState.{IsHearing, Hears}
+use Rattle.pr_bus.specs.EarState.{HearsOn, ListensAs}
 
 -- a printer has heard so many edges in front, whatever it had heard, and has the room that it had
 pub record HearsMore (edges : List Edge) (n : ℕ) (old new : Ear) : Type 0 where
-  pub hears : (forgotten trace : List Edge) → IsAllowed (trace ++ take n edges) → IsHearing forgotten trace old → IsHearing forgotten (trace ++ take n edges) new
+  pub hears : HearsOn (take n edges) old new
   pub device : device_of new.receiver ≡ device_of old.receiver
   pub there : new.there ≡ old.there
   pub count : number_taken new.receiver ≤ number_taken old.receiver + n
@@ -16,6 +15,4 @@ pub record HearsMore (edges : List Edge) (n : ℕ) (old new : Ear) : Type 0 wher
 
 -- a printer that is there has heard these edges behind whatever it had heard; one that isn't has heard nothing
 abbrev pub Listens : List Edge → Ear → Ear → Type 0
-Listens edges old new =
-    (device : ℕ) (there : Bool) (forgotten trace : List Edge) → IsAllowed (trace ++ edges) → Hears device there forgotten trace old
-    → Hears device there forgotten (trace ++ edges) new
+Listens edges old new = (device : ℕ) → ListensAs device edges old new

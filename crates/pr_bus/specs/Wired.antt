@@ -14,10 +14,20 @@ use Rattle.pr_bus.specs.Laws.{AreItems}
 
 -- the delay numbers that weren't taken before the first item
 abbrev pub numbers_of : Begun → Talker → DelayNumbers
-numbers_of b t = record { computer = drop b.computer t.computer.numbers; four = drop b.four t.four.choices.numbers; five = drop b.five t.five.choices.numbers }
+numbers_of b t = record {
+  computer = drop b.computer t.computer.numbers;
+  four = drop b.four t.four.choices.numbers;
+  five = drop b.five t.five.choices.numbers;
+}
 
 abbrev pub state_shown : Inside → WiresState
-state_shown w = record { present = w.present; delays = numbers_of w.begun w.talker; items = w.log.items.items; mark = w.mark; failed = w.failed }
+state_shown w = record {
+  present = w.present;
+  delays = numbers_of w.begun w.talker;
+  items = w.log.items.items;
+  mark = w.mark;
+  failed = w.failed;
+}
 
 -- the talker stands where these items leave it
 pub record IsAt (w : WiresState) (t : Talker) : Type 0 where
@@ -38,7 +48,8 @@ pub record AreHearing (present : Present) (delays : DelayNumbers) (mark : Option
 pub record IsWired (w : Inside) : Type 0 where
   pub items : AreItems w.log.items.items
   pub within : IsWithin w.mark w.log.items.items
-  pub trace : trace_until w.present (numbers_of w.begun w.talker) w.mark w.log.items.items ++ w.log.trace.items ≡ trace_from w.present (numbers_of w.begun w.talker) w.log.items.items
+  pub trace : trace_until w.present (numbers_of w.begun w.talker) w.mark w.log.items.items ++ w.log.trace.items
+      ≡ trace_from w.present (numbers_of w.begun w.talker) w.log.items.items
   pub time : w.time ≡ (state_from w.present (numbers_of w.begun w.talker) w.log.items.items).now
   pub four : w.talker.four.there ≡ w.present.four
   pub five : w.talker.five.there ≡ w.present.five

@@ -1,11 +1,9 @@
 //! What was sent, and what came of it since the mark.
 
-ghost use Rattle.std.specs.Prelude.{◌≡◌, ◌++◌, ◌∷◌, [], ◌+◌, ◌<◌, ◌^◌, Bool, true, List, length, IfOk, OnOk, OnErr, vec_len, vec_capacity};
-ghost use Rattle.pr_wire.specs.declared.Edge.{Edge};
+ghost use Rattle.std.specs.Prelude.{◌≡◌, ◌++◌, ◌∷◌, [], ◌+◌, ◌<◌, ◌^◌, true, length, IfOk, OnOk, OnErr, vec_len, vec_capacity};
 ghost use Rattle.pr_wire.specs.Levels.{start};
-ghost use Rattle.pr_wire.specs.Table.{IsAllowed};
 ghost use Rattle.pr_receiver.specs.Taken.{number_taken};
-ghost use Rattle.pr_bus.specs.EarState.{Hears, IsSameEar, HasRoom, MayHear};
+ghost use Rattle.pr_bus.specs.EarState.{ForgetsAs, Hears, IsSameEar, HasRoom, ListensAs, MayHear};
 
 use crate::ear::Ear;
 use crate::laws::timed_traces_spell;
@@ -75,8 +73,8 @@ impl Log {
         requires five_taken { number_taken self.old.five.receiver + length edges.now < 2 ^ 63 }
         ensures items { self.new.items.items ≡ self.old.items.items ++ item ∷ [] }
         ensures trace { self.new.trace.items ≡ self.old.trace.items }
-        ensures four { (there : Bool) (forgotten trace : List Edge) → IsAllowed (trace ++ edges.now) → Hears 4 there forgotten trace self.old.four → Hears 4 there forgotten (trace ++ edges.now) self.new.four }
-        ensures five { (there : Bool) (forgotten trace : List Edge) → IsAllowed (trace ++ edges.now) → Hears 5 there forgotten trace self.old.five → Hears 5 there forgotten (trace ++ edges.now) self.new.five }
+        ensures four { ListensAs 4 edges.now self.old.four self.new.four }
+        ensures five { ListensAs 5 edges.now self.old.five self.new.five }
     {
         self.items.push_reserved(item);
         self.four.listen_with(&mut self.five, edges);
@@ -86,8 +84,8 @@ impl Log {
     pub fn forget(&mut self)
         ensures items { self.new.items.items ≡ self.old.items.items }
         ensures trace { self.new.trace.items ≡ [] }
-        ensures four { (there : Bool) (forgotten trace : List Edge) → Hears 4 there forgotten trace self.old.four → Hears 4 there trace trace self.new.four }
-        ensures five { (there : Bool) (forgotten trace : List Edge) → Hears 5 there forgotten trace self.old.five → Hears 5 there trace trace self.new.five }
+        ensures four { ForgetsAs 4 self.old.four self.new.four }
+        ensures five { ForgetsAs 5 self.old.five self.new.five }
     {
         self.trace.clear();
         self.four.forget();

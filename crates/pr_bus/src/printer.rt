@@ -94,7 +94,8 @@ impl Printer {
 
     /// What it waits before it releases DATA after ATN, if it doesn't listen.
     pub fn freed(&mut self) -> Option<u16>
-        ensures time { (self.old.there && self.old.listens) ≡ false → option_list result ≡ map (λ (p : all.Printer). delay_at Dr p.numbers 0) (printer_list self.old) }
+        ensures time { (self.old.there && self.old.listens) ≡ false →
+            option_list result ≡ map (λ (p : all.Printer). delay_at Dr p.numbers 0) (printer_list self.old) }
         ensures after { printer_list self.new ≡ after_freed self.old }
         ensures same { IsSamePrinter self.old self.new }
         ensures listens { self.new.listens ≡ self.old.listens }
@@ -108,7 +109,8 @@ impl Printer {
     /// A LISTEN to it makes it listen, an UNLISTEN ends that.
     pub fn tune(&mut self, first: u8)
         requires { self.old.device < 31 }
-        ensures { self.new ≡ record self.old { listens = if first == 63 then false else (self.old.listens || first == 32 + self.old.device) } }
+        ensures { self.new ≡ record self.old
+            { listens = if first == 63 then false else (self.old.listens || first == 32 + self.old.device) } }
     {
         if first == 63 {
             self.listens = false;

@@ -48,8 +48,10 @@ impl Talker {
     /// Sends a byte, and makes its edges.
     pub fn send(&mut self, byte: u8, eoi: bool) -> Result<(), NoMemory>
         requires { self.old.time < 2 ^ 60 }
-        ensures edges { OnOk result ((before : List Item) → IsTuned before self.old → self.new.edges.items ≡ item_edges (state_of before self.old) (Sent byte eoi)) }
-        ensures state { OnOk result ((before : List Item) → IsTuned before self.old → state_of (before ++ Sent byte eoi ∷ []) self.new ≡ (done (state_of before self.old) (Sent byte eoi)).wires) }
+        ensures edges { OnOk result ((before : List Item) → IsTuned before self.old →
+            self.new.edges.items ≡ item_edges (state_of before self.old) (Sent byte eoi)) }
+        ensures state { OnOk result ((before : List Item) → IsTuned before self.old →
+            state_of (before ++ Sent byte eoi ∷ []) self.new ≡ (done (state_of before self.old) (Sent byte eoi)).wires) }
         ensures tuned { OnOk result ((before : List Item) → IsTuned before self.old → IsTuned (before ++ Sent byte eoi ∷ []) self.new) }
         ensures same { IsSameTalker self.old self.new }
         ensures err { OnErr result (self.new.time ≡ self.old.time) }
@@ -71,9 +73,13 @@ impl Talker {
         requires room { self.old.time < 2 ^ 60 }
         requires may_send { MaySend first second }
         requires devices { (self.old.four.device ≡ 4) × (self.old.five.device ≡ 5) }
-        ensures edges { OnOk result ((before : List Item) → IsTuned before self.old → self.new.edges.items ≡ item_edges (state_of before self.old) (Attention first second)) }
-        ensures state { OnOk result ((before : List Item) → IsTuned before self.old → state_of (before ++ Attention first second ∷ []) self.new ≡ (done (state_of before self.old) (Attention first second)).wires) }
-        ensures tuned { OnOk result ((before : List Item) → IsTuned before self.old → IsTuned (before ++ Attention first second ∷ []) self.new) }
+        ensures edges { OnOk result ((before : List Item) → IsTuned before self.old →
+            self.new.edges.items ≡ item_edges (state_of before self.old) (Attention first second)) }
+        ensures state { OnOk result ((before : List Item) → IsTuned before self.old →
+            state_of (before ++ Attention first second ∷ []) self.new
+            ≡ (done (state_of before self.old) (Attention first second)).wires) }
+        ensures tuned { OnOk result ((before : List Item) → IsTuned before self.old →
+            IsTuned (before ++ Attention first second ∷ []) self.new) }
         ensures same { IsSameTalker self.old self.new }
         ensures err { OnErr result (self.new.time ≡ self.old.time) }
     {
@@ -132,7 +138,8 @@ impl Talker {
 
     /// Makes the edge of a byte that nobody hears.
     fn drop_byte(&mut self, look: u64) -> Result<(), NoMemory>
-        ensures edges { OnOk result (self.new.edges.items ≡ self.old.edges.items ++ edges_done self.old.lines (dropped_piece self.old.lines look)) }
+        ensures edges { OnOk result (self.new.edges.items
+            ≡ self.old.edges.items ++ edges_done self.old.lines (dropped_piece self.old.lines look)) }
         ensures state { OnOk result (self.new ≡ record self.old { time = look; lines = Lines.Free; edges = self.new.edges }) }
         ensures err { OnErr result (self.new ≡ record self.old { edges = self.new.edges }) }
     {
@@ -147,7 +154,8 @@ impl Talker {
     /// Makes the edges of a byte that a printer hears.
     fn frame(&mut self, look: u64, byte: u8, eoi: bool) -> Result<(), NoMemory>
         requires { look < 2 ^ 62 }
-        ensures edges { OnOk result (self.new.edges.items ≡ self.old.edges.items ++ (edge_at look true true false ∷ frame_edges true (heard_frame self.old look eoi byte))) }
+        ensures edges { OnOk result (self.new.edges.items
+            ≡ self.old.edges.items ++ (edge_at look true true false ∷ frame_edges true (heard_frame self.old look eoi byte))) }
         ensures now { OnOk result (self.new.time ≡ (heard_frame self.old look eoi byte).ack) }
         ensures lines { OnOk result (self.new.lines ≡ Lines.Pulled) }
         ensures computer { OnOk result (left self.new.computer ≡ drop 17 (left self.old.computer)) }
@@ -176,7 +184,8 @@ impl Talker {
     /// Makes the edges of DATA's pull in answer to ATN, and of CLOCK's release.
     fn answer(&mut self, time: u64, look: u64) -> Result<(), NoMemory>
         requires { time < 2 ^ 62 }
-        ensures edges { OnOk result (self.new.edges.items ≡ self.old.edges.items ++ answer_edges (answer_at self.old.lines time (printers_of self.old)) look) }
+        ensures edges { OnOk result (self.new.edges.items
+            ≡ self.old.edges.items ++ answer_edges (answer_at self.old.lines time (printers_of self.old)) look) }
         ensures four { OnOk result (printer_list self.new.four ≡ map (taking 1) (printer_list self.old.four)) }
         ensures five { OnOk result (printer_list self.new.five ≡ map (taking 1) (printer_list self.old.five)) }
         ensures lines { self.new.lines ≡ self.old.lines }

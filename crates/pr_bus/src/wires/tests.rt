@@ -6,7 +6,9 @@ ghost use Rattle.pr_bus.specs.Sums.{edge_share, time_share};
 use super::*;
 use pr_wire::example::TRACE_TEXT;
 use pr_wire::{read_trace, write_trace};
+use std::env::FillError;
 use std::process::Abort;
+use std::rt::Env;
 
 mod many_bytes;
 
@@ -598,15 +600,26 @@ fn same_front(rt: &impl Abort, first: &[Edge], second: &[Edge]) {
     }
 }
 
+/// Whether a growth may be refused: `tests/faults.c` refuses an allocation.
+fn may_refuse(rt: &impl Env) -> bool {
+    !matches!(
+        rt.var("FAULT_ALLOC", &mut [0; 8]),
+        Err(FillError::NotPresent)
+    )
+}
+
 /// `tests/growths` runs this with each growth in turn refused. Since only one is, at least one of two
-/// runs of the script is answered whole, and the other's trace is a front of its trace.
+/// runs of the script is answered whole, and the other's trace is a front of its trace. With no
+/// growth refused both are answered whole.
 #[test]
 fn each_growth_refused(rt: HostRuntime) {
     let (mut first, mut second) = (bus_of_both(&rt), bus_of_both(&rt));
     let answered = calls_answered(&rt, &mut first);
     let again = calls_answered(&rt, &mut second);
+    let most = answered.max(again);
+    let least = answered.min(again);
     assert!(rt;
-        answered == CALLS || again == CALLS,
+        most == CALLS && (least == CALLS || may_refuse(&rt)),
         "{answered} and {again} answered"
     );
     same_front(&rt, first.trace(), second.trace());
