@@ -3,7 +3,9 @@
 use super::*;
 use crate::statement::{Device, Line, Second};
 use std::alloc::AllocError;
+use std::env::FillError;
 use std::process::Abort;
+use std::rt::Env;
 use std::test::Fail;
 
 /// A script is refused with this fault.
@@ -294,6 +296,14 @@ fn printed_count(statements: &[Statement]) -> usize {
     count
 }
 
+/// How many calls may be refused: one where `tests/faults.c` refuses an allocation, else none.
+fn most_refusals(rt: &impl Env) -> usize {
+    match rt.var("FAULT_ALLOC", &mut [0; 8]) {
+        Err(FillError::NotPresent) => 0,
+        _ => 1,
+    }
+}
+
 /// `make test` runs this with each allocation refused in turn: at most one reading is then refused,
 /// with want of memory, and with no growth refused none is. Each other reading gives the whole
 /// script.
@@ -313,5 +323,5 @@ fn refused_memory_is_told(rt: HostRuntime) {
             }
         }
     }
-    assert!(rt; refused <= 1, "{refused} refusals");
+    assert!(rt; refused <= most_refusals(&rt), "{refused} refusals");
 }
