@@ -1,0 +1,81 @@
+-- How marks are drawn, behind whatever is open, and what strokes give back.
+use Rattle.std.proofs.Common.{◌≡◌, ℕ, ◌+◌, ◌*◌, ◌<◌, Bool, true, false, cond, List, [], ◌∷◌, ◌++◌, length, refl, arith}
+use Rattle.std.specs.Prelude.{◌==◌, codes, flat_map, replicate, nat_lt}
+use Rattle.std.specs.List.{list_all}
+use Rattle.std.proofs.lemmas.Grind.{common_steps, replicate_next}
+use Rattle.pr_page.specs.declared.paper.Placed.{Placed}
+use Rattle.pr_page.specs.declared.paper.Mark.{Mark}
+use Rattle.pr_page.specs.declared.paper.Mark.TheVariants.{Cell, Dots}
+use Rattle.pr_picture.specs.Svg.{dots_of, is_dots, letters_svg, mark_letter, mark_svg, marks_svg, shows_blank, shows_letter, strokes}
+use Rattle.pr_picture.specs.Laws.{are_side_by_side, dots_under, stands_alone}
+
+-- letters side by side behind others join them
+pub letters-join : (x count : ℕ) (letters : List ℕ) (marks : List Placed) → 0 < count
+    → are_side_by_side (x + 6 * count) marks ≡ true → list_all (λ p. shows_letter p.mark) marks ≡ true
+    → marks_svg false x count 0 letters marks ≡ letters_svg x (count + length marks) (letters ++ flat_map (λ p. mark_letter p.mark) marks)
+letters-join x count letters [] some beside shown = grind (arith, common_steps)
+letters-join x count letters (p ∷ ps) some beside shown =
+    grind (arith, common_steps, letters-join x (count + 0 + 1) (letters ++ [] ++ mark_letter p.mark) ps)
+
+-- letters side by side are one element
+pub letters-together : (x : ℕ) (marks : List Placed) → are_side_by_side x marks ≡ true → list_all (λ p. shows_letter p.mark) marks ≡ true
+    → marks_svg false 0 0 0 [] marks ≡ letters_svg x (length marks) (flat_map (λ p. mark_letter p.mark) marks)
+unfolding letters_svg
+letters-together x [] beside shown = refl
+letters-together x (p ∷ ps) beside shown = grind (arith, common_steps, letters-join p.x 1 (mark_letter p.mark) ps)
+
+-- a column of dots shows no letter
+no_letter : (m : Mark) → is_dots m ≡ true → shows_letter m ≡ false
+no_letter (Cell code lower reverse wide) dots = grind arith
+no_letter (Dots value) dots = refl
+
+-- nor a blank
+no_blank : (m : Mark) → is_dots m ≡ true → shows_blank m ≡ false
+no_blank (Cell code lower reverse wide) dots = grind arith
+no_blank (Dots value) dots = refl
+
+-- columns of dots go on in a path
+pub columns-join : (marks : List Placed) → list_all (λ q. is_dots q.mark) marks ≡ true
+    → marks_svg true 0 0 0 [] marks ≡ flat_map (λ q. mark_svg q.x q.mark) marks ++ codes "\"/>\n"
+unfolding letters_svg
+columns-join [] dots = refl
+columns-join (p ∷ ps) dots = grind (arith, common_steps, columns-join ps, no_letter p.mark, no_blank p.mark)
+
+-- columns of dots alone are one path
+pub columns-together : (p : Placed) (ps : List Placed) → list_all (λ q. is_dots q.mark) (p ∷ ps) ≡ true
+    → marks_svg false 0 0 0 [] (p ∷ ps) ≡ codes "<path stroke=\"#000\" d=\"" ++ (flat_map (λ q. mark_svg q.x q.mark) (p ∷ ps) ++ codes "\"/>\n")
+unfolding letters_svg
+columns-together p ps dots = grind (arith, common_steps, columns-join ps, no_letter p.mark, no_blank p.mark)
+
+-- a mark that stands alone ends what is open, and nothing is open behind it
+pub alone-behind : (path : Bool) (x count blanks : ℕ) (letters : List ℕ) (before : List Placed) (p : Placed) (after : List Placed)
+    → stands_alone p.mark ≡ true
+    → marks_svg path x count blanks letters (before ++ p ∷ after)
+      ≡ marks_svg path x count blanks letters before ++ (mark_svg p.x p.mark ++ marks_svg false 0 0 0 [] after)
+alone-behind path x count blanks letters [] p after alone = grind (arith, common_steps)
+alone-behind path x count blanks letters (q ∷ before) p after alone =
+    grind (arith, common_steps,
+      alone-behind path x (count + blanks + 1) 0 (letters ++ replicate blanks 32 ++ mark_letter q.mark) before p after alone,
+      alone-behind false q.x 1 0 (mark_letter q.mark) before p after alone,
+      alone-behind path x count (blanks + 1) letters before p after alone,
+      alone-behind (is_dots q.mark) 0 0 0 [] before p after alone)
+
+-- how many dots without ink stand at the end, behind so many without ink, and so many with ink
+left_over : ℕ → ℕ → List ℕ → ℕ
+left_over gap ink [] = cond (ink == 0) gap 0
+left_over gap ink (d ∷ dots) = cond (d == 1) (left_over gap (ink + 1) dots) (cond (ink == 0) (left_over (gap + 1) 0 dots) (left_over 1 0 dots))
+
+-- strokes give the dots before them and these dots back, but for those without ink at the end
+dots-back : (gap ink : ℕ) (dots : List ℕ) → list_all (λ d. nat_lt d 2) dots ≡ true
+    → dots_under (strokes gap ink dots) ++ replicate (left_over gap ink dots) 0 ≡ replicate gap 0 ++ (replicate ink 1 ++ dots)
+dots-back gap ink [] bits = grind (arith, common_steps)
+dots-back gap ink (d ∷ dots) bits =
+    grind (arith, common_steps, replicate_next, dots-back gap (ink + 1) dots, dots-back (gap + 1) 0 dots, dots-back 1 0 dots)
+
+-- the dots of a value are bits
+bits-of : (value : ℕ) → list_all (λ d. nat_lt d 2) (dots_of value) ≡ true
+bits-of value = grind arith
+
+-- the dots of a value come back from its strokes
+pub value-back : (value : ℕ) → (left : ℕ) × (dots_under (strokes 0 0 (dots_of value)) ++ replicate left 0 ≡ dots_of value)
+value-back value = (left_over 0 0 (dots_of value), dots-back 0 0 (dots_of value) (bits-of value))
