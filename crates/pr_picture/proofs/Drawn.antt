@@ -9,20 +9,26 @@ use Rattle.pr_page.specs.declared.paper.Mark.TheVariants.{Cell, Dots}
 use Rattle.pr_picture.specs.Svg.{dots_of, is_dots, letters_svg, mark_letter, mark_svg, marks_svg, shows_blank, shows_letter, strokes}
 use Rattle.pr_picture.specs.Laws.{are_side_by_side, dots_under, stands_alone}
 
+-- no cells are no element
+no_cells : (x : ℕ) (letters : List ℕ) → letters_svg x 0 letters ≡ []
+unfolding letters_svg
+no_cells x letters = refl
+
 -- letters side by side behind others join them
-pub letters-join : (x count : ℕ) (letters : List ℕ) (marks : List Placed) → 0 < count
-    → are_side_by_side (x + 6 * count) marks ≡ true → list_all (λ p. shows_letter p.mark) marks ≡ true
-    → marks_svg false x count 0 letters marks ≡ letters_svg x (count + length marks) (letters ++ flat_map (λ p. mark_letter p.mark) marks)
-letters-join x count letters [] some beside shown = grind (arith, common_steps)
-letters-join x count letters (p ∷ ps) some beside shown =
-    grind (arith, common_steps, letters-join x (count + 0 + 1) (letters ++ [] ++ mark_letter p.mark) ps)
+letters-join : (x count next total : ℕ) (letters : List ℕ) (marks : List Placed)
+    → 0 < count → next ≡ x + 6 * count → total ≡ count + length marks
+    → are_side_by_side next marks ≡ true → list_all (λ p. shows_letter p.mark) marks ≡ true
+    → marks_svg false x count 0 letters marks ≡ letters_svg x total (letters ++ flat_map (λ p. mark_letter p.mark) marks)
+letters-join x count next total letters [] some at all beside shown = grind (arith, common_steps)
+letters-join x count next total letters (p ∷ ps) some at all beside shown =
+    grind (arith, common_steps, letters-join x (count + 0 + 1) (next + 6) total (letters ++ [] ++ mark_letter p.mark) ps)
 
 -- letters side by side are one element
 pub letters-together : (x : ℕ) (marks : List Placed) → are_side_by_side x marks ≡ true → list_all (λ p. shows_letter p.mark) marks ≡ true
     → marks_svg false 0 0 0 [] marks ≡ letters_svg x (length marks) (flat_map (λ p. mark_letter p.mark) marks)
-unfolding letters_svg
-letters-together x [] beside shown = refl
-letters-together x (p ∷ ps) beside shown = grind (arith, common_steps, letters-join p.x 1 (mark_letter p.mark) ps)
+letters-together x [] beside shown = grind (common_steps, no_cells)
+letters-together x (p ∷ ps) beside shown =
+    grind (arith, common_steps, no_cells, letters-join p.x 1 (x + 6) (length (p ∷ ps)) (mark_letter p.mark) ps)
 
 -- a column of dots shows no letter
 no_letter : (m : Mark) → is_dots m ≡ true → shows_letter m ≡ false
@@ -35,17 +41,15 @@ no_blank (Cell code lower reverse wide) dots = grind arith
 no_blank (Dots value) dots = refl
 
 -- columns of dots go on in a path
-pub columns-join : (marks : List Placed) → list_all (λ q. is_dots q.mark) marks ≡ true
+columns-join : (marks : List Placed) → list_all (λ q. is_dots q.mark) marks ≡ true
     → marks_svg true 0 0 0 [] marks ≡ flat_map (λ q. mark_svg q.x q.mark) marks ++ codes "\"/>\n"
-unfolding letters_svg
-columns-join [] dots = refl
-columns-join (p ∷ ps) dots = grind (arith, common_steps, columns-join ps, no_letter p.mark, no_blank p.mark)
+columns-join [] dots = grind (common_steps, no_cells)
+columns-join (p ∷ ps) dots = grind (arith, common_steps, no_cells, columns-join ps, no_letter p.mark, no_blank p.mark)
 
 -- columns of dots alone are one path
 pub columns-together : (p : Placed) (ps : List Placed) → list_all (λ q. is_dots q.mark) (p ∷ ps) ≡ true
     → marks_svg false 0 0 0 [] (p ∷ ps) ≡ codes "<path stroke=\"#000\" d=\"" ++ (flat_map (λ q. mark_svg q.x q.mark) (p ∷ ps) ++ codes "\"/>\n")
-unfolding letters_svg
-columns-together p ps dots = grind (arith, common_steps, columns-join ps, no_letter p.mark, no_blank p.mark)
+columns-together p ps dots = grind (arith, common_steps, no_cells, columns-join ps, no_letter p.mark, no_blank p.mark)
 
 -- a mark that stands alone ends what is open, and nothing is open behind it
 pub alone-behind : (path : Bool) (x count blanks : ℕ) (letters : List ℕ) (before : List Placed) (p : Placed) (after : List Placed)
