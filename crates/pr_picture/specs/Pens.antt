@@ -1,10 +1,8 @@
 -- Linking words, for proofs: what is open in a pen.
-use Rattle.std.specs.Prelude.{◌≡◌, ℕ, Bool, List, [], ◌∷◌, ◌++◌, replicate}
-use Rattle.pr_page.specs.declared.paper.Mark.{Mark}
+use Rattle.std.specs.Prelude.{◌≡◌, ℕ, Bool, List, [], ◌∷◌, ◌++◌}
 use Rattle.pr_page.specs.declared.paper.Placed.{Placed}
-use Rattle.pr_picture.specs.declared.letters.Letters.{Letters}
 use Rattle.pr_picture.specs.declared.marks.Pen.{Pen}
-use Rattle.pr_picture.specs.Svg.{joint, letters_svg, mark_letter, marks_svg}
+use Rattle.pr_picture.specs.Svg.{joint, letters_svg, marks_svg}
 
 -- what marks give, behind what is open in a pen
 abbrev pub left_svg : Pen → List Placed → List ℕ
@@ -15,17 +13,9 @@ abbrev pub HasDrawn : Placed → List ℕ → Pen → List ℕ → Pen → Type 
 HasDrawn mark text pen new_text new_pen =
     (rest : List Placed) → new_text ++ left_svg new_pen rest ≡ text ++ left_svg pen (mark ∷ rest)
 
--- the element of letters side by side
-abbrev pub closed_svg : Letters → List ℕ
-closed_svg letters = letters_svg letters.x letters.count letters.text.items
-
 -- the end of what is open, before a column of dots or not
 abbrev pub ended_svg : Pen → Bool → List ℕ
-ended_svg pen dots = closed_svg pen.letters ++ joint pen.in_path dots
-
--- the text of letters side by side and of the blanks behind them, and then that of one mark more
-abbrev pub letters_with : Letters → Mark → List ℕ
-letters_with letters mark = letters.text.items ++ replicate letters.blanks 32 ++ mark_letter mark
+ended_svg pen dots = letters_svg pen.letters.x pen.letters.count pen.letters.text.items ++ joint pen.in_path dots
 
 -- no letters are open, and a path is or is not
 abbrev pub IsClosed : Pen → Bool → Type 0

@@ -1,7 +1,7 @@
 //! Letters side by side, in one element.
 
 ghost use Rattle.std.specs.Prelude.{◌≡◌, ◌+◌, ◌*◌, ◌≤◌, [], ◌++◌, OnOk};
-ghost use Rattle.pr_picture.specs.Pens.{closed_svg, letters_with};
+ghost use Rattle.pr_picture.specs.Joined.{letters_with};
 ghost use Rattle.pr_picture.specs.Svg.{escaped, follows, letters_svg, mark_letter, stands_for_itself};
 
 use crate::adding::{push_between, push_blanks, push_small};
@@ -121,7 +121,7 @@ impl Letters {
         ensures x { OnOk result (self.new.x ≡ self.old.x) }
         ensures count { OnOk result (self.new.count ≡ self.old.count + self.old.blanks + 1) }
         ensures blanks { OnOk result (self.new.blanks ≡ 0) }
-        ensures text { OnOk result (self.new.text.items ≡ letters_with self.old mark) }
+        ensures text { OnOk result (self.new.text.items ≡ letters_with self.old.text.items self.old.blanks mark) }
     {
         push_blanks(&mut self.text, self.blanks)?;
         push_letter(&mut self.text, mark)?;
@@ -132,7 +132,7 @@ impl Letters {
 
     /// Adds them to the text of a picture, and begins anew at a dot column, so far without a cell.
     pub fn end(&mut self, text: &mut Vec<u8>, next: u16) -> Result<(), AllocError>
-        ensures picture { OnOk result (text.new.items ≡ text.old.items ++ closed_svg self.old) }
+        ensures picture { OnOk result (text.new.items ≡ text.old.items ++ letters_svg self.old.x self.old.count self.old.text.items) }
         ensures x { OnOk result (self.new.x ≡ next) }
         ensures count { OnOk result (self.new.count ≡ 0) }
         ensures blanks { OnOk result (self.new.blanks ≡ 0) }
