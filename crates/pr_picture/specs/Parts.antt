@@ -54,6 +54,10 @@ statuses_line = codes "</tspan>\n<tspan x=\"0\" dy=\"210\">"
 unfoldable pub group_begin : List ℕ
 group_begin = codes "<g transform=\"translate(0 "
 
+-- behind the distance of marks: there a unit is a dot
+unfoldable pub group_scale : List ℕ
+group_scale = codes ") scale(1 2)\">\n"
+
 -- between the document's width and height
 unfoldable pub height_begin : List ℕ
 height_begin = codes "pc\" height=\""

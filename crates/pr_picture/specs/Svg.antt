@@ -11,7 +11,7 @@ use Rattle.pr_channels.specs.declared.faults.Stop.{Stop}
 use Rattle.pr_system.specs.declared.outcome.Outcome.{Outcome}
 use Rattle.pr_picture.specs.Characters.{character}
 use Rattle.pr_picture.specs.Words.{either_text, is_blank, numbers_text, stop_name, text_if}
-use Rattle.pr_picture.specs.Parts.{desk, document_about, document_begin, group_begin, height_begin, held_note, letters_begin, letters_fitted, letters_width, notes_begin, paper_piece, sheet_marks, sheet_name, sheet_paper, statuses_begin, statuses_line, stop_begin, text_end, units_begin, units_between, white_begin}
+use Rattle.pr_picture.specs.Parts.{desk, document_about, document_begin, group_begin, group_scale, height_begin, held_note, letters_begin, letters_fitted, letters_width, notes_begin, paper_piece, sheet_marks, sheet_name, sheet_paper, statuses_begin, statuses_line, stop_begin, text_end, units_begin, units_between, white_begin}
 
 -- a character that stands for itself in an SVG: ASCII from the space on, but no quote, ampersand, apostrophe, less or greater
 abbrev pub stands_for_itself : ℕ → Bool
@@ -140,12 +140,12 @@ marks_svg path x count blanks letters (p ∷ ps) =
     else letters_svg x count letters ++ joint path (is_dots p.mark) ++ mark_svg p.x p.mark ++ marks_svg (is_dots p.mark) 0 0 0 [] ps)
 
 -- the marks of a line, from nothing
-abbrev pub line_marks : List Placed → List ℕ
+unfoldable pub line_marks : List Placed → List ℕ
 line_marks marks = marks_svg false 0 0 0 [] marks
 
 -- marks on a line at a distance: there a unit is a dot, and the base line is seven dots down
 unfoldable pub group_svg : ℕ → List Placed → List ℕ
-group_svg y marks = group_begin ++ decimal (y + 14) ++ codes ") scale(1 2)\">\n" ++ line_marks marks ++ codes "</g>\n"
+group_svg y marks = group_begin ++ decimal (y + 14) ++ group_scale ++ line_marks marks ++ codes "</g>\n"
 
 -- a printed line
 abbrev pub row_svg : Row → List ℕ

@@ -198,8 +198,10 @@ pub fn push_line(text: &mut Vec<u8>, margin: &[u8], marks: &[Placed]) -> Result<
     ensures { OnOk result (text.new.items ≡ text.old.items ++ line_text margin.now marks.now) }
 {
     text.extend_from_slice(margin)?;
-    let empty = showing(' ');
-    let mut columns = [empty; COLUMNS];
+    let mut columns = [Seen {
+        character: ' ',
+        dots: 0,
+    }; COLUMNS];
     paint(&mut columns, marks);
     push_columns(text, &columns)?;
     text.push(b'\n')?;

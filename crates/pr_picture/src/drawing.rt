@@ -10,9 +10,9 @@ ghost use Rattle.pr_picture.specs.Svg.{head_svg, height_of, held_svg, group_svg,
 use crate::adding::{push_number, push_numbers, push_small, stop_name};
 use crate::marks::Pen;
 use crate::parts::{
-    desk, document_about, document_begin, group_begin, height_begin, held_note, notes_begin,
-    paper_piece, sheet_marks, sheet_name, sheet_paper, statuses_begin, statuses_line, stop_begin,
-    text_end, units_begin, units_between,
+    desk, document_about, document_begin, group_begin, group_scale, height_begin, held_note,
+    notes_begin, paper_piece, sheet_marks, sheet_name, sheet_paper, statuses_begin, statuses_line,
+    stop_begin, text_end, units_begin, units_between,
 };
 use pr_channels::Stop;
 use pr_page::{NoMemory, Paper, Placed, Row};
@@ -30,7 +30,7 @@ fn push_group(text: &mut Vec<u8>, pen: &mut Pen, y: u128, marks: &[Placed]) -> R
 {
     text.extend_from_slice(group_begin())?;
     push_number(text, y + 14)?;
-    text.extend_from_slice(b") scale(1 2)\">\n")?;
+    text.extend_from_slice(group_scale())?;
     pen.draw(text, marks)?;
     text.extend_from_slice(b"</g>\n")
 }

@@ -1,6 +1,6 @@
 //! The marks of a line as elements of a picture.
 
-ghost use Rattle.std.specs.Prelude.{◌≡◌, false, true, ◌++◌, OnOk, IfOk};
+ghost use Rattle.std.specs.Prelude.{◌≡◌, false, true, [], ◌++◌, OnOk, IfOk};
 ghost use Rattle.pr_picture.specs.Pens.{HasDrawn, IsClosed, ended_svg};
 ghost use Rattle.pr_picture.specs.Svg.{black_place, cell_box, cell_svg, character_svg, column_svg, is_dots, is_letter, joint, line_marks, mark_svg, shows_blank, shows_letter, white_place};
 
@@ -241,6 +241,7 @@ impl Pen {
     }
 
     /// Draws the marks of a line in their order.
+    #[tactic(auto, unfolding(crate::specs::Svg::line_marks))]
     pub fn draw(&mut self, text: &mut Vec<u8>, marks: &[Placed]) -> Result<(), AllocError>
         requires { IsClosed self.old false }
         ensures text { OnOk result (text.new.items ≡ text.old.items ++ line_marks marks.now) }

@@ -1,7 +1,7 @@
 //! The fixed parts of the picture.
 
 ghost use Rattle.std.specs.Prelude.{◌≡◌};
-ghost use Rattle.pr_picture.specs.Parts.{desk, document_about, document_begin, group_begin, height_begin, held_note, letters_begin, letters_fitted, letters_width, notes_begin, paper_piece, sheet_marks, sheet_name, sheet_paper, statuses_begin, statuses_line, stop_begin, text_end, units_begin, units_between, white_begin};
+ghost use Rattle.pr_picture.specs.Parts.{desk, document_about, document_begin, group_begin, group_scale, height_begin, held_note, letters_begin, letters_fitted, letters_width, notes_begin, paper_piece, sheet_marks, sheet_name, sheet_paper, statuses_begin, statuses_line, stop_begin, text_end, units_begin, units_between, white_begin};
 
 /// The document's first tag, up to its width.
 #[tactic(auto, unfolding(crate::specs::Parts::document_begin))]
@@ -105,6 +105,14 @@ pub fn group_begin() -> &'static [u8]
     ensures { result.now ≡ group_begin }
 {
     b"<g transform=\"translate(0 "
+}
+
+/// Behind the distance of marks: there a unit is a dot.
+#[tactic(auto, unfolding(crate::specs::Parts::group_scale))]
+pub fn group_scale() -> &'static [u8]
+    ensures { result.now ≡ group_scale }
+{
+    b") scale(1 2)\">\n"
 }
 
 /// Between the document's width and height.
