@@ -56,8 +56,8 @@ function elements(from, to,   i, k, x, u, end, reverse, wide, text, path, pictur
         wide = has(words[i], "wide")
         if (reverse) picture = picture "<rect x=\"" x "\" y=\"-7\" width=\"" (wide ? 12 : 6) "\" height=\"7\"/>\n"
         if (u == 32 || u == 160) continue
-        if (reverse) picture = picture "<text fill=\"#fff\" transform=\"translate(" x " -1)scale(" (wide ? 2 : 1) " .8)"
-        else picture = picture (wide ? "<text transform=\"translate(" x ")scale(2 1)" : "<text x=\"" x)
+        if (reverse) picture = picture "<text fill=\"#fff\" transform=\"translate(" x " -1) scale(" (wide ? 2 : 1) " .8)"
+        else picture = picture (wide ? "<text transform=\"translate(" x ") scale(2 1)" : "<text x=\"" x)
         picture = picture "\" textLength=\"6\" lengthAdjust=\"spacingAndGlyphs\">" escaped(u) "</text>\n"
     }
     return picture (path ? "\"/>\n" : "")
@@ -88,11 +88,11 @@ function line(margin, from, to,   i, c, u, ink, shown, blank, text) {
 }
 function count_bits(value,   k, n) { for (k = 0; k < 7; k++) n += int(value / 2 ^ k) % 2; return n }
 
-function group(y, from, to) { return "<g transform=\"translate(0 " y + 14 ")scale(1 2)\">\n" elements(from, to) "</g>\n" }
+function group(y, from, to) { return "<g transform=\"translate(0 " y + 14 ") scale(1 2)\">\n" elements(from, to) "</g>\n" }
 function sheet(device, x, lines,   i, picture, y) {
-    picture = "<g transform=\"translate(" x " 1050)\">\n<text font-size=\"210\" fill=\"#555\" y=\"-210\">Printer " device "</text>\n<rect width=\"12600\" height=\"" 210 * lines "\" fill=\"url(#paper)\" stroke=\"#b4afa2\" stroke-width=\"10\"/>\n<g transform=\"translate(1260 630)scale(21 10)\" font-size=\"9.966\" shape-rendering=\"crispEdges\">\n"
+    picture = "<g transform=\"translate(" x " 1050)\">\n<text font-size=\"210\" fill=\"#555\" y=\"-210\">Printer " device "</text>\n<rect width=\"12600\" height=\"" 210 * lines "\" fill=\"url(#paper)\" stroke=\"#b4afa2\" stroke-width=\"10\"/>\n<g transform=\"translate(1260 630) scale(21 10)\" font-size=\"9.966\" shape-rendering=\"crispEdges\">\n"
     for (i = 1; i <= rows[device]; i++) { y = top[device, i] + 21; picture = picture group(top[device, i], first[device, i], last[device, i]) }
-    if (held[device]) picture = picture "<g transform=\"translate(0 " y + 0 ")scale(1 2)\">\n<path shape-rendering=\"auto\" stroke=\"#a33\" stroke-dasharray=\"6\" d=\"M0 3h480\"/>\n<text font-size=\"6\" fill=\"#a33\" x=\"350\" y=\"10\">held by the printer, not yet printed</text>\n</g>\n<g opacity=\".4\">\n" group(y + 21, first[device, "held"], last[device, "held"]) "</g>\n"
+    if (held[device]) picture = picture "<g transform=\"translate(0 " y + 0 ") scale(1 2)\">\n<path shape-rendering=\"auto\" stroke=\"#a33\" stroke-dasharray=\"6\" d=\"M0 3h480\"/>\n<text font-size=\"6\" fill=\"#a33\" x=\"350\" y=\"10\">held by the printer, not yet printed</text>\n</g>\n<g opacity=\".4\">\n" group(y + 21, first[device, "held"], last[device, "held"]) "</g>\n"
     return picture "</g>\n</g>\n"
 }
 function sheet_lines(device,   i, y, free, text) {
@@ -124,7 +124,8 @@ function picture(   four, five, lines, width, height, text) {
     if (five) text = text sheet(5, four ? 13860 : 630, lines)
     text = text "<text font-size=\"210\" fill=\"#555\" transform=\"translate(630 " 210 * (lines + 6) ")\">\n"
     if (stop != "") text = text "<tspan x=\"0\" dy=\"210\" fill=\"#a33\">" stop "</tspan>\n"
-    return text "<tspan x=\"0\" dy=\"210\">" numbers("status", statuses, "</tspan>\n<tspan x=\"0\" dy=\"210\">") "</tspan>\n</text>\n</svg>\n"
+    if (statuses != "") text = text "<tspan x=\"0\" dy=\"210\">" numbers("status", statuses, "</tspan>\n<tspan x=\"0\" dy=\"210\">") "</tspan>\n"
+    return text "</text>\n</svg>\n"
 }
 function text_lines(   text) {
     if (present == "both" || present == 4) text = sheet_lines(4)

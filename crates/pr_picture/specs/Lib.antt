@@ -1,4 +1,6 @@
 pub mod Characters
+pub mod Joined
+pub mod Laws
 pub mod Parts
 pub mod Pens
 pub mod Plain

@@ -28,11 +28,11 @@ sheet_paper = codes "</text>\n<rect width=\"12600\" height=\""
 -- the rest of the paper, and the group of its marks: there a unit is a dot across and 1/126 inch down.
 -- A letter of DejaVu Sans Mono, 1233/2048 of the font's size wide, is six dots wide at this size.
 unfoldable pub sheet_marks : List ℕ
-sheet_marks = codes "\" fill=\"url(#paper)\" stroke=\"#b4afa2\" stroke-width=\"10\"/>\n<g transform=\"translate(1260 630)scale(21 10)\" font-size=\"9.966\" shape-rendering=\"crispEdges\">\n"
+sheet_marks = codes "\" fill=\"url(#paper)\" stroke=\"#b4afa2\" stroke-width=\"10\"/>\n<g transform=\"translate(1260 630) scale(21 10)\" font-size=\"9.966\" shape-rendering=\"crispEdges\">\n"
 
 -- behind the distance of the marks held: a dashed rule that says so, and a pale group
 unfoldable pub held_note : List ℕ
-held_note = codes ")scale(1 2)\">\n<path shape-rendering=\"auto\" stroke=\"#a33\" stroke-dasharray=\"6\" d=\"M0 3h480\"/>\n<text font-size=\"6\" fill=\"#a33\" x=\"350\" y=\"10\">held by the printer, not yet printed</text>\n</g>\n<g opacity=\".4\">\n"
+held_note = codes ") scale(1 2)\">\n<path shape-rendering=\"auto\" stroke=\"#a33\" stroke-dasharray=\"6\" d=\"M0 3h480\"/>\n<text font-size=\"6\" fill=\"#a33\" x=\"350\" y=\"10\">held by the printer, not yet printed</text>\n</g>\n<g opacity=\".4\">\n"
 
 -- the text below the sheets, up to its distance
 unfoldable pub notes_begin : List ℕ
@@ -50,13 +50,13 @@ statuses_begin = codes "<tspan x=\"0\" dy=\"210\">status"
 unfoldable pub statuses_line : List ℕ
 statuses_line = codes "</tspan>\n<tspan x=\"0\" dy=\"210\">"
 
--- the end of the text below the sheets
-unfoldable pub notes_end : List ℕ
-notes_end = codes "</tspan>\n</text>\n"
-
 -- a group at a distance
 unfoldable pub group_begin : List ℕ
 group_begin = codes "<g transform=\"translate(0 "
+
+-- behind the distance of marks: there a unit is a dot
+unfoldable pub group_scale : List ℕ
+group_scale = codes ") scale(1 2)\">\n"
 
 -- between the document's width and height
 unfoldable pub height_begin : List ℕ
@@ -74,7 +74,7 @@ units_between = codes " "
 unfoldable pub white_begin : List ℕ
 white_begin = codes "<text fill=\"#fff\" transform=\"translate("
 
--- the end of a character
+-- the end of a text
 unfoldable pub text_end : List ℕ
 text_end = codes "</text>\n"
 

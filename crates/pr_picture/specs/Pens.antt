@@ -6,7 +6,7 @@ use Rattle.pr_picture.specs.Svg.{joint, letters_svg, marks_svg}
 
 -- what marks give, behind what is open in a pen
 abbrev pub left_svg : Pen → List Placed → List ℕ
-left_svg pen marks = marks_svg pen.column pen.letters.x pen.letters.count pen.letters.blanks pen.letters.text.items marks
+left_svg pen marks = marks_svg pen.in_path pen.letters.x pen.letters.count pen.letters.blanks pen.letters.text.items marks
 
 -- whatever is drawn next, a mark has been drawn: the text so far and what is left make the same picture
 abbrev pub HasDrawn : Placed → List ℕ → Pen → List ℕ → Pen → Type 0
@@ -15,10 +15,10 @@ HasDrawn mark text pen new_text new_pen =
 
 -- the end of what is open, before a column of dots or not
 abbrev pub ended_svg : Pen → Bool → List ℕ
-ended_svg pen dots = letters_svg pen.letters.x pen.letters.count pen.letters.text.items ++ joint pen.column dots
+ended_svg pen dots = letters_svg pen.letters.x pen.letters.count pen.letters.text.items ++ joint pen.in_path dots
 
--- no run of letters is open, and a path is or is not
+-- no letters are open, and a path is or is not
 abbrev pub IsClosed : Pen → Bool → Type 0
 IsClosed pen dots =
-    (pen.column ≡ dots)
+    (pen.in_path ≡ dots)
     × (pen.letters.x ≡ 0) × (pen.letters.count ≡ 0) × (pen.letters.blanks ≡ 0) × (pen.letters.text.items ≡ [])

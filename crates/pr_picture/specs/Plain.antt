@@ -11,60 +11,73 @@ use Rattle.pr_system.specs.declared.outcome.Outcome.{Outcome}
 use Rattle.pr_picture.specs.Characters.{character}
 use Rattle.pr_picture.specs.Words.{is_blank, numbers_text, stop_name, text_if}
 
--- what shows in a column, a character and so many dots over it, is put there; past the last column nothing is
-abbrev pub put : ℕ → ℕ × ℕ → List (ℕ × ℕ) → List (ℕ × ℕ)
-put place seen columns = if nat_lt place (length columns) then slice_set columns place seen else columns
+-- what shows in a column: a character (its Unicode code point), and over it so many dots
+pub record Column : Type 0 where
+  pub code_point : ℕ
+  pub dots : ℕ
+
+-- a character alone in a column
+abbrev pub showing : ℕ → Column
+showing u = record { code_point = u; dots = 0 }
+
+-- a column of which nothing was printed
+abbrev pub empty_column : Column
+empty_column = showing 32
+
+-- what shows is put into a column; past the last column nothing is
+abbrev pub put : ℕ → Column → List Column → List Column
+put place column columns = if nat_lt place (length columns) then slice_set columns place column else columns
 
 -- a cell's character, and a full block where a blank is reversed
 abbrev pub shown : Bool → ℕ → ℕ
 shown reverse u = if (reverse && is_blank u) then 9608 else u
 
 -- a cell over what shows: a blank that is not reversed changes nothing, and a wide cell is its character and a blank beside it
-abbrev pub paint_cell : ℕ → ℕ → Bool → Bool → List (ℕ × ℕ) → List (ℕ × ℕ)
+abbrev pub paint_cell : ℕ → ℕ → Bool → Bool → List Column → List Column
 paint_cell place u reverse wide columns =
     if (not reverse && is_blank u) then columns
-    else put place (shown reverse u, 0) (if wide then put (place + 1) (shown reverse 32, 0) columns else columns)
+    else put place (showing (shown reverse u)) (if wide then put (place + 1) (showing (shown reverse 32)) columns else columns)
 
--- the dots of a column of dots
+-- how many dots of a column of dots have ink
 abbrev pub ink_of : ℕ → ℕ
 ink_of value = value % 2 + value / 2 % 2 + value / 4 % 2 + value / 8 % 2 + value / 16 % 2 + value / 32 % 2 + value / 64 % 2
 
 -- so many dots more in a column, where 42 fill it
-abbrev pub darker : ℕ → ℕ × ℕ → ℕ × ℕ
-darker ink seen = (seen.0, min (seen.1 + ink) 42)
+abbrev pub darker : ℕ → Column → Column
+darker ink column = record { code_point = column.code_point; dots = min (column.dots + ink) 42 }
 
 -- a mark over what shows on its line: six dots are a column
-abbrev pub paint_mark : ℕ → Mark → List (ℕ × ℕ) → List (ℕ × ℕ)
+abbrev pub paint_mark : ℕ → Mark → List Column → List Column
 paint_mark place (Cell code lower reverse wide) columns = paint_cell place (character lower code) reverse wide columns
-paint_mark place (Dots value) columns = put place (darker (ink_of value) (slice_index_or columns place (32, 0))) columns
+paint_mark place (Dots value) columns = put place (darker (ink_of value) (slice_index_or columns place empty_column)) columns
 
 -- marks over what shows, in their order
-abbrev pub painted : List (ℕ × ℕ) → List Placed → List (ℕ × ℕ)
+abbrev pub painted : List Column → List Placed → List Column
 painted columns [] = columns
 painted columns (p ∷ ps) = painted (paint_mark (p.x / 6) p.mark columns) ps
 
--- the shade of so many dots
+-- the shade of so many dots: quarters of the 42
 abbrev pub shade_of : ℕ → ℕ
-shade_of ink =
-    if nat_lt ink 12 then 9617
-    else (if nat_lt ink 23 then 9618
-    else (if nat_lt ink 34 then 9619
+shade_of dots =
+    if nat_lt dots 12 then 9617
+    else (if nat_lt dots 23 then 9618
+    else (if nat_lt dots 34 then 9619
     else 9608))
 
 -- the character of a column
-abbrev pub seen_of : ℕ × ℕ → ℕ
-seen_of seen = if seen.1 == 0 then seen.0 else shade_of seen.1
+abbrev pub seen_in : Column → ℕ
+seen_in column = if column.dots == 0 then column.code_point else shade_of column.dots
 
 -- columns behind so many blanks, without the blanks at the end
-abbrev pub columns_text : ℕ → List (ℕ × ℕ) → List ℕ
+abbrev pub columns_text : ℕ → List Column → List ℕ
 columns_text blanks [] = []
 columns_text blanks (c ∷ cs) =
-    if seen_of c == 32 then columns_text (blanks + 1) cs
-    else replicate blanks 32 ++ encode_utf8 (seen_of c) ++ columns_text 0 cs
+    if seen_in c == 32 then columns_text (blanks + 1) cs
+    else replicate blanks 32 ++ encode_utf8 (seen_in c) ++ columns_text 0 cs
 
 -- a line of marks behind its margin
 unfoldable pub line_text : List ℕ → List Placed → List ℕ
-line_text margin marks = margin ++ columns_text 0 (painted (replicate 80 (32, 0)) marks) ++ codes "\n"
+line_text margin marks = margin ++ columns_text 0 (painted (replicate 80 empty_column) marks) ++ codes "\n"
 
 -- so many lines without marks
 abbrev pub empty_lines : ℕ → List ℕ

@@ -57,7 +57,7 @@ pub fn push_blanks(text: &mut Vec<u8>, count: u64) -> Result<(), AllocError>
     Ok(())
 }
 
-/// Adds numbers, each behind a space; each 18th begins a line, by this text.
+/// Adds numbers, each behind a space; each 18th begins a line, by this text (profile).
 pub fn push_numbers(text: &mut Vec<u8>, line: &[u8], numbers: &[u8]) -> Result<(), AllocError>
     ensures { OnOk result (text.new.items ≡ text.old.items ++ numbers_text line.now 1 numbers.now) }
 {
@@ -78,14 +78,14 @@ pub fn either<'a>(holds: bool, this: &'a [u8], other: &'a [u8]) -> &'a [u8]
     if holds { this } else { other }
 }
 
-/// Whether a character is a blank.
+/// Whether a character is a blank: a space, also one that does not part words.
 pub fn is_blank(character: char) -> bool
     ensures { result ≡ is_blank character }
 {
     character == ' ' || character == '\u{A0}'
 }
 
-/// The name of an error.
+/// The name of an error (Programmer's Reference Guide, error messages of BASIC).
 pub fn stop_name(stop: Stop) -> &'static [u8]
     ensures { result.now ≡ stop_name stop }
 {

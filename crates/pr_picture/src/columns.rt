@@ -1,17 +1,42 @@
 //! What shows in the 80 columns of a line.
 
 ghost use Rattle.std.specs.Prelude.{◌≡◌, ◌≤◌, ◌++◌, encode_utf8, slice_index_or, OnOk};
-ghost use Rattle.pr_picture.specs.Plain.{columns_text, darker, ink_of, line_text, paint_cell, paint_mark, painted, put, seen_of, shade_of, shown};
+ghost use Rattle.pr_picture.specs.Plain.{columns_text, darker, empty_column, ink_of, line_text, paint_cell, paint_mark, painted, put, seen_in, shade_of, showing, shown};
 
 use crate::adding::{is_blank, push_blanks};
 use crate::characters::character;
 use pr_page::{Mark, Placed};
 use std::alloc::AllocError;
+use std::marker::Model;
 
-/// The columns of a line.
+/// The columns of a line: six of the 480 dots each.
 const COLUMNS: usize = 80;
 
-/// A cell's character, and a full block where a blank is reversed.
+/// What is seen in a column: a character, and over it so many dots. Contracts see a `Column`.
+#[derive(Clone, Copy)]
+struct Seen {
+    character: char,
+    dots: u32,
+}
+
+impl Model for Seen {
+    ghost use Rattle.pr_picture.specs.Plain.{Column};
+
+    ghost Value = { Column };
+
+    ghost view = { λ s. record { code_point = s.character; dots = s.dots } };
+
+    ghost inverse = { λ c. record { character = c.code_point; dots = c.dots } };
+}
+
+/// A character alone in a column.
+fn showing(character: char) -> Seen
+    ensures { result ≡ showing character }
+{
+    Seen { character, dots: 0 }
+}
+
+/// A cell's character, and a full block where a blank is reversed (profile).
 fn shown(reverse: bool, character: char) -> char
     ensures { result ≡ shown reverse character }
 {
@@ -22,7 +47,7 @@ fn shown(reverse: bool, character: char) -> char
     }
 }
 
-/// The dots of a column of dots.
+/// How many dots of a column of dots have ink.
 fn ink_of(value: u8) -> u32
     ensures ink { result ≡ ink_of value }
     ensures within { result ≤ 7 }
@@ -37,21 +62,24 @@ fn ink_of(value: u8) -> u32
     u32::from(dots)
 }
 
-/// What shows in a column with so many dots more, of which 42 fill it.
-fn darker(ink: u32, seen: (char, u32)) -> (char, u32)
+/// What is seen in a column with so many dots more, of which 42 fill it.
+fn darker(ink: u32, seen: Seen) -> Seen
     requires { ink ≤ 7 }
     ensures { result ≡ darker ink seen }
 {
-    let (character, before) = seen;
-    if before < 42 - ink {
-        (character, before + ink)
+    let dots = if seen.dots < 42 - ink {
+        seen.dots + ink
     } else {
-        (character, 42)
+        42
+    };
+    Seen {
+        character: seen.character,
+        dots,
     }
 }
 
-/// Puts what shows into a column, if the line has it.
-fn put(columns: &mut [(char, u32)], place: usize, seen: (char, u32))
+/// Puts what is seen into a column, if the line has it.
+fn put(columns: &mut [Seen], place: usize, seen: Seen)
     ensures { columns.new ≡ put place seen columns.old }
 {
     if place < columns.len() {
@@ -59,19 +87,19 @@ fn put(columns: &mut [(char, u32)], place: usize, seen: (char, u32))
     }
 }
 
-/// What shows in a column.
-fn column_at(columns: &[(char, u32)], place: usize) -> (char, u32)
-    ensures { result ≡ slice_index_or columns.now place (32, 0) }
+/// What is seen in a column.
+fn column_at(columns: &[Seen], place: usize) -> Seen
+    ensures { result ≡ slice_index_or columns.now place empty_column }
 {
     if place < columns.len() {
         columns[place]
     } else {
-        (' ', 0)
+        showing(' ')
     }
 }
 
-/// Lays a cell over what shows; a blank that is not reversed changes nothing.
-fn paint_cell(columns: &mut [(char, u32)], place: usize, character: char, reverse: bool, wide: bool)
+/// Lays a cell over what shows; a blank that is not reversed changes nothing (profile).
+fn paint_cell(columns: &mut [Seen], place: usize, character: char, reverse: bool, wide: bool)
     requires { place ≤ 100000 }
     ensures { columns.new ≡ paint_cell place character reverse wide columns.old }
 {
@@ -79,13 +107,13 @@ fn paint_cell(columns: &mut [(char, u32)], place: usize, character: char, revers
         return;
     }
     if wide {
-        put(columns, place + 1, (shown(reverse, ' '), 0));
+        put(columns, place + 1, showing(shown(reverse, ' ')));
     }
-    put(columns, place, (shown(reverse, character), 0));
+    put(columns, place, showing(shown(reverse, character)));
 }
 
 /// Lays a mark over what shows.
-fn paint_mark(columns: &mut [(char, u32)], place: usize, mark: Mark)
+fn paint_mark(columns: &mut [Seen], place: usize, mark: Mark)
     requires { place ≤ 100000 }
     ensures { columns.new ≡ paint_mark place mark columns.old }
 {
@@ -104,7 +132,7 @@ fn paint_mark(columns: &mut [(char, u32)], place: usize, mark: Mark)
 }
 
 /// Lays marks over what shows, in their order.
-fn paint(columns: &mut [(char, u32)], marks: &[Placed])
+fn paint(columns: &mut [Seen], marks: &[Placed])
     ensures { columns.new ≡ painted columns.old marks.now }
 {
     for placed in marks {
@@ -112,15 +140,15 @@ fn paint(columns: &mut [(char, u32)], marks: &[Placed])
     }
 }
 
-/// The shade of so many dots.
-fn shade_of(ink: u32) -> char
-    ensures { result ≡ shade_of ink }
+/// The shade of so many dots: quarters of the 42 (profile).
+fn shade_of(dots: u32) -> char
+    ensures { result ≡ shade_of dots }
 {
-    if ink < 12 {
+    if dots < 12 {
         '\u{2591}'
-    } else if ink < 23 {
+    } else if dots < 23 {
         '\u{2592}'
-    } else if ink < 34 {
+    } else if dots < 34 {
         '\u{2593}'
     } else {
         '\u{2588}'
@@ -128,11 +156,14 @@ fn shade_of(ink: u32) -> char
 }
 
 /// The character of a column.
-fn seen_of(seen: (char, u32)) -> char
-    ensures { result ≡ seen_of seen }
+fn seen_in(seen: Seen) -> char
+    ensures { result ≡ seen_in seen }
 {
-    let (character, ink) = seen;
-    if ink == 0 { character } else { shade_of(ink) }
+    if seen.dots == 0 {
+        seen.character
+    } else {
+        shade_of(seen.dots)
+    }
 }
 
 /// Adds a character in UTF-8.
@@ -144,12 +175,12 @@ fn push_character(text: &mut Vec<u8>, character: char) -> Result<(), AllocError>
 }
 
 /// Adds columns without the blanks at the end.
-fn push_columns(text: &mut Vec<u8>, columns: &[(char, u32)]) -> Result<(), AllocError>
+fn push_columns(text: &mut Vec<u8>, columns: &[Seen]) -> Result<(), AllocError>
     ensures { OnOk result (text.new.items ≡ text.old.items ++ columns_text 0 columns.now) }
 {
     let mut blanks = 0;
     for column in columns {
-        let character = seen_of(*column);
+        let character = seen_in(*column);
         if character == ' ' {
             blanks += 1;
         } else {
@@ -161,13 +192,16 @@ fn push_columns(text: &mut Vec<u8>, columns: &[(char, u32)]) -> Result<(), Alloc
     Ok(())
 }
 
-/// Adds a line of marks behind its margin.
+/// Adds a line of marks behind its margin (profile).
 #[tactic(auto, unfolding(crate::specs::Plain::line_text))]
 pub fn push_line(text: &mut Vec<u8>, margin: &[u8], marks: &[Placed]) -> Result<(), AllocError>
     ensures { OnOk result (text.new.items ≡ text.old.items ++ line_text margin.now marks.now) }
 {
     text.extend_from_slice(margin)?;
-    let mut columns = [(' ', 0); COLUMNS];
+    let mut columns = [Seen {
+        character: ' ',
+        dots: 0,
+    }; COLUMNS];
     paint(&mut columns, marks);
     push_columns(text, &columns)?;
     text.push(b'\n')?;

@@ -1,16 +1,18 @@
-//! Pictures of pages as SVG documents.
+//! Pictures of pages as SVG documents, in units of 1/1260 inch. Dots and lines stand as the printer
+//! puts them (VIC-1525 User's Manual); paper, names and notes round them are this project's own choice
+//! (profile).
 
 ghost use Rattle.std.specs.Prelude.{◌≡◌, false, ◌+◌, ◌*◌, ◌≤◌, ◌++◌, decimal, length, OnOk, IfOk};
 ghost use Rattle.pr_picture.specs.Pens.{IsClosed};
 ghost use Rattle.pr_picture.specs.Words.{text_if};
-ghost use Rattle.pr_picture.specs.Svg.{head_svg, height_of, held_svg, line_svg, name_svg, notes_svg, paper_end, paper_svg, rows_end, rows_svg, sheet_lines, sheet_svg, size_svg, stop_lines, stop_svg, svg_of, units_svg, width_of};
+ghost use Rattle.pr_picture.specs.Svg.{head_svg, height_of, held_svg, group_svg, name_svg, notes_svg, paper_end, paper_svg, rows_end, rows_svg, sheet_picas, sheet_svg, size_svg, statuses_svg, stop_picas, stop_svg, svg_of, units_svg, width_of};
 
 use crate::adding::{push_number, push_numbers, push_small, stop_name};
 use crate::marks::Pen;
 use crate::parts::{
-    desk, document_about, document_begin, group_begin, height_begin, held_note, notes_begin,
-    notes_end, paper_piece, sheet_marks, sheet_name, sheet_paper, statuses_begin, statuses_line,
-    stop_begin, units_begin, units_between,
+    desk, document_about, document_begin, group_begin, group_scale, height_begin, held_note,
+    notes_begin, paper_piece, sheet_marks, sheet_name, sheet_paper, statuses_begin, statuses_line,
+    stop_begin, text_end, units_begin, units_between,
 };
 use pr_channels::Stop;
 use pr_page::{NoMemory, Paper, Placed, Row};
@@ -19,16 +21,16 @@ use pr_system::Outcome;
 use std::alloc::{AllocError, Global};
 
 /// Adds marks on a line at a distance.
-#[tactic(auto, unfolding(crate::specs::Svg::line_svg))]
-fn push_line(text: &mut Vec<u8>, pen: &mut Pen, y: u128, marks: &[Placed]) -> Result<(), AllocError>
+#[tactic(auto, unfolding(crate::specs::Svg::group_svg))]
+fn push_group(text: &mut Vec<u8>, pen: &mut Pen, y: u128, marks: &[Placed]) -> Result<(), AllocError>
     requires within { y ≤ 18446744073709551657 }
     requires pen { IsClosed pen.old false }
-    ensures text { OnOk result (text.new.items ≡ text.old.items ++ line_svg y marks.now) }
+    ensures text { OnOk result (text.new.items ≡ text.old.items ++ group_svg y marks.now) }
     ensures closed { OnOk result (IsClosed pen.new false) }
 {
     text.extend_from_slice(group_begin())?;
     push_number(text, y + 14)?;
-    text.extend_from_slice(b")scale(1 2)\">\n")?;
+    text.extend_from_slice(group_scale())?;
     pen.draw(text, marks)?;
     text.extend_from_slice(b"</g>\n")
 }
@@ -40,7 +42,7 @@ fn push_rows(text: &mut Vec<u8>, pen: &mut Pen, rows: &[Row]) -> Result<(), Allo
     ensures closed { OnOk result (IsClosed pen.new false) }
 {
     for row in rows {
-        push_line(text, pen, u128::from(row.y), row.marks.as_slice())?;
+        push_group(text, pen, u128::from(row.y), row.marks.as_slice())?;
     }
     Ok(())
 }
@@ -71,7 +73,7 @@ fn push_held(text: &mut Vec<u8>, pen: &mut Pen, y: u128, held: &[Placed]) -> Res
     text.extend_from_slice(group_begin())?;
     push_number(text, y)?;
     text.extend_from_slice(held_note())?;
-    push_line(text, pen, y + 21, held)?;
+    push_group(text, pen, y + 21, held)?;
     text.extend_from_slice(b"</g>\n")
 }
 
@@ -88,9 +90,10 @@ fn paper_end(paper: &Paper) -> u128
     }
 }
 
-/// The length of both sheets in lines.
-fn sheet_lines(outcome: &Outcome) -> u128
-    ensures lines { result ≡ sheet_lines outcome.now }
+/// The length of both sheets in picas: half an inch above and below the longer paper, in whole half
+/// inches, so that the holes come out even (profile).
+fn sheet_picas(outcome: &Outcome) -> u128
+    ensures picas { result ≡ sheet_picas outcome.now }
     ensures within { result ≤ 18446744073709551678 }
 {
     let end4 = paper_end(&outcome.paper4);
@@ -112,12 +115,12 @@ fn push_name(text: &mut Vec<u8>, device: u64, x: u64) -> Result<(), AllocError>
 
 /// Adds a sheet's paper.
 #[tactic(auto, unfolding(crate::specs::Svg::paper_svg))]
-fn push_paper(text: &mut Vec<u8>, lines: u128) -> Result<(), AllocError>
-    requires { lines ≤ 18446744073709551678 }
-    ensures { OnOk result (text.new.items ≡ text.old.items ++ paper_svg lines) }
+fn push_paper(text: &mut Vec<u8>, picas: u128) -> Result<(), AllocError>
+    requires { picas ≤ 18446744073709551678 }
+    ensures { OnOk result (text.new.items ≡ text.old.items ++ paper_svg picas) }
 {
     text.extend_from_slice(sheet_paper())?;
-    push_number(text, 210 * lines)?;
+    push_number(text, 210 * picas)?;
     text.extend_from_slice(sheet_marks())
 }
 
@@ -128,16 +131,16 @@ fn push_sheet(
     pen: &mut Pen,
     device: u64,
     x: u64,
-    lines: u128,
+    picas: u128,
     paper: &Paper,
 ) -> Result<(), AllocError>
-    requires within { lines ≤ 18446744073709551678 }
+    requires within { picas ≤ 18446744073709551678 }
     requires pen { IsClosed pen.old false }
-    ensures text { OnOk result (text.new.items ≡ text.old.items ++ sheet_svg device x lines paper.now) }
+    ensures text { OnOk result (text.new.items ≡ text.old.items ++ sheet_svg device x picas paper.now) }
     ensures closed { OnOk result (IsClosed pen.new false) }
 {
     push_name(text, device, x)?;
-    push_paper(text, lines)?;
+    push_paper(text, picas)?;
     push_rows(text, pen, paper.rows.as_slice())?;
     push_held(
         text,
@@ -163,9 +166,22 @@ fn push_stop(text: &mut Vec<u8>, stop: Option<(usize, Stop)>) -> Result<(), Allo
     text.extend_from_slice(b"</tspan>\n")
 }
 
-/// How many lines a stop takes.
-fn stop_lines(stop: Option<(usize, Stop)>) -> u128
-    ensures lines { result ≡ stop_lines stop }
+/// Adds the statuses, if there are any.
+#[tactic(auto, unfolding(crate::specs::Svg::statuses_svg))]
+fn push_statuses(text: &mut Vec<u8>, statuses: &[u8]) -> Result<(), AllocError>
+    ensures { OnOk result (text.new.items ≡ text.old.items ++ statuses_svg statuses.now) }
+{
+    if statuses.is_empty() {
+        return Ok(());
+    }
+    text.extend_from_slice(statuses_begin())?;
+    push_numbers(text, statuses_line(), statuses)?;
+    text.extend_from_slice(b"</tspan>\n")
+}
+
+/// How many picas a stop takes.
+fn stop_picas(stop: Option<(usize, Stop)>) -> u128
+    ensures picas { result ≡ stop_picas stop }
     ensures within { result ≤ 1 }
 {
     match stop {
@@ -176,20 +192,19 @@ fn stop_lines(stop: Option<(usize, Stop)>) -> u128
 
 /// Adds the lines below the sheets.
 #[tactic(auto, unfolding(crate::specs::Svg::notes_svg))]
-fn push_notes(text: &mut Vec<u8>, lines: u128, outcome: &Outcome) -> Result<(), AllocError>
-    requires { lines ≤ 18446744073709551678 }
-    ensures { OnOk result (text.new.items ≡ text.old.items ++ notes_svg lines outcome.now) }
+fn push_notes(text: &mut Vec<u8>, picas: u128, outcome: &Outcome) -> Result<(), AllocError>
+    requires { picas ≤ 18446744073709551678 }
+    ensures { OnOk result (text.new.items ≡ text.old.items ++ notes_svg picas outcome.now) }
 {
     text.extend_from_slice(notes_begin())?;
-    push_number(text, 210 * (lines + 6))?;
+    push_number(text, 210 * (picas + 6))?;
     text.extend_from_slice(b")\">\n")?;
     push_stop(text, outcome.stop)?;
-    text.extend_from_slice(statuses_begin())?;
-    push_numbers(text, statuses_line(), outcome.statuses.as_slice())?;
-    text.extend_from_slice(notes_end())
+    push_statuses(text, outcome.statuses.as_slice())?;
+    text.extend_from_slice(text_end())
 }
 
-/// The document's width in lines.
+/// The document's width in picas.
 fn width_of(present: Present) -> u64
     ensures width { result ≡ width_of present }
     ensures within { result ≤ 129 }
@@ -201,13 +216,13 @@ fn width_of(present: Present) -> u64
     }
 }
 
-/// The document's height in lines.
-fn height_of(lines: u128, outcome: &Outcome) -> u128
-    requires { lines ≤ 18446744073709551678 }
-    ensures height { result ≡ height_of lines outcome.now }
+/// The document's height in picas.
+fn height_of(picas: u128, outcome: &Outcome) -> u128
+    requires { picas ≤ 18446744073709551678 }
+    ensures height { result ≡ height_of picas outcome.now }
     ensures within { result ≤ 36893488147419103304 }
 {
-    lines + 9 + stop_lines(outcome.stop) + outcome.statuses.len() as u128 / 18
+    picas + 9 + stop_picas(outcome.stop) + outcome.statuses.len() as u128 / 18
 }
 
 /// Adds the document's size in picas.
@@ -255,16 +270,16 @@ fn push_sheet_if(
     present: bool,
     device: u64,
     x: u64,
-    lines: u128,
+    picas: u128,
     paper: &Paper,
 ) -> Result<(), AllocError>
-    requires within { lines ≤ 18446744073709551678 }
+    requires within { picas ≤ 18446744073709551678 }
     requires pen { IsClosed pen.old false }
-    ensures text { OnOk result (text.new.items ≡ text.old.items ++ text_if present (sheet_svg device x lines paper.now)) }
+    ensures text { OnOk result (text.new.items ≡ text.old.items ++ text_if present (sheet_svg device x picas paper.now)) }
     ensures closed { OnOk result (IsClosed pen.new false) }
 {
     if present {
-        push_sheet(text, pen, device, x, lines, paper)?;
+        push_sheet(text, pen, device, x, picas, paper)?;
     }
     Ok(())
 }
@@ -283,17 +298,17 @@ pub fn svg(alloc: Global, outcome: &Outcome, present: Present) -> Result<Vec<u8>
     ensures { IfOk result (λ text. text.items ≡ svg_of outcome.now present) }
 {
     let mut pen = Pen::new(alloc)?;
-    let lines = sheet_lines(outcome);
+    let picas = sheet_picas(outcome);
     let five = if present.four { 13860 } else { 630 };
     let mut text = Vec::new(alloc);
-    push_head(&mut text, width_of(present), height_of(lines, outcome))?;
+    push_head(&mut text, width_of(present), height_of(picas, outcome))?;
     push_sheet_if(
         &mut text,
         &mut pen,
         present.four,
         4,
         630,
-        lines,
+        picas,
         &outcome.paper4,
     )?;
     push_sheet_if(
@@ -302,10 +317,10 @@ pub fn svg(alloc: Global, outcome: &Outcome, present: Present) -> Result<Vec<u8>
         present.five,
         5,
         five,
-        lines,
+        picas,
         &outcome.paper5,
     )?;
-    push_notes(&mut text, lines, outcome)?;
+    push_notes(&mut text, picas, outcome)?;
     text.extend_from_slice(b"</svg>\n")?;
     Ok(text)
 }

@@ -1,7 +1,8 @@
-//! Letters that follow each other, in one element.
+//! Letters side by side, in one element.
 
-ghost use Rattle.std.specs.Prelude.{◌≡◌, ◌+◌, ◌*◌, ◌≤◌, [], ◌++◌, replicate, OnOk};
-ghost use Rattle.pr_picture.specs.Svg.{escaped, follows, is_plain, letters_svg, mark_letter};
+ghost use Rattle.std.specs.Prelude.{◌≡◌, ◌+◌, ◌*◌, ◌≤◌, [], ◌++◌, OnOk};
+ghost use Rattle.pr_picture.specs.Joined.{letters_with};
+ghost use Rattle.pr_picture.specs.Svg.{escaped, follows, letters_svg, mark_letter, stands_for_itself};
 
 use crate::adding::{push_between, push_blanks, push_small};
 use crate::characters::character;
@@ -10,8 +11,8 @@ use pr_page::Mark;
 use std::alloc::{AllocError, Global};
 
 /// Whether a character stands for itself.
-fn is_plain(character: char) -> bool
-    ensures { result ≡ is_plain character }
+fn stands_for_itself(character: char) -> bool
+    ensures { result ≡ stands_for_itself character }
 {
     if character == '"'
         || character == '&'
@@ -24,12 +25,12 @@ fn is_plain(character: char) -> bool
     ' ' <= character && character <= '~'
 }
 
-/// Adds a character.
+/// Adds a character, as itself or else by its number.
 #[tactic(auto, unfolding(crate::specs::Svg::escaped))]
 pub fn push_escaped(text: &mut Vec<u8>, character: char) -> Result<(), AllocError>
     ensures { OnOk result (text.new.items ≡ text.old.items ++ escaped character) }
 {
-    if is_plain(character) {
+    if stands_for_itself(character) {
         text.push(character as u8)?;
         return Ok(());
     }
@@ -49,7 +50,7 @@ fn push_letter(text: &mut Vec<u8>, mark: Mark) -> Result<(), AllocError>
     }
 }
 
-/// Adds a run of letters, if it has any cells.
+/// Adds letters side by side, if they are any cells.
 #[tactic(auto, unfolding(crate::specs::Svg::letters_svg))]
 fn push_letters(text: &mut Vec<u8>, x: u64, count: u64, letters: &[u8]) -> Result<(), AllocError>
     requires { count ≤ 65541 }
@@ -65,21 +66,22 @@ fn push_letters(text: &mut Vec<u8>, x: u64, count: u64, letters: &[u8]) -> Resul
     text.extend_from_slice(text_end())
 }
 
-/// A run of letters, whose text stands aside until it ends.
+/// Letters side by side, whose text stands aside until they end.
 #[derive(Drop)]
 pub struct Letters {
     /// The dot column of the first.
     pub x: u64,
-    /// How many cells they are, 0 where there is no run.
+    /// How many cells they are, 0 where there are none.
     pub count: u64,
     /// The blank cells behind them.
     pub blanks: u64,
+    /// Their text as it will stand in the picture, without those blanks.
     pub text: Vec<u8>,
     ghost within: { x + 6 * (count + blanks) ≤ 65541 },
 }
 
 impl Letters {
-    /// No run.
+    /// No letters.
     pub fn new(alloc: Global) -> Letters
         ensures x { result.x ≡ 0 }
         ensures count { result.count ≡ 0 }
@@ -119,7 +121,7 @@ impl Letters {
         ensures x { OnOk result (self.new.x ≡ self.old.x) }
         ensures count { OnOk result (self.new.count ≡ self.old.count + self.old.blanks + 1) }
         ensures blanks { OnOk result (self.new.blanks ≡ 0) }
-        ensures text { OnOk result (self.new.text.items ≡ self.old.text.items ++ replicate self.old.blanks 32 ++ mark_letter mark) }
+        ensures text { OnOk result (self.new.text.items ≡ letters_with self.old.text.items self.old.blanks mark) }
     {
         push_blanks(&mut self.text, self.blanks)?;
         push_letter(&mut self.text, mark)?;
@@ -128,7 +130,7 @@ impl Letters {
         Ok(())
     }
 
-    /// Adds them to the text of a picture, and begins the next run at a dot column, so far without a cell.
+    /// Adds them to the text of a picture, and begins anew at a dot column, so far without a cell.
     pub fn end(&mut self, text: &mut Vec<u8>, next: u16) -> Result<(), AllocError>
         ensures picture { OnOk result (text.new.items ≡ text.old.items ++ letters_svg self.old.x self.old.count self.old.text.items) }
         ensures x { OnOk result (self.new.x ≡ next) }

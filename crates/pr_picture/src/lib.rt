@@ -5,11 +5,12 @@ mod adding;
 mod characters;
 mod columns;
 mod drawing;
+pub mod laws;
 mod letters;
 mod marks;
 mod parts;
 mod plain;
-mod runs;
+mod strokes;
 #[cfg(test)]
 mod tests;
 

@@ -2,25 +2,25 @@
 
 ghost use Rattle.std.specs.Prelude.{◌≡◌, false, true, [], ◌++◌, OnOk, IfOk};
 ghost use Rattle.pr_picture.specs.Pens.{HasDrawn, IsClosed, ended_svg};
-ghost use Rattle.pr_picture.specs.Svg.{black_place, cell_box, cell_svg, character_svg, column_svg, is_dots, is_letter, joint, mark_svg, marks_svg, shows_blank, shows_letter, white_place};
+ghost use Rattle.pr_picture.specs.Svg.{black_place, cell_box, cell_svg, character_svg, column_svg, is_dots, is_letter, joint, line_marks, mark_svg, shows_blank, shows_letter, white_place};
 
 use crate::adding::{either, is_blank, push_between, push_small};
 use crate::characters::character;
 use crate::letters::{Letters, push_escaped};
 use crate::parts::{letters_fitted, letters_width, text_end, white_begin};
-use crate::runs::Runs;
+use crate::strokes::Strokes;
 use pr_page::{Mark, Placed};
 use std::alloc::{AllocError, Global};
 
 /// Adds a column of dots, as a part of a path.
 #[tactic(auto, unfolding(crate::specs::Svg::column_svg))]
-fn push_column(text: &mut Vec<u8>, runs: &Runs, x: u16, value: u8) -> Result<(), AllocError>
+fn push_column(text: &mut Vec<u8>, strokes: &Strokes, x: u16, value: u8) -> Result<(), AllocError>
     ensures { OnOk result (text.new.items ≡ text.old.items ++ column_svg x value) }
 {
     text.push(b'M')?;
     push_small(text, u64::from(x))?;
     text.extend_from_slice(b".5-7")?;
-    runs.push(text, value)
+    strokes.push(text, value)
 }
 
 /// Adds a cell: its box if it is reversed, and its character if it is no blank.
@@ -82,7 +82,7 @@ fn push_character(
 fn push_white_place(text: &mut Vec<u8>, x: u16, wide: bool) -> Result<(), AllocError>
     ensures { OnOk result (text.new.items ≡ text.old.items ++ white_place x wide) }
 {
-    let end = either(wide, b" -1)scale(2 .8)", b" -1)scale(1 .8)");
+    let end = either(wide, b" -1) scale(2 .8)", b" -1) scale(1 .8)");
     push_between(text, white_begin(), u64::from(x), end)
 }
 
@@ -95,7 +95,7 @@ fn push_black_place(text: &mut Vec<u8>, x: u16, wide: bool) -> Result<(), AllocE
             text,
             b"<text transform=\"translate(",
             u64::from(x),
-            b")scale(2 1)",
+            b") scale(2 1)",
         )
     } else {
         text.extend_from_slice(b"<text x=\"")?;
@@ -103,8 +103,8 @@ fn push_black_place(text: &mut Vec<u8>, x: u16, wide: bool) -> Result<(), AllocE
     }
 }
 
-/// Adds a mark that is no part of a run of letters.
-fn push_mark(text: &mut Vec<u8>, runs: &Runs, placed: Placed) -> Result<(), AllocError>
+/// Adds a mark that is none of letters side by side.
+fn push_mark(text: &mut Vec<u8>, strokes: &Strokes, placed: Placed) -> Result<(), AllocError>
     ensures { OnOk result (text.new.items ≡ text.old.items ++ mark_svg placed.x placed.mark) }
 {
     match placed.mark {
@@ -114,7 +114,7 @@ fn push_mark(text: &mut Vec<u8>, runs: &Runs, placed: Placed) -> Result<(), Allo
             reverse,
             wide,
         } => push_cell(text, placed.x, character(code, lower), reverse, wide),
-        Mark::Dots(value) => push_column(text, runs, placed.x, value),
+        Mark::Dots(value) => push_column(text, strokes, placed.x, value),
     }
 }
 
@@ -177,13 +177,13 @@ fn shows_blank(mark: Mark) -> bool
     }
 }
 
-/// What draws the marks of a line. Between two marks a path of columns of dots may be open, or a run
-/// of letters.
+/// What draws the marks of a line. Between two marks a path of columns of dots may be open, or
+/// letters side by side.
 #[derive(Drop)]
 pub struct Pen {
-    runs: Runs,
-    /// A path is open.
-    column: bool,
+    strokes: Strokes,
+    /// Whether a path is open.
+    in_path: bool,
     letters: Letters,
 }
 
@@ -193,28 +193,28 @@ impl Pen {
         ensures { IfOk result (λ pen. IsClosed pen false) }
     {
         Ok(Pen {
-            runs: Runs::new(alloc)?,
-            column: false,
+            strokes: Strokes::new(alloc)?,
+            in_path: false,
             letters: Letters::new(alloc),
         })
     }
 
-    /// Ends what is open before a mark, a column of dots or not. A run may begin at a dot column.
+    /// Ends what is open before a mark, a column of dots or not. Letters may begin at a dot column.
     fn end(&mut self, text: &mut Vec<u8>, dots: bool, next: u16) -> Result<(), AllocError>
         ensures text { OnOk result (text.new.items ≡ text.old.items ++ ended_svg self.old dots) }
-        ensures column { OnOk result (self.new.column ≡ dots) }
+        ensures path { OnOk result (self.new.in_path ≡ dots) }
         ensures x { OnOk result (self.new.letters.x ≡ next) }
         ensures count { OnOk result (self.new.letters.count ≡ 0) }
         ensures blanks { OnOk result (self.new.letters.blanks ≡ 0) }
         ensures letters { OnOk result (self.new.letters.text.items ≡ []) }
     {
         self.letters.end(text, next)?;
-        text.extend_from_slice(joint(self.column, dots))?;
-        self.column = dots;
+        text.extend_from_slice(joint(self.in_path, dots))?;
+        self.in_path = dots;
         Ok(())
     }
 
-    /// Draws a letter, in the run that it follows or as the first of another.
+    /// Draws a letter, beside those that it follows or as the first of others.
     fn draw_letter(&mut self, text: &mut Vec<u8>, placed: Placed) -> Result<(), AllocError>
         requires { shows_letter placed.mark ≡ true }
         ensures { OnOk result (HasDrawn placed text.old.items self.old text.new.items self.new) }
@@ -229,21 +229,22 @@ impl Pen {
     fn draw_mark(&mut self, text: &mut Vec<u8>, placed: Placed) -> Result<(), AllocError>
         ensures { OnOk result (HasDrawn placed text.old.items self.old text.new.items self.new) }
     {
+        if shows_letter(placed.mark) {
+            return self.draw_letter(text, placed);
+        }
         if shows_blank(placed.mark) && self.letters.are_followed_at(placed.x) {
             self.letters.add_blank();
             return Ok(());
         }
-        if shows_letter(placed.mark) {
-            return self.draw_letter(text, placed);
-        }
         self.end(text, is_dots(placed.mark), 0)?;
-        push_mark(text, &self.runs, placed)
+        push_mark(text, &self.strokes, placed)
     }
 
     /// Draws the marks of a line in their order.
+    #[tactic(auto, unfolding(crate::specs::Svg::line_marks))]
     pub fn draw(&mut self, text: &mut Vec<u8>, marks: &[Placed]) -> Result<(), AllocError>
         requires { IsClosed self.old false }
-        ensures text { OnOk result (text.new.items ≡ text.old.items ++ marks_svg false 0 0 0 [] marks.now) }
+        ensures text { OnOk result (text.new.items ≡ text.old.items ++ line_marks marks.now) }
         ensures closed { OnOk result (IsClosed self.new false) }
     {
         for placed in marks {

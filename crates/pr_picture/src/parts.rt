@@ -1,7 +1,7 @@
 //! The fixed parts of the picture.
 
 ghost use Rattle.std.specs.Prelude.{◌≡◌};
-ghost use Rattle.pr_picture.specs.Parts.{desk, document_about, document_begin, group_begin, height_begin, held_note, letters_begin, letters_fitted, letters_width, notes_begin, notes_end, paper_piece, sheet_marks, sheet_name, sheet_paper, statuses_begin, statuses_line, stop_begin, text_end, units_begin, units_between, white_begin};
+ghost use Rattle.pr_picture.specs.Parts.{desk, document_about, document_begin, group_begin, group_scale, height_begin, held_note, letters_begin, letters_fitted, letters_width, notes_begin, paper_piece, sheet_marks, sheet_name, sheet_paper, statuses_begin, statuses_line, stop_begin, text_end, units_begin, units_between, white_begin};
 
 /// The document's first tag, up to its width.
 #[tactic(auto, unfolding(crate::specs::Parts::document_begin))]
@@ -56,7 +56,7 @@ pub fn sheet_paper() -> &'static [u8]
 pub fn sheet_marks() -> &'static [u8]
     ensures { result.now ≡ sheet_marks }
 {
-    b"\" fill=\"url(#paper)\" stroke=\"#b4afa2\" stroke-width=\"10\"/>\n<g transform=\"translate(1260 630)scale(21 10)\" font-size=\"9.966\" shape-rendering=\"crispEdges\">\n"
+    b"\" fill=\"url(#paper)\" stroke=\"#b4afa2\" stroke-width=\"10\"/>\n<g transform=\"translate(1260 630) scale(21 10)\" font-size=\"9.966\" shape-rendering=\"crispEdges\">\n"
 }
 
 /// Behind the distance of the marks held: a dashed rule that says so, and a pale group.
@@ -64,7 +64,7 @@ pub fn sheet_marks() -> &'static [u8]
 pub fn held_note() -> &'static [u8]
     ensures { result.now ≡ held_note }
 {
-    b")scale(1 2)\">\n<path shape-rendering=\"auto\" stroke=\"#a33\" stroke-dasharray=\"6\" d=\"M0 3h480\"/>\n<text font-size=\"6\" fill=\"#a33\" x=\"350\" y=\"10\">held by the printer, not yet printed</text>\n</g>\n<g opacity=\".4\">\n"
+    b") scale(1 2)\">\n<path shape-rendering=\"auto\" stroke=\"#a33\" stroke-dasharray=\"6\" d=\"M0 3h480\"/>\n<text font-size=\"6\" fill=\"#a33\" x=\"350\" y=\"10\">held by the printer, not yet printed</text>\n</g>\n<g opacity=\".4\">\n"
 }
 
 /// The text below the sheets, up to its distance.
@@ -99,20 +99,20 @@ pub fn statuses_line() -> &'static [u8]
     b"</tspan>\n<tspan x=\"0\" dy=\"210\">"
 }
 
-/// The end of the text below the sheets.
-#[tactic(auto, unfolding(crate::specs::Parts::notes_end))]
-pub fn notes_end() -> &'static [u8]
-    ensures { result.now ≡ notes_end }
-{
-    b"</tspan>\n</text>\n"
-}
-
 /// A group at a distance.
 #[tactic(auto, unfolding(crate::specs::Parts::group_begin))]
 pub fn group_begin() -> &'static [u8]
     ensures { result.now ≡ group_begin }
 {
     b"<g transform=\"translate(0 "
+}
+
+/// Behind the distance of marks: there a unit is a dot.
+#[tactic(auto, unfolding(crate::specs::Parts::group_scale))]
+pub fn group_scale() -> &'static [u8]
+    ensures { result.now ≡ group_scale }
+{
+    b") scale(1 2)\">\n"
 }
 
 /// Between the document's width and height.
@@ -147,7 +147,7 @@ pub fn white_begin() -> &'static [u8]
     b"<text fill=\"#fff\" transform=\"translate("
 }
 
-/// The end of a character.
+/// The end of a text.
 #[tactic(auto, unfolding(crate::specs::Parts::text_end))]
 pub fn text_end() -> &'static [u8]
     ensures { result.now ≡ text_end }

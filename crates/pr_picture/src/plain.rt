@@ -1,4 +1,5 @@
-//! Pages as lines of 80 columns.
+//! Pages as plain text: lines of 80 columns, and sentences. All of the format is this project's own
+//! choice (profile).
 
 ghost use Rattle.std.specs.Prelude.{◌≡◌, ◌++◌, OnOk, IfOk};
 ghost use Rattle.pr_picture.specs.Words.{text_if};

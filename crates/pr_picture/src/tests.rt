@@ -39,15 +39,15 @@ const ROW_SIZE: &str = "width=\"66pc\" height=\"18pc\" viewBox=\"0 0 13860 3780\
 
 /// The sheet of one row, up to its marks.
 const ROW_BEGIN: &str =
-    "<g transform=\"translate(630 1050)\">\n<text font-size=\"210\" fill=\"#555\" y=\"-210\">Printer 4</text>\n<rect width=\"12600\" height=\"1890\" fill=\"url(#paper)\" stroke=\"#b4afa2\" stroke-width=\"10\"/>\n<g transform=\"translate(1260 630)scale(21 10)\" font-size=\"9.966\" shape-rendering=\"crispEdges\">\n<g transform=\"translate(0 14)scale(1 2)\">\n";
+    "<g transform=\"translate(630 1050)\">\n<text font-size=\"210\" fill=\"#555\" y=\"-210\">Printer 4</text>\n<rect width=\"12600\" height=\"1890\" fill=\"url(#paper)\" stroke=\"#b4afa2\" stroke-width=\"10\"/>\n<g transform=\"translate(1260 630) scale(21 10)\" font-size=\"9.966\" shape-rendering=\"crispEdges\">\n<g transform=\"translate(0 14) scale(1 2)\">\n";
 
 /// What stands behind the marks of that row.
 const ROW_END: &str =
-    "</g>\n</g>\n</g>\n<text font-size=\"210\" fill=\"#555\" transform=\"translate(630 3150)\">\n<tspan x=\"0\" dy=\"210\">status</tspan>\n</text>\n</svg>\n";
+    "</g>\n</g>\n</g>\n<text font-size=\"210\" fill=\"#555\" transform=\"translate(630 3150)\">\n</text>\n</svg>\n";
 
 /// The end of the picture of `each_growth_refused`.
 const GROWN: &str =
-    "<text xml:space=\"preserve\" x=\"0\" textLength=\"12\" lengthAdjust=\"spacingAndGlyphs\">AB</text>\n</g>\n</g>\n</g>\n</g>\n<text font-size=\"210\" fill=\"#555\" transform=\"translate(630 3150)\">\n<tspan x=\"0\" dy=\"210\">status</tspan>\n</text>\n</svg>\n";
+    "<text xml:space=\"preserve\" x=\"0\" textLength=\"12\" lengthAdjust=\"spacingAndGlyphs\">AB</text>\n</g>\n</g>\n</g>\n</g>\n<text font-size=\"210\" fill=\"#555\" transform=\"translate(630 3150)\">\n</text>\n</svg>\n";
 
 /// A cell of the graphic/upper case set in black.
 fn cell(x: u16, code: u8) -> Placed {
@@ -269,7 +269,7 @@ fn reversed_and_wide_cells(rt: HostRuntime) {
     shows(
         &rt,
         &[styled(6, 82, true, false), styled(12, 32, true, false)],
-        "<rect x=\"6\" y=\"-7\" width=\"6\" height=\"7\"/>\n<text fill=\"#fff\" transform=\"translate(6 -1)scale(1 .8)\" textLength=\"6\" lengthAdjust=\"spacingAndGlyphs\">R</text>\n<rect x=\"12\" y=\"-7\" width=\"6\" height=\"7\"/>\n",
+        "<rect x=\"6\" y=\"-7\" width=\"6\" height=\"7\"/>\n<text fill=\"#fff\" transform=\"translate(6 -1) scale(1 .8)\" textLength=\"6\" lengthAdjust=\"spacingAndGlyphs\">R</text>\n<rect x=\"12\" y=\"-7\" width=\"6\" height=\"7\"/>\n",
         "Printer 4\n| R\u{2588}\n",
     );
     shows(
@@ -279,13 +279,13 @@ fn reversed_and_wide_cells(rt: HostRuntime) {
             styled(12, 32, false, true),
             cell(24, 88),
         ],
-        "<text transform=\"translate(0)scale(2 1)\" textLength=\"6\" lengthAdjust=\"spacingAndGlyphs\">W</text>\n<text xml:space=\"preserve\" x=\"24\" textLength=\"6\" lengthAdjust=\"spacingAndGlyphs\">X</text>\n",
+        "<text transform=\"translate(0) scale(2 1)\" textLength=\"6\" lengthAdjust=\"spacingAndGlyphs\">W</text>\n<text xml:space=\"preserve\" x=\"24\" textLength=\"6\" lengthAdjust=\"spacingAndGlyphs\">X</text>\n",
         "Printer 4\n|W   X\n",
     );
     shows(
         &rt,
         &[styled(12, 66, true, true), styled(24, 160, true, true)],
-        "<rect x=\"12\" y=\"-7\" width=\"12\" height=\"7\"/>\n<text fill=\"#fff\" transform=\"translate(12 -1)scale(2 .8)\" textLength=\"6\" lengthAdjust=\"spacingAndGlyphs\">B</text>\n<rect x=\"24\" y=\"-7\" width=\"12\" height=\"7\"/>\n",
+        "<rect x=\"12\" y=\"-7\" width=\"12\" height=\"7\"/>\n<text fill=\"#fff\" transform=\"translate(12 -1) scale(2 .8)\" textLength=\"6\" lengthAdjust=\"spacingAndGlyphs\">B</text>\n<rect x=\"24\" y=\"-7\" width=\"12\" height=\"7\"/>\n",
         "Printer 4\n|  B\u{2588}\u{2588}\u{2588}\n",
     );
 }
@@ -302,7 +302,7 @@ fn overprinted_marks_in_their_order(rt: HostRuntime) {
     shows(
         &rt,
         &[styled(0, 87, false, true), cell(6, 33), cell(3, 88)],
-        "<text transform=\"translate(0)scale(2 1)\" textLength=\"6\" lengthAdjust=\"spacingAndGlyphs\">W</text>\n<text xml:space=\"preserve\" x=\"6\" textLength=\"6\" lengthAdjust=\"spacingAndGlyphs\">!</text>\n<text xml:space=\"preserve\" x=\"3\" textLength=\"6\" lengthAdjust=\"spacingAndGlyphs\">X</text>\n",
+        "<text transform=\"translate(0) scale(2 1)\" textLength=\"6\" lengthAdjust=\"spacingAndGlyphs\">W</text>\n<text xml:space=\"preserve\" x=\"6\" textLength=\"6\" lengthAdjust=\"spacingAndGlyphs\">!</text>\n<text xml:space=\"preserve\" x=\"3\" textLength=\"6\" lengthAdjust=\"spacingAndGlyphs\">X</text>\n",
         "Printer 4\n|X!\n",
     );
     shows(
@@ -356,6 +356,64 @@ fn columns_of_dots(rt: HostRuntime) {
     );
 }
 
+/// A column is a shade by its dots: 11 and 12, 22 and 23, 33 and 34 of 42.
+#[test]
+fn shades_by_quarters(rt: HostRuntime) {
+    shows(
+        &rt,
+        &[
+            dots(0, 127),
+            dots(1, 15),
+            dots(6, 127),
+            dots(7, 31),
+            dots(12, 127),
+            dots(13, 127),
+            dots(14, 127),
+            dots(15, 1),
+        ],
+        "<path stroke=\"#000\" d=\"M0.5-7v7M1.5-7v4M6.5-7v7M7.5-7v5M12.5-7v7M13.5-7v7M14.5-7v7M15.5-7v1\"/>\n",
+        "Printer 4\n|\u{2591}\u{2592}\u{2592}\n",
+    );
+    shows(
+        &rt,
+        &[
+            dots(0, 127),
+            dots(1, 127),
+            dots(2, 127),
+            dots(3, 3),
+            dots(6, 127),
+            dots(7, 127),
+            dots(8, 127),
+            dots(9, 127),
+            dots(10, 31),
+            dots(12, 127),
+            dots(13, 127),
+            dots(14, 127),
+            dots(15, 127),
+            dots(16, 63),
+        ],
+        "<path stroke=\"#000\" d=\"M0.5-7v7M1.5-7v7M2.5-7v7M3.5-7v2M6.5-7v7M7.5-7v7M8.5-7v7M9.5-7v7M10.5-7v5M12.5-7v7M13.5-7v7M14.5-7v7M15.5-7v7M16.5-7v6\"/>\n",
+        "Printer 4\n|\u{2593}\u{2593}\u{2588}\n",
+    );
+}
+
+/// Of a wide cell in the last column the lines show its first half alone.
+#[test]
+fn wide_cells_at_the_edge(rt: HostRuntime) {
+    shows(
+        &rt,
+        &[styled(474, 87, true, true)],
+        "<rect x=\"474\" y=\"-7\" width=\"12\" height=\"7\"/>\n<text fill=\"#fff\" transform=\"translate(474 -1) scale(2 .8)\" textLength=\"6\" lengthAdjust=\"spacingAndGlyphs\">W</text>\n",
+        "Printer 4\n|                                                                               W\n",
+    );
+    shows(
+        &rt,
+        &[cell(6, 65), styled(0, 87, false, true), cell(12, 66)],
+        "<text xml:space=\"preserve\" x=\"6\" textLength=\"6\" lengthAdjust=\"spacingAndGlyphs\">A</text>\n<text transform=\"translate(0) scale(2 1)\" textLength=\"6\" lengthAdjust=\"spacingAndGlyphs\">W</text>\n<text xml:space=\"preserve\" x=\"12\" textLength=\"6\" lengthAdjust=\"spacingAndGlyphs\">B</text>\n",
+        "Printer 4\n|W B\n",
+    );
+}
+
 #[test]
 fn rows_by_their_distance(rt: HostRuntime) {
     let mut rows = Vec::new(rt.alloc());
@@ -377,7 +435,7 @@ fn rows_by_their_distance(rt: HostRuntime) {
         &outcome,
         FOUR,
         "width=\"66pc\" height=\"24pc\" viewBox=\"0 0 13860 5040\"",
-        "<g transform=\"translate(630 1050)\">\n<text font-size=\"210\" fill=\"#555\" y=\"-210\">Printer 4</text>\n<rect width=\"12600\" height=\"3150\" fill=\"url(#paper)\" stroke=\"#b4afa2\" stroke-width=\"10\"/>\n<g transform=\"translate(1260 630)scale(21 10)\" font-size=\"9.966\" shape-rendering=\"crispEdges\">\n<g transform=\"translate(0 35)scale(1 2)\">\n<text xml:space=\"preserve\" x=\"0\" textLength=\"6\" lengthAdjust=\"spacingAndGlyphs\">A</text>\n</g>\n<g transform=\"translate(0 56)scale(1 2)\">\n</g>\n<g transform=\"translate(0 70)scale(1 2)\">\n<path stroke=\"#000\" d=\"M0.5-7v1\"/>\n</g>\n<g transform=\"translate(0 132)scale(1 2)\">\n<text xml:space=\"preserve\" x=\"6\" textLength=\"6\" lengthAdjust=\"spacingAndGlyphs\">B</text>\n</g>\n<g transform=\"translate(0 174)scale(1 2)\">\n<text xml:space=\"preserve\" x=\"12\" textLength=\"6\" lengthAdjust=\"spacingAndGlyphs\">C</text>\n</g>\n</g>\n</g>\n<text font-size=\"210\" fill=\"#555\" transform=\"translate(630 4410)\">\n<tspan x=\"0\" dy=\"210\">status</tspan>\n</text>\n</svg>\n",
+        "<g transform=\"translate(630 1050)\">\n<text font-size=\"210\" fill=\"#555\" y=\"-210\">Printer 4</text>\n<rect width=\"12600\" height=\"3150\" fill=\"url(#paper)\" stroke=\"#b4afa2\" stroke-width=\"10\"/>\n<g transform=\"translate(1260 630) scale(21 10)\" font-size=\"9.966\" shape-rendering=\"crispEdges\">\n<g transform=\"translate(0 35) scale(1 2)\">\n<text xml:space=\"preserve\" x=\"0\" textLength=\"6\" lengthAdjust=\"spacingAndGlyphs\">A</text>\n</g>\n<g transform=\"translate(0 56) scale(1 2)\">\n</g>\n<g transform=\"translate(0 70) scale(1 2)\">\n<path stroke=\"#000\" d=\"M0.5-7v1\"/>\n</g>\n<g transform=\"translate(0 132) scale(1 2)\">\n<text xml:space=\"preserve\" x=\"6\" textLength=\"6\" lengthAdjust=\"spacingAndGlyphs\">B</text>\n</g>\n<g transform=\"translate(0 174) scale(1 2)\">\n<text xml:space=\"preserve\" x=\"12\" textLength=\"6\" lengthAdjust=\"spacingAndGlyphs\">C</text>\n</g>\n</g>\n</g>\n<text font-size=\"210\" fill=\"#555\" transform=\"translate(630 4410)\">\n</text>\n</svg>\n",
     );
     says(
         &rt,
@@ -399,7 +457,7 @@ fn held_marks_are_pale(rt: HostRuntime) {
         &outcome,
         FOUR,
         "width=\"66pc\" height=\"18pc\" viewBox=\"0 0 13860 3780\"",
-        "<g transform=\"translate(630 1050)\">\n<text font-size=\"210\" fill=\"#555\" y=\"-210\">Printer 4</text>\n<rect width=\"12600\" height=\"1890\" fill=\"url(#paper)\" stroke=\"#b4afa2\" stroke-width=\"10\"/>\n<g transform=\"translate(1260 630)scale(21 10)\" font-size=\"9.966\" shape-rendering=\"crispEdges\">\n<g transform=\"translate(0 14)scale(1 2)\">\n<text xml:space=\"preserve\" x=\"0\" textLength=\"6\" lengthAdjust=\"spacingAndGlyphs\">A</text>\n</g>\n<g transform=\"translate(0 21)scale(1 2)\">\n<path shape-rendering=\"auto\" stroke=\"#a33\" stroke-dasharray=\"6\" d=\"M0 3h480\"/>\n<text font-size=\"6\" fill=\"#a33\" x=\"350\" y=\"10\">held by the printer, not yet printed</text>\n</g>\n<g opacity=\".4\">\n<g transform=\"translate(0 56)scale(1 2)\">\n<text xml:space=\"preserve\" x=\"0\" textLength=\"6\" lengthAdjust=\"spacingAndGlyphs\">B</text>\n<path stroke=\"#000\" d=\"M6.5-7v7\"/>\n</g>\n</g>\n</g>\n</g>\n<text font-size=\"210\" fill=\"#555\" transform=\"translate(630 3150)\">\n<tspan x=\"0\" dy=\"210\">status</tspan>\n</text>\n</svg>\n",
+        "<g transform=\"translate(630 1050)\">\n<text font-size=\"210\" fill=\"#555\" y=\"-210\">Printer 4</text>\n<rect width=\"12600\" height=\"1890\" fill=\"url(#paper)\" stroke=\"#b4afa2\" stroke-width=\"10\"/>\n<g transform=\"translate(1260 630) scale(21 10)\" font-size=\"9.966\" shape-rendering=\"crispEdges\">\n<g transform=\"translate(0 14) scale(1 2)\">\n<text xml:space=\"preserve\" x=\"0\" textLength=\"6\" lengthAdjust=\"spacingAndGlyphs\">A</text>\n</g>\n<g transform=\"translate(0 21) scale(1 2)\">\n<path shape-rendering=\"auto\" stroke=\"#a33\" stroke-dasharray=\"6\" d=\"M0 3h480\"/>\n<text font-size=\"6\" fill=\"#a33\" x=\"350\" y=\"10\">held by the printer, not yet printed</text>\n</g>\n<g opacity=\".4\">\n<g transform=\"translate(0 56) scale(1 2)\">\n<text xml:space=\"preserve\" x=\"0\" textLength=\"6\" lengthAdjust=\"spacingAndGlyphs\">B</text>\n<path stroke=\"#000\" d=\"M6.5-7v7\"/>\n</g>\n</g>\n</g>\n</g>\n<text font-size=\"210\" fill=\"#555\" transform=\"translate(630 3150)\">\n</text>\n</svg>\n",
     );
     says(&rt, &outcome, FOUR, "Printer 4\n|A\n:B\u{2591}\n");
 }
@@ -413,21 +471,21 @@ fn printers_that_are_there(rt: HostRuntime) {
         &outcome,
         BOTH,
         "width=\"129pc\" height=\"18pc\" viewBox=\"0 0 27090 3780\"",
-        "<g transform=\"translate(630 1050)\">\n<text font-size=\"210\" fill=\"#555\" y=\"-210\">Printer 4</text>\n<rect width=\"12600\" height=\"1890\" fill=\"url(#paper)\" stroke=\"#b4afa2\" stroke-width=\"10\"/>\n<g transform=\"translate(1260 630)scale(21 10)\" font-size=\"9.966\" shape-rendering=\"crispEdges\">\n<g transform=\"translate(0 14)scale(1 2)\">\n<text xml:space=\"preserve\" x=\"0\" textLength=\"6\" lengthAdjust=\"spacingAndGlyphs\">A</text>\n</g>\n</g>\n</g>\n<g transform=\"translate(13860 1050)\">\n<text font-size=\"210\" fill=\"#555\" y=\"-210\">Printer 5</text>\n<rect width=\"12600\" height=\"1890\" fill=\"url(#paper)\" stroke=\"#b4afa2\" stroke-width=\"10\"/>\n<g transform=\"translate(1260 630)scale(21 10)\" font-size=\"9.966\" shape-rendering=\"crispEdges\">\n<g transform=\"translate(0 0)scale(1 2)\">\n<path shape-rendering=\"auto\" stroke=\"#a33\" stroke-dasharray=\"6\" d=\"M0 3h480\"/>\n<text font-size=\"6\" fill=\"#a33\" x=\"350\" y=\"10\">held by the printer, not yet printed</text>\n</g>\n<g opacity=\".4\">\n<g transform=\"translate(0 35)scale(1 2)\">\n<text xml:space=\"preserve\" x=\"0\" textLength=\"6\" lengthAdjust=\"spacingAndGlyphs\">a</text>\n</g>\n</g>\n</g>\n</g>\n<text font-size=\"210\" fill=\"#555\" transform=\"translate(630 3150)\">\n<tspan x=\"0\" dy=\"210\">status</tspan>\n</text>\n</svg>\n",
+        "<g transform=\"translate(630 1050)\">\n<text font-size=\"210\" fill=\"#555\" y=\"-210\">Printer 4</text>\n<rect width=\"12600\" height=\"1890\" fill=\"url(#paper)\" stroke=\"#b4afa2\" stroke-width=\"10\"/>\n<g transform=\"translate(1260 630) scale(21 10)\" font-size=\"9.966\" shape-rendering=\"crispEdges\">\n<g transform=\"translate(0 14) scale(1 2)\">\n<text xml:space=\"preserve\" x=\"0\" textLength=\"6\" lengthAdjust=\"spacingAndGlyphs\">A</text>\n</g>\n</g>\n</g>\n<g transform=\"translate(13860 1050)\">\n<text font-size=\"210\" fill=\"#555\" y=\"-210\">Printer 5</text>\n<rect width=\"12600\" height=\"1890\" fill=\"url(#paper)\" stroke=\"#b4afa2\" stroke-width=\"10\"/>\n<g transform=\"translate(1260 630) scale(21 10)\" font-size=\"9.966\" shape-rendering=\"crispEdges\">\n<g transform=\"translate(0 0) scale(1 2)\">\n<path shape-rendering=\"auto\" stroke=\"#a33\" stroke-dasharray=\"6\" d=\"M0 3h480\"/>\n<text font-size=\"6\" fill=\"#a33\" x=\"350\" y=\"10\">held by the printer, not yet printed</text>\n</g>\n<g opacity=\".4\">\n<g transform=\"translate(0 35) scale(1 2)\">\n<text xml:space=\"preserve\" x=\"0\" textLength=\"6\" lengthAdjust=\"spacingAndGlyphs\">a</text>\n</g>\n</g>\n</g>\n</g>\n<text font-size=\"210\" fill=\"#555\" transform=\"translate(630 3150)\">\n</text>\n</svg>\n",
     );
     draws(
         &rt,
         &outcome,
         FIVE,
         "width=\"66pc\" height=\"18pc\" viewBox=\"0 0 13860 3780\"",
-        "<g transform=\"translate(630 1050)\">\n<text font-size=\"210\" fill=\"#555\" y=\"-210\">Printer 5</text>\n<rect width=\"12600\" height=\"1890\" fill=\"url(#paper)\" stroke=\"#b4afa2\" stroke-width=\"10\"/>\n<g transform=\"translate(1260 630)scale(21 10)\" font-size=\"9.966\" shape-rendering=\"crispEdges\">\n<g transform=\"translate(0 0)scale(1 2)\">\n<path shape-rendering=\"auto\" stroke=\"#a33\" stroke-dasharray=\"6\" d=\"M0 3h480\"/>\n<text font-size=\"6\" fill=\"#a33\" x=\"350\" y=\"10\">held by the printer, not yet printed</text>\n</g>\n<g opacity=\".4\">\n<g transform=\"translate(0 35)scale(1 2)\">\n<text xml:space=\"preserve\" x=\"0\" textLength=\"6\" lengthAdjust=\"spacingAndGlyphs\">a</text>\n</g>\n</g>\n</g>\n</g>\n<text font-size=\"210\" fill=\"#555\" transform=\"translate(630 3150)\">\n<tspan x=\"0\" dy=\"210\">status</tspan>\n</text>\n</svg>\n",
+        "<g transform=\"translate(630 1050)\">\n<text font-size=\"210\" fill=\"#555\" y=\"-210\">Printer 5</text>\n<rect width=\"12600\" height=\"1890\" fill=\"url(#paper)\" stroke=\"#b4afa2\" stroke-width=\"10\"/>\n<g transform=\"translate(1260 630) scale(21 10)\" font-size=\"9.966\" shape-rendering=\"crispEdges\">\n<g transform=\"translate(0 0) scale(1 2)\">\n<path shape-rendering=\"auto\" stroke=\"#a33\" stroke-dasharray=\"6\" d=\"M0 3h480\"/>\n<text font-size=\"6\" fill=\"#a33\" x=\"350\" y=\"10\">held by the printer, not yet printed</text>\n</g>\n<g opacity=\".4\">\n<g transform=\"translate(0 35) scale(1 2)\">\n<text xml:space=\"preserve\" x=\"0\" textLength=\"6\" lengthAdjust=\"spacingAndGlyphs\">a</text>\n</g>\n</g>\n</g>\n</g>\n<text font-size=\"210\" fill=\"#555\" transform=\"translate(630 3150)\">\n</text>\n</svg>\n",
     );
     draws(
         &rt,
         &outcome,
         NONE,
         "width=\"66pc\" height=\"18pc\" viewBox=\"0 0 13860 3780\"",
-        "<text font-size=\"210\" fill=\"#555\" transform=\"translate(630 3150)\">\n<tspan x=\"0\" dy=\"210\">status</tspan>\n</text>\n</svg>\n",
+        "<text font-size=\"210\" fill=\"#555\" transform=\"translate(630 3150)\">\n</text>\n</svg>\n",
     );
     says(&rt, &outcome, BOTH, "Printer 4\n|A\nPrinter 5\n:a\n");
     says(&rt, &outcome, FIVE, "Printer 5\n:a\n");

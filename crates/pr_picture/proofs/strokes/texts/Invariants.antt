@@ -1,10 +1,10 @@
 use Rattle.std.proofs.Common.{◌≡◌}
 use Rattle.std.specs.Prelude.{vec_len}
-use Rattle.pr_picture.specs.Tables.{HasRuns}
-use Rattle.pr_picture.proofs.runs.texts.Given as goal
+use Rattle.pr_picture.specs.Tables.{HasStrokes}
+use Rattle.pr_picture.proofs.strokes.texts.Given as goal
 
 abbrev pub invariant-loop-value : goal.invariant-loop-value
 invariant-loop-value l = record {
   count : vec_len l.texts ≡ l.value;
-  right : HasRuns l.texts.items l.value;
+  right : HasStrokes l.texts.items l.value;
 }

@@ -1,8 +1,8 @@
 //! The strokes of a column of dots, which stand ready in a table.
 
-ghost use Rattle.std.specs.Prelude.{◌≡◌, ◌+◌, ◌≤◌, ◌++◌, length, vec_len, OnOk, IfOk};
-ghost use Rattle.pr_picture.specs.Svg.{run_svg, runs_svg, value_svg};
-ghost use Rattle.pr_picture.specs.Tables.{HasRuns};
+ghost use Rattle.std.specs.Prelude.{◌≡◌, ◌+◌, ◌≤◌, ◌++◌, flat_map, length, vec_len, OnOk, IfOk};
+ghost use Rattle.pr_picture.specs.Svg.{stroke_svg, strokes, value_svg};
+ghost use Rattle.pr_picture.specs.Tables.{HasStrokes};
 
 use crate::adding::push_small;
 use std::alloc::{AllocError, Global};
@@ -34,21 +34,21 @@ impl Ready {
     }
 }
 
-/// The runs of dots of a column, by its value.
+/// The strokes of a column of dots, by its value.
 #[derive(Drop)]
-pub struct Runs {
+pub struct Strokes {
     texts: Vec<Ready>,
     ghost count: { vec_len texts ≡ 256 },
-    ghost right: { HasRuns texts.items 256 },
+    ghost right: { HasStrokes texts.items 256 },
 }
 
-impl Runs {
-    pub fn new(alloc: Global) -> Result<Runs, AllocError> {
+impl Strokes {
+    pub fn new(alloc: Global) -> Result<Strokes, AllocError> {
         let texts = texts(alloc)?;
-        Ok(Runs { texts })
+        Ok(Strokes { texts })
     }
 
-    /// Adds the runs of a column.
+    /// Adds the strokes of a column of dots.
     pub fn push(&self, text: &mut Vec<u8>, value: u8) -> Result<(), AllocError>
         ensures { OnOk result (text.new.items ≡ text.old.items ++ value_svg value) }
     {
@@ -56,10 +56,10 @@ impl Runs {
     }
 }
 
-/// The runs of each value.
+/// The strokes of each value.
 fn texts(alloc: Global) -> Result<Vec<Ready>, AllocError>
     ensures count { IfOk result (λ v. vec_len v ≡ 256) }
-    ensures right { IfOk result (λ v. HasRuns v.items 256) }
+    ensures right { IfOk result (λ v. HasStrokes v.items 256) }
 {
     let mut texts = Vec::with_capacity(alloc, BYTES)?;
     for value in 0..BYTES {
@@ -70,44 +70,44 @@ fn texts(alloc: Global) -> Result<Vec<Ready>, AllocError>
     Ok(texts)
 }
 
-/// Adds a run of dots, if there are any.
-#[tactic(auto, unfolding(crate::specs::Svg::run_svg))]
-fn push_run(text: &mut Vec<u8>, gap: u64, count: u64) -> Result<(), AllocError>
-    ensures { OnOk result (text.new.items ≡ text.old.items ++ run_svg gap count) }
+/// Adds a stroke.
+#[tactic(auto, unfolding(crate::specs::Svg::stroke_svg))]
+fn push_stroke(text: &mut Vec<u8>, gap: u64, ink: u64) -> Result<(), AllocError>
+    ensures { OnOk result (text.new.items ≡ text.old.items ++ stroke_svg (record { gap = gap; ink = ink })) }
 {
-    if count == 0 {
-        return Ok(());
-    }
     if 0 < gap {
         text.extend_from_slice(b"m0 ")?;
         push_small(text, gap)?;
     }
     text.push(b'v')?;
-    push_small(text, count)
+    push_small(text, ink)
 }
 
-/// Adds the runs of a column.
-fn push_runs(text: &mut Vec<u8>, dots: &[u8]) -> Result<(), AllocError>
+/// Adds the strokes of a column's dots, 1 where there is ink.
+fn push_strokes(text: &mut Vec<u8>, dots: &[u8]) -> Result<(), AllocError>
     requires { length dots.now ≤ 7 }
-    ensures { OnOk result (text.new.items ≡ text.old.items ++ runs_svg 0 0 dots.now) }
+    ensures { OnOk result (text.new.items ≡ text.old.items ++ flat_map stroke_svg (strokes 0 0 dots.now)) }
 {
     let mut gap = 0;
-    let mut count = 0;
+    let mut ink = 0;
     for dot in dots {
         if *dot == 1 {
-            count += 1;
-        } else if count == 0 {
+            ink += 1;
+        } else if ink == 0 {
             gap += 1;
         } else {
-            push_run(text, gap, count)?;
+            push_stroke(text, gap, ink)?;
             gap = 1;
-            count = 0;
+            ink = 0;
         }
     }
-    push_run(text, gap, count)
+    if ink == 0 {
+        return Ok(());
+    }
+    push_stroke(text, gap, ink)
 }
 
-/// Adds the runs of a value.
+/// Adds the strokes of a value.
 #[tactic(auto, unfolding(crate::specs::Svg::value_svg))]
 fn push_dots(text: &mut Vec<u8>, value: u8) -> Result<(), AllocError>
     ensures { OnOk result (text.new.items ≡ text.old.items ++ value_svg value) }
@@ -121,5 +121,5 @@ fn push_dots(text: &mut Vec<u8>, value: u8) -> Result<(), AllocError>
         value / 32 % 2,
         value / 64 % 2,
     ];
-    push_runs(text, &dots)
+    push_strokes(text, &dots)
 }
