@@ -65,7 +65,7 @@ alone-no-blank dots letter blank alone = grind arith
 alone-first : (path : Bool) (x count blanks : ℕ) (letters : List ℕ) (p : Placed) (after : List Placed)
     → is_dots p.mark ≡ false → shows_letter p.mark ≡ false → shows_blank p.mark ≡ false
     → marks_svg path x count blanks letters (p ∷ after)
-      ≡ (letters_svg x count letters ++ joint path false) ++ (mark_svg p.x p.mark ++ marks_svg false 0 0 0 [] after)
+    ≡ (letters_svg x count letters ++ joint path false) ++ (mark_svg p.x p.mark ++ marks_svg false 0 0 0 [] after)
 alone-first path x count blanks letters p after dots letter blank = grind (arith, common_steps)
 
 -- what stands behind a text stands behind it with another before it
@@ -85,34 +85,34 @@ chosen false follow false a b c d a1 b1 c1 d1 back at_a at_b at_c at_d = at_d
 pub alone-behind : (path : Bool) (x count blanks : ℕ) (letters : List ℕ) (before : List Placed) (p : Placed) (after : List Placed)
     → stands_alone p.mark ≡ true
     → marks_svg path x count blanks letters (before ++ p ∷ after)
-      ≡ marks_svg path x count blanks letters before ++ (mark_svg p.x p.mark ++ marks_svg false 0 0 0 [] after)
+    ≡ marks_svg path x count blanks letters before ++ (mark_svg p.x p.mark ++ marks_svg false 0 0 0 [] after)
 alone-behind path x count blanks letters [] p after alone =
     alone-first path x count blanks letters p after
-      (alone-no-dots (is_dots p.mark) (shows_letter p.mark) (shows_blank p.mark) alone)
-      (alone-no-letter (is_dots p.mark) (shows_letter p.mark) (shows_blank p.mark) alone)
-      (alone-no-blank (is_dots p.mark) (shows_letter p.mark) (shows_blank p.mark) alone)
+    (alone-no-dots (is_dots p.mark) (shows_letter p.mark) (shows_blank p.mark) alone)
+    (alone-no-letter (is_dots p.mark) (shows_letter p.mark) (shows_blank p.mark) alone)
+    (alone-no-blank (is_dots p.mark) (shows_letter p.mark) (shows_blank p.mark) alone)
 alone-behind path x count blanks letters (q ∷ before) p after alone =
     chosen (shows_letter q.mark) (follows x (count + blanks) q.x) (shows_blank q.mark && follows x (count + blanks) q.x)
-      (marks_svg path x (count + blanks + 1) 0 (letters ++ replicate blanks 32 ++ mark_letter q.mark) (before ++ p ∷ after))
-      (letters_svg x count letters ++ joint path false ++ marks_svg false q.x 1 0 (mark_letter q.mark) (before ++ p ∷ after))
-      (marks_svg path x count (blanks + 1) letters (before ++ p ∷ after))
-      (letters_svg x count letters ++ joint path (is_dots q.mark) ++ mark_svg q.x q.mark
-        ++ marks_svg (is_dots q.mark) 0 0 0 [] (before ++ p ∷ after))
-      (marks_svg path x (count + blanks + 1) 0 (letters ++ replicate blanks 32 ++ mark_letter q.mark) before)
-      (letters_svg x count letters ++ joint path false ++ marks_svg false q.x 1 0 (mark_letter q.mark) before)
-      (marks_svg path x count (blanks + 1) letters before)
-      (letters_svg x count letters ++ joint path (is_dots q.mark) ++ mark_svg q.x q.mark ++ marks_svg (is_dots q.mark) 0 0 0 [] before)
-      (mark_svg p.x p.mark ++ marks_svg false 0 0 0 [] after)
-      (alone-behind path x (count + blanks + 1) 0 (letters ++ replicate blanks 32 ++ mark_letter q.mark) before p after alone)
-      (behind (letters_svg x count letters ++ joint path false)
-        (marks_svg false q.x 1 0 (mark_letter q.mark) (before ++ p ∷ after)) (marks_svg false q.x 1 0 (mark_letter q.mark) before)
-        (mark_svg p.x p.mark ++ marks_svg false 0 0 0 [] after)
-        (alone-behind false q.x 1 0 (mark_letter q.mark) before p after alone))
-      (alone-behind path x count (blanks + 1) letters before p after alone)
-      (behind (letters_svg x count letters ++ joint path (is_dots q.mark) ++ mark_svg q.x q.mark)
-        (marks_svg (is_dots q.mark) 0 0 0 [] (before ++ p ∷ after)) (marks_svg (is_dots q.mark) 0 0 0 [] before)
-        (mark_svg p.x p.mark ++ marks_svg false 0 0 0 [] after)
-        (alone-behind (is_dots q.mark) 0 0 0 [] before p after alone))
+    (marks_svg path x (count + blanks + 1) 0 (letters ++ replicate blanks 32 ++ mark_letter q.mark) (before ++ p ∷ after))
+    (letters_svg x count letters ++ joint path false ++ marks_svg false q.x 1 0 (mark_letter q.mark) (before ++ p ∷ after))
+    (marks_svg path x count (blanks + 1) letters (before ++ p ∷ after))
+    (letters_svg x count letters ++ joint path (is_dots q.mark) ++ mark_svg q.x q.mark
+    ++ marks_svg (is_dots q.mark) 0 0 0 [] (before ++ p ∷ after))
+    (marks_svg path x (count + blanks + 1) 0 (letters ++ replicate blanks 32 ++ mark_letter q.mark) before)
+    (letters_svg x count letters ++ joint path false ++ marks_svg false q.x 1 0 (mark_letter q.mark) before)
+    (marks_svg path x count (blanks + 1) letters before)
+    (letters_svg x count letters ++ joint path (is_dots q.mark) ++ mark_svg q.x q.mark ++ marks_svg (is_dots q.mark) 0 0 0 [] before)
+    (mark_svg p.x p.mark ++ marks_svg false 0 0 0 [] after)
+    (alone-behind path x (count + blanks + 1) 0 (letters ++ replicate blanks 32 ++ mark_letter q.mark) before p after alone)
+    (behind (letters_svg x count letters ++ joint path false)
+    (marks_svg false q.x 1 0 (mark_letter q.mark) (before ++ p ∷ after)) (marks_svg false q.x 1 0 (mark_letter q.mark) before)
+    (mark_svg p.x p.mark ++ marks_svg false 0 0 0 [] after)
+    (alone-behind false q.x 1 0 (mark_letter q.mark) before p after alone))
+    (alone-behind path x count (blanks + 1) letters before p after alone)
+    (behind (letters_svg x count letters ++ joint path (is_dots q.mark) ++ mark_svg q.x q.mark)
+    (marks_svg (is_dots q.mark) 0 0 0 [] (before ++ p ∷ after)) (marks_svg (is_dots q.mark) 0 0 0 [] before)
+    (mark_svg p.x p.mark ++ marks_svg false 0 0 0 [] after)
+    (alone-behind (is_dots q.mark) 0 0 0 [] before p after alone))
 
 -- how many dots without ink stand at the end, behind so many without ink, and so many with ink
 abbrev left_over : ℕ → ℕ → List ℕ → ℕ

@@ -132,9 +132,9 @@ abbrev pub marks_svg : Bool → ℕ → ℕ → ℕ → List ℕ → List Placed
 marks_svg path x count blanks letters [] = letters_svg x count letters ++ joint path false
 marks_svg path x count blanks letters (p ∷ ps) =
     if shows_letter p.mark then
-      (if follows x (count + blanks) p.x
-      then marks_svg path x (count + blanks + 1) 0 (letters ++ replicate blanks 32 ++ mark_letter p.mark) ps
-      else letters_svg x count letters ++ joint path false ++ marks_svg false p.x 1 0 (mark_letter p.mark) ps)
+    (if follows x (count + blanks) p.x
+    then marks_svg path x (count + blanks + 1) 0 (letters ++ replicate blanks 32 ++ mark_letter p.mark) ps
+    else letters_svg x count letters ++ joint path false ++ marks_svg false p.x 1 0 (mark_letter p.mark) ps)
     else (if shows_blank p.mark && follows x (count + blanks) p.x
     then marks_svg path x count (blanks + 1) letters ps
     else letters_svg x count letters ++ joint path (is_dots p.mark) ++ mark_svg p.x p.mark ++ marks_svg (is_dots p.mark) 0 0 0 [] ps)

@@ -22,7 +22,12 @@ use std::alloc::{AllocError, Global};
 
 /// Adds marks on a line at a distance.
 #[tactic(auto, unfolding(crate::specs::Svg::group_svg))]
-fn push_group(text: &mut Vec<u8>, pen: &mut Pen, y: u128, marks: &[Placed]) -> Result<(), AllocError>
+fn push_group(
+    text: &mut Vec<u8>,
+    pen: &mut Pen,
+    y: u128,
+    marks: &[Placed],
+) -> Result<(), AllocError>
     requires within { y ≤ 18446744073709551657 }
     requires pen { IsClosed pen.old false }
     ensures text { OnOk result (text.new.items ≡ text.old.items ++ group_svg y marks.now) }

@@ -1,4 +1,4 @@
-use Rattle.std.proofs.Common.{◌≡◌, ◌++◌, drop, false}
+use Rattle.std.proofs.Common.{◌≡◌, ◌++◌, drop}
 use Rattle.pr_picture.specs.Pens.{left_svg}
 use Rattle.pr_picture.specs.Svg.{line_marks}
 use Rattle.pr_picture.proofs.marks.Pen.draw.Given as goal
