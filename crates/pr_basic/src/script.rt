@@ -53,7 +53,7 @@ fn read_line(alloc: Global, statements: &mut Vec<Statement>, line: &[u8]) -> Res
     requires { length statements.old.items ≤ statement_limit }
     ensures reads { MatchResult result
         (λ _. with_front statements.old.items (line_statements (statement_limit - length statements.old.items) line.now)
-            ≡ Ok statements.new.items)
+        ≡ Ok statements.new.items)
         (λ e. Fails e (line_statements (statement_limit - length statements.old.items) line.now)) }
     ensures few { OnOk result (length statements.new.items ≤ statement_limit) }
 {
@@ -73,8 +73,8 @@ fn read_part<'a>(
     requires { length statements.old.items ≤ statement_limit }
     ensures reads { MatchResult result
         (λ rest. with_front statements.old.items
-            (statements_in (statement_limit - length statements.old.items) (parts (lexemes_of bytes.entry.now)))
-            ≡ with_front statements.new.items (still (statement_limit - length statements.new.items) rest))
+        (statements_in (statement_limit - length statements.old.items) (parts (lexemes_of bytes.entry.now)))
+        ≡ with_front statements.new.items (still (statement_limit - length statements.new.items) rest))
         (λ e. Fails e (statements_in (statement_limit - length statements.old.items) (parts (lexemes_of bytes.entry.now)))) }
     ensures few { OnOk result (length statements.new.items ≤ statement_limit) }
     ensures less { IfOk result (λ rest. IfSome rest (λ r. length r.now < length bytes.entry.now)) }
