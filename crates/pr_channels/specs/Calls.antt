@@ -1,4 +1,4 @@
--- Linking words: what each call does to the channels. Clauses of `Channels` say it; what a statement gives is defined without it. No reader needs to believe them.
+-- Words of calls: what each call does to the channels. Who uses `Channels` by itself believes them; what a statement gives is defined without them.
 use Rattle.std.specs.Prelude.{◌≡◌, ℕ, true, ◌==◌, Option, Some, None, List, [], ◌∷◌, ◌++◌, length, nat_lt, if◌then◌else◌}
 use Rattle.pr_serial.specs.Elements.{Element, Byte}
 use Rattle.pr_serial.specs.Items.{items_of}

@@ -1,4 +1,4 @@
--- Linking words: what a contract sees of the channels, and what holds of any channels. No reader needs to believe them.
+-- Words of calls: what a contract sees of the channels, and what holds of any channels. Who uses `Channels` by itself believes them; what a statement gives is defined without them.
 use Rattle.std.specs.Prelude.{◌≡◌, ℕ, Bool, false, Option, Some, None, List, [], ◌∷◌, ◌++◌, map}
 use Rattle.pr_serial.specs.declared.Present.{Present}
 use Rattle.pr_serial.specs.declared.Item.{Item}

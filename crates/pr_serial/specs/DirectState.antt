@@ -1,4 +1,4 @@
--- Linking words: what a contract sees of the bus without wires. No reader needs to believe them.
+-- Words of calls: what a contract sees of the bus without wires. Who uses `Direct` by itself believes them; no claim about a run rests on them.
 use Rattle.std.specs.Prelude.{ℕ, Bool, Option, List, []}
 use Rattle.pr_serial.specs.declared.Present.{Present}
 use Rattle.pr_serial.specs.declared.Item.{Item}

@@ -1,4 +1,4 @@
--- Linking words: what a bus tells of what a device heard. The clause of `Bus` on what was heard says all that a caller needs. No reader needs to believe them.
+-- Words of calls: what a bus tells of what a device heard. Who uses a `Bus` by itself believes them; no claim about a run rests on them.
 use Rattle.std.specs.Prelude.{◌≡◌, ℕ, ◌*◌, ◌≤◌, ◌++◌, false, Option, Some, None, List, [], length, take}
 use Rattle.pr_serial.specs.declared.Present.{Present}
 use Rattle.pr_serial.specs.declared.Item.{Item}
