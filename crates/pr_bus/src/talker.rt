@@ -16,6 +16,7 @@ use crate::hearer::joined;
 use crate::lines::{Lines, greatest, least, push, push_answer, push_call, push_due};
 use crate::printer::Printer;
 use pr_serial::NoMemory;
+use pr_serial::command::UNLISTEN;
 use pr_serial::laws::items_make_listeners;
 use pr_wire::{Choices, Edge, Kind};
 
@@ -100,7 +101,7 @@ impl Talker {
         let ack = self.command(look, first)?;
         let ack = self.second(ack, second)?;
         self.tune(first);
-        self.release(ack, first == 63)?;
+        self.release(ack, first == UNLISTEN)?;
         Ok(())
     }
 
