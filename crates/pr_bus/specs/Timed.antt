@@ -5,9 +5,6 @@ use Rattle.pr_serial.specs.declared.Item.{Item}
 use Rattle.pr_serial.specs.declared.Item.TheVariants.{Attention, Sent}
 use Rattle.pr_serial.specs.Answers.{is_listener}
 use Rattle.pr_serial.specs.Bus.{DelayNumbers}
-use Rattle.pr_bus.specs.declared.lines.Lines.{Lines}
-use Rattle.pr_bus.specs.declared.lines.Lines.TheVariants.{Free, Pulled, Due}
-use Rattle.pr_bus.specs.declared.hearer.Hearer.{Hearer}
 use Rattle.pr_wire.specs.declared.Edge.{Edge}
 use Rattle.pr_wire.specs.declared.delay.Kind.TheVariants.{Bb, Aw, Ne, Ry, S, V, R, Cr, At, H, Ye, Ei, F, Dr}
 use Rattle.pr_wire.specs.Levels.{edge_at, start}
@@ -20,6 +17,19 @@ use Rattle.pr_wire.specs.Pieces.Piece.{Unanswered, Attention as Attended, DataBy
 pub record Printer : Type 0 where
   pub device : ℕ
   pub numbers : List ℕ
+
+-- what stands on CLOCK and DATA between two items: both are released; both are pulled; CLOCK is pulled, and DATA will be released at a moment
+pub data Lines : Type 0 where
+  Free : Lines
+  Pulled : Lines
+  Due : ℕ → Lines
+
+-- how long a hearer of a frame waits: before it releases DATA, before its EOI answer, for how long that lasts, before it acknowledges
+pub record Hearer : Type 0 where
+  pub hold : ℕ
+  pub wait : ℕ
+  pub answer : ℕ
+  pub accept : ℕ
 
 -- the wires between two items: the items before, the end of the last one, the lines, and who takes numbers
 pub record BusState : Type 0 where
