@@ -2,7 +2,9 @@
 
 use super::*;
 use crate::delays::read_delays;
-use crate::tests::{BOTH, BUS, Call, EXAMPLE_LINES, FOUR, HI, NONE, ONE_ATTENTION, ONE_COMMAND, writes};
+use crate::tests::{
+    BOTH, BUS, Call, EXAMPLE_LINES, FOUR, HI, NONE, ONE_ATTENTION, ONE_COMMAND, writes,
+};
 use pr_wire::example::TRACE_TEXT;
 use std::process::Abort;
 

@@ -4,7 +4,9 @@ ghost use Rattle.std.specs.Prelude.{◌≡◌, IfOk, vec_len};
 
 use super::*;
 use crate::pages::Ending;
-use crate::tests::{Call, ENDLESS, EXAMPLE_LINES, Endless, ONE_ATTENTION, ONE_COMMAND, answer, writes};
+use crate::tests::{
+    Call, ENDLESS, EXAMPLE_LINES, Endless, ONE_ATTENTION, ONE_COMMAND, answer, writes,
+};
 use pr_wire::example::TRACE_TEXT;
 use pr_wire::{Edge, TraceFault, WaveFault, read_trace, write_trace};
 use std::process::Abort;

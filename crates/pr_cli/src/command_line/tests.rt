@@ -60,11 +60,14 @@ fn refused_by(fault: JobFault) -> Asked {
     }
 }
 
-/// The words of a line, parted by blanks, ask for this.
+/// The words of a line, parted by blanks and behind the program's name, ask for this.
 fn asks(rt: &(impl Abort + AllocGlobal), line: &str, wanted: Asked) {
     let mut words = Vec::new(rt.alloc());
+    assert!(rt; words.push("print1525").is_ok());
     for word in line.split(' ') {
-        assert!(rt; words.push(word).is_ok());
+        if !word.is_empty() {
+            assert!(rt; words.push(word).is_ok());
+        }
     }
     let asked = match read_job(rt.alloc(), &words) {
         Ok(job) => asked_by(job),
@@ -80,50 +83,57 @@ fn runs(rt: HostRuntime) {
     let list = Format::List;
     let typical = (100, 100, 100);
     let whole = Asked::Pages(BOTH, typical, each, list);
-    asks(&rt, "print1525 pages", whole);
-    asks(&rt, "print1525 pages --present both --delays=", whole);
-    asks(&rt, "print1525 pages --as=list", whole);
+    asks(&rt, "pages", whole);
+    asks(&rt, "pages --present both --delays=", whole);
+    asks(&rt, "pages --as=list", whole);
     let chosen = Asked::Pages(FOUR, (101, 3, 4), each, list);
-    asks(&rt, "print1525 pages --delays 1/2/3 --present 4 --status each", chosen);
+    asks(
+        &rt,
+        "pages --delays 1/2/3 --present 4 --status each",
+        chosen,
+    );
     let lines = Asked::Pages(FOUR, typical, each, Format::Lines);
-    asks(&rt, "print1525 pages --present 4 --as text", lines);
+    asks(&rt, "pages --present 4 --as text", lines);
     let drawn = Asked::Pages(BOTH, typical, each, Format::Picture);
-    asks(&rt, "print1525 pages --as=svg", drawn);
+    asks(&rt, "pages --as=svg", drawn);
 
-    asks(&rt, "print1525 bus", Asked::Bus(BOTH, typical, each));
-    asks(&rt, "print1525 bus --status=kept --present=none", Asked::Bus(NONE, typical, kept));
+    asks(&rt, "bus", Asked::Bus(BOTH, typical, each));
+    let nobody = Asked::Bus(NONE, typical, kept);
+    asks(&rt, "bus --status=kept --present=none", nobody);
     let chosen = Asked::Bus(BOTH, (100, 100, 8), kept);
-    asks(&rt, "print1525 bus --delays=//7 --status kept", chosen);
+    asks(&rt, "bus --delays=//7 --status kept", chosen);
 }
 
 #[test]
 fn traces_and_bytes(rt: HostRuntime) {
-    asks(&rt, "print1525 check", Asked::Check);
-    asks(&rt, "print1525 raw", Asked::Raw(false, Format::List));
-    asks(&rt, "print1525 raw --as=svg --set=lower", Asked::Raw(true, Format::Picture));
-    asks(&rt, "print1525 raw --set upper --as text", Asked::Raw(false, Format::Lines));
+    asks(&rt, "check", Asked::Check);
+    asks(&rt, "raw", Asked::Raw(false, Format::List));
+    let drawn = Asked::Raw(true, Format::Picture);
+    asks(&rt, "raw --as=svg --set=lower", drawn);
+    let lines = Asked::Raw(false, Format::Lines);
+    asks(&rt, "raw --set upper --as text", lines);
 }
 
 #[test]
 fn refused_by_clap(rt: HostRuntime) {
     let lines = [
-        "print1525",
-        "print1525 print",
-        "print1525 pages --present",
-        "print1525 pages --status=each --status=each",
-        "print1525 pages --set lower",
-        "print1525 pages --as=svg --as=svg",
-        "print1525 bus --delays 1 --delays 1",
-        "print1525 bus --as text",
-        "print1525 check --delays 1",
-        "print1525 check --as list",
-        "print1525 raw --present 4",
-        "print1525 raw --set",
+        "",
+        "print",
+        "pages --present",
+        "pages --status=each --status=each",
+        "pages --set lower",
+        "pages --as=svg --as=svg",
+        "bus --delays 1 --delays 1",
+        "bus --as text",
+        "check --delays 1",
+        "check --as list",
+        "raw --present 4",
+        "raw --set",
     ];
     for line in lines {
         asks(&rt, line, Asked::Line(2));
     }
-    for line in ["print1525 --help", "print1525 bus --help", "print1525 raw --help"] {
+    for line in ["--help", "bus --help", "raw --help"] {
         asks(&rt, line, Asked::Line(0));
     }
 }
@@ -132,20 +142,20 @@ fn refused_by_clap(rt: HostRuntime) {
 #[test]
 fn bad_values(rt: HostRuntime) {
     let rows = [
-        ("print1525 pages --present x --delays 65536", Asked::BadPresent),
-        ("print1525 bus --status y --present x", Asked::BadPresent),
-        ("print1525 pages --as x --present x", Asked::BadPresent),
-        ("print1525 pages --present=", Asked::BadPresent),
-        ("print1525 bus --delays 65536", Asked::BadDelays),
-        ("print1525 pages --status y --delays 1,", Asked::BadDelays),
-        ("print1525 pages --present 4 --status y", Asked::BadStatus),
-        ("print1525 bus --delays 1 --status y", Asked::BadStatus),
-        ("print1525 pages --as pdf --status y", Asked::BadStatus),
-        ("print1525 raw --as pdf --set 7", Asked::BadSet),
-        ("print1525 raw --set=", Asked::BadSet),
-        ("print1525 pages --as pdf --delays 1/2", Asked::BadAs),
-        ("print1525 pages --as=", Asked::BadAs),
-        ("print1525 raw --set lower --as Text", Asked::BadAs),
+        ("pages --present x --delays 65536", Asked::BadPresent),
+        ("bus --status y --present x", Asked::BadPresent),
+        ("pages --as x --present x", Asked::BadPresent),
+        ("pages --present=", Asked::BadPresent),
+        ("bus --delays 65536", Asked::BadDelays),
+        ("pages --status y --delays 1,", Asked::BadDelays),
+        ("pages --present 4 --status y", Asked::BadStatus),
+        ("bus --delays 1 --status y", Asked::BadStatus),
+        ("pages --as pdf --status y", Asked::BadStatus),
+        ("raw --as pdf --set 7", Asked::BadSet),
+        ("raw --set=", Asked::BadSet),
+        ("pages --as pdf --delays 1/2", Asked::BadAs),
+        ("pages --as=", Asked::BadAs),
+        ("raw --set lower --as Text", Asked::BadAs),
     ];
     for (line, wanted) in rows {
         asks(&rt, line, wanted);

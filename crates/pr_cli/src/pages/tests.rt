@@ -4,7 +4,9 @@ use super::*;
 use crate::page_text::pages_text;
 use crate::read_write::BLOCK;
 use crate::tests::failing::write_fails;
-use crate::tests::{BOTH, BUS, Call, FOUR, HI, HI_TEXT, NONE, PAGES, answer, refuses, typical, writes};
+use crate::tests::{
+    BOTH, BUS, Call, FOUR, HI, HI_TEXT, NONE, PAGES, answer, refuses, typical, writes,
+};
 use pr_basic::ScriptFault;
 use pr_system::run;
 use std::process::Abort;

@@ -8,19 +8,18 @@ use std::test::Fail;
 
 /// The page text of the bytes is this one.
 fn prints(rt: &(impl Abort + AllocGlobal), bytes: &[u8], lower: bool, text: &str) {
-    writes(rt, Call::Raw(lower, Format::List), bytes, Ending::Done, text);
+    let call = Call::Raw(lower, Format::List);
+    writes(rt, call, bytes, Ending::Done, text);
 }
 
 #[test]
 fn worked_pages(rt: HostRuntime) {
     prints(&rt, b"", false, "printer 4\nprinter 5\nstatus\nscreen\n");
     prints(&rt, HI_BYTES, false, HI_BYTES_TEXT);
-    let text =
-        "printer 4\nrow 0\n 0 cell 72 lower\n 6 cell 73 lower\nprinter 5\nstatus\nscreen\n";
+    let text = "printer 4\nrow 0\n 0 cell 72 lower\n 6 cell 73 lower\nprinter 5\nstatus\nscreen\n";
     prints(&rt, HI_BYTES, true, text);
     // A line that has not ended is held.
-    let text =
-        "printer 4\nrow 0\n 0 cell 65\nheld\n 0 cell 66\nprinter 5\nstatus\nscreen\n";
+    let text = "printer 4\nrow 0\n 0 cell 65\nheld\n 0 cell 66\nprinter 5\nstatus\nscreen\n";
     prints(&rt, b"A\rB", false, text);
     // 145 overrides the set up to the line's end.
     let text =
@@ -50,8 +49,10 @@ fn repeated_columns(rt: HostRuntime) -> Result<(), Fail> {
 #[test]
 fn lines(rt: HostRuntime) {
     let done = Ending::Done;
-    writes(&rt, Call::Raw(false, Format::Lines), HI_BYTES, done, "Printer 4\n|HI\n");
-    writes(&rt, Call::Raw(true, Format::Lines), HI_BYTES, done, "Printer 4\n|hi\n");
+    let upper = Call::Raw(false, Format::Lines);
+    writes(&rt, upper, HI_BYTES, done, "Printer 4\n|HI\n");
+    let lower = Call::Raw(true, Format::Lines);
+    writes(&rt, lower, HI_BYTES, done, "Printer 4\n|hi\n");
 }
 
 #[test]

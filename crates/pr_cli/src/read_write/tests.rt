@@ -21,11 +21,7 @@ fn too_large_by_an_endless_reader(rt: HostRuntime) {
 }
 
 /// What was read is all of the script, exactly where that is within the limit.
-fn is_whole(
-    rt: &(impl Abort + AllocGlobal),
-    answer: Result<Vec<u8>, ReadFault>,
-    limit: usize,
-) {
+fn is_whole(rt: &(impl Abort + AllocGlobal), answer: Result<Vec<u8>, ReadFault>, limit: usize) {
     match answer {
         Ok(bytes) => {
             assert!(rt; HI.len() <= limit, "{limit}");

@@ -89,8 +89,8 @@ fn all_fail(rt: &(impl Abort + AllocGlobal), call: Call, input: &[u8], text: &[u
     writes_fail(rt, call, input, text);
 }
 
-/// The picture of the script's pages, or of its printer's page alone, as `pr_picture` draws it. None
-/// where memory is refused.
+/// The picture of the script's pages, or of its printer's page alone, as `pr_picture` draws it.
+/// None where memory is refused.
 pub fn picture(alloc: Global, alone: bool) -> Option<Vec<u8>> {
     let statements = read_script(alloc, HI).ok()?;
     let outcome = run(alloc, &statements, BOTH, typical(alloc), StatusMode::Each).ok()?;
@@ -149,7 +149,8 @@ fn pictures(rt: HostRuntime) {
 #[test]
 fn traces(rt: HostRuntime) {
     all_fail(&rt, BUS, HI, TRACE_TEXT.as_bytes());
-    all_fail(&rt, Call::Check, ONE_ATTENTION.as_bytes(), ONE_COMMAND.as_bytes());
+    let trace = ONE_ATTENTION.as_bytes();
+    all_fail(&rt, Call::Check, trace, ONE_COMMAND.as_bytes());
 }
 
 /// A failed read is told before a bad line that came earlier.
