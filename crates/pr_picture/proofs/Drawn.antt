@@ -29,13 +29,17 @@ joins-parts : (next strip : Strip) → joins next strip ≡ true
     × (strip.wide ≡ next.wide) × (next.x ≡ strip.x + cells_width strip.wide (length strip.characters))
 joins-parts next strip join =
     let four = and_parts (begins_plain next.characters && begins_plain strip.characters && same strip.reverse next.reverse && same strip.wide next.wide)
-        (next.x == strip.x + cells_width strip.wide (length strip.characters)) join in
+    (next.x == strip.x + cells_width strip.wide (length strip.characters)) join in
     let three = and_parts (begins_plain next.characters && begins_plain strip.characters && same strip.reverse next.reverse)
-        (same strip.wide next.wide) four.0 in
+    (same strip.wide next.wide) four.0 in
     let two = and_parts (begins_plain next.characters && begins_plain strip.characters) (same strip.reverse next.reverse) three.0 in
-    let one = and_parts (begins_plain next.characters) (begins_plain strip.characters) two.0 in
-    (one.0, one.1, same-is strip.reverse next.reverse two.1, same-is strip.wide next.wide three.1,
-        eqb-true next.x (strip.x + cells_width strip.wide (length strip.characters)) four.1)
+    let one = and_parts (begins_plain next.characters) (begins_plain strip.characters) two.0 in (
+      one.0,
+      one.1,
+      same-is strip.reverse next.reverse two.1,
+      same-is strip.wide next.wide three.1,
+      eqb-true next.x (strip.x + cells_width strip.wide (length strip.characters)) four.1,
+    )
 
 -- five tests that hold
 five : (a b c d e : Bool) → a ≡ true → b ≡ true → c ≡ true → d ≡ true → e ≡ true → (a && b && c && d && e) ≡ true
@@ -164,8 +168,8 @@ strips-together x reverse wide p ps beside =
     let none = plain-no-path p.mark p.x reverse wide one.0 in
     let dots = plain-no-dots p.mark reverse wide one.0 in
     let rest = strips-join p.x reverse wide (strip_of p.x p.mark).characters (x + cells_width wide 1) ps
-        (plain-begins p.mark p.x reverse wide one.0)
-        (alone-end x p.x wide (strip_of p.x p.mark).characters (one-character p.mark p.x reverse wide one.0) at) two.1 in
+    (plain-begins p.mark p.x reverse wide one.0)
+    (alone-end x p.x wide (strip_of p.x p.mark).characters (one-character p.mark p.x reverse wide one.0) at) two.1 in
     first-step false p ps
     ∙ (opened (is_dots p.mark) (dots_svg p.x p.mark) (strip_of p.x p.mark) ps
     (record { x = p.x; reverse = reverse; wide = wide; characters = (strip_of p.x p.mark).characters }) dots none strip

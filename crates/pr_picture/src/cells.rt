@@ -95,12 +95,7 @@ fn push_black_place(text: &mut Vec<u8>, x: u64, wide: bool) -> Result<(), AllocE
     ensures { OnOk result (text.new.items ≡ text.old.items ++ black_place x wide) }
 {
     if wide {
-        push_between(
-            text,
-            b"<text transform=\"translate(",
-            x,
-            b") scale(2 1)",
-        )
+        push_between(text, b"<text transform=\"translate(", x, b") scale(2 1)")
     } else {
         text.extend_from_slice(b"<text x=\"")?;
         push_small(text, x)
