@@ -3,3 +3,10 @@ pub mod VcdLaws
 pub mod VcdWriting
 pub mod Samples
 pub mod Gathering
+pub mod Letters
+pub mod Words
+pub mod Recording
+pub mod CsvReading
+pub mod VcdPieces
+pub mod VcdReading
+pub mod VcdReadingLaws

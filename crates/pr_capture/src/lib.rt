@@ -1,8 +1,10 @@
 //! Traces of the serial bus in the formats of other tools: Value Change Dumps.
 #![tactic(auto)]
 
+mod fault;
 mod gatherer;
 mod vcd;
 
+pub use fault::{CaptureFault, Wire};
 pub use gatherer::Gatherer;
 pub use vcd::{VcdWriter, push_vcd_head, vcd_adds_up, write_vcd};

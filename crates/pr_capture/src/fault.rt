@@ -1,0 +1,73 @@
+//! Why a recording can not be read.
+
+use pr_wire::NoMemory;
+use std::alloc::AllocFailed;
+use thiserror::Error;
+
+/// A line of the bus, by its name.
+#[derive(Clone, Copy, Debug, Drop, Error, PartialEq, Eq)]
+pub enum Wire {
+    #[error("ATN")]
+    Atn,
+    #[error("CLOCK")]
+    Clock,
+    #[error("DATA")]
+    Data,
+}
+
+/// Why a recording can not be read. The number is that of the line of the text, from 1.
+#[derive(Clone, Copy, Debug, Drop, Error, PartialEq, Eq)]
+pub enum CaptureFault {
+    /// A word that can not stand here.
+    #[error("line {0}: bad word")]
+    BadWord(usize),
+    /// A section that the text does not end.
+    #[error("line {0}: no $end")]
+    NoEnd(usize),
+    /// The text ends before `$enddefinitions`.
+    #[error("line {0}: no $enddefinitions")]
+    NoDefinitions(usize),
+    /// No `$timescale`, or none from 1 fs to 1 s.
+    #[error("line {0}: no timescale from 1 fs to 1 s")]
+    NoTimescale(usize),
+    /// No signal has the wire's name.
+    #[error("line {0}: no signal {1}")]
+    NoSignal(usize, Wire),
+    /// The wire's signal has not one bit.
+    #[error("line {0}: {1} has not one bit")]
+    NotOneBit(usize, Wire),
+    /// The wire's level is not known.
+    #[error("line {0}: level x")]
+    Unknown(usize),
+    /// Nobody drives the wire.
+    #[error("line {0}: level z")]
+    Floating(usize),
+    /// A level that is none of 0, 1, x and z.
+    #[error("line {0}: bad level")]
+    BadLevel(usize),
+    /// The row has no level of the wire.
+    #[error("line {0}: no level of {1}")]
+    NoLevel(usize, Wire),
+    /// A time that is no number of seconds.
+    #[error("line {0}: bad time")]
+    BadTime(usize),
+    /// A time before that of an earlier line.
+    #[error("line {0}: time goes back")]
+    GoesBack(usize),
+    /// A time of 2^64 or more.
+    #[error("line {0}: time too great")]
+    TooLate(usize),
+    /// Memory was refused.
+    #[error("out of memory")]
+    NoMemory,
+}
+
+impl<T: Drop> From<AllocFailed<T>> for CaptureFault {
+    ghost use Rattle.pr_capture.specs.declared.fault.CaptureFault.TheVariants.{NoMemory};
+
+    ghost from_gives = { λ _ e. e ≡ NoMemory };
+
+    fn from(_e: AllocFailed<T>) -> CaptureFault {
+        CaptureFault::NoMemory
+    }
+}
