@@ -48,7 +48,8 @@ fn push_stamp(text: &mut Vec<u8>, time: u128) -> Result<(), NoMemory>
 {
     text.push(b'#')?;
     push_number(text, time)?;
-    text.push(b'\n')
+    text.push(b'\n')?;
+    Ok(())
 }
 
 /// The digit of a level: 1 is released.
