@@ -68,12 +68,7 @@ fn push_change(text: &mut Vec<u8>, wire: u8, level: bool) -> Result<(), NoMemory
 }
 
 /// Adds the new level of a wire where it is another than before.
-fn push_change_if(
-    text: &mut Vec<u8>,
-    wire: u8,
-    before: bool,
-    level: bool,
-) -> Result<(), NoMemory>
+fn push_change_if(text: &mut Vec<u8>, wire: u8, before: bool, level: bool) -> Result<(), NoMemory>
     ensures { OnOk result (text.new.items ≡ text.old.items ++ change_if wire before level) }
 {
     match (before, level) {
