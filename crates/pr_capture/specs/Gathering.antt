@@ -1,6 +1,6 @@
 -- Linking words: which samples a gatherer has taken, and which edges it has given. The clauses of `Gatherer` say all that a
 -- caller needs of them. No reader needs to believe them.
-use Rattle.std.specs.Prelude.{◌≡◌, ℕ, ◌==◌, List, [], ◌∷◌, ◌++◌, map, Option, Some, None, if◌then◌else◌}
+use Rattle.std.specs.Prelude.{◌≡◌, ℕ, ◌==◌, List, ◌++◌, map, Option, Some, None, if◌then◌else◌}
 use Rattle.pr_wire.specs.declared.Levels.{Levels}
 use Rattle.pr_wire.specs.declared.Edge.{Edge}
 use Rattle.pr_capture.specs.declared.gatherer.Gatherer.{Gatherer}

@@ -48,7 +48,8 @@ fn push_stamp(text: &mut Vec<u8>, time: u128) -> Result<(), NoMemory>
 {
     text.push(b'#')?;
     push_number(text, time)?;
-    text.push(b'\n')
+    text.push(b'\n')?;
+    Ok(())
 }
 
 /// The digit of a level: 1 is released.
@@ -67,12 +68,7 @@ fn push_change(text: &mut Vec<u8>, wire: u8, level: bool) -> Result<(), NoMemory
 }
 
 /// Adds the new level of a wire where it is another than before.
-fn push_change_if(
-    text: &mut Vec<u8>,
-    wire: u8,
-    before: bool,
-    level: bool,
-) -> Result<(), NoMemory>
+fn push_change_if(text: &mut Vec<u8>, wire: u8, before: bool, level: bool) -> Result<(), NoMemory>
     ensures { OnOk result (text.new.items ≡ text.old.items ++ change_if wire before level) }
 {
     match (before, level) {
