@@ -9,7 +9,6 @@ use std::alloc::Global;
 use std::env::FillError;
 use std::process::Abort;
 use std::rt::Env;
-use std::test::Fail;
 
 const BOTH: Present = Present {
     four: true,
@@ -20,9 +19,6 @@ const ONLY_FOUR: Present = Present {
     four: true,
     five: false,
 };
-
-/// No secondary address, for `opens`.
-const NONE: u8 = 255;
 
 /// Channels over a bus on which nothing was sent.
 fn over_direct(alloc: Global, present: Present) -> Channels<Direct> {
@@ -108,116 +104,112 @@ impl Serial for Noting {
     }
 }
 
-/// Performs one statement on a bus with few items: it stops so or not, and leaves this status.
+/// What one statement leaves: its status, its stop, and then the channel number, the output device
+/// and the number of all items so far.
+#[derive(Clone, Copy)]
+struct After {
+    status: u8,
+    stop: Option<Stop>,
+    channel: u8,
+    output: u8,
+    items: u64,
+}
+
+/// A statement that leaves status 0 and does not stop. The screen is the output device then.
+fn quiet(items: u64) -> After {
+    After {
+        status: 0,
+        stop: None,
+        channel: 0,
+        output: 3,
+        items,
+    }
+}
+
+/// A statement behind which a CMD of this file, on device 4, is still in force.
+fn commanded(file: u8, items: u64) -> After {
+    After {
+        status: 0,
+        stop: None,
+        channel: file,
+        output: 4,
+        items,
+    }
+}
+
+/// A statement that leaves status 128. The screen is the output device then.
+fn unanswered(stop: Option<Stop>, items: u64) -> After {
+    After {
+        status: 128,
+        stop,
+        channel: 0,
+        output: 3,
+        items,
+    }
+}
+
+/// A statement that stops, where nothing was unanswered.
+fn stopped_by(stop: Stop, items: u64) -> After {
+    After {
+        status: 0,
+        stop: Some(stop),
+        channel: 0,
+        output: 3,
+        items,
+    }
+}
+
+/// Performs one statement on a bus with few items, which leaves this.
 fn leaves<S: Serial>(
     rt: &impl Abort,
     channels: &mut Channels<S>,
     session: &mut Session,
     statement: &Statement,
-    stop: Option<Stop>,
-    status: u8,
-) -> Result<(), NoMemory> {
-    assert!(rt; channels.serial().items() < 1000);
-    assert_eq!(rt; perform(channels, statement, session)?, stop);
-    assert_eq!(rt; channels.readst(), status);
-    Ok(())
-}
-
-/// OPEN on a device of the bus, with a secondary address of 0 to 15 or (with a greater one) none.
-fn opens<S: Serial>(
-    rt: &impl Abort,
-    channels: &mut Channels<S>,
-    session: &mut Session,
-    place: (u8, u8, u8),
-    stop: Option<Stop>,
-) -> Result<(), NoMemory> {
-    let (file, device, second) = place;
-    let device = Device::new(device);
-    assert!(rt; device.is_some());
-    let Some(device) = device else {
-        return Ok(());
-    };
-    let second = Second::new(second);
-    let statement = Statement::OpenFile {
-        file,
-        device,
-        second,
-    };
-    leaves(rt, channels, session, &statement, stop, 0)
-}
-
-/// PRINT# with a line that ends.
-fn prints_to<S: Serial>(
-    rt: &(impl Abort + AllocGlobal),
-    channels: &mut Channels<S>,
-    session: &mut Session,
-    file: u8,
-    text: &[u8],
-    stop: Option<Stop>,
-    status: u8,
-) -> Result<(), NoMemory> {
-    assert!(rt; text.len() <= 255);
-    let bytes = Vec::from_slice(rt.alloc(), text)?;
-    let line = Line { bytes, ends: true };
-    let statement = Statement::PrintTo { file, line };
-    leaves(rt, channels, session, &statement, stop, status)
-}
-
-/// CMD with one byte.
-fn commands(
-    rt: &(impl Abort + AllocGlobal),
-    channels: &mut Channels<Direct>,
-    session: &mut Session,
-    file: u8,
-    ends: bool,
-    status: u8,
-) -> Result<(), NoMemory> {
-    let bytes = Vec::from_slice(rt.alloc(), b"A")?;
-    let line = Line { bytes, ends };
-    let statement = Statement::Cmd { file, line };
-    leaves(rt, channels, session, &statement, None, status)
-}
-
-/// PRINT with one byte.
-fn prints(
-    rt: &(impl Abort + AllocGlobal),
-    channels: &mut Channels<Direct>,
-    session: &mut Session,
-    status: u8,
-) -> Result<(), NoMemory> {
-    let bytes = Vec::from_slice(rt.alloc(), b"X")?;
-    let line = Line { bytes, ends: true };
-    leaves(
-        rt,
-        channels,
-        session,
-        &Statement::Print { line },
-        None,
-        status,
-    )
-}
-
-/// The channel number, the output device and the number of items are these.
-fn shows(
-    rt: &impl Abort,
-    channels: &Channels<Direct>,
-    session: Session,
-    channel: u8,
-    output: u8,
-    items: u64,
+    after: After,
 ) {
-    assert_eq!(rt; session.channel, channel);
-    assert_eq!(rt; channels.output(), output);
-    assert_eq!(rt; channels.serial().items(), items);
+    assert!(rt; channels.serial().items() < 1000);
+    assert_eq!(rt; perform(channels, statement, session), Ok(after.stop));
+    assert_eq!(rt; channels.readst(), after.status, "status");
+    assert_eq!(rt; session.channel, after.channel, "channel number");
+    assert_eq!(rt; channels.output(), after.output, "output device");
+    assert_eq!(rt; channels.serial().items(), after.items, "items");
+}
+
+/// Performs a script, whose statements leave this one after another.
+fn performs<S: Serial>(
+    rt: &(impl Abort + AllocGlobal),
+    channels: &mut Channels<S>,
+    mode: StatusMode,
+    script: &[u8],
+    wanted: &[After],
+) {
+    let statements = read_script(rt.alloc(), script).expect(rt, "a script");
+    assert_eq!(rt; statements.len(), wanted.len());
+    let mut session = Session::new(mode);
+    for (statement, after) in statements.as_slice().iter().zip(wanted) {
+        leaves(rt, channels, &mut session, statement, *after);
+    }
+}
+
+/// Performs a script over a bus on which nothing was sent. Then these bytes are on the screen.
+fn leaves_all(
+    rt: &(impl Abort + AllocGlobal),
+    setup: (Present, StatusMode),
+    script: &[u8],
+    wanted: &[After],
+    screen: &[u8],
+) {
+    let mut channels = over_direct(rt.alloc(), setup.0);
+    performs(rt, &mut channels, setup.1, script, wanted);
+    assert_eq!(rt; channels.screen(), screen);
 }
 
 #[test]
-fn line_feed_channel(rt: HostRuntime) -> Result<(), Fail> {
+fn line_feed_channel(rt: HostRuntime) {
     let mut channels = over_direct(rt.alloc(), BOTH);
-    let mut session = Session::new(StatusMode::Each);
-    opens(&rt, &mut channels, &mut session, (128, 4, NONE), None)?;
-    prints_to(&rt, &mut channels, &mut session, 128, b"A", None, 0)?;
-    prints_to(&rt, &mut channels, &mut session, 128, b"B", None, 0)?;
+    let script = b"OPEN 128,4:PRINT#128,\"A\":PRINT#128,\"B\"";
+    let wanted = [quiet(0), quiet(5), quiet(10)];
+    performs(&rt, &mut channels, StatusMode::Each, script, &wanted);
     let heard = [
         Input::Select(false),
         Input::Byte(65),
@@ -229,16 +221,14 @@ fn line_feed_channel(rt: HostRuntime) -> Result<(), Fail> {
         Input::Byte(10),
     ];
     assert_eq!(rt; channels.serial().heard(4), heard.as_slice());
-    shows(&rt, &channels, session, 0, 3, 10);
-    Ok(())
 }
 
 #[test]
-fn return_inside_a_list(rt: HostRuntime) -> Result<(), Fail> {
+fn return_inside_a_list(rt: HostRuntime) {
     let mut channels = Channels::new(rt.alloc(), Noting::new(rt.alloc(), BOTH));
-    let mut session = Session::new(StatusMode::Each);
-    opens(&rt, &mut channels, &mut session, (130, 4, NONE), None)?;
-    prints_to(&rt, &mut channels, &mut session, 130, b"A\rB", None, 0)?;
+    let script = b"OPEN 130,4:PRINT#130,\"A\"CHR$(13)\"B\"";
+    let wanted = [quiet(0), quiet(7)];
+    performs(&rt, &mut channels, StatusMode::Each, script, &wanted);
     let items = [
         Item::Attention(0x24, None),
         Item::Sent(65, false),
@@ -258,97 +248,83 @@ fn return_inside_a_list(rt: HostRuntime) -> Result<(), Fail> {
         Input::Byte(10),
     ];
     assert_eq!(rt; channels.serial().bus.heard(4), heard.as_slice());
-    assert_eq!(rt; session.channel, 0);
-    assert_eq!(rt; channels.output(), 3);
-    Ok(())
 }
 
-/// OPEN of files 1 to 10 on device 4, and then of one more.
-fn eleventh_stops(rt: &(impl Abort + AllocGlobal), file: u8, stop: Stop) -> Result<(), NoMemory> {
-    let mut channels = over_direct(rt.alloc(), BOTH);
-    let mut session = Session::new(StatusMode::Each);
-    for number in 1..11 {
-        opens(rt, &mut channels, &mut session, (number, 4, NONE), None)?;
-    }
-    opens(rt, &mut channels, &mut session, (file, 4, NONE), Some(stop))?;
-    shows(rt, &channels, session, 0, 3, 0);
-    Ok(())
+/// A script whose eleventh statement stops so, and of which no other does or sends anything.
+fn eleventh_stops(rt: &(impl Abort + AllocGlobal), script: &[u8], stop: Stop) {
+    let mut wanted = [quiet(0); 11];
+    wanted[10] = stopped_by(stop, 0);
+    leaves_all(rt, (BOTH, StatusMode::Each), script, &wanted, &[]);
 }
 
 #[test]
-fn stops_of_the_file_table(rt: HostRuntime) -> Result<(), Fail> {
-    eleventh_stops(&rt, 11, Stop::TooManyFiles)?;
-    eleventh_stops(&rt, 3, Stop::FileOpen)?;
-    let mut channels = over_direct(rt.alloc(), BOTH);
-    let mut session = Session::new(StatusMode::Each);
-    let stop = Some(Stop::NotInputFile);
-    opens(&rt, &mut channels, &mut session, (0, 4, NONE), stop)?;
-    opens(&rt, &mut channels, &mut session, (4, 4, NONE), None)?;
-    let stop = Some(Stop::FileOpen);
-    opens(&rt, &mut channels, &mut session, (4, 5, NONE), stop)?;
-    let stop = Some(Stop::FileNotOpen);
-    prints_to(&rt, &mut channels, &mut session, 9, b"A", stop, 0)?;
-    shows(&rt, &channels, session, 0, 3, 0);
-    Ok(())
+fn stops_of_the_file_table(rt: HostRuntime) {
+    let eleven = b"OPEN 1,4:OPEN 2,4:OPEN 3,4:OPEN 4,4:OPEN 5,4:OPEN 6,4\n\
+        OPEN 7,4:OPEN 8,4:OPEN 9,4:OPEN 10,4:OPEN 11,4";
+    eleventh_stops(&rt, eleven, Stop::TooManyFiles);
+    let three_again = b"OPEN 1,4:OPEN 2,4:OPEN 3,4:OPEN 4,4:OPEN 5,4:OPEN 6,4\n\
+        OPEN 7,4:OPEN 8,4:OPEN 9,4:OPEN 10,4:OPEN 3,4";
+    eleventh_stops(&rt, three_again, Stop::FileOpen);
 }
 
-/// With printer 4 alone: what two lines to printer 5 leave, and whether the second stops.
-fn second_line(
-    rt: &(impl Abort + AllocGlobal),
-    mode: StatusMode,
-    stop: Option<Stop>,
-    items: u64,
-) -> Result<(), NoMemory> {
-    let mut channels = over_direct(rt.alloc(), ONLY_FOUR);
-    let mut session = Session::new(mode);
-    opens(rt, &mut channels, &mut session, (5, 5, NONE), None)?;
-    prints_to(rt, &mut channels, &mut session, 5, b"A", None, 128)?;
-    prints_to(rt, &mut channels, &mut session, 5, b"B", stop, 128)?;
-    shows(rt, &channels, session, 0, 3, items);
-    Ok(())
-}
-
-/// A byte that nobody hears stops a later CMD or PRINT# where the status is kept, and else only the
-/// next one, while it still waits.
 #[test]
-fn unanswered_byte_in_both_modes(rt: HostRuntime) -> Result<(), Fail> {
-    let missing = Some(Stop::DeviceNotPresent);
-    second_line(&rt, StatusMode::Each, None, 8)?;
-    second_line(&rt, StatusMode::Kept, missing, 5)?;
-    let mut channels = over_direct(rt.alloc(), ONLY_FOUR);
-    let mut session = Session::new(StatusMode::Each);
-    opens(&rt, &mut channels, &mut session, (4, 4, NONE), None)?;
-    opens(&rt, &mut channels, &mut session, (5, 5, NONE), None)?;
-    commands(&rt, &mut channels, &mut session, 5, true, 128)?;
-    prints_to(&rt, &mut channels, &mut session, 4, b"B", missing, 128)?;
-    shows(&rt, &channels, session, 0, 3, 5);
-    Ok(())
+fn each_statement_stops_by_itself(rt: HostRuntime) {
+    let script = b"OPEN 0,4:OPEN 4,4:OPEN 4,5:PRINT#9,\"A\"";
+    let wanted = [
+        stopped_by(Stop::NotInputFile, 0),
+        quiet(0),
+        stopped_by(Stop::FileOpen, 0),
+        stopped_by(Stop::FileNotOpen, 0),
+    ];
+    leaves_all(&rt, (BOTH, StatusMode::Each), script, &wanted, &[]);
+}
+
+/// With printer 4 alone two lines go to printer 5: a byte that nobody hears stops a later PRINT#
+/// where the status is kept, and else leaves its status alone.
+#[test]
+fn unanswered_byte_in_both_modes(rt: HostRuntime) {
+    let script = b"OPEN 5,5:PRINT#5,\"A\":PRINT#5,\"B\"";
+    let wanted = [quiet(0), unanswered(None, 4), unanswered(None, 8)];
+    leaves_all(&rt, (ONLY_FOUR, StatusMode::Each), script, &wanted, &[]);
+    let missing = unanswered(Some(Stop::DeviceNotPresent), 5);
+    let wanted = [quiet(0), unanswered(None, 4), missing];
+    leaves_all(&rt, (ONLY_FOUR, StatusMode::Kept), script, &wanted, &[]);
+}
+
+/// A byte that nobody hears stops the next PRINT# while it still waits.
+#[test]
+fn byte_that_waits_is_unanswered(rt: HostRuntime) {
+    let script = b"OPEN 4,4:OPEN 5,5:CMD 5,\"A\":PRINT#4,\"B\"";
+    let waiting = After {
+        status: 128,
+        stop: None,
+        channel: 5,
+        output: 5,
+        items: 2,
+    };
+    let missing = unanswered(Some(Stop::DeviceNotPresent), 5);
+    let wanted = [quiet(0), quiet(0), waiting, missing];
+    leaves_all(&rt, (ONLY_FOUR, StatusMode::Each), script, &wanted, &[]);
 }
 
 /// CMD's channel number stays for PRINT and CLOSE, and ends with PRINT# or a stop; CLOSE tells a
 /// device only where the file has a secondary address, and leaves the output device.
 #[test]
-fn channel_number_follows(rt: HostRuntime) -> Result<(), Fail> {
-    let mut channels = over_direct(rt.alloc(), BOTH);
-    let mut session = Session::new(StatusMode::Each);
-    opens(&rt, &mut channels, &mut session, (200, 4, NONE), None)?;
-    opens(&rt, &mut channels, &mut session, (7, 4, 7), None)?;
-    commands(&rt, &mut channels, &mut session, 200, false, 0)?;
-    shows(&rt, &channels, session, 200, 4, 1);
-    prints(&rt, &mut channels, &mut session, 0)?;
-    shows(&rt, &channels, session, 200, 4, 4);
-    let close = Statement::CloseFile { file: 200 };
-    leaves(&rt, &mut channels, &mut session, &close, None, 0)?;
-    shows(&rt, &channels, session, 200, 4, 4);
-    let close = Statement::CloseFile { file: 7 };
-    leaves(&rt, &mut channels, &mut session, &close, None, 0)?;
-    shows(&rt, &channels, session, 200, 4, 7);
-    let stop = Some(Stop::FileNotOpen);
-    prints_to(&rt, &mut channels, &mut session, 7, b"B", stop, 0)?;
-    shows(&rt, &channels, session, 0, 3, 8);
-    prints(&rt, &mut channels, &mut session, 0)?;
-    assert_eq!(rt; channels.screen(), [88, 13].as_slice());
-    Ok(())
+fn channel_number_follows(rt: HostRuntime) {
+    let script = b"OPEN 200,4:OPEN 7,4,7:CMD 200,\"A\";:PRINT\"X\"\n\
+        CLOSE 200:CLOSE 7:PRINT#7,\"B\":PRINT\"X\"";
+    let wanted = [
+        quiet(0),
+        quiet(0),
+        commanded(200, 1),
+        commanded(200, 4),
+        commanded(200, 4),
+        commanded(200, 7),
+        stopped_by(Stop::FileNotOpen, 8),
+        quiet(8),
+    ];
+    let setup = (BOTH, StatusMode::Each);
+    leaves_all(&rt, setup, script, &wanted, &[88, 13]);
 }
 
 /// Whether a statement reaches the bus, where its file is open with a secondary address.
@@ -362,6 +338,17 @@ fn reaches_bus(channels: &Channels<Direct>, statement: &Statement) -> bool {
     }
 }
 
+/// The number of items, the output device, the number of open files and the status.
+fn state_of(channels: &Channels<Direct>) -> (u64, u8, usize, u8) {
+    let open = channels.files().as_slice().len();
+    (
+        channels.serial().items(),
+        channels.output(),
+        open,
+        channels.readst(),
+    )
+}
+
 /// Performs a statement, and tells whether it was refused. Then the session is as before, and
 /// either the bus has failed or only the screen's list is longer. A statement that reaches a bus
 /// that has failed is refused.
@@ -371,8 +358,8 @@ fn is_refused(
     session: &mut Session,
     statement: &Statement,
 ) -> bool {
-    let (before, items, output) = (*session, channels.serial().items(), channels.output());
-    let (shown, open) = (channels.screen().len(), channels.files().as_slice().len());
+    let (before, shown) = (*session, channels.screen().len());
+    let (items, output, open, _status) = state_of(channels);
     let lost = channels.serial().failed() && reaches_bus(channels, statement);
     assert!(rt; items < 1000);
     match perform(channels, statement, session) {
@@ -384,10 +371,7 @@ fn is_refused(
         Err(_refused) => {
             assert_eq!(rt; *session, before);
             if !channels.serial().failed() {
-                assert_eq!(rt; channels.serial().items(), items);
-                assert_eq!(rt; channels.output(), output);
-                assert_eq!(rt; channels.files().as_slice().len(), open);
-                assert_eq!(rt; channels.readst(), 0);
+                assert_eq!(rt; state_of(channels), (items, output, open, 0));
                 assert!(rt; channels.screen().len() >= shown);
             }
             true

@@ -14,6 +14,13 @@ fn refuses(rt: &impl Abort, alloc: Global, script: &[u8], fault: ScriptFault) {
     assert_eq!(rt; told, Some(fault), "{script:?}");
 }
 
+/// Scripts, between which a `|` stands, are each refused with this fault.
+fn all_refuse(rt: &impl Abort, alloc: Global, scripts: &str, fault: ScriptFault) {
+    for script in scripts.split('|') {
+        refuses(rt, alloc, script.as_bytes(), fault);
+    }
+}
+
 /// A script has so many statements.
 fn has(rt: &impl Abort, alloc: Global, script: &[u8], count: usize) {
     let told = read_script(alloc, script).map(|statements| statements.len());
@@ -30,18 +37,23 @@ fn printed(statement: &Statement) -> Option<&Line> {
     }
 }
 
+/// A statement prints these bytes.
+fn prints_line(rt: &impl Abort, statement: &Statement, bytes: &[u8], ends: bool) {
+    match printed(statement) {
+        Some(line) => {
+            assert_eq!(rt; line.bytes.as_slice(), bytes);
+            assert_eq!(rt; line.ends, ends, "{bytes:?}");
+        }
+        None => assert!(rt; false, "no line for {bytes:?}"),
+    }
+}
+
 /// A script is one statement that prints these bytes.
 fn prints(rt: &impl Abort, alloc: Global, script: &[u8], bytes: &[u8], ends: bool) {
     let statements = read_script(alloc, script).unwrap_or_else(|_| Vec::new(alloc));
     assert_eq!(rt; statements.len(), 1, "{script:?}");
     for statement in statements.as_slice() {
-        match printed(statement) {
-            Some(line) => {
-                assert_eq!(rt; line.bytes.as_slice(), bytes, "{script:?}");
-                assert_eq!(rt; line.ends, ends, "{script:?}");
-            }
-            None => assert!(rt; false, "{script:?}"),
-        }
+        prints_line(rt, statement, bytes, ends);
     }
 }
 
@@ -64,63 +76,97 @@ fn after_255(alloc: Global, more: &[u8]) -> Result<Vec<u8>, AllocError> {
 
 #[test]
 fn refused_scripts(rt: HostRuntime) -> Result<(), Fail> {
-    let cases: [(&[u8], ScriptFault); 8] = [
-        (b"OPEN 4,3", ScriptFault::BadDevice(1)),
-        (b"OPEN 4", ScriptFault::BadDevice(1)),
-        (b"OPEN 4,4,16", ScriptFault::BadSecond(1)),
-        (b"OPEN 256,4", ScriptFault::BadNumber(1)),
-        (b"FOR I=1", ScriptFault::UnknownWord(1)),
-        (b"PRINT #4", ScriptFault::UnknownWord(1)),
-        (b"CMD 4,", ScriptFault::UnknownWord(1)),
-        (b"PRINT CHR$(256)", ScriptFault::BadByte(1)),
-    ];
-    for (script, fault) in cases {
-        refuses(&rt, rt.alloc(), script, fault);
-    }
-    let long = after_255(rt.alloc(), b"A\"")?;
-    refuses(&rt, rt.alloc(), &long, ScriptFault::TooLong(1));
+    let alloc = rt.alloc();
+    all_refuse(&rt, alloc, "OPEN 4,3|OPEN 4", ScriptFault::BadDevice(1));
+    all_refuse(&rt, alloc, "OPEN 4,4,16", ScriptFault::BadSecond(1));
+    all_refuse(&rt, alloc, "OPEN 256,4", ScriptFault::BadNumber(1));
+    let unknown = "FOR I=1|PRINT #4|CMD 4,";
+    all_refuse(&rt, alloc, unknown, ScriptFault::UnknownWord(1));
+    all_refuse(&rt, alloc, "PRINT CHR$(256)", ScriptFault::BadByte(1));
+    let long = after_255(alloc, b"A\"")?;
+    refuses(&rt, alloc, &long, ScriptFault::TooLong(1));
     Ok(())
 }
 
 #[test]
-fn accepted_scripts(rt: HostRuntime) -> Result<(), Fail> {
-    prints(&rt, rt.alloc(), b"PRINT;", b"", false);
-    prints(&rt, rt.alloc(), b"PRINT ;\"A\"", b"A", true);
-    prints(&rt, rt.alloc(), b"CMD 4", b"", true);
-    prints(&rt, rt.alloc(), b"CMD 4,;", b"", false);
-    prints(&rt, rt.alloc(), b"PRINT\"A\r\n", b"A", true);
-    has(&rt, rt.alloc(), b"::", 0);
-    has(&rt, rt.alloc(), b"REM :PRINT", 1);
-    has(&rt, rt.alloc(), b"63999 PRINT", 1);
+fn accepted_scripts(rt: HostRuntime) {
+    let alloc = rt.alloc();
+    prints(&rt, alloc, b"PRINT;", b"", false);
+    prints(&rt, alloc, b"PRINT ;\"A\"", b"A", true);
+    prints(&rt, alloc, b"CMD 4", b"", true);
+    prints(&rt, alloc, b"CMD 4,;", b"", false);
+    prints(&rt, alloc, b"PRINT\"A\r\n", b"A", true);
+    has(&rt, alloc, b"::", 0);
+    has(&rt, alloc, b"REM :PRINT", 1);
+    has(&rt, alloc, b"63999 PRINT", 1);
+}
+
+/// The word that a statement begins with, and its file.
+fn head_of(statement: &Statement) -> (&'static str, u8) {
+    match statement {
+        Statement::OpenFile { file, .. } => ("OPEN", *file),
+        Statement::CloseFile { file } => ("CLOSE", *file),
+        Statement::Cmd { file, .. } => ("CMD", *file),
+        Statement::PrintTo { file, .. } => ("PRINT#", *file),
+        Statement::Print { .. } => ("PRINT", 0),
+        Statement::Rem => ("REM", 0),
+    }
+}
+
+/// The statement at a place, from 0, begins with this word and has this file.
+fn is_at(rt: &impl Abort, statements: &[Statement], place: usize, word: &str, file: u8) {
+    match statements.get(place) {
+        Some(statement) => {
+            let (found, number) = head_of(statement);
+            assert_eq!(rt; found, word, "statement {place}");
+            assert_eq!(rt; number, file, "statement {place}");
+        }
+        None => assert!(rt; false, "no statement {place}"),
+    }
+}
+
+/// The statement at a place, from 0, is an OPEN of this file and device with this secondary address.
+fn opens_at(
+    rt: &impl Abort,
+    statements: &[Statement],
+    place: usize,
+    file: u8,
+    device: Option<Device>,
+    second: Option<Second>,
+) {
+    match statements.get(place) {
+        Some(
+            Statement::OpenFile {
+                file: number,
+                device: on,
+                second: address,
+            },
+        ) => {
+            assert_eq!(rt; *number, file);
+            assert_eq!(rt; Some(*on), device);
+            assert_eq!(rt; *address, second);
+        }
+        _ => assert!(rt; false, "no OPEN"),
+    }
+}
+
+#[test]
+fn remark_and_open(rt: HostRuntime) -> Result<(), Fail> {
     let statements = read_script(rt.alloc(), b"REM :PRINT\nOPEN 0,4")?;
-    assert!(rt; matches!(statements.first(), Some(Statement::Rem)));
-    assert!(rt;
-        matches!(
-            statements.last(),
-            Some(Statement::OpenFile {
-                file: 0,
-                device: _,
-                second: None
-            })
-        )
-    );
+    assert_eq!(rt; statements.len(), 2);
+    is_at(&rt, &statements, 0, "REM", 0);
+    opens_at(&rt, &statements, 1, 0, Device::new(4), None);
     Ok(())
 }
 
 #[test]
 fn refused_numbers_and_bytes(rt: HostRuntime) {
-    let cases: [(&[u8], ScriptFault); 7] = [
-        (b"64000 PRINT", ScriptFault::BadNumber(1)),
-        (b"CLOSE", ScriptFault::BadNumber(1)),
-        (b"CLOSE 4,4", ScriptFault::UnknownWord(1)),
-        (b"OPEN 4,4,", ScriptFault::BadSecond(1)),
-        (b"PRINTER", ScriptFault::UnknownWord(1)),
-        (b"PRINT\"A\rB\"", ScriptFault::BadByte(1)),
-        (b"PRINT\"A\r\r\n", ScriptFault::BadByte(1)),
-    ];
-    for (script, fault) in cases {
-        refuses(&rt, rt.alloc(), script, fault);
-    }
+    let alloc = rt.alloc();
+    all_refuse(&rt, alloc, "64000 PRINT|CLOSE", ScriptFault::BadNumber(1));
+    all_refuse(&rt, alloc, "CLOSE 4,4|PRINTER", ScriptFault::UnknownWord(1));
+    all_refuse(&rt, alloc, "OPEN 4,4,", ScriptFault::BadSecond(1));
+    let bytes = "PRINT\"A\rB\"|PRINT\"A\r\r\n";
+    all_refuse(&rt, alloc, bytes, ScriptFault::BadByte(1));
 }
 
 #[test]
@@ -160,28 +206,9 @@ fn keyword_past_the_limit(rt: HostRuntime) -> Result<(), Fail> {
 fn lower_case_keywords_on_one_line(rt: HostRuntime) -> Result<(), Fail> {
     let statements = read_script(rt.alloc(), b"10 open4,4:print#4,\"a\"chr$(66)\"c")?;
     assert_eq!(rt; statements.len(), 2);
-    match statements.first() {
-        Some(
-            Statement::OpenFile {
-                file,
-                device,
-                second,
-            },
-        ) => {
-            assert_eq!(rt; *file, 4);
-            assert_eq!(rt; device.get(), 4);
-            assert!(rt; second.is_none());
-        }
-        _ => assert!(rt; false, "no OPEN"),
-    }
-    match statements.last() {
-        Some(Statement::PrintTo { file, line }) => {
-            assert_eq!(rt; *file, 4);
-            assert_eq!(rt; line.bytes.as_slice(), b"aBc".as_slice());
-            assert!(rt; line.ends);
-        }
-        _ => assert!(rt; false, "no PRINT#"),
-    }
+    opens_at(&rt, &statements, 0, 4, Device::new(4), None);
+    is_at(&rt, &statements, 1, "PRINT#", 4);
+    prints_line(&rt, &statements[1], b"aBc", true);
     Ok(())
 }
 
@@ -190,76 +217,53 @@ fn every_statement_is_read(rt: HostRuntime) -> Result<(), Fail> {
     let script = b"OPEN 1,30,15:CMD 2:PRINT#3\nPRINT\r\n\nCLOSE 255:REM";
     let statements = read_script(rt.alloc(), script)?;
     assert_eq!(rt; statements.len(), 6);
-    match statements.first() {
-        Some(
-            Statement::OpenFile {
-                file,
-                device,
-                second,
-            },
-        ) => {
-            assert_eq!(rt; *file, 1);
-            assert_eq!(rt; Some(*device), Device::new(30));
-            assert_eq!(rt; *second, Second::new(15));
-        }
-        _ => assert!(rt; false, "no OPEN"),
-    }
-    assert!(rt; matches!(statements.get(1), Some(Statement::Cmd { file: 2, line: _ })));
-    assert!(rt;
-        matches!(
-            statements.get(2),
-            Some(Statement::PrintTo { file: 3, line: _ })
-        )
-    );
-    assert!(rt; matches!(statements.get(3), Some(Statement::Print { line: _ })));
-    assert!(rt; matches!(statements.get(4), Some(Statement::CloseFile { file: 255 })));
-    assert!(rt; matches!(statements.get(5), Some(Statement::Rem)));
+    opens_at(&rt, &statements, 0, 1, Device::new(30), Second::new(15));
+    is_at(&rt, &statements, 1, "CMD", 2);
+    is_at(&rt, &statements, 2, "PRINT#", 3);
+    is_at(&rt, &statements, 3, "PRINT", 0);
+    is_at(&rt, &statements, 4, "CLOSE", 255);
+    is_at(&rt, &statements, 5, "REM", 0);
     Ok(())
 }
 
 #[test]
+fn refused_by_the_grammar(rt: HostRuntime) {
+    let alloc = rt.alloc();
+    let numbers = "OPEN 256X|OPEN|OPEN X|PRINT CHR$()";
+    all_refuse(&rt, alloc, numbers, ScriptFault::BadNumber(1));
+    all_refuse(&rt, alloc, "OPEN 25X|OPEN 4;", ScriptFault::BadDevice(1));
+    let seconds = "OPEN 4,4,X|OPEN 4,4,0000000000000000000000000099999999999999999999";
+    all_refuse(&rt, alloc, seconds, ScriptFault::BadSecond(1));
+    let words = "PRINT CHR$ 65)|PRINT CHR$(65|PRINT CHR $(65)|10 20 PRINT|PRINT:10 PRINT|\
+        PRINT\r\"A\"|PRINT\"A\"\r\r|PRINT\"A\"REM|PRINT:FOO:OPEN 256";
+    all_refuse(&rt, alloc, words, ScriptFault::UnknownWord(1));
+    all_refuse(&rt, alloc, "PRINT\"A\tB\"", ScriptFault::BadByte(1));
+    all_refuse(&rt, alloc, "REM x\n\nOPEN 4\n", ScriptFault::BadDevice(3));
+    let second_line = "PRINT\nCMD 4,\nOPEN 256";
+    all_refuse(&rt, alloc, second_line, ScriptFault::UnknownWord(2));
+}
+
+#[test]
 fn choices_of_the_grammar(rt: HostRuntime) {
-    let refused: [(&[u8], ScriptFault); 20] = [
-        (b"OPEN 256X", ScriptFault::BadNumber(1)),
-        (b"OPEN 25X", ScriptFault::BadDevice(1)),
-        (b"OPEN", ScriptFault::BadNumber(1)),
-        (b"OPEN X", ScriptFault::BadNumber(1)),
-        (b"OPEN 4;", ScriptFault::BadDevice(1)),
-        (b"OPEN 4,4,X", ScriptFault::BadSecond(1)),
-        (b"PRINT CHR$()", ScriptFault::BadNumber(1)),
-        (b"PRINT CHR$ 65)", ScriptFault::UnknownWord(1)),
-        (b"PRINT CHR$(65", ScriptFault::UnknownWord(1)),
-        (b"PRINT CHR $(65)", ScriptFault::UnknownWord(1)),
-        (b"10 20 PRINT", ScriptFault::UnknownWord(1)),
-        (b"PRINT:10 PRINT", ScriptFault::UnknownWord(1)),
-        (b"PRINT\"A\tB\"", ScriptFault::BadByte(1)),
-        (b"PRINT\r\"A\"", ScriptFault::UnknownWord(1)),
-        (b"PRINT\"A\"\r\r", ScriptFault::UnknownWord(1)),
-        (b"PRINT\"A\"REM", ScriptFault::UnknownWord(1)),
-        (
-            b"OPEN 4,4,0000000000000000000000000099999999999999999999",
-            ScriptFault::BadSecond(1),
-        ),
-        (b"REM x\n\nOPEN 4\n", ScriptFault::BadDevice(3)),
-        (b"PRINT:FOO:OPEN 256", ScriptFault::UnknownWord(1)),
-        (b"PRINT\nCMD 4,\nOPEN 256", ScriptFault::UnknownWord(2)),
-    ];
-    for (script, fault) in refused {
-        refuses(&rt, rt.alloc(), script, fault);
-    }
-    prints(&rt, rt.alloc(), b"PrInT Chr$(65)", b"A", true);
-    prints(&rt, rt.alloc(), b"PRINT CHR$ ( 65 ) ;", b"A", false);
-    prints(&rt, rt.alloc(), b"\tPRINT\t\"A\"\t", b"A", true);
-    prints(&rt, rt.alloc(), b"CMD 4,\"\"", b"", true);
-    prints(&rt, rt.alloc(), b"CMD 4,\"", b"", true);
-    prints(&rt, rt.alloc(), b"CMD 4,;", b"", false);
-    prints(&rt, rt.alloc(), b"PRINT#0004,CHR$(007)", b"\x07", true);
-    has(&rt, rt.alloc(), b"", 0);
-    has(&rt, rt.alloc(), b"10", 0);
-    has(&rt, rt.alloc(), b"\r", 0);
-    has(&rt, rt.alloc(), b"\n\n \t\n", 0);
-    has(&rt, rt.alloc(), b"REM a\rb\x00\xff", 1);
-    has(&rt, rt.alloc(), b"REMARK", 1);
+    let alloc = rt.alloc();
+    prints(&rt, alloc, b"PrInT Chr$(65)", b"A", true);
+    prints(&rt, alloc, b"PRINT CHR$ ( 65 ) ;", b"A", false);
+    prints(&rt, alloc, b"\tPRINT\t\"A\"\t", b"A", true);
+    prints(&rt, alloc, b"CMD 4,\"\"", b"", true);
+    prints(&rt, alloc, b"CMD 4,\"", b"", true);
+    prints(&rt, alloc, b"CMD 4,;", b"", false);
+    prints(&rt, alloc, b"PRINT#0004,CHR$(007)", b"\x07", true);
+}
+
+#[test]
+fn counts_of_statements(rt: HostRuntime) {
+    let alloc = rt.alloc();
+    has(&rt, alloc, b"", 0);
+    has(&rt, alloc, b"10", 0);
+    has(&rt, alloc, b"\r", 0);
+    has(&rt, alloc, b"\n\n \t\n", 0);
+    has(&rt, alloc, b"REM a\rb\x00\xff", 1);
+    has(&rt, alloc, b"REMARK", 1);
 }
 
 #[test]

@@ -3,29 +3,49 @@
 
 use super::*;
 
+/// Two statements for the absent printer 5.
+const FOR_FIVE: &[u8] = b"OPEN 5,5\nPRINT#5,\"A\"\nPRINT#5,\"B\"";
+
 /// A byte for nobody and an UNLISTEN behind it: 50 edges and 4360 microseconds a statement.
 #[test]
-fn kept_status_stops_the_next_print(rt: HostRuntime) {
-    let script = b"OPEN 5,5\nPRINT#5,\"A\"\nPRINT#5,\"B\"";
-    prints_on_four(&rt, script, ONLY_FOUR, &[], &[]);
-    gives(&rt, script, ONLY_FOUR, &[0, 128, 128], None, &[]);
+fn status_of_each_print(rt: HostRuntime) {
     let frames = [command(37), command(63), command(37), command(63)];
-    sends(&rt, script, ONLY_FOUR, 101, "8720 111\n", &frames);
-
-    prints_on_four(&rt, script, KEPT, &[], &[]);
-    let stop = Some((3, Stop::DeviceNotPresent));
-    gives(&rt, script, KEPT, &[0, 128, 128], stop, &[]);
-    let frames = [command(37), command(63), command(37)];
-    sends(&rt, script, KEPT, 74, "6390 100\n", &frames);
+    let expected = Expected {
+        four: blank(),
+        five: blank(),
+        statuses: &[0, 128, 128],
+        stop: None,
+        screen: &[],
+        edges: 101,
+        last: "8720 111\n",
+        frames: &frames,
+    };
+    gives(&rt, FOR_FIVE, ONLY_FOUR, expected);
 }
+
+#[test]
+fn kept_status_stops_the_next_print(rt: HostRuntime) {
+    let frames = [command(37), command(63), command(37)];
+    let expected = Expected {
+        four: blank(),
+        five: blank(),
+        statuses: &[0, 128, 128],
+        stop: Some((3, Stop::DeviceNotPresent)),
+        screen: &[],
+        edges: 74,
+        last: "6390 100\n",
+        frames: &frames,
+    };
+    gives(&rt, FOR_FIVE, KEPT, expected);
+}
+
+/// A statement for the absent printer 5, and one for printer 4.
+const FOR_BOTH: &[u8] = b"OPEN 4,4\nOPEN 5,5\nPRINT#5,\"A\"\nPRINT#4,\"B\"";
 
 /// Behind the statement for the absent printer, one for printer 4: 89 edges and 6340 microseconds.
 #[test]
-fn kept_status_crosses_printers(rt: HostRuntime) {
-    let script = b"OPEN 4,4\nOPEN 5,5\nPRINT#5,\"A\"\nPRINT#4,\"B\"";
+fn status_of_each_printer(rt: HostRuntime) {
     let marks = [(0, cell(66, 0))];
-    prints_on_four(&rt, script, ONLY_FOUR, &[0], &marks);
-    gives(&rt, script, ONLY_FOUR, &[0, 0, 128, 0], None, &[]);
     let frames = [
         command(37),
         command(63),
@@ -34,38 +54,74 @@ fn kept_status_crosses_printers(rt: HostRuntime) {
         last(13),
         command(63),
     ];
-    sends(&rt, script, ONLY_FOUR, 140, "10700 111\n", &frames);
-
-    prints_on_four(&rt, script, KEPT, &[], &[]);
-    let stop = Some((4, Stop::DeviceNotPresent));
-    gives(&rt, script, KEPT, &[0, 0, 128, 128], stop, &[]);
-    let frames = [command(37), command(63), command(36)];
-    sends(&rt, script, KEPT, 74, "6390 100\n", &frames);
+    let expected = Expected {
+        four: page(&[0], &marks),
+        five: blank(),
+        statuses: &[0, 0, 128, 0],
+        stop: None,
+        screen: &[],
+        edges: 140,
+        last: "10700 111\n",
+        frames: &frames,
+    };
+    gives(&rt, FOR_BOTH, ONLY_FOUR, expected);
 }
 
 #[test]
+fn kept_status_crosses_printers(rt: HostRuntime) {
+    let frames = [command(37), command(63), command(36)];
+    let expected = Expected {
+        four: blank(),
+        five: blank(),
+        statuses: &[0, 0, 128, 128],
+        stop: Some((4, Stop::DeviceNotPresent)),
+        screen: &[],
+        edges: 74,
+        last: "6390 100\n",
+        frames: &frames,
+    };
+    gives(&rt, FOR_BOTH, KEPT, expected);
+}
+
+/// Without the other printer's statements the status stays 0 in both modes.
+#[test]
 fn kept_status_without_the_other_printer(rt: HostRuntime) {
-    let script = b"OPEN 4,4\nOPEN 5,5\nPRINT#5,\"A\"\nPRINT#4,\"B\"";
     let other = b"OPEN 4,4\nPRINT#4,\"B\"";
-    without_five_is(&rt, script, other);
+    without_five_is(&rt, FOR_BOTH, other);
     let marks = [(0, cell(66, 0))];
     let frames = [command(36), data(66), last(13), command(63)];
-    prints_on_four(&rt, other, ONLY_FOUR, &[0], &marks);
-    gives(&rt, other, ONLY_FOUR, &[0, 0], None, &[]);
-    sends(&rt, other, ONLY_FOUR, 90, "6340 111\n", &frames);
-    prints_on_four(&rt, other, KEPT, &[0], &marks);
-    gives(&rt, other, KEPT, &[0, 0], None, &[]);
-    sends(&rt, other, KEPT, 90, "6340 111\n", &frames);
+    let expected = Expected {
+        four: page(&[0], &marks),
+        five: blank(),
+        statuses: &[0, 0],
+        stop: None,
+        screen: &[],
+        edges: 90,
+        last: "6340 111\n",
+        frames: &frames,
+    };
+    gives(&rt, other, ONLY_FOUR, expected);
+    gives(&rt, other, KEPT, expected);
+}
+
+/// A statement for the absent printer 5, and one for the screen, leave these statuses.
+fn ends_on_the_screen(rt: &(impl Abort + AllocGlobal), setup: Setup, statuses: &[u8]) {
+    let frames = [command(37), command(63)];
+    let expected = Expected {
+        four: blank(),
+        five: blank(),
+        statuses,
+        stop: None,
+        screen: &[88, 13],
+        edges: 51,
+        last: "4360 111\n",
+        frames: &frames,
+    };
+    gives(rt, b"OPEN 5,5\nPRINT#5,\"A\"\nPRINT \"X\"", setup, expected);
 }
 
 #[test]
 fn kept_status_stays_for_the_screen(rt: HostRuntime) {
-    let script = b"OPEN 5,5\nPRINT#5,\"A\"\nPRINT \"X\"";
-    let frames = [command(37), command(63)];
-    prints_on_four(&rt, script, ONLY_FOUR, &[], &[]);
-    gives(&rt, script, ONLY_FOUR, &[0, 128, 0], None, &[88, 13]);
-    sends(&rt, script, ONLY_FOUR, 51, "4360 111\n", &frames);
-    prints_on_four(&rt, script, KEPT, &[], &[]);
-    gives(&rt, script, KEPT, &[0, 128, 128], None, &[88, 13]);
-    sends(&rt, script, KEPT, 51, "4360 111\n", &frames);
+    ends_on_the_screen(&rt, ONLY_FOUR, &[0, 128, 0]);
+    ends_on_the_screen(&rt, KEPT, &[0, 128, 128]);
 }

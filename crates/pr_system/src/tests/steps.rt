@@ -28,28 +28,63 @@ fn begun(rt: &(impl Abort + AllocGlobal)) -> Running
     Running::new(rt.alloc(), BOTH.present, typical(rt.alloc()), BOTH.mode).expect(rt, "memory")
 }
 
+/// So far printer 4 has this page, printer 5 has none, and these are the statuses and the bytes on
+/// the screen.
+fn shows(rt: &impl Abort, running: &Running, four: Page<'_>, statuses: &[u8], screen: &[u8]) {
+    has_page(rt, running.paper(4), four);
+    has_page(rt, running.paper(5), blank());
+    assert_eq!(rt; running.statuses(), statuses);
+    assert_eq!(rt; running.screen(), screen);
+}
+
+/// The outcome has this page of printer 4, none of printer 5 and no trace, and these are its
+/// statuses, its stop and the bytes on the screen.
+fn is_without_trace(
+    rt: &impl Abort,
+    outcome: &Outcome,
+    four: Page<'_>,
+    statuses: &[u8],
+    stop: Option<(usize, Stop)>,
+    screen: &[u8],
+) {
+    has_page(rt, &outcome.paper4, four);
+    has_page(rt, &outcome.paper5, blank());
+    has_ends(rt, outcome, statuses, stop, screen);
+    assert!(rt; outcome.trace.is_empty());
+}
+
 #[test]
 fn each_step_answers(rt: HostRuntime) {
     let mut running = begun(&rt);
     answers(&rt, &mut running, b"OPEN 4,4", None);
-    is_empty(&rt, running.paper(4));
-    assert_eq!(rt; running.statuses(), [0].as_slice());
+    shows(&rt, &running, blank(), &[0], &[]);
     answers(&rt, &mut running, b"PRINT#4,\"HI\"", None);
     let marks = [(0, cell(72, 0)), (0, cell(73, 6))];
-    has_page(&rt, running.paper(4), &[0], &marks, &[]);
-    is_empty(&rt, running.paper(5));
+    let four = page(&[0], &marks);
+    shows(&rt, &running, four, &[0, 0], &[]);
     answers(&rt, &mut running, b"CLOSE 4", None);
-    assert_eq!(rt; running.statuses(), [0, 0, 0].as_slice());
-    assert!(rt; running.screen().is_empty());
+    shows(&rt, &running, four, &[0, 0, 0], &[]);
     answers(&rt, &mut running, b"PRINT \"X\"", None);
-    assert_eq!(rt; running.screen(), [88, 13].as_slice());
-    let stop = Stop::FileNotOpen;
-    answers(&rt, &mut running, b"PRINT#9,\"A\"", Some(stop));
-    let outcome = running.finish();
-    has_page(&rt, &outcome.paper4, &[0], &marks, &[]);
-    is_empty(&rt, &outcome.paper5);
-    has_ends(&rt, &outcome, &[0, 0, 0, 0, 0], Some((5, stop)), &[88, 13]);
-    assert!(rt; outcome.trace.is_empty());
+    shows(&rt, &running, four, &[0, 0, 0, 0], &[88, 13]);
+    answers(&rt, &mut running, b"PRINT#9,\"A\"", Some(Stop::FileNotOpen));
+    let stop = Some((5, Stop::FileNotOpen));
+    is_without_trace(&rt, &running.finish(), four, &[0; 5], stop, &[88, 13]);
+}
+
+/// Performs a script of one statement, whose edges are those of the example trace from one index up
+/// to another.
+fn continues_the_example(
+    rt: &(impl Abort + AllocGlobal),
+    running: &mut Running,
+    script: &[u8],
+    first: usize,
+    end: usize,
+)
+    requires { running.old.stop ≡ None }
+    ensures { running.new.stop ≡ None }
+{
+    answers(rt, running, script, None);
+    are_of_the_example(rt, running.edges(), first, end);
 }
 
 /// Before the first step there is one edge, `0 111`; then each step has the edges of its own items,
@@ -58,12 +93,9 @@ fn each_step_answers(rt: HostRuntime) {
 fn edges_of_each_step(rt: HostRuntime) {
     let mut running = begun(&rt);
     are_of_the_example(&rt, running.edges(), 0, 1);
-    answers(&rt, &mut running, b"OPEN 4,4", None);
-    assert!(rt; running.edges().is_empty());
-    answers(&rt, &mut running, b"PRINT#4,\"HI\"", None);
-    are_of_the_example(&rt, running.edges(), 1, 110);
-    answers(&rt, &mut running, b"CLOSE 4", None);
-    assert!(rt; running.edges().is_empty());
+    continues_the_example(&rt, &mut running, b"OPEN 4,4", 1, 1);
+    continues_the_example(&rt, &mut running, b"PRINT#4,\"HI\"", 1, 110);
+    continues_the_example(&rt, &mut running, b"CLOSE 4", 110, 110);
 }
 
 /// The two letters over a bus without wires, with the papers and statuses of the run on wires.
@@ -74,10 +106,7 @@ fn two_letters_without_wires(rt: HostRuntime) {
     answers(&rt, &mut running, b"OPEN 4,4", None);
     answers(&rt, &mut running, b"PRINT#4,\"HI\"", None);
     answers(&rt, &mut running, b"CLOSE 4", None);
-    let outcome = running.finish();
     let marks = [(0, cell(72, 0)), (0, cell(73, 6))];
-    has_page(&rt, &outcome.paper4, &[0], &marks, &[]);
-    is_empty(&rt, &outcome.paper5);
-    has_ends(&rt, &outcome, &[0, 0, 0], None, &[]);
-    assert!(rt; outcome.trace.is_empty());
+    let four = page(&[0], &marks);
+    is_without_trace(&rt, &running.finish(), four, &[0, 0, 0], None, &[]);
 }

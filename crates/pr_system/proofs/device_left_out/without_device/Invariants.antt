@@ -1,6 +1,6 @@
 use Rattle.std.proofs.Common.{◌≡◌, ◌≤◌, length, drop, ◌++◌}
 use Rattle.pr_system.specs.Without.{without_from, without}
-use Rattle.pr_system.proofs.leaving_out.without_device.Given as goal
+use Rattle.pr_system.proofs.device_left_out.without_device.Given as goal
 
 -- what was kept and what will be kept of the others are the whole
 abbrev pub invariant-loop-statement : goal.invariant-loop-statement

@@ -1,7 +1,7 @@
 use Rattle.std.proofs.Common.{◌≡◌, ◌+◌, ◌++◌, List, take}
 use Rattle.pr_page.specs.declared.input.Input.{Input}
 use Rattle.pr_page.specs.Taken.{HasTaken, number_taken}
-use Rattle.pr_system.proofs.feeding.feed.Given as goal
+use Rattle.pr_system.proofs.running.feed.Given as goal
 
 -- the inputs so far are taken
 abbrev pub invariant-loop-input : goal.invariant-loop-input
