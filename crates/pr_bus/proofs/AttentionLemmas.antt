@@ -13,13 +13,12 @@ use Rattle.pr_wire.specs.Levels.{edge_at}
 use Rattle.pr_wire.specs.Delays.{delay_at}
 use Rattle.pr_wire.specs.Choices.{left}
 use Rattle.pr_wire.specs.Pieces.{FrameTimes, SecondFrame, Ending, frame_edges, call_edge, answer_edges, second_edges, ending_edges}
-use Rattle.pr_bus.specs.declared.lines.Lines.{Lines}
-use Rattle.pr_bus.specs.declared.lines.Lines.TheVariants.{Free, Pulled, Due}
 use Rattle.pr_bus.specs.declared.printer.Printer.{Printer}
 use Rattle.pr_bus.specs.declared.talker.Talker.{Talker}
 use Rattle.pr_bus.specs.Timed as all
-use Rattle.pr_bus.specs.Timed.{BusState, Done, taking, listening, between, frame_times, command_hearers, done, answered, unanswered, answer_at, second_frame, final_ack, commands_take, printer_takes, item_edges, due_edges, edges_done}
+use Rattle.pr_bus.specs.Timed.{Lines, Free, Pulled, Due, BusState, Done, taking, listening, between, frame_times, command_hearers, done, answered, unanswered, answer_at, second_frame, final_ack, commands_take, printer_takes, item_edges, due_edges, edges_done}
 use Rattle.pr_bus.specs.Printers.{printer_list, heeding, after_freed, IsSamePrinter}
+use Rattle.pr_bus.specs.Talking.{lines_of}
 use Rattle.pr_bus.specs.Talk.{state_of, IsTuned, printers_of, command_frame, second_of, final_ack_of, second_takes, second_taking, freed_at, due_at, closed_at, ending_of, end_of, rest_of, tuned_to}
 use Rattle.pr_bus.proofs.FrameLemmas.{drop-twice}
 use Rattle.pr_bus.proofs.PrinterLemmas.{commands-taking, releases-taking, taking-twice}
@@ -36,7 +35,6 @@ done-answered before t first second h = by t.four.there t.five.there h
     by false true h = refl
     by false false h = absurd (let j : false ≡ true = h in cc)
 
--- the numbers that a printer has taken don't tell who listens
 -- the lines, by whether somebody listens
 abbrev rests : Lines → Lines → List all.Printer → Lines
 rests x y ls = elim ls [ [] ↦ x | p ∷ qs ↦ y ]
@@ -98,7 +96,7 @@ due-is before t v first second ack i =
 -- the talker after an attention stands where the wires do, by what each of its parts is
 state-is : (before : List Item) (t v u : Talker) (first : ℕ) (second : Option ℕ) (ack : ℕ)
     → u.time ≡ cond (eqb (elim second [ None ↦ first | Some b ↦ b ]) 63) (ack + delay_at R (drop (2 + commands_take second) (left t.computer)) 0 + delay_at Cr (drop (2 + commands_take second) (left t.computer)) 1) (ack + delay_at R (drop (2 + commands_take second) (left t.computer)) 0)
-    → u.lines ≡ cond (eqb (elim second [ None ↦ first | Some b ↦ b ]) 63) Free (rests (Due (due_at v ack)) Pulled (listening (before ++ Attention first second ∷ []) (printers_of t)))
+    → lines_of u.lines ≡ cond (eqb (elim second [ None ↦ first | Some b ↦ b ]) 63) Free (rests (Due (due_at v ack)) Pulled (listening (before ++ Attention first second ∷ []) (printers_of t)))
     → left u.computer ≡ drop (cond (eqb (elim second [ None ↦ first | Some b ↦ b ]) 63) 2 1) (drop (2 + commands_take second) (left t.computer))
     → printers_of u ≡ map (λ (q : all.Printer). cond (is_listener q.device (before ++ Attention first second ∷ [])) q (taking 1 q)) (map (taking (printer_takes second)) (printers_of t))
     → due_at v ack ≡ ack + delay_at R (drop (2 + commands_take second) (left t.computer)) 0 + all.greatest (map (λ (p : all.Printer). delay_at Dr p.numbers (printer_takes second)) (printers_of t))
@@ -110,7 +108,7 @@ state-is before t v u first second ack kt kl kc kp kd ka =
     let ps : List all.Printer = map (λ (q : all.Printer). cond (is_listener q.device after) q (taking 1 q)) (map (taking (printer_takes second)) (printers_of t)) in
     let rest : List ℕ = drop (2 + commands_take second) (left t.computer) in
     let dr : ℕ = all.greatest (map (λ (p : all.Printer). delay_at Dr p.numbers (printer_takes second)) (printers_of t)) in
-    ap {B = BusState} (λ (x : ℕ). record { before = after; now = x; lines = u.lines; computer = left u.computer; printers = printers_of u }) kt
+    ap {B = BusState} (λ (x : ℕ). record { before = after; now = x; lines = lines_of u.lines; computer = left u.computer; printers = printers_of u }) kt
     ∙ ap {B = BusState} (λ (x : Lines). record { before = after; now = cond unlisten (ack + delay_at R rest 0 + delay_at Cr rest 1) (ack + delay_at R rest 0); lines = x; computer = left u.computer; printers = printers_of u }) (kl ∙ ap (λ d. cond unlisten Free (rests (Due d) Pulled (listening after (printers_of t)))) kd)
     ∙ ap {B = BusState} (λ (x : List ℕ). record { before = after; now = cond unlisten (ack + delay_at R rest 0 + delay_at Cr rest 1) (ack + delay_at R rest 0); lines = cond unlisten Free (rests (Due (ack + delay_at R rest 0 + dr)) Pulled (listening after (printers_of t))); computer = x; printers = printers_of u }) kc
     ∙ ap {B = BusState} (λ (x : List all.Printer). record { before = after; now = cond unlisten (ack + delay_at R rest 0 + delay_at Cr rest 1) (ack + delay_at R rest 0); lines = cond unlisten Free (rests (Due (ack + delay_at R rest 0 + dr)) Pulled (listening after (printers_of t))); computer = drop (cond unlisten 2 1) rest; printers = x }) kp
@@ -119,7 +117,7 @@ state-is before t v u first second ack kt kl kc kp kd ka =
 -- an attention leaves the talker where it leaves the wires
 pub attention-state : (before : List Item) (t v u : Talker) (first : ℕ) (second : Option ℕ) (ack : ℕ) → MaySend first second → (t.four.there || t.five.there) ≡ true → IsCommanded before t v first second
     → ack ≡ last_of t first second
-    → u.time ≡ end_of v ack (first == 63) → u.lines ≡ rest_of v ack (first == 63) → left u.computer ≡ drop (cond (first == 63) 2 1) (left v.computer)
+    → u.time ≡ end_of v ack (first == 63) → lines_of u.lines ≡ rest_of v ack (first == 63) → left u.computer ≡ drop (cond (first == 63) 2 1) (left v.computer)
     → printer_list u.four ≡ after_freed v.four → printer_list u.five ≡ after_freed v.five
     → state_of (before ++ Attention first second ∷ []) u ≡ (done (state_of before t) (Attention first second)).wires
 attention-state before t v u first second ack m h i ka kt kl kc k4 k5 =
@@ -155,9 +153,9 @@ pub attention-edges : (before : List Item) (t v : Talker) (first : ℕ) (second 
     → ack ≡ last_of t first second
     → time ≡ t.time + delay_at Bb (left t.computer) 0
     → f ≡ first_of t first → m ≡ second_frame (first_of t first).ack second (drop 19 (left t.computer)) (printers_of t)
-    → due ≡ due_edges t.lines
-    → call ≡ due ++ call_edge (between t.lines) time ∷ []
-    → answer ≡ call ++ answer_edges (answer_at t.lines time (printers_of t)) (time + delay_at Aw (left t.computer) 1)
+    → due ≡ due_edges (lines_of t.lines)
+    → call ≡ due ++ call_edge (between (lines_of t.lines)) time ∷ []
+    → answer ≡ call ++ answer_edges (answer_at (lines_of t.lines) time (printers_of t)) (time + delay_at Aw (left t.computer) 1)
     → frame ≡ answer ++ frame_edges false f
     → more ≡ frame ++ second_edges m
     → new ≡ more ++ ending_edges (ending_of v ack (first == 63))
@@ -182,8 +180,8 @@ attention-edges before t v first second time ack f m due call answer frame more 
     }) (due-is before t v first second ack i) in
     e6 ∙ ap (λ (x : Ending). more ++ ending_edges x) ending
     ∙ rw (e5, e4, e3, e2, e1, kf, km, ka, kt)
-    (chain (due_edges t.lines) _ _ _ _ _
-    ∙ ap (λ (d : Done). due_edges t.lines ++ edges_done t.lines d.piece) (sym (done-answered before t first second h)))
+    (chain (due_edges (lines_of t.lines)) _ _ _ _ _
+    ∙ ap (λ (d : Done). due_edges (lines_of t.lines) ++ edges_done (lines_of t.lines) d.piece) (sym (done-answered before t first second h)))
 
 -- a printer that stays the same twice stays the same
 pub same-then : {p q r : Printer} → IsSamePrinter p q → IsSamePrinter q r → IsSamePrinter p r

@@ -10,10 +10,8 @@ use Rattle.pr_wire.specs.declared.Edge.{Edge}
 use Rattle.pr_wire.specs.Levels.{edge_at}
 use Rattle.pr_wire.specs.Pieces.{FrameTimes, SecondFrame, Ending, answer_edges, frame_edges, second_edges, ending_edges}
 use Rattle.pr_wire.specs.Pieces.Piece.{Unanswered, Attention as Attended, DataByte}
-use Rattle.pr_bus.specs.declared.lines.Lines.{Lines}
-use Rattle.pr_bus.specs.declared.lines.Lines.TheVariants.{Free, Pulled, Due}
-use Rattle.pr_bus.specs.declared.hearer.Hearer.{Hearer}
-use Rattle.pr_bus.specs.Timed.{Printer, BusState, Done, greatest, bits_of, frame_times, command_hearers, data_hearers, done, answered, unanswered, heard_byte, dropped_byte, answer_at, dropped_piece, due_edges, edges_done, item_edges, timed_edges, wires_after}
+use Rattle.pr_bus.specs.Timed.{Lines, Free, Pulled, Due, Hearer, Printer, BusState, Done, greatest, bits_of, frame_times, command_hearers, data_hearers, done, answered, unanswered, heard_byte, dropped_byte, answer_at, dropped_piece, due_edges, edges_done, item_edges, timed_edges}
+use Rattle.pr_bus.specs.WiresState.{wires_after}
 use Rattle.pr_bus.specs.Laws.{IsItem, AreItems}
 use Rattle.pr_bus.specs.Sums.{edge_share, edge_bound}
 use Rattle.pr_bus.proofs.Intervals.{bits-length}

@@ -7,8 +7,7 @@ use Rattle.pr_wire.specs.declared.delay.Kind.TheVariants.{Ne, Ry, S, V}
 use Rattle.pr_wire.specs.Levels.{edge_at}
 use Rattle.pr_wire.specs.Delays.{delay_at, delay_of, bounds_of}
 use Rattle.pr_wire.specs.Pieces.{bit_edges, last_pull, frame_edges}
-use Rattle.pr_bus.specs.declared.hearer.Hearer.{Hearer}
-use Rattle.pr_bus.specs.Timed.{bit_times, bits_of, frame_times, greatest, least}
+use Rattle.pr_bus.specs.Timed.{Hearer, bit_times, bits_of, frame_times, greatest, least}
 
 -- a number of those that are left
 get-drop : (i : ℕ) (xs : List ℕ) (j : ℕ) → slice_get (drop i xs) j ≡ slice_get xs (i + j)

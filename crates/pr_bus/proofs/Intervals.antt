@@ -9,8 +9,7 @@ use Rattle.pr_wire.specs.declared.delay.Kind.TheVariants.{Bb, Aw, Ne, Ry, S, V, 
 use Rattle.pr_wire.specs.Levels.{byte_of}
 use Rattle.pr_wire.specs.Delays.{bounds_of, delay_of, delay_at}
 use Rattle.pr_wire.specs.Pieces.{IsWithin, AreClocked, IsFrame, levels_of, byte_sent}
-use Rattle.pr_bus.specs.declared.hearer.Hearer.{Hearer}
-use Rattle.pr_bus.specs.Timed.{greatest, least, bits_of, bit_times, frame_times}
+use Rattle.pr_bus.specs.Timed.{Hearer, greatest, least, bits_of, bit_times, frame_times}
 
 -- a delay lies within the bounds of its kind, with a number and without
 by_number : (k : Kind) (o : Option ℕ) → IsWithin (elim o [ None ↦ (bounds_of k).1 | Some r ↦ delay_of k r ]) (bounds_of k).0 (bounds_of k).2

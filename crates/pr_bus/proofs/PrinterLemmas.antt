@@ -3,10 +3,9 @@ use Rattle.std.proofs.Common.{◌≡◌, ℕ, ◌+◌, Bool, true, cond, List, [
 use Rattle.pr_wire.specs.declared.delay.Kind.TheVariants.{H, Ye, Ei, F, Dr}
 use Rattle.pr_wire.specs.Delays.{delay_at}
 use Rattle.pr_wire.specs.Choices.{left}
-use Rattle.pr_bus.specs.declared.hearer.Hearer.{Hearer}
 use Rattle.pr_bus.specs.declared.printer.Printer.{Printer}
 use Rattle.pr_bus.specs.Timed as all
-use Rattle.pr_bus.specs.Timed.{taking, data_hearers, command_hearers}
+use Rattle.pr_bus.specs.Timed.{Hearer, taking, data_hearers, command_hearers}
 use Rattle.pr_bus.specs.Printers.{printer_list, heeding}
 use Rattle.pr_bus.proofs.FrameLemmas.{delay-drop, drop-twice}
 

@@ -4,7 +4,8 @@ use Rattle.pr_serial.specs.declared.Item.{Item}
 use Rattle.pr_serial.specs.declared.Item.TheVariants.{Attention, Sent}
 use Rattle.pr_wire.specs.declared.delay.Kind.TheVariants.{Bb, Aw, R, Cr}
 use Rattle.pr_wire.specs.Delays.{delay_at}
-use Rattle.pr_bus.specs.Timed.{Printer, BusState, Done, listening, frame_times, command_hearers, data_hearers, done, answered, unanswered, heard_byte, dropped_byte, wires_after}
+use Rattle.pr_bus.specs.Timed.{Printer, BusState, Done, listening, frame_times, command_hearers, data_hearers, done, answered, unanswered, heard_byte, dropped_byte}
+use Rattle.pr_bus.specs.WiresState.{wires_after}
 use Rattle.pr_bus.specs.Laws.{IsItem, AreItems}
 use Rattle.pr_bus.specs.Sums.{time_share, time_bound}
 use Rattle.pr_bus.proofs.Intervals.{delay_in, frame-lawful}

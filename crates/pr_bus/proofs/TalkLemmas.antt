@@ -12,14 +12,14 @@ use Rattle.pr_wire.specs.Levels.{edge_at}
 use Rattle.pr_wire.specs.Delays.{delay_at}
 use Rattle.pr_wire.specs.Choices.{left}
 use Rattle.pr_wire.specs.Pieces.{frame_edges}
-use Rattle.pr_bus.specs.declared.lines.Lines.TheVariants.{Pulled, Due}
+use Rattle.pr_bus.specs.declared.lines.Lines.TheVariants as kept
 use Rattle.pr_bus.specs.declared.printer.Printer.{Printer}
 use Rattle.pr_bus.specs.declared.talker.Talker.{Talker}
 use Rattle.pr_bus.specs.Timed as all
-use Rattle.pr_bus.specs.Timed.{BusState, Done, taking, listening, frame_times, data_hearers, command_hearers, done, heard_byte, dropped_byte, item_edges, due_edges, edges_done, dropped_piece}
+use Rattle.pr_bus.specs.Timed.{Pulled, Due, BusState, Done, taking, listening, frame_times, data_hearers, command_hearers, done, heard_byte, dropped_byte, item_edges, due_edges, edges_done, dropped_piece}
 use Rattle.pr_bus.specs.Printers.{printer_list, heeding, after_byte}
 use Rattle.pr_bus.specs.Talk.{state_of, IsTuned, IsSameTalker, IsSameTuned, printers_of, rest_of, due_at}
-use Rattle.pr_bus.specs.Talking.{option_list}
+use Rattle.pr_bus.specs.Talking.{lines_of, option_list}
 
 -- a printer, with its numbers that are left
 abbrev pub lone : Printer → all.Printer
@@ -117,7 +117,7 @@ map-listening f g before p d e l = by p.there
 -- a byte that is heard leaves the talker where it leaves the wires
 pub heard-state : (before : List Item) (t u : Talker) (b : ℕ) (eoi : Bool) (look : ℕ) (rest : List ℕ) → IsTuned before t
     → look ≡ t.time + delay_at Bb (left t.computer) 0 → rest ≡ drop 1 (left t.computer)
-    → u.time ≡ (frame_times look eoi b rest (data_hearers eoi (heeding t.four ++ heeding t.five))).ack → u.lines ≡ Pulled → left u.computer ≡ drop 18 (left t.computer)
+    → u.time ≡ (frame_times look eoi b rest (data_hearers eoi (heeding t.four ++ heeding t.five))).ack → u.lines ≡ kept.Pulled → left u.computer ≡ drop 18 (left t.computer)
     → printer_list u.four ≡ after_byte eoi t.four → printer_list u.five ≡ after_byte eoi t.five
     → state_of (before ++ Sent b eoi ∷ []) u ≡ (heard_byte (state_of before t) b eoi (heeding t.four ++ heeding t.five)).wires
 heard-state before t u b eoi look rest i k r n l c p q =
@@ -130,11 +130,11 @@ heard-state before t u b eoi look rest i k r n l c p q =
 -- the edges that the talker makes of a byte that is heard are those of the item
 pub heard-edges : (before : List Item) (t : Talker) (b : ℕ) (eoi : Bool) (look : ℕ) (rest : List ℕ) (due new : List Edge) → IsTuned before t → ((t.four.there && t.four.listens) || (t.five.there && t.five.listens)) ≡ true
     → look ≡ t.time + delay_at Bb (left t.computer) 0 → rest ≡ drop 1 (left t.computer)
-    → due ≡ due_edges t.lines
+    → due ≡ due_edges (lines_of t.lines)
     → new ≡ due ++ (edge_at look true true false ∷ frame_edges true (frame_times look eoi b rest (data_hearers eoi (heeding t.four ++ heeding t.five))))
     → new ≡ item_edges (state_of before t) (Sent b eoi)
 heard-edges before t b eoi look rest due new i h k r d n =
-    rw (n, d, k, r) (ap (λ (x : Done). due_edges t.lines ++ edges_done t.lines x.piece) (sym (done-heard before t b eoi i h)))
+    rw (n, d, k, r) (ap (λ (x : Done). due_edges (lines_of t.lines) ++ edges_done (lines_of t.lines) x.piece) (sym (done-heard before t b eoi i h)))
 
 -- after a byte the same printers listen
 pub tuned-sent : ListenerAfterOneMore → (before : List Item) (t u : Talker) (b : ℕ) (eoi : Bool) → IsTuned before t → IsSameTalker t u → IsSameTuned t u → IsTuned (before ++ Sent b eoi ∷ []) u
@@ -170,7 +170,7 @@ rest-due t ack due u e h d = rw (e, h, d) refl
 
 -- the edges that the talker makes of a byte that nobody hears are those of the item
 pub dropped-edges : (before : List Item) (t : Talker) (b : ℕ) (eoi : Bool) (look : ℕ) (due : List Edge) → IsTuned before t → ((t.four.there && t.four.listens) || (t.five.there && t.five.listens)) ≡ false
-    → look ≡ t.time + delay_at Bb (left t.computer) 0 → due ≡ due_edges t.lines
-    → due ++ edges_done t.lines (dropped_piece t.lines look) ≡ item_edges (state_of before t) (Sent b eoi)
+    → look ≡ t.time + delay_at Bb (left t.computer) 0 → due ≡ due_edges (lines_of t.lines)
+    → due ++ edges_done (lines_of t.lines) (dropped_piece (lines_of t.lines) look) ≡ item_edges (state_of before t) (Sent b eoi)
 dropped-edges before t b eoi look due i h k d =
-    rw (d, k) (ap (λ (x : Done). due_edges t.lines ++ edges_done t.lines x.piece) (sym (done-dropped before t b eoi i h)))
+    rw (d, k) (ap (λ (x : Done). due_edges (lines_of t.lines) ++ edges_done (lines_of t.lines) x.piece) (sym (done-dropped before t b eoi i h)))

@@ -10,7 +10,7 @@ use Rattle.pr_serial.specs.declared.Item.TheVariants.{Attention, Sent}
 use Rattle.pr_serial.specs.Bus.{DelayNumbers}
 use Rattle.pr_page.specs.Before.{with_before}
 use Rattle.pr_serial.specs.Heard.{is_present, inputs_at, heard_by}
-use Rattle.pr_serial.specs.Telling.{items_before}
+use Rattle.pr_serial.specs.Telling.{items_before, IsReached}
 use Rattle.pr_serial.specs.Laws.{HeardOfOneMore, InputsOfAnItem}
 use Rattle.pr_page.specs.declared.input.Input.{Input}
 use Rattle.pr_wire.specs.declared.Edge.{Edge}
@@ -23,13 +23,13 @@ use Rattle.pr_bus.specs.declared.log.Log.{Log}
 use Rattle.pr_bus.specs.declared.talker.Talker.{Talker}
 use Rattle.pr_bus.specs.declared.wires.Begun.{Begun}
 use Rattle.pr_bus.specs.declared.wires.Wires.TheInside.{Inside}
-use Rattle.pr_bus.specs.Timed.{BusState, wires, done, item_edges}
+use Rattle.pr_bus.specs.Timed.{BusState, wires, done, item_edges, trace_from}
 use Rattle.pr_bus.specs.Talk.{state_of, IsTuned, IsSameTalker}
 use Rattle.pr_bus.specs.Laws.{IsItem, AreItems, TimedTracesSpell, TimedTracesAreBounded, ItemsKeepTheirShares, WiresAreHeard}
 use Rattle.pr_bus.specs.Sums.{time_bound, edge_share}
 use Rattle.pr_bus.specs.EarState.{Hears, IsSameEar, HasRoom, MayHear}
-use Rattle.pr_bus.specs.WiresState.{state_from, trace_from, trace_until}
-use Rattle.pr_bus.specs.Wired.{numbers_of, IsWithin, AreHearing, IsWired}
+use Rattle.pr_bus.specs.WiresState.{state_from, trace_until}
+use Rattle.pr_bus.specs.Wired.{numbers_of, AreHearing, IsWired}
 use Rattle.pr_bus.proofs.EarLemmas.{hears-same}
 use Rattle.pr_bus.proofs.EdgeCount.{edge-bound-small}
 use Rattle.pr_bus.proofs.Shares.{after-more, trace-more}
@@ -65,14 +65,14 @@ numbers-same b t u s =
     ∙ ap (λ v. record { computer = drop b.computer u.computer.numbers; four = drop b.four u.four.choices.numbers; five = drop b.five v }) (sym s.five.numbers)
 
 -- one item more leaves the part before the mark
-until-same : (present : Present) (d : DelayNumbers) (mark : Option ℕ) (items : List Item) (x : Item) → IsWithin mark items → trace_until present d mark (items ++ x ∷ []) ≡ trace_until present d mark items
+until-same : (present : Present) (d : DelayNumbers) (mark : Option ℕ) (items : List Item) (x : Item) → IsReached mark items → trace_until present d mark (items ++ x ∷ []) ≡ trace_until present d mark items
 until-same present d None items x w = refl
 until-same present d (Some n) items x w = rw take-append-le refl
 
 -- the mark is still not past the items
-within-more : (mark : Option ℕ) (items : List Item) (x : Item) → IsWithin mark items → IsWithin mark (items ++ x ∷ [])
-within-more None items x w = tt
-within-more (Some n) items x w = omega (arith, w, length-append items (x ∷ []))
+reached-more : (mark : Option ℕ) (items : List Item) (x : Item) → IsReached mark items → IsReached mark (items ++ x ∷ [])
+reached-more None items x w = tt
+reached-more (Some n) items x w = omega (arith, w, length-append items (x ∷ []))
 
 -- the laws of traces on which the ears rest
 pub record TraceLaws : Type 0 where
@@ -88,7 +88,7 @@ abbrev pub Listens : ℕ → Ear → List Edge → Ear → Type 0
 Listens device old es new = (there : Bool) (forgotten trace : List Edge) → IsAllowed (trace ++ es) → Hears device there forgotten trace old → Hears device there forgotten (trace ++ es) new
 
 -- a printer after one item more
-ear-more : TraceLaws → (present : Present) (d : DelayNumbers) (mark : Option ℕ) (items : List Item) (x : Item) (es : List Edge) (device : ℕ) (there : Bool) (old grown new : Ear) → IsItem x → AreItems items → IsWithin mark items
+ear-more : TraceLaws → (present : Present) (d : DelayNumbers) (mark : Option ℕ) (items : List Item) (x : Item) (es : List Edge) (device : ℕ) (there : Bool) (old grown new : Ear) → IsItem x → AreItems items → IsReached mark items
     → es ≡ item_edges (state_from present d items) x → IsSameEar old grown → Listens device grown es new
     → Hears device there (trace_until present d mark items) (trace_from present d items) old
     → Hears device there (trace_until present d mark (items ++ x ∷ [])) (trace_from present d (items ++ x ∷ [])) new
@@ -102,14 +102,14 @@ ear-more laws present d mark items x es device there old grown new i a w e s f h
 -- the wires after one item more
 pub record IsMore (present : Present) (d : DelayNumbers) (mark : Option ℕ) (items : List Item) (x : Item) (log : Log) (u : Talker) : Type 0 where
   pub items_are : AreItems (items ++ x ∷ [])
-  pub within : IsWithin mark (items ++ x ∷ [])
+  pub within : IsReached mark (items ++ x ∷ [])
   pub trace_is : trace_until present d mark (items ++ x ∷ []) ++ log.trace.items ≡ trace_from present d (items ++ x ∷ [])
   pub tuned : IsTuned (items ++ x ∷ []) u
   pub state : state_of (items ++ x ∷ []) u ≡ state_from present d (items ++ x ∷ [])
   pub ears : AreHearing present d mark (items ++ x ∷ []) log
 
 -- one item more, by the numbers that the talker showed before it
-one-more : TraceLaws → (present : Present) (d : DelayNumbers) (mark : Option ℕ) (items : List Item) (x : Item) (t u : Talker) (old grown log : Log) (es : List Edge) → IsItem x → AreItems items → IsWithin mark items
+one-more : TraceLaws → (present : Present) (d : DelayNumbers) (mark : Option ℕ) (items : List Item) (x : Item) (t u : Talker) (old grown log : Log) (es : List Edge) → IsItem x → AreItems items → IsReached mark items
     → trace_until present d mark items ++ old.trace.items ≡ trace_from present d items → AreHearing present d mark items old → state_of items t ≡ state_from present d items
     → log.trace.items ≡ old.trace.items ++ es → IsSameEar old.four grown.four → IsSameEar old.five grown.five → Listens 4 grown.four es log.four → Listens 5 grown.five es log.five
     → es ≡ item_edges (state_of items t) x → state_of (items ++ x ∷ []) u ≡ (done (state_of items t) x).wires → IsTuned (items ++ x ∷ []) u
@@ -118,7 +118,7 @@ one-more laws present d mark items x t u old grown log es h a w o ears s n s4 s5
     let edges : es ≡ item_edges (state_from present d items) x = e ∙ ap (λ (v : BusState). item_edges v x) s in
     record {
       items_are = are-more items x a h;
-      within = within-more mark items x w;
+      within = reached-more mark items x w;
       trace_is =
           ap (λ l. l ++ log.trace.items) (until-same present d mark items x w)
           ∙ ap (λ l. trace_until present d mark items ++ l) n
@@ -156,7 +156,7 @@ wired-after laws w grown log u x es h f i same items trace s4 s5 l4 l5 e k n =
     let d = numbers_of w.begun u in
     record {
       items = subst AreItems (sym items) more.items_are;
-      within = subst (λ l. IsWithin w.mark l) (sym items) more.within;
+      within = subst (λ l. IsReached w.mark l) (sym items) more.within;
       trace = subst (λ l. trace_until w.present d w.mark l ++ log.trace.items ≡ trace_from w.present d l) (sym items) more.trace_is;
       time = subst (λ l. u.time ≡ (state_from w.present d l).now) (sym items) (ap (λ (v : BusState). v.now) more.state);
       four = same.four.there ∙ h.four;
@@ -334,7 +334,7 @@ wired-failed w log u h same i t s4 s5 =
     let moved : numbers_of w.begun w.talker ≡ numbers_of w.begun u = numbers-same w.begun w.talker u same in
     record {
       items = subst AreItems (sym i) h.items;
-      within = subst (λ l. IsWithin w.mark l) (sym i) h.within;
+      within = subst (λ l. IsReached w.mark l) (sym i) h.within;
       trace = subst (λ l. trace_until w.present (numbers_of w.begun u) w.mark l ++ log.trace.items ≡ trace_from w.present (numbers_of w.begun u) l) (sym i)
           (subst (λ (v : DelayNumbers). trace_until w.present v w.mark items ++ log.trace.items ≡ trace_from w.present v items) moved (ap (λ l. trace_until w.present d w.mark items ++ l) t ∙ h.trace));
       time = subst (λ l. w.time ≡ (state_from w.present (numbers_of w.begun u) l).now) (sym i) (subst (λ (v : DelayNumbers). w.time ≡ (state_from w.present v items).now) moved h.time);

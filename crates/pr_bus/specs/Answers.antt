@@ -11,7 +11,8 @@ use Rattle.pr_wire.specs.declared.Frame.{Frame}
 -- the frames of an item that is answered
 abbrev pub item_frames : Item → List Frame
 item_frames (Attention b None) = record { attention = true; byte = b; eoi = false } ∷ []
-item_frames (Attention b (Some c)) = record { attention = true; byte = b; eoi = false } ∷ record { attention = true; byte = c; eoi = false } ∷ []
+item_frames (Attention b (Some c)) =
+    record { attention = true; byte = b; eoi = false } ∷ record { attention = true; byte = c; eoi = false } ∷ []
 item_frames (Sent b eoi) = record { attention = false; byte = b; eoi = eoi } ∷ []
 
 -- the frames of the items that are answered, after those before them

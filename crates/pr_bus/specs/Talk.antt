@@ -6,19 +6,18 @@ use Rattle.pr_serial.specs.declared.Item.{Item}
 use Rattle.pr_serial.specs.Answers.{is_listener}
 use Rattle.pr_wire.specs.Choices.{left}
 use Rattle.pr_wire.specs.Pieces.{FrameTimes, SecondFrame, Ending}
-use Rattle.pr_bus.specs.declared.lines.Lines.{Lines}
-use Rattle.pr_bus.specs.declared.lines.Lines.TheVariants.{Free, Pulled, Due}
 use Rattle.pr_bus.specs.declared.talker.Talker.{Talker}
 use Rattle.pr_bus.specs.declared.printer.Printer as one
-use Rattle.pr_bus.specs.Timed.{taking, BusState, Printer, greatest, frame_times, data_hearers, command_hearers}
+use Rattle.pr_bus.specs.Timed.{Lines, Free, Pulled, Due, taking, BusState, Printer, greatest, frame_times, data_hearers, command_hearers}
 use Rattle.pr_bus.specs.Printers.{printer_list, heeding, IsSamePrinter}
+use Rattle.pr_bus.specs.Talking.{lines_of}
 
 -- the wires, after these items
 abbrev pub state_of : List Item → Talker → BusState
 state_of before t = record {
   before = before;
   now = t.time;
-  lines = t.lines;
+  lines = lines_of t.lines;
   computer = left t.computer;
   printers = printer_list t.four ++ printer_list t.five;
 }

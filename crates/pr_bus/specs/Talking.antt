@@ -1,10 +1,15 @@
--- Machine steps: what the talker keeps of the printers. No reader needs to believe it.
+-- Machine steps: what the talker keeps of the lines and of the printers. No reader needs to believe it.
 use Rattle.std.specs.Prelude.{◌≡◌, ℕ, ◌+◌, List, [], ◌∷◌, map, Option, Some, None}
-use Rattle.pr_bus.specs.declared.lines.Lines.{Lines}
-use Rattle.pr_bus.specs.declared.lines.Lines.TheVariants.{Pulled}
-use Rattle.pr_bus.specs.declared.hearer.Hearer.{Hearer}
+use Rattle.pr_bus.specs.declared.lines.Lines as talker
+use Rattle.pr_bus.specs.declared.lines.Lines.TheVariants as kept
 use Rattle.pr_bus.specs.declared.hearer.Together.{Together}
-use Rattle.pr_bus.specs.Timed.{greatest, least}
+use Rattle.pr_bus.specs.Timed.{Lines, Free, Pulled, Due, Hearer, greatest, least}
+
+-- what stands on the lines, by what the talker keeps of them
+abbrev pub lines_of : talker.Lines → Lines
+lines_of kept.Free = Free
+lines_of kept.Pulled = Pulled
+lines_of (kept.Due d) = Due d
 
 -- none or one
 abbrev pub option_list : {A : Type 0} → Option A → List A

@@ -4,9 +4,7 @@ use Rattle.pr_serial.specs.declared.Present.{Present}
 use Rattle.pr_serial.specs.declared.Item.{Item}
 use Rattle.pr_serial.specs.declared.Item.TheVariants.{Attention, Sent}
 use Rattle.pr_serial.specs.Answers.{is_listener}
-use Rattle.pr_bus.specs.declared.lines.Lines.{Lines}
-use Rattle.pr_bus.specs.declared.lines.Lines.TheVariants.{Free, Pulled, Due}
-use Rattle.pr_bus.specs.declared.hearer.Hearer.{Hearer}
+use Rattle.pr_serial.specs.Bus.{DelayNumbers}
 use Rattle.pr_wire.specs.declared.Edge.{Edge}
 use Rattle.pr_wire.specs.declared.delay.Kind.TheVariants.{Bb, Aw, Ne, Ry, S, V, R, Cr, At, H, Ye, Ei, F, Dr}
 use Rattle.pr_wire.specs.Levels.{edge_at, start}
@@ -19,6 +17,19 @@ use Rattle.pr_wire.specs.Pieces.Piece.{Unanswered, Attention as Attended, DataBy
 pub record Printer : Type 0 where
   pub device : ℕ
   pub numbers : List ℕ
+
+-- what stands on CLOCK and DATA between two items: both are released; both are pulled; CLOCK is pulled, and DATA will be released at a moment
+pub data Lines : Type 0 where
+  Free : Lines
+  Pulled : Lines
+  Due : ℕ → Lines
+
+-- how long a hearer of a frame waits: before it releases DATA, before its EOI answer, for how long that lasts, before it acknowledges
+pub record Hearer : Type 0 where
+  pub hold : ℕ
+  pub wait : ℕ
+  pub answer : ℕ
+  pub accept : ℕ
 
 -- the wires between two items: the items before, the end of the last one, the lines, and who takes numbers
 pub record BusState : Type 0 where
@@ -81,7 +92,12 @@ listening before (p ∷ ps) = cond (is_listener p.device before) (p ∷ []) [] +
 -- the printers that listen hear a data byte
 abbrev pub data_hearers : Bool → List Printer → List Hearer
 data_hearers eoi printers =
-    map (λ (p : Printer). record { hold = delay_at H p.numbers 0; wait = delay_at Ye p.numbers 1; answer = cond eoi (delay_at Ei p.numbers 2) 0; accept = delay_at F p.numbers (cond eoi 3 2) }) printers
+    map (λ (p : Printer). record {
+      hold = delay_at H p.numbers 0;
+      wait = delay_at Ye p.numbers 1;
+      answer = cond eoi (delay_at Ei p.numbers 2) 0;
+      accept = delay_at F p.numbers (cond eoi 3 2);
+    }) printers
 
 -- a printer has taken some of its numbers
 abbrev pub taking : ℕ → Printer → Printer
@@ -133,11 +149,6 @@ commands_take (Some byte) = 35
 abbrev pub printer_takes : Option ℕ → ℕ
 printer_takes None = 3
 printer_takes (Some byte) = 5
-
--- the lines after an attention, by whether a present printer listens then
-abbrev pub lines_after : Bool → ℕ → Lines
-lines_after true due = Pulled
-lines_after false due = Due due
 
 -- an attention that is answered
 abbrev pub answered : BusState → ℕ → Option ℕ → Done
@@ -199,7 +210,8 @@ dropped_byte w x =
 -- an item
 abbrev pub done : BusState → Item → Done
 done w (Attention byte second) = elim w.printers [ [] ↦ unanswered w (Attention byte second) | p ∷ ps ↦ answered w byte second ]
-done w (Sent byte eoi) = elim (listening w.before w.printers) [ [] ↦ dropped_byte w (Sent byte eoi) | p ∷ ps ↦ heard_byte w byte eoi (p ∷ ps) ]
+done w (Sent byte eoi) =
+    elim (listening w.before w.printers) [ [] ↦ dropped_byte w (Sent byte eoi) | p ∷ ps ↦ heard_byte w byte eoi (p ∷ ps) ]
 
 -- DATA's release that is still due
 abbrev pub due_edges : Lines → List Edge
@@ -214,11 +226,6 @@ edges_done l (Some p) = piece_edges (between l) p
 -- the edges of an item: what was due before it, and its own
 abbrev pub item_edges : BusState → Item → List Edge
 item_edges w x = due_edges w.lines ++ edges_done w.lines (done w x).piece
-
--- the wires after items
-abbrev pub wires_after : BusState → List Item → BusState
-wires_after w [] = w
-wires_after w (x ∷ xs) = wires_after (done w x).wires xs
 
 -- the edges of items
 abbrev pub timed_edges : BusState → List Item → List Edge
@@ -238,3 +245,7 @@ wires present computer four five =
 -- the trace of items
 abbrev pub timed_trace : Present → List ℕ → List ℕ → List ℕ → List Item → List Edge
 timed_trace present computer four five items = start ∷ timed_edges (wires present computer four five) items
+
+-- the same, by the delay numbers of a bus
+abbrev pub trace_from : Present → DelayNumbers → List Item → List Edge
+trace_from present delays items = timed_trace present delays.computer delays.four delays.five items

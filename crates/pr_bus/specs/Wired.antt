@@ -1,14 +1,16 @@
 -- Linking words, for proofs: what the bus on wires keeps. No reader needs to believe them.
-use Rattle.std.specs.Prelude.{◌≡◌, ℕ, ◌≤◌, ◌++◌, false, Option, Some, None, List, drop, length}
+use Rattle.std.specs.Prelude.{◌≡◌, ℕ, ◌++◌, false, Option, List, drop}
 use Rattle.pr_serial.specs.declared.Item.{Item}
 use Rattle.pr_serial.specs.Bus.{DelayNumbers}
 use Rattle.pr_serial.specs.declared.Present.{Present}
+use Rattle.pr_serial.specs.Telling.{IsReached}
 use Rattle.pr_bus.specs.declared.log.Log.{Log}
 use Rattle.pr_bus.specs.declared.talker.Talker.{Talker}
 use Rattle.pr_bus.specs.EarState.{Hears}
 use Rattle.pr_bus.specs.declared.wires.Begun.{Begun}
 use Rattle.pr_bus.specs.declared.wires.Wires.TheInside.{Inside}
-use Rattle.pr_bus.specs.WiresState.{WiresState, state_from, trace_from, trace_until}
+use Rattle.pr_bus.specs.WiresState.{WiresState, state_from, trace_until}
+use Rattle.pr_bus.specs.Timed.{trace_from}
 use Rattle.pr_bus.specs.Talk.{state_of, IsTuned}
 use Rattle.pr_bus.specs.Laws.{AreItems}
 
@@ -34,11 +36,6 @@ pub record IsAt (w : WiresState) (t : Talker) : Type 0 where
   pub tuned : IsTuned w.items t
   pub state : state_of w.items t ≡ state_from w.present w.delays w.items
 
--- the mark isn't past the items
-abbrev pub IsWithin : Option ℕ → List Item → Type 0
-IsWithin None items = Unit {0}
-IsWithin (Some n) items = n ≤ length items
-
 -- both printers have heard the timed trace of these items, and keep what they were given since the mark
 pub record AreHearing (present : Present) (delays : DelayNumbers) (mark : Option ℕ) (items : List Item) (log : Log) : Type 0 where
   pub four : Hears 4 present.four (trace_until present delays mark items) (trace_from present delays items) log.four
@@ -47,7 +44,7 @@ pub record AreHearing (present : Present) (delays : DelayNumbers) (mark : Option
 -- the trace and the time are those of what was sent, and the talker goes on from there unless the bus has failed
 pub record IsWired (w : Inside) : Type 0 where
   pub items : AreItems w.log.items.items
-  pub within : IsWithin w.mark w.log.items.items
+  pub within : IsReached w.mark w.log.items.items
   pub trace : trace_until w.present (numbers_of w.begun w.talker) w.mark w.log.items.items ++ w.log.trace.items
       ≡ trace_from w.present (numbers_of w.begun w.talker) w.log.items.items
   pub time : w.time ≡ (state_from w.present (numbers_of w.begun w.talker) w.log.items.items).now

@@ -1,10 +1,10 @@
--- Trusted: what a contract sees of the bus on wires, and which part of the trace it shows.
-use Rattle.std.specs.Prelude.{ℕ, Bool, Option, Some, None, List, [], take}
+-- Words of calls: what a contract sees of the bus on wires, and which part of the trace it shows. Who uses `Wires` by itself believes them; no claim about a run rests on them.
+use Rattle.std.specs.Prelude.{ℕ, Bool, Option, Some, None, List, [], ◌∷◌, take}
 use Rattle.pr_serial.specs.declared.Present.{Present}
 use Rattle.pr_serial.specs.declared.Item.{Item}
 use Rattle.pr_serial.specs.Bus.{DelayNumbers}
 use Rattle.pr_wire.specs.declared.Edge.{Edge}
-use Rattle.pr_bus.specs.Timed.{BusState, timed_trace, wires, wires_after}
+use Rattle.pr_bus.specs.Timed.{BusState, wires, done, trace_from}
 
 -- the printers that are there, the delay numbers, what was sent, the number of items at the last `forget`, and whether it has failed
 pub record WiresState : Type 0 where
@@ -15,15 +15,16 @@ pub record WiresState : Type 0 where
   pub failed : Bool
 
 -- the wires after items
+abbrev pub wires_after : BusState → List Item → BusState
+wires_after w [] = w
+wires_after w (x ∷ xs) = wires_after (done w x).wires xs
+
+-- the wires after items, from the first on
 abbrev pub state_from : Present → DelayNumbers → List Item → BusState
 state_from present delays items = wires_after (wires present delays.computer delays.four delays.five) items
 
 abbrev pub state_after : WiresState → BusState
 state_after w = state_from w.present w.delays w.items
-
--- the timed trace of items
-abbrev pub trace_from : Present → DelayNumbers → List Item → List Edge
-trace_from present delays items = timed_trace present delays.computer delays.four delays.five items
 
 -- the timed trace of all that was sent, forgotten edges included
 abbrev pub trace_of : WiresState → List Edge

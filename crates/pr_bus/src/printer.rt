@@ -1,15 +1,17 @@
 //! A printer of the bus.
 
-ghost use Rattle.std.specs.Prelude.{◌≡◌, ◌+◌, ◌<◌, ◌||◌, ◌&&◌, ◌==◌, ◌++◌, ◌∷◌, [], Bool, true, false, cond, map, if◌then◌else◌};
+ghost use Rattle.std.specs.Prelude.{◌≡◌, ◌<◌, ◌&&◌, ◌++◌, ◌∷◌, [], Bool, true, false, cond, map};
 ghost use Rattle.pr_wire.specs.Choices.{left};
 ghost use Rattle.pr_wire.specs.Delays.{delay_at};
 ghost use Rattle.pr_wire.specs.declared.delay.Kind.TheVariants.{At, Dr};
 ghost use Rattle.pr_bus.specs.Timed as all;
 ghost use Rattle.pr_bus.specs.Timed.{taking, command_hearers, data_hearers};
 ghost use Rattle.pr_bus.specs.Talking.{option_list};
+ghost use Rattle.pr_bus.specs.Talk.{tuned_to};
 ghost use Rattle.pr_bus.specs.Printers.{printer_list, heeding, after_byte, after_freed, IsSamePrinter};
 
 use crate::hearer::Hearer;
+use pr_serial::command::{LISTEN, UNLISTEN};
 use pr_wire::{Choices, Kind};
 
 /// A printer of the bus, present or not.
@@ -109,12 +111,11 @@ impl Printer {
     /// A LISTEN to it makes it listen, an UNLISTEN ends that.
     pub fn tune(&mut self, first: u8)
         requires { self.old.device < 31 }
-        ensures { self.new ≡ record self.old
-            { listens = if first == 63 then false else (self.old.listens || first == 32 + self.old.device) } }
+        ensures { self.new ≡ tuned_to first self.old }
     {
-        if first == 63 {
+        if first == UNLISTEN {
             self.listens = false;
-        } else if first == 32 + self.device {
+        } else if first == LISTEN + self.device {
             self.listens = true;
         }
     }

@@ -9,6 +9,7 @@ ghost use Rattle.pr_wire.specs.Choices.{left};
 ghost use Rattle.pr_wire.specs.Levels.{edge_at};
 ghost use Rattle.pr_wire.specs.Pieces.{frame_edges, answer_edges, second_edges, ending_edges};
 ghost use Rattle.pr_bus.specs.Talk.{state_of, IsTuned, IsSameTalker, IsSameTuned, heard_frame, command_frame, printers_of, ending_of, end_of, rest_of, second_of, final_ack_of, second_takes, second_taking, tuned_to};
+ghost use Rattle.pr_bus.specs.Talking.{lines_of};
 ghost use Rattle.pr_serial.specs.Sendable.{MaySend};
 
 use crate::frame::push_frame;
@@ -16,6 +17,7 @@ use crate::hearer::joined;
 use crate::lines::{Lines, greatest, least, push, push_answer, push_call, push_due};
 use crate::printer::Printer;
 use pr_serial::NoMemory;
+use pr_serial::command::UNLISTEN;
 use pr_serial::laws::items_make_listeners;
 use pr_wire::{Choices, Edge, Kind};
 
@@ -100,7 +102,7 @@ impl Talker {
         let ack = self.command(look, first)?;
         let ack = self.second(ack, second)?;
         self.tune(first);
-        self.release(ack, first == 63)?;
+        self.release(ack, first == UNLISTEN)?;
         Ok(())
     }
 
@@ -139,7 +141,7 @@ impl Talker {
     /// Makes the edge of a byte that nobody hears.
     fn drop_byte(&mut self, look: u64) -> Result<(), NoMemory>
         ensures edges { OnOk result (self.new.edges.items
-            ≡ self.old.edges.items ++ edges_done self.old.lines (dropped_piece self.old.lines look)) }
+            ≡ self.old.edges.items ++ edges_done (lines_of self.old.lines) (dropped_piece (lines_of self.old.lines) look)) }
         ensures state { OnOk result (self.new ≡ record self.old { time = look; lines = Lines.Free; edges = self.new.edges }) }
         ensures err { OnErr result (self.new ≡ record self.old { edges = self.new.edges }) }
     {
@@ -185,7 +187,7 @@ impl Talker {
     fn answer(&mut self, time: u64, look: u64) -> Result<(), NoMemory>
         requires { time < 2 ^ 62 }
         ensures edges { OnOk result (self.new.edges.items
-            ≡ self.old.edges.items ++ answer_edges (answer_at self.old.lines time (printers_of self.old)) look) }
+            ≡ self.old.edges.items ++ answer_edges (answer_at (lines_of self.old.lines) time (printers_of self.old)) look) }
         ensures four { OnOk result (printer_list self.new.four ≡ map (taking 1) (printer_list self.old.four)) }
         ensures five { OnOk result (printer_list self.new.five ≡ map (taking 1) (printer_list self.old.five)) }
         ensures lines { self.new.lines ≡ self.old.lines }
@@ -230,7 +232,7 @@ impl Talker {
         requires ended { unlisten ≡ true → (self.old.four.listens ≡ false) × (self.old.five.listens ≡ false) }
         ensures edges { OnOk result (self.new.edges.items ≡ self.old.edges.items ++ ending_edges (ending_of self.old ack unlisten)) }
         ensures now { OnOk result (self.new.time ≡ end_of self.old ack unlisten) }
-        ensures lines { OnOk result (self.new.lines ≡ rest_of self.old ack unlisten) }
+        ensures lines { OnOk result (lines_of self.new.lines ≡ rest_of self.old ack unlisten) }
         ensures computer { OnOk result (left self.new.computer ≡ drop (cond unlisten 2 1) (left self.old.computer)) }
         ensures four { OnOk result (printer_list self.new.four ≡ after_freed self.old.four) }
         ensures five { OnOk result (printer_list self.new.five ≡ after_freed self.old.five) }

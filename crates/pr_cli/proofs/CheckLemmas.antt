@@ -16,7 +16,7 @@ use Rattle.pr_wire.specs.declared.checker.CheckFault.TheVariants.{BadLine, Unlaw
 use Rattle.pr_wire.specs.Checking.{AnswersText}
 use Rattle.pr_cli.specs.Check.{IsLawfulText}
 use Rattle.pr_cli.specs.Faults.{fault_of_check}
-use Rattle.pr_cli.specs.Told.{HasTold, line_if, GivesLines}
+use Rattle.pr_cli.specs.FrameLinesTold.{HasTold, line_if, GivesLines}
 
 -- one frame more is one line more
 pub one_line_more : (frames : List Frame) (f : Option Frame) (lines : List ℕ) → lines ≡ flat_map frame_line frames → lines ++ line_if f ≡ flat_map frame_line (with_frame frames f)

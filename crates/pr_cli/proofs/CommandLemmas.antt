@@ -7,7 +7,7 @@ use Rattle.clap.specs.Simple.{Shape, argument_words, entered, names_of, rows_at,
 use Rattle.clap.specs.Walk.{answers_to, stop_after}
 use Rattle.clap.proofs.OnLiterals.{clap_on_literals}
 use Rattle.pr_cli.specs.CommandLine.{print1525}
-use Rattle.pr_cli.specs.Jobs.{IsOurs}
+use Rattle.pr_cli.specs.Subcommands.{IsOurs}
 
 -- each of these subcommands is the program's
 AllOurs : List Shape → Type 0

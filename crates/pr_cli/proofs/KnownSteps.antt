@@ -4,7 +4,7 @@ use Rattle.std.proofs.lemmas.Grind.{common_steps}
 use Rattle.std.proofs.lemmas.List.{take-append-drop, take_all}
 use Rattle.std.proofs.KnownBytes.{Appends-trans}
 use Rattle.std.specs.Io.KnownBytes.{Appends, Consumes, IsAtEnd}
-use Rattle.pr_cli.specs.Whole.{AppendsFront}
+use Rattle.pr_cli.specs.PartlyWritten.{AppendsFront}
 
 -- a part written, and then the rest
 pub appends_rest : (a b c : Option (List ℕ)) (n : ℕ) (text : List ℕ) → Appends a b (take n text) → Appends b c (drop n text) → Appends a c text

@@ -1,7 +1,5 @@
 -- Trusted: the program's command line, as a simple command of clap.
-use Rattle.std.specs.Prelude.{◌≡◌, [], ◌∷◌, Some, codes, true, false}
-use Rattle.clap.specs.declared.Command.{Command}
-use Rattle.clap.specs.declared.Command.TheViews.{out-Command}
+use Rattle.std.specs.Prelude.{[], ◌∷◌, Some, codes, true}
 use Rattle.clap.specs.Words.{App, Rule, Text, new_app, new_rule, with_rule, with_subcommand}
 use Rattle.clap.specs.Simple.{on_top}
 
@@ -50,7 +48,3 @@ abbrev pub print1525 : App
 print1525 =
     with_subcommand (with_subcommand (with_subcommand (with_subcommand program_app pages_app.top) (run_app (codes "bus")).top)
     (new_app (codes "check")).top) raw_app.top
-
--- no option of the command holds for its subcommands too
-abbrev pub IsLocal : Command → Type 0
-IsLocal command = (out-Command command).has_globals ≡ false

@@ -1,4 +1,4 @@
--- Trusted: what a fault of a part is to the program. Want of memory is always the program's own.
+-- Words of calls: what a fault of a part is to the program; want of memory is its own. Who uses these `From` by themselves believes them; no claim rests on them.
 use Rattle.pr_wire.specs.declared.checker.CheckFault.{CheckFault}
 use Rattle.pr_wire.specs.declared.checker.CheckFault.TheVariants.{BadLine, Unlawful}
 use Rattle.pr_wire.specs.declared.text.TraceFault.TheVariants as trace
@@ -6,10 +6,10 @@ use Rattle.pr_basic.specs.declared.fault.ScriptFault.{ScriptFault}
 use Rattle.pr_basic.specs.declared.fault.ScriptFault.TheVariants as script
 use Rattle.pr_cli.specs.declared.delays.DelayFault.{DelayFault}
 use Rattle.pr_cli.specs.declared.delays.DelayFault.TheVariants as delay
-use Rattle.pr_cli.specs.declared.job.JobFault.{JobFault}
-use Rattle.pr_cli.specs.declared.job.JobFault.TheVariants as job
-use Rattle.pr_cli.specs.declared.whole.ReadFault.{ReadFault}
-use Rattle.pr_cli.specs.declared.whole.ReadFault.TheVariants as read
+use Rattle.pr_cli.specs.declared.command_line.JobFault.{JobFault}
+use Rattle.pr_cli.specs.declared.command_line.JobFault.TheVariants as job
+use Rattle.pr_cli.specs.declared.read_write.ReadFault.{ReadFault}
+use Rattle.pr_cli.specs.declared.read_write.ReadFault.TheVariants as read
 use Rattle.pr_cli.specs.declared.fault.CliFault.{CliFault}
 use Rattle.pr_cli.specs.declared.fault.CliFault.TheVariants.{Script, Trace, Wave, TooLarge, NoMemory, ReadFailed}
 

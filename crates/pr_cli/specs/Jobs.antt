@@ -1,5 +1,5 @@
 -- Trusted: what a command line asks for, by clap's meaning of the command.
-use Rattle.std.specs.Prelude.{◌≡◌, ◌⊎◌, Bool, List, [], Option, Some, None, codes, unwrap_or}
+use Rattle.std.specs.Prelude.{◌≡◌, Bool, List, [], Option, Some, None, codes, unwrap_or}
 use Rattle.clap.specs.Words.{Row, Text, first_of}
 use Rattle.pr_serial.specs.declared.Present.{Present}
 use Rattle.pr_serial.specs.Bus.{DelayNumbers}
@@ -9,10 +9,10 @@ use Rattle.pr_basic.specs.declared.session.StatusMode.{StatusMode}
 use Rattle.pr_cli.specs.DelayLists.{delays_of}
 use Rattle.pr_cli.specs.Options.{format_of, mode_of, present_of, set_of}
 use Rattle.pr_cli.specs.declared.format.Format.{Format}
-use Rattle.pr_cli.specs.declared.job.Job.{Job}
-use Rattle.pr_cli.specs.declared.job.Job.TheVariants.{Pages, Bus, Check, Raw}
-use Rattle.pr_cli.specs.declared.job.JobFault.{JobFault}
-use Rattle.pr_cli.specs.declared.job.JobFault.TheVariants as fault
+use Rattle.pr_cli.specs.declared.command_line.Job.{Job}
+use Rattle.pr_cli.specs.declared.command_line.Job.TheVariants.{Pages, Bus, Check, Raw}
+use Rattle.pr_cli.specs.declared.command_line.JobFault.{JobFault}
+use Rattle.pr_cli.specs.declared.command_line.JobFault.TheVariants as fault
 
 -- the value of --present, `both` where it is not given
 abbrev pub present_text : List Row → Text
@@ -118,10 +118,6 @@ pub record HasBadAs (met : Met) : Type 0 where
   pub is_run : IsGoodRun rows
   pub is_set : set_of (set_text rows) ≡ Some lower
   pub is_bad : format_of (as_text rows) ≡ None
-
--- one of the subcommands
-abbrev pub IsOurs : Text → Type 0
-IsOurs name = (name ≡ codes "pages") ⊎ ((name ≡ codes "bus") ⊎ ((name ≡ codes "check") ⊎ (name ≡ codes "raw")))
 
 -- the command line is refused as clap refuses it
 abbrev pub IsLine : JobFault → Type 0

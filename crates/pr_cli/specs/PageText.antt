@@ -45,8 +45,10 @@ unfoldable pub stop_text : Option (ℕ × Stop) → List ℕ
 stop_text None = []
 stop_text (Some stop) = codes "stop " ++ decimal (stop_number stop.1) ++ codes " at " ++ decimal stop.0 ++ codes "\n"
 
+-- what stands behind the printers
+unfoldable pub end_text : List ℕ → List ℕ → Option (ℕ × Stop) → List ℕ
+end_text statuses screen stop = numbers_text (codes "status") statuses ++ numbers_text (codes "screen") screen ++ stop_text stop
+
 -- the page text of an outcome
 unfoldable pub page_text : Outcome → List ℕ
-page_text outcome =
-    paper_text 4 outcome.paper4 ++ paper_text 5 outcome.paper5
-    ++ numbers_text (codes "status") outcome.statuses ++ numbers_text (codes "screen") outcome.screen ++ stop_text outcome.stop
+page_text outcome = paper_text 4 outcome.paper4 ++ paper_text 5 outcome.paper5 ++ end_text outcome.statuses outcome.screen outcome.stop

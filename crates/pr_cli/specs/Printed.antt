@@ -1,8 +1,12 @@
 -- Linking words, for proofs: what a part of `raw` answers for the bytes of a printer. No reader needs to believe them.
-use Rattle.std.specs.Prelude.{ℕ, Bool, ◌<◌, ◌≤◌, List, length, Option, Result, Ok, Err}
+use Rattle.std.specs.Prelude.{ℕ, Bool, ◌<◌, ◌≤◌, ◌++◌, List, length, map, Option, Result, Ok, Err}
 use Rattle.std.specs.Io.KnownBytes.{IsAtEnd}
 use Rattle.pr_page.specs.Page.{IsPage}
+use Rattle.pr_page.specs.Taken.{HasTaken}
+use Rattle.pr_page.specs.declared.input.Input.{Input}
+use Rattle.pr_page.specs.declared.input.Input.TheVariants.{Byte}
 use Rattle.pr_page.specs.declared.paper.Paper.{Paper}
+use Rattle.pr_page.specs.declared.state.State.{State}
 use Rattle.pr_cli.specs.Raw.{raw_inputs}
 use Rattle.pr_cli.specs.declared.fault.CliFault.{CliFault}
 use Rattle.pr_cli.specs.declared.fault.CliFault.TheVariants.{Script, Trace, Wave, TooLarge, NoMemory, ReadFailed, WriteFailed}
@@ -29,3 +33,7 @@ IsReadingFault TooLarge = Unit {0}
 IsReadingFault NoMemory = Unit {0}
 IsReadingFault ReadFailed = Unit {0}
 IsReadingFault _ = ⊥
+
+-- whatever a printer has taken before, after it has taken that and these bytes
+abbrev pub PrintsOn : List ℕ → State → State → Type 0
+PrintsOn bytes old new = (before : List Input) → HasTaken before old → HasTaken (before ++ map Byte bytes) new

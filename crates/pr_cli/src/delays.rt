@@ -106,3 +106,6 @@ fn all_digits(bytes: &[u8]) -> bool
 {
     bytes.iter().all(|b| *b >= b'0' && *b <= b'9')
 }
+
+#[cfg(test)]
+mod tests;

@@ -2,7 +2,7 @@
 
 ghost use Rattle.std.specs.Prelude.{◌≡◌};
 
-use crate::whole::ReadFault;
+use crate::read_write::ReadFault;
 use pr_basic::ScriptFault;
 use pr_wire::{CheckFault, TraceFault, WaveFault};
 use std::alloc::AllocError;
@@ -84,3 +84,6 @@ impl From<ReadFault> for CliFault {
         }
     }
 }
+
+#[cfg(test)]
+mod tests;

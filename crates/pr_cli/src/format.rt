@@ -10,7 +10,7 @@ use pr_serial::Present;
 use pr_system::Outcome;
 use std::alloc::Global;
 
-/// How a page is written.
+/// How a page is written (profile).
 #[derive(Clone, Copy, Debug, PartialEq, Eq)]
 pub enum Format {
     /// The page text, a line for each row and each mark.

@@ -3,7 +3,7 @@
 ghost use Rattle.std.specs.Prelude.{◌≡◌, ◌++◌, OnOk};
 ghost use Rattle.pr_cli.specs.FrameText.{frame_line, kind_word, line_end};
 
-use crate::short::push_number;
+use crate::short_text::push_number;
 use pr_wire::Frame;
 use std::alloc::AllocError;
 

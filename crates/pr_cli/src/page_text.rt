@@ -4,10 +4,10 @@
 //! stands ready in tables of short texts.
 
 ghost use Rattle.std.specs.Prelude.{◌≡◌, ◌+◌, ◌≤◌, [], ◌++◌, codes, decimal, drop, flat_map, length, take, vec_len, OnOk, IfOk, IfSome, MatchOption};
-ghost use Rattle.pr_cli.specs.PageText.{held_text, mark_text, mark_words, numbers_text, page_text, paper_text, row_text, stop_text, word_if};
+ghost use Rattle.pr_cli.specs.PageText.{end_text, held_text, mark_text, mark_words, numbers_text, page_text, paper_text, row_text, stop_text, word_if};
 ghost use Rattle.pr_cli.specs.Tables.{HasNumbers};
 
-use crate::short::{Short, numbers_between};
+use crate::short_text::{ShortText, numbers_between};
 use crate::text::Text;
 use pr_channels::Stop;
 use pr_page::{Mark, NoMemory, Paper, Placed, Row};
@@ -30,13 +30,13 @@ const BLOCK: usize = 1024;
 #[derive(Drop)]
 struct Texts {
     /// A space and a dot column, or any smaller number.
-    numbers: Vec<Short>,
+    numbers: Vec<ShortText>,
     /// The rest of the line of a cell of standard width, by its code.
-    cells: Vec<Short>,
+    cells: Vec<ShortText>,
     /// The same of a cell in the lower/upper case set.
-    lower_cells: Vec<Short>,
+    lower_cells: Vec<ShortText>,
     /// The rest of the line of a column of dots.
-    dots: Vec<Short>,
+    dots: Vec<ShortText>,
     ghost numbers_count: { vec_len numbers ≡ 480 },
     ghost numbers_right: { HasNumbers numbers.items 480 (codes " ") [] },
     ghost cells_count: { vec_len cells ≡ 256 },
@@ -105,7 +105,7 @@ impl Texts {
 
     /// The rest of a mark's line, if it stands in a table.
     #[inline(always)]
-    fn mark_end(&self, mark: Mark) -> Option<&Short>
+    fn mark_end(&self, mark: Mark) -> Option<&ShortText>
         ensures { IfSome result (λ end. end.now ≡ mark_words mark ++ codes "\n") }
     {
         match mark {
@@ -257,6 +257,7 @@ impl Texts {
     }
 
     /// Adds what stands behind the printers: the statuses, the bytes of the screen and the stop.
+    #[tactic(auto, unfolding(crate::specs::PageText::end_text))]
     fn push_end(
         &self,
         text: &mut Text,
@@ -264,7 +265,7 @@ impl Texts {
         screen: &[u8],
         stop: Option<(usize, Stop)>,
     ) -> Result<(), AllocError>
-        ensures { OnOk result (text.new ≡ text.old ++ numbers_text (codes "status") statuses.now ++ numbers_text (codes "screen") screen.now ++ stop_text stop) }
+        ensures { OnOk result (text.new ≡ text.old ++ end_text statuses.now screen.now stop) }
     {
         self.push_numbers(text, b"status", statuses)?;
         self.push_numbers(text, b"screen", screen)?;

@@ -1,29 +1,29 @@
 //! The bytes of a printer in, its page out.
 
-ghost use Rattle.std.specs.Prelude.{◌≡◌, ◌+◌, ◌^◌, ◌≤◌, ◌++◌, ◌↔◌, List, length, map, false, true, IfSome, IfErr, OnOk, IsErrOf};
-ghost use Rattle.pr_page.specs.Taken.{HasTaken, number_taken};
-ghost use Rattle.pr_page.specs.declared.input.Input.{Input};
+ghost use Rattle.std.specs.Prelude.{◌≡◌, ◌+◌, ◌^◌, ◌≤◌, ◌↔◌, length, false, true, IfSome, IfErr, OnOk, IsErrOf};
+ghost use Rattle.pr_page.specs.Taken.{number_taken};
 ghost use Rattle.pr_cli.specs.Pages.{ReadsToEnd, WritesNothing};
-ghost use Rattle.pr_cli.specs.Printed.{GivesPaper, HasReadAll, IsReadingFault};
+ghost use Rattle.pr_cli.specs.Printed.{GivesPaper, HasReadAll, IsReadingFault, PrintsOn};
 ghost use Rattle.pr_cli.specs.Raw.{AnswersRaw, IsRawFault, printed_on, raw_limit};
 ghost use Rattle.pr_cli.specs.Watched.{has_failed, wrapped};
 
 use crate::fault::CliFault;
 use crate::format::{Format, text_in_format};
 use crate::watched::Watched;
-use crate::whole::{BLOCK, WriteFault};
+use crate::read_write::{BLOCK, WriteFault};
 use pr_page::{Input, NoMemory, Paper, Printer, Sequence};
 use pr_serial::Present;
 use pr_system::Outcome;
 use std::alloc::Global;
 use std::io::{Read, Write};
 
-/// The longest input of `raw`, in bytes: a printer takes at most 2^32 inputs, and the selection of
-/// its character set is the first of them.
+/// The longest input of `raw`, in bytes (profile): a printer takes at most 2^32 inputs, and the
+/// selection of its character set is the first of them.
 pub const RAW_LIMIT: usize = 4_294_967_295;
 
 /// Reads the bytes that a printer gets to their end, and writes the page that it prints after a
-/// selection of the lower/upper case set, or else of the graphic/upper case set, in this format.
+/// selection of the lower/upper case set, or else of the graphic/upper case set, in this format
+/// (profile; what the bytes do: VIC-1525 User's Manual).
 ///
 /// The page is that of printer 4, as of a run in which nothing else happened: printer 5 printed
 /// nothing, and there are no statuses, no bytes on the screen and no stop. The input is printed as
@@ -46,7 +46,8 @@ pub fn raw_over<R: Read, W: Write>(
 ) -> Result<(), CliFault>
     requires input { has_failed input.old ≡ false }
     requires output { has_failed output.old ≡ false }
-    ensures raw { IfSome (R.remaining (wrapped input.old)) (λ bytes. AnswersRaw lower format bytes (W.contents (wrapped output.old)) (W.contents (wrapped output.new)) result) }
+    ensures raw { IfSome (R.remaining (wrapped input.old)) (λ bytes.
+        AnswersRaw lower format bytes (W.contents (wrapped output.old)) (W.contents (wrapped output.new)) result) }
     ensures at_end { ReadsToEnd (R.remaining (wrapped input.new)) result }
     ensures nothing { WritesNothing (W.contents (wrapped output.old)) (W.contents (wrapped output.new)) result }
     ensures own { IfErr result IsRawFault }
@@ -119,7 +120,7 @@ fn print_input<R: Read>(
 /// Gives bytes to a printer, in order.
 fn take_bytes(printer: &mut Printer, bytes: &[u8]) -> Result<(), NoMemory>
     requires few { number_taken printer.old + length bytes.now ≤ 2 ^ 32 }
-    ensures taken { OnOk result ((before : List Input) → HasTaken before printer.old → HasTaken (before ++ map Input.Byte bytes.now) printer.new) }
+    ensures taken { OnOk result (PrintsOn bytes.now printer.old printer.new) }
     ensures count { OnOk result (number_taken printer.new ≡ number_taken printer.old + length bytes.now) }
 {
     for byte in bytes {

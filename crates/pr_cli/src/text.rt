@@ -6,10 +6,10 @@
 ghost use Rattle.std.specs.Prelude.{◌≡◌, ◌≤◌, ◌++◌, ◌↔◌, [], decimal, false, length, take, true, IfOk, IsErr, OnErr, OnOk};
 ghost use Rattle.std.specs.Io.KnownBytes.{Appends};
 ghost use Rattle.pr_cli.specs.Watched.{has_failed, wrapped};
-ghost use Rattle.pr_cli.specs.Whole.{AppendsFront};
+ghost use Rattle.pr_cli.specs.PartlyWritten.{AppendsFront};
 
 use crate::watched::Watched;
-use crate::whole::{BLOCK, WriteFault, flush, write_piece};
+use crate::read_write::{BLOCK, WriteFault, flush, write_piece};
 use itoa::Buffer;
 use std::alloc::{AllocError, Global};
 use std::io::Write;

@@ -6,7 +6,7 @@ use Rattle.pr_page.specs.Token.{Came, bytes_of, Token, Column, Repeat, Address, 
 use Rattle.pr_page.specs.Modes.{Modes, modes_at}
 use Rattle.pr_page.specs.Acts.{Act, acts_in, acts_of, is_cell, is_digit, column_of, dots_of}
 use Rattle.pr_page.specs.Page.{IsPage}
-use Rattle.pr_page.specs.Linked.{modes_of, settings_of}
+use Rattle.pr_page.specs.Linked.{modes_of}
 use Rattle.pr_page.specs.Steps.{pending_after, tokens_by, settings_after, settings_after_token, state_after_token, state_after_tokens, step, state_after, start}
 use Rattle.pr_page.specs.Evaluator.{page_of}
 use Rattle.pr_page.specs.Taken.{HasTaken}
@@ -18,6 +18,10 @@ use Rattle.pr_page.specs.declared.settings.Settings.{Settings}
 use Rattle.pr_page.specs.declared.state.State.{State}
 use Rattle.pr_page.specs.declared.pending.Pending.{Pending}
 use Rattle.pr_page.specs.declared.pending.Pending.TheVariants.{Idle}
+
+-- the settings of the code that say these modes
+abbrev settings_of : Modes → Settings
+settings_of m = record { graphic = m.graphic; wide = m.wide; reverse = m.reverse; override_set = m.override_set }
 
 -- the settings that the code keeps say the modes after one token more
 modes_at-push : (s : Settings) (t : Token) (before : List Token) → modes_of s ≡ modes_at before → modes_of (settings_after_token s t) ≡ modes_at (t ∷ before)

@@ -5,7 +5,3 @@ use Rattle.pr_page.specs.declared.settings.Settings.{Settings}
 -- what settings of the code say of the modes
 abbrev pub modes_of : Settings → Modes
 modes_of s = record { graphic = s.graphic; wide = s.wide; reverse = s.reverse; override_set = s.override_set }
-
--- the settings of the code that say these modes
-abbrev pub settings_of : Modes → Settings
-settings_of m = record { graphic = m.graphic; wide = m.wide; reverse = m.reverse; override_set = m.override_set }

@@ -6,10 +6,10 @@
 #![tactic(auto)]
 
 mod codes;
-pub mod input;
-pub mod paper;
+mod input;
+mod paper;
 mod pending;
-pub mod printer;
+mod printer;
 mod settings;
 mod sheet;
 mod state;

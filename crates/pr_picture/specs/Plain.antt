@@ -56,7 +56,7 @@ abbrev pub painted : List Column → List Placed → List Column
 painted columns [] = columns
 painted columns (p ∷ ps) = painted (paint_mark (p.x / 6) p.mark columns) ps
 
--- the shade of so many dots: quarters of the 42
+-- the shade of so many dots of the 42, darker by every eleven
 abbrev pub shade_of : ℕ → ℕ
 shade_of dots =
     if nat_lt dots 12 then 9617

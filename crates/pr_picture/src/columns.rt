@@ -140,7 +140,7 @@ fn paint(columns: &mut [Seen], marks: &[Placed])
     }
 }
 
-/// The shade of so many dots: quarters of the 42 (profile).
+/// The shade of so many dots of the 42, darker by every eleven (profile).
 fn shade_of(dots: u32) -> char
     ensures { result ≡ shade_of dots }
 {

@@ -5,7 +5,8 @@ use Rattle.std.proofs.Math.Bool.{or-false}
 use Rattle.std.specs.List.{flat_map, last_or, list_any}
 use Rattle.std.specs.Option.{option_to_list}
 use Rattle.pr_wire.specs.declared.Frame.{Frame}
-use Rattle.pr_receiver.specs.Heard.{with_before, is_listen, is_unlisten, is_listening, is_called, input_of, heard_of}
+use Rattle.pr_page.specs.Before.{with_before}
+use Rattle.pr_receiver.specs.Heard.{is_listen, is_unlisten, is_listening, is_called, input_of, heard_of}
 
 -- the elements before each, for two parts
 pub with_before-append : {X : Type 0} (before xs ys : List X) → with_before before (xs ++ ys) ≡ with_before before xs ++ with_before (before ++ xs) ys

@@ -9,8 +9,9 @@ use Rattle.pr_wire.specs.declared.place.Place.{Place}
 use Rattle.pr_wire.specs.declared.place.Place.TheVariants.{Idle}
 use Rattle.pr_wire.specs.declared.place.Step.{Step}
 use Rattle.pr_wire.specs.Table.{verdict, is_start}
+use Rattle.pr_page.specs.Before.{with_before}
 use Rattle.pr_page.specs.declared.input.Input.{Input}
-use Rattle.pr_receiver.specs.Heard.{with_before, input_of}
+use Rattle.pr_receiver.specs.Heard.{input_of}
 
 -- what comes of an edge that the table allows; of another nothing
 abbrev pub if_allowed : Result Step Flaw → (Step → Option Frame) → Option Frame

@@ -1,15 +1,11 @@
 -- Trusted: what a device hears of the frames on a bus.
-use Rattle.std.specs.Prelude.{ℕ, ◌+◌, Bool, true, false, not, ◌&&◌, ◌==◌, if◌then◌else◌, List, [], ◌∷◌, ◌++◌, Option, Some, None}
+use Rattle.std.specs.Prelude.{ℕ, ◌+◌, Bool, true, false, not, ◌&&◌, ◌==◌, if◌then◌else◌, List, [], Option, Some, None}
 use Rattle.std.specs.List.{after_last, last_or, list_any, flat_map}
 use Rattle.std.specs.Option.{option_to_list}
 use Rattle.pr_wire.specs.declared.Frame.{Frame}
+use Rattle.pr_page.specs.Before.{with_before}
 use Rattle.pr_page.specs.declared.input.Input.{Input}
 use Rattle.pr_page.specs.declared.input.Input.TheVariants.{Select, Byte}
-
--- each element of a list with the elements before it
-abbrev pub with_before : {X : Type 0} → List X → List X → List (List X × X)
-with_before before [] = []
-with_before before (x ∷ xs) = (before, x) ∷ with_before (before ++ x ∷ []) xs
 
 -- the frame is this command
 abbrev pub is_command : ℕ → Frame → Bool

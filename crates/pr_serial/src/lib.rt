@@ -7,12 +7,12 @@
 //! `Heard.antt` what a device hears.
 #![tactic(auto)]
 
-pub mod bus;
+mod bus;
 pub mod command;
-pub mod direct;
+mod direct;
 mod ear;
 pub mod laws;
-pub mod serial;
+mod serial;
 
 pub use bus::Bus;
 pub use direct::Direct;

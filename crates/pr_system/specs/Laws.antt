@@ -7,7 +7,7 @@ use Rattle.pr_serial.specs.Items.{items_of}
 use Rattle.pr_basic.specs.declared.statement.Statement.{Statement}
 use Rattle.pr_basic.specs.declared.session.StatusMode.{StatusMode}
 use Rattle.pr_basic.specs.Runs.{run_of, items_sent}
-use Rattle.pr_bus.specs.WiresState.{trace_from}
+use Rattle.pr_bus.specs.Timed.{trace_from}
 use Rattle.pr_system.specs.declared.outcome.Outcome.{Outcome}
 use Rattle.pr_system.specs.Headline.{IsOutcome}
 use Rattle.pr_system.specs.RunningState.{RunningState, begun, stepped_by, trace_before, trace_so_far}

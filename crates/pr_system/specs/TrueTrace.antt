@@ -5,7 +5,7 @@ use Rattle.pr_serial.specs.Bus.{DelayNumbers}
 use Rattle.pr_wire.specs.declared.Edge.{Edge}
 use Rattle.pr_wire.specs.Pieces.{IsLawful, Spells}
 use Rattle.pr_bus.specs.Answers.{answered_frames}
-use Rattle.pr_bus.specs.WiresState.{trace_from}
+use Rattle.pr_bus.specs.Timed.{trace_from}
 use Rattle.pr_basic.specs.declared.statement.Statement.{Statement}
 use Rattle.pr_basic.specs.declared.session.StatusMode.{StatusMode}
 use Rattle.pr_basic.specs.Runs.{items_sent}

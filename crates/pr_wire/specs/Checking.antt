@@ -1,10 +1,12 @@
--- Trusted: what a checker answers at the end of a text.
+-- Words of calls: what a checker answers at the end of a text, and `read_trace` of a text that it refuses. Who uses these calls by themselves believes them; no claim about a run rests on them.
 use Rattle.std.specs.Prelude.{◌≡◌, ℕ, List, [], ◌∷◌, ◌++◌, Option, Some, None, Result, Ok, Err}
 use Rattle.pr_wire.specs.declared.Edge.{Edge}
 use Rattle.pr_wire.specs.declared.Frame.{Frame}
 use Rattle.pr_wire.specs.declared.WaveFault.TheVariants as fault
 use Rattle.pr_wire.specs.declared.checker.CheckFault.{CheckFault}
 use Rattle.pr_wire.specs.declared.checker.CheckFault.TheVariants.{BadLine, Unlawful}
+use Rattle.pr_wire.specs.declared.text.TraceFault.{TraceFault}
+use Rattle.pr_wire.specs.declared.text.TraceFault.TheVariants as trace
 use Rattle.pr_wire.specs.Pieces.{Spells}
 use Rattle.pr_wire.specs.Table.{fault_of}
 use Rattle.pr_wire.specs.TraceText.{IsFirstBad, IsTraceText}
@@ -25,3 +27,8 @@ abbrev pub IsOwnFault : CheckFault → Type 0
 IsOwnFault (BadLine n) = Unit {0}
 IsOwnFault (Unlawful fault.NoMemory) = ⊥
 IsOwnFault (Unlawful _) = Unit {0}
+
+-- what a fault says of a text
+abbrev pub IsTraceFault : List ℕ → TraceFault → Type 0
+IsTraceFault text (trace.BadLine n) = IsFirstBad n text
+IsTraceFault text trace.NoMemory = Unit {0}

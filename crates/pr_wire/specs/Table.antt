@@ -74,7 +74,8 @@ row (High u s eoi seen b) t x false b' =
     else where_true (b' && length seen == 7) (within (u + 20) (u + 200) (Last t s eoi (seen ++ b ∷ []))))
 row (High u s eoi seen b) t _ _ _ = None
 row (Last z s eoi seen) t x false false =
-    where_true (same x (atn_of s)) (Some (record { earliest = z + 1; latest = Some (z + 80); place = Ack t s (byte_of seen); frame = Some (frame_of s eoi seen) }))
+    where_true (same x (atn_of s))
+    (Some (record { earliest = z + 1; latest = Some (z + 80); place = Ack t s (byte_of seen); frame = Some (frame_of s eoi seen) }))
 row (Last z s eoi seen) t _ _ _ = None
 row (Ack k First byte) t false true false = within (k + 1000) (k + 2000) (Ready t Second)
 row (Ack k First byte) t true false false = within (k + 100) (k + 200) (Freed t (byte == 63) false)

@@ -2,8 +2,6 @@
 use Rattle.std.specs.Prelude.{◌≡◌, ℕ, ◌+◌, ◌-◌, ◌*◌, ◌^◌, ◌<◌, ◌==◌, ◌&&◌, Bool, true, false, List, [], ◌∷◌, ◌++◌, length, flat_map, decimal, nat_le, if◌then◌else◌}
 use Rattle.std.specs.List.{list_all}
 use Rattle.pr_wire.specs.declared.Edge.{Edge}
-use Rattle.pr_wire.specs.declared.text.TraceFault.{TraceFault}
-use Rattle.pr_wire.specs.declared.text.TraceFault.TheVariants.{BadLine, NoMemory}
 
 -- a level's digit: 1 is released
 abbrev pub level_digit : Bool → ℕ
@@ -80,8 +78,3 @@ pub record IsFirstBad (n : ℕ) (text : List ℕ) : Type 0 where
   pub are_edges : AreEdgeLines good edges
   pub is_bad : (e : Edge) → IsEdgeLine bad e → ⊥
   pub number : n ≡ length good + 1
-
--- what a fault says of a text
-abbrev pub IsTraceFault : List ℕ → TraceFault → Type 0
-IsTraceFault text (BadLine n) = IsFirstBad n text
-IsTraceFault text NoMemory = Unit {0}

@@ -2,7 +2,8 @@
 
 ghost use Rattle.std.specs.Prelude.{◌≡◌, ◌≢◌, List, IfOk, IfErr};
 ghost use Rattle.pr_wire.specs.declared.Edge.{Edge};
-ghost use Rattle.pr_wire.specs.TraceText.{trace_text, IsTraceFault, IsTraceText};
+ghost use Rattle.pr_wire.specs.Checking.{IsTraceFault};
+ghost use Rattle.pr_wire.specs.TraceText.{trace_text, IsTraceText};
 ghost use Rattle.pr_wire.specs.TextLaws.{TextIsReadBack, TextSpellsOnce};
 
 use crate::line::read_line;

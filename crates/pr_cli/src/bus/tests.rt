@@ -1,23 +1,12 @@
-//! Scripts in, trace texts out, over readers and writers in memory.
+//! Scripts in, trace texts out.
 
 use super::*;
-use crate::check::check_over;
 use crate::delays::read_delays;
-use crate::tests::{BOTH, FOUR, HI, NONE, Slow, trace_of, typical};
+use crate::tests::{
+    BOTH, BUS, Call, EXAMPLE_LINES, FOUR, HI, NONE, ONE_ATTENTION, ONE_COMMAND, writes,
+};
 use pr_wire::example::TRACE_TEXT;
 use std::process::Abort;
-use std::test::Fail;
-
-/// One attention to printer 4 alone, with delays 1000 before it, 1999 to the look and 10 to the
-/// answer, all others typical.
-const ONE_ATTENTION: &str = "\
-    0 111\n1000 001\n1010 000\n2999 010\n\
-    3049 011\n3089 000\n3159 010\n3179 000\n\
-    3249 010\n3269 001\n3339 011\n3359 000\n\
-    3429 010\n3449 000\n3519 010\n3539 001\n\
-    3609 011\n3629 000\n3699 010\n3719 000\n\
-    3789 010\n3809 001\n3829 000\n3929 100\n\
-";
 
 /// One attention to printer 4 alone, which answers in the microsecond of the look; all other
 /// delays are typical, so the rest is as in the example trace.
@@ -30,50 +19,39 @@ const ANSWER_AT_THE_LOOK: &str = "\
     1890 010\n1910 001\n1930 000\n2030 100\n\
 ";
 
-/// The lines that `check` writes for a trace text.
-fn frames_in(rt: &(impl Abort + AllocGlobal), trace: &[u8]) -> Result<Vec<u8>, CliFault> {
-    let mut input = Watched::new(trace);
-    let mut output = Watched::new(Vec::new(rt.alloc()));
-    check_over(rt.alloc(), &mut input, &mut output)?;
-    Ok(output.into_inner())
-}
-
-/// With printer 4 alone and these delays, `bus` writes this trace, and `check` these lines for it.
-fn one_attention(
+/// The trace text of a script that runs with these delays to this ending.
+fn traced(
     rt: &(impl Abort + AllocGlobal),
+    script: &[u8],
+    present: Present,
     delays: &str,
-    trace: &str,
-    lines: &str,
-) -> Result<(), Fail> {
-    let script = b"OPEN 4,4\nCMD 4,\"\";\n";
-    let Ok(delays) = read_delays(rt.alloc(), delays) else {
-        return Err(Fail::from("bad delays"));
-    };
-    let (ending, written) = trace_of(rt, script, FOUR, delays, StatusMode::Each)?;
+    ending: Ending,
+) -> Vec<u8> {
+    let mut input = Watched::new(script);
+    let mut output = Watched::new(Vec::new(rt.alloc()));
+    let delays = read_delays(rt.alloc(), delays).expect(rt, "delays");
+    let each = StatusMode::Each;
+    let answer = bus_over(rt.alloc(), &mut input, &mut output, present, delays, each);
+    assert_eq!(rt; answer, Ok(ending));
+    output.into_inner()
+}
+
+/// With printer 4 alone and these delays `bus` writes this trace, in which `check` finds one frame.
+fn one_attention(rt: &(impl Abort + AllocGlobal), delays: &str, trace: &str) {
+    let written = traced(rt, b"OPEN 4,4\nCMD 4,\"\";\n", FOUR, delays, Ending::Done);
     assert_eq!(rt; written.as_slice(), trace.as_bytes());
-    assert_eq!(rt; ending, Ending::Done);
-    let found = frames_in(rt, written.as_slice())?;
-    assert_eq!(rt; found.as_slice(), lines.as_bytes());
-    Ok(())
+    writes(rt, Call::Check, &written, Ending::Done, ONE_COMMAND);
 }
 
 #[test]
-fn one_attention_with_chosen_delays(rt: HostRuntime) -> Result<(), Fail> {
-    one_attention(&rt, "900,999/9", ONE_ATTENTION, "command 36\nlawful\n")
+fn one_attention_with_chosen_delays(rt: HostRuntime) {
+    one_attention(&rt, "900,999/9", ONE_ATTENTION);
+    one_attention(&rt, "/999", ANSWER_AT_THE_LOOK);
 }
 
 #[test]
-fn answer_in_the_microsecond_of_the_look(rt: HostRuntime) -> Result<(), Fail> {
-    one_attention(&rt, "/999", ANSWER_AT_THE_LOOK, "command 36\nlawful\n")
-}
-
-#[test]
-fn trace_of_two_letters(rt: HostRuntime) -> Result<(), Fail> {
-    let delays = typical(rt.alloc());
-    let (ending, written) = trace_of(&rt, HI, BOTH, delays, StatusMode::Each)?;
-    assert_eq!(rt; written.as_slice(), TRACE_TEXT.as_bytes());
-    assert_eq!(rt; ending, Ending::Done);
-    Ok(())
+fn trace_of_two_letters(rt: HostRuntime) {
+    writes(&rt, BUS, HI, Ending::Done, TRACE_TEXT);
 }
 
 /// The run of the script ends so, and `check` finds these frames in its trace, be the delays
@@ -85,29 +63,16 @@ fn spells(
     ending: Ending,
     lines: &str,
 ) {
-    for text in ["", "900,65535,0,7,8,9/1,2,3,4,5,6,7,8/999,0,50,80"] {
-        let Ok(delays) = read_delays(rt.alloc(), text) else {
-            assert!(rt; false, "{text}");
-            return;
-        };
-        let Ok((ended, trace)) = trace_of(rt, script, present, delays, StatusMode::Each) else {
-            assert!(rt; false, "{lines}");
-            return;
-        };
-        assert_eq!(rt; ended, ending, "{lines}");
-        let Ok(found) = frames_in(rt, trace.as_slice()) else {
-            assert!(rt; false, "{lines}");
-            return;
-        };
-        assert_eq!(rt; found.as_slice(), lines.as_bytes(), "{lines}");
+    for delays in ["", "900,65535,0,7,8,9/1,2,3,4,5,6,7,8/999,0,50,80"] {
+        let trace = traced(rt, script, present, delays, ending);
+        writes(rt, Call::Check, &trace, Ending::Done, lines);
     }
 }
 
 #[test]
 fn frames_of_runs(rt: HostRuntime) {
     // A byte is held back until another follows, or an attention.
-    let lines = "command 36\ndata 72\ndata 73\ndata 13 eoi\ncommand 63\nlawful\n";
-    spells(&rt, HI, BOTH, Ending::Done, lines);
+    spells(&rt, HI, BOTH, Ending::Done, EXAMPLE_LINES);
     let script = b"OPEN 4,4\nCMD 4,\"HI\"";
     let lines = "command 36\ndata 72\ndata 73\nlawful\n";
     spells(&rt, script, BOTH, Ending::Done, lines);
@@ -131,56 +96,4 @@ fn frames_of_runs(rt: HostRuntime) {
     let lines = "command 37\ncommand 36\ncommand 63\nlawful\n";
     spells(&rt, script, FOUR, Ending::Stopped, lines);
     spells(&rt, b"PRINT#9,\"A\"", BOTH, Ending::Stopped, "lawful\n");
-}
-
-#[test]
-fn reads_that_fail(rt: HostRuntime) -> Result<(), Fail> {
-    // One call for each byte, and one that finds the end.
-    for fail_at in 0..HI.len() + 3 {
-        let mut input = Watched::new(Slow::new(HI.to_vec(rt.alloc())?, fail_at));
-        let mut output = Watched::new(Vec::new(rt.alloc()));
-        let delays = typical(rt.alloc());
-        let each = StatusMode::Each;
-        let answer = bus_over(rt.alloc(), &mut input, &mut output, BOTH, delays, each);
-        let written = output.into_inner();
-        if fail_at <= HI.len() {
-            assert_eq!(rt; answer, Err(CliFault::ReadFailed), "at call {fail_at}");
-            assert!(rt; input.failed());
-            assert!(rt; written.is_empty());
-        } else {
-            assert_eq!(rt; answer, Ok(Ending::Done), "at call {fail_at}");
-            assert!(rt; !input.failed());
-            assert_eq!(rt; written.as_slice(), TRACE_TEXT.as_bytes());
-        }
-    }
-    Ok(())
-}
-
-#[test]
-fn writes_that_fail(rt: HostRuntime) -> Result<(), Fail> {
-    // One call for each byte, and a flush for the first edge and for each of the two statements.
-    let calls = TRACE_TEXT.len() + 3;
-    for fail_at in 0..calls + 2 {
-        for takes_none in [false, true] {
-            let mut input = Watched::new(HI);
-            let mut slow = Slow::new(Vec::new(rt.alloc()), fail_at);
-            slow.takes_none = takes_none;
-            let mut output = Watched::new(slow);
-            let delays = typical(rt.alloc());
-            let each = StatusMode::Each;
-            let answer = bus_over(rt.alloc(), &mut input, &mut output, BOTH, delays, each);
-            let failed = output.failed();
-            let written = output.into_inner().bytes;
-            assert!(rt; TRACE_TEXT.as_bytes().starts_with(written.as_slice()));
-            if fail_at < calls {
-                assert_eq!(rt; answer, Err(CliFault::WriteFailed), "at call {fail_at}");
-                assert!(rt; failed);
-            } else {
-                assert_eq!(rt; answer, Ok(Ending::Done), "at call {fail_at}");
-                assert!(rt; !failed);
-                assert_eq!(rt; written.as_slice(), TRACE_TEXT.as_bytes());
-            }
-        }
-    }
-    Ok(())
 }

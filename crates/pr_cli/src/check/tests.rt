@@ -1,10 +1,12 @@
-//! Traces in, frame lines out, over readers and writers in memory.
+//! Traces in, frame lines out.
 
 ghost use Rattle.std.specs.Prelude.{◌≡◌, IfOk, vec_len};
 
 use super::*;
-use crate::job::{Job, JobFault, read_job};
-use crate::tests::{ENDLESS, Endless, Slow};
+use crate::pages::Ending;
+use crate::tests::{
+    Call, ENDLESS, EXAMPLE_LINES, Endless, ONE_ATTENTION, ONE_COMMAND, answer, writes,
+};
 use pr_wire::example::TRACE_TEXT;
 use pr_wire::{Edge, TraceFault, WaveFault, read_trace, write_trace};
 use std::process::Abort;
@@ -13,64 +15,36 @@ use std::test::Fail;
 /// How many edges the example trace has.
 const EDGES: usize = 110;
 
-/// What `check` writes for the example trace.
-const EXAMPLE_LINES: &str = "command 36\ndata 72\ndata 73\ndata 13 eoi\ncommand 63\nlawful\n";
-
-/// One attention to printer 4 alone, with delays 1000 before it, 1999 to the look and 10 to the
-/// answer, all others typical.
-const ONE_ATTENTION: &str = "\
-    0 111\n1000 001\n1010 000\n2999 010\n\
-    3049 011\n3089 000\n3159 010\n3179 000\n\
-    3249 010\n3269 001\n3339 011\n3359 000\n\
-    3429 010\n3449 000\n3519 010\n3539 001\n\
-    3609 011\n3629 000\n3699 010\n3719 000\n\
-    3789 010\n3809 001\n3829 000\n3929 100\n\
-";
-
-/// The lines of a trace text, or the fault, after which nothing has been written.
-fn lines_of(rt: &(impl Abort + AllocGlobal), text: &[u8]) -> Result<Vec<u8>, CliFault> {
-    let mut input = Watched::new(text);
-    let mut output = Watched::new(Vec::new(rt.alloc()));
-    let answer = check_over(rt.alloc(), &mut input, &mut output);
-    let written = output.into_inner();
-    match answer {
-        Ok(()) => Ok(written),
-        Err(fault) => {
-            assert!(rt; written.is_empty());
-            Err(fault)
-        }
-    }
+/// The trace text is lawful, and these lines are written for it.
+fn lawful(rt: &(impl Abort + AllocGlobal), text: &[u8], lines: &str) {
+    writes(rt, Call::Check, text, Ending::Done, lines);
 }
 
-/// The trace text is lawful, and these lines are written for it.
-fn lawful(rt: &(impl Abort + AllocGlobal), text: &str, lines: &str) -> Result<(), Fail> {
-    let written = lines_of(rt, text.as_bytes())?;
-    assert_eq!(rt; written.as_slice(), lines.as_bytes(), "{text}");
-    Ok(())
+/// The text is refused with this fault, and nothing is written.
+fn refused(rt: &(impl Abort + AllocGlobal), text: &str, fault: CliFault) {
+    let (found, _written) = answer(rt, Call::Check, text.as_bytes());
+    assert_eq!(rt; found, Err(fault), "{text}");
 }
 
 /// The text is no trace text, from this line on.
 fn bad_line(rt: &(impl Abort + AllocGlobal), text: &str, line: usize) {
-    let fault = CliFault::Trace(TraceFault::BadLine(line));
-    assert_eq!(rt; lines_of(rt, text.as_bytes()).err(), Some(fault), "{text}");
+    refused(rt, text, CliFault::Trace(TraceFault::BadLine(line)));
 }
 
 /// The trace text's edges have this fault.
 fn unlawful(rt: &(impl Abort + AllocGlobal), text: &str, fault: WaveFault) {
-    let answer = lines_of(rt, text.as_bytes()).err();
-    assert_eq!(rt; answer, Some(CliFault::Wave(fault)), "{text}");
+    refused(rt, text, CliFault::Wave(fault));
+}
+
+/// The text of edges.
+fn text_of(rt: &(impl Abort + AllocGlobal), edges: &[Edge]) -> Vec<u8> {
+    write_trace(rt.alloc(), edges).expect(rt, "memory")
 }
 
 /// The edges have this fault.
-fn unlawful_edges(
-    rt: &(impl Abort + AllocGlobal),
-    edges: &[Edge],
-    fault: WaveFault,
-) -> Result<(), Fail> {
-    let text = write_trace(rt.alloc(), edges)?;
-    let answer = lines_of(rt, text.as_slice()).err();
-    assert_eq!(rt; answer, Some(CliFault::Wave(fault)));
-    Ok(())
+fn unlawful_edges(rt: &(impl Abort + AllocGlobal), edges: &[Edge], fault: WaveFault) {
+    let (found, _written) = answer(rt, Call::Check, &text_of(rt, edges));
+    assert_eq!(rt; found, Err(CliFault::Wave(fault)));
 }
 
 /// The edges of the example trace.
@@ -83,13 +57,13 @@ fn example(rt: &(impl Abort + AllocGlobal)) -> Result<Vec<Edge>, Fail>
 }
 
 #[test]
-fn frames_of_the_example_trace(rt: HostRuntime) -> Result<(), Fail> {
-    lawful(&rt, TRACE_TEXT, EXAMPLE_LINES)
-}
-
-#[test]
-fn one_attention_with_chosen_delays(rt: HostRuntime) -> Result<(), Fail> {
-    lawful(&rt, ONE_ATTENTION, "command 36\nlawful\n")
+fn worked_traces(rt: HostRuntime) {
+    lawful(&rt, TRACE_TEXT.as_bytes(), EXAMPLE_LINES);
+    lawful(&rt, ONE_ATTENTION.as_bytes(), ONE_COMMAND);
+    lawful(&rt, b"0 111\r", "lawful\n");
+    lawful(&rt, b"0 111\r\n100 001\r\n1100 111\r\n", "lawful\n");
+    let text = b"00 111\n000000000000000000000000000000100 001\n1100 111\n";
+    lawful(&rt, text, "lawful\n");
 }
 
 /// The lines of a front of so many edges of the example trace.
@@ -107,44 +81,30 @@ fn lines_of_front(count: usize) -> Option<&'static str> {
 
 /// The text of a front of so many edges is answered as it should be.
 fn front_is_answered(rt: &(impl Abort + AllocGlobal), text: &[u8], count: usize) {
+    if let Some(lines) = lines_of_front(count) {
+        lawful(rt, text, lines);
+        return;
+    }
     let fault = match count {
         0 => WaveFault::Start(0),
         _ => WaveFault::Truncated(count),
     };
-    match (lines_of(rt, text), lines_of_front(count)) {
-        (Ok(written), Some(lines)) => {
-            assert_eq!(rt; written.as_slice(), lines.as_bytes(), "{count} edges")
-        }
-        (answer, None) => {
-            assert_eq!(rt; answer.err(), Some(CliFault::Wave(fault)), "{count} edges")
-        }
-        _ => assert!(rt; false, "{count} edges"),
-    }
+    let (found, _written) = answer(rt, Call::Check, text);
+    assert_eq!(rt; found, Err(CliFault::Wave(fault)), "{count} edges");
 }
 
 #[test]
 fn fronts_of_the_example_trace(rt: HostRuntime) -> Result<(), Fail> {
     let edges = example(&rt)?;
     for count in 0..=EDGES {
-        let text = write_trace(rt.alloc(), &edges[..count])?;
-        front_is_answered(&rt, text.as_slice(), count);
+        let text = text_of(&rt, &edges[..count]);
+        front_is_answered(&rt, &text, count);
         // The last line may lack its end, also where it ends a frame.
         if let Some((_, cut)) = text.as_slice().split_last() {
             front_is_answered(&rt, cut, count);
         }
     }
     Ok(())
-}
-
-#[test]
-fn accepted_texts(rt: HostRuntime) -> Result<(), Fail> {
-    lawful(&rt, "0 111\r", "lawful\n")?;
-    lawful(&rt, "0 111\r\n100 001\r\n1100 111\r\n", "lawful\n")?;
-    lawful(
-        &rt,
-        "00 111\n000000000000000000000000000000100 001\n1100 111\n",
-        "lawful\n",
-    )
 }
 
 #[test]
@@ -189,27 +149,44 @@ fn text_fault_before_edge_fault(rt: HostRuntime) {
 }
 
 #[test]
-fn single_changes_of_the_example_trace(rt: HostRuntime) -> Result<(), Fail> {
-    let mut exchanged = example(&rt)?;
-    exchanged.swap(10, 11);
-    unlawful_edges(&rt, exchanged.as_slice(), WaveFault::Shape(10))?;
+fn exchanged_edges(rt: HostRuntime) -> Result<(), Fail> {
+    let mut edges = example(&rt)?;
+    edges.swap(10, 11);
+    unlawful_edges(&rt, &edges, WaveFault::Shape(10));
+    Ok(())
+}
 
-    let mut twice = example(&rt)?;
-    let again = twice[10];
-    twice.insert(11, again)?;
-    unlawful_edges(&rt, twice.as_slice(), WaveFault::Order(11))?;
+#[test]
+fn edge_twice(rt: HostRuntime) -> Result<(), Fail> {
+    let mut edges = example(&rt)?;
+    let again = edges[10];
+    edges.insert(11, again)?;
+    unlawful_edges(&rt, &edges, WaveFault::Order(11));
+    Ok(())
+}
 
-    let mut left_out = example(&rt)?;
-    left_out.remove(4);
-    unlawful_edges(&rt, left_out.as_slice(), WaveFault::Shape(4))?;
+#[test]
+fn edge_left_out(rt: HostRuntime) -> Result<(), Fail> {
+    let mut edges = example(&rt)?;
+    edges.remove(4);
+    unlawful_edges(&rt, &edges, WaveFault::Shape(4));
+    Ok(())
+}
 
-    let mut at_once = example(&rt)?;
-    at_once[4].time = 1100;
-    unlawful_edges(&rt, at_once.as_slice(), WaveFault::Order(4))?;
+#[test]
+fn edges_at_once(rt: HostRuntime) -> Result<(), Fail> {
+    let mut edges = example(&rt)?;
+    edges[4].time = 1100;
+    unlawful_edges(&rt, &edges, WaveFault::Order(4));
+    Ok(())
+}
 
-    let mut late = example(&rt)?;
-    late[5].time = 1350;
-    unlawful_edges(&rt, late.as_slice(), WaveFault::TooLate(5))
+#[test]
+fn late_edge(rt: HostRuntime) -> Result<(), Fail> {
+    let mut edges = example(&rt)?;
+    edges[5].time = 1350;
+    unlawful_edges(&rt, &edges, WaveFault::TooLate(5));
+    Ok(())
 }
 
 /// Two listeners may answer end-or-identify in one pulse that one of them could not make.
@@ -220,15 +197,18 @@ fn joint_pulse_of_two_listeners(rt: HostRuntime) -> Result<(), Fail> {
     for index in 67..EDGES {
         joint[index].time = joint[index].time.saturating_add(120);
     }
-    let text = write_trace(rt.alloc(), joint.as_slice())?;
-    let written = lines_of(&rt, text.as_slice())?;
-    assert_eq!(rt; written.as_slice(), EXAMPLE_LINES.as_bytes());
+    lawful(&rt, &text_of(&rt, &joint), EXAMPLE_LINES);
+    Ok(())
+}
 
+#[test]
+fn late_pulse_of_two_listeners(rt: HostRuntime) -> Result<(), Fail> {
     let mut late = example(&rt)?;
     for index in 67..EDGES {
         late[index].time = late[index].time.saturating_add(121);
     }
-    unlawful_edges(&rt, late.as_slice(), WaveFault::TooLate(67))
+    unlawful_edges(&rt, &late, WaveFault::TooLate(67));
+    Ok(())
 }
 
 /// LISTEN to device 9 in place of device 4.
@@ -246,100 +226,14 @@ fn another_device_is_addressed(rt: HostRuntime) -> Result<(), Fail> {
         edge.levels.clock = clock;
         edge.levels.line = line;
     }
-    let text = write_trace(rt.alloc(), other.as_slice())?;
-    let written = lines_of(&rt, text.as_slice())?;
-    assert_eq!(rt;
-        written.as_slice(),
-        b"command 41\ndata 72\ndata 73\ndata 13 eoi\ncommand 63\nlawful\n".as_slice()
-    );
-    Ok(())
-}
-
-#[test]
-fn reads_that_fail(rt: HostRuntime) -> Result<(), Fail> {
-    // One call for each byte, and one that finds the end.
-    let calls = ONE_ATTENTION.len() + 1;
-    for fail_at in 0..calls + 2 {
-        let bytes = ONE_ATTENTION.as_bytes().to_vec(rt.alloc())?;
-        let mut input = Watched::new(Slow::new(bytes, fail_at));
-        let mut output = Watched::new(Vec::new(rt.alloc()));
-        let answer = check_over(rt.alloc(), &mut input, &mut output);
-        let written = output.into_inner();
-        if fail_at < calls {
-            assert_eq!(rt; answer, Err(CliFault::ReadFailed), "at call {fail_at}");
-            assert!(rt; input.failed());
-            assert!(rt; written.is_empty());
-        } else {
-            assert_eq!(rt; answer, Ok(()), "at call {fail_at}");
-            assert!(rt; !input.failed());
-            assert_eq!(rt; written.as_slice(), b"command 36\nlawful\n".as_slice());
-        }
-    }
-    Ok(())
-}
-
-/// A failed read is told before a bad line that came earlier.
-#[test]
-fn failed_read_before_bad_line(rt: HostRuntime) -> Result<(), Fail> {
-    let bytes = b"0 121\n100 001\n".to_vec(rt.alloc())?;
-    let mut input = Watched::new(Slow::new(bytes, 10));
-    let mut output = Watched::new(Vec::new(rt.alloc()));
-    let answer = check_over(rt.alloc(), &mut input, &mut output);
-    assert_eq!(rt; answer, Err(CliFault::ReadFailed));
-    Ok(())
-}
-
-#[test]
-fn writes_that_fail(rt: HostRuntime) -> Result<(), Fail> {
-    // One call for each byte, and the flush.
-    let lines = b"command 36\nlawful\n".as_slice();
-    for fail_at in 0..lines.len() + 3 {
-        for takes_none in [false, true] {
-            let mut input = Watched::new(ONE_ATTENTION.as_bytes());
-            let mut slow = Slow::new(Vec::new(rt.alloc()), fail_at);
-            slow.takes_none = takes_none;
-            let mut output = Watched::new(slow);
-            let answer = check_over(rt.alloc(), &mut input, &mut output);
-            let failed = output.failed();
-            let written = output.into_inner().bytes;
-            assert!(rt; lines.starts_with(written.as_slice()));
-            if fail_at <= lines.len() {
-                assert_eq!(rt; answer, Err(CliFault::WriteFailed), "at call {fail_at}");
-                assert!(rt; failed);
-                assert_eq!(rt; written.len(), fail_at);
-            } else {
-                assert_eq!(rt; answer, Ok(()), "at call {fail_at}");
-                assert!(rt; !failed);
-                assert_eq!(rt; written.as_slice(), lines);
-            }
-        }
-    }
-    Ok(())
-}
-
-#[test]
-fn fault_texts_of_traces(rt: HostRuntime) -> Result<(), Fail> {
-    let texts = [
-        (
-            CliFault::Trace(TraceFault::BadLine(7)),
-            "line 7: bad trace line",
-        ),
-        (CliFault::Wave(WaveFault::Start(0)), "edge 0: bad start"),
-        (CliFault::Wave(WaveFault::Shape(10)), "edge 10: bad shape"),
-        (
-            CliFault::Wave(WaveFault::Truncated(102)),
-            "edge 102: truncated",
-        ),
-    ];
-    for (fault, text) in texts {
-        assert_eq!(rt; format!(in rt.alloc(); "{fault}")?.as_str(), text);
-    }
+    let lines = "command 41\ndata 72\ndata 73\ndata 13 eoi\ncommand 63\nlawful\n";
+    lawful(&rt, &text_of(&rt, &other), lines);
     Ok(())
 }
 
 /// The limit of `check` is a terabyte, so its reading is tried with small ones.
 #[test]
-fn text_up_to_the_limit(rt: HostRuntime) {
+fn too_large_by_an_endless_reader(rt: HostRuntime) {
     for (most, limit, given) in ENDLESS {
         let mut input = Watched::new(Endless::new(most));
         let answer = check_input(rt.alloc(), &mut input, limit).err();
@@ -351,6 +245,10 @@ fn text_up_to_the_limit(rt: HostRuntime) {
         assert!(rt; !input.failed());
         assert_eq!(rt; input.into_inner().given, given);
     }
+}
+
+#[test]
+fn text_up_to_the_limit(rt: HostRuntime) {
     let whole = TRACE_TEXT.len();
     for limit in whole - 2..whole + 2 {
         let mut input = Watched::new(TRACE_TEXT.as_bytes());
@@ -364,15 +262,5 @@ fn text_up_to_the_limit(rt: HostRuntime) {
                 assert_eq!(rt; fault, CliFault::TooLarge);
             }
         }
-    }
-}
-
-#[test]
-fn check_takes_no_option(rt: HostRuntime) {
-    let words = ["print1525", "check"];
-    assert!(rt; matches!(read_job(rt.alloc(), &words), Ok(Job::Check)));
-    match read_job(rt.alloc(), &["print1525", "check", "--delays", "1"]) {
-        Err(JobFault::Line(error)) => assert_eq!(rt; error.exit_code(), 2),
-        _ => assert!(rt; false),
     }
 }

@@ -1,6 +1,6 @@
 use Rattle.std.proofs.Common.{◌∙◌, sym}
 use Rattle.pr_bus.specs.Answers.{answered_frames}
-use Rattle.pr_bus.specs.WiresState.{trace_from}
+use Rattle.pr_bus.specs.Timed.{trace_from}
 use Rattle.pr_bus.proofs.TimedLawful.{timed-spells}
 use Rattle.pr_bus.proofs.HeardAsFrames.{HearingLaws, items-heard}
 use Rattle.pr_bus.proofs.laws.items_are_heard_on_wires.Goals as goal

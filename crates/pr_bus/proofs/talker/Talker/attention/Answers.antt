@@ -9,6 +9,7 @@ use Rattle.pr_bus.specs.declared.talker.Talker.{Talker}
 use Rattle.pr_bus.specs.Timed as all
 use Rattle.pr_bus.specs.Timed.{taking, answer_at, due_edges, second_frame, final_ack}
 use Rattle.pr_bus.specs.Talk.{IsTuned, printers_of, command_frame, second_of, ending_of}
+use Rattle.pr_bus.specs.Talking.{lines_of}
 use Rattle.pr_bus.proofs.FrameLemmas.{delay-drop, drop-twice}
 use Rattle.pr_bus.proofs.PrinterLemmas.{taking-twice}
 use Rattle.pr_bus.proofs.AttentionLemmas.{IsCommanded, commanded, first_of, last_of, first-is, second-is, final-is, same-then, both, attention-edges, attention-state}
@@ -66,9 +67,9 @@ returns-clause-edges c = λ before i.
     (command_frame c.answer.new.self (c.args.self.now.time + c.from.result + c.from-2.result) c.args.first) (second_of c.command.new.self c.in_ok-ack.ack c.args.second)
     c.push_due.new.edges.items c.push_call.new.edges.items c.answer.new.self.edges.items c.command.new.self.edges.items c.second.new.self.edges.items c.release.new.self.edges.items
     c.requires.may_send (there c) (here c before i) (last-is c) (time-is c) (frame-is c) (more-is c)
-    (c.in_ok-push_due.ensures ∙ ap (λ l. l ++ due_edges c.args.self.now.lines) c.clear.ensures.items)
+    (c.in_ok-push_due.ensures ∙ ap (λ l. l ++ due_edges (lines_of c.args.self.now.lines)) c.clear.ensures.items)
     c.in_ok-push_call.ensures
-    (c.in_ok-answer.ensures.edges ∙ ap (λ d. c.push_call.new.edges.items ++ answer_edges (answer_at c.args.self.now.lines (c.args.self.now.time + c.from.result) (printers_of c.args.self.now)) (c.args.self.now.time + c.from.result + d)) (aw-is c))
+    (c.in_ok-answer.ensures.edges ∙ ap (λ d. c.push_call.new.edges.items ++ answer_edges (answer_at (lines_of c.args.self.now.lines) (c.args.self.now.time + c.from.result) (printers_of c.args.self.now)) (c.args.self.now.time + c.from.result + d)) (aw-is c))
     c.in_ok-ack.ensures.edges c.in_ok-ack-2.ensures.edges
     (c.in_ok-release.ensures.edges ∙ ap (λ (x : Talker). x.edges.items ++ ending_edges (ending_of c.tune-2.new.self c.in_ok-ack-2.ack (c.args.first == 63))) c.tune-2.ensures)
 

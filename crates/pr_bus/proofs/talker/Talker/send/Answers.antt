@@ -1,6 +1,7 @@
 use Rattle.std.proofs.Common.{ap, sym, ◌∙◌, ◌++◌, drop, ◌+◌}
 use Rattle.pr_wire.specs.Choices.{left}
 use Rattle.pr_bus.specs.Timed.{Done, due_edges}
+use Rattle.pr_bus.specs.Talking.{lines_of}
 use Rattle.pr_bus.proofs.FrameLemmas.{drop-twice}
 use Rattle.pr_bus.proofs.TalkLemmas.{heard-edges, heard-state, tuned-sent, done-heard, dropped-edges}
 use Rattle.pr_bus.proofs.talker.Talker.send.Goals as goal
@@ -9,7 +10,7 @@ pub returns-then-is_heard-clause-edges : goal.returns-then-is_heard-clause-edges
 returns-then-is_heard-clause-edges c = λ before i.
     heard-edges before c.args.self.now c.args.byte c.args.eoi _ (left c.next.new.self) c.push_due.new.edges.items _ i (sym c.is_heard.ensures ∙ c.if-is_heard.true)
     (ap (λ d. c.args.self.now.time + d) (c.from.ensures ∙ c.next.ensures.delay)) c.next.ensures.left
-    (c.in_ok-push_due.ensures ∙ ap (λ l. l ++ due_edges c.args.self.now.lines) c.clear.ensures.items)
+    (c.in_ok-push_due.ensures ∙ ap (λ l. l ++ due_edges (lines_of c.args.self.now.lines)) c.clear.ensures.items)
     c.in_ok-frame.ensures.edges
 
 pub returns-then-is_heard-clause-state : goal.returns-then-is_heard-clause-state
@@ -31,4 +32,4 @@ returns-clause-edges c = λ before i.
     c.in_ok-drop_byte.ensures.edges
     ∙ dropped-edges before c.args.self.now c.args.byte c.args.eoi _ c.push_due.new.edges.items i (sym c.is_heard.ensures ∙ c.if-is_heard.false)
     (ap (λ d. c.args.self.now.time + d) (c.from.ensures ∙ c.next.ensures.delay))
-    (c.in_ok-push_due.ensures ∙ ap (λ l. l ++ due_edges c.args.self.now.lines) c.clear.ensures.items)
+    (c.in_ok-push_due.ensures ∙ ap (λ l. l ++ due_edges (lines_of c.args.self.now.lines)) c.clear.ensures.items)
