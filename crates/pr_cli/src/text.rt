@@ -8,8 +8,8 @@ ghost use Rattle.std.specs.Io.KnownBytes.{Appends};
 ghost use Rattle.pr_cli.specs.Watched.{has_failed, wrapped};
 ghost use Rattle.pr_cli.specs.PartlyWritten.{AppendsFront};
 
-use crate::watched::Watched;
 use crate::read_write::{BLOCK, WriteFault, flush, write_piece};
+use crate::watched::Watched;
 use itoa::Buffer;
 use std::alloc::{AllocError, Global};
 use std::io::Write;

@@ -361,7 +361,7 @@ fn is_refused(
     let (before, shown) = (*session, channels.screen().len());
     let (items, output, open, _status) = state_of(channels);
     let lost = channels.serial().failed() && reaches_bus(channels, statement);
-    assert!(rt; items < 1000);
+    assert!(rt; channels.serial().items() < 1000);
     match perform(channels, statement, session) {
         Ok(stop) => {
             assert_eq!(rt; stop, None);

@@ -68,7 +68,10 @@ pub fn write_fails(
     if fail_at < text.len().saturating_add(flushes) {
         assert_eq!(rt; answer, Err(CliFault::WriteFailed), "at call {fail_at}");
         let flushed = fail_at.saturating_sub(written.len());
-        assert!(rt; failed && written.len() <= fail_at && flushed < flushes, "at call {fail_at}");
+        assert!(rt;
+            failed && written.len() <= fail_at && flushed < flushes,
+            "at call {fail_at}"
+        );
     } else {
         assert_eq!(rt; answer, Ok(Ending::Done), "at call {fail_at}");
         assert!(rt; !failed && written.len() == text.len(), "at call {fail_at}");
