@@ -125,7 +125,7 @@ const HELD: &[u8] = b"OPEN 4,4\nCMD 4,\"HI\"";
 #[test]
 fn last_byte_stays_held(rt: HostRuntime) {
     let held = [cell(72, 0), cell(73, 6)];
-    let four = Page {
+    let four = Sheet {
         rows: &[],
         marks: &[],
         held: &held,

@@ -30,7 +30,7 @@ fn begun(rt: &(impl Abort + AllocGlobal)) -> Running
 
 /// So far printer 4 has this page, printer 5 has none, and these are the statuses and the bytes on
 /// the screen.
-fn shows(rt: &impl Abort, running: &Running, four: Page<'_>, statuses: &[u8], screen: &[u8]) {
+fn shows(rt: &impl Abort, running: &Running, four: Sheet<'_>, statuses: &[u8], screen: &[u8]) {
     has_page(rt, running.paper(4), four);
     has_page(rt, running.paper(5), blank());
     assert_eq!(rt; running.statuses(), statuses);
@@ -42,7 +42,7 @@ fn shows(rt: &impl Abort, running: &Running, four: Page<'_>, statuses: &[u8], sc
 fn is_without_trace(
     rt: &impl Abort,
     outcome: &Outcome,
-    four: Page<'_>,
+    four: Sheet<'_>,
     statuses: &[u8],
     stop: Option<(usize, Stop)>,
     screen: &[u8],
