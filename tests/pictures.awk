@@ -1,4 +1,5 @@
-# A page text drawn once more, apart from the proved code. usage: awk -v as=svg|text -v present=both|4|5|none -f pictures.awk PAGE-TEXT
+# A page text drawn once more, apart from the proved code. usage: awk -v as=svg|text -v present=both|4|5|none [-v apart=1] -f pictures.awk PAGE-TEXT
+# With apart each cell is an element of its own.
 # a character in UTF-8, also where awk writes it so by itself (gawk in a UTF-8 locale)
 function utf8(u) {
     if (u < 128 || sprintf("%c", 9608) == "\342\226\210") return sprintf("%c", u)
@@ -18,7 +19,6 @@ function character(code, lower) {
     if (lower && code in other) return other[code]
     return code in graphic ? graphic[code] : code
 }
-function has(words, word) { return index(words " ", " " word " ") > 0 }
 function bits(x, value,   k, gap, ink, path) {
     path = "M" x ".5-7"
     for (k = 0; k < 8; k++) {
@@ -31,8 +31,14 @@ function bits(x, value,   k, gap, ink, path) {
     return path
 }
 
+# a letter that every font has, or a blank; and a cell of either behind such cells from another on, printed alike
+function plain(u) { return u == 160 || u >= 32 && u < 127 }
+function joins(i, k) {
+    return !apart && plain(sign[i]) && plain(sign[k]) && kind[k] == "cell" && style[k] == style[i] && place[k] == place[i] + (k - i) * (style[i] ~ /wide/ ? 12 : 6)
+}
+
 # the marks from one to another as elements
-function elements(from, to,   i, k, x, u, end, reverse, wide, text, path, picture) {
+function elements(from, to,   i, k, x, shown, reverse, wide, text, path, picture) {
     for (i = from; i <= to; i++) {
         x = place[i]
         if (kind[i] == "dots") {
@@ -42,23 +48,18 @@ function elements(from, to,   i, k, x, u, end, reverse, wide, text, path, pictur
         }
         if (path) picture = picture "\"/>\n"
         path = 0
-        u = character(code[i], has(words[i], "lower"))
-        if (letter[i] == 2) {
-            end = i
-            text = ""
-            for (k = i; k <= to && letter[k] && place[k] == x + 6 * (k - i); k++) if (letter[k] == 2) end = k
-            for (k = i; k <= end; k++) text = text (letter[k] == 2 ? escaped(character(code[k], has(words[k], "lower"))) : " ")
-            picture = picture "<text xml:space=\"preserve\" x=\"" x "\" textLength=\"" 6 * (end - i + 1) "\" lengthAdjust=\"spacingAndGlyphs\">" text "</text>\n"
-            i = k - 1
-            continue
+        text = shown = ""
+        for (k = i; k == i || k <= to && joins(i, k); k++) {
+            text = text (sign[k] == 160 ? " " : escaped(sign[k]))
+            if (sign[k] != 32 && sign[k] != 160) shown = 1
         }
-        reverse = has(words[i], "reverse")
-        wide = has(words[i], "wide")
-        if (reverse) picture = picture "<rect x=\"" x "\" y=\"-7\" width=\"" (wide ? 12 : 6) "\" height=\"7\"/>\n"
-        if (u == 32 || u == 160) continue
-        if (reverse) picture = picture "<text fill=\"#fff\" transform=\"translate(" x " -1) scale(" (wide ? 2 : 1) " .8)"
-        else picture = picture (wide ? "<text transform=\"translate(" x ") scale(2 1)" : "<text x=\"" x)
-        picture = picture "\" textLength=\"6\" lengthAdjust=\"spacingAndGlyphs\">" escaped(u) "</text>\n"
+        reverse = style[i] ~ /reverse/
+        wide = style[i] ~ /wide/
+        if (reverse) picture = picture "<rect x=\"" x "\" y=\"-7\" width=\"" (k - i) * (wide ? 12 : 6) "\" height=\"7\"/>\n"
+        if (shown && reverse) picture = picture "<text fill=\"#fff\" transform=\"translate(" x " -1) scale(" (wide ? 2 : 1) " .8)"
+        else if (shown) picture = picture (wide ? "<text transform=\"translate(" x ") scale(2 1)" : "<text x=\"" x)
+        if (shown) picture = picture "\" xml:space=\"preserve\" textLength=\"" 6 * (k - i) "\" lengthAdjust=\"spacingAndGlyphs\">" text "</text>\n"
+        i = k - 1
     }
     return picture (path ? "\"/>\n" : "")
 }
@@ -73,12 +74,12 @@ function line(margin, from, to,   i, c, u, ink, shown, blank, text) {
                 if (int(place[i] / 6) == c) ink += count_bits(code[i])
                 continue
             }
-            shown = character(code[i], has(words[i], "lower"))
-            blank = has(words[i], "reverse") ? 9608 : 32
+            shown = sign[i]
+            blank = style[i] ~ /reverse/ ? 9608 : 32
             if (shown == 32 || shown == 160) shown = blank
             if (shown == 32) continue
             if (int(place[i] / 6) == c) { u = shown; ink = 0 }
-            else if (has(words[i], "wide") && int(place[i] / 6) + 1 == c) { u = blank; ink = 0 }
+            else if (style[i] ~ /wide/ && int(place[i] / 6) + 1 == c) { u = blank; ink = 0 }
         }
         if (ink) u = ink < 12 ? 9617 : ink < 23 ? 9618 : ink < 34 ? 9619 : 9608
         text = text utf8(u)
@@ -152,8 +153,7 @@ $1 == "stop" { stop = name[$2] " in statement " $4; next }
     place[marks] = $1
     kind[marks] = $2
     code[marks] = $3
-    words[marks] = (/ lower/ ? " lower" : "") (/ reverse/ ? " reverse" : "") (/ wide/ ? " wide" : "")
-    u = $2 == "cell" ? character($3, $0 ~ / lower/) : 0
-    letter[marks] = $2 != "cell" || / reverse| wide/ ? 0 : u == 32 || u == 160 ? 1 : u < 127 ? 2 : 0
+    sign[marks] = $2 == "cell" ? character($3, / lower/) : 0
+    style[marks] = (/ reverse/ ? "reverse " : "") (/ wide/ ? "wide" : "")
 }
 END { printf "%s", as == "svg" ? picture() : text_lines() }

@@ -1,5 +1,4 @@
 pub mod Characters
-pub mod Joined
 pub mod Laws
 pub mod Parts
 pub mod Pens

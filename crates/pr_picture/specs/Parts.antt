@@ -70,7 +70,7 @@ units_begin = codes "pc\" viewBox=\"0 0 "
 unfoldable pub units_between : List ℕ
 units_between = codes " "
 
--- a white character, up to its dot column
+-- characters in white, up to the dot column of the first
 unfoldable pub white_begin : List ℕ
 white_begin = codes "<text fill=\"#fff\" transform=\"translate("
 
@@ -78,14 +78,18 @@ white_begin = codes "<text fill=\"#fff\" transform=\"translate("
 unfoldable pub text_end : List ℕ
 text_end = codes "</text>\n"
 
--- letters side by side, up to the dot column of the first: blanks between them stand for themselves
-unfoldable pub letters_begin : List ℕ
-letters_begin = codes "<text xml:space=\"preserve\" x=\""
-
--- between a place and a width
-unfoldable pub letters_width : List ℕ
-letters_width = codes "\" textLength=\""
+-- between a place and the width of characters: blanks among them stand for themselves
+unfoldable pub characters_width : List ℕ
+characters_width = codes "\" xml:space=\"preserve\" textLength=\""
 
 -- behind the width, to which the characters of any font are drawn out
-unfoldable pub letters_fitted : List ℕ
-letters_fitted = codes "\" lengthAdjust=\"spacingAndGlyphs\">"
+unfoldable pub characters_fitted : List ℕ
+characters_fitted = codes "\" lengthAdjust=\"spacingAndGlyphs\">"
+
+-- between a box's place and its width
+unfoldable pub box_width : List ℕ
+box_width = codes "\" y=\"-7\" width=\""
+
+-- the end of a box
+unfoldable pub box_end : List ℕ
+box_end = codes "\" height=\"7\"/>\n"

@@ -1,12 +1,12 @@
 -- Linking words, for proofs: what is open in a pen.
-use Rattle.std.specs.Prelude.{◌≡◌, ℕ, Bool, List, [], ◌∷◌, ◌++◌}
+use Rattle.std.specs.Prelude.{◌≡◌, Bool, List, ◌∷◌, ◌++◌, ℕ}
 use Rattle.pr_page.specs.declared.paper.Placed.{Placed}
 use Rattle.pr_picture.specs.declared.marks.Pen.{Pen}
-use Rattle.pr_picture.specs.Svg.{joint, letters_svg, marks_svg}
+use Rattle.pr_picture.specs.Svg.{joint, marks_svg, no_strip, strip_svg}
 
 -- what marks give, behind what is open in a pen
 abbrev pub left_svg : Pen → List Placed → List ℕ
-left_svg pen marks = marks_svg pen.in_path pen.letters.x pen.letters.count pen.letters.blanks pen.letters.text.items marks
+left_svg pen marks = marks_svg pen.in_path pen.cells marks
 
 -- whatever is drawn next, a mark has been drawn: the text so far and what is left make the same picture
 abbrev pub HasDrawn : Placed → List ℕ → Pen → List ℕ → Pen → Type 0
@@ -15,10 +15,8 @@ HasDrawn mark text pen new_text new_pen =
 
 -- the end of what is open, before a column of dots or not
 abbrev pub ended_svg : Pen → Bool → List ℕ
-ended_svg pen dots = letters_svg pen.letters.x pen.letters.count pen.letters.text.items ++ joint pen.in_path dots
+ended_svg pen dots = strip_svg pen.cells ++ joint pen.in_path dots
 
--- no letters are open, and a path is or is not
+-- no cells are open, and a path is or is not
 abbrev pub IsClosed : Pen → Bool → Type 0
-IsClosed pen dots =
-    (pen.in_path ≡ dots)
-    × (pen.letters.x ≡ 0) × (pen.letters.count ≡ 0) × (pen.letters.blanks ≡ 0) × (pen.letters.text.items ≡ [])
+IsClosed pen dots = (pen.in_path ≡ dots) × (pen.cells ≡ no_strip)

@@ -1,6 +1,6 @@
 -- Trusted: the picture of an outcome as an SVG document.
 -- A unit of the document is 1/1260 inch: a dot column is 21 units wide, 1/126 inch is 10 units, and 1/6 inch 210 units (a pica, `pc`).
-use Rattle.std.specs.Prelude.{ℕ, ◌+◌, ◌*◌, ◌/◌, ◌%◌, Bool, true, false, not, List, [], ◌∷◌, ◌++◌, ◌==◌, ◌||◌, ◌&&◌, nat_le, nat_lt, max, codes, decimal, flat_map, length, replicate, if◌then◌else◌, Option, Some, None}
+use Rattle.std.specs.Prelude.{ℕ, ◌+◌, ◌*◌, ◌/◌, ◌%◌, Bool, true, false, not, List, [], ◌∷◌, ◌++◌, ◌==◌, ◌||◌, ◌&&◌, nat_le, nat_lt, max, codes, decimal, flat_map, length, if◌then◌else◌, Option, Some, None}
 use Rattle.pr_page.specs.declared.paper.Placed.{Placed}
 use Rattle.pr_page.specs.declared.paper.Row.{Row}
 use Rattle.pr_page.specs.declared.paper.Paper.{Paper}
@@ -11,7 +11,7 @@ use Rattle.pr_channels.specs.declared.faults.Stop.{Stop}
 use Rattle.pr_system.specs.declared.outcome.Outcome.{Outcome}
 use Rattle.pr_picture.specs.Characters.{character}
 use Rattle.pr_picture.specs.Words.{either_text, is_blank, numbers_text, stop_name, text_if}
-use Rattle.pr_picture.specs.Parts.{desk, document_about, document_begin, group_begin, group_scale, height_begin, held_note, letters_begin, letters_fitted, letters_width, notes_begin, paper_piece, sheet_marks, sheet_name, sheet_paper, statuses_begin, statuses_line, stop_begin, text_end, units_begin, units_between, white_begin}
+use Rattle.pr_picture.specs.Parts.{box_end, box_width, characters_fitted, characters_width, desk, document_about, document_begin, group_begin, group_scale, height_begin, held_note, notes_begin, paper_piece, sheet_marks, sheet_name, sheet_paper, statuses_begin, statuses_line, stop_begin, text_end, units_begin, units_between, white_begin}
 
 -- a character that stands for itself in an SVG: ASCII from the space on, but no quote, ampersand, apostrophe, less or greater
 abbrev pub stands_for_itself : ℕ → Bool
@@ -23,31 +23,33 @@ stands_for_itself u =
 unfoldable pub escaped : ℕ → List ℕ
 escaped u = if stands_for_itself u then u ∷ [] else codes "&#" ++ decimal u ++ codes ";"
 
--- the black box of a reversed cell
-abbrev pub cell_box : ℕ → Bool → Bool → List ℕ
-cell_box x reverse wide =
-    text_if reverse
-    (codes "<rect x=\"" ++ decimal x
-    ++ either_text wide (codes "\" y=\"-7\" width=\"12\" height=\"7\"/>\n") (codes "\" y=\"-7\" width=\"6\" height=\"7\"/>\n"))
+-- how wide so many cells are, in dots
+abbrev pub cells_width : Bool → ℕ → ℕ
+cells_width wide count = if wide then 12 * count else 6 * count
 
--- where a reversed cell's character stands, white, a dot higher and smaller, so that it lies in its box
+-- the black box of so many reversed cells, seven dots high
+unfoldable pub box_svg : ℕ → Bool → ℕ → List ℕ
+box_svg x wide count = codes "<rect x=\"" ++ decimal x ++ box_width ++ decimal (cells_width wide count) ++ box_end
+
+-- where characters in white begin, a dot higher and smaller, so that they lie in their box
 abbrev pub white_place : ℕ → Bool → List ℕ
 white_place x wide = white_begin ++ decimal x ++ either_text wide (codes " -1) scale(2 .8)") (codes " -1) scale(1 .8)")
 
--- where another cell's character stands, on the base line, drawn twice as wide where the cell is wide
+-- where characters in black begin, on the base line, drawn twice as wide where their cells are wide
 abbrev pub black_place : ℕ → Bool → List ℕ
 black_place x wide =
     if wide then codes "<text transform=\"translate(" ++ decimal x ++ codes ") scale(2 1)"
     else codes "<text x=\"" ++ decimal x
 
--- a cell's character, six dots wide before it is drawn wider
-unfoldable pub character_svg : ℕ → ℕ → Bool → Bool → List ℕ
-character_svg x u reverse wide =
-    (if reverse then white_place x wide else black_place x wide) ++ letters_width ++ codes "6" ++ letters_fitted ++ escaped u ++ text_end
+-- a character in its cell: a blank is a space
+abbrev pub character_text : ℕ → List ℕ
+character_text u = if is_blank u then 32 ∷ [] else escaped u
 
--- a cell: its box if it is reversed, and its character if it is no blank
-abbrev pub cell_svg : ℕ → ℕ → Bool → Bool → List ℕ
-cell_svg x u reverse wide = cell_box x reverse wide ++ (if is_blank u then [] else character_svg x u reverse wide)
+-- characters side by side, each six dots wide before it is drawn wider
+unfoldable pub characters_svg : ℕ → Bool → Bool → List ℕ → List ℕ
+characters_svg x reverse wide characters =
+    (if reverse then white_place x wide else black_place x wide) ++ characters_width ++ decimal (6 * length characters)
+    ++ characters_fitted ++ flat_map character_text characters ++ text_end
 
 -- the seven dots of a column from the top, 1 where there is ink
 abbrev pub dots_of : ℕ → List ℕ
@@ -79,10 +81,10 @@ value_svg value = flat_map stroke_svg (strokes 0 0 (dots_of value))
 unfoldable pub column_svg : ℕ → ℕ → List ℕ
 column_svg x value = codes "M" ++ decimal x ++ codes ".5-7" ++ value_svg value
 
--- a mark, a cell as elements and a column of dots as a part of a path
-abbrev pub mark_svg : ℕ → Mark → List ℕ
-mark_svg x (Cell code lower reverse wide) = cell_svg x (character lower code) reverse wide
-mark_svg x (Dots value) = column_svg x value
+-- what of a mark is a part of a path: a column of dots
+abbrev pub dots_svg : ℕ → Mark → List ℕ
+dots_svg x (Cell code lower reverse wide) = []
+dots_svg x (Dots value) = column_svg x value
 
 -- the mark is a column of dots
 abbrev pub is_dots : Mark → Bool
@@ -96,52 +98,68 @@ joint false true = codes "<path stroke=\"#000\" d=\""
 joint true false = codes "\"/>\n"
 joint true true = []
 
--- a letter that every font has whose letters are of one width: ASCII behind the space
-abbrev pub is_letter : ℕ → Bool
-is_letter u = nat_lt 32 u && nat_le u 126
+-- a letter that every font has whose letters are of one width (ASCII behind the space), or a blank
+abbrev pub is_plain : ℕ → Bool
+is_plain u = (nat_lt 32 u && nat_le u 126) || is_blank u
 
--- the mark shows a letter, in black and of standard width
-abbrev pub shows_letter : Mark → Bool
-shows_letter (Cell code lower reverse wide) = not reverse && not wide && is_letter (character lower code)
-shows_letter (Dots value) = false
+-- a strip: the characters of cells side by side, from a dot column on, all reversed or none, all wide or none
+pub record Strip : Type 0 where
+  pub x : ℕ
+  pub reverse : Bool
+  pub wide : Bool
+  pub characters : List ℕ
 
--- the mark is a blank of standard width that is not reversed
-abbrev pub shows_blank : Mark → Bool
-shows_blank (Cell code lower reverse wide) = not reverse && not wide && is_blank (character lower code)
-shows_blank (Dots value) = false
+-- no cells
+abbrev pub no_strip : Strip
+no_strip = record { x = 0; reverse = false; wide = false; characters = [] }
 
--- the character of a cell
-abbrev pub mark_letter : Mark → List ℕ
-mark_letter (Cell code lower reverse wide) = escaped (character lower code)
-mark_letter (Dots value) = []
+-- the strip of one cell, or of none where a mark is a column of dots
+abbrev pub strip_of : ℕ → Mark → Strip
+strip_of x (Cell code lower reverse wide) = record { x = x; reverse = reverse; wide = wide; characters = character lower code ∷ [] }
+strip_of x (Dots value) = no_strip
 
--- letters side by side from a dot column on, so many cells, if any: each is six dots wide
-unfoldable pub letters_svg : ℕ → ℕ → List ℕ → List ℕ
-letters_svg x count letters =
-    if count == 0 then []
-    else letters_begin ++ decimal x ++ letters_width ++ decimal (6 * count) ++ letters_fitted ++ letters ++ text_end
+-- a strip and one more behind it
+abbrev pub lengthened : Strip → Strip → Strip
+lengthened strip next =
+    record { x = strip.x; reverse = strip.reverse; wide = strip.wide; characters = strip.characters ++ next.characters }
 
--- a dot column is that of the next cell behind so many cells, if any, from another on
-abbrev pub follows : ℕ → ℕ → ℕ → Bool
-follows x count next = nat_lt 0 count && next == x + 6 * count
+-- both or none
+abbrev pub same : Bool → Bool → Bool
+same this other = if this then other else not other
 
--- marks in their order, behind a path that is open or not, and behind so many letters side by side from x on, and so many blanks:
--- a letter or a blank that follows them joins them, a letter elsewhere begins anew; any other mark ends them, and the blanks at
--- their end are left out
-abbrev pub marks_svg : Bool → ℕ → ℕ → ℕ → List ℕ → List Placed → List ℕ
-marks_svg path x count blanks letters [] = letters_svg x count letters ++ joint path false
-marks_svg path x count blanks letters (p ∷ ps) =
-    if shows_letter p.mark then
-    (if follows x (count + blanks) p.x
-    then marks_svg path x (count + blanks + 1) 0 (letters ++ replicate blanks 32 ++ mark_letter p.mark) ps
-    else letters_svg x count letters ++ joint path false ++ marks_svg false p.x 1 0 (mark_letter p.mark) ps)
-    else (if shows_blank p.mark && follows x (count + blanks) p.x
-    then marks_svg path x count (blanks + 1) letters ps
-    else letters_svg x count letters ++ joint path (is_dots p.mark) ++ mark_svg p.x p.mark ++ marks_svg (is_dots p.mark) 0 0 0 [] ps)
+-- characters begin with a plain one
+abbrev pub begins_plain : List ℕ → Bool
+begins_plain [] = false
+begins_plain (u ∷ us) = is_plain u
+
+-- a strip joins another: both are plain and printed alike, and it stands where the other ends
+abbrev pub joins : Strip → Strip → Bool
+joins next strip =
+    begins_plain next.characters && begins_plain strip.characters && same strip.reverse next.reverse && same strip.wide next.wide
+    && next.x == strip.x + cells_width strip.wide (length strip.characters)
+
+-- a character among these is no blank
+abbrev pub shows : List ℕ → Bool
+shows [] = false
+shows (u ∷ us) = not (is_blank u) || shows us
+
+-- a strip: its box if it is reversed, and its characters if they are not all blank
+unfoldable pub strip_svg : Strip → List ℕ
+strip_svg strip =
+    text_if strip.reverse (box_svg strip.x strip.wide (length strip.characters))
+    ++ text_if (shows strip.characters) (characters_svg strip.x strip.reverse strip.wide strip.characters)
+
+-- marks in their order, behind a path that is open or not, and behind a strip: a cell that joins the strip makes it longer, and any
+-- other mark ends it
+abbrev pub marks_svg : Bool → Strip → List Placed → List ℕ
+marks_svg path strip [] = strip_svg strip ++ joint path false
+marks_svg path strip (p ∷ ps) =
+    if joins (strip_of p.x p.mark) strip then marks_svg path (lengthened strip (strip_of p.x p.mark)) ps
+    else strip_svg strip ++ joint path (is_dots p.mark) ++ dots_svg p.x p.mark ++ marks_svg (is_dots p.mark) (strip_of p.x p.mark) ps
 
 -- the marks of a line, from nothing
 unfoldable pub line_marks : List Placed → List ℕ
-line_marks marks = marks_svg false 0 0 0 [] marks
+line_marks marks = marks_svg false no_strip marks
 
 -- marks on a line at a distance: there a unit is a dot, and the base line is seven dots down
 unfoldable pub group_svg : ℕ → List Placed → List ℕ

@@ -2,11 +2,11 @@
 #![tactic(auto)]
 
 mod adding;
+mod cells;
 mod characters;
 mod columns;
 mod drawing;
 pub mod laws;
-mod letters;
 mod marks;
 mod parts;
 mod plain;

@@ -1,7 +1,7 @@
 //! The fixed parts of the picture.
 
 ghost use Rattle.std.specs.Prelude.{◌≡◌};
-ghost use Rattle.pr_picture.specs.Parts.{desk, document_about, document_begin, group_begin, group_scale, height_begin, held_note, letters_begin, letters_fitted, letters_width, notes_begin, paper_piece, sheet_marks, sheet_name, sheet_paper, statuses_begin, statuses_line, stop_begin, text_end, units_begin, units_between, white_begin};
+ghost use Rattle.pr_picture.specs.Parts.{box_end, box_width, characters_fitted, characters_width, desk, document_about, document_begin, group_begin, group_scale, height_begin, held_note, notes_begin, paper_piece, sheet_marks, sheet_name, sheet_paper, statuses_begin, statuses_line, stop_begin, text_end, units_begin, units_between, white_begin};
 
 /// The document's first tag, up to its width.
 #[tactic(auto, unfolding(crate::specs::Parts::document_begin))]
@@ -139,7 +139,7 @@ pub fn units_between() -> &'static [u8]
     b" "
 }
 
-/// A white character, up to its dot column.
+/// Characters in white, up to the dot column of the first.
 #[tactic(auto, unfolding(crate::specs::Parts::white_begin))]
 pub fn white_begin() -> &'static [u8]
     ensures { result.now ≡ white_begin }
@@ -155,26 +155,34 @@ pub fn text_end() -> &'static [u8]
     b"</text>\n"
 }
 
-/// Letters side by side, up to the dot column of the first.
-#[tactic(auto, unfolding(crate::specs::Parts::letters_begin))]
-pub fn letters_begin() -> &'static [u8]
-    ensures { result.now ≡ letters_begin }
+/// Between a place and the width of characters.
+#[tactic(auto, unfolding(crate::specs::Parts::characters_width))]
+pub fn characters_width() -> &'static [u8]
+    ensures { result.now ≡ characters_width }
 {
-    b"<text xml:space=\"preserve\" x=\""
-}
-
-/// Between a place and a width.
-#[tactic(auto, unfolding(crate::specs::Parts::letters_width))]
-pub fn letters_width() -> &'static [u8]
-    ensures { result.now ≡ letters_width }
-{
-    b"\" textLength=\""
+    b"\" xml:space=\"preserve\" textLength=\""
 }
 
 /// Behind the width.
-#[tactic(auto, unfolding(crate::specs::Parts::letters_fitted))]
-pub fn letters_fitted() -> &'static [u8]
-    ensures { result.now ≡ letters_fitted }
+#[tactic(auto, unfolding(crate::specs::Parts::characters_fitted))]
+pub fn characters_fitted() -> &'static [u8]
+    ensures { result.now ≡ characters_fitted }
 {
     b"\" lengthAdjust=\"spacingAndGlyphs\">"
+}
+
+/// Between a box's place and its width.
+#[tactic(auto, unfolding(crate::specs::Parts::box_width))]
+pub fn box_width() -> &'static [u8]
+    ensures { result.now ≡ box_width }
+{
+    b"\" y=\"-7\" width=\""
+}
+
+/// The end of a box.
+#[tactic(auto, unfolding(crate::specs::Parts::box_end))]
+pub fn box_end() -> &'static [u8]
+    ensures { result.now ≡ box_end }
+{
+    b"\" height=\"7\"/>\n"
 }

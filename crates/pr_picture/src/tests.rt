@@ -47,7 +47,7 @@ const ROW_END: &str =
 
 /// The end of the picture of `each_growth_refused`.
 const GROWN: &str =
-    "<text xml:space=\"preserve\" x=\"0\" textLength=\"12\" lengthAdjust=\"spacingAndGlyphs\">AB</text>\n</g>\n</g>\n</g>\n</g>\n<text font-size=\"210\" fill=\"#555\" transform=\"translate(630 3150)\">\n</text>\n</svg>\n";
+    "<text x=\"0\" xml:space=\"preserve\" textLength=\"12\" lengthAdjust=\"spacingAndGlyphs\">AB</text>\n</g>\n</g>\n</g>\n</g>\n<text font-size=\"210\" fill=\"#555\" transform=\"translate(630 3150)\">\n</text>\n</svg>\n";
 
 /// A cell of the graphic/upper case set in black.
 fn cell(x: u16, code: u8) -> Placed {
@@ -163,7 +163,7 @@ fn shows(rt: &(impl Abort + AllocGlobal), marks: &[Placed], picture: &str, line:
 }
 
 #[test]
-fn letters_side_by_side_are_one_element(rt: HostRuntime) {
+fn letters_and_blanks_side_by_side_are_one_element(rt: HostRuntime) {
     shows(
         &rt,
         &[
@@ -173,19 +173,19 @@ fn letters_side_by_side_are_one_element(rt: HostRuntime) {
             cell(18, 160),
             cell(24, 60),
         ],
-        "<text xml:space=\"preserve\" x=\"0\" textLength=\"30\" lengthAdjust=\"spacingAndGlyphs\">AB  &#60;</text>\n",
+        "<text x=\"0\" xml:space=\"preserve\" textLength=\"30\" lengthAdjust=\"spacingAndGlyphs\">AB  &#60;</text>\n",
         "Printer 4\n|AB  <\n",
     );
     shows(
         &rt,
         &[cell(0, 32), cell(6, 32), cell(12, 38), cell(18, 32)],
-        "<text xml:space=\"preserve\" x=\"12\" textLength=\"6\" lengthAdjust=\"spacingAndGlyphs\">&#38;</text>\n",
+        "<text x=\"0\" xml:space=\"preserve\" textLength=\"24\" lengthAdjust=\"spacingAndGlyphs\">  &#38; </text>\n",
         "Printer 4\n|  &\n",
     );
     shows(
         &rt,
         &[cell(468, 34), cell(474, 39)],
-        "<text xml:space=\"preserve\" x=\"468\" textLength=\"12\" lengthAdjust=\"spacingAndGlyphs\">&#34;&#39;</text>\n",
+        "<text x=\"468\" xml:space=\"preserve\" textLength=\"12\" lengthAdjust=\"spacingAndGlyphs\">&#34;&#39;</text>\n",
         "Printer 4\n|                                                                              \"'\n",
     );
 }
@@ -195,29 +195,29 @@ fn letters_apart_are_elements_of_their_own(rt: HostRuntime) {
     shows(
         &rt,
         &[cell(0, 65), cell(7, 66), cell(12, 67)],
-        "<text xml:space=\"preserve\" x=\"0\" textLength=\"6\" lengthAdjust=\"spacingAndGlyphs\">A</text>\n<text xml:space=\"preserve\" x=\"7\" textLength=\"6\" lengthAdjust=\"spacingAndGlyphs\">B</text>\n<text xml:space=\"preserve\" x=\"12\" textLength=\"6\" lengthAdjust=\"spacingAndGlyphs\">C</text>\n",
+        "<text x=\"0\" xml:space=\"preserve\" textLength=\"6\" lengthAdjust=\"spacingAndGlyphs\">A</text>\n<text x=\"7\" xml:space=\"preserve\" textLength=\"6\" lengthAdjust=\"spacingAndGlyphs\">B</text>\n<text x=\"12\" xml:space=\"preserve\" textLength=\"6\" lengthAdjust=\"spacingAndGlyphs\">C</text>\n",
         "Printer 4\n|ABC\n",
     );
     shows(
         &rt,
         &[cell(0, 65), cell(6, 193), cell(12, 66)],
-        "<text xml:space=\"preserve\" x=\"0\" textLength=\"6\" lengthAdjust=\"spacingAndGlyphs\">A</text>\n<text x=\"6\" textLength=\"6\" lengthAdjust=\"spacingAndGlyphs\">&#9824;</text>\n<text xml:space=\"preserve\" x=\"12\" textLength=\"6\" lengthAdjust=\"spacingAndGlyphs\">B</text>\n",
+        "<text x=\"0\" xml:space=\"preserve\" textLength=\"6\" lengthAdjust=\"spacingAndGlyphs\">A</text>\n<text x=\"6\" xml:space=\"preserve\" textLength=\"6\" lengthAdjust=\"spacingAndGlyphs\">&#9824;</text>\n<text x=\"12\" xml:space=\"preserve\" textLength=\"6\" lengthAdjust=\"spacingAndGlyphs\">B</text>\n",
         "Printer 4\n|A\u{2660}B\n",
     );
     shows(
         &rt,
         &[cell(0, 65), cell(6, 32), cell(18, 66)],
-        "<text xml:space=\"preserve\" x=\"0\" textLength=\"6\" lengthAdjust=\"spacingAndGlyphs\">A</text>\n<text xml:space=\"preserve\" x=\"18\" textLength=\"6\" lengthAdjust=\"spacingAndGlyphs\">B</text>\n",
+        "<text x=\"0\" xml:space=\"preserve\" textLength=\"12\" lengthAdjust=\"spacingAndGlyphs\">A </text>\n<text x=\"18\" xml:space=\"preserve\" textLength=\"6\" lengthAdjust=\"spacingAndGlyphs\">B</text>\n",
         "Printer 4\n|A  B\n",
     );
 }
 
 #[test]
-fn codes_of_both_sets(rt: HostRuntime) {
+fn letters_of_both_sets(rt: HostRuntime) {
     shows(
         &rt,
         &[cell(0, 91), cell(6, 92), cell(12, 94), cell(18, 95)],
-        "<text xml:space=\"preserve\" x=\"0\" textLength=\"6\" lengthAdjust=\"spacingAndGlyphs\">[</text>\n<text x=\"6\" textLength=\"6\" lengthAdjust=\"spacingAndGlyphs\">&#163;</text>\n<text x=\"12\" textLength=\"6\" lengthAdjust=\"spacingAndGlyphs\">&#8593;</text>\n<text x=\"18\" textLength=\"6\" lengthAdjust=\"spacingAndGlyphs\">&#8592;</text>\n",
+        "<text x=\"0\" xml:space=\"preserve\" textLength=\"6\" lengthAdjust=\"spacingAndGlyphs\">[</text>\n<text x=\"6\" xml:space=\"preserve\" textLength=\"6\" lengthAdjust=\"spacingAndGlyphs\">&#163;</text>\n<text x=\"12\" xml:space=\"preserve\" textLength=\"6\" lengthAdjust=\"spacingAndGlyphs\">&#8593;</text>\n<text x=\"18\" xml:space=\"preserve\" textLength=\"6\" lengthAdjust=\"spacingAndGlyphs\">&#8592;</text>\n",
         "Printer 4\n|[\u{A3}\u{2191}\u{2190}\n",
     );
     shows(
@@ -229,9 +229,13 @@ fn codes_of_both_sets(rt: HostRuntime) {
             lower(18, 218),
             lower(24, 97),
         ],
-        "<text xml:space=\"preserve\" x=\"0\" textLength=\"30\" lengthAdjust=\"spacingAndGlyphs\">azAZA</text>\n",
+        "<text x=\"0\" xml:space=\"preserve\" textLength=\"30\" lengthAdjust=\"spacingAndGlyphs\">azAZA</text>\n",
         "Printer 4\n|azAZA\n",
     );
+}
+
+#[test]
+fn graphics_of_both_sets(rt: HostRuntime) {
     shows(
         &rt,
         &[
@@ -241,13 +245,13 @@ fn codes_of_both_sets(rt: HostRuntime) {
             cell(18, 222),
             cell(24, 126),
         ],
-        "<text x=\"0\" textLength=\"6\" lengthAdjust=\"spacingAndGlyphs\">&#9829;</text>\n<text x=\"6\" textLength=\"6\" lengthAdjust=\"spacingAndGlyphs\">&#9829;</text>\n<text x=\"12\" textLength=\"6\" lengthAdjust=\"spacingAndGlyphs\">&#960;</text>\n<text x=\"18\" textLength=\"6\" lengthAdjust=\"spacingAndGlyphs\">&#960;</text>\n<text x=\"24\" textLength=\"6\" lengthAdjust=\"spacingAndGlyphs\">&#960;</text>\n",
+        "<text x=\"0\" xml:space=\"preserve\" textLength=\"6\" lengthAdjust=\"spacingAndGlyphs\">&#9829;</text>\n<text x=\"6\" xml:space=\"preserve\" textLength=\"6\" lengthAdjust=\"spacingAndGlyphs\">&#9829;</text>\n<text x=\"12\" xml:space=\"preserve\" textLength=\"6\" lengthAdjust=\"spacingAndGlyphs\">&#960;</text>\n<text x=\"18\" xml:space=\"preserve\" textLength=\"6\" lengthAdjust=\"spacingAndGlyphs\">&#960;</text>\n<text x=\"24\" xml:space=\"preserve\" textLength=\"6\" lengthAdjust=\"spacingAndGlyphs\">&#960;</text>\n",
         "Printer 4\n|\u{2665}\u{2665}\u{3C0}\u{3C0}\u{3C0}\n",
     );
     shows(
         &rt,
         &[cell(0, 161), cell(6, 225), cell(12, 254), cell(18, 190)],
-        "<text x=\"0\" textLength=\"6\" lengthAdjust=\"spacingAndGlyphs\">&#9612;</text>\n<text x=\"6\" textLength=\"6\" lengthAdjust=\"spacingAndGlyphs\">&#9612;</text>\n<text x=\"12\" textLength=\"6\" lengthAdjust=\"spacingAndGlyphs\">&#9624;</text>\n<text x=\"18\" textLength=\"6\" lengthAdjust=\"spacingAndGlyphs\">&#9624;</text>\n",
+        "<text x=\"0\" xml:space=\"preserve\" textLength=\"6\" lengthAdjust=\"spacingAndGlyphs\">&#9612;</text>\n<text x=\"6\" xml:space=\"preserve\" textLength=\"6\" lengthAdjust=\"spacingAndGlyphs\">&#9612;</text>\n<text x=\"12\" xml:space=\"preserve\" textLength=\"6\" lengthAdjust=\"spacingAndGlyphs\">&#9624;</text>\n<text x=\"18\" xml:space=\"preserve\" textLength=\"6\" lengthAdjust=\"spacingAndGlyphs\">&#9624;</text>\n",
         "Printer 4\n|\u{258C}\u{258C}\u{2598}\u{2598}\n",
     );
     shows(
@@ -259,7 +263,7 @@ fn codes_of_both_sets(rt: HostRuntime) {
             lower(18, 222),
             lower(24, 223),
         ],
-        "<text x=\"0\" textLength=\"6\" lengthAdjust=\"spacingAndGlyphs\">&#9700;</text>\n<text x=\"6\" textLength=\"6\" lengthAdjust=\"spacingAndGlyphs\">&#129945;</text>\n<text x=\"12\" textLength=\"6\" lengthAdjust=\"spacingAndGlyphs\">&#10003;</text>\n<text x=\"18\" textLength=\"6\" lengthAdjust=\"spacingAndGlyphs\">&#129942;</text>\n<text x=\"24\" textLength=\"6\" lengthAdjust=\"spacingAndGlyphs\">&#129944;</text>\n",
+        "<text x=\"0\" xml:space=\"preserve\" textLength=\"6\" lengthAdjust=\"spacingAndGlyphs\">&#9700;</text>\n<text x=\"6\" xml:space=\"preserve\" textLength=\"6\" lengthAdjust=\"spacingAndGlyphs\">&#129945;</text>\n<text x=\"12\" xml:space=\"preserve\" textLength=\"6\" lengthAdjust=\"spacingAndGlyphs\">&#10003;</text>\n<text x=\"18\" xml:space=\"preserve\" textLength=\"6\" lengthAdjust=\"spacingAndGlyphs\">&#129942;</text>\n<text x=\"24\" xml:space=\"preserve\" textLength=\"6\" lengthAdjust=\"spacingAndGlyphs\">&#129944;</text>\n",
         "Printer 4\n|\u{25E4}\u{1FB99}\u{2713}\u{1FB96}\u{1FB98}\n",
     );
 }
@@ -269,7 +273,7 @@ fn reversed_and_wide_cells(rt: HostRuntime) {
     shows(
         &rt,
         &[styled(6, 82, true, false), styled(12, 32, true, false)],
-        "<rect x=\"6\" y=\"-7\" width=\"6\" height=\"7\"/>\n<text fill=\"#fff\" transform=\"translate(6 -1) scale(1 .8)\" textLength=\"6\" lengthAdjust=\"spacingAndGlyphs\">R</text>\n<rect x=\"12\" y=\"-7\" width=\"6\" height=\"7\"/>\n",
+        "<rect x=\"6\" y=\"-7\" width=\"12\" height=\"7\"/>\n<text fill=\"#fff\" transform=\"translate(6 -1) scale(1 .8)\" xml:space=\"preserve\" textLength=\"12\" lengthAdjust=\"spacingAndGlyphs\">R </text>\n",
         "Printer 4\n| R\u{2588}\n",
     );
     shows(
@@ -279,14 +283,57 @@ fn reversed_and_wide_cells(rt: HostRuntime) {
             styled(12, 32, false, true),
             cell(24, 88),
         ],
-        "<text transform=\"translate(0) scale(2 1)\" textLength=\"6\" lengthAdjust=\"spacingAndGlyphs\">W</text>\n<text xml:space=\"preserve\" x=\"24\" textLength=\"6\" lengthAdjust=\"spacingAndGlyphs\">X</text>\n",
+        "<text transform=\"translate(0) scale(2 1)\" xml:space=\"preserve\" textLength=\"12\" lengthAdjust=\"spacingAndGlyphs\">W </text>\n<text x=\"24\" xml:space=\"preserve\" textLength=\"6\" lengthAdjust=\"spacingAndGlyphs\">X</text>\n",
         "Printer 4\n|W   X\n",
     );
     shows(
         &rt,
         &[styled(12, 66, true, true), styled(24, 160, true, true)],
-        "<rect x=\"12\" y=\"-7\" width=\"12\" height=\"7\"/>\n<text fill=\"#fff\" transform=\"translate(12 -1) scale(2 .8)\" textLength=\"6\" lengthAdjust=\"spacingAndGlyphs\">B</text>\n<rect x=\"24\" y=\"-7\" width=\"12\" height=\"7\"/>\n",
+        "<rect x=\"12\" y=\"-7\" width=\"24\" height=\"7\"/>\n<text fill=\"#fff\" transform=\"translate(12 -1) scale(2 .8)\" xml:space=\"preserve\" textLength=\"12\" lengthAdjust=\"spacingAndGlyphs\">B </text>\n",
         "Printer 4\n|  B\u{2588}\u{2588}\u{2588}\n",
+    );
+}
+
+/// Cells that differ, or stand apart, or show other characters are strips of their own.
+#[test]
+fn strips_of_cells_printed_alike(rt: HostRuntime) {
+    shows(
+        &rt,
+        &[
+            styled(0, 32, true, false),
+            styled(6, 72, true, false),
+            styled(12, 73, true, false),
+            cell(18, 74),
+            styled(24, 75, true, false),
+            styled(31, 76, true, false),
+        ],
+        "<rect x=\"0\" y=\"-7\" width=\"18\" height=\"7\"/>\n<text fill=\"#fff\" transform=\"translate(0 -1) scale(1 .8)\" xml:space=\"preserve\" textLength=\"18\" lengthAdjust=\"spacingAndGlyphs\"> HI</text>\n<text x=\"18\" xml:space=\"preserve\" textLength=\"6\" lengthAdjust=\"spacingAndGlyphs\">J</text>\n<rect x=\"24\" y=\"-7\" width=\"6\" height=\"7\"/>\n<text fill=\"#fff\" transform=\"translate(24 -1) scale(1 .8)\" xml:space=\"preserve\" textLength=\"6\" lengthAdjust=\"spacingAndGlyphs\">K</text>\n<rect x=\"31\" y=\"-7\" width=\"6\" height=\"7\"/>\n<text fill=\"#fff\" transform=\"translate(31 -1) scale(1 .8)\" xml:space=\"preserve\" textLength=\"6\" lengthAdjust=\"spacingAndGlyphs\">L</text>\n",
+        "Printer 4\n|\u{2588}HIJKL\n",
+    );
+    shows(
+        &rt,
+        &[
+            styled(0, 87, false, true),
+            styled(12, 88, false, true),
+            styled(24, 89, true, true),
+            styled(36, 90, true, true),
+            styled(48, 65, true, false),
+        ],
+        "<text transform=\"translate(0) scale(2 1)\" xml:space=\"preserve\" textLength=\"12\" lengthAdjust=\"spacingAndGlyphs\">WX</text>\n<rect x=\"24\" y=\"-7\" width=\"24\" height=\"7\"/>\n<text fill=\"#fff\" transform=\"translate(24 -1) scale(2 .8)\" xml:space=\"preserve\" textLength=\"12\" lengthAdjust=\"spacingAndGlyphs\">YZ</text>\n<rect x=\"48\" y=\"-7\" width=\"6\" height=\"7\"/>\n<text fill=\"#fff\" transform=\"translate(48 -1) scale(1 .8)\" xml:space=\"preserve\" textLength=\"6\" lengthAdjust=\"spacingAndGlyphs\">A</text>\n",
+        "Printer 4\n|W X Y\u{2588}Z\u{2588}A\n",
+    );
+    shows(
+        &rt,
+        &[
+            styled(0, 65, true, false),
+            styled(6, 211, true, false),
+            styled(12, 66, true, false),
+            dots(18, 1),
+            styled(18, 32, true, false),
+            styled(24, 160, true, false),
+        ],
+        "<rect x=\"0\" y=\"-7\" width=\"6\" height=\"7\"/>\n<text fill=\"#fff\" transform=\"translate(0 -1) scale(1 .8)\" xml:space=\"preserve\" textLength=\"6\" lengthAdjust=\"spacingAndGlyphs\">A</text>\n<rect x=\"6\" y=\"-7\" width=\"6\" height=\"7\"/>\n<text fill=\"#fff\" transform=\"translate(6 -1) scale(1 .8)\" xml:space=\"preserve\" textLength=\"6\" lengthAdjust=\"spacingAndGlyphs\">&#9829;</text>\n<rect x=\"12\" y=\"-7\" width=\"6\" height=\"7\"/>\n<text fill=\"#fff\" transform=\"translate(12 -1) scale(1 .8)\" xml:space=\"preserve\" textLength=\"6\" lengthAdjust=\"spacingAndGlyphs\">B</text>\n<path stroke=\"#000\" d=\"M18.5-7v1\"/>\n<rect x=\"18\" y=\"-7\" width=\"12\" height=\"7\"/>\n",
+        "Printer 4\n|A\u{2665}B\u{2588}\u{2588}\n",
     );
 }
 
@@ -296,25 +343,25 @@ fn overprinted_marks_in_their_order(rt: HostRuntime) {
     shows(
         &rt,
         &[cell(0, 79), cell(6, 75), cell(0, 47), cell(6, 32)],
-        "<text xml:space=\"preserve\" x=\"0\" textLength=\"12\" lengthAdjust=\"spacingAndGlyphs\">OK</text>\n<text xml:space=\"preserve\" x=\"0\" textLength=\"6\" lengthAdjust=\"spacingAndGlyphs\">/</text>\n",
+        "<text x=\"0\" xml:space=\"preserve\" textLength=\"12\" lengthAdjust=\"spacingAndGlyphs\">OK</text>\n<text x=\"0\" xml:space=\"preserve\" textLength=\"12\" lengthAdjust=\"spacingAndGlyphs\">/ </text>\n",
         "Printer 4\n|/K\n",
     );
     shows(
         &rt,
         &[styled(0, 87, false, true), cell(6, 33), cell(3, 88)],
-        "<text transform=\"translate(0) scale(2 1)\" textLength=\"6\" lengthAdjust=\"spacingAndGlyphs\">W</text>\n<text xml:space=\"preserve\" x=\"6\" textLength=\"6\" lengthAdjust=\"spacingAndGlyphs\">!</text>\n<text xml:space=\"preserve\" x=\"3\" textLength=\"6\" lengthAdjust=\"spacingAndGlyphs\">X</text>\n",
+        "<text transform=\"translate(0) scale(2 1)\" xml:space=\"preserve\" textLength=\"6\" lengthAdjust=\"spacingAndGlyphs\">W</text>\n<text x=\"6\" xml:space=\"preserve\" textLength=\"6\" lengthAdjust=\"spacingAndGlyphs\">!</text>\n<text x=\"3\" xml:space=\"preserve\" textLength=\"6\" lengthAdjust=\"spacingAndGlyphs\">X</text>\n",
         "Printer 4\n|X!\n",
     );
     shows(
         &rt,
         &[cell(0, 65), dots(0, 8), cell(6, 66), dots(6, 0)],
-        "<text xml:space=\"preserve\" x=\"0\" textLength=\"6\" lengthAdjust=\"spacingAndGlyphs\">A</text>\n<path stroke=\"#000\" d=\"M0.5-7m0 3v1\"/>\n<text xml:space=\"preserve\" x=\"6\" textLength=\"6\" lengthAdjust=\"spacingAndGlyphs\">B</text>\n<path stroke=\"#000\" d=\"M6.5-7\"/>\n",
+        "<text x=\"0\" xml:space=\"preserve\" textLength=\"6\" lengthAdjust=\"spacingAndGlyphs\">A</text>\n<path stroke=\"#000\" d=\"M0.5-7m0 3v1\"/>\n<text x=\"6\" xml:space=\"preserve\" textLength=\"6\" lengthAdjust=\"spacingAndGlyphs\">B</text>\n<path stroke=\"#000\" d=\"M6.5-7\"/>\n",
         "Printer 4\n|\u{2591}B\n",
     );
     shows(
         &rt,
         &[dots(0, 127), cell(0, 65)],
-        "<path stroke=\"#000\" d=\"M0.5-7v7\"/>\n<text xml:space=\"preserve\" x=\"0\" textLength=\"6\" lengthAdjust=\"spacingAndGlyphs\">A</text>\n",
+        "<path stroke=\"#000\" d=\"M0.5-7v7\"/>\n<text x=\"0\" xml:space=\"preserve\" textLength=\"6\" lengthAdjust=\"spacingAndGlyphs\">A</text>\n",
         "Printer 4\n|A\n",
     );
 }
@@ -358,7 +405,7 @@ fn columns_of_dots(rt: HostRuntime) {
 
 /// A column is a shade by its dots: 11 and 12, 22 and 23, 33 and 34 of 42.
 #[test]
-fn shades_by_quarters(rt: HostRuntime) {
+fn shades_by_their_dots(rt: HostRuntime) {
     shows(
         &rt,
         &[
@@ -403,13 +450,13 @@ fn wide_cells_at_the_edge(rt: HostRuntime) {
     shows(
         &rt,
         &[styled(474, 87, true, true)],
-        "<rect x=\"474\" y=\"-7\" width=\"12\" height=\"7\"/>\n<text fill=\"#fff\" transform=\"translate(474 -1) scale(2 .8)\" textLength=\"6\" lengthAdjust=\"spacingAndGlyphs\">W</text>\n",
+        "<rect x=\"474\" y=\"-7\" width=\"12\" height=\"7\"/>\n<text fill=\"#fff\" transform=\"translate(474 -1) scale(2 .8)\" xml:space=\"preserve\" textLength=\"6\" lengthAdjust=\"spacingAndGlyphs\">W</text>\n",
         "Printer 4\n|                                                                               W\n",
     );
     shows(
         &rt,
         &[cell(6, 65), styled(0, 87, false, true), cell(12, 66)],
-        "<text xml:space=\"preserve\" x=\"6\" textLength=\"6\" lengthAdjust=\"spacingAndGlyphs\">A</text>\n<text transform=\"translate(0) scale(2 1)\" textLength=\"6\" lengthAdjust=\"spacingAndGlyphs\">W</text>\n<text xml:space=\"preserve\" x=\"12\" textLength=\"6\" lengthAdjust=\"spacingAndGlyphs\">B</text>\n",
+        "<text x=\"6\" xml:space=\"preserve\" textLength=\"6\" lengthAdjust=\"spacingAndGlyphs\">A</text>\n<text transform=\"translate(0) scale(2 1)\" xml:space=\"preserve\" textLength=\"6\" lengthAdjust=\"spacingAndGlyphs\">W</text>\n<text x=\"12\" xml:space=\"preserve\" textLength=\"6\" lengthAdjust=\"spacingAndGlyphs\">B</text>\n",
         "Printer 4\n|W B\n",
     );
 }
@@ -435,7 +482,7 @@ fn rows_by_their_distance(rt: HostRuntime) {
         &outcome,
         FOUR,
         "width=\"66pc\" height=\"24pc\" viewBox=\"0 0 13860 5040\"",
-        "<g transform=\"translate(630 1050)\">\n<text font-size=\"210\" fill=\"#555\" y=\"-210\">Printer 4</text>\n<rect width=\"12600\" height=\"3150\" fill=\"url(#paper)\" stroke=\"#b4afa2\" stroke-width=\"10\"/>\n<g transform=\"translate(1260 630) scale(21 10)\" font-size=\"9.966\" shape-rendering=\"crispEdges\">\n<g transform=\"translate(0 35) scale(1 2)\">\n<text xml:space=\"preserve\" x=\"0\" textLength=\"6\" lengthAdjust=\"spacingAndGlyphs\">A</text>\n</g>\n<g transform=\"translate(0 56) scale(1 2)\">\n</g>\n<g transform=\"translate(0 70) scale(1 2)\">\n<path stroke=\"#000\" d=\"M0.5-7v1\"/>\n</g>\n<g transform=\"translate(0 132) scale(1 2)\">\n<text xml:space=\"preserve\" x=\"6\" textLength=\"6\" lengthAdjust=\"spacingAndGlyphs\">B</text>\n</g>\n<g transform=\"translate(0 174) scale(1 2)\">\n<text xml:space=\"preserve\" x=\"12\" textLength=\"6\" lengthAdjust=\"spacingAndGlyphs\">C</text>\n</g>\n</g>\n</g>\n<text font-size=\"210\" fill=\"#555\" transform=\"translate(630 4410)\">\n</text>\n</svg>\n",
+        "<g transform=\"translate(630 1050)\">\n<text font-size=\"210\" fill=\"#555\" y=\"-210\">Printer 4</text>\n<rect width=\"12600\" height=\"3150\" fill=\"url(#paper)\" stroke=\"#b4afa2\" stroke-width=\"10\"/>\n<g transform=\"translate(1260 630) scale(21 10)\" font-size=\"9.966\" shape-rendering=\"crispEdges\">\n<g transform=\"translate(0 35) scale(1 2)\">\n<text x=\"0\" xml:space=\"preserve\" textLength=\"6\" lengthAdjust=\"spacingAndGlyphs\">A</text>\n</g>\n<g transform=\"translate(0 56) scale(1 2)\">\n</g>\n<g transform=\"translate(0 70) scale(1 2)\">\n<path stroke=\"#000\" d=\"M0.5-7v1\"/>\n</g>\n<g transform=\"translate(0 132) scale(1 2)\">\n<text x=\"6\" xml:space=\"preserve\" textLength=\"6\" lengthAdjust=\"spacingAndGlyphs\">B</text>\n</g>\n<g transform=\"translate(0 174) scale(1 2)\">\n<text x=\"12\" xml:space=\"preserve\" textLength=\"6\" lengthAdjust=\"spacingAndGlyphs\">C</text>\n</g>\n</g>\n</g>\n<text font-size=\"210\" fill=\"#555\" transform=\"translate(630 4410)\">\n</text>\n</svg>\n",
     );
     says(
         &rt,
@@ -457,7 +504,7 @@ fn held_marks_are_pale(rt: HostRuntime) {
         &outcome,
         FOUR,
         "width=\"66pc\" height=\"18pc\" viewBox=\"0 0 13860 3780\"",
-        "<g transform=\"translate(630 1050)\">\n<text font-size=\"210\" fill=\"#555\" y=\"-210\">Printer 4</text>\n<rect width=\"12600\" height=\"1890\" fill=\"url(#paper)\" stroke=\"#b4afa2\" stroke-width=\"10\"/>\n<g transform=\"translate(1260 630) scale(21 10)\" font-size=\"9.966\" shape-rendering=\"crispEdges\">\n<g transform=\"translate(0 14) scale(1 2)\">\n<text xml:space=\"preserve\" x=\"0\" textLength=\"6\" lengthAdjust=\"spacingAndGlyphs\">A</text>\n</g>\n<g transform=\"translate(0 21) scale(1 2)\">\n<path shape-rendering=\"auto\" stroke=\"#a33\" stroke-dasharray=\"6\" d=\"M0 3h480\"/>\n<text font-size=\"6\" fill=\"#a33\" x=\"350\" y=\"10\">held by the printer, not yet printed</text>\n</g>\n<g opacity=\".4\">\n<g transform=\"translate(0 56) scale(1 2)\">\n<text xml:space=\"preserve\" x=\"0\" textLength=\"6\" lengthAdjust=\"spacingAndGlyphs\">B</text>\n<path stroke=\"#000\" d=\"M6.5-7v7\"/>\n</g>\n</g>\n</g>\n</g>\n<text font-size=\"210\" fill=\"#555\" transform=\"translate(630 3150)\">\n</text>\n</svg>\n",
+        "<g transform=\"translate(630 1050)\">\n<text font-size=\"210\" fill=\"#555\" y=\"-210\">Printer 4</text>\n<rect width=\"12600\" height=\"1890\" fill=\"url(#paper)\" stroke=\"#b4afa2\" stroke-width=\"10\"/>\n<g transform=\"translate(1260 630) scale(21 10)\" font-size=\"9.966\" shape-rendering=\"crispEdges\">\n<g transform=\"translate(0 14) scale(1 2)\">\n<text x=\"0\" xml:space=\"preserve\" textLength=\"6\" lengthAdjust=\"spacingAndGlyphs\">A</text>\n</g>\n<g transform=\"translate(0 21) scale(1 2)\">\n<path shape-rendering=\"auto\" stroke=\"#a33\" stroke-dasharray=\"6\" d=\"M0 3h480\"/>\n<text font-size=\"6\" fill=\"#a33\" x=\"350\" y=\"10\">held by the printer, not yet printed</text>\n</g>\n<g opacity=\".4\">\n<g transform=\"translate(0 56) scale(1 2)\">\n<text x=\"0\" xml:space=\"preserve\" textLength=\"6\" lengthAdjust=\"spacingAndGlyphs\">B</text>\n<path stroke=\"#000\" d=\"M6.5-7v7\"/>\n</g>\n</g>\n</g>\n</g>\n<text font-size=\"210\" fill=\"#555\" transform=\"translate(630 3150)\">\n</text>\n</svg>\n",
     );
     says(&rt, &outcome, FOUR, "Printer 4\n|A\n:B\u{2591}\n");
 }
@@ -471,14 +518,14 @@ fn printers_that_are_there(rt: HostRuntime) {
         &outcome,
         BOTH,
         "width=\"129pc\" height=\"18pc\" viewBox=\"0 0 27090 3780\"",
-        "<g transform=\"translate(630 1050)\">\n<text font-size=\"210\" fill=\"#555\" y=\"-210\">Printer 4</text>\n<rect width=\"12600\" height=\"1890\" fill=\"url(#paper)\" stroke=\"#b4afa2\" stroke-width=\"10\"/>\n<g transform=\"translate(1260 630) scale(21 10)\" font-size=\"9.966\" shape-rendering=\"crispEdges\">\n<g transform=\"translate(0 14) scale(1 2)\">\n<text xml:space=\"preserve\" x=\"0\" textLength=\"6\" lengthAdjust=\"spacingAndGlyphs\">A</text>\n</g>\n</g>\n</g>\n<g transform=\"translate(13860 1050)\">\n<text font-size=\"210\" fill=\"#555\" y=\"-210\">Printer 5</text>\n<rect width=\"12600\" height=\"1890\" fill=\"url(#paper)\" stroke=\"#b4afa2\" stroke-width=\"10\"/>\n<g transform=\"translate(1260 630) scale(21 10)\" font-size=\"9.966\" shape-rendering=\"crispEdges\">\n<g transform=\"translate(0 0) scale(1 2)\">\n<path shape-rendering=\"auto\" stroke=\"#a33\" stroke-dasharray=\"6\" d=\"M0 3h480\"/>\n<text font-size=\"6\" fill=\"#a33\" x=\"350\" y=\"10\">held by the printer, not yet printed</text>\n</g>\n<g opacity=\".4\">\n<g transform=\"translate(0 35) scale(1 2)\">\n<text xml:space=\"preserve\" x=\"0\" textLength=\"6\" lengthAdjust=\"spacingAndGlyphs\">a</text>\n</g>\n</g>\n</g>\n</g>\n<text font-size=\"210\" fill=\"#555\" transform=\"translate(630 3150)\">\n</text>\n</svg>\n",
+        "<g transform=\"translate(630 1050)\">\n<text font-size=\"210\" fill=\"#555\" y=\"-210\">Printer 4</text>\n<rect width=\"12600\" height=\"1890\" fill=\"url(#paper)\" stroke=\"#b4afa2\" stroke-width=\"10\"/>\n<g transform=\"translate(1260 630) scale(21 10)\" font-size=\"9.966\" shape-rendering=\"crispEdges\">\n<g transform=\"translate(0 14) scale(1 2)\">\n<text x=\"0\" xml:space=\"preserve\" textLength=\"6\" lengthAdjust=\"spacingAndGlyphs\">A</text>\n</g>\n</g>\n</g>\n<g transform=\"translate(13860 1050)\">\n<text font-size=\"210\" fill=\"#555\" y=\"-210\">Printer 5</text>\n<rect width=\"12600\" height=\"1890\" fill=\"url(#paper)\" stroke=\"#b4afa2\" stroke-width=\"10\"/>\n<g transform=\"translate(1260 630) scale(21 10)\" font-size=\"9.966\" shape-rendering=\"crispEdges\">\n<g transform=\"translate(0 0) scale(1 2)\">\n<path shape-rendering=\"auto\" stroke=\"#a33\" stroke-dasharray=\"6\" d=\"M0 3h480\"/>\n<text font-size=\"6\" fill=\"#a33\" x=\"350\" y=\"10\">held by the printer, not yet printed</text>\n</g>\n<g opacity=\".4\">\n<g transform=\"translate(0 35) scale(1 2)\">\n<text x=\"0\" xml:space=\"preserve\" textLength=\"6\" lengthAdjust=\"spacingAndGlyphs\">a</text>\n</g>\n</g>\n</g>\n</g>\n<text font-size=\"210\" fill=\"#555\" transform=\"translate(630 3150)\">\n</text>\n</svg>\n",
     );
     draws(
         &rt,
         &outcome,
         FIVE,
         "width=\"66pc\" height=\"18pc\" viewBox=\"0 0 13860 3780\"",
-        "<g transform=\"translate(630 1050)\">\n<text font-size=\"210\" fill=\"#555\" y=\"-210\">Printer 5</text>\n<rect width=\"12600\" height=\"1890\" fill=\"url(#paper)\" stroke=\"#b4afa2\" stroke-width=\"10\"/>\n<g transform=\"translate(1260 630) scale(21 10)\" font-size=\"9.966\" shape-rendering=\"crispEdges\">\n<g transform=\"translate(0 0) scale(1 2)\">\n<path shape-rendering=\"auto\" stroke=\"#a33\" stroke-dasharray=\"6\" d=\"M0 3h480\"/>\n<text font-size=\"6\" fill=\"#a33\" x=\"350\" y=\"10\">held by the printer, not yet printed</text>\n</g>\n<g opacity=\".4\">\n<g transform=\"translate(0 35) scale(1 2)\">\n<text xml:space=\"preserve\" x=\"0\" textLength=\"6\" lengthAdjust=\"spacingAndGlyphs\">a</text>\n</g>\n</g>\n</g>\n</g>\n<text font-size=\"210\" fill=\"#555\" transform=\"translate(630 3150)\">\n</text>\n</svg>\n",
+        "<g transform=\"translate(630 1050)\">\n<text font-size=\"210\" fill=\"#555\" y=\"-210\">Printer 5</text>\n<rect width=\"12600\" height=\"1890\" fill=\"url(#paper)\" stroke=\"#b4afa2\" stroke-width=\"10\"/>\n<g transform=\"translate(1260 630) scale(21 10)\" font-size=\"9.966\" shape-rendering=\"crispEdges\">\n<g transform=\"translate(0 0) scale(1 2)\">\n<path shape-rendering=\"auto\" stroke=\"#a33\" stroke-dasharray=\"6\" d=\"M0 3h480\"/>\n<text font-size=\"6\" fill=\"#a33\" x=\"350\" y=\"10\">held by the printer, not yet printed</text>\n</g>\n<g opacity=\".4\">\n<g transform=\"translate(0 35) scale(1 2)\">\n<text x=\"0\" xml:space=\"preserve\" textLength=\"6\" lengthAdjust=\"spacingAndGlyphs\">a</text>\n</g>\n</g>\n</g>\n</g>\n<text font-size=\"210\" fill=\"#555\" transform=\"translate(630 3150)\">\n</text>\n</svg>\n",
     );
     draws(
         &rt,
