@@ -1,0 +1,2 @@
+pub mod VcdAdding
+pub mod Gathering

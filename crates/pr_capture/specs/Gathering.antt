@@ -1,0 +1,35 @@
+-- Linking words: which samples a gatherer has taken, and which edges it has given. The clauses of `Gatherer` say all that a
+-- caller needs of them. No reader needs to believe them.
+use Rattle.std.specs.Prelude.{◌≡◌, ℕ, ◌==◌, List, ◌++◌, map, Option, Some, None, if◌then◌else◌}
+use Rattle.pr_wire.specs.declared.Levels.{Levels}
+use Rattle.pr_wire.specs.declared.Edge.{Edge}
+use Rattle.pr_capture.specs.declared.gatherer.Gatherer.{Gatherer}
+use Rattle.pr_capture.specs.Samples.{changes_after, counted_from, edges_of, is_new, last_at_each, listed}
+
+-- a sample held makes an edge, if the next one stands elsewhere and its levels are new
+abbrev pub edge_before : (held : Option Edge) → (told : Option Levels) → (next : ℕ) → Option Edge
+edge_before None told next = None
+edge_before (Some h) told next = if h.time == next then None else (if is_new told h.levels then Some h else None)
+
+-- the last sample makes an edge, if its levels are new
+abbrev pub edge_at_end : (held : Option Edge) → (told : Option Levels) → Option Edge
+edge_at_end None told = None
+edge_at_end (Some h) told = if is_new told h.levels then Some h else None
+
+-- the levels that were told last
+abbrev pub told_with : (told : Option Levels) → Option Edge → Option Levels
+told_with told None = told
+told_with told (Some e) = Some e.levels
+
+-- the edges that come yet, of the sample held and those that follow
+abbrev pub still_to_come : Gatherer → List Edge → List Edge
+still_to_come g more = changes_after g.told (last_at_each (listed g.held ++ map (counted_from g.start) more))
+
+-- these samples were taken, and these edges were given: whatever samples follow, all edges are these and those that come yet
+abbrev pub HasGathered : (start : ℕ) (samples edges : List Edge) → Gatherer → Type 0
+HasGathered start samples edges g = (more : List Edge) → edges_of start (samples ++ more) ≡ edges ++ still_to_come g more
+
+-- the gatherer has taken these samples too, behind whatever it had taken, and has given these edges
+abbrev pub GathersMore : (samples edges : List Edge) (old new : Gatherer) → Type 0
+GathersMore samples edges old new =
+    (start : ℕ) (before given : List Edge) → HasGathered start before given old → HasGathered start (before ++ samples) (given ++ edges) new
