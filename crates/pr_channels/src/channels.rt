@@ -10,7 +10,7 @@ use crate::faults::{Fault, Stop};
 use crate::file_table::FileTable;
 use crate::laws::elements_add_up;
 use crate::sender::Sender;
-use pr_serial::command::{LISTEN, SECONDARY};
+use pr_commands::{LISTEN, SECONDARY};
 use pr_serial::{NoMemory, Serial};
 use std::alloc::Global;
 use std::marker::Model;

@@ -8,7 +8,7 @@ ghost use Rattle.pr_serial.specs.Answers.{is_lacking};
 ghost use Rattle.pr_channels.specs.Commands.{unlisten};
 ghost use Rattle.pr_channels.specs.Sending.{putting, flushed_as};
 
-use pr_serial::command::{CLOSE, LISTEN, UNLISTEN};
+use pr_commands::{CLOSE, LISTEN, UNLISTEN};
 use pr_serial::laws::{answers_add_up, elements_send_items};
 use pr_serial::{NoMemory, Serial};
 use std::alloc::AllocError;

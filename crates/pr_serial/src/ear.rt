@@ -8,7 +8,7 @@ ghost use Rattle.pr_serial.specs.Heard.{inputs_at};
 ghost use Rattle.pr_serial.specs.Hearing.{IsSameEar, HasRoom};
 
 use crate::NoMemory;
-use crate::command::{LISTEN, LOWER_CASE, UNLISTEN};
+use pr_commands::{LISTEN, LOWER_CASE, UNLISTEN};
 use pr_page::Input;
 use std::alloc::Global;
 
