@@ -220,15 +220,21 @@ unlistening_channel e n h = unlistening_channel_at (is_some e.stop) e n refl h
 pub begun_working : (old mid : Seen) (found : ℕ) → mid ≡ record old { status = found } → (old.failed ≡ false → old.sent ≡ items_of old.elements) → old.failed ≡ false → IsWorking mid
 begun_working old mid found is in_step works = subst IsWorking (sym is) (record { works = works; in_step = in_step works })
 
--- what a statement gives from the status found on is what it performs
+-- what a statement gives from the status on, with the channel number that it leaves, is what it performs
+pub performs_here : (old new : Seen) (number channel : ℕ) (answer : Option Stop) (statement : Statement)
+    → Gives old new answer (effect_of old.present old.status old.elements (setting_of old channel) statement)
+    → (answer ≡ (effect_of old.present old.status old.elements (setting_of old channel) statement).stop → number ≡ (effect_of old.present old.status old.elements (setting_of old channel) statement).after.channel)
+    → Performs old new old.status number answer (effect_of old.present old.status old.elements (setting_of old channel) statement)
+performs_here old new number channel answer statement gives leaves = record { stop = gives.stop; channel = leaves gives.stop; channels = gives.channels }
+
+-- what a statement performs once the status is the one found
 pub performs_from : (old mid new : Seen) (found number channel : ℕ) (answer : Option Stop) (statement : Statement) → mid ≡ record old { status = found }
-    → Gives mid new answer (effect_of mid.present mid.status mid.elements (setting_of mid channel) statement)
-    → (answer ≡ (effect_of old.present found old.elements (setting_of old channel) statement).stop → number ≡ (effect_of old.present found old.elements (setting_of old channel) statement).after.channel)
+    → Performs mid new mid.status number answer (effect_of mid.present mid.status mid.elements (setting_of mid channel) statement)
     → Performs old new found number answer (effect_of old.present found old.elements (setting_of old channel) statement)
-performs_from old mid new found number channel answer statement is gives leaves =
-    let P : Seen → Type 0 = λ m. Gives m new answer (effect_of m.present m.status m.elements (setting_of m channel) statement) in
-    let begun = subst P is gives in
-    record { stop = begun.stop; channel = leaves begun.stop; channels = begun.channels }
+performs_from old mid new found number channel answer statement is performs =
+    let P : Seen → Type 0 = λ m. Performs m new m.status number answer (effect_of m.present m.status m.elements (setting_of m channel) statement) in
+    let begun = subst P is performs in
+    record { stop = begun.stop; channel = begun.channel; channels = begun.channels }
 
 -- PRINT leaves the channel number, on the bus and on the screen
 print_channel_at : (b : Bool) (bytes : List ℕ) (at : Setting) → let e : Effect = cond b (record { elements = map Byte bytes; screen = []; stop = None; after = at }) (record { elements = []; screen = bytes; stop = None; after = at }) in at.channel ≡ e.after.channel

@@ -1,5 +1,6 @@
 -- Laws: what follows from the definitions, in the manuals' words. The functions of src/laws.rt prove them, and callers take them from there.
 use Rattle.std.specs.Prelude.{◌≡◌, ℕ, ◌+◌, Bool, true, false, not, ◌||◌, Option, Some, None, List, [], ◌∷◌, ◌++◌, length, drop, if◌then◌else◌}
+use Rattle.pr_commands.specs.Bytes as command
 use Rattle.pr_serial.specs.declared.Present.{Present}
 use Rattle.pr_serial.specs.declared.Item.{Item}
 use Rattle.pr_serial.specs.declared.Item.TheVariants as item
@@ -32,7 +33,7 @@ is_byte_unanswered present sent (Some b) = not (is_answered present sent (item.S
 -- the LISTEN to a file's device isn't answered, or the element directly before it is a byte that isn't; where the status is kept: the LISTEN or any item before it in the run isn't answered
 abbrev pub is_missing : StatusMode → Present → List Element → File → Bool
 is_missing Each present before file =
-    not (is_answered present (items_of before) (item.Attention (32 + file.device) (second_from 96 file.second)))
+    not (is_answered present (items_of before) (item.Attention (command.listen + file.device) (second_from command.secondary file.second)))
     || is_byte_unanswered present (items_of before) (held_of before)
 is_missing Kept present before file = is_lacking present 0 (items_of (before ++ listen_to file ∷ []))
 

@@ -204,6 +204,56 @@ fn channel_after(stop: &Option<Stop>, channel: u8) -> u8
     }
 }
 
+/// Performs a statement on channels that have the status which it finds. It answers the stop, if the
+/// statement stops, and the channel number after it.
+fn perform_begun<S: Serial>(
+    channels: &mut Channels<S>,
+    statement: &Statement,
+    channel: u8,
+) -> Result<(Option<Stop>, u8), NoMemory>
+    requires room { length channels.old.sent + 300 ≤ 2 ^ 32 }
+    ensures ok { IfOk result (λ after. IsWorking channels.old →
+        Performs channels.old channels.new channels.old.status after.1 after.0
+        (effect_on channels.old channels.old.status channel statement.now)) }
+    ensures failed { OnOk result (channels.new.failed ≡ channels.old.failed) }
+    ensures room { length channels.new.sent ≤ length channels.old.sent + 262 }
+    ensures present { channels.new.present ≡ channels.old.present }
+    ensures delays { channels.new.delays ≡ channels.old.delays }
+    ensures mark { channels.new.mark ≡ channels.old.mark }
+    ensures err { OnErr result ((channels.new.failed ≡ true) ⊎ ChangesScreenAlone channels.old channels.new) }
+{
+    elements_add_up();
+    match statement {
+        Statement::OpenFile {
+            file,
+            device,
+            second,
+        } => {
+            let stop = open(channels, *file, *device, *second)?;
+            let number = channel_after(&stop, channel);
+            Ok((stop, number))
+        }
+        Statement::Cmd { file, line } => {
+            let stop = command(channels, *file, line)?;
+            let number = channel_after(&stop, *file);
+            Ok((stop, number))
+        }
+        Statement::PrintTo { file, line } => {
+            let stop = print_to(channels, *file, line)?;
+            Ok((stop, 0))
+        }
+        Statement::Print { line } => {
+            print_line(channels, line, channel)?;
+            Ok((None, channel))
+        }
+        Statement::CloseFile { file } => {
+            channels.close_file(*file)?;
+            Ok((None, channel))
+        }
+        Statement::Rem => Ok((None, channel)),
+    }
+}
+
 /// Performs one statement, and answers the error of BASIC that stops it, if one does.
 ///
 /// It begins with status 0, or, where the status is kept, with the status that is there, which
@@ -249,38 +299,10 @@ pub fn perform<S: Serial>(
         ⊎ ChangesScreenAlone (record channels.old { status = found_by session.old.mode channels.old.status }) channels.new) }
     ensures err_session { OnErr result (session.new ≡ session.old) }
 {
-    elements_add_up();
     begin(channels, session.mode);
-    match statement {
-        Statement::OpenFile {
-            file,
-            device,
-            second,
-        } => {
-            let stop = open(channels, *file, *device, *second)?;
-            session.channel = channel_after(&stop, session.channel);
-            Ok(stop)
-        }
-        Statement::Cmd { file, line } => {
-            let stop = command(channels, *file, line)?;
-            session.channel = channel_after(&stop, *file);
-            Ok(stop)
-        }
-        Statement::PrintTo { file, line } => {
-            let stop = print_to(channels, *file, line)?;
-            session.channel = 0;
-            Ok(stop)
-        }
-        Statement::Print { line } => {
-            print_line(channels, line, session.channel)?;
-            Ok(None)
-        }
-        Statement::CloseFile { file } => {
-            channels.close_file(*file)?;
-            Ok(None)
-        }
-        Statement::Rem => Ok(None),
-    }
+    let (stop, channel) = perform_begun(channels, statement, session.channel)?;
+    session.channel = channel;
+    Ok(stop)
 }
 
 #[cfg(test)]

@@ -1,5 +1,6 @@
 -- Machine steps: the talker as the wires of the timed trace, and what each of its steps does. No reader needs to believe it.
 use Rattle.std.specs.Prelude.{◌≡◌, ℕ, Bool, false, cond, List, ◌++◌, map, Option, Some, None, ◌+◌, ◌&&◌, ◌||◌, ◌==◌, drop, if◌then◌else◌}
+use Rattle.pr_commands.specs.Bytes as command
 use Rattle.pr_wire.specs.declared.delay.Kind.TheVariants.{Aw, R, Cr, Dr}
 use Rattle.pr_wire.specs.Delays.{delay_at}
 use Rattle.pr_serial.specs.declared.Item.{Item}
@@ -100,4 +101,4 @@ second_taking (Some b) ps = map (taking 2) ps
 
 -- a printer after it heard who shall listen
 abbrev pub tuned_to : ℕ → one.Printer → one.Printer
-tuned_to first p = record p { listens = if first == 63 then false else (p.listens || first == 32 + p.device) }
+tuned_to first p = record p { listens = if first == command.unlisten then false else (p.listens || first == command.listen + p.device) }

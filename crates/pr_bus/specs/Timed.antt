@@ -1,5 +1,6 @@
 -- Trusted: the trace of items under a presence and three lists of delay numbers: each act in its time, by sums, least and greatest.
 use Rattle.std.specs.Prelude.{ℕ, zero, suc, ◌+◌, ◌/◌, ◌%◌, min, max, Bool, true, false, cond, eqb, List, [], ◌∷◌, ◌++◌, map, drop, Option, Some, None}
+use Rattle.pr_commands.specs.Bytes as command
 use Rattle.pr_serial.specs.declared.Present.{Present}
 use Rattle.pr_serial.specs.declared.Item.{Item}
 use Rattle.pr_serial.specs.declared.Item.TheVariants.{Attention, Sent}
@@ -164,7 +165,7 @@ answered w byte second =
     let deaf = map (λ (p : Printer). cond (is_listener p.device before) p (taking 1 p)) (map (taking (printer_takes second)) w.printers) in
     let due = r + greatest (map (λ (p : Printer). delay_at Dr p.numbers (printer_takes second)) w.printers) in
     let closed = r + delay_at Cr rest 1 in
-    let unlisten = eqb (elim second [ None ↦ byte | Some b ↦ b ]) 63 in
+    let unlisten = eqb (elim second [ None ↦ byte | Some b ↦ b ]) command.unlisten in
     record {
       piece = Some (Attended a (answer_at w.lines a w.printers) look first more
           (record { atn = r; line = cond unlisten (Some due) None; clock = cond unlisten (Some closed) None }));

@@ -1,5 +1,6 @@
 -- Trusted: what is put on the bus for a file.
 use Rattle.std.specs.Prelude.{ℕ, ◌+◌, Option, Some, None, is_some, List, [], ◌∷◌, if◌then◌else◌}
+use Rattle.pr_commands.specs.Bytes as command
 use Rattle.pr_serial.specs.Elements.{Element, Attention}
 use Rattle.pr_channels.specs.declared.file.File.{File}
 
@@ -10,14 +11,14 @@ second_from base (Some s) = Some (base + s)
 
 -- LISTEN to the file's device, with its secondary address
 abbrev pub listen_to : File → Element
-listen_to file = Attention (32 + file.device) (second_from 96 file.second)
+listen_to file = Attention (command.listen + file.device) (second_from command.secondary file.second)
 
 -- UNLISTEN
 abbrev pub unlisten : Element
-unlisten = Attention 63 None
+unlisten = Attention command.unlisten None
 
 -- what CLOSE sends for a file: its device is told, if the file has a secondary address
 abbrev pub closing : Option File → List Element
 closing None = []
 closing (Some file) =
-    if is_some file.second then Attention (32 + file.device) (second_from 224 file.second) ∷ unlisten ∷ [] else []
+    if is_some file.second then Attention (command.listen + file.device) (second_from command.close file.second) ∷ unlisten ∷ [] else []

@@ -2,6 +2,7 @@
 
 ghost use Rattle.std.specs.Prelude.{◌≡◌, ◌+◌, ◌≤◌, ◌<◌, ◌^◌, ◌⊎◌, true, false, None, Some, [], ◌∷◌, ◌++◌, length, ◌≢◌, Err, IfErr, IsOk, OnOk, OnErr};
 ghost use Rattle.std.specs.Option.{ForSome};
+ghost use Rattle.pr_commands.specs.Bytes as command;
 ghost use Rattle.pr_channels.specs.Files.{file_at, open_stop, without_file};
 ghost use Rattle.pr_channels.specs.Calls.{adding};
 ghost use Rattle.pr_channels.specs.Commands.{second_from, closing};
@@ -10,7 +11,7 @@ use crate::faults::{Fault, Stop};
 use crate::file_table::FileTable;
 use crate::laws::elements_add_up;
 use crate::sender::Sender;
-use pr_serial::command::{LISTEN, SECONDARY};
+use pr_commands::{LISTEN, SECONDARY};
 use pr_serial::{NoMemory, Serial};
 use std::alloc::Global;
 use std::marker::Model;
@@ -53,7 +54,7 @@ impl<S: Serial> Model for Channels<S> {
 /// The second command for a secondary address.
 fn second_command(second: Option<u8>) -> Option<u8>
     requires { ForSome second (λ s. s ≤ 15) }
-    ensures { result ≡ second_from 96 second }
+    ensures { result ≡ second_from command.secondary second }
 {
     match second {
         Some(address) => Some(SECONDARY + address),

@@ -1,6 +1,7 @@
 //! What goes out on the bus: a byte is held back until it is known whether it is the last one.
 
 ghost use Rattle.std.specs.Prelude.{◌≡◌, ◌+◌, ◌≤◌, ◌<◌, ◌^◌, ◌⊎◌, false, true, None, Some, [], ◌∷◌, ◌++◌, length, OnOk, OnErr, IsSome, IsNone, if◌then◌else◌};
+ghost use Rattle.pr_commands.specs.Bytes as command;
 ghost use Rattle.pr_serial.specs.Sendable.{MaySend};
 ghost use Rattle.pr_serial.specs.declared.Item.TheVariants as item;
 ghost use Rattle.pr_serial.specs.Elements.{Attention, Byte};
@@ -8,7 +9,7 @@ ghost use Rattle.pr_serial.specs.Answers.{is_lacking};
 ghost use Rattle.pr_channels.specs.Commands.{unlisten};
 ghost use Rattle.pr_channels.specs.Sending.{putting, flushed_as};
 
-use pr_serial::command::{CLOSE, LISTEN, UNLISTEN};
+use pr_commands::{CLOSE, LISTEN, UNLISTEN};
 use pr_serial::laws::{answers_add_up, elements_send_items};
 use pr_serial::{NoMemory, Serial};
 use std::alloc::AllocError;
@@ -185,7 +186,7 @@ impl<S: Serial> Sender<S> {
         requires device { device ≤ 30 }
         requires second { second ≤ 15 }
         requires room { length self.old.sent + 3 ≤ 2 ^ 32 }
-        ensures ok { OnOk result (self.new ≡ putting unlisten (putting (Attention (32 + device) (Some (224 + second))) self.old)) }
+        ensures ok { OnOk result (self.new ≡ putting unlisten (putting (Attention (command.listen + device) (Some (command.close + second))) self.old)) }
         ensures works { OnOk result (self.old.failed ≡ false) }
         ensures err { OnErr result (self.new.failed ≡ true) }
         ensures room { length self.new.sent ≤ length self.old.sent + 3 }

@@ -2,6 +2,7 @@
 use Rattle.std.specs.Prelude.{ℕ, ◌+◌, Bool, true, false, not, ◌&&◌, ◌==◌, if◌then◌else◌, List, [], Option, Some, None}
 use Rattle.std.specs.List.{after_last, last_or, list_any, flat_map}
 use Rattle.std.specs.Option.{option_to_list}
+use Rattle.pr_commands.specs.Bytes as command
 use Rattle.pr_wire.specs.declared.Frame.{Frame}
 use Rattle.pr_page.specs.Before.{with_before}
 use Rattle.pr_page.specs.declared.input.Input.{Input}
@@ -13,11 +14,11 @@ is_command byte frame = frame.attention && frame.byte == byte
 
 -- UNLISTEN
 abbrev pub is_unlisten : Frame → Bool
-is_unlisten frame = is_command 63 frame
+is_unlisten frame = is_command command.unlisten frame
 
 -- LISTEN to this device
 abbrev pub is_listen : ℕ → Frame → Bool
-is_listen device frame = is_command (32 + device) frame
+is_listen device frame = is_command (command.listen + device) frame
 
 -- the device listens after these frames: after the last UNLISTEN there is a LISTEN to it
 abbrev pub is_listening : ℕ → List Frame → Bool
@@ -27,11 +28,11 @@ is_listening device before = list_any (is_listen device) (after_last is_unlisten
 abbrev pub is_called : ℕ → List Frame → Bool
 is_called device before = list_any (is_listen device) (option_to_list (last_or None before))
 
--- what a frame gives a device behind the frames before it: a LISTEN to it selects the graphic/upper case set, and command 103 (secondary address 7) directly behind that the lower/upper case set; a data byte comes if the device listens
+-- what a frame gives a device behind the frames before it: a LISTEN to it selects the graphic/upper case set, and secondary address 7 directly behind that the lower/upper case set; a data byte comes if the device listens
 abbrev pub input_of : ℕ → List Frame → Frame → Option Input
 input_of device before frame =
     if is_listen device frame then Some (Select false)
-    else (if (is_command 103 frame && is_called device before) then Some (Select true)
+    else (if (is_command command.lower_case frame && is_called device before) then Some (Select true)
     else (if (not frame.attention && is_listening device before) then Some (Byte frame.byte) else None))
 
 -- what a device hears of frames, in order

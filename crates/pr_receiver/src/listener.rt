@@ -3,17 +3,9 @@
 ghost use Rattle.std.specs.Prelude.{◌≡◌, ◌≤◌, false};
 ghost use Rattle.pr_receiver.specs.Steps.{input_by, kept_by};
 
+use pr_commands::{LISTEN, LOWER_CASE, UNLISTEN};
 use pr_page::Input;
 use pr_wire::Frame;
-
-/// LISTEN to device 0; to the others it is as much greater as their numbers.
-const LISTEN: u8 = 0x20;
-
-/// The command that ends listening for all.
-const UNLISTEN: u8 = 0x3F;
-
-/// Secondary address 7: the lower/upper case set.
-const LOWER_CASE: u8 = 0x67;
 
 /// What a device keeps of the frames.
 #[derive(Clone, Copy, Debug, PartialEq, Eq)]

@@ -1,6 +1,7 @@
 -- Trusted: who listens, and what is answered.
 use Rattle.std.specs.Prelude.{ℕ, Bool, false, not, ◌&&◌, ◌||◌, ◌==◌, ◌+◌, List, [], map, drop}
 use Rattle.std.specs.List.{after_last, list_any}
+use Rattle.pr_commands.specs.Bytes as command
 use Rattle.pr_serial.specs.declared.Present.{Present}
 use Rattle.pr_serial.specs.declared.Item.{Item}
 use Rattle.pr_serial.specs.declared.Item.TheVariants.{Attention, Sent}
@@ -8,12 +9,12 @@ use Rattle.pr_page.specs.Before.{with_before}
 
 -- UNLISTEN
 abbrev pub is_unlisten : Item → Bool
-is_unlisten (Attention first second) = first == 63
+is_unlisten (Attention first second) = first == command.unlisten
 is_unlisten (Sent b eoi) = false
 
 -- LISTEN to this device
 abbrev pub is_listen : ℕ → Item → Bool
-is_listen device (Attention first second) = first == 32 + device
+is_listen device (Attention first second) = first == command.listen + device
 is_listen device (Sent b eoi) = false
 
 -- the device is among the listeners after these items: after the last UNLISTEN there is a LISTEN to it

@@ -4,6 +4,7 @@ use Rattle.std.specs.List.{flat_map}
 use Rattle.pr_page.specs.Before.{with_before}
 use Rattle.pr_page.specs.declared.input.Input.{Input}
 use Rattle.pr_page.specs.declared.input.Input.TheVariants.{Select, Byte}
+use Rattle.pr_commands.specs.Bytes as command
 use Rattle.pr_serial.specs.declared.Present.{Present}
 use Rattle.pr_serial.specs.declared.Item.{Item}
 use Rattle.pr_serial.specs.declared.Item.TheVariants.{Attention, Sent}
@@ -13,14 +14,14 @@ use Rattle.pr_serial.specs.Answers.{is_listener}
 abbrev pub is_present : Present → ℕ → Bool
 is_present present device = (present.four && device == 4) || (present.five && device == 5)
 
--- what an item gives a device: a LISTEN to it selects the graphic/upper case set, and secondary address 7 (a second command of 103) then the lower/upper case set; a byte comes if the device listens
+-- what an item gives a device: a LISTEN to it selects the graphic/upper case set, and secondary address 7 (a second command) then the lower/upper case set; a byte comes if the device listens
 abbrev pub inputs_at : ℕ → List Item → Item → List Input
 inputs_at device before (Attention first second) =
-    if first == 32 + device then Select false ∷ select_lower second else []
+    if first == command.listen + device then Select false ∷ select_lower second else []
   where
     select_lower : Option ℕ → List Input
     select_lower None = []
-    select_lower (Some s) = if s == 103 then Select true ∷ [] else []
+    select_lower (Some s) = if s == command.lower_case then Select true ∷ [] else []
 inputs_at device before (Sent b eoi) = if is_listener device before then Byte b ∷ [] else []
 
 -- what a device hears of the items, in order: nothing if it isn't there

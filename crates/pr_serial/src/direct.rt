@@ -6,15 +6,10 @@ ghost use Rattle.pr_serial.specs.Hearing.{IsSameEar, HasRoom};
 use crate::ear::Ear;
 use crate::serial::Serial;
 use crate::{Item, NoMemory, Present};
+use pr_commands::{FIRST_PRINTER, SECOND_PRINTER};
 use pr_page::Input;
 use std::alloc::{AllocError, Global};
 use std::marker::Model;
-
-/// The device number of the first printer.
-const FOUR: u8 = 4;
-
-/// The device number of the second printer.
-const FIVE: u8 = 5;
 
 /// A bus without wires. It keeps what was sent, and what each printer heard of it since the mark;
 /// it draws on no delay numbers.
@@ -55,8 +50,8 @@ impl Direct {
         Direct {
             present,
             items: Vec::new(alloc),
-            four: Ear::new(alloc, FOUR, present.four),
-            five: Ear::new(alloc, FIVE, present.five),
+            four: Ear::new(alloc, FIRST_PRINTER, present.four),
+            five: Ear::new(alloc, SECOND_PRINTER, present.five),
             mark: None,
             failed: false,
         }
@@ -68,8 +63,8 @@ impl Direct {
         ensures { TellsHeard self.now.present self.now.mark self.now.items device result.now }
     {
         match device {
-            FOUR => &self.four.inputs,
-            FIVE => &self.five.inputs,
+            FIRST_PRINTER => &self.four.inputs,
+            SECOND_PRINTER => &self.five.inputs,
             _ => &[],
         }
     }

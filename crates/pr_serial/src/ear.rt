@@ -3,12 +3,13 @@
 ghost use Rattle.std.specs.Prelude.{◌≡◌, ◌+◌, ◌<◌, ◌==◌, ◌||◌, ◌&&◌, Bool, false, List, [], ◌++◌, OnOk, if◌then◌else◌};
 ghost use Rattle.pr_serial.specs.declared.Item.{Item};
 ghost use Rattle.pr_serial.specs.declared.Item.TheVariants.{Attention, Sent};
+ghost use Rattle.pr_commands.specs.Bytes as command;
 ghost use Rattle.pr_serial.specs.Answers.{is_listener};
 ghost use Rattle.pr_serial.specs.Heard.{inputs_at};
 ghost use Rattle.pr_serial.specs.Hearing.{IsSameEar, HasRoom};
 
 use crate::NoMemory;
-use crate::command::{LISTEN, LOWER_CASE, UNLISTEN};
+use pr_commands::{LISTEN, LOWER_CASE, UNLISTEN};
 use pr_page::Input;
 use std::alloc::Global;
 
@@ -65,7 +66,7 @@ impl Ear {
         requires room { HasRoom self.old }
         ensures device { self.new.device ≡ self.old.device }
         ensures there { self.new.there ≡ self.old.there }
-        ensures listens { self.new.listens ≡ (if first == 63 then false else (self.old.listens || first == 32 + self.old.device)) }
+        ensures listens { self.new.listens ≡ (if first == command.unlisten then false else (self.old.listens || first == command.listen + self.old.device)) }
         ensures inputs { (items : List Item) → self.new.inputs.items ≡ self.old.inputs.items ++
             (if self.old.there then inputs_at self.old.device items (Attention first second) else []) }
     {

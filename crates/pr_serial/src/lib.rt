@@ -8,7 +8,6 @@
 #![tactic(auto)]
 
 mod bus;
-pub mod command;
 mod direct;
 mod ear;
 pub mod laws;

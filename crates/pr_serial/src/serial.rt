@@ -35,8 +35,9 @@ pub trait Serial {
     /// Sends one or two command bytes under attention, and answers whether a device acknowledged
     /// them.
     ///
-    /// The first byte is 0x20 to 0x3f; a second comes only after a LISTEN, and is 0x60 to 0x6f or
-    /// 0xe0 to 0xef. Fewer than 2^32 items were sent before.
+    /// The first byte is a LISTEN or UNLISTEN; a second comes only after a LISTEN, and is a
+    /// secondary address that selects a channel or closes it. Fewer than 2^32 items were sent
+    /// before.
     ///
     /// # Errors
     ///

@@ -1,5 +1,6 @@
 -- Trusted: lawful traces: the start, followed by whole pieces end to end.
 use Rattle.std.specs.Prelude.{◌≡◌, ℕ, ◌+◌, ◌≤◌, Bool, true, false, not, ◌==◌, if◌then◌else◌, List, [], ◌∷◌, ◌++◌, length, Option, Some, None}
+use Rattle.pr_commands.specs.Bytes as command
 use Rattle.pr_wire.specs.declared.Edge.{Edge}
 use Rattle.pr_wire.specs.declared.Frame.{Frame}
 use Rattle.pr_wire.specs.Levels.{edge_at, start, byte_of}
@@ -144,7 +145,7 @@ AreReleased false r _ (Some c) = ⊥
 -- an attention ends after its last acknowledgement, by its last command
 pub record IsEnded (byte k : ℕ) (e : Ending) : Type 0 where
   pub atn : IsWithin e.atn (k + 100) (k + 200)
-  pub lines : AreReleased (byte == 63) e.atn e.line e.clock
+  pub lines : AreReleased (byte == command.unlisten) e.atn e.line e.clock
 
 -- CLOCK is released for a data byte in time
 abbrev pub IsLooked : Between → ℕ → Type 0

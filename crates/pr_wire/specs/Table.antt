@@ -1,5 +1,6 @@
 -- Trusted: the table of lawful traces: which edge may follow in each place, when, and the place that it reaches; and the first fault of a list of edges by it.
 use Rattle.std.specs.Prelude.{ℕ, ◌+◌, Bool, true, false, not, ◌&&◌, ◌==◌, nat_lt, if◌then◌else◌, List, [], ◌∷◌, ◌++◌, length, Option, Some, None, Result, Ok, Err}
+use Rattle.pr_commands.specs.Bytes as command
 use Rattle.pr_wire.specs.declared.Levels.{Levels}
 use Rattle.pr_wire.specs.declared.Edge.{Edge}
 use Rattle.pr_wire.specs.declared.Frame.{Frame}
@@ -78,8 +79,8 @@ row (Last z s eoi seen) t x false false =
     (Some (record { earliest = z + 1; latest = Some (z + 80); place = Ack t s (byte_of seen); frame = Some (frame_of s eoi seen) }))
 row (Last z s eoi seen) t _ _ _ = None
 row (Ack k First byte) t false true false = within (k + 1000) (k + 2000) (Ready t Second)
-row (Ack k First byte) t true false false = within (k + 100) (k + 200) (Freed t (byte == 63) false)
-row (Ack k Second byte) t true false false = within (k + 100) (k + 200) (Freed t (byte == 63) false)
+row (Ack k First byte) t true false false = within (k + 100) (k + 200) (Freed t (byte == command.unlisten) false)
+row (Ack k Second byte) t true false false = within (k + 100) (k + 200) (Freed t (byte == command.unlisten) false)
 row (Ack k Data byte) t true true false = within (k + 100) (k + 1000) (Ready t Data)
 row (Ack k Data byte) t false false false = within (k + 100) (k + 1000) (Call t true)
 row (Ack k s byte) t _ _ _ = None

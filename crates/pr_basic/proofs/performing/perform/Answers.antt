@@ -1,67 +1,11 @@
-use Rattle.std.proofs.Common.{None, is_some, cond, refl, sym, ap, ◌∙◌, subst}
-use Rattle.pr_channels.specs.Files.{open_stop, file_at}
-use Rattle.pr_basic.specs.declared.statement.Statement.{Statement}
-use Rattle.pr_basic.specs.declared.statement.Statement.TheVariants.{OpenFile, Cmd, PrintTo, Print, Rem}
-use Rattle.pr_basic.specs.Statements.{effect_of, commanding}
-use Rattle.pr_basic.specs.Performing.{setting_of, Performs, found_by}
-use Rattle.pr_basic.proofs.EffectLemmas.{begun_working, performs_from, opening_channel, commanding_channel, unlistening_channel, print_gives, print_channel, rem_gives}
-use Rattle.pr_basic.proofs.PrintingLemmas.{laws_of}
+use Rattle.pr_basic.specs.Performing.{found_by}
+use Rattle.pr_basic.proofs.EffectLemmas.{begun_working, performs_from}
 use Rattle.pr_basic.proofs.performing.perform.Goals as goal
 
-pub returns-in_ok-stop-in-OpenFile-clause-ok : goal.returns-in_ok-stop-in-OpenFile-clause-ok
-returns-in_ok-stop-in-OpenFile-clause-ok g c works =
+pub returns-clause-ok : goal.returns-clause-ok
+returns-clause-ok g c works =
     let old = c.args.channels.now in
-    let channel = c.args.session.now.channel in
     let mid = c.begin.new.channels in
-    let found = found_by c.args.session.now.mode c.args.channels.now.status in
+    let found = found_by c.args.session.now.mode old.status in
     let working = begun_working old mid found c.begin.ensures.status c.begin.ensures.in_step works in
-    let gives = c.in_ok-stop-in-OpenFile.ensures.ok working channel in
-    let P : Statement → Type 0 = λ s. Performs old c.open.new.channels found c.channel_after-session.result c.in_ok-stop-in-OpenFile.stop (effect_of old.present found old.elements (setting_of old channel) s) in
-    subst P (sym c.in-OpenFile.is) (performs_from old mid c.open.new.channels found c.channel_after-session.result channel c.in_ok-stop-in-OpenFile.stop (OpenFile c.in-OpenFile.file c.in-OpenFile.device c.in-OpenFile.second) c.begin.ensures.status gives
-    (λ stop. c.channel_after-session.ensures ∙ ap (λ s. cond (is_some s) 0 channel) stop ∙ sym (opening_channel (open_stop old.files c.in-OpenFile.file) (record { number = c.in-OpenFile.file; device = c.in-OpenFile.device; second = c.in-OpenFile.second }) (setting_of old channel))))
-
-pub returns-in_ok-stop-in-Cmd-clause-ok : goal.returns-in_ok-stop-in-Cmd-clause-ok
-returns-in_ok-stop-in-Cmd-clause-ok g c works =
-    let old = c.args.channels.now in
-    let channel = c.args.session.now.channel in
-    let mid = c.begin.new.channels in
-    let found = found_by c.args.session.now.mode c.args.channels.now.status in
-    let working = begun_working old mid found c.begin.ensures.status c.begin.ensures.in_step works in
-    let gives = c.in_ok-stop-in-Cmd.ensures.ok working channel in
-    let P : Statement → Type 0 = λ s. Performs old c.command.new.channels found c.channel_after-session-in-Cmd.result c.in_ok-stop-in-Cmd.stop (effect_of old.present found old.elements (setting_of old channel) s) in
-    subst P (sym c.in-Cmd.is) (performs_from old mid c.command.new.channels found c.channel_after-session-in-Cmd.result channel c.in_ok-stop-in-Cmd.stop (Cmd c.in-Cmd.file c.in-Cmd.line) c.begin.ensures.status gives
-    (λ stop. c.channel_after-session-in-Cmd.ensures ∙ ap (λ s. cond (is_some s) 0 c.in-Cmd.file) stop ∙ sym (commanding_channel old.present found old.elements (setting_of old channel) c.in-Cmd.file c.in-Cmd.line (file_at old.files c.in-Cmd.file))))
-
-pub returns-in_ok-stop-in-PrintTo-clause-ok : goal.returns-in_ok-stop-in-PrintTo-clause-ok
-returns-in_ok-stop-in-PrintTo-clause-ok g c works =
-    let old = c.args.channels.now in
-    let channel = c.args.session.now.channel in
-    let mid = c.begin.new.channels in
-    let found = found_by c.args.session.now.mode c.args.channels.now.status in
-    let working = begun_working old mid found c.begin.ensures.status c.begin.ensures.in_step works in
-    let gives = c.in_ok-stop-in-PrintTo.ensures.ok working channel in
-    let P : Statement → Type 0 = λ s. Performs old c.print_to.new.channels found 0 c.in_ok-stop-in-PrintTo.stop (effect_of old.present found old.elements (setting_of old channel) s) in
-    subst P (sym c.in-PrintTo.is) (performs_from old mid c.print_to.new.channels found 0 channel c.in_ok-stop-in-PrintTo.stop (PrintTo c.in-PrintTo.file c.in-PrintTo.line) c.begin.ensures.status gives
-    (λ stop. sym (unlistening_channel (commanding old.present found old.elements (setting_of old channel) c.in-PrintTo.file c.in-PrintTo.line (file_at old.files c.in-PrintTo.file)) c.in-PrintTo.file (commanding_channel old.present found old.elements (setting_of old channel) c.in-PrintTo.file c.in-PrintTo.line (file_at old.files c.in-PrintTo.file)))))
-
-pub returns-in_ok-print_line-in-Print-clause-ok : goal.returns-in_ok-print_line-in-Print-clause-ok
-returns-in_ok-print_line-in-Print-clause-ok g c works =
-    let old = c.args.channels.now in
-    let channel = c.args.session.now.channel in
-    let mid = c.begin.new.channels in
-    let found = found_by c.args.session.now.mode c.args.channels.now.status in
-    let working = begun_working old mid found c.begin.ensures.status c.begin.ensures.in_step works in
-    let P : Statement → Type 0 = λ s. Performs old c.print_line.new.channels found channel None (effect_of old.present found old.elements (setting_of old channel) s) in
-    subst P (sym c.in-Print.is) (performs_from old mid c.print_line.new.channels found channel channel None (Print c.in-Print.line) c.begin.ensures.status
-    (print_gives (laws_of c.elements_add_up.ensures.two_parts c.elements_add_up.ensures.none) c.in-Print.line channel mid c.print_line.new.channels working (c.in_ok-print_line-in-Print.ensures.ok working))
-    (λ stop. print_channel old.present found old.elements (setting_of old channel) c.in-Print.line))
-
-pub returns-in-Rem-clause-ok : goal.returns-in-Rem-clause-ok
-returns-in-Rem-clause-ok g c works =
-    let old = c.args.channels.now in
-    let channel = c.args.session.now.channel in
-    let mid = c.begin.new.channels in
-    let found = found_by c.args.session.now.mode c.args.channels.now.status in
-    let working = begun_working old mid found c.begin.ensures.status c.begin.ensures.in_step works in
-    let P : Statement → Type 0 = λ s. Performs old mid found channel None (effect_of old.present found old.elements (setting_of old channel) s) in
-    subst P (sym c.in-Rem.is) (performs_from old mid mid found channel channel None Rem c.begin.ensures.status (rem_gives (laws_of c.elements_add_up.ensures.two_parts c.elements_add_up.ensures.none) channel mid working) (λ stop. refl))
+    performs_from old mid c.perform_begun.new.channels found c.in_ok-stop.channel c.args.session.now.channel c.in_ok-stop.stop c.args.statement.now c.begin.ensures.status (c.in_ok-stop.ensures.ok working)
