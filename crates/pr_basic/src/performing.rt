@@ -4,7 +4,7 @@ ghost use Rattle.std.specs.Prelude.{◌≡◌, ℕ, ◌+◌, ◌≤◌, ◌<◌,
 ghost use Rattle.pr_serial.specs.Elements.{Byte};
 ghost use Rattle.pr_serial.specs.Items.{items_of};
 ghost use Rattle.pr_channels.specs.Files.{open_stop};
-ghost use Rattle.pr_channels.specs.Seen.{Seen};
+ghost use Rattle.pr_channels.specs.Seen.{Seen, KeepsBus};
 ghost use Rattle.std.specs.Option.{ForSome};
 ghost use Rattle.pr_channels.specs.Calls.{adding, clrchn_of};
 ghost use Rattle.pr_basic.specs.Statements.{printed_bytes, unlistening, opening};
@@ -46,9 +46,7 @@ fn print_bytes<S: Serial>(channels: &mut Channels<S>, bytes: &[u8]) -> Result<()
     ensures ok { OnOk result (IsWorking channels.old → channels.new ≡ printing bytes.now channels.old) }
     ensures failed { OnOk result (channels.new.failed ≡ channels.old.failed) }
     ensures room { length channels.new.sent ≤ length channels.old.sent + length bytes.now }
-    ensures present { channels.new.present ≡ channels.old.present }
-    ensures delays { channels.new.delays ≡ channels.old.delays }
-    ensures mark { channels.new.mark ≡ channels.old.mark }
+    ensures keeps { KeepsBus channels.old channels.new }
     ensures output { OnOk result (channels.new.output ≡ channels.old.output) }
     ensures screen { channels.old.output ≤ 3 → ChangesScreenAlone channels.old channels.new }
     ensures err { 3 < channels.old.output → OnErr result (channels.new.failed ≡ true) }
@@ -70,9 +68,7 @@ fn print_line<S: Serial>(
     ensures ok { OnOk result (IsWorking channels.old → channels.new ≡ printing (printed_bytes line.now channel) channels.old) }
     ensures failed { OnOk result (channels.new.failed ≡ channels.old.failed) }
     ensures room { length channels.new.sent ≤ length channels.old.sent + 257 }
-    ensures present { channels.new.present ≡ channels.old.present }
-    ensures delays { channels.new.delays ≡ channels.old.delays }
-    ensures mark { channels.new.mark ≡ channels.old.mark }
+    ensures keeps { KeepsBus channels.old channels.new }
     ensures output { OnOk result (channels.new.output ≡ channels.old.output) }
     ensures screen { channels.old.output ≤ 3 → ChangesScreenAlone channels.old channels.new }
     ensures err { 3 < channels.old.output → OnErr result (channels.new.failed ≡ true) }
@@ -95,9 +91,7 @@ fn stopped<S: Serial>(channels: &mut Channels<S>, stop: Stop) -> Result<Option<S
     ensures ok { OnOk result (channels.new ≡ clrchn_of channels.old) }
     ensures failed { OnOk result (channels.new.failed ≡ channels.old.failed) }
     ensures room { length channels.new.sent ≤ length channels.old.sent + 2 }
-    ensures present { channels.new.present ≡ channels.old.present }
-    ensures delays { channels.new.delays ≡ channels.old.delays }
-    ensures mark { channels.new.mark ≡ channels.old.mark }
+    ensures keeps { KeepsBus channels.old channels.new }
     ensures err { OnErr result (channels.new.failed ≡ true) }
 {
     channels.clrchn()?;
@@ -117,9 +111,7 @@ fn command<S: Serial>(
     ensures bus { IfOk result (λ stop. IsNone stop → 3 < channels.new.output) }
     ensures failed { OnOk result (channels.new.failed ≡ channels.old.failed) }
     ensures room { length channels.new.sent ≤ length channels.old.sent + 260 }
-    ensures present { channels.new.present ≡ channels.old.present }
-    ensures delays { channels.new.delays ≡ channels.old.delays }
-    ensures mark { channels.new.mark ≡ channels.old.mark }
+    ensures keeps { KeepsBus channels.old channels.new }
     ensures err { OnErr result (channels.new.failed ≡ true) }
 {
     elements_add_up();
@@ -144,9 +136,7 @@ fn print_to<S: Serial>(
         Gives channels.old channels.new stop (unlistening (commanding_on channels.old channel file line.now))) }
     ensures failed { OnOk result (channels.new.failed ≡ channels.old.failed) }
     ensures room { length channels.new.sent ≤ length channels.old.sent + 262 }
-    ensures present { channels.new.present ≡ channels.old.present }
-    ensures delays { channels.new.delays ≡ channels.old.delays }
-    ensures mark { channels.new.mark ≡ channels.old.mark }
+    ensures keeps { KeepsBus channels.old channels.new }
     ensures err { OnErr result (channels.new.failed ≡ true) }
 {
     elements_add_up();
@@ -170,9 +160,7 @@ fn open<S: Serial>(
         (record { number = file; device = device; second = second }) (setting_of channels.old channel))) }
     ensures failed { OnOk result (channels.new.failed ≡ channels.old.failed) }
     ensures room { length channels.new.sent ≤ length channels.old.sent + 2 }
-    ensures present { channels.new.present ≡ channels.old.present }
-    ensures delays { channels.new.delays ≡ channels.old.delays }
-    ensures mark { channels.new.mark ≡ channels.old.mark }
+    ensures keeps { KeepsBus channels.old channels.new }
     ensures err { OnErr result (channels.new.failed ≡ true) }
 {
     elements_add_up();
@@ -217,9 +205,7 @@ fn perform_begun<S: Serial>(
         (effect_on channels.old channels.old.status channel statement.now)) }
     ensures failed { OnOk result (channels.new.failed ≡ channels.old.failed) }
     ensures room { length channels.new.sent ≤ length channels.old.sent + 262 }
-    ensures present { channels.new.present ≡ channels.old.present }
-    ensures delays { channels.new.delays ≡ channels.old.delays }
-    ensures mark { channels.new.mark ≡ channels.old.mark }
+    ensures keeps { KeepsBus channels.old channels.new }
     ensures err { OnErr result ((channels.new.failed ≡ true) ⊎ ChangesScreenAlone channels.old channels.new) }
 {
     elements_add_up();
@@ -292,9 +278,7 @@ pub fn perform<S: Serial>(
     ensures mode { session.new.mode ≡ session.old.mode }
     ensures failed { OnOk result (channels.new.failed ≡ channels.old.failed) }
     ensures room { length channels.new.sent ≤ length channels.old.sent + 262 }
-    ensures present { channels.new.present ≡ channels.old.present }
-    ensures delays { channels.new.delays ≡ channels.old.delays }
-    ensures mark { channels.new.mark ≡ channels.old.mark }
+    ensures keeps { KeepsBus channels.old channels.new }
     ensures err { OnErr result ((channels.new.failed ≡ true)
         ⊎ ChangesScreenAlone (record channels.old { status = found_by session.old.mode channels.old.status }) channels.new) }
     ensures err_session { OnErr result (session.new ≡ session.old) }

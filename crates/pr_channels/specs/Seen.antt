@@ -22,6 +22,12 @@ pub record Seen : Type 0 where
   pub status : ℕ
   pub screen : List ℕ
 
+-- the bus has the same printers, delays and mark
+pub record KeepsBus (old new : Seen) : Type 0 where
+  pub present : new.present ≡ old.present
+  pub delays : new.delays ≡ old.delays
+  pub mark : new.mark ≡ old.mark
+
 -- the element that was sent as this item
 abbrev pub element_of : Item → Element
 element_of (item.Attention first second) = Attention first second

@@ -22,6 +22,12 @@ pub record Sending : Type 0 where
   pub held : Option ℕ
   pub status : ℕ
 
+-- the bus has the same printers, delays and mark
+pub record SenderKeepsBus (old new : Sending) : Type 0 where
+  pub present : new.present ≡ old.present
+  pub delays : new.delays ≡ old.delays
+  pub mark : new.mark ≡ old.mark
+
 -- while the bus works, what was sent is what its elements send, and the byte held back is the one that waits
 pub record HoldsBack (failed : Bool) (items : List Item) (waiting : Option ℕ) : Type 0 where
   pub sent : failed ≡ false → items ≡ items_of (elements_from items waiting)

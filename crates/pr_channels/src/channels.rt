@@ -63,7 +63,7 @@ fn second_command(second: Option<u8>) -> Option<u8>
 }
 
 impl<S: Serial> Channels<S> {
-    ghost use Rattle.pr_channels.specs.Seen.{IsInStep};
+    ghost use Rattle.pr_channels.specs.Seen.{IsInStep, KeepsBus};
     ghost use Rattle.pr_channels.specs.Calls.{chkout_of, chrout_of, clrchn_of, close_of, IsFault};
 
     /// No file is open, the screen (device 3) is the output device, the status is 0. The bus has
@@ -121,9 +121,7 @@ impl<S: Serial> Channels<S> {
         ensures not_open { file_at self.old.files file ≡ None → (result ≡ Err (Fault.Stop Stop.FileNotOpen)) × (self.new ≡ self.old) }
         ensures refused { file_at self.old.files file ≢ None → self.old.failed ≡ true → result ≡ Err Fault.NoMemory }
         ensures room { length self.new.sent ≤ length self.old.sent + 2 }
-        ensures present { self.new.present ≡ self.old.present }
-        ensures delays { self.new.delays ≡ self.old.delays }
-        ensures mark { self.new.mark ≡ self.old.mark }
+        ensures keeps { KeepsBus self.old self.new }
     {
         let Some(entry) = self.files.get(file) else {
             return Err(Fault::Stop(Stop::FileNotOpen));
@@ -156,9 +154,7 @@ impl<S: Serial> Channels<S> {
         ensures err { 3 < self.old.output → OnErr result (self.new.failed ≡ true) }
         ensures failed { OnOk result (self.new.failed ≡ self.old.failed) }
         ensures room { length self.new.sent ≤ length self.old.sent + 1 }
-        ensures present { self.new.present ≡ self.old.present }
-        ensures delays { self.new.delays ≡ self.old.delays }
-        ensures mark { self.new.mark ≡ self.old.mark }
+        ensures keeps { KeepsBus self.old self.new }
     {
         if self.output > SCREEN {
             self.sender.byte(byte)
@@ -182,9 +178,7 @@ impl<S: Serial> Channels<S> {
         ensures screen { self.old.output ≤ 3 → IsOk result }
         ensures err { OnErr result (self.new.failed ≡ true) }
         ensures room { length self.new.sent ≤ length self.old.sent + 2 }
-        ensures present { self.new.present ≡ self.old.present }
-        ensures delays { self.new.delays ≡ self.old.delays }
-        ensures mark { self.new.mark ≡ self.old.mark }
+        ensures keeps { KeepsBus self.old self.new }
     {
         if self.output > SCREEN {
             self.sender.unlisten()?;
@@ -202,9 +196,7 @@ impl<S: Serial> Channels<S> {
         ensures err { OnErr result (self.new.failed ≡ true) }
         ensures failed { OnOk result (self.new.failed ≡ self.old.failed) }
         ensures room { length self.new.sent ≤ length self.old.sent + 3 }
-        ensures present { self.new.present ≡ self.old.present }
-        ensures delays { self.new.delays ≡ self.old.delays }
-        ensures mark { self.new.mark ≡ self.old.mark }
+        ensures keeps { KeepsBus self.old self.new }
     {
         elements_add_up();
         // For the prover alone: the items are those of the elements.
@@ -236,9 +228,7 @@ impl<S: Serial> Channels<S> {
         ensures failed { OnOk result (self.new.failed ≡ self.old.failed) }
         ensures err { OnErr result (self.new.failed ≡ true) }
         ensures room { length self.new.sent ≤ length self.old.sent + 3 }
-        ensures present { self.new.present ≡ self.old.present }
-        ensures delays { self.new.delays ≡ self.old.delays }
-        ensures mark { self.new.mark ≡ self.old.mark }
+        ensures keeps { KeepsBus self.old self.new }
     {
         self.tell_closed(file)?;
         self.files.close(file);

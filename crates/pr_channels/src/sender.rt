@@ -7,7 +7,7 @@ ghost use Rattle.pr_serial.specs.declared.Item.TheVariants as item;
 ghost use Rattle.pr_serial.specs.Elements.{Attention, Byte};
 ghost use Rattle.pr_serial.specs.Answers.{is_lacking};
 ghost use Rattle.pr_channels.specs.Commands.{unlisten};
-ghost use Rattle.pr_channels.specs.Sending.{putting, flushed_as};
+ghost use Rattle.pr_channels.specs.Sending.{putting, flushed_as, SenderKeepsBus};
 
 use pr_commands::{CLOSE, LISTEN, UNLISTEN};
 use pr_serial::laws::{answers_add_up, elements_send_items};
@@ -133,9 +133,7 @@ impl<S: Serial> Sender<S> {
         ensures err { OnErr result (self.new.failed ≡ true) }
         ensures room { length self.new.sent ≤ length self.old.sent + 2 }
         ensures free_room { IsNone self.old.held → length self.new.sent ≤ length self.old.sent + 1 }
-        ensures present { self.new.present ≡ self.old.present }
-        ensures delays { self.new.delays ≡ self.old.delays }
-        ensures mark { self.new.mark ≡ self.old.mark }
+        ensures keeps { SenderKeepsBus self.old self.new }
     {
         elements_send_items();
         answers_add_up();
@@ -152,9 +150,7 @@ impl<S: Serial> Sender<S> {
         ensures works { OnOk result (self.old.failed ≡ false) }
         ensures err { OnErr result (self.new.failed ≡ true) }
         ensures room { length self.new.sent ≤ length self.old.sent + 1 }
-        ensures present { self.new.present ≡ self.old.present }
-        ensures delays { self.new.delays ≡ self.old.delays }
-        ensures mark { self.new.mark ≡ self.old.mark }
+        ensures keeps { SenderKeepsBus self.old self.new }
     {
         elements_send_items();
         if self.bus.failed() {
@@ -174,9 +170,7 @@ impl<S: Serial> Sender<S> {
         ensures err { OnErr result (self.new.failed ≡ true) }
         ensures room { length self.new.sent ≤ length self.old.sent + 2 }
         ensures free_room { IsNone self.old.held → length self.new.sent ≤ length self.old.sent + 1 }
-        ensures present { self.new.present ≡ self.old.present }
-        ensures delays { self.new.delays ≡ self.old.delays }
-        ensures mark { self.new.mark ≡ self.old.mark }
+        ensures keeps { SenderKeepsBus self.old self.new }
     {
         self.attention(UNLISTEN, None)
     }
@@ -190,9 +184,7 @@ impl<S: Serial> Sender<S> {
         ensures works { OnOk result (self.old.failed ≡ false) }
         ensures err { OnErr result (self.new.failed ≡ true) }
         ensures room { length self.new.sent ≤ length self.old.sent + 3 }
-        ensures present { self.new.present ≡ self.old.present }
-        ensures delays { self.new.delays ≡ self.old.delays }
-        ensures mark { self.new.mark ≡ self.old.mark }
+        ensures keeps { SenderKeepsBus self.old self.new }
     {
         self.attention(LISTEN + device, Some(CLOSE + second))?;
         self.unlisten()

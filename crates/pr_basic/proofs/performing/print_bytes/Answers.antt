@@ -9,9 +9,7 @@ loop-byte-init g c = record {
   printed = λ working. sym (printing_none (laws_of c.elements_add_up.ensures.two_parts c.elements_add_up.ensures.none) c.args.channels.now working);
   failed = refl;
   room = omega arith;
-  present = refl;
-  delays = refl;
-  mark = refl;
+  keeps = record { present = refl; delays = refl; mark = refl };
   output = refl;
   screen = λ low. refl;
 }
@@ -25,9 +23,11 @@ loop-byte-preserved g c = record {
       ∙ ap (λ xs. printing xs c.args.channels.now) (sym (take_more c.args.bytes.now c.loop-byte.byte-index 0 c.loop-byte-test.true));
   failed = c.in_ok-chrout.ensures.failed ∙ c.loop-byte.invariant.failed;
   room = omega (arith, c.loop-byte.invariant.room, c.chrout.ensures.room);
-  present = c.chrout.ensures.present ∙ c.loop-byte.invariant.present;
-  delays = c.chrout.ensures.delays ∙ c.loop-byte.invariant.delays;
-  mark = c.chrout.ensures.mark ∙ c.loop-byte.invariant.mark;
+  keeps = record {
+    present = c.chrout.ensures.keeps.present ∙ c.loop-byte.invariant.keeps.present;
+    delays = c.chrout.ensures.keeps.delays ∙ c.loop-byte.invariant.keeps.delays;
+    mark = c.chrout.ensures.keeps.mark ∙ c.loop-byte.invariant.keeps.mark;
+  };
   output = chrout_output _ _ _ c.in_ok-chrout.ensures.ok ∙ c.loop-byte.invariant.output;
   screen = λ low. chrout_screen _ c.args.channels.now c.loop-byte.channels _ low c.loop-byte.invariant.output (c.loop-byte.invariant.screen low) c.in_ok-chrout.ensures.ok;
 }

@@ -1,4 +1,5 @@
 use Rattle.std.proofs.Common.{◌≡◌, ◌+◌, ◌≤◌, take, length}
+use Rattle.pr_channels.specs.Seen.{KeepsBus}
 use Rattle.pr_basic.specs.Performing.{printing, IsWorking, ChangesScreenAlone}
 use Rattle.pr_basic.proofs.performing.print_bytes.Given as goal
 
@@ -7,9 +8,7 @@ invariant-loop-byte g l = record {
   printed : IsWorking l.fn.channels → l.channels ≡ printing (take l.byte-index l.bytes) l.fn.channels;
   failed : l.channels.failed ≡ l.fn.channels.failed;
   room : length l.channels.sent ≤ length l.fn.channels.sent + l.byte-index;
-  present : l.channels.present ≡ l.fn.channels.present;
-  delays : l.channels.delays ≡ l.fn.channels.delays;
-  mark : l.channels.mark ≡ l.fn.channels.mark;
+  keeps : KeepsBus l.fn.channels l.channels;
   output : l.channels.output ≡ l.fn.channels.output;
   screen : l.fn.channels.output ≤ 3 → ChangesScreenAlone l.fn.channels l.channels;
 }
