@@ -1,5 +1,5 @@
 -- A table that is read line by line.
-use Rattle.std.proofs.Common.{◌≡◌, ℕ, zero, suc, ◌+◌, ◌<◌, ◌==◌, Bool, true, false, List, [], ◌∷◌, ◌++◌, length, take, drop, refl, ap, sym, subst, ◌∙◌, arith, append_assoc, append-nil, Option, Some, None}
+use Rattle.std.proofs.Common.{◌≡◌, ℕ, suc, ◌+◌, ◌<◌, ◌==◌, Bool, true, false, List, [], ◌∷◌, ◌++◌, length, take, drop, refl, ap, sym, subst, ◌∙◌, arith, append_assoc, append-nil, Option, None}
 use Rattle.std.specs.Prelude.{IfErr, IsErrAnd, Result, Ok, Err}
 use Rattle.std.proofs.lemmas.List.{take-append-drop}
 use Rattle.std.specs.List.{list_all, prefix_len}
@@ -14,7 +14,7 @@ use Rattle.pr_capture.specs.declared.fault.CaptureFault.TheVariants.{NoSignal}
 use Rattle.pr_capture.specs.declared.fault.Wire.TheVariants.{Atn}
 use Rattle.pr_capture.specs.declared.signals.Signals.{Signals}
 use Rattle.pr_capture.specs.Csv.{csv_told}
-use Rattle.pr_capture.specs.CsvSteps.{is_inner, still_told, told_from, AnswersEnd, EndsText, FaultsIn, HasRead, HoldsMore, ReadsLine, ReadsMore}
+use Rattle.pr_capture.specs.CsvSteps.{is_inner, told_from, AnswersEnd, EndsText, FaultsIn, HasRead, HoldsMore, ReadsMore}
 use Rattle.pr_capture.specs.Recording.{ended, refused, told_behind, Told}
 use Rattle.pr_capture.specs.Samples.{listed}
 

@@ -1,5 +1,5 @@
 -- Times in seconds.
-use Rattle.std.proofs.Common.{◌≡◌, ℕ, ◌+◌, ◌-◌, ◌*◌, ◌<◌, ◌≤◌, ◌==◌, Bool, true, false, List, [], ◌∷◌, ◌++◌, length, drop, get_or, refl, ap, ◌∙◌, arith, drop-cons, nat_lt, Option, Some, None}
+use Rattle.std.proofs.Common.{◌≡◌, ℕ, ◌+◌, ◌-◌, ◌*◌, ◌<◌, ◌≤◌, ◌==◌, Bool, true, false, List, [], ◌∷◌, ◌++◌, length, drop, get_or, refl, ap, ◌∙◌, arith, drop-cons, nat_lt, Some, None}
 use Rattle.std.proofs.lemmas.Grind.{common_steps}
 use Rattle.pr_capture.specs.Csv.{micros_in, millionths, number_from}
 use Rattle.pr_capture.specs.CsvSteps.{onward}

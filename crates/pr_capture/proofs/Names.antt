@@ -1,5 +1,5 @@
 -- Names of signals.
-use Rattle.std.proofs.Common.{◌≡◌, ℕ, ◌<◌, Bool, false, List, [], ◌∷◌, length, drop, refl, arith, drop-cons}
+use Rattle.std.proofs.Common.{◌≡◌, ℕ, ◌<◌, false, List, [], ◌∷◌, length, drop, refl, arith, drop-cons}
 use Rattle.pr_capture.specs.Recording.{has_name}
 
 -- nothing is left for a letter

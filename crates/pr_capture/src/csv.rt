@@ -454,3 +454,6 @@ impl<'a> CsvReader<'a> {
         self.answer(sample)
     }
 }
+
+#[cfg(test)]
+mod tests;
