@@ -3,3 +3,6 @@ pub mod VcdLaws
 pub mod VcdWriting
 pub mod Samples
 pub mod Gathering
+pub mod Recording
+pub mod Csv
+pub mod CsvSteps

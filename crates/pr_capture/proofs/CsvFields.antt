@@ -1,0 +1,74 @@
+-- Fields of a line, one by one.
+use Rattle.std.proofs.Common.{◌≡◌, ℕ, zero, suc, ◌+◌, ◌-◌, ◌<◌, ◌≤◌, ◌==◌, Bool, true, false, List, [], ◌∷◌, length, take, drop, refl, ap, subst, ◌∙◌, arith, Some, None}
+use Rattle.std.specs.Prelude.{◌&&◌, not, if◌then◌else◌}
+use Rattle.pr_wire.specs.TraceText.{onto_first}
+use Rattle.pr_capture.specs.Csv.{field_at, fields_of}
+use Rattle.pr_capture.specs.CsvSteps.{field_len}
+
+-- a comma ends the first field
+pub field-ended : (quoted : Bool) (l : List ℕ) → field_len quoted l < length l
+    → fields_of quoted l ≡ take (field_len quoted l) l ∷ fields_of false (drop (field_len quoted l + 1) l)
+field-ended quoted [] h = absurd (omega arith)
+field-ended quoted (b ∷ bs) h = step (b == 44 && not quoted) refl h (λ k. field-ended (if b == 34 then not quoted else quoted) bs k)
+  where
+    step : (t : Bool) → (b == 44 && not quoted) ≡ t → field_len quoted (b ∷ bs) < length (b ∷ bs)
+        → (field_len (if b == 34 then not quoted else quoted) bs < length bs
+        → fields_of (if b == 34 then not quoted else quoted) bs
+        ≡ take (field_len (if b == 34 then not quoted else quoted) bs) bs ∷ fields_of false (drop (field_len (if b == 34 then not quoted else quoted) bs + 1) bs))
+        → fields_of quoted (b ∷ bs) ≡ take (field_len quoted (b ∷ bs)) (b ∷ bs) ∷ fields_of false (drop (field_len quoted (b ∷ bs) + 1) (b ∷ bs))
+    step true e k next = rw e refl
+    step false e k next =
+        let m : ℕ = field_len (if b == 34 then not quoted else quoted) bs in
+        let n : suc m ≡ field_len quoted (b ∷ bs) = rw e (omega arith) in
+        let less : m < length bs = omega (arith, k, n) in
+        let f : fields_of quoted (b ∷ bs) ≡ onto_first b (fields_of (if b == 34 then not quoted else quoted) bs) = rw e refl in
+        let g : onto_first b (fields_of (if b == 34 then not quoted else quoted) bs) ≡ take (suc m) (b ∷ bs) ∷ fields_of false (drop (suc (m + 1)) (b ∷ bs)) =
+        ap (onto_first b) (next less) in
+        let o : suc (m + 1) ≡ suc m + 1 = omega arith in
+        let P : ℕ → Type 0 = λ j. fields_of quoted (b ∷ bs) ≡ take (suc m) (b ∷ bs) ∷ fields_of false (drop j (b ∷ bs)) in
+        let Q : ℕ → Type 0 = λ j. fields_of quoted (b ∷ bs) ≡ take j (b ∷ bs) ∷ fields_of false (drop (j + 1) (b ∷ bs)) in
+        subst Q n (subst P o (f ∙ g))
+
+-- a line without one is one field
+pub field-alone : (quoted : Bool) (l : List ℕ) → length l ≤ field_len quoted l → fields_of quoted l ≡ l ∷ []
+field-alone quoted [] h = refl
+field-alone quoted (b ∷ bs) h = step (b == 44 && not quoted) refl h (λ k. field-alone (if b == 34 then not quoted else quoted) bs k)
+  where
+    step : (t : Bool) → (b == 44 && not quoted) ≡ t → length (b ∷ bs) ≤ field_len quoted (b ∷ bs)
+        → (length bs ≤ field_len (if b == 34 then not quoted else quoted) bs → fields_of (if b == 34 then not quoted else quoted) bs ≡ bs ∷ [])
+        → fields_of quoted (b ∷ bs) ≡ (b ∷ bs) ∷ []
+    step true e k next = let none : length (b ∷ bs) ≤ 0 = rw e at k in absurd (omega (arith, none))
+    step false e k next =
+        let less : length (b ∷ bs) ≤ 1 + field_len (if b == 34 then not quoted else quoted) bs = rw e at k in
+        rw e (ap (onto_first b) (next (omega (arith, less))))
+
+-- the field of a place, by those behind the first
+pub at-none : (place : ℕ) (fields : List (List ℕ)) (f : List ℕ) → 0 < place → fields ≡ f ∷ [] → field_at place fields ≡ None
+at-none zero fields f h e = absurd (omega arith)
+at-none (suc place) fields f h e = rw e refl
+
+pub at-more : (place : ℕ) (fields fs : List (List ℕ)) (f : List ℕ) → 0 < place → fields ≡ f ∷ fs → field_at place fields ≡ field_at (place - 1) fs
+at-more zero fields fs f h e = absurd (omega arith)
+at-more (suc place) fields fs f h e = let p : suc place - 1 ≡ place = omega arith in rw (e, p) refl
+
+pub at-first : (place : ℕ) (fields fs : List (List ℕ)) (f : List ℕ) → place ≡ 0 → fields ≡ f ∷ fs → field_at place fields ≡ Some f
+at-first place fields fs f h e = rw (h, e) refl
+
+-- a line has at most one field more than bytes
+pub fields-few : (quoted : Bool) (l : List ℕ) → length (fields_of quoted l) ≤ length l + 1
+fields-few quoted [] = omega arith
+fields-few quoted (b ∷ bs) = step (b == 44 && not quoted) refl (fields-few false bs) (fields-few (if b == 34 then not quoted else quoted) bs)
+  where
+    onto : (fs : List (List ℕ)) → length fs ≤ length bs + 1 → length (onto_first b fs) ≤ length (b ∷ bs) + 1
+    onto [] k = omega arith
+    onto (f ∷ fs) k = omega (arith, k)
+
+    step : (t : Bool) → (b == 44 && not quoted) ≡ t → length (fields_of false bs) ≤ length bs + 1
+        → length (fields_of (if b == 34 then not quoted else quoted) bs) ≤ length bs + 1
+        → length (fields_of quoted (b ∷ bs)) ≤ length (b ∷ bs) + 1
+    step true e j k = rw e (omega (arith, j))
+    step false e j k = rw e (onto (fields_of (if b == 34 then not quoted else quoted) bs) k)
+
+-- and at most as many behind the first
+pub left-few : (l f : List ℕ) (fs : List (List ℕ)) → fields_of false l ≡ f ∷ fs → length fs ≤ length l
+left-few l f fs e = let few : length (f ∷ fs) ≤ length l + 1 = subst (λ v. length v ≤ length l + 1) e (fields-few false l) in omega (arith, few)

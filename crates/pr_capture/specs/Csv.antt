@@ -1,0 +1,161 @@
+-- Trusted: what a table of comma separated values says of the bus: samples of its lines, up to the first fault if there is one.
+-- Its first line has the columns' names, every other one is a sample, whose first field is the time in seconds.
+use Rattle.std.specs.Prelude.{ℕ, zero, suc, ◌+◌, ◌-◌, ◌*◌, ◌==◌, ◌&&◌, ◌||◌, Bool, true, false, not, List, [], ◌∷◌, ◌++◌, codes, drop, length, nat_lt, take, if◌then◌else◌, Option, Some, None, Result, Ok, Err}
+use Rattle.std.specs.List.{list_all, prefix_len}
+use Rattle.pr_wire.specs.declared.Edge.{Edge}
+use Rattle.pr_wire.specs.Levels.{edge_at}
+use Rattle.pr_wire.specs.TraceText.{is_digit, lines_of, onto_first}
+use Rattle.pr_capture.specs.declared.csv.Columns.{Columns}
+use Rattle.pr_capture.specs.declared.fault.Wire.{Wire}
+use Rattle.pr_capture.specs.declared.fault.Wire.TheVariants.{Atn, Clock, Data}
+use Rattle.pr_capture.specs.declared.fault.CaptureFault.{CaptureFault}
+use Rattle.pr_capture.specs.declared.fault.CaptureFault.TheVariants.{BadLevel, BadTime, GoesBack, NoLevel, NoSignal}
+use Rattle.pr_capture.specs.declared.signals.Signals.{Signals}
+use Rattle.pr_capture.specs.Recording.{◌>>=◌, ended, is_framing, is_named, level_in, refused, told_behind, without_front, Told}
+
+-- Lines and fields.
+
+-- nothing, or a remark
+abbrev pub is_remark : (words : List ℕ) → Bool
+is_remark [] = true
+is_remark (b ∷ bs) = b == 59 || b == 35
+
+-- a line says nothing: it is blank, or a remark, which begins with ; or #
+abbrev pub is_silent : (line : List ℕ) → Bool
+is_silent line = is_remark (without_front line)
+
+-- the fields of a line: commas part them, but for those between quotation marks
+abbrev pub fields_of : (quoted : Bool) → (line : List ℕ) → List (List ℕ)
+fields_of quoted [] = [] ∷ []
+fields_of quoted (b ∷ bs) =
+    if b == 44 && not quoted then [] ∷ fields_of false bs
+    else onto_first b (fields_of (if b == 34 then not quoted else quoted) bs)
+
+-- the field of a place, from 0
+abbrev pub field_at : (place : ℕ) → (fields : List (List ℕ)) → Option (List ℕ)
+field_at place [] = None
+field_at zero (f ∷ fs) = Some f
+field_at (suc place) (f ∷ fs) = field_at place fs
+
+-- The columns.
+
+-- the place of the first field that is the name of a wire's signal
+abbrev pub column_of : Signals → Wire → (place : ℕ) → (fields : List (List ℕ)) → Option ℕ
+column_of s wire place [] = None
+column_of s wire place (f ∷ fs) = if is_named s wire f then Some place else column_of s wire (place + 1) fs
+
+-- there has to be one
+abbrev pub column_or : (number : ℕ) → Wire → Option ℕ → Result ℕ CaptureFault
+column_or number wire None = Err (NoSignal number wire)
+column_or number wire (Some place) = Ok place
+
+-- the columns of the three lines, by the fields behind that of the time
+abbrev pub columns_in : Signals → (number : ℕ) → (fields : List (List ℕ)) → Result Columns CaptureFault
+columns_in s number fs =
+    column_or number Atn (column_of s Atn 1 fs) >>= λ atn.
+    column_or number Clock (column_of s Clock 1 fs) >>= λ clock.
+    column_or number Data (column_of s Data 1 fs) >>= λ line.
+    Ok (record { atn = atn; clock = clock; line = line })
+
+-- the columns that a line names; the first is the time, whatever its name
+abbrev pub columns_of : Signals → (number : ℕ) → (fields : List (List ℕ)) → Result Columns CaptureFault
+columns_of s number [] = columns_in s number []
+columns_of s number (time ∷ fs) = columns_in s number fs
+
+-- Times.
+
+-- the number that digits spell behind those that spell n, as long as it is below 2 ^ 64
+abbrev pub number_from : ℕ → (digits : List ℕ) → Option ℕ
+number_from n [] = Some n
+number_from n (d ∷ ds) = if nat_lt (10 * n + (d - 48)) 18446744073709551616 then number_from (10 * n + (d - 48)) ds else None
+
+-- digits, and what stands behind them
+abbrev pub digits_in : List ℕ → List ℕ
+digits_in l = take (prefix_len is_digit l) l
+
+abbrev pub behind_digits : List ℕ → List ℕ
+behind_digits l = drop (prefix_len is_digit l) l
+
+-- the digits behind a point, if one stands here, and what stands behind them
+abbrev pub decimals_in : List ℕ → List ℕ
+decimals_in [] = []
+decimals_in (b ∷ bs) = if b == 46 then digits_in bs else []
+
+abbrev pub behind_decimals : List ℕ → List ℕ
+behind_decimals [] = []
+behind_decimals (b ∷ bs) = if b == 46 then behind_digits bs else b ∷ bs
+
+-- six decimals; those that lack are zeros
+abbrev pub millionths : (decimals : List ℕ) → List ℕ
+millionths ds = take 6 ds ++ drop (length (take 6 ds)) (codes "000000")
+
+-- the whole microseconds of seconds with or without decimals
+abbrev pub micros_in : (whole decimals : List ℕ) → Option ℕ
+micros_in whole ds = if length whole == 0 then None else number_from 0 (whole ++ millionths ds)
+
+-- the microseconds that a field spells
+abbrev pub time_in : List ℕ → Option ℕ
+time_in l =
+    if list_all is_framing (behind_decimals (behind_digits l)) then micros_in (digits_in l) (decimals_in (behind_digits l))
+    else None
+
+-- a row's time, not before that of an earlier row
+abbrev pub time_or : (number before : ℕ) → Option ℕ → Result ℕ CaptureFault
+time_or number before None = Err (BadTime number)
+time_or number before (Some t) = if nat_lt t before then Err (GoesBack number) else Ok t
+
+-- Rows.
+
+-- a level that a field spells
+abbrev pub level_of : (number : ℕ) → (inverted : Bool) → List ℕ → Result Bool CaptureFault
+level_of number inverted [] = Err (BadLevel number)
+level_of number inverted (b ∷ bs) = if list_all is_framing bs then level_in number inverted b else Err (BadLevel number)
+
+-- the level in a wire's column
+abbrev pub level_or : (number : ℕ) → (inverted : Bool) → Wire → (field : Option (List ℕ)) → Result Bool CaptureFault
+level_or number inverted wire None = Err (NoLevel number wire)
+level_or number inverted wire (Some f) = level_of number inverted (without_front f)
+
+-- a row's sample, with its time
+abbrev pub sample_of : Columns → (inverted : Bool) → (number : ℕ) → (fields : List (List ℕ)) → (time : ℕ) → Result Edge CaptureFault
+sample_of c inverted number fields t =
+    level_or number inverted Atn (field_at c.atn fields) >>= λ atn.
+    level_or number inverted Clock (field_at c.clock fields) >>= λ clock.
+    level_or number inverted Data (field_at c.line fields) >>= λ line.
+    Ok (edge_at t atn clock line)
+
+-- a row's sample
+abbrev pub row : Columns → (inverted : Bool) → (number before : ℕ) → (fields : List (List ℕ)) → Result Edge CaptureFault
+row c inverted number before [] = Err (BadTime number)
+row c inverted number before (time ∷ fs) =
+    time_or number before (time_in (without_front time)) >>= λ t. sample_of c inverted number (time ∷ fs) t
+
+-- a row's sample, and what is told behind it
+abbrev pub row_told : Result Edge CaptureFault → (ℕ → Told) → Told
+row_told (Err f) rest = refused f
+row_told (Ok e) rest = told_behind (e ∷ []) (rest e.time)
+
+-- rows, of which the first has this number, behind one of this time
+abbrev pub rows_told : Columns → (inverted : Bool) → (number before : ℕ) → List (List ℕ) → Told
+rows_told c inverted number before [] = ended
+rows_told c inverted number before (l ∷ ls) =
+    if is_silent l then rows_told c inverted (number + 1) before ls
+    else row_told (row c inverted number before (fields_of false l)) (λ t. rows_told c inverted (number + 1) t ls)
+
+-- The whole.
+
+-- what is told behind the line of the names
+abbrev pub names_told : Result Columns CaptureFault → (Columns → Told) → Told
+names_told (Err f) rest = refused f
+names_told (Ok c) rest = rest c
+
+-- lines, of which the first has this number; the first that says anything names the columns
+abbrev pub lines_told : Signals → (number : ℕ) → List (List ℕ) → Told
+lines_told s number [] = refused (NoSignal number Atn)
+lines_told s number (l ∷ ls) =
+    if is_silent l then lines_told s (number + 1) ls
+    else names_told (columns_of s number (fields_of false l)) (λ c. rows_told c s.is_inverted (number + 1) 0 ls)
+
+-- what a text says
+unfoldable pub csv_told : Signals → List ℕ → Told
+csv_told s text = lines_told s 1 (lines_of text)

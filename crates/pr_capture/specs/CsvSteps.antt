@@ -1,0 +1,92 @@
+-- Linking words: how a reader of comma separated values goes on. The clauses of `CsvReader` say all that a caller needs of
+-- them. No reader needs to believe them.
+use Rattle.std.specs.Prelude.{◌≡◌, ◌⊎◌, ℕ, ◌+◌, ◌==◌, ◌&&◌, Bool, true, false, not, List, [], ◌∷◌, ◌++◌, if◌then◌else◌, Option, Some, None, Result, Ok, Err}
+use Rattle.std.specs.List.{list_all}
+use Rattle.pr_wire.specs.declared.Edge.{Edge}
+use Rattle.pr_wire.specs.TraceText.{lines_of}
+use Rattle.pr_capture.specs.declared.csv.Place.{Place}
+use Rattle.pr_capture.specs.declared.csv.Place.TheVariants.{Names, Rows}
+use Rattle.pr_capture.specs.declared.csv.CsvReader.{CsvReader}
+use Rattle.pr_capture.specs.declared.fault.CaptureFault.{CaptureFault}
+use Rattle.pr_capture.specs.declared.fault.CaptureFault.TheVariants.{NoMemory}
+use Rattle.pr_capture.specs.declared.signals.Signals.{Signals}
+use Rattle.pr_capture.specs.Csv.{csv_told, fields_of, lines_told, rows_told}
+use Rattle.pr_capture.specs.Recording.{ended, refused, told_behind, Told}
+use Rattle.pr_capture.specs.Samples.{listed}
+
+-- how many bytes the first field has
+abbrev pub field_len : (quoted : Bool) → (line : List ℕ) → ℕ
+field_len quoted [] = 0
+field_len quoted (b ∷ bs) = if b == 44 && not quoted then 0 else 1 + field_len (if b == 34 then not quoted else quoted) bs
+
+-- the fields of what stands behind a comma, if there was one
+abbrev pub fields_left : Option (List ℕ) → List (List ℕ)
+fields_left None = []
+fields_left (Some l) = fields_of false l
+
+-- a byte does not end a line
+abbrev pub is_inner : ℕ → Bool
+is_inner b = not (b == 10)
+
+-- what lines tell from a place on
+abbrev pub told_from : Signals → Place → (number : ℕ) → List (List ℕ) → Told
+told_from s Names number ls = lines_told s number ls
+told_from s (Rows c before) number ls = rows_told c s.is_inverted number before ls
+
+-- a line leads from one place to another and gives a sample, if it gives one, or it has a fault
+abbrev pub ReadsLine : Signals → (number : ℕ) → (line : List ℕ) → (old : Place) → Result (Option Edge) CaptureFault → (new : Place) → Type 0
+ReadsLine s number line old (Ok sample) new =
+    (more : List (List ℕ)) → told_from s old number (line ∷ more) ≡ told_behind (listed sample) (told_from s new (number + 1) more)
+ReadsLine s number line old (Err f) new = (more : List (List ℕ)) → told_from s old number (line ∷ more) ≡ refused f
+
+-- what is told yet, if a text goes on so
+abbrev pub still_told : CsvReader → (more : List ℕ) → Told
+still_told r more = told_from r.signals r.place r.number (lines_of (r.line.items ++ more))
+
+-- the reader has taken a text, and has given these samples
+pub record HasRead (s : Signals) (text : List ℕ) (samples : List Edge) (r : CsvReader) : Type 0 where
+  pub signals : r.signals ≡ s
+  pub inner : list_all is_inner r.line.items ≡ true
+  pub told : (more : List ℕ) → csv_told s (text ++ more) ≡ told_behind samples (still_told r more)
+
+-- the reader has taken these bytes too, behind whatever it had taken
+abbrev pub HoldsMore : (bytes : List ℕ) → (old new : CsvReader) → Type 0
+HoldsMore bytes old new = (s : Signals) (text : List ℕ) (samples : List Edge) → HasRead s text samples old → HasRead s (text ++ bytes) samples new
+
+-- the same, and has given this sample, if it gives one
+abbrev pub ReadsMore : (bytes : List ℕ) → Option Edge → (old new : CsvReader) → Type 0
+ReadsMore bytes sample old new =
+    (s : Signals) (text : List ℕ) (samples : List Edge) → HasRead s text samples old → HasRead s (text ++ bytes) (samples ++ listed sample) new
+
+-- a fault is that of every text that goes on so
+abbrev pub FaultsIn : (bytes : List ℕ) → (old : CsvReader) → CaptureFault → Type 0
+FaultsIn bytes old f =
+    (s : Signals) (text : List ℕ) (samples : List Edge) → HasRead s text samples old
+    → (more : List ℕ) → csv_told s ((text ++ bytes) ++ more) ≡ told_behind samples (refused f)
+
+-- it may also be want of memory
+abbrev pub Refuses : (bytes : List ℕ) → (old : CsvReader) → CaptureFault → Type 0
+Refuses bytes old f = (f ≡ NoMemory) ⊎ FaultsIn bytes old f
+
+-- what a reader answers at the text's end
+abbrev pub EndsText : CsvReader → Result (Option Edge) CaptureFault → Type 0
+EndsText r (Ok sample) =
+    (s : Signals) (text : List ℕ) (samples : List Edge) → HasRead s text samples r → csv_told s text ≡ told_behind (samples ++ listed sample) ended
+EndsText r (Err f) =
+    (s : Signals) (text : List ℕ) (samples : List Edge) → HasRead s text samples r → csv_told s text ≡ told_behind samples (refused f)
+
+-- what a reader answers if a text ends here, of which these samples were given, and which ends with a whole line
+abbrev pub AnswersEnd : CsvReader → (last : Option Edge) → Result (Option Edge) CaptureFault → Type 0
+AnswersEnd r last (Ok sample) =
+    (sample ≡ last) × ((s : Signals) (text : List ℕ) (samples : List Edge) → HasRead s text samples r → csv_told s text ≡ told_behind samples ended)
+AnswersEnd r last (Err f) =
+    (last ≡ None) × ((s : Signals) (text : List ℕ) (samples : List Edge) → HasRead s text samples r → csv_told s text ≡ told_behind samples (refused f))
+
+-- what follows a number, if there is one
+abbrev pub onward : Option ℕ → (ℕ → Option ℕ) → Option ℕ
+onward None f = None
+onward (Some n) f = f n
+
+-- how many lines have ended, with the one that has begun
+abbrev pub line_number : CsvReader → ℕ
+line_number r = r.number

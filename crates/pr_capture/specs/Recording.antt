@@ -1,0 +1,64 @@
+-- Trusted: what a recording says of the bus, and how its signals are named.
+use Rattle.std.specs.Prelude.{ℕ, ◌==◌, ◌&&◌, ◌||◌, Bool, false, not, List, [], ◌∷◌, ◌++◌, codes, nat_le, if◌then◌else◌, Option, Some, None, Result, Ok, Err}
+use Rattle.std.specs.Char.{eq_ignore_ascii_case}
+use Rattle.std.specs.List.{list_all}
+use Rattle.pr_wire.specs.declared.Edge.{Edge}
+use Rattle.pr_capture.specs.declared.fault.Wire.{Wire}
+use Rattle.pr_capture.specs.declared.fault.Wire.TheVariants.{Atn, Clock, Data}
+use Rattle.pr_capture.specs.declared.fault.CaptureFault.{CaptureFault}
+use Rattle.pr_capture.specs.declared.fault.CaptureFault.TheVariants.{BadLevel, Floating, Unknown}
+use Rattle.pr_capture.specs.declared.signals.Signals.{Signals}
+
+-- what a recording says: its samples, and why it says no more, if it has a fault
+pub record Told : Type 0 where
+  pub samples : List Edge
+  pub fault : Option CaptureFault
+
+-- it ends
+abbrev pub ended : Told
+ended = record { samples = []; fault = None }
+
+-- it has a fault
+abbrev pub refused : CaptureFault → Told
+refused f = record { samples = []; fault = Some f }
+
+-- samples, and what is told behind them
+abbrev pub told_behind : List Edge → Told → Told
+told_behind ss t = record { samples = ss ++ t.samples; fault = t.fault }
+
+-- what follows where there is no fault
+infixl 10 ◌>>=◌
+abbrev pub ◌>>=◌ : {A B : Type 0} → Result A CaptureFault → (A → Result B CaptureFault) → Result B CaptureFault
+(Ok x) >>= f = f x
+(Err e) >>= f = Err e
+
+-- white space (a space, and the bytes from tab to carriage return) and quotation marks, which say nothing around a field
+abbrev pub is_framing : ℕ → Bool
+is_framing b = b == 32 || b == 34 || (nat_le 9 b && nat_le b 13)
+
+-- without them in front
+abbrev pub without_front : List ℕ → List ℕ
+without_front [] = []
+without_front (b ∷ bs) = if is_framing b then without_front bs else b ∷ bs
+
+-- a name's letters, whichever of them are capitals, and nothing behind them
+abbrev pub has_name : (name letters : List ℕ) → Bool
+has_name [] ls = list_all is_framing ls
+has_name (n ∷ ns) [] = false
+has_name (n ∷ ns) (l ∷ ls) = eq_ignore_ascii_case n l && has_name ns ls
+
+-- a field is the name of a wire's signal; where CLOCK is looked for, CLK is one too
+abbrev pub is_named : Signals → Wire → (field : List ℕ) → Bool
+is_named s Atn field = has_name s.atn.now (without_front field)
+is_named s Clock field =
+    has_name s.clock.now (without_front field) || (has_name (codes "clock") s.clock.now && has_name (codes "clk") (without_front field))
+is_named s Data field = has_name s.line.now (without_front field)
+
+-- a level, on a line: 1 is released, unless the probes stand behind inverters
+abbrev pub level_in : (number : ℕ) → (inverted : Bool) → ℕ → Result Bool CaptureFault
+level_in number inverted b =
+    if b == 48 then Ok inverted
+    else (if b == 49 then Ok (not inverted)
+    else (if b == 120 || b == 88 then Err (Unknown number)
+    else (if b == 122 || b == 90 then Err (Floating number)
+    else Err (BadLevel number))))

@@ -1,0 +1,67 @@
+//! Why a recording can not be read.
+
+ghost use Rattle.std.specs.Prelude.{◌≡◌};
+
+use pr_wire::NoMemory;
+use std::alloc::AllocFailed;
+use thiserror::Error;
+
+/// A line of the bus, by its name.
+#[derive(Clone, Copy, Debug, Drop, Error, PartialEq, Eq)]
+pub enum Wire {
+    #[error("ATN")]
+    Atn,
+    #[error("CLOCK")]
+    Clock,
+    #[error("DATA")]
+    Data,
+}
+
+/// Why a recording can not be read. The number is that of the line of the text, from 1.
+#[derive(Clone, Copy, Debug, Drop, Error, PartialEq, Eq)]
+pub enum CaptureFault {
+    /// No signal has the wire's name.
+    #[error("line {0}: no signal {1}")]
+    NoSignal(usize, Wire),
+    /// A time that is no number of seconds, or not below 2^64 microseconds.
+    #[error("line {0}: bad time")]
+    BadTime(usize),
+    /// A time before that of an earlier line.
+    #[error("line {0}: time goes back")]
+    GoesBack(usize),
+    /// The row has no level of the wire.
+    #[error("line {0}: no level of {1}")]
+    NoLevel(usize, Wire),
+    /// The wire's level is not known.
+    #[error("line {0}: level x")]
+    Unknown(usize),
+    /// Nobody drives the wire.
+    #[error("line {0}: level z")]
+    Floating(usize),
+    /// A level that is none of 0, 1, x and z.
+    #[error("line {0}: bad level")]
+    BadLevel(usize),
+    /// Memory was refused.
+    #[error("out of memory")]
+    NoMemory,
+}
+
+impl<T: Drop> From<AllocFailed<T>> for CaptureFault {
+    ghost use Rattle.pr_capture.specs.declared.fault.CaptureFault.TheVariants.{NoMemory};
+
+    ghost from_gives = { λ _ e. e ≡ NoMemory };
+
+    fn from(_e: AllocFailed<T>) -> CaptureFault {
+        CaptureFault::NoMemory
+    }
+}
+
+impl From<NoMemory> for CaptureFault {
+    ghost use Rattle.pr_capture.specs.declared.fault.CaptureFault.TheVariants.{NoMemory};
+
+    ghost from_gives = { λ _ e. e ≡ NoMemory };
+
+    fn from(_e: NoMemory) -> CaptureFault {
+        CaptureFault::NoMemory
+    }
+}
