@@ -15,8 +15,7 @@ use Rattle.pr_basic.specs.declared.statement.Statement.TheVariants.{OpenFile, Cm
 
 -- what a line prints under a channel number: its bytes, a return if it ends, and after it a line feed from channel 128 on
 abbrev pub printed_bytes : Text → ℕ → List ℕ
-printed_bytes line channel =
-    line.bytes ++ (if line.ends then 13 ∷ (if nat_le 128 channel then 10 ∷ [] else []) else [])
+printed_bytes line channel = line.bytes ++ (if line.ends then 13 ∷ (if nat_le 128 channel then 10 ∷ [] else []) else [])
 
 -- what stands before a statement: the open files, the channel number and the output device
 pub record Setting : Type 0 where

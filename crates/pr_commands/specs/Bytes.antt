@@ -1,5 +1,5 @@
 -- Trusted: the command bytes of the serial bus (Programmer's Reference Guide, serial bus).
-use Rattle.std.specs.Prelude.{ℕ, ◌+◌}
+use Rattle.std.specs.Prelude.{ℕ}
 
 -- LISTEN, plus a device number of 0 to 30: the device listens from now on
 abbrev pub listen : ℕ
@@ -9,13 +9,9 @@ listen = 32
 abbrev pub unlisten : ℕ
 unlisten = 63
 
--- a secondary address, plus its number of 0 to 15
+-- a secondary address, plus its number of 0 to 15; number 7 selects a VIC-1525's lower/upper case set (VIC-1525 User's Manual)
 abbrev pub secondary : ℕ
 secondary = 96
-
--- the secondary address that selects a VIC-1525's lower/upper case set (VIC-1525 User's Manual, secondary address 7)
-abbrev pub lower_case : ℕ
-lower_case = secondary + 7
 
 -- the secondary address that closes a channel, plus its number of 0 to 15
 abbrev pub close : ℕ

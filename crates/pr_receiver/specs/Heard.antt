@@ -32,7 +32,7 @@ is_called device before = list_any (is_listen device) (option_to_list (last_or N
 abbrev pub input_of : ℕ → List Frame → Frame → Option Input
 input_of device before frame =
     if is_listen device frame then Some (Select false)
-    else (if (is_command command.lower_case frame && is_called device before) then Some (Select true)
+    else (if (is_command (command.secondary + 7) frame && is_called device before) then Some (Select true)
     else (if (not frame.attention && is_listening device before) then Some (Byte frame.byte) else None))
 
 -- what a device hears of frames, in order

@@ -16,15 +16,13 @@ is_present present device = (present.four && device == 4) || (present.five && de
 
 -- what an item gives a device: a LISTEN to it selects the graphic/upper case set, and secondary address 7 (a second command) then the lower/upper case set; a byte comes if the device listens
 abbrev pub inputs_at : ℕ → List Item → Item → List Input
-inputs_at device before (Attention first second) =
-    if first == command.listen + device then Select false ∷ select_lower second else []
+inputs_at device before (Attention first second) = if first == command.listen + device then Select false ∷ select_lower second else []
   where
     select_lower : Option ℕ → List Input
     select_lower None = []
-    select_lower (Some s) = if s == command.lower_case then Select true ∷ [] else []
+    select_lower (Some s) = if s == command.secondary + 7 then Select true ∷ [] else []
 inputs_at device before (Sent b eoi) = if is_listener device before then Byte b ∷ [] else []
 
 -- what a device hears of the items, in order: nothing if it isn't there
 abbrev pub heard_by : Present → ℕ → List Item → List Input
-heard_by present device items =
-    if is_present present device then flat_map (λ p. inputs_at device p.0 p.1) (with_before [] items) else []
+heard_by present device items = if is_present present device then flat_map (λ p. inputs_at device p.0 p.1) (with_before [] items) else []
