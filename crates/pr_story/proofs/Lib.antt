@@ -1,2 +1,3 @@
 pub mod Told
 pub mod Spelled
+pub mod WholeStory

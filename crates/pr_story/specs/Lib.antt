@@ -1,3 +1,4 @@
 pub mod Moments
+pub mod StoryText
 pub mod Telling
 pub mod Laws

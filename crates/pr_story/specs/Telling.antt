@@ -1,6 +1,6 @@
 -- Linking words: which edges a storyteller has taken, and which frames it has given. The clauses of `Storyteller` say all that
 -- a caller needs of them. No reader needs to believe them.
-use Rattle.std.specs.Prelude.{◌≡◌, ℕ, ◌+◌, List, [], ◌∷◌, ◌++◌, Option, Some, None, Result, Ok, Err, MatchResult, if◌then◌else◌}
+use Rattle.std.specs.Prelude.{◌≡◌, ℕ, ◌+◌, Bool, List, [], ◌∷◌, ◌++◌, Option, Some, None, Result, Ok, Err, MatchResult, if◌then◌else◌}
 use Rattle.std.specs.Option.{option_to_list}
 use Rattle.pr_wire.specs.declared.Edge.{Edge}
 use Rattle.pr_wire.specs.declared.Frame.{Frame}
@@ -12,6 +12,7 @@ use Rattle.pr_wire.specs.Reached.{begin, reached, step_of}
 use Rattle.pr_wire.specs.Table.{is_start}
 use Rattle.pr_story.specs.declared.timed_frame.TimedFrame.{TimedFrame}
 use Rattle.pr_story.specs.declared.storyteller.Storyteller.{Storyteller}
+use Rattle.pr_story.specs.StoryText.{is_data, story_line}
 use Rattle.pr_story.specs.Moments.{look_with, timed_frames, timed_from, with_moments}
 
 -- how many edges a storyteller has taken
@@ -40,3 +41,13 @@ pub record HasTold (edges : List Edge) (given : List TimedFrame) (s : Storytelle
   pub before : List Frame
   pub leads : reached begin edges ≡ Ok (record { last = s.last; place = s.place; before = before; count = s.taken })
   pub told : (more : List Edge) → timed_frames (edges ++ more) ≡ given ++ timed_behind s.look s.last s.place more
+
+-- the lines of the frame that an edge ends, if it ends one
+abbrev pub line_if : (behind_data : Bool) → Option TimedFrame → List ℕ
+line_if behind_data None = []
+line_if behind_data (Some f) = story_line behind_data f
+
+-- whether the last frame is then a data byte
+abbrev pub data_after : (behind_data : Bool) → Option TimedFrame → Bool
+data_after behind_data None = behind_data
+data_after behind_data (Some f) = is_data f.sending

@@ -6,9 +6,13 @@
 #![tactic(auto)]
 
 mod laws;
+mod line;
+mod story;
 mod storyteller;
 mod timed_frame;
 
 pub use laws::{frames_are_told, stories_add_up};
+pub use line::push_story_line;
+pub use story::push_story;
 pub use storyteller::Storyteller;
 pub use timed_frame::TimedFrame;
