@@ -9,7 +9,7 @@ use Rattle.pr_wire.specs.declared.Frame.{Frame}
 use Rattle.pr_wire.specs.declared.WaveFault.{WaveFault}
 use Rattle.pr_wire.specs.declared.WaveFault.TheVariants.{Start}
 use Rattle.pr_wire.specs.declared.place.Flaw.{Flaw}
-use Rattle.pr_wire.specs.declared.place.Flaw.TheVariants.{Order, TooEarly, TooLate, Shape}
+use Rattle.pr_wire.specs.declared.place.Flaw.TheVariants.{Order, TooEarly, TooLate}
 use Rattle.pr_wire.specs.Levels.{byte_of}
 use Rattle.pr_wire.specs.declared.place.Sending.{Sending}
 use Rattle.pr_wire.specs.declared.place.Sending.TheVariants.{First, Second, Data}
@@ -17,12 +17,11 @@ use Rattle.pr_wire.specs.declared.place.Place.{Place}
 use Rattle.pr_wire.specs.declared.place.Place.TheVariants.{Idle, Call, Ready, Free, Pulse, After, Bit, High, Last, Ack, Freed}
 use Rattle.pr_wire.specs.declared.place.Step.{Step}
 use Rattle.pr_wire.specs.Laws.{SpellsTheFramesReached}
-use Rattle.pr_wire.specs.Pieces.{Spells}
 use Rattle.pr_wire.specs.Reached.{Reached, add, begin, indexed, led, onto, reached, step_of}
 use Rattle.pr_wire.specs.Table.{Row, by_row, differ, frame_of, is_late, is_start, row, timed, verdict, where_true}
 use Rattle.pr_story.specs.declared.timed_frame.TimedFrame.{TimedFrame}
 use Rattle.pr_story.specs.Laws.{MoreEdgesAddFrames, TracesTellWhatTheySpell}
-use Rattle.pr_story.specs.Moments.{frame_told, look_with, timed_frames, with_moments}
+use Rattle.pr_story.specs.Moments.{frame_told, look_with, with_moments}
 use Rattle.pr_story.specs.Telling.{timed_behind}
 use Rattle.pr_story.proofs.Told.{behind-fault, behind-nothing, behind-step, frames-behind}
 
@@ -194,9 +193,9 @@ frames-behind-told (e ∷ es) r q look h =
         ∙ (ap (λ l. l ++ map frame_told rest) (reverse-add s.frame r.before)
         ∙ (append_assoc (reverse r.before) (option_to_list s.frame) (map frame_told rest)
         ∙ ap (λ l. reverse r.before ++ l) (
-          ap (λ l. l ++ map frame_told rest) (sym (step-told r.last r.place r.count e s m look))
-          ∙ (sym (map-append frame_told (option_to_list (with_moments look s.frame s.place)) rest)
-          ∙ ap (map frame_told) (sym (behind-step look r.last r.place r.count e es s m)))
+        ap (λ l. l ++ map frame_told rest) (sym (step-told r.last r.place r.count e s m look))
+        ∙ (sym (map-append frame_told (option_to_list (with_moments look s.frame s.place)) rest)
+        ∙ ap (map frame_told) (sym (behind-step look r.last r.place r.count e es s m)))
         )))
     by (Err w) m n k = absurd (cc)
 
@@ -218,10 +217,12 @@ behind-more (e ∷ es) more look last p = by (step_of last p 0 e) refl (λ s. be
         → (later : List TimedFrame) × (timed_behind look last p (e ∷ es ++ more) ≡ timed_behind look last p (e ∷ es) ++ later)
     by (Ok s) m k =
         let mine : List TimedFrame = option_to_list (with_moments look s.frame s.place) in
-        let rest : List TimedFrame = timed_behind (look_with look s.place) (Some e) s.place es in
-        ((k s).0, behind-step look last p 0 e (es ++ more) s m
-            ∙ (ap (λ l. mine ++ l) (k s).1
-            ∙ (sym (append_assoc mine rest (k s).0) ∙ ap (λ l. l ++ (k s).0) (sym (behind-step look last p 0 e es s m)))))
+        let rest : List TimedFrame = timed_behind (look_with look s.place) (Some e) s.place es in (
+          (k s).0,
+          behind-step look last p 0 e (es ++ more) s m
+              ∙ (ap (λ l. mine ++ l) (k s).1
+              ∙ (sym (append_assoc mine rest (k s).0) ∙ ap (λ l. l ++ (k s).0) (sym (behind-step look last p 0 e es s m)))),
+        )
     by (Err w) m k = ([], behind-fault look last p 0 e (es ++ more) w m ∙ sym (append-nil _ ∙ behind-fault look last p 0 e es w m))
 
 -- more edges add frames

@@ -1,5 +1,5 @@
 -- One edge more, taken by a storyteller.
-use Rattle.std.proofs.Common.{◌≡◌, ℕ, ◌+◌, Bool, true, false, List, [], ◌∷◌, ◌++◌, Option, Some, None, Result, Ok, Err, if◌then◌else◌, refl, sym, subst, ap, ◌∙◌, append_assoc, append-nil}
+use Rattle.std.proofs.Common.{◌≡◌, ℕ, Bool, true, false, List, [], ◌∷◌, ◌++◌, Option, Some, None, Result, Ok, Err, if◌then◌else◌, refl, sym, ap, ◌∙◌, append_assoc, append-nil}
 use Rattle.std.specs.Option.{option_to_list}
 use Rattle.std.specs.Prelude.{IfOk, IfErr, OnErr}
 use Rattle.std.specs.Result.{MatchResult}
@@ -53,7 +53,7 @@ behind-step look None p n e es s h = by (is_start e) h
   where
     by : (b : Bool) → start_step b ≡ Ok s
         → (if b then timed_from look e (Idle 0) es else []) ≡ option_to_list (with_moments look s.frame s.place) ++ timed_from (look_with look s.place) e s.place es
-    by true k = 
+    by true k =
         let first : Step = record { place = Idle 0; frame = None } in
         let q : first ≡ s = cc in
         rw (← q) refl

@@ -5,7 +5,6 @@ use Rattle.std.specs.Option.{option_to_list}
 use Rattle.pr_wire.specs.declared.Edge.{Edge}
 use Rattle.pr_wire.specs.declared.Frame.{Frame}
 use Rattle.pr_wire.specs.declared.place.Flaw.{Flaw}
-use Rattle.pr_wire.specs.declared.place.Sending.{Sending}
 use Rattle.pr_wire.specs.declared.place.Place.{Place}
 use Rattle.pr_wire.specs.declared.place.Place.TheVariants.{Idle, Ready, Ack}
 use Rattle.pr_wire.specs.declared.place.Step.{Step}

@@ -1,10 +1,10 @@
 -- Trusted: the story of edges as text: a line for each frame that they end, and `lawful` where they are a lawful trace.
-use Rattle.std.specs.Prelude.{ℕ, ◌+◌, ◌-◌, ◌/◌, ◌%◌, ◌==◌, ◌&&◌, Bool, true, false, nat_lt, drop, length, List, [], ◌∷◌, ◌++◌, Option, Some, None, codes, decimal, if◌then◌else◌}
+use Rattle.std.specs.Prelude.{ℕ, ◌+◌, ◌/◌, ◌%◌, ◌==◌, ◌&&◌, Bool, true, false, nat_lt, drop, length, List, [], ◌∷◌, ◌++◌, Option, Some, None, codes, decimal, if◌then◌else◌}
 use Rattle.pr_wire.specs.declared.Edge.{Edge}
 use Rattle.pr_wire.specs.declared.WaveFault.{WaveFault}
 use Rattle.pr_wire.specs.declared.place.Sending.{Sending}
 use Rattle.pr_wire.specs.declared.place.Sending.TheVariants.{First, Second, Data}
-use Rattle.pr_wire.specs.Table.{atn_of, fault_of}
+use Rattle.pr_wire.specs.Table.{fault_of}
 use Rattle.pr_story.specs.declared.timed_frame.TimedFrame.{TimedFrame}
 use Rattle.pr_story.specs.Moments.{timed_frames}
 
