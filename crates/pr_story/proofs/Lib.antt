@@ -1,3 +1,4 @@
 pub mod Told
 pub mod Spelled
+pub mod PiecesTold
 pub mod WholeStory

@@ -12,7 +12,7 @@ mod storyteller;
 mod timed_frame;
 
 pub use laws::{frames_are_told, stories_add_up};
-pub use line::push_story_line;
+pub use line::{is_data, push_story_line};
 pub use story::push_story;
 pub use storyteller::Storyteller;
 pub use timed_frame::TimedFrame;
