@@ -11,7 +11,8 @@ PREFIX ?= /usr/local
 PROGRAM := crates/print1525/out/print1525
 
 # The crates whose tests go on after a refused allocation (tests/growths).
-GROWTHS := pr_page pr_serial pr_wire pr_receiver pr_bus pr_channels pr_basic pr_system pr_picture pr_capture pr_cli
+GROWTHS := pr_page pr_serial pr_wire pr_receiver pr_bus pr_channels pr_basic pr_system pr_picture pr_capture \
+	pr_story pr_cli
 TESTS := $(foreach crate,$(GROWTHS),crates/$(crate)/out/$(crate)_tests)
 
 # What the program and the tests are built from.

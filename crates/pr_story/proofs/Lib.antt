@@ -1,0 +1,4 @@
+pub mod Told
+pub mod Spelled
+pub mod PiecesTold
+pub mod WholeStory

@@ -1,0 +1,5 @@
+pub mod Moments
+pub mod PieceMoments
+pub mod StoryText
+pub mod Telling
+pub mod Laws

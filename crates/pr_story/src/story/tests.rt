@@ -1,0 +1,373 @@
+//! Worked stories, written by hand: the moments are those of the table of lawful traces.
+
+use super::*;
+use pr_wire::example::TRACE_TEXT;
+use pr_wire::{Frame, Sending, read_trace};
+use std::env::FillError;
+use std::process::Abort;
+use std::rt::Env;
+use std::test::Fail;
+
+/// LISTEN 4 and, a millisecond behind it, the secondary address 7.
+const TWO_COMMANDS: &str =
+    "0 111\n100 001\n200 000\n1100 010\n1150 011\n1190 000\n1260 010\n1280 000\n1350 010\n1370 001\n1440 011\n1460 000\n1530 010\n1550 000\n1620 010\n1640 001\n1710 011\n1730 000\n1800 010\n1820 000\n1890 010\n1910 001\n1930 000\n2930 010\n2980 011\n3020 001\n3090 011\n3110 001\n3180 011\n3200 001\n3270 011\n3290 000\n3360 010\n3380 000\n3450 010\n3470 001\n3540 011\n3560 001\n3630 011\n3650 000\n3720 010\n3740 001\n3760 000\n";
+
+/// The story of two commands.
+const TWO_LINES: &str =
+    "attention\n        1100         1930  $24  LISTEN 4\n        2930         3760  $67  SECOND 7\n";
+
+/// A trace text and more lines behind it have this story, and then this one, and give this fault.
+fn told(
+    rt: &(impl Abort + AllocGlobal),
+    trace: &str,
+    more: &str,
+    wanted: &str,
+    end: &str,
+    wanted_fault: Option<WaveFault>,
+) -> Result<(), Fail> {
+    let mut whole = String::new(rt.alloc());
+    whole.push_str(trace)?;
+    whole.push_str(more)?;
+    let edges = read_trace(rt.alloc(), whole.as_bytes())?;
+    let mut text = Vec::new(rt.alloc());
+    let fault = push_story(&mut text, edges.as_slice())?;
+    let mut story = String::new(rt.alloc());
+    story.push_str(wanted)?;
+    story.push_str(end)?;
+    assert_eq!(rt; text.as_slice(), story.as_bytes(), "{more}");
+    assert_eq!(rt; fault, wanted_fault, "{more}");
+    Ok(())
+}
+
+/// The example trace: an attention, a line of data, and an attention.
+#[test]
+fn example_trace(rt: HostRuntime) -> Result<(), Fail> {
+    let wanted =
+        "attention\n        1100         1930  $24  LISTEN 4\ndata\n        2130         2960  $48  'H'\n        3060         3890  $49  'I'\n        3990         5140  $0D  return, end-or-identify\nattention\n        6240         7070  $3F  UNLISTEN\n";
+    told(&rt, TRACE_TEXT, "", wanted, "lawful\n", None)
+}
+
+/// A lawful trace ends with `lawful`, and of another one the frames before its fault are told.
+#[test]
+fn traces_that_are_refused(rt: HostRuntime) -> Result<(), Fail> {
+    let two = TWO_COMMANDS;
+    told(&rt, two, "3860 100\n", TWO_LINES, "lawful\n", None)?;
+    told(&rt, two, "", TWO_LINES, "", Some(WaveFault::Truncated(43)))?;
+    let late = Some(WaveFault::TooLate(43));
+    told(&rt, two, "3961 100\n9000 111\n", TWO_LINES, "", late)?;
+    let start = Some(WaveFault::Start(0));
+    told(&rt, "", "", "", "", start)?;
+    told(&rt, "", "1 111\n100 001\n", "", "", start)?;
+    told(&rt, "", "0 111\n", "", "lawful\n", None)
+}
+
+/// A frame has this line behind a data byte, and such a line behind another frame.
+fn line(
+    rt: &(impl Abort + AllocGlobal),
+    sending: Sending,
+    byte: u8,
+    behind_data: bool,
+    wanted: &str,
+) -> Result<(), Fail> {
+    let frame = TimedFrame {
+        look: 7,
+        acknowledged: 1_234_567_890_123,
+        sending,
+        byte,
+        eoi: false,
+    };
+    let mut text = Vec::new(rt.alloc());
+    push_story_line(&mut text, behind_data, frame)?;
+    assert_eq!(rt; text.as_slice(), wanted.as_bytes(), "{byte}");
+    Ok(())
+}
+
+/// What commands say.
+#[test]
+fn commands(rt: HostRuntime) -> Result<(), Fail> {
+    let second = Sending::Second;
+    line(
+        &rt,
+        second,
+        32,
+        true,
+        "           7 1234567890123  $20  LISTEN 0\n",
+    )?;
+    line(
+        &rt,
+        second,
+        62,
+        true,
+        "           7 1234567890123  $3E  LISTEN 30\n",
+    )?;
+    line(
+        &rt,
+        second,
+        63,
+        true,
+        "           7 1234567890123  $3F  UNLISTEN\n",
+    )?;
+    line(
+        &rt,
+        second,
+        95,
+        false,
+        "           7 1234567890123  $5F  command 95\n",
+    )?;
+    line(
+        &rt,
+        second,
+        96,
+        false,
+        "           7 1234567890123  $60  SECOND 0\n",
+    )?;
+    line(
+        &rt,
+        second,
+        111,
+        false,
+        "           7 1234567890123  $6F  SECOND 15\n",
+    )?;
+    line(
+        &rt,
+        second,
+        112,
+        false,
+        "           7 1234567890123  $70  command 112\n",
+    )?;
+    line(
+        &rt,
+        second,
+        231,
+        false,
+        "           7 1234567890123  $E7  CLOSE 7\n",
+    )?;
+    line(
+        &rt,
+        second,
+        240,
+        false,
+        "           7 1234567890123  $F0  command 240\n",
+    )?;
+    let first = Sending::First;
+    line(
+        &rt,
+        first,
+        31,
+        true,
+        "attention\n           7 1234567890123  $1F  command 31\n",
+    )?;
+    line(
+        &rt,
+        first,
+        37,
+        false,
+        "attention\n           7 1234567890123  $25  LISTEN 5\n",
+    )
+}
+
+/// What data bytes say.
+#[test]
+fn data_bytes(rt: HostRuntime) -> Result<(), Fail> {
+    let data = Sending::Data;
+    line(
+        &rt,
+        data,
+        65,
+        false,
+        "data\n           7 1234567890123  $41  'A'\n",
+    )?;
+    line(
+        &rt,
+        data,
+        32,
+        true,
+        "           7 1234567890123  $20  ' '\n",
+    )?;
+    line(
+        &rt,
+        data,
+        34,
+        true,
+        "           7 1234567890123  $22  '\"'\n",
+    )?;
+    line(
+        &rt,
+        data,
+        39,
+        true,
+        "           7 1234567890123  $27  \"'\"\n",
+    )?;
+    line(
+        &rt,
+        data,
+        126,
+        true,
+        "           7 1234567890123  $7E  '~'\n",
+    )?;
+    line(
+        &rt,
+        data,
+        127,
+        true,
+        "           7 1234567890123  $7F  byte 127\n",
+    )?;
+    line(
+        &rt,
+        data,
+        0,
+        true,
+        "           7 1234567890123  $00  byte 0\n",
+    )?;
+    line(
+        &rt,
+        data,
+        193,
+        true,
+        "           7 1234567890123  $C1  byte 193\n",
+    )
+}
+
+/// The names of the printer's control codes.
+#[test]
+fn control_codes(rt: HostRuntime) -> Result<(), Fail> {
+    let data = Sending::Data;
+    line(
+        &rt,
+        data,
+        8,
+        true,
+        "           7 1234567890123  $08  graphic mode\n",
+    )?;
+    line(
+        &rt,
+        data,
+        10,
+        true,
+        "           7 1234567890123  $0A  line feed\n",
+    )?;
+    line(
+        &rt,
+        data,
+        13,
+        true,
+        "           7 1234567890123  $0D  return\n",
+    )?;
+    line(
+        &rt,
+        data,
+        14,
+        true,
+        "           7 1234567890123  $0E  double width\n",
+    )?;
+    line(
+        &rt,
+        data,
+        15,
+        true,
+        "           7 1234567890123  $0F  standard width\n",
+    )?;
+    line(
+        &rt,
+        data,
+        16,
+        true,
+        "           7 1234567890123  $10  column\n",
+    )?;
+    line(
+        &rt,
+        data,
+        17,
+        true,
+        "           7 1234567890123  $11  lower case\n",
+    )?;
+    line(
+        &rt,
+        data,
+        18,
+        true,
+        "           7 1234567890123  $12  reverse on\n",
+    )?;
+    line(
+        &rt,
+        data,
+        26,
+        true,
+        "           7 1234567890123  $1A  repeat\n",
+    )?;
+    line(
+        &rt,
+        data,
+        27,
+        true,
+        "           7 1234567890123  $1B  escape\n",
+    )?;
+    line(
+        &rt,
+        data,
+        145,
+        true,
+        "           7 1234567890123  $91  upper case\n",
+    )?;
+    line(
+        &rt,
+        data,
+        146,
+        true,
+        "           7 1234567890123  $92  reverse off\n",
+    )
+}
+
+/// A frame without its moments, and the laws.
+#[test]
+fn frames_without_moments(rt: HostRuntime) {
+    crate::frames_are_told();
+    crate::stories_add_up();
+    let frame = TimedFrame {
+        look: 3990,
+        acknowledged: 5140,
+        sending: Sending::Data,
+        byte: 13,
+        eoi: true,
+    };
+    let wanted = Frame {
+        attention: false,
+        byte: 13,
+        eoi: true,
+    };
+    assert_eq!(rt; frame.frame(), wanted);
+}
+
+/// Whether a call is refused memory. If not, it gives what it gives with ample memory.
+fn is_refused(rt: &(impl Abort + AllocGlobal)) -> bool {
+    let Ok(edges) = read_trace(rt.alloc(), TRACE_TEXT.as_bytes()) else {
+        return true;
+    };
+    let mut text = Vec::new(rt.alloc());
+    match push_story(&mut text, edges.as_slice()) {
+        Ok(fault) => {
+            assert!(rt; fault.is_none());
+            assert!(rt; text.as_slice().ends_with(b"  $3F  UNLISTEN\nlawful\n"));
+            false
+        }
+        Err(_refused) => true,
+    }
+}
+
+/// Whether an allocation may be refused: `tests/faults.c` says so by this variable.
+fn may_be_refused(rt: &impl Env) -> bool {
+    match rt.var("FAULT_ALLOC", &mut [0; 8]) {
+        Err(FillError::NotPresent) => false,
+        _ => true,
+    }
+}
+
+/// The script that refuses each allocation in turn refuses one call at most, and the same call again
+/// answers as ever. With no growth refused no call is.
+#[test]
+fn each_growth_refused(rt: HostRuntime) {
+    let first = is_refused(&rt);
+    let second = is_refused(&rt);
+    assert!(rt; !(first && second));
+    assert!(rt; may_be_refused(&rt) || !(first || second));
+}
