@@ -1,5 +1,6 @@
 -- Trusted: the story of edges as text: a line for each frame that they end, and `lawful` where they are a lawful trace.
 use Rattle.std.specs.Prelude.{ℕ, ◌+◌, ◌/◌, ◌%◌, ◌==◌, ◌&&◌, Bool, true, false, nat_lt, drop, length, List, [], ◌∷◌, ◌++◌, Option, Some, None, codes, decimal, if◌then◌else◌}
+use Rattle.pr_commands.specs.Bytes as command
 use Rattle.pr_wire.specs.declared.Edge.{Edge}
 use Rattle.pr_wire.specs.declared.WaveFault.{WaveFault}
 use Rattle.pr_wire.specs.declared.place.Sending.{Sending}
@@ -27,7 +28,7 @@ hex_column byte = codes "  $" ++ hex_digit (byte / 16) ∷ hex_digit (byte % 16)
 -- what a command says
 abbrev pub command_text : ℕ → List ℕ
 command_text byte =
-    if byte == 63 then codes "UNLISTEN"
+    if byte == command.unlisten then codes "UNLISTEN"
     else (if byte / 32 == 1 then codes "LISTEN " ++ decimal (byte % 32)
     else (if byte / 16 == 6 then codes "SECOND " ++ decimal (byte % 16)
     else (if byte / 16 == 14 then codes "CLOSE " ++ decimal (byte % 16)

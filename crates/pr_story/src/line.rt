@@ -5,10 +5,8 @@ ghost use Rattle.pr_story.specs.StoryText.{blanks, command_text, control_name, d
 
 use crate::timed_frame::TimedFrame;
 use itoa::Buffer;
+use pr_commands::UNLISTEN;
 use pr_wire::{NoMemory, Sending};
-
-/// The command that ends listening for all.
-const UNLISTEN: u8 = 0x3F;
 
 /// Adds a number in decimal behind a word.
 fn push_numbered(text: &mut Vec<u8>, word: &[u8], number: u8) -> Result<(), NoMemory>
