@@ -4,10 +4,6 @@ use Rattle.pr_wire.specs.declared.checker.CheckFault.TheVariants.{BadLine, Unlaw
 use Rattle.pr_wire.specs.declared.text.TraceFault.TheVariants as trace
 use Rattle.pr_basic.specs.declared.fault.ScriptFault.{ScriptFault}
 use Rattle.pr_basic.specs.declared.fault.ScriptFault.TheVariants as script
-use Rattle.pr_cli.specs.declared.delays.DelayFault.{DelayFault}
-use Rattle.pr_cli.specs.declared.delays.DelayFault.TheVariants as delay
-use Rattle.pr_cli.specs.declared.command_line.JobFault.{JobFault}
-use Rattle.pr_cli.specs.declared.command_line.JobFault.TheVariants as job
 use Rattle.pr_cli.specs.declared.read_write.ReadFault.{ReadFault}
 use Rattle.pr_cli.specs.declared.read_write.ReadFault.TheVariants as read
 use Rattle.pr_cli.specs.declared.fault.CliFault.{CliFault}
@@ -34,8 +30,3 @@ fault_of_script script.NoMemory = NoMemory
 abbrev pub fault_of_check : CheckFault → CliFault
 fault_of_check (BadLine n) = Trace (trace.BadLine n)
 fault_of_check (Unlawful fault) = Wave fault
-
--- a fault of a value of --delays, to the command line
-abbrev pub fault_of_delays : DelayFault → JobFault
-fault_of_delays delay.BadDelays = job.BadDelays
-fault_of_delays delay.NoMemory = job.NoMemory

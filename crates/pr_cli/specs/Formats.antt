@@ -5,8 +5,8 @@ use Rattle.pr_system.specs.declared.outcome.Outcome.{Outcome}
 use Rattle.pr_picture.specs.Plain.{text_of}
 use Rattle.pr_picture.specs.Svg.{svg_of}
 use Rattle.pr_cli.specs.PageText.{page_text}
-use Rattle.pr_cli.specs.declared.format.Format.{Format}
-use Rattle.pr_cli.specs.declared.format.Format.TheVariants as format
+use Rattle.pr_options.specs.declared.format.Format.{Format}
+use Rattle.pr_options.specs.declared.format.Format.TheVariants as format
 
 -- the page text, lines of 80 columns, or the picture: the last two show the sheets of the printers that are present
 abbrev pub text_in : Format → Present → Outcome → List ℕ

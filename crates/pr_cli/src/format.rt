@@ -1,25 +1,15 @@
-//! The formats in which a page is written.
+//! The text of a page in each format.
 
 ghost use Rattle.std.specs.Prelude.{◌≡◌, IfOk};
 ghost use Rattle.pr_cli.specs.Formats.{text_in};
 
 use crate::page_text::text_from;
 use crate::text::Text;
+use pr_options::Format;
 use pr_page::NoMemory;
 use pr_serial::Present;
 use pr_system::Outcome;
 use std::alloc::Global;
-
-/// How a page is written (profile).
-#[derive(Clone, Copy, Debug, PartialEq, Eq)]
-pub enum Format {
-    /// The page text, a line for each row and each mark.
-    List,
-    /// Lines of 80 columns, for a terminal, mail and `diff`.
-    Lines,
-    /// An SVG document, for a browser.
-    Picture,
-}
 
 /// The text of an outcome in a format. Lines and the picture show the sheets of the printers that
 /// are present.

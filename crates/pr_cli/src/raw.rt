@@ -8,9 +8,10 @@ ghost use Rattle.pr_cli.specs.Raw.{AnswersRaw, IsRawFault, printed_on, raw_limit
 ghost use Rattle.pr_cli.specs.Watched.{has_failed, wrapped};
 
 use crate::fault::CliFault;
-use crate::format::{Format, text_in_format};
+use crate::format::text_in_format;
 use crate::read_write::{BLOCK, WriteFault};
 use crate::watched::Watched;
+use pr_options::Format;
 use pr_page::{Input, NoMemory, Paper, Printer, Sequence};
 use pr_serial::Present;
 use pr_system::Outcome;

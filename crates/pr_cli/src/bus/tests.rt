@@ -1,10 +1,10 @@
 //! Scripts in, trace texts out.
 
 use super::*;
-use crate::delays::read_delays;
 use crate::tests::{
     BOTH, BUS, Call, EXAMPLE_LINES, FOUR, HI, NONE, ONE_ATTENTION, ONE_COMMAND, writes,
 };
+use pr_options::read_delays;
 use pr_wire::example::TRACE_TEXT;
 use std::process::Abort;
 

@@ -1,0 +1,18 @@
+//! What a command line of the program `print1525` asks for.
+//!
+//! [`read_job`] reads the words of a command line and says which [`Job`] they ask for, or why they
+//! ask for none. The command with its subcommands, options and help is one of clap's; the value of
+//! an option is read by [`read_present`], [`read_delays`], [`read_status`], [`read_set`] and
+//! [`read_format`]. Nothing here reads an input, runs a script or writes a text.
+#![tactic(auto)]
+
+mod clap_command;
+mod command_line;
+mod delays;
+mod format;
+mod option_values;
+
+pub use command_line::{Job, JobFault, read_job};
+pub use delays::{DelayFault, read_delays};
+pub use format::Format;
+pub use option_values::{read_format, read_present, read_set, read_status};
