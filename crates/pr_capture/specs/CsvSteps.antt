@@ -51,12 +51,14 @@ pub record HasRead (s : Signals) (text : List ℕ) (samples : List Edge) (r : Cs
 
 -- the reader has taken these bytes too, behind whatever it had taken
 abbrev pub HoldsMore : (bytes : List ℕ) → (old new : CsvReader) → Type 0
-HoldsMore bytes old new = (s : Signals) (text : List ℕ) (samples : List Edge) → HasRead s text samples old → HasRead s (text ++ bytes) samples new
+HoldsMore bytes old new = (s : Signals) (text : List ℕ) (samples : List Edge) → HasRead s text samples old
+    → HasRead s (text ++ bytes) samples new
 
 -- the same, and has given this sample, if it gives one
 abbrev pub ReadsMore : (bytes : List ℕ) → Option Edge → (old new : CsvReader) → Type 0
 ReadsMore bytes sample old new =
-    (s : Signals) (text : List ℕ) (samples : List Edge) → HasRead s text samples old → HasRead s (text ++ bytes) (samples ++ listed sample) new
+    (s : Signals) (text : List ℕ) (samples : List Edge) → HasRead s text samples old
+        → HasRead s (text ++ bytes) (samples ++ listed sample) new
 
 -- a fault is that of every text that goes on so
 abbrev pub FaultsIn : (bytes : List ℕ) → (old : CsvReader) → CaptureFault → Type 0
@@ -71,16 +73,19 @@ Refuses bytes old f = (f ≡ NoMemory) ⊎ FaultsIn bytes old f
 -- what a reader answers at the text's end
 abbrev pub EndsText : CsvReader → Result (Option Edge) CaptureFault → Type 0
 EndsText r (Ok sample) =
-    (s : Signals) (text : List ℕ) (samples : List Edge) → HasRead s text samples r → csv_told s text ≡ told_behind (samples ++ listed sample) ended
+    (s : Signals) (text : List ℕ) (samples : List Edge) → HasRead s text samples r
+        → csv_told s text ≡ told_behind (samples ++ listed sample) ended
 EndsText r (Err f) =
     (s : Signals) (text : List ℕ) (samples : List Edge) → HasRead s text samples r → csv_told s text ≡ told_behind samples (refused f)
 
 -- what a reader answers if a text ends here, of which these samples were given, and which ends with a whole line
 abbrev pub AnswersEnd : CsvReader → (last : Option Edge) → Result (Option Edge) CaptureFault → Type 0
 AnswersEnd r last (Ok sample) =
-    (sample ≡ last) × ((s : Signals) (text : List ℕ) (samples : List Edge) → HasRead s text samples r → csv_told s text ≡ told_behind samples ended)
+    (sample ≡ last) × ((s : Signals) (text : List ℕ) (samples : List Edge) → HasRead s text samples r
+        → csv_told s text ≡ told_behind samples ended)
 AnswersEnd r last (Err f) =
-    (last ≡ None) × ((s : Signals) (text : List ℕ) (samples : List Edge) → HasRead s text samples r → csv_told s text ≡ told_behind samples (refused f))
+    (last ≡ None) × ((s : Signals) (text : List ℕ) (samples : List Edge) → HasRead s text samples r
+        → csv_told s text ≡ told_behind samples (refused f))
 
 -- what follows a number, if there is one
 abbrev pub onward : Option ℕ → (ℕ → Option ℕ) → Option ℕ

@@ -29,7 +29,8 @@ line_if (Some f) = frame_line f
 
 -- the frame lines of a text of at most so many bytes, or its fault
 abbrev pub GivesLines : ℕ → Result (Vec ℕ Global) CliFault → List ℕ → Type 0
-GivesLines limit (Ok lines) text = (frames : List Frame) × (length text ≤ limit) × IsLawfulText text frames × (lines.items ≡ frame_lines frames)
+GivesLines limit (Ok lines) text = (frames : List Frame) × (length text ≤ limit)
+    × IsLawfulText text frames × (lines.items ≡ frame_lines frames)
 GivesLines limit (Err (Trace fault)) text = (length text ≤ limit) × IsBadText text fault
 GivesLines limit (Err (Wave fault)) text = (length text ≤ limit) × IsFaultyText text fault
 GivesLines limit (Err TooLarge) text = limit < length text

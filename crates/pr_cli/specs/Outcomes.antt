@@ -12,7 +12,8 @@ use Rattle.pr_cli.specs.declared.fault.CliFault.TheVariants.{Script, Trace, Wave
 
 -- the outcome is that of the script's statements, or the fault is the script's first
 abbrev pub GivesOutcome : Start → List ℕ → Result Outcome CliFault → Type 0
-GivesOutcome start script (Ok outcome) = (statements : List Statement) × IsScript script statements × IsOutcome start.mode start.present statements outcome
+GivesOutcome start script (Ok outcome) = (statements : List Statement) × IsScript script statements
+    × IsOutcome start.mode start.present statements outcome
 GivesOutcome start script (Err (Script f)) = (f ≢ fault.NoMemory) × IsFirstFault script f
 GivesOutcome start script (Err (Trace f)) = ⊥
 GivesOutcome start script (Err (Wave f)) = ⊥

@@ -44,4 +44,5 @@ delays_of text = up_to_three (slice_split (λ x. x == 47) text)
 
 -- no number has been taken
 abbrev pub IsFresh : Delays → Type 0
-IsFresh delays = (left delays.computer ≡ delays.computer.numbers) × (left delays.four ≡ delays.four.numbers) × (left delays.five ≡ delays.five.numbers)
+IsFresh delays = (left delays.computer ≡ delays.computer.numbers)
+    × (left delays.four ≡ delays.four.numbers) × (left delays.five ≡ delays.five.numbers)

@@ -31,7 +31,7 @@ cells_width wide count = if wide then 12 * count else 6 * count
 unfoldable pub box_svg : ℕ → Bool → ℕ → List ℕ
 box_svg x wide count = codes "<rect x=\"" ++ decimal x ++ box_width ++ decimal (cells_width wide count) ++ box_end
 
--- where characters in white begin, a dot higher and smaller, so that they lie in their box
+-- where characters in white begin, a dot higher and smaller, so that all but the tails of g, j, p, q and y lie in their box
 abbrev pub white_place : ℕ → Bool → List ℕ
 white_place x wide = white_begin ++ decimal x ++ either_text wide (codes " -1) scale(2 .8)") (codes " -1) scale(1 .8)")
 

@@ -35,7 +35,8 @@ if_allowed (Err flaw) next = []
 abbrev pub timed_from : (look : ℕ) → (last : Edge) → Place → List Edge → List TimedFrame
 timed_from look last p [] = []
 timed_from look last p (e ∷ es) =
-    if_allowed (verdict last p e) (λ step. option_to_list (with_moments look step.frame step.place) ++ timed_from (look_with look step.place) e step.place es)
+    if_allowed (verdict last p e) (λ step. option_to_list (with_moments look step.frame step.place)
+        ++ timed_from (look_with look step.place) e step.place es)
 
 -- the frames that edges end, as long as they are allowed
 unfoldable pub timed_frames : List Edge → List TimedFrame
