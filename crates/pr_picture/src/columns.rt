@@ -146,7 +146,7 @@ fn shade_of(dots: u32) -> char
 {
     if dots < 12 {
         '\u{2591}'
-    } else if dots < 22 {
+    } else if dots < 23 {
         '\u{2592}'
     } else if dots < 34 {
         '\u{2593}'
