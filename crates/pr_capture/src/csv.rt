@@ -3,7 +3,7 @@
 ghost use Rattle.std.specs.Prelude.{◌≡◌, ◌+◌, ◌^◌, ◌<◌, ◌≤◌, ◌∷◌, ◌++◌, [], false, true, None, IfErr, IfOk, length, option_copied, take};
 ghost use Rattle.std.specs.List.{list_all, prefix_len};
 ghost use Rattle.pr_wire.specs.TraceText.{is_digit};
-ghost use Rattle.pr_capture.specs.Csv.{behind_decimals, behind_digits, column_of, columns_in, columns_of, decimals_in, digits_in, field_at, fields_of, is_silent, level_of, level_or, micros_in, millionths, number_from, row, sample_of, time_in, time_or};
+ghost use Rattle.pr_capture.specs.Csv.{column_of, columns_in, field_at, fields_of, is_silent, level_of, level_or, micros_in, number_from, row, sample_of, time_in, time_or};
 ghost use Rattle.pr_capture.specs.CsvSteps.{field_len, fields_left, is_inner, line_number, AnswersEnd, EndsText, FaultsIn, HasRead, HoldsMore, ReadsLine, ReadsMore, Refuses};
 ghost use Rattle.pr_capture.specs.declared.csv.Place.TheVariants.{Names};
 ghost use Rattle.pr_capture.specs.declared.fault.CaptureFault.TheVariants.{NoMemory};

@@ -2,7 +2,7 @@
 //! puts them (VIC-1525 User's Manual); paper, names and notes round them are this project's own choice
 //! (profile).
 
-ghost use Rattle.std.specs.Prelude.{◌≡◌, false, ◌+◌, ◌*◌, ◌≤◌, ◌++◌, decimal, length, OnOk, IfOk};
+ghost use Rattle.std.specs.Prelude.{◌≡◌, false, ◌+◌, ◌*◌, ◌≤◌, ◌++◌, OnOk, IfOk};
 ghost use Rattle.pr_picture.specs.Pens.{IsClosed};
 ghost use Rattle.pr_picture.specs.Words.{text_if};
 ghost use Rattle.pr_picture.specs.Svg.{head_svg, height_of, held_svg, group_svg, name_svg, notes_svg, paper_end, paper_svg, rows_end, rows_svg, sheet_picas, sheet_svg, size_svg, statuses_svg, stop_picas, stop_svg, svg_of, units_svg, width_of};

@@ -1,6 +1,6 @@
 //! The lines of a story. All of their form is this project's own choice (profile).
 
-ghost use Rattle.std.specs.Prelude.{◌≡◌, ◌++◌, ◌<◌, codes, decimal, drop, OnOk};
+ghost use Rattle.std.specs.Prelude.{◌≡◌, ◌++◌, ◌<◌, decimal, OnOk};
 ghost use Rattle.pr_story.specs.StoryText.{blanks, command_text, control_name, data_text, frame_line, heading, hex_column, hex_digit, is_data, line_end, moment, saying, story_line};
 
 use crate::timed_frame::TimedFrame;
