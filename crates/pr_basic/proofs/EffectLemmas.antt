@@ -35,7 +35,7 @@ effect_adding e old working =
 listen_status : (file : File) (old : Seen) → IsWorking old → (adding (listen_to file ∷ []) old).status ≡ status_of old.present old.status old.elements (old.elements ++ listen_to file ∷ [])
 listen_status file old working = ap (λ n. cond (is_lacking old.present n (items_of (old.elements ++ listen_to file ∷ []))) 128 old.status) (ap length working.in_step)
 
--- what CMD gives if the LISTEN is answered, and if it isn't
+-- what CMD gives if the LISTEN is answered, and if it is not
 commanding_goes : (file : File) (old : Seen) (channel number : ℕ) (line : Text) (b : Bool) → IsWorking old → ((adding (listen_to file ∷ []) old).status == 128) ≡ b
     → commanding old.present old.status old.elements (setting_of old channel) number line (Some file)
     ≡ cond b (stopping DeviceNotPresent (listen_to file ∷ []) (setting_of old channel)) (record { elements = listen_to file ∷ map Byte (printed_bytes line number); screen = []; stop = None; after = record { files = old.files; channel = number; output = file.device } })

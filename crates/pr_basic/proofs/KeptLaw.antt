@@ -1,4 +1,4 @@
--- The status: 128 exactly if an item isn't answered, of this statement or, where it is kept, of an earlier one too.
+-- The status: 128 exactly if an item is not answered, of this statement or, where it is kept, of an earlier one too.
 use Rattle.std.proofs.Common.{◌≡◌, ℕ, Bool, true, false, cond, ◌||◌, List, [], ◌∷◌, ◌++◌, length, drop, refl, sym, ap, ◌∙◌}
 use Rattle.pr_serial.specs.declared.Present.{Present}
 use Rattle.pr_serial.specs.declared.Item.{Item}

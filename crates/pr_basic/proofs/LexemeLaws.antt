@@ -31,7 +31,7 @@ pub space_skipped : (bs : List ℕ) (i : ℕ) → i < length bs → is_space (ge
 unfolding lexemes_after
 space_skipped bs i h s = rw (drop-cons bs i 0, s) refl
 
--- what isn't a colon goes on the part
+-- what is not a colon goes on the part
 pub part_goes_on : (l : code.Lexeme) (ls : List Lexeme) → (l ≡ the.Colon → ⊥) → (part_of (seen l ∷ ls) ≡ seen l ∷ part_of ls) × (after_part (seen l ∷ ls) ≡ after_part ls)
 unfolding part_of after_part
 part_goes_on (the.Word k) ls no_colon = (refl, refl)

@@ -18,7 +18,7 @@ pub bind_err : {A B : Type 0} (r : Result A LineFault) (g : A → Result B LineF
 bind_err (Ok x) g f h = inr (x, refl, h)
 bind_err (Err e) g f h = inl (let k : e ≡ f = grind arith in ap Err k)
 
--- a byte that isn't taken is the 256th
+-- a byte that is not taken is the 256th
 byte_fails : (bytes : List ℕ) (b : ℕ) (f : LineFault) → length bytes ≤ 255 → byte_added bytes b ≡ Err f → (TooLong ≡ f) × (length bytes ≡ 255)
 unfolding byte_added
 byte_fails bytes b f few h = cases (nat_lt (length bytes) 255) refl
@@ -29,7 +29,7 @@ byte_fails bytes b f few h = cases (nat_lt (length bytes) 255) refl
         let k : byte_added bytes b ≡ Err TooLong = rw e refl in
         (grind arith, let full : 255 ≤ length bytes = grind (arith, common_steps) in omega arith)
 
--- a string that isn't taken has a bad byte or the 256th
+-- a string that is not taken has a bad byte or the 256th
 string_fails : (bytes s : List ℕ) (rest : List Lexeme) (f : LineFault) → length bytes ≤ 255 → string_added bytes s ≡ Err f → IsItemFault f (length bytes) (Quoted s ∷ rest)
 unfolding string_added
 string_fails bytes s rest f few h = cases (nat_lt 255 (length bytes + prefix_len is_printable s)) refl (nat_lt (prefix_len is_printable s) (length s)) refl

@@ -77,7 +77,7 @@ cut_within p (b ∷ s) (suc n) h = step (p b) refl h (λ k. cut_within p s n k)
     step true e k next = let less : suc n < 1 + prefix_len p s = rw e at k in further p b s n true e (next (omega (arith, less)))
     step false e k next = let none : suc n < 0 = rw e at k in absurd (omega (arith, none))
 
--- where a list is cut at an element of which the test isn't true, that is the prefix's end
+-- where a list is cut at an element of which the test is not true, that is the prefix's end
 pub prefix_to_cut : (p : ℕ → Bool) (good : List ℕ) (b : ℕ) (more : List ℕ) → list_all p good ≡ true → p b ≡ false → prefix_len p (good ++ b ∷ more) ≡ length good
 prefix_to_cut p [] b more h e = rw e refl
 prefix_to_cut p (g ∷ good) b more h e =

@@ -78,7 +78,7 @@ ended_fails s (l ∷ ls) f h = (grind arith, l, ls, refl)
 too_far : (part : List Lexeme) (f : LineFault) → UnknownWord ≡ f → GoesTooFar part → IsStatementFault f part
 too_far part f h g = let P : LineFault → Type 0 = λ x. IsStatementFault x part in subst P h (inl (inr (inl g)))
 
--- a comma that isn't there
+-- a comma that is not there
 comma_fails : (ls : List Lexeme) (f : LineFault) → comma_in BadDevice ls ≡ Err f → (BadDevice ≡ f) × Lacks Comma ls
 unfolding comma_in
 comma_fails [] f h = (grind arith, λ rest k. cc)

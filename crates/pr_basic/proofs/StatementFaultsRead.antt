@@ -31,13 +31,13 @@ no_device_read file [] h = refl
 no_device_read file (Comma ∷ ls) h = rw (no_number_read 4 30 BadDevice ls (h ls refl)) refl
 no_device_read file (l ∷ ls) h = refl
 
--- what isn't a comma after a device
+-- what is not a comma after a device
 no_second_read : (l : Lexeme) (ls : List Lexeme) → (l ≡ Comma → ⊥) → second_in (l ∷ ls) ≡ Ok (None, l ∷ ls)
 unfolding second_in
 no_second_read Comma ls h = absurd (h refl)
 no_second_read l ls h = refl
 
--- what isn't a comma after a file
+-- what is not a comma after a file
 no_list_read : (l : Lexeme) (ls : List Lexeme) → (l ≡ Comma → ⊥) → optional_line_in (l ∷ ls) ≡ Err UnknownWord
 unfolding optional_line_in
 no_list_read Comma ls h = absurd (h refl)

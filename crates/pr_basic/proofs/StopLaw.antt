@@ -1,4 +1,4 @@
--- A file's device is missing exactly if the LISTEN isn't answered, or the byte directly before it isn't; where the status is kept, if the LISTEN or an item before it isn't.
+-- A file's device is missing exactly if the LISTEN is not answered, or the byte directly before it is not; where the status is kept, if the LISTEN or an item before it is not.
 use Rattle.std.proofs.Common.{◌≡◌, ℕ, ◌+◌, Bool, true, false, not, cond, ◌||◌, ◌==◌, nat_lt, Option, Some, None, is_some, List, [], ◌∷◌, ◌++◌, length, map, refl, ap, ◌∙◌}
 use Rattle.std.specs.List.{list_any}
 use Rattle.pr_serial.specs.declared.Present.{Present}
@@ -42,7 +42,7 @@ lacking_at : (present : Present) (xs : List Item) (waits : Option ℕ) (first : 
 lacking_at present xs None first second = refl
 lacking_at present xs (Some b) first second = swapped (not (is_answered present xs (item.Sent b true))) (not (is_answered present xs (item.Attention first second)))
 
--- the status is 128 after an attention exactly if it isn't answered, or the byte directly before it isn't
+-- the status is 128 after an attention exactly if it is not answered, or the byte directly before it is not
 missing_exactly : ItemsOfOneMore → LackingAmongLater → (present : Present) (before : List Element) (first : ℕ) (second : Option ℕ)
     → (status_of present 0 before (before ++ Attention first second ∷ []) == 128) ≡ (not (is_answered present (items_of before) (item.Attention first second)) || is_byte_unanswered present (items_of before) (held_of before))
 missing_exactly one_more later present before first second =
@@ -51,7 +51,7 @@ missing_exactly one_more later present before first second =
     ∙ later present (items_of before) (flushed (held_of before) (Attention first second) ++ item.Attention first second ∷ [])
     ∙ lacking_at present (items_of before) (held_of before) first second
 
--- in the kept mode a device is missing exactly if the LISTEN, or any item before it in the run, isn't answered
+-- in the kept mode a device is missing exactly if the LISTEN, or any item before it in the run, is not answered
 missing_kept : ItemsOnlyGrow → LackingInTwoParts → (present : Present) (before : List Element) (listen : Element) → (status_of present (found_of Kept present before) before (before ++ listen ∷ []) == 128) ≡ is_lacking present 0 (items_of (before ++ listen ∷ []))
 missing_kept grow two_parts present before listen = ap (λ n. n == 128) (kept_status grow two_parts present before (listen ∷ [])) ∙ status_test (is_lacking present 0 (items_of (before ++ listen ∷ [])))
 

@@ -39,7 +39,7 @@ takes_list word.Cmd = true
 takes_list word.PrintTo = true
 takes_list k = false
 
--- this lexeme doesn't stand next
+-- this lexeme does not stand next
 abbrev pub Lacks : Lexeme → List Lexeme → Type 0
 Lacks l ls = (rest : List Lexeme) → ls ≡ l ∷ rest → ⊥
 
@@ -67,7 +67,7 @@ AfterSecond part rest = (ls : List Lexeme) × AfterDevice part (Comma ∷ ls) ×
 abbrev pub HasList : List Lexeme → List Lexeme → Type 0
 HasList part list = (part ≡ Word word.Print ∷ list) ⊎ ((k : Keyword) × (takes_list k ≡ true) × AfterFile k part (Comma ∷ list))
 
--- a lexeme that a whole statement doesn't go on with
+-- a lexeme that a whole statement does not go on with
 abbrev pub GoesTooFar : List Lexeme → Type 0
 GoesTooFar part = (l : Lexeme) × (ls : List Lexeme)
     × (AfterSecond part (l ∷ ls)
@@ -77,7 +77,7 @@ GoesTooFar part = (l : Lexeme) × (ls : List Lexeme)
 
 -- the faults outside lists
 abbrev pub IsFaultOutsideLists : LineFault → List Lexeme → Type 0
--- no keyword where a statement must begin; what can't go on the statement; a comma of CMD or PRINT# with no list after it
+-- no keyword where a statement must begin; what cannot go on the statement; a comma of CMD or PRINT# with no list after it
 IsFaultOutsideLists UnknownWord part = ((l : Lexeme) × (ls : List Lexeme) × (part ≡ l ∷ ls) × (begins_statement l ≡ false))
     ⊎ (GoesTooFar part
     ⊎ ((k : Keyword) × (takes_list k ≡ true) × AfterFile k part (Comma ∷ [])))

@@ -66,7 +66,7 @@ abbrev pub AreItems : List Item → Type 0
 AreItems [] = Unit {0}
 AreItems (i ∷ is) = IsItem i × AreItems is
 
--- whether the line ends after a list: its last item isn't a semicolon; where there is no item, as before
+-- whether the line ends after a list: its last item is not a semicolon; where there is no item, as before
 abbrev pub ends_after : Bool → List Item → Bool
 ends_after ends [] = ends
 ends_after ends (Semi ∷ is) = ends_after false is
@@ -82,7 +82,7 @@ pub record IsList (lexemes : List Lexeme) (line : Text) : Type 0 where
   pub ends : line.ends ≡ ends_after true items
   pub short : length line.bytes ≤ byte_limit
 
--- a keyword, a file, and perhaps a comma and a list that isn't empty
+-- a keyword, a file, and perhaps a comma and a list that is not empty
 abbrev pub IsPrinting : Keyword → ℕ → Text → List Lexeme → Type 0
 IsPrinting k file line lexemes = (f : List ℕ) × IsNumber 0 255 file f
     × (((lexemes ≡ Word k ∷ Digits f ∷ []) × (line ≡ record { bytes = []; ends = true }))

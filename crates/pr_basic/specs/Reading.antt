@@ -87,7 +87,7 @@ line_in bytes ends (Word word.Chr ∷ OpenParen ∷ Digits ds ∷ ls) = if nat_l
 line_in bytes ends (Word word.Chr ∷ OpenParen ∷ ls) = Err BadNumber
 line_in bytes ends (l ∷ ls) = Err UnknownWord
 
--- an optional list after a file; a comma wants a list that isn't empty
+-- an optional list after a file; a comma wants a list that is not empty
 unfoldable pub optional_line_in : List Lexeme → Result Text LineFault
 optional_line_in [] = Ok (record { bytes = []; ends = true })
 optional_line_in (Comma ∷ []) = Err UnknownWord

@@ -18,7 +18,7 @@ pub record Run : Type 0 where
   pub stop : Option (ℕ × Stop)
   pub screen : List ℕ
 
--- the status that a statement of a run finds: 0, or in the kept mode 128 if an item before it isn't answered
+-- the status that a statement of a run finds: 0, or in the kept mode 128 if an item before it is not answered
 abbrev pub found_of : StatusMode → Present → List Element → ℕ
 found_of Each present before = 0
 found_of Kept present before = if is_lacking present 0 (items_of before) then 128 else 0

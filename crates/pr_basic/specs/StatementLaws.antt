@@ -25,19 +25,19 @@ use Rattle.pr_basic.specs.Runs.{found_of}
 abbrev pub sent_in : List Element → List Element → List Item
 sent_in before all = drop (length (items_of before)) (items_of all)
 
--- the byte directly before isn't answered, if a byte stands there
+-- the byte directly before is not answered, if a byte stands there
 abbrev pub is_byte_unanswered : Present → List Item → Option ℕ → Bool
 is_byte_unanswered present sent None = false
 is_byte_unanswered present sent (Some b) = not (is_answered present sent (item.Sent b true))
 
--- the LISTEN to a file's device isn't answered, or the element directly before it is a byte that isn't; where the status is kept: the LISTEN or any item before it in the run isn't answered
+-- the LISTEN to a file's device is not answered, or the element directly before it is a byte that is not; where the status is kept: the LISTEN or any item before it in the run is not answered
 abbrev pub is_missing : StatusMode → Present → List Element → File → Bool
 is_missing Each present before file =
     not (is_answered present (items_of before) (item.Attention (command.listen + file.device) (second_from command.secondary file.second)))
     || is_byte_unanswered present (items_of before) (held_of before)
 is_missing Kept present before file = is_lacking present 0 (items_of (before ++ listen_to file ∷ []))
 
--- CMD and PRINT# stop where the file isn't open, and where its device is missing
+-- CMD and PRINT# stop where the file is not open, and where its device is missing
 abbrev pub command_stop : StatusMode → Present → List Element → Option File → Option Stop
 command_stop mode present before None = Some FileNotOpen
 command_stop mode present before (Some file) = if is_missing mode present before file then Some DeviceNotPresent else None
@@ -51,7 +51,7 @@ stop_in mode present before at (Print line) = None
 stop_in mode present before at (CloseFile file) = None
 stop_in mode present before at Rem = None
 
--- an item sent in a statement isn't answered; where the status is kept: an item sent in it or before it
+-- an item sent in a statement is not answered; where the status is kept: an item sent in it or before it
 abbrev pub is_unanswered_in : StatusMode → Present → List Element → List Element → Bool
 is_unanswered_in Each present before all = is_lacking present (length (items_of before)) (items_of all)
 is_unanswered_in Kept present before all = is_lacking present 0 (items_of all)
@@ -61,7 +61,7 @@ abbrev pub StopsExactly : Type 0
 StopsExactly = (mode : StatusMode) (present : Present) (before : List Element) (at : Setting) (statement : Statement) →
     (effect_of present (found_of mode present before) before at statement).stop ≡ stop_in mode present before at statement
 
--- the status of a statement is 128 exactly where such an item isn't answered, else 0
+-- the status of a statement is 128 exactly where such an item is not answered, else 0
 abbrev pub StatusExactly : Type 0
 StatusExactly = (mode : StatusMode) (present : Present) (before es : List Element) →
     status_of present (found_of mode present before) before (before ++ es)

@@ -30,7 +30,7 @@ pub record Effect : Type 0 where
   pub stop : Option Stop
   pub after : Setting
 
--- the status where these elements become those: 128 if an item that is then sent isn't answered, else the one that was found
+-- the status where these elements become those: 128 if an item that is then sent is not answered, else the one that was found
 abbrev pub status_of : Present → ℕ → List Element → List Element → ℕ
 status_of present found before all = if is_lacking present (length (items_of before)) (items_of all) then 128 else found
 

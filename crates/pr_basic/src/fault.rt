@@ -10,7 +10,7 @@ use thiserror::Error;
 /// want of memory, which can come at any point. The rules are the profile's.
 #[derive(Clone, Copy, Debug, PartialEq, Eq, Error)]
 pub enum ScriptFault {
-    /// No keyword where a statement must begin, a byte that can't go on the statement, a comma of
+    /// No keyword where a statement must begin, a byte that cannot go on the statement, a comma of
     /// CMD or PRINT# with no list after it, or a missing parenthesis.
     #[error("line {0}: unknown word")]
     UnknownWord(usize),

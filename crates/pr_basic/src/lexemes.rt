@@ -1,6 +1,6 @@
 //! The lexemes of a line.
 
-ghost use Rattle.std.specs.Prelude.{◌≡◌, ◌∷◌, [], ◌<◌, ◌≤◌, ◌+◌, length, take, drop, map, codes, MatchOption, IsTrue};
+ghost use Rattle.std.specs.Prelude.{◌≡◌, ◌∷◌, [], ◌<◌, ◌≤◌, ◌+◌, length, map, MatchOption, IsTrue};
 ghost use Rattle.std.specs.List.{prefix_len};
 ghost use Rattle.pr_basic.specs.Lexemes.{is_digit, is_no_quote, is_space};
 ghost use Rattle.pr_basic.specs.Lexing.{begins, first_isnt_space, front, here, later, lexemes_of, text_front, word_front};
@@ -193,7 +193,7 @@ pub fn after_colon(bytes: &[u8]) -> Option<&[u8]>
     None
 }
 
-/// The bytes from the first one on that isn't a space.
+/// The bytes from the first one on that is not a space.
 fn after_spaces(bytes: &[u8]) -> &[u8]
     ensures lexemes { lexemes_of result.now ≡ lexemes_of bytes.now }
     ensures first { first_isnt_space result.now }

@@ -23,4 +23,4 @@ pub use fault::ScriptFault;
 pub use performing::perform;
 pub use script::{STATEMENT_LIMIT, each_text_is_a_script_or_has_one_fault, read_script};
 pub use session::{Session, StatusMode};
-pub use statement::{Device, Line, Second, Statement};
+pub use statement::{Device, Line, Second, Statement, number_of_second};

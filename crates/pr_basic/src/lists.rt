@@ -1,6 +1,6 @@
 //! Lists of strings and CHR$.
 
-ghost use Rattle.std.specs.Prelude.{◌≡◌, ◌∷◌, ◌++◌, [], ◌<◌, ◌≤◌, length, true, Ok, IfOk, OnOk, OnErr, IfErr, MatchResult};
+ghost use Rattle.std.specs.Prelude.{◌≡◌, ◌∷◌, [], ◌<◌, ◌≤◌, length, true, Ok, IfOk, MatchResult};
 ghost use Rattle.std.specs.List.{prefix_len};
 ghost use Rattle.pr_basic.specs.ListLimit.{byte_limit};
 ghost use Rattle.pr_basic.specs.Grammar.{is_printable};

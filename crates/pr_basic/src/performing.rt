@@ -1,17 +1,15 @@
 //! Performing one statement over the channels.
 
-ghost use Rattle.std.specs.Prelude.{◌≡◌, ℕ, ◌+◌, ◌≤◌, ◌<◌, ◌^◌, ◌⊎◌, Bool, true, false, Option, Some, None, List, [], ◌∷◌, ◌++◌, length, map, IfOk, OnOk, OnErr, IsNone, is_some, if◌then◌else◌};
-ghost use Rattle.pr_serial.specs.Elements.{Byte};
+ghost use Rattle.std.specs.Prelude.{◌≡◌, ℕ, ◌+◌, ◌≤◌, ◌<◌, ◌^◌, ◌⊎◌, true, false, Option, Some, None, length, IfOk, OnOk, OnErr, IsNone, is_some, if◌then◌else◌};
 ghost use Rattle.pr_serial.specs.Items.{items_of};
 ghost use Rattle.pr_channels.specs.Files.{open_stop};
-ghost use Rattle.pr_channels.specs.Seen.{Seen, KeepsBus};
-ghost use Rattle.std.specs.Option.{ForSome};
-ghost use Rattle.pr_channels.specs.Calls.{adding, clrchn_of};
+ghost use Rattle.pr_channels.specs.Seen.{KeepsBus};
+ghost use Rattle.pr_channels.specs.Calls.{clrchn_of};
 ghost use Rattle.pr_basic.specs.Statements.{printed_bytes, unlistening, opening};
 ghost use Rattle.pr_basic.specs.Performing.{printing, Gives, IsWorking, setting_of, effect_on, commanding_on, ChangesScreenAlone, Performs, found_by};
 
 use crate::session::{Session, StatusMode};
-use crate::statement::{Device, Line, Second, Statement};
+use crate::statement::{Device, Line, Second, Statement, number_of_second};
 use pr_channels::laws::elements_add_up;
 use pr_channels::{Channels, Fault, Stop};
 use pr_serial::{NoMemory, Serial};
@@ -164,7 +162,7 @@ fn open<S: Serial>(
     ensures err { OnErr result (channels.new.failed ≡ true) }
 {
     elements_add_up();
-    let second_number = number_of(second);
+    let second_number = number_of_second(second);
     match channels.open_file(file, device.get(), second_number) {
         Ok(()) => Ok(None),
         Err(stop) => stopped(channels, stop),
@@ -172,16 +170,6 @@ fn open<S: Serial>(
 }
 
 /// The number of a secondary address, if there is one.
-fn number_of(second: Option<Second>) -> Option<u8>
-    ensures same { result ≡ second }
-    ensures in_range { ForSome result (λ s. s ≤ 15) }
-{
-    match second {
-        Some(second) => Some(second.get()),
-        None => None,
-    }
-}
-
 /// The channel number after a statement that stops or not.
 fn channel_after(stop: &Option<Stop>, channel: u8) -> u8
     ensures { result ≡ (if is_some stop.now then 0 else channel) }

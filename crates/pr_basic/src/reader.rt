@@ -1,6 +1,6 @@
 //! The statement at the front of some bytes.
 
-ghost use Rattle.std.specs.Prelude.{◌≡◌, ◌∷◌, [], ◌<◌, ◌≤◌, length, IfOk, IfSome, Some, true};
+ghost use Rattle.std.specs.Prelude.{◌≡◌, ◌<◌, ◌≤◌, length, IfOk, IfSome, Some};
 ghost use Rattle.pr_basic.specs.Lexing.{here, later};
 ghost use Rattle.pr_basic.specs.Reading.{close_in, cmd_in, ended, number_in, open_in, optional_line_in, print_in, print_to_in, second_in, statement_in};
 ghost use Rattle.pr_basic.specs.Reads.{Reads, ReadsAll, ReadsLine, ReadsStatement};
@@ -94,7 +94,7 @@ fn close(bytes: &[u8]) -> Result<(Statement, &[u8]), LineFault>
     at_end(Statement::CloseFile { file }, rest)
 }
 
-/// What follows the file of a CMD or a PRINT#: perhaps a comma and a list that isn't empty.
+/// What follows the file of a CMD or a PRINT#: perhaps a comma and a list that is not empty.
 #[tactic(auto, unfolding(crate::specs::Reading::optional_line_in))]
 fn optional_line(alloc: Global, bytes: &[u8]) -> Result<(Line, &[u8]), LineFault>
     ensures reads { ReadsLine result (optional_line_in (here bytes.now)) (later bytes.now) }

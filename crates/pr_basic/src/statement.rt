@@ -1,6 +1,7 @@
 //! Statements and what they are made of.
 
 ghost use Rattle.std.specs.Prelude.{◌≡◌, ℕ, ◌≤◌, ◌<◌, ◌⊎◌, IfSome, IfNone, IfOk};
+ghost use Rattle.std.specs.Option.{ForSome};
 
 use std::alloc::{AllocError, Global};
 use std::marker::Model;
@@ -119,6 +120,17 @@ impl Second {
         ensures high { result ≤ 15 }
     {
         self.number
+    }
+}
+
+/// The number of a secondary address, 0 to 15, where there is one.
+pub fn number_of_second(second: Option<Second>) -> Option<u8>
+    ensures same { result ≡ second }
+    ensures in_range { ForSome result (λ s. s ≤ 15) }
+{
+    match second {
+        Some(second) => Some(second.get()),
+        None => None,
     }
 }
 

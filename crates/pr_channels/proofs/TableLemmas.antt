@@ -18,7 +18,7 @@ length-filter : (p : File → Bool) (xs : Files) → length (filter p xs) ≤ le
 length-filter p [] = omega arith
 length-filter p (x ∷ xs) = filter_cons p x xs (p x) refl (length-filter p xs)
 
--- what isn't among the files isn't among some of them, with one more file
+-- what is not among the files is not among some of them, with one more file
 absent_cons : (p q : File → Bool) (x : File) (xs : Files) (a b : Bool) → p x ≡ a → q x ≡ b → find p (x ∷ xs) ≡ None → (find p xs ≡ None → find p (filter q xs) ≡ None) → find p (filter q (x ∷ xs)) ≡ None
 absent_cons p q x xs true b na nb none ih =
     let clash : Some x ≡ None = ap (λ t. cond t (Some x) (find p xs)) (sym na) ∙ none in
@@ -30,7 +30,7 @@ absent_cons p q x xs false false na nb none ih =
     let later = ap (λ t. cond t (Some x) (find p xs)) (sym na) ∙ none in
     simp (na, nb) (ih later)
 
--- what isn't among the files isn't among some of them
+-- what is not among the files is not among some of them
 absent_filter : (p q : File → Bool) (xs : Files) → find p xs ≡ None → find p (filter q xs) ≡ None
 absent_filter p q [] none = refl
 absent_filter p q (x ∷ xs) none = absent_cons p q x xs (p x) (q x) refl refl none (absent_filter p q xs)
@@ -64,7 +64,7 @@ other_way : (a b : ℕ) (c : Bool) → (b == a) ≡ c → (a == b) ≡ false →
 other_way a b true is differ = let clash : true ≡ false = sym (eq-eqb a b (sym (eqb-true b a is))) ∙ differ in absurd (cc clash)
 other_way a b false is differ = refl
 
--- a number that isn't among files differs from that of the first, and isn't among the others
+-- a number that is not among files differs from that of the first, and is not among the others
 first_differs : (n : ℕ) (x : File) (xs : Files) (a : Bool) → (x.number == n) ≡ a → file_at (x ∷ xs) n ≡ None → a ≡ false × (file_at xs n ≡ None)
 first_differs n x xs true na none = let clash : Some x ≡ None = ap (λ t. cond t (Some x) (file_at xs n)) (sym na) ∙ none in absurd (cc clash)
 first_differs n x xs false na none = (refl, ap (λ t. cond t (Some x) (file_at xs n)) (sym na) ∙ none)

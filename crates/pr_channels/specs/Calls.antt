@@ -12,7 +12,7 @@ use Rattle.pr_channels.specs.Files.{file_at, without_file}
 use Rattle.pr_channels.specs.Commands.{listen_to, unlisten, closing}
 use Rattle.pr_channels.specs.Seen.{Seen}
 
--- more elements: the items are those of all elements, and the status is 128 if an item that is new isn't answered
+-- more elements: the items are those of all elements, and the status is 128 if an item that is new is not answered
 abbrev pub adding : List Element → Seen → Seen
 adding es old =
     let sent = items_of (old.elements ++ es) in

@@ -64,6 +64,6 @@ abbrev pub flushed_as : Option ℕ → Bool → List Item
 flushed_as None eoi = []
 flushed_as (Some b) eoi = item.Sent b eoi ∷ []
 
--- the status where something wasn't answered or all was
+-- the status where something was not answered or all was
 abbrev pub status_at : Bool → ℕ
 status_at unanswered = if unanswered then 128 else 0

@@ -20,7 +20,7 @@ pub enum Stop {
     /// No answer came: error 5.
     #[error("device not present")]
     DeviceNotPresent,
-    /// File 0 can't be opened: error 6.
+    /// File 0 cannot be opened: error 6.
     #[error("not input file")]
     NotInputFile,
 }

@@ -6,10 +6,10 @@
 //! each call does.
 #![tactic(auto)]
 
-pub mod channels;
+mod channels;
 mod faults;
 mod file;
-pub mod file_table;
+mod file_table;
 pub mod laws;
 mod sender;
 

@@ -180,7 +180,8 @@ impl<S: Serial> Sender<S> {
         requires device { device ≤ 30 }
         requires second { second ≤ 15 }
         requires room { length self.old.sent + 3 ≤ 2 ^ 32 }
-        ensures ok { OnOk result (self.new ≡ putting unlisten (putting (Attention (command.listen + device) (Some (command.close + second))) self.old)) }
+        ensures ok { OnOk result (self.new ≡
+            putting unlisten (putting (Attention (command.listen + device) (Some (command.close + second))) self.old)) }
         ensures works { OnOk result (self.old.failed ≡ false) }
         ensures err { OnErr result (self.new.failed ≡ true) }
         ensures room { length self.new.sent ≤ length self.old.sent + 3 }

@@ -72,7 +72,7 @@ is_lacking-grow present xs ys zs =
     ∙ ap (λ b. b || list_any not (answers_after present (xs ++ ys) zs)) (sym (is_lacking-append present xs ys))
     ∙ ap (λ b. is_lacking present (length xs) (xs ++ ys) || b) (sym (is_lacking-append present (xs ++ ys) zs))
 
--- one more item is lacking exactly if it isn't answered
+-- one more item is lacking exactly if it is not answered
 pub is_lacking_one : (present : Present) (xs : List Item) (x : Item) → is_lacking present (length xs) (xs ++ x ∷ []) ≡ not (is_answered present xs x)
 is_lacking_one present xs x = is_lacking-append present xs (x ∷ []) ∙ or-false (not (is_answered present xs x))
 

@@ -55,7 +55,7 @@ nothing_at device before (Attention first None) quiet none = ap (λ b. cond b (S
 nothing_at device before (Attention first (Some s)) quiet none = ap (λ b. cond b (Select false ∷ cond (s == 103) (Select true ∷ []) []) []) none
 nothing_at device before (Sent b eoi) quiet none = ap (λ t. cond t (Byte b ∷ []) []) quiet
 
--- a device that doesn't listen, and to which no LISTEN goes, hears nothing
+-- a device that does not listen, and to which no LISTEN goes, hears nothing
 heard_nothing : (device : ℕ) (before items : List Item) → is_listener device before ≡ false → IsNotCalled device items → heard_after device before items ≡ []
 heard_nothing device before [] quiet none = refl
 heard_nothing device before (item ∷ items) quiet none =

@@ -30,6 +30,6 @@ is_answered present before (Sent b eoi) = (present.four && is_listener 4 before)
 abbrev pub answers_of : Present → List Item → List Bool
 answers_of present items = map (λ p. is_answered present p.0 p.1) (with_before [] items)
 
--- some item after the first n isn't answered
+-- some item after the first n is not answered
 abbrev pub is_lacking : Present → ℕ → List Item → Bool
 is_lacking present n items = list_any not (drop n (answers_of present items))

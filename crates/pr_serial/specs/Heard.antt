@@ -23,6 +23,6 @@ inputs_at device before (Attention first second) = if first == command.listen + 
     select_lower (Some s) = if s == command.secondary + 7 then Select true ∷ [] else []
 inputs_at device before (Sent b eoi) = if is_listener device before then Byte b ∷ [] else []
 
--- what a device hears of the items, in order: nothing if it isn't there
+-- what a device hears of the items, in order: nothing if it is not there
 abbrev pub heard_by : Present → ℕ → List Item → List Input
 heard_by present device items = if is_present present device then flat_map (λ p. inputs_at device p.0 p.1) (with_before [] items) else []

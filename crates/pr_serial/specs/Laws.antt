@@ -45,7 +45,7 @@ LackingInTwoParts = (present : Present) (xs ys zs : List Item) →
 abbrev pub LackingInNone : Type 0
 LackingInNone = (present : Present) (xs : List Item) → is_lacking present (length xs) xs ≡ false
 
--- one more item lacks an answer exactly if it isn't answered
+-- one more item lacks an answer exactly if it is not answered
 abbrev pub LackingInOne : Type 0
 LackingInOne = (present : Present) (xs : List Item) (x : Item) →
     is_lacking present (length xs) (xs ++ x ∷ []) ≡ not (is_answered present xs x)

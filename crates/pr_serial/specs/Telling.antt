@@ -10,7 +10,7 @@ abbrev pub items_before : Option ℕ → List Item → List Item
 items_before None items = []
 items_before (Some n) items = take n items
 
--- the items have come to the mark: it isn't past them
+-- the items have come to the mark: it is not past them
 abbrev pub IsReached : Option ℕ → List Item → Type 0
 IsReached None items = Unit {0}
 IsReached (Some n) items = n ≤ length items

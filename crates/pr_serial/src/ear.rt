@@ -66,7 +66,8 @@ impl Ear {
         requires room { HasRoom self.old }
         ensures device { self.new.device ≡ self.old.device }
         ensures there { self.new.there ≡ self.old.there }
-        ensures listens { self.new.listens ≡ (if first == command.unlisten then false else (self.old.listens || first == command.listen + self.old.device)) }
+        ensures listens { self.new.listens ≡ (if first == command.unlisten then false
+            else (self.old.listens || first == command.listen + self.old.device)) }
         ensures inputs { (items : List Item) → self.new.inputs.items ≡ self.old.inputs.items ++
             (if self.old.there then inputs_at self.old.device items (Attention first second) else []) }
     {

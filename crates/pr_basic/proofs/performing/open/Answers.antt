@@ -9,5 +9,5 @@ returns-in-Ok-clause-ok g c working channel =
     let old = c.args.channels.now in
     opening_gives (laws_of c.elements_add_up.ensures.two_parts c.elements_add_up.ensures.none) (open_stop old.files c.args.file) _ channel old c.open_file.new.self working c.in-Ok.ensures.ok.0
     (c.in-Ok.ensures.ok.1
-    ∙ ap (λ (d : ℕ). record old { files = old.files ++ record { number = c.args.file; device = d; second = c.number_of-second_number.result } ∷ [] }) c.get.ensures.number
-    ∙ ap (λ (s : Option ℕ). record old { files = old.files ++ record { number = c.args.file; device = c.args.device; second = s } ∷ [] }) c.number_of-second_number.ensures.same)
+    ∙ ap (λ (d : ℕ). record old { files = old.files ++ record { number = c.args.file; device = d; second = c.number_of_second-second_number.result } ∷ [] }) c.get.ensures.number
+    ∙ ap (λ (s : Option ℕ). record old { files = old.files ++ record { number = c.args.file; device = c.args.device; second = s } ∷ [] }) c.number_of_second-second_number.ensures.same)
