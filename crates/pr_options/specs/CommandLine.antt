@@ -39,9 +39,9 @@ pages_app = with_rule (run_app (codes "pages")) as_rule
 abbrev pub raw_app : App
 raw_app = with_rule (with_rule (new_app (codes "raw")) set_rule) as_rule
 
--- the program without its subcommands, of which it wants one
+-- the program without its subcommands, of which it wants one; it has a version to tell
 abbrev pub program_app : App
-program_app = on_top (λ s. record s { subcommand_required = true; disable_help_subcommand = true }) (new_app (codes "print1525"))
+program_app = on_top (λ s. record s { has_version = true; subcommand_required = true; disable_help_subcommand = true }) (new_app (codes "print1525"))
 
 -- the program
 abbrev pub print1525 : App

@@ -40,7 +40,7 @@ pub enum Job {
 /// Why a command line asks for nothing.
 #[derive(Debug, Drop)]
 pub enum JobFault {
-    /// clap refuses the words, or they ask for help: the error prints itself.
+    /// clap refuses the words, or they ask for help or the version: the error prints itself.
     Line(clap::Error),
     /// The value of `--present` is not `none`, `4`, `5` or `both`.
     BadPresent,
@@ -74,7 +74,7 @@ impl From<DelayFault> for JobFault {
 /// # Errors
 ///
 /// [`JobFault::Line`] only for words that clap's meaning of the command does not take (a request
-/// for help is one), [`JobFault::BadPresent`] only for a bad value of `--present`,
+/// for help or the version is one), [`JobFault::BadPresent`] only for a bad value of `--present`,
 /// [`JobFault::BadDelays`] only for a good `--present` and a bad value of `--delays`,
 /// [`JobFault::BadStatus`] only where both are good and the value of `--status` is bad,
 /// [`JobFault::BadSet`] only where these three are good and the value of `--set` is bad,

@@ -10,6 +10,7 @@ mod clap_command;
 mod command_line;
 mod delays;
 mod format;
+mod help;
 mod option_values;
 
 pub use command_line::{Job, JobFault, read_job};

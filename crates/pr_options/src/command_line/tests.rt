@@ -143,11 +143,16 @@ fn refused_by_clap(rt: HostRuntime) {
         "check --as list",
         "raw --present 4",
         "raw --set",
+        "help",
+        "help pages",
+        "pages --version",
+        "raw -V",
+        "pages listing.bas",
     ];
     for line in lines {
         asks(&rt, line, Asked::Line(2));
     }
-    for line in ["--help", "bus --help", "raw --help"] {
+    for line in ["--help", "bus --help", "raw --help", "--version", "-V"] {
         asks(&rt, line, Asked::Line(0));
     }
 }

@@ -1,10 +1,10 @@
-use Rattle.std.proofs.Common.{ap, ap₂, ◌∙◌, codes, ◌≡◌, true, false}
-use Rattle.clap.specs.declared.Command.{Command}
-use Rattle.clap.specs.declared.Command.TheViews.{out-Command}
-use Rattle.clap.specs.declared.Command.TheOpen.{Command-F}
+use Rattle.std.proofs.Common.{ap, ap₂, ◌∙◌, codes, ◌≡◌, true}
 use Rattle.clap.specs.Words.{App, app_of, new_app, with_subcommand}
 use Rattle.clap.specs.Simple.{Shape, app_of_fields, on_top}
 use Rattle.pr_options.proofs.clap_command.make_command.Goals as goal
+
+abbrev versioned : Shape → Shape
+versioned s = record s { has_version = true }
 
 abbrev wanted : Shape → Shape
 wanted s = record s { subcommand_required = true }
@@ -15,12 +15,10 @@ unhelped s = record s { disable_help_subcommand = true }
 pub returns-clause-app : goal.returns-clause-app
 returns-clause-app c =
     let top = λ (a : App). a.top in
-    let program_is : app_of c.disable_help_subcommand-program.result ≡ on_top unhelped (on_top wanted (new_app (codes "print1525"))) =
-    ap app_of_fields c.disable_help_subcommand-program.ensures ∙ ap (on_top unhelped) (ap app_of_fields c.subcommand_required.ensures ∙ ap (on_top wanted) (ap app_of_fields c.about.ensures ∙ c.new-2.ensures.app)) in
-    let check_is : app_of c.about-check.result ≡ new_app (codes "check") = ap app_of_fields c.about-check.ensures ∙ c.new.ensures.app in
-    let check_local : (out-Command c.about-check.result).has_globals ≡ false = ap (λ (f : Command-F Command). f.has_globals) c.about-check.ensures ∙ c.new.ensures.local in
+    let program_is : app_of c.disable_help_subcommand-program.result ≡ on_top unhelped (on_top wanted (on_top versioned (new_app (codes "print1525")))) =
+    ap app_of_fields c.disable_help_subcommand-program.ensures ∙ ap (on_top unhelped) (ap app_of_fields c.subcommand_required.ensures ∙ ap (on_top wanted) (ap app_of_fields c.version.ensures ∙ ap (on_top versioned) c.new_command.ensures.app)) in
     c.in_ok-whole.ensures.shape c.in_ok-raw.ensures.local
-    ∙ ap₂ with_subcommand (c.in_ok-three.ensures.shape check_local
+    ∙ ap₂ with_subcommand (c.in_ok-three.ensures.shape c.new_command-check.ensures.local
     ∙ ap₂ with_subcommand (c.in_ok-two.ensures.shape c.in_ok-bus.ensures.local
     ∙ ap₂ with_subcommand (c.in_ok-one.ensures.shape c.in_ok-pages.ensures.local ∙ ap₂ with_subcommand program_is (ap top c.in_ok-pages.ensures.app))
-    (ap top c.in_ok-bus.ensures.app)) (ap top check_is)) (ap top c.in_ok-raw.ensures.app)
+    (ap top c.in_ok-bus.ensures.app)) (ap top c.new_command-check.ensures.app)) (ap top c.in_ok-raw.ensures.app)
