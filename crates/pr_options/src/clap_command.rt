@@ -69,7 +69,7 @@ fn as_option<'a>(alloc: Global) -> Arg<'a>
     ensures local { result.global ≡ false }
 {
     value_option(alloc, "as", "list").help(
-        "The format: list (rows and marks), text (lines of 80 columns) or svg (a picture)",
+        "The format: list (rows and marks), text (lines, 80 columns behind a margin) or svg (a picture)",
     )
 }
 
