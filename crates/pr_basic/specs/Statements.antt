@@ -38,8 +38,7 @@ status_of present found before all = if is_lacking present (length (items_of bef
 abbrev pub stopping : Stop → List Element → Setting → Effect
 stopping stop es at = record {
   elements = es ++ (if nat_lt 3 at.output then unlisten ∷ [] else []);
-  screen = [];
-  stop = Some stop;
+  screen = []; stop = Some stop;
   after = record { files = at.files; channel = 0; output = 3 };
 }
 
@@ -51,8 +50,7 @@ commanding present found before at number line (Some file) =
     then stopping DeviceNotPresent (listen_to file ∷ []) at
     else record {
       elements = listen_to file ∷ map Byte (printed_bytes line number);
-      screen = [];
-      stop = None;
+      screen = []; stop = None;
       after = record { files = at.files; channel = number; output = file.device };
     }
 

@@ -12,14 +12,14 @@ use Rattle.pr_wire.specs.declared.delay.Kind.TheVariants.{Bb, Aw, R, Cr, Dr}
 use Rattle.pr_wire.specs.Levels.{edge_at}
 use Rattle.pr_wire.specs.Delays.{delay_at}
 use Rattle.pr_wire.specs.Choices.{left}
-use Rattle.pr_wire.specs.Pieces.{FrameTimes, SecondFrame, Ending, frame_edges, call_edge, answer_edges, second_edges, ending_edges}
+use Rattle.pr_wire.specs.Pieces.{FrameTimes, SecondFrame, Ending, frame_edges, call_edge, answer_edges, second_edges, ending_edges, last_ack}
 use Rattle.pr_bus.specs.declared.printer.Printer.{Printer}
 use Rattle.pr_bus.specs.declared.talker.Talker.{Talker}
 use Rattle.pr_bus.specs.Timed as all
-use Rattle.pr_bus.specs.Timed.{Lines, Free, Pulled, Due, BusState, Done, taking, listening, between, frame_times, command_hearers, done, answered, unanswered, answer_at, second_frame, final_ack, commands_take, printer_takes, item_edges, due_edges, edges_done}
+use Rattle.pr_bus.specs.Timed.{Lines, Free, Pulled, Due, BusState, Done, taking, listening, between, frame_times, command_hearers, done, answered, unanswered, answer_at, second_frame, commands_take, printer_takes, item_edges, due_edges, edges_done}
 use Rattle.pr_bus.specs.Printers.{printer_list, heeding, after_freed, IsSamePrinter}
 use Rattle.pr_bus.specs.Talking.{lines_of}
-use Rattle.pr_bus.specs.Talk.{state_of, IsTuned, printers_of, command_frame, second_of, final_ack_of, second_takes, second_taking, freed_at, due_at, closed_at, ending_of, end_of, rest_of, tuned_to}
+use Rattle.pr_bus.specs.Talk.{state_of, IsTuned, printers_of, command_frame, second_of, second_takes, second_taking, freed_at, due_at, closed_at, ending_of, end_of, rest_of, tuned_to}
 use Rattle.pr_bus.proofs.FrameLemmas.{drop-twice}
 use Rattle.pr_bus.proofs.PrinterLemmas.{commands-taking, releases-taking, taking-twice}
 use Rattle.pr_bus.proofs.TalkLemmas.{one, tuned-listening, map-listening, heeding-is}
@@ -39,7 +39,7 @@ done-answered before t first second h = by t.four.there t.five.there h
 abbrev rests : Lines → Lines → List all.Printer → Lines
 rests x y ls = elim ls [ [] ↦ x | p ∷ qs ↦ y ]
 
--- the numbers that printers have taken don't tell who listens
+-- the numbers that printers have taken do not tell who listens
 lines-taking : (before : List Item) (n : ℕ) (ps : List all.Printer) (x y : Lines)
     → rests x y (listening before (map (taking n) ps)) ≡ rests x y (listening before ps)
 lines-taking before n [] x y = refl
@@ -83,7 +83,7 @@ first_of t first =
 
 -- an attention's last acknowledgement
 abbrev pub last_of : Talker → ℕ → Option ℕ → ℕ
-last_of t first second = final_ack (first_of t first) (second_frame (first_of t first).ack second (drop 19 (left t.computer)) (printers_of t))
+last_of t first second = last_ack (first_of t first).ack (second_frame (first_of t first).ack second (drop 19 (left t.computer)) (printers_of t))
 
 -- DATA's release that is due after the commands
 due-is : (before : List Item) (t v : Talker) (first : ℕ) (second : Option ℕ) (ack : ℕ) → IsCommanded before t v first second
@@ -196,7 +196,7 @@ second-edges-of t ack aw byte second rest old push new e ea er e1 e2 = rw (e2, e
 -- the acknowledgement of a second command
 pub second-ack-of : (t : Talker) (ack aw byte last : ℕ) (second : Option ℕ) (rest : List ℕ) → second ≡ Some byte → aw ≡ delay_at Aw (left t.computer) 0 → rest ≡ drop 1 (left t.computer)
     → last ≡ (frame_times (ack + aw) false byte rest (command_hearers 0 (printers_of t))).ack
-    → last ≡ final_ack_of ack (second_of t ack second)
+    → last ≡ last_ack ack (second_of t ack second)
 second-ack-of t ack aw byte last second rest e ea er h = rw (h, e, ea, er) refl
 
 -- the first command's frame, by the numbers before the attention
@@ -218,9 +218,8 @@ second-is t k ack (Some b) c p =
     ∙ ap (λ x. Some (record { look = ack + delay_at Aw (drop 19 (left t.computer)) 0; sent = frame_times (ack + delay_at Aw (drop 19 (left t.computer)) 0) false b (drop 1 (drop 19 (left t.computer))) x })) (commands-taking 0 3 (printers_of t))
 
 -- the last acknowledgement, as the talker has it
-pub final-is : (k : ℕ) (f : FrameTimes) (m : Option SecondFrame) → k ≡ f.ack → final_ack_of k m ≡ final_ack f m
-final-is k f None h = h
-final-is k f (Some m) h = refl
+pub final-is : (k : ℕ) (f : FrameTimes) (m : Option SecondFrame) → k ≡ f.ack → last_ack k m ≡ last_ack f.ack m
+final-is k f m h = ap (λ n. last_ack n m) h
 
 -- how many numbers of the computer an attention has taken before ATN's release
 seconds : (second : Option ℕ) (numbers : List ℕ) → drop (second_takes second) (drop 19 numbers) ≡ drop (2 + commands_take second) numbers

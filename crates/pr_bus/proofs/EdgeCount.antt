@@ -80,7 +80,7 @@ three false = omega arith
 heard-count : (l : Lines) (look : ℕ) (f : FrameTimes) → l ≡ Pulled → length f.bits ≡ 8 → length (due_edges l ++ edges_done l (Some (DataByte look f))) ≤ 22
 heard-count l look f e h = subst (λ (m : Lines). length (due_edges m ++ edges_done m (Some (DataByte look f))) ≤ 22) (sym e) (omega (arith, frame-count true f h))
 
--- the edges of an attention with one command, and with two of which the second isn't UNLISTEN
+-- the edges of an attention with one command, and with two of which the second is not UNLISTEN
 attended-edges : (w : BusState) (byte : ℕ) (second : Option ℕ) → IsItem (Attention byte second) → length (due_edges w.lines ++ edges_done w.lines (answered w byte second).piece) ≤ 44
 attended-edges w byte None h =
     let look : ℕ = w.now + delay_at Bb w.computer 0 + delay_at Aw w.computer 1 in

@@ -16,7 +16,7 @@ use Rattle.pr_bus.specs.declared.lines.Lines.TheVariants as kept
 use Rattle.pr_bus.specs.declared.printer.Printer.{Printer}
 use Rattle.pr_bus.specs.declared.talker.Talker.{Talker}
 use Rattle.pr_bus.specs.Timed as all
-use Rattle.pr_bus.specs.Timed.{Pulled, Due, BusState, Done, taking, listening, frame_times, data_hearers, command_hearers, done, heard_byte, dropped_byte, item_edges, due_edges, edges_done, dropped_piece}
+use Rattle.pr_bus.specs.Timed.{Pulled, Due, BusState, Done, taking, listening, frame_times, data_hearers, done, heard_byte, dropped_byte, item_edges, due_edges, edges_done, dropped_piece}
 use Rattle.pr_bus.specs.Printers.{printer_list, heeding, after_byte}
 use Rattle.pr_bus.specs.Talk.{state_of, IsTuned, IsSameTalker, IsSameTuned, printers_of, rest_of, due_at}
 use Rattle.pr_bus.specs.Talking.{lines_of, option_list}
@@ -54,7 +54,7 @@ tuned-listening before t i =
     ∙ ap (λ l. l ++ listening before (printer_list t.five)) (listening-one before t.four 4 i.four_is i.four_listens)
     ∙ ap (λ l. heeding t.four ++ l) (listening-one before t.five 5 i.five_is i.five_listens)
 
--- a list that isn't empty
+-- a list that is not empty
 abbrev IsSome : List all.Printer → Type 0
 IsSome [] = ⊥
 IsSome (p ∷ ps) = Unit {0}

@@ -14,7 +14,7 @@ SlowerListenerHasAcknowledged =
     → (delay_at F printer j < delay_at Bb computer i) × (delay_at F printer j < delay_at R computer i)
     × (delay_at F printer j < delay_at Aw computer i)
 
--- a printer that doesn't listen releases DATA before the computer's next act
+-- a printer that does not listen releases DATA before the computer's next act
 abbrev pub SlowerPrinterHasReleased : Type 0
 SlowerPrinterHasReleased =
     (computer printer : List ℕ) (i j : ℕ)

@@ -20,7 +20,7 @@ pub record IsHearing (forgotten trace : List Edge) (ear : Ear) : Type 0 where
   pub works : refusal_of ear.receiver ≡ None
   pub inputs : inputs_with (device_of ear.receiver) forgotten ++ ear.inputs.items ≡ inputs_with (device_of ear.receiver) trace
 
--- the printer with this number has heard these edges if it is there, and nothing if it isn't
+-- the printer with this number has heard these edges if it is there, and nothing if it is not
 pub record Hears (device : ℕ) (there : Bool) (forgotten trace : List Edge) (ear : Ear) : Type 0 where
   pub device_is : device_of ear.receiver ≡ device
   pub there_is : ear.there ≡ there
@@ -33,7 +33,7 @@ abbrev pub HearsOn : List Edge → Ear → Ear → Type 0
 HearsOn edges old new =
     (forgotten trace : List Edge) → IsAllowed (trace ++ edges) → IsHearing forgotten trace old → IsHearing forgotten (trace ++ edges) new
 
--- the printer with this number, if it is there, has heard these edges behind whatever it had heard; if it isn't, it has heard nothing
+-- the printer with this number, if it is there, has heard these edges behind whatever it had heard; if it is not, it has heard nothing
 abbrev pub ListensAs : ℕ → List Edge → Ear → Ear → Type 0
 ListensAs device edges old new =
     (there : Bool) (forgotten trace : List Edge) → IsAllowed (trace ++ edges) → Hears device there forgotten trace old

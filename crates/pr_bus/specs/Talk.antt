@@ -85,11 +85,6 @@ second_of t k (Some b) =
     let look = k + delay_at Aw (left t.computer) 0 in
     Some (record { look = look; sent = frame_times look false b (drop 1 (left t.computer)) (command_hearers 0 (printers_of t)) })
 
--- the last acknowledgement
-abbrev pub final_ack_of : ℕ → Option SecondFrame → ℕ
-final_ack_of k None = k
-final_ack_of k (Some m) = m.sent.ack
-
 -- how many numbers a second command takes of the computer, and which of a printer
 abbrev pub second_takes : Option ℕ → ℕ
 second_takes None = 0

@@ -10,7 +10,7 @@ use Rattle.pr_wire.specs.declared.Edge.{Edge}
 use Rattle.pr_wire.specs.declared.delay.Kind.TheVariants.{Bb, Aw, Ne, Ry, S, V, R, Cr, At, H, Ye, Ei, F, Dr}
 use Rattle.pr_wire.specs.Levels.{edge_at, start}
 use Rattle.pr_wire.specs.Delays.{delay_at}
-use Rattle.pr_wire.specs.Pieces.{BitTimes, FrameTimes, SecondFrame, Between, Piece, last_pull, piece_edges}
+use Rattle.pr_wire.specs.Pieces.{BitTimes, FrameTimes, SecondFrame, Between, Piece, last_ack, last_pull, piece_edges}
 use Rattle.pr_wire.specs.Pieces.Between.{Resting, Held, Loose}
 use Rattle.pr_wire.specs.Pieces.Piece.{Unanswered, Attention as Attended, DataByte, Dropped}
 
@@ -137,11 +137,6 @@ second_frame k (Some byte) numbers printers =
     let look = k + delay_at Aw numbers 0 in
     Some (record { look = look; sent = frame_times look false byte (drop 1 numbers) (command_hearers 3 printers) })
 
--- an attention's last acknowledgement
-abbrev pub final_ack : FrameTimes → Option SecondFrame → ℕ
-final_ack f None = f.ack
-final_ack f (Some m) = m.sent.ack
-
 -- how many numbers the commands of an attention take of the computer, behind the first two, and of a printer, behind the first
 abbrev pub commands_take : Option ℕ → ℕ
 commands_take None = 17
@@ -159,7 +154,7 @@ answered w byte second =
     let first = frame_times look false byte (drop 2 w.computer) (command_hearers 1 w.printers) in
     let more = second_frame first.ack second (drop 19 w.computer) w.printers in
     let rest = drop (2 + commands_take second) w.computer in
-    let r = final_ack first more + delay_at R rest 0 in
+    let r = last_ack first.ack more + delay_at R rest 0 in
     let before = w.before ++ Attention byte second ∷ [] in
     let listeners = listening before w.printers in
     let deaf = map (λ (p : Printer). cond (is_listener p.device before) p (taking 1 p)) (map (taking (printer_takes second)) w.printers) in

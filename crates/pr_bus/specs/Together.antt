@@ -13,6 +13,6 @@ pub record HearsMore (edges : List Edge) (n : ℕ) (old new : Ear) : Type 0 wher
   pub count : number_taken new.receiver ≤ number_taken old.receiver + n
   pub capacity : vec_capacity new.inputs ≡ vec_capacity old.inputs
 
--- a printer that is there has heard these edges behind whatever it had heard; one that isn't has heard nothing
+-- a printer that is there has heard these edges behind whatever it had heard; one that is not has heard nothing
 abbrev pub Listens : List Edge → Ear → Ear → Type 0
 Listens edges old new = (device : ℕ) → ListensAs device edges old new

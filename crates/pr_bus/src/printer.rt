@@ -1,7 +1,6 @@
 //! A printer of the bus.
 
-ghost use Rattle.std.specs.Prelude.{◌≡◌, ◌<◌, ◌&&◌, ◌++◌, ◌∷◌, [], Bool, true, false, cond, map};
-ghost use Rattle.pr_wire.specs.Choices.{left};
+ghost use Rattle.std.specs.Prelude.{◌≡◌, ◌<◌, ◌&&◌, true, false, map};
 ghost use Rattle.pr_wire.specs.Delays.{delay_at};
 ghost use Rattle.pr_wire.specs.declared.delay.Kind.TheVariants.{At, Dr};
 ghost use Rattle.pr_bus.specs.Timed as all;
@@ -24,7 +23,7 @@ pub struct Printer {
 }
 
 impl Printer {
-    /// A printer that doesn't listen.
+    /// A printer that does not listen.
     pub fn new(device: u8, there: bool, choices: Choices) -> Printer
         ensures { result ≡ record { device = device; there = there; listens = false; choices = choices } }
     {
@@ -94,7 +93,7 @@ impl Printer {
         })
     }
 
-    /// What it waits before it releases DATA after ATN, if it doesn't listen.
+    /// What it waits before it releases DATA after ATN, if it does not listen.
     pub fn freed(&mut self) -> Option<u16>
         ensures time { (self.old.there && self.old.listens) ≡ false →
             option_list result ≡ map (λ (p : all.Printer). delay_at Dr p.numbers 0) (printer_list self.old) }

@@ -7,8 +7,8 @@ ghost use Rattle.pr_bus.specs.Timed.{item_edges, done, edges_done, dropped_piece
 ghost use Rattle.pr_bus.specs.Printers.{printer_list, after_byte, after_freed};
 ghost use Rattle.pr_wire.specs.Choices.{left};
 ghost use Rattle.pr_wire.specs.Levels.{edge_at};
-ghost use Rattle.pr_wire.specs.Pieces.{frame_edges, answer_edges, second_edges, ending_edges};
-ghost use Rattle.pr_bus.specs.Talk.{state_of, IsTuned, IsSameTalker, IsSameTuned, heard_frame, command_frame, printers_of, ending_of, end_of, rest_of, second_of, final_ack_of, second_takes, second_taking, tuned_to};
+ghost use Rattle.pr_wire.specs.Pieces.{frame_edges, answer_edges, second_edges, ending_edges, last_ack};
+ghost use Rattle.pr_bus.specs.Talk.{state_of, IsTuned, IsSameTalker, IsSameTuned, heard_frame, command_frame, printers_of, ending_of, end_of, rest_of, second_of, second_takes, second_taking, tuned_to};
 ghost use Rattle.pr_bus.specs.Talking.{lines_of};
 ghost use Rattle.pr_serial.specs.Sendable.{MaySend};
 
@@ -119,7 +119,7 @@ impl Talker {
     fn second(&mut self, ack: u64, second: Option<u8>) -> Result<u64, NoMemory>
         requires { ack < 2 ^ 61 }
         ensures edges { OnOk result (self.new.edges.items ≡ self.old.edges.items ++ second_edges (second_of self.old ack second)) }
-        ensures ack { IfOk result (λ last. last ≡ final_ack_of ack (second_of self.old ack second)) }
+        ensures ack { IfOk result (λ last. last ≡ last_ack ack (second_of self.old ack second)) }
         ensures soon { IfOk result (λ last. last ≤ ack + 2 ^ 35) }
         ensures computer { OnOk result (left self.new.computer ≡ drop (second_takes second) (left self.old.computer)) }
         ensures four { OnOk result (printer_list self.new.four ≡ second_taking second (printer_list self.old.four)) }

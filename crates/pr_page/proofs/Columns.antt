@@ -71,7 +71,7 @@ over s dots (suc room) n full h =
     ∙ ap (λ held. ended (record s { paper = record { rows = s.paper.rows; held = held } }) true (columns_from 0 dots (suc n)) (suc n))
     (append_assoc s.paper.held (record { x = s.position; mark = Dots dots } ∷ []) (columns_from (s.position + 1) dots room)))
 
--- the same for a count that doesn't fit
+-- the same for a count that does not fit
 pub over_count : (s : Sheet) (dots count room left : ℕ) → s.position + room ≡ 480 → room + left ≡ count → 0 < left → left ≤ 480 →
     sheet_after_all s (replicate count (Print true (Dots dots) 1)) ≡ ended (with_columns s dots room) true (columns_from 0 dots left) left
 over_count s dots count room zero full parts some small = absurd (omega arith)

@@ -2,7 +2,7 @@
 use Rattle.std.specs.Prelude.{ℕ, zero, suc, ◌+◌, ◌*◌, ◌≤◌, ◌^◌, Bool, true, false, List, [], ◌∷◌, ◌++◌, Some, None, ◌==◌, ◌||◌, ◌&&◌, not, nat_le, if◌then◌else◌}
 use Rattle.pr_page.specs.Token.{Token, Column, Repeat, Address, Nothing, Plain}
 use Rattle.pr_page.specs.Acts.{Act, End, Move, Print, acts_in}
-use Rattle.pr_page.specs.Lines.{pitch_of}
+use Rattle.pr_page.specs.Lines.{line_dots, pitch_of}
 use Rattle.pr_page.specs.declared.input.Input.{Input}
 use Rattle.pr_page.specs.declared.input.Input.TheVariants.{Select, Byte}
 use Rattle.pr_page.specs.Linked.{modes_of}
@@ -75,7 +75,7 @@ ended s graphic marks position = record {
 -- a mark at the position, or in the next line if it does not fit
 abbrev pub printed : Sheet → Bool → Mark → ℕ → Sheet
 printed s graphic mark width =
-    if nat_le (s.position + width) 480
+    if nat_le (s.position + width) line_dots
     then record s {
       position = s.position + width;
       paper = record { rows = s.paper.rows; held = s.paper.held ++ record { x = s.position; mark = mark } ∷ [] };
@@ -128,11 +128,11 @@ start = record {
 
 -- the position is within the line, and at most one line has ended
 abbrev pub GoesOn : Sheet → Sheet → Type 0
-GoesOn old new = (new.position ≤ 480) × (new.y ≤ old.y + 21)
+GoesOn old new = (new.position ≤ line_dots) × (new.y ≤ old.y + 21)
 
 -- the numbers that are kept stay small
 abbrev pub IsInRange : State → Type 0
-IsInRange s = (s.sheet.position ≤ 480) × (s.sheet.y ≤ 21 * s.taken) × (s.taken ≤ 2 ^ 32)
+IsInRange s = (s.sheet.position ≤ line_dots) × (s.sheet.y ≤ 21 * s.taken) × (s.taken ≤ 2 ^ 32)
 
 -- so many equal columns of dots, side by side from x on
 abbrev pub columns_from : ℕ → ℕ → ℕ → List Placed

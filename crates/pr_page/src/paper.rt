@@ -1,6 +1,6 @@
 //! Marks, rows and the paper.
 
-ghost use Rattle.std.specs.Prelude.{◌≡◌, ◌↔◌, [], ◌∷◌, ◌++◌, ◌≤◌, length, take, IsTrue, OnOk, OnErr, IfErr, IfOk};
+ghost use Rattle.std.specs.Prelude.{◌≡◌, ◌↔◌, [], ◌∷◌, ◌++◌, length, take, IsTrue, OnOk, OnErr, IfErr, IfOk};
 
 use std::alloc::{AllocError, AllocFailed, Global};
 use std::marker::Model;

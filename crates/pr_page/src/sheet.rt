@@ -4,7 +4,7 @@ ghost use Rattle.std.specs.Prelude.{◌≡◌, ◌+◌, ◌-◌, ◌^◌, ◌<�
 ghost use Rattle.pr_page.specs.Token.{Plain};
 ghost use Rattle.pr_page.specs.Acts.{Print, acts_in, is_cell, moves_to_column, moves_to_dot};
 ghost use Rattle.pr_page.specs.Steps.{ended, printed, columns_from, sheet_after_all, GoesOn};
-ghost use Rattle.pr_page.specs.Lines.{pitch_of};
+ghost use Rattle.pr_page.specs.Lines.{line_dots, pitch_of};
 ghost use Rattle.pr_page.specs.Linked.{modes_of};
 
 use crate::codes::{CARRIAGE_RETURN, LINE_FEED};
@@ -13,8 +13,8 @@ use crate::settings::Settings;
 use std::alloc::{AllocError, Global};
 use std::mem;
 
-/// The dot columns of a line.
-const LINE_DOTS: u16 = 480;
+/// The dot columns of a line (VIC-1525 User's Manual: 480 dots a line, 80 characters of 6).
+pub const LINE_DOTS: u16 = 480;
 
 /// The character columns of a line.
 const LINE_COLUMNS: u16 = 80;
@@ -45,7 +45,7 @@ fn push_columns(
     dots: u8,
     count: u16,
 ) -> Result<(), AllocError>
-    requires { x + count ≤ 480 }
+    requires { x + count ≤ line_dots }
     ensures ok { OnOk result (marks.new ≡ marks.old ++ columns_from x dots count) }
     ensures err { OnErr result (marks.new ≡ marks.old) }
 {
@@ -137,8 +137,8 @@ impl Sheet {
         width: u16,
     ) -> Result<(), AllocError>
         requires y { self.old.y < 2 ^ 60 }
-        requires position { self.old.position ≤ 480 }
-        requires width { width ≤ 480 }
+        requires position { self.old.position ≤ line_dots }
+        requires width { width ≤ line_dots }
         ensures ok { OnOk result (self.new ≡ printed self.old graphic mark width) }
         ensures range { OnOk result (GoesOn self.old self.new) }
         ensures err { OnErr result (self.new ≡ self.old) }
@@ -159,7 +159,7 @@ impl Sheet {
     #[inline(never)]
     pub fn print_columns(&mut self, alloc: Global, dots: u8, count: u8) -> Result<(), AllocError>
         requires y { self.old.y < 2 ^ 60 }
-        requires position { self.old.position ≤ 480 }
+        requires position { self.old.position ≤ line_dots }
         ensures ok { OnOk result (self.new ≡ sheet_after_all self.old (replicate count (Print true (Mark.Dots dots) 1))) }
         ensures range { OnOk result (GoesOn self.old self.new) }
         ensures err { OnErr result (self.new ≡ self.old) }
@@ -195,7 +195,7 @@ impl Sheet {
         b: u8,
     ) -> Result<(), AllocError>
         requires y { self.old.y < 2 ^ 60 }
-        requires position { self.old.position ≤ 480 }
+        requires position { self.old.position ≤ line_dots }
         ensures ok { OnOk result (self.new ≡ sheet_after_all self.old (acts_in (modes_of settings) (Plain lower b))) }
         ensures range { OnOk result (GoesOn self.old self.new) }
         ensures err { OnErr result (self.new ≡ self.old) }
@@ -229,7 +229,7 @@ impl Sheet {
     /// What two bytes after a column code do.
     #[inline(always)]
     pub fn move_to_column(&mut self, tens: u8, ones: u8)
-        requires position { self.old.position ≤ 480 }
+        requires position { self.old.position ≤ line_dots }
         ensures moved { self.new ≡ sheet_after_all self.old (moves_to_column tens ones) }
         ensures range { GoesOn self.old self.new }
     {
@@ -244,7 +244,7 @@ impl Sheet {
     /// What two bytes of a dot address do.
     #[inline(always)]
     pub fn move_to_dot(&mut self, high: u8, low: u8)
-        requires position { self.old.position ≤ 480 }
+        requires position { self.old.position ≤ line_dots }
         ensures moved { self.new ≡ sheet_after_all self.old (moves_to_dot high low) }
         ensures range { GoesOn self.old self.new }
     {

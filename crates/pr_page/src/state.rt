@@ -2,6 +2,7 @@
 
 ghost use Rattle.std.specs.Prelude.{◌≡◌, ◌^◌, ◌<◌, ◌≤◌, [], ◌∷◌, Bool, OnOk, OnErr, IsOk, IsTrue};
 ghost use Rattle.pr_page.specs.Token.{Plain};
+ghost use Rattle.pr_page.specs.Lines.{line_dots};
 ghost use Rattle.pr_page.specs.declared.settings.Settings.{Settings};
 ghost use Rattle.pr_page.specs.Steps.{settings_after, begun_by, completed_by, tokens_by, state_after_tokens, step, start, GoesOn, IsInRange};
 
@@ -65,7 +66,7 @@ impl State {
     #[inline(always)]
     fn take_unclaimed(&mut self, alloc: Global, b: u8) -> Result<(), AllocError>
         requires y { self.old.sheet.y < 2 ^ 60 }
-        requires position { self.old.sheet.position ≤ 480 }
+        requires position { self.old.sheet.position ≤ line_dots }
         ensures ok { OnOk result (self.new ≡ state_after_tokens self.old (completed_by self.old.lower b)) }
         ensures range { OnOk result (GoesOn self.old.sheet self.new.sheet) }
         ensures err { OnErr result (self.new ≡ self.old) }
@@ -82,7 +83,7 @@ impl State {
     #[inline(never)]
     fn take_tokens(&mut self, alloc: Global, b: u8) -> Result<(), AllocError>
         requires y { self.old.sheet.y < 2 ^ 60 }
-        requires position { self.old.sheet.position ≤ 480 }
+        requires position { self.old.sheet.position ≤ line_dots }
         ensures ok { OnOk result (self.new ≡ state_after_tokens self.old (tokens_by self.old.pending self.old.lower b)) }
         ensures range { OnOk result (GoesOn self.old.sheet self.new.sheet) }
         ensures err { OnErr result (self.new ≡ self.old) }

@@ -144,7 +144,7 @@ absent_31 true false = refl
 absent_31 false true = refl
 absent_31 false false = refl
 
--- the device whose LISTEN would be UNLISTEN isn't there
+-- the device whose LISTEN would be UNLISTEN is not there
 present_low : (present : Present) (device : ℕ) → is_present present device ≡ true → device ≢ 31
 present_low present device there is =
     let clash : false ≡ true = sym (absent_31 present.four present.five) ∙ ap (is_present present) (sym is) ∙ there in

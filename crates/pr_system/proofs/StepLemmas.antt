@@ -136,7 +136,7 @@ prints_gives present found before files number line file p =
     ap (λ f. unlistening (commanding present found before (standing files) number line f)) p.is
     ∙ ap (λ b. unlistening (cond b (stopping DeviceNotPresent (listen_to file ∷ []) (standing files)) (record { elements = listen_to file ∷ map Byte (printed_bytes line number); screen = []; stop = None; after = record { files = files; channel = number; output = file.device } }))) test
 
--- a statement that isn't left out: the second run performs it too
+-- a statement that is not left out: the second run performs it too
 pub step_both : Laws → (present : Present) (left_out n m : ℕ) (files : Files) (one two : List Element) (statement : Statement)
     → IsTable files → Apart present left_out one two → ((n == 128) ≡ false → (m == 128) ≡ false) → IsAddressed statement
     → (effect_of present n one (standing files) statement).stop ≡ None → is_left_out left_out files statement ≡ false

@@ -1,14 +1,13 @@
 //! Statements without one device.
 
 ghost use Rattle.std.specs.Prelude.{◌≡◌, ◌≤◌, length, IfOk};
-ghost use Rattle.std.specs.Option.{ForSome};
 ghost use Rattle.pr_channels.specs.Files.{file_at};
 ghost use Rattle.pr_system.specs.Without.{files_after, is_on, is_left_out, without, IsSpared, AreAddressed, GoesOn};
 ghost use Rattle.pr_basic.specs.declared.session.StatusMode.{StatusMode};
 ghost use Rattle.pr_serial.specs.declared.Present.{Present};
 
 use crate::laws::printers_are_isolated;
-use pr_basic::{Second, Statement};
+use pr_basic::{Statement, number_of_second};
 use pr_channels::FileTable;
 use pr_serial::NoMemory;
 use std::alloc::Global;
@@ -36,17 +35,6 @@ fn goes_with(files: &FileTable, statement: &Statement, device: u8) -> bool
     }
 }
 
-/// The number of a secondary address, if there is one.
-fn number_of(second: Option<Second>) -> Option<u8>
-    ensures same { result ≡ second }
-    ensures in_range { ForSome result (λ s. s ≤ 15) }
-{
-    match second {
-        Some(second) => Some(second.get()),
-        None => None,
-    }
-}
-
 /// Keeps the table in step with a statement. An OPEN that the table refuses opens nothing.
 fn follow(files: &mut FileTable, statement: &Statement)
     ensures { files.new ≡ files_after files.old statement.now }
@@ -57,7 +45,7 @@ fn follow(files: &mut FileTable, statement: &Statement)
             device,
             second,
         } => {
-            let second = number_of(*second);
+            let second = number_of_second(*second);
             let _refused = files.open(*file, device.get(), second);
         }
         Statement::CloseFile { file } => files.close(*file),

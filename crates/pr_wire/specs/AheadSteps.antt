@@ -12,6 +12,10 @@ use Rattle.pr_wire.specs.Reached.{reached, one_more}
 use Rattle.pr_wire.specs.Ahead.{behind, last_of, PassesFrame, EndsNoneSooner}
 use Rattle.pr_wire.specs.Table.{atn_of}
 
+-- the edges of a frame whose end-or-identify is answered, the most that a frame has
+abbrev pub answered_edges : ℕ
+answered_edges = 22
+
 -- a bit is taken, and CLOCK pulled again
 pub record IsClocked (pull up down : Edge) : Type 0 where
   pub up_atn : up.levels.atn ≡ pull.levels.atn

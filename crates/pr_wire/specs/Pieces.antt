@@ -115,7 +115,7 @@ IsAnswered (Held k) a (Some d) look = ⊥
 IsAnswered _ a None look = ⊥
 IsAnswered _ a (Some d) look = IsWithin d (a + 1) (a + 1000) × IsWithin look (a + 1000) (a + 2000)
 
--- DATA isn't pulled between the pieces
+-- DATA is not pulled between the pieces
 abbrev pub IsReleased : Between → Type 0
 IsReleased (Held k) = ⊥
 IsReleased _ = Unit {0}

@@ -92,7 +92,7 @@ row (Freed r false true) t true true true = within (r + 100) (r + 1000) (Idle t)
 row (Freed r false true) t false false true = within (r + 100) (r + 1000) (Call t false)
 row (Freed r unlisten line) t _ _ _ = None
 
--- a trace may end in Idle, after an attention whose last command wasn't UNLISTEN, and after a data byte
+-- a trace may end in Idle, after an attention whose last command was not UNLISTEN, and after a data byte
 abbrev pub may_end : Place → Bool
 may_end (Idle i) = true
 may_end (Ack k Data byte) = true

@@ -2,6 +2,7 @@
 
 ghost use Rattle.std.specs.Prelude.{◌≡◌, ◌+◌, ◌≤◌, List, ℕ, true, length};
 ghost use Rattle.pr_wire.specs.FirstLines.{AreFirstLines};
+ghost use Rattle.pr_wire.specs.AheadSteps.{answered_edges};
 
 use crate::ahead::ANSWERED_EDGES;
 use crate::front::{Front, read_next};
@@ -41,7 +42,7 @@ impl FirstLines {
     /// Reads on until there are `count` lines, and tells whether there are: each spells an edge and
     /// ends with byte 10 alone.
     pub fn read_to(&mut self, text: &[u8], count: usize) -> bool
-        requires few { count ≤ 22 }
+        requires few { count ≤ answered_edges }
         requires more { self.old.count ≤ count }
         requires within { self.old.len ≤ length text.now }
         requires bytes { self.old.count ≤ self.old.len }

@@ -1,6 +1,6 @@
 //! A line of a trace text that comes byte by byte.
 
-ghost use Rattle.std.specs.Prelude.{◌≡◌, ◌<◌, ◌≤◌};
+ghost use Rattle.std.specs.Prelude.{◌≡◌, ◌<◌};
 ghost use Rattle.pr_wire.specs.LineParts.{edge_of_part, is_nothing, level_after, part_after, time_after};
 
 use crate::line::{is_digit, read_level};
@@ -18,7 +18,7 @@ pub enum LinePart {
     /// ATN's level too.
     Atn(u64, bool),
     /// CLOCK's level too.
-    Clock(u64, bool, bool),
+    Clock { time: u64, atn: bool, clock: bool },
     /// DATA's level too: a whole edge.
     Whole(Edge),
     /// An edge, and a byte 13.
@@ -67,7 +67,7 @@ impl LinePart {
                 }
             }
             LinePart::Returned(_) | LinePart::Bad => LinePart::Bad,
-            LinePart::Space(_) | LinePart::Atn(_, _) | LinePart::Clock(_, _, _) => {
+            LinePart::Space(_) | LinePart::Atn(_, _) | LinePart::Clock { .. } => {
                 match read_level(byte) {
                     Some(level) => self.with_level(level),
                     None => LinePart::Bad,
@@ -83,8 +83,12 @@ impl LinePart {
     {
         match self {
             LinePart::Space(time) => LinePart::Atn(time, level),
-            LinePart::Atn(time, atn) => LinePart::Clock(time, atn, level),
-            LinePart::Clock(time, atn, clock) => {
+            LinePart::Atn(time, atn) => LinePart::Clock {
+                time,
+                atn,
+                clock: level,
+            },
+            LinePart::Clock { time, atn, clock } => {
                 let levels = Levels {
                     atn,
                     clock,

@@ -1,7 +1,5 @@
 //! A run as long as the environment asks for, which `make bench` measures.
 
-ghost use Rattle.std.specs.Prelude.{◌≡◌, ◌≤◌};
-
 use super::*;
 use std::env::FillError;
 use std::rt::Env;

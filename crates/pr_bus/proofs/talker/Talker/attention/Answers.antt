@@ -4,10 +4,10 @@ use Rattle.pr_wire.specs.Choices.{left}
 use Rattle.pr_wire.specs.declared.delay.Choices.{Choices}
 use Rattle.pr_wire.specs.declared.delay.Kind.TheVariants.{Bb, Aw}
 use Rattle.pr_wire.specs.Delays.{delay_at}
-use Rattle.pr_wire.specs.Pieces.{FrameTimes, answer_edges, ending_edges}
+use Rattle.pr_wire.specs.Pieces.{FrameTimes, answer_edges, ending_edges, last_ack}
 use Rattle.pr_bus.specs.declared.talker.Talker.{Talker}
 use Rattle.pr_bus.specs.Timed as all
-use Rattle.pr_bus.specs.Timed.{taking, answer_at, due_edges, second_frame, final_ack}
+use Rattle.pr_bus.specs.Timed.{taking, answer_at, due_edges, second_frame}
 use Rattle.pr_bus.specs.Talk.{IsTuned, printers_of, command_frame, second_of, ending_of}
 use Rattle.pr_bus.specs.Talking.{lines_of}
 use Rattle.pr_bus.proofs.FrameLemmas.{delay-drop, drop-twice}
@@ -46,7 +46,7 @@ more-is : (c : goal.In_ok-release) → second_of c.command.new.self c.in_ok-ack.
 more-is c = ap (λ n. second_of c.command.new.self n c.args.second) (ack-is c) ∙ second-is c.args.self.now c.command.new.self (first_of c.args.self.now c.args.first).ack c.args.second (command-computer c) (command-printers c)
 
 last-is : (c : goal.In_ok-release) → c.in_ok-ack-2.ack ≡ last_of c.args.self.now c.args.first c.args.second
-last-is c = c.in_ok-ack-2.ensures.ack ∙ final-is c.in_ok-ack.ack (first_of c.args.self.now c.args.first) (second_of c.command.new.self c.in_ok-ack.ack c.args.second) (ack-is c) ∙ ap (λ m. final_ack (first_of c.args.self.now c.args.first) m) (more-is c)
+last-is c = c.in_ok-ack-2.ensures.ack ∙ final-is c.in_ok-ack.ack (first_of c.args.self.now c.args.first) (second_of c.command.new.self c.in_ok-ack.ack c.args.second) (ack-is c) ∙ ap (λ m. last_ack (first_of c.args.self.now c.args.first).ack m) (more-is c)
 
 here : (c : goal.In_ok-release) (before : List Item) → IsTuned before c.args.self.now → IsCommanded before c.args.self.now c.tune-2.new.self c.args.first c.args.second
 here c before i =
