@@ -14,7 +14,7 @@ use Rattle.pr_bus.specs.Timed.{trace_from}
 use Rattle.pr_bus.specs.Talk.{state_of, IsTuned}
 use Rattle.pr_bus.specs.Laws.{AreItems}
 
--- the delay numbers that weren't taken before the first item
+-- the delay numbers that were not taken before the first item
 abbrev pub numbers_of : Begun → Talker → DelayNumbers
 numbers_of b t = record {
   computer = drop b.computer t.computer.numbers;
