@@ -36,11 +36,9 @@ status_of present found before all = if is_lacking present (length (items_of bef
 
 -- a stop: after what was put on the bus comes UNLISTEN, where the output device is on the bus
 abbrev pub stopping : Stop → List Element → Setting → Effect
-stopping stop es at = record {
-  elements = es ++ (if nat_lt 3 at.output then unlisten ∷ [] else []);
-  screen = []; stop = Some stop;
-  after = record { files = at.files; channel = 0; output = 3 };
-}
+stopping stop es at =
+    let reset : Setting = record { files = at.files; channel = 0; output = 3 } in
+    record { elements = es ++ (if nat_lt 3 at.output then unlisten ∷ [] else []); screen = []; stop = Some stop; after = reset }
 
 -- CMD: LISTEN to the file's device and then the line, unless the status is 128 after the LISTEN
 abbrev pub commanding : Present → ℕ → List Element → Setting → ℕ → Text → Option File → Effect
@@ -50,7 +48,8 @@ commanding present found before at number line (Some file) =
     then stopping DeviceNotPresent (listen_to file ∷ []) at
     else record {
       elements = listen_to file ∷ map Byte (printed_bytes line number);
-      screen = []; stop = None;
+      screen = [];
+      stop = None;
       after = record { files = at.files; channel = number; output = file.device };
     }
 

@@ -58,7 +58,7 @@ HoldsMore bytes old new = (s : Signals) (text : List ℕ) (samples : List Edge) 
 abbrev pub ReadsMore : (bytes : List ℕ) → Option Edge → (old new : CsvReader) → Type 0
 ReadsMore bytes sample old new =
     (s : Signals) (text : List ℕ) (samples : List Edge) → HasRead s text samples old
-        → HasRead s (text ++ bytes) (samples ++ listed sample) new
+    → HasRead s (text ++ bytes) (samples ++ listed sample) new
 
 -- a fault is that of every text that goes on so
 abbrev pub FaultsIn : (bytes : List ℕ) → (old : CsvReader) → CaptureFault → Type 0
@@ -74,7 +74,7 @@ Refuses bytes old f = (f ≡ NoMemory) ⊎ FaultsIn bytes old f
 abbrev pub EndsText : CsvReader → Result (Option Edge) CaptureFault → Type 0
 EndsText r (Ok sample) =
     (s : Signals) (text : List ℕ) (samples : List Edge) → HasRead s text samples r
-        → csv_told s text ≡ told_behind (samples ++ listed sample) ended
+    → csv_told s text ≡ told_behind (samples ++ listed sample) ended
 EndsText r (Err f) =
     (s : Signals) (text : List ℕ) (samples : List Edge) → HasRead s text samples r → csv_told s text ≡ told_behind samples (refused f)
 
@@ -82,10 +82,10 @@ EndsText r (Err f) =
 abbrev pub AnswersEnd : CsvReader → (last : Option Edge) → Result (Option Edge) CaptureFault → Type 0
 AnswersEnd r last (Ok sample) =
     (sample ≡ last) × ((s : Signals) (text : List ℕ) (samples : List Edge) → HasRead s text samples r
-        → csv_told s text ≡ told_behind samples ended)
+    → csv_told s text ≡ told_behind samples ended)
 AnswersEnd r last (Err f) =
     (last ≡ None) × ((s : Signals) (text : List ℕ) (samples : List Edge) → HasRead s text samples r
-        → csv_told s text ≡ told_behind samples (refused f))
+    → csv_told s text ≡ told_behind samples (refused f))
 
 -- what follows a number, if there is one
 abbrev pub onward : Option ℕ → (ℕ → Option ℕ) → Option ℕ

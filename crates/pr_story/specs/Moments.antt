@@ -36,7 +36,7 @@ abbrev pub timed_from : (look : ℕ) → (last : Edge) → Place → List Edge �
 timed_from look last p [] = []
 timed_from look last p (e ∷ es) =
     if_allowed (verdict last p e) (λ step. option_to_list (with_moments look step.frame step.place)
-        ++ timed_from (look_with look step.place) e step.place es)
+    ++ timed_from (look_with look step.place) e step.place es)
 
 -- the frames that edges end, as long as they are allowed
 unfoldable pub timed_frames : List Edge → List TimedFrame
