@@ -6,3 +6,6 @@ pub mod Gathering
 pub mod Recording
 pub mod Csv
 pub mod CsvSteps
+pub mod Words
+pub mod VcdPieces
+pub mod VcdReading

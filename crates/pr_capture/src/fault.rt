@@ -23,6 +23,24 @@ pub enum CaptureFault {
     /// No signal has the wire's name.
     #[error("line {0}: no signal {1}")]
     NoSignal(usize, Wire),
+    /// A word that can not stand here.
+    #[error("line {0}: bad word")]
+    BadWord(usize),
+    /// A section that the text does not end.
+    #[error("line {0}: no $end")]
+    NoEnd(usize),
+    /// The text ends before `$enddefinitions`.
+    #[error("line {0}: no $enddefinitions")]
+    NoDefinitions(usize),
+    /// No `$timescale`, or none that is 1, 10 or 100 units from fs to s.
+    #[error("line {0}: no timescale")]
+    NoTimescale(usize),
+    /// The wire's signal has not one bit.
+    #[error("line {0}: {1} has not one bit")]
+    NotOneBit(usize, Wire),
+    /// A time of 2^64 or more, in microseconds or in the dump's own unit.
+    #[error("line {0}: time too great")]
+    TooLate(usize),
     /// A time that is no number of seconds, or not below 2^64 microseconds.
     #[error("line {0}: bad time")]
     BadTime(usize),
