@@ -4,7 +4,8 @@ use Rattle.std.specs.Prelude.{nat_le, nat_lt}
 use Rattle.std.specs.List.{list_all, prefix_len}
 use Rattle.std.proofs.lemmas.Grind.{common_steps}
 use Rattle.pr_basic.specs.Lexemes.{Lexeme, Word, Digits, Quoted, Semicolon, OpenParen, CloseParen}
-use Rattle.pr_basic.specs.Grammar.{Item, Semi, Quote, Code, AreItems, IsItem, is_printable, item_bytes, item_lexemes, items_bytes, items_lexemes, number_of}
+use Rattle.pr_basic.specs.Grammar.{Item, Semi, Quote, Code, AreItems, IsItem, is_printable, item_bytes, item_lexemes, items_bytes, items_lexemes}
+use Rattle.pr_text.specs.Digits.{number_of}
 use Rattle.pr_basic.specs.Faults.{IsItemFault, IsListFault, Lacks, begins_item}
 use Rattle.pr_basic.specs.Reading.{byte_added, line_in, string_added, ◌>>=◌}
 use Rattle.pr_basic.specs.declared.lexemes.Keyword.TheVariants as word

@@ -2,7 +2,8 @@
 use Rattle.std.proofs.Common.{◌≡◌, ℕ, ◌+◌, ◌-◌, ◌<◌, ◌≤◌, List, [], ◌∷◌, ◌++◌, length, refl, ap, sym, ◌∙◌, arith, Bool, true, false, append_assoc, append-nil, Option, Some, None, Result, Ok, Err, Bor, length-append, MatchOption, ◌⊎◌, inl, inr, ◌≢◌}
 use Rattle.std.proofs.lemmas.Grind.{common_steps}
 use Rattle.pr_basic.specs.Faults.{at_number}
-use Rattle.pr_basic.specs.Grammar.{lines_of, onto_first, parts}
+use Rattle.pr_basic.specs.Grammar.{parts}
+use Rattle.pr_text.specs.Lines.{lines_of, onto_first}
 use Rattle.pr_basic.specs.Lexemes.{Colon, Lexeme, Remark, Word}
 use Rattle.pr_basic.specs.Lexing.{after_part, later, lexemes_of, part_of}
 use Rattle.pr_basic.specs.Limits.{statement_limit}

@@ -5,7 +5,9 @@ use Rattle.std.proofs.lemmas.Grind.{common_steps}
 use Rattle.pr_basic.specs.Limits.{statement_limit}
 use Rattle.pr_basic.specs.Lexemes.{Digits, Lexeme}
 use Rattle.pr_basic.specs.Lexing.{lexemes_of}
-use Rattle.pr_basic.specs.Grammar.{AreLines, AreParts, HasNumber, IsLine, IsScript, lines_of, number_of, parts, without_return}
+use Rattle.pr_basic.specs.Grammar.{AreLines, AreParts, HasNumber, IsLine, IsScript, parts, without_return}
+use Rattle.pr_text.specs.Digits.{number_of}
+use Rattle.pr_text.specs.Lines.{lines_of}
 use Rattle.pr_basic.specs.Reading.{statement_in, ◌>>=◌}
 use Rattle.pr_basic.specs.ReadingScripts.{and_more, at_line, counted, is_begun, line_statements, lines_statements, numbered, room_after, script_of, statements_in, then_more}
 use Rattle.pr_basic.specs.declared.fault.LineFault.{LineFault}

@@ -1,6 +1,8 @@
 -- Trusted: the grammar of scripts: which bytes are a script of which statements. It says nothing of faults, and nothing of how a script is read.
-use Rattle.std.specs.Prelude.{◌≡◌, ℕ, ◌+◌, ◌-◌, ◌*◌, ◌≤◌, ◌<◌, ◌⊎◌, ◌&&◌, ◌==◌, Bool, true, false, List, [], ◌∷◌, ◌++◌, length, Some, None, nat_le, if◌then◌else◌}
+use Rattle.std.specs.Prelude.{◌≡◌, ℕ, ◌+◌, ◌≤◌, ◌<◌, ◌⊎◌, ◌&&◌, ◌==◌, Bool, true, false, List, [], ◌∷◌, ◌++◌, length, Some, None, nat_le, if◌then◌else◌}
 use Rattle.std.specs.List.{list_all}
+use Rattle.pr_text.specs.Digits.{number_of}
+use Rattle.pr_text.specs.Lines.{lines_of, onto_first}
 use Rattle.pr_basic.specs.Limits.{statement_limit}
 use Rattle.pr_basic.specs.ListLimit.{byte_limit}
 use Rattle.pr_basic.specs.Text.{Text}
@@ -9,15 +11,6 @@ use Rattle.pr_basic.specs.declared.lexemes.Keyword.{Keyword}
 use Rattle.pr_basic.specs.declared.lexemes.Keyword.TheVariants as word
 use Rattle.pr_basic.specs.declared.statement.Statement.{Statement}
 use Rattle.pr_basic.specs.declared.statement.Statement.TheVariants.{OpenFile, CloseFile, Cmd, PrintTo, Print, Rem}
-
--- the number that digits spell, after digits that spell n
-abbrev pub number_after : ℕ → List ℕ → ℕ
-number_after n [] = n
-number_after n (d ∷ ds) = number_after (10 * n + (d - 48)) ds
-
--- the number that digits spell
-abbrev pub number_of : List ℕ → ℕ
-number_of ds = number_after 0 ds
 
 -- digits spell this number, which is within bounds
 abbrev pub IsNumber : ℕ → ℕ → ℕ → List ℕ → Type 0
@@ -108,11 +101,6 @@ AreParts [] ss = ss ≡ []
 AreParts (p ∷ ps) ss = ((p ≡ []) × AreParts ps ss)
     ⊎ ((s : Statement) × (more : List Statement) × IsStatement s p × (ss ≡ s ∷ more) × AreParts ps more)
 
--- an element put in front of the first list
-abbrev pub onto_first : {A : Type 0} → A → List (List A) → List (List A)
-onto_first x [] = (x ∷ []) ∷ []
-onto_first x (xs ∷ more) = (x ∷ xs) ∷ more
-
 -- the parts of a line between its colons
 unfoldable pub parts : List Lexeme → List (List Lexeme)
 parts [] = []
@@ -128,11 +116,6 @@ HasNumber lexemes rest = ((lexemes ≡ rest) × ((ds : List ℕ) (more : List Le
 abbrev pub IsLine : List ℕ → List Statement → Type 0
 IsLine line ss = (lexemes : List Lexeme) × (rest : List Lexeme)
     × AreLexemes line lexemes × HasNumber lexemes rest × AreParts (parts rest) ss
-
--- the lines of a text: each ends with byte 10, the last with the text; a text that ends with byte 10 has no further line
-unfoldable pub lines_of : List ℕ → List (List ℕ)
-lines_of [] = []
-lines_of (b ∷ bs) = if b == 10 then [] ∷ lines_of bs else onto_first b (lines_of bs)
 
 -- a line without the byte 13 that stands last in it, which belongs to the line's end
 abbrev pub without_return : List ℕ → List ℕ

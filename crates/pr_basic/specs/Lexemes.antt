@@ -1,7 +1,8 @@
 -- Trusted: the lexemes of a line, and how the line's bytes spell them.
-use Rattle.std.specs.Prelude.{◌≡◌, ℕ, ◌<◌, ◌⊎◌, ◌&&◌, ◌||◌, ◌==◌, not, Bool, true, false, List, [], ◌∷◌, ◌++◌, length, map, codes, nat_le}
+use Rattle.std.specs.Prelude.{◌≡◌, ℕ, ◌<◌, ◌⊎◌, ◌||◌, ◌==◌, not, Bool, true, false, List, [], ◌∷◌, ◌++◌, length, map, codes}
 use Rattle.std.specs.List.{list_all}
 use Rattle.std.specs.Char.{to_ascii_lowercase}
+use Rattle.pr_text.specs.Digits.{is_digit}
 use Rattle.pr_basic.specs.declared.lexemes.Keyword.{Keyword}
 use Rattle.pr_basic.specs.declared.lexemes.Keyword.TheVariants.{Open, Close, Cmd, PrintTo, Print, Chr}
 
@@ -21,10 +22,6 @@ pub data Lexeme : Type 0 where
 -- byte 32 or 9
 abbrev pub is_space : ℕ → Bool
 is_space b = (b == 32) || (b == 9)
-
--- bytes 48 to 57
-abbrev pub is_digit : ℕ → Bool
-is_digit b = nat_le 48 b && nat_le b 57
 
 -- any byte but 34
 abbrev pub is_no_quote : ℕ → Bool

@@ -3,7 +3,9 @@ use Rattle.std.specs.Prelude.{ℕ, ◌+◌, ◌-◌, ◌==◌, List, [], ◌∷�
 use Rattle.pr_basic.specs.Limits.{statement_limit}
 use Rattle.pr_basic.specs.Lexemes.{Lexeme, Digits}
 use Rattle.pr_basic.specs.Lexing.{lexemes_of}
-use Rattle.pr_basic.specs.Grammar.{lines_of, number_of, parts, without_return}
+use Rattle.pr_basic.specs.Grammar.{parts, without_return}
+use Rattle.pr_text.specs.Digits.{number_of}
+use Rattle.pr_text.specs.Lines.{lines_of}
 use Rattle.pr_basic.specs.Faults.{begins_statement}
 use Rattle.pr_basic.specs.Reading.{statement_in, ◌>>=◌}
 use Rattle.pr_basic.specs.declared.fault.LineFault.{LineFault}

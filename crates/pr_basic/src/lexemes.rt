@@ -2,10 +2,13 @@
 
 ghost use Rattle.std.specs.Prelude.{◌≡◌, ◌∷◌, [], ◌<◌, ◌≤◌, ◌+◌, length, map, MatchOption, IsTrue};
 ghost use Rattle.std.specs.List.{prefix_len};
-ghost use Rattle.pr_basic.specs.Lexemes.{is_digit, is_no_quote, is_space};
+ghost use Rattle.pr_basic.specs.Lexemes.{is_no_quote, is_space};
+ghost use Rattle.pr_text.specs.Digits.{is_digit};
 ghost use Rattle.pr_basic.specs.Lexing.{begins, first_isnt_space, front, here, later, lexemes_of, text_front, word_front};
 ghost use Rattle.std.specs.Char.{to_ascii_lowercase};
 ghost use Rattle.pr_basic.specs.Seen.{seen};
+
+use pr_text::{digit_count, is_digit};
 
 /// A word of the language.
 #[derive(Clone, Copy, Debug, PartialEq, Eq)]
@@ -33,31 +36,11 @@ pub enum Lexeme<'a> {
     Stray,
 }
 
-/// A digit.
-fn is_digit(b: u8) -> bool
-    ensures { result ≡ is_digit b }
-{
-    b >= b'0' && b <= b'9'
-}
-
 /// A space or a tab.
 fn is_space(b: u8) -> bool
     ensures { result ≡ is_space b }
 {
     b == b' ' || b == b'\t'
-}
-
-/// How many digits stand in front.
-fn digit_count(bytes: &[u8]) -> usize
-    ensures count { result ≡ prefix_len is_digit bytes.now }
-    ensures within { result ≤ length bytes.now }
-{
-    for (i, b) in bytes.iter().enumerate() {
-        if !is_digit(*b) {
-            return i;
-        }
-    }
-    bytes.len()
 }
 
 /// How many bytes stand before a quote.

@@ -2,7 +2,8 @@
 
 ghost use Rattle.std.specs.Prelude.{◌≡◌, ℕ, List, ◌∷◌, ◌++◌, [], ◌-◌, ◌<◌, ◌≤◌, ◌⊎◌, length, Ok, Err, IfErr, IfOk, IfSome, MatchResult, OnOk};
 ghost use Rattle.pr_basic.specs.Limits.{statement_limit};
-ghost use Rattle.pr_basic.specs.Grammar.{IsScript, lines_of, parts, without_return};
+ghost use Rattle.pr_basic.specs.Grammar.{IsScript, parts, without_return};
+ghost use Rattle.pr_text.specs.Lines.{lines_of};
 ghost use Rattle.pr_basic.specs.Faults.{IsFirstFault};
 ghost use Rattle.pr_basic.specs.Lexing.{here, later, lexemes_of};
 ghost use Rattle.pr_basic.specs.ReadingScripts.{and_more, counted, is_begun, line_statements, numbered, statements_in};

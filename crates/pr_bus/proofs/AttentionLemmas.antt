@@ -13,7 +13,7 @@ use Rattle.pr_wire.specs.Levels.{edge_at}
 use Rattle.pr_wire.specs.Delays.{delay_at}
 use Rattle.pr_wire.specs.Choices.{left}
 use Rattle.pr_wire.specs.Pieces.{FrameTimes, SecondFrame, Ending, frame_edges, call_edge, answer_edges, second_edges, ending_edges, last_ack}
-use Rattle.pr_bus.specs.declared.printer.Printer.{Printer}
+use Rattle.pr_bus.specs.declared.printer.TimedPrinter.{TimedPrinter}
 use Rattle.pr_bus.specs.declared.talker.Talker.{Talker}
 use Rattle.pr_bus.specs.Timed as all
 use Rattle.pr_bus.specs.Timed.{Lines, Free, Pulled, Due, BusState, Done, taking, listening, between, frame_times, command_hearers, done, answered, unanswered, answer_at, second_frame, commands_take, printer_takes, item_edges, due_edges, edges_done}
@@ -36,11 +36,11 @@ done-answered before t first second h = by t.four.there t.five.there h
     by false false h = absurd (let j : false ≡ true = h in cc)
 
 -- the lines, by whether somebody listens
-abbrev rests : Lines → Lines → List all.Printer → Lines
+abbrev rests : Lines → Lines → List all.TimedPrinter → Lines
 rests x y ls = elim ls [ [] ↦ x | p ∷ qs ↦ y ]
 
 -- the numbers that printers have taken do not tell who listens
-lines-taking : (before : List Item) (n : ℕ) (ps : List all.Printer) (x y : Lines)
+lines-taking : (before : List Item) (n : ℕ) (ps : List all.TimedPrinter) (x y : Lines)
     → rests x y (listening before (map (taking n) ps)) ≡ rests x y (listening before ps)
 lines-taking before n [] x y = refl
 lines-taking before n (q ∷ qs) x y = by (is_listener q.device before) (lines-taking before n qs x y)
@@ -51,10 +51,10 @@ lines-taking before n (q ∷ qs) x y = by (is_listener q.device before) (lines-t
     by false k = k
 
 -- the lines after an attention, by whether one of the two printers listens
-lines-heeding : (p q : Printer) (x y : Lines) → rests x y (heeding p ++ heeding q) ≡ cond ((p.there && p.listens) || (q.there && q.listens)) y x
+lines-heeding : (p q : TimedPrinter) (x y : Lines) → rests x y (heeding p ++ heeding q) ≡ cond ((p.there && p.listens) || (q.there && q.listens)) y x
 lines-heeding p q x y =
-    ap (λ (l : List all.Printer). rests x y (l ++ heeding q)) (heeding-is p)
-    ∙ ap (λ (l : List all.Printer). rests x y (cond (p.there && p.listens) (one p) [] ++ l)) (heeding-is q)
+    ap (λ (l : List all.TimedPrinter). rests x y (l ++ heeding q)) (heeding-is p)
+    ∙ ap (λ (l : List all.TimedPrinter). rests x y (cond (p.there && p.listens) (one p) [] ++ l)) (heeding-is q)
     ∙ by (p.there && p.listens) (q.there && q.listens)
   where
     by : (u v : Bool) → rests x y (cond u (one p) [] ++ cond v (one q) []) ≡ cond (u || v) y x
@@ -87,10 +87,10 @@ last_of t first second = last_ack (first_of t first).ack (second_frame (first_of
 
 -- DATA's release that is due after the commands
 due-is : (before : List Item) (t v : Talker) (first : ℕ) (second : Option ℕ) (ack : ℕ) → IsCommanded before t v first second
-    → due_at v ack ≡ ack + delay_at R (drop (2 + commands_take second) (left t.computer)) 0 + all.greatest (map (λ (p : all.Printer). delay_at Dr p.numbers (printer_takes second)) (printers_of t))
+    → due_at v ack ≡ ack + delay_at R (drop (2 + commands_take second) (left t.computer)) 0 + all.greatest (map (λ (p : all.TimedPrinter). delay_at Dr p.numbers (printer_takes second)) (printers_of t))
 due-is before t v first second ack i =
-    ap (λ l. ack + delay_at R l 0 + all.greatest (map (λ (p : all.Printer). delay_at Dr p.numbers 0) (printers_of v))) i.computer
-    ∙ ap (λ (l : List all.Printer). ack + delay_at R (drop (2 + commands_take second) (left t.computer)) 0 + all.greatest (map (λ (p : all.Printer). delay_at Dr p.numbers 0) l)) i.printers
+    ap (λ l. ack + delay_at R l 0 + all.greatest (map (λ (p : all.TimedPrinter). delay_at Dr p.numbers 0) (printers_of v))) i.computer
+    ∙ ap (λ (l : List all.TimedPrinter). ack + delay_at R (drop (2 + commands_take second) (left t.computer)) 0 + all.greatest (map (λ (p : all.TimedPrinter). delay_at Dr p.numbers 0) l)) i.printers
     ∙ ap (λ l. ack + delay_at R (drop (2 + commands_take second) (left t.computer)) 0 + all.greatest l) (releases-taking (printer_takes second) (printers_of t))
 
 -- the talker after an attention stands where the wires do, by what each of its parts is
@@ -98,20 +98,20 @@ state-is : (before : List Item) (t v u : Talker) (first : ℕ) (second : Option 
     → u.time ≡ cond (eqb (elim second [ None ↦ first | Some b ↦ b ]) 63) (ack + delay_at R (drop (2 + commands_take second) (left t.computer)) 0 + delay_at Cr (drop (2 + commands_take second) (left t.computer)) 1) (ack + delay_at R (drop (2 + commands_take second) (left t.computer)) 0)
     → lines_of u.lines ≡ cond (eqb (elim second [ None ↦ first | Some b ↦ b ]) 63) Free (rests (Due (due_at v ack)) Pulled (listening (before ++ Attention first second ∷ []) (printers_of t)))
     → left u.computer ≡ drop (cond (eqb (elim second [ None ↦ first | Some b ↦ b ]) 63) 2 1) (drop (2 + commands_take second) (left t.computer))
-    → printers_of u ≡ map (λ (q : all.Printer). cond (is_listener q.device (before ++ Attention first second ∷ [])) q (taking 1 q)) (map (taking (printer_takes second)) (printers_of t))
-    → due_at v ack ≡ ack + delay_at R (drop (2 + commands_take second) (left t.computer)) 0 + all.greatest (map (λ (p : all.Printer). delay_at Dr p.numbers (printer_takes second)) (printers_of t))
+    → printers_of u ≡ map (λ (q : all.TimedPrinter). cond (is_listener q.device (before ++ Attention first second ∷ [])) q (taking 1 q)) (map (taking (printer_takes second)) (printers_of t))
+    → due_at v ack ≡ ack + delay_at R (drop (2 + commands_take second) (left t.computer)) 0 + all.greatest (map (λ (p : all.TimedPrinter). delay_at Dr p.numbers (printer_takes second)) (printers_of t))
     → ack ≡ last_of t first second
     → state_of (before ++ Attention first second ∷ []) u ≡ (answered (state_of before t) first second).wires
 state-is before t v u first second ack kt kl kc kp kd ka =
     let unlisten : Bool = eqb (elim second [ None ↦ first | Some b ↦ b ]) 63 in
     let after : List Item = before ++ Attention first second ∷ [] in
-    let ps : List all.Printer = map (λ (q : all.Printer). cond (is_listener q.device after) q (taking 1 q)) (map (taking (printer_takes second)) (printers_of t)) in
+    let ps : List all.TimedPrinter = map (λ (q : all.TimedPrinter). cond (is_listener q.device after) q (taking 1 q)) (map (taking (printer_takes second)) (printers_of t)) in
     let rest : List ℕ = drop (2 + commands_take second) (left t.computer) in
-    let dr : ℕ = all.greatest (map (λ (p : all.Printer). delay_at Dr p.numbers (printer_takes second)) (printers_of t)) in
+    let dr : ℕ = all.greatest (map (λ (p : all.TimedPrinter). delay_at Dr p.numbers (printer_takes second)) (printers_of t)) in
     ap {B = BusState} (λ (x : ℕ). record { before = after; now = x; lines = lines_of u.lines; computer = left u.computer; printers = printers_of u }) kt
     ∙ ap {B = BusState} (λ (x : Lines). record { before = after; now = cond unlisten (ack + delay_at R rest 0 + delay_at Cr rest 1) (ack + delay_at R rest 0); lines = x; computer = left u.computer; printers = printers_of u }) (kl ∙ ap (λ d. cond unlisten Free (rests (Due d) Pulled (listening after (printers_of t)))) kd)
     ∙ ap {B = BusState} (λ (x : List ℕ). record { before = after; now = cond unlisten (ack + delay_at R rest 0 + delay_at Cr rest 1) (ack + delay_at R rest 0); lines = cond unlisten Free (rests (Due (ack + delay_at R rest 0 + dr)) Pulled (listening after (printers_of t))); computer = x; printers = printers_of u }) kc
-    ∙ ap {B = BusState} (λ (x : List all.Printer). record { before = after; now = cond unlisten (ack + delay_at R rest 0 + delay_at Cr rest 1) (ack + delay_at R rest 0); lines = cond unlisten Free (rests (Due (ack + delay_at R rest 0 + dr)) Pulled (listening after (printers_of t))); computer = drop (cond unlisten 2 1) rest; printers = x }) kp
+    ∙ ap {B = BusState} (λ (x : List all.TimedPrinter). record { before = after; now = cond unlisten (ack + delay_at R rest 0 + delay_at Cr rest 1) (ack + delay_at R rest 0); lines = cond unlisten Free (rests (Due (ack + delay_at R rest 0 + dr)) Pulled (listening after (printers_of t))); computer = drop (cond unlisten 2 1) rest; printers = x }) kp
     ∙ ap {B = BusState} (λ (x : ℕ). record { before = after; now = cond unlisten (x + delay_at R rest 0 + delay_at Cr rest 1) (x + delay_at R rest 0); lines = cond unlisten Free (rests (Due (x + delay_at R rest 0 + dr)) Pulled (listening after (printers_of t))); computer = drop (cond unlisten 2 1) rest; printers = ps }) ka
 
 -- an attention leaves the talker where it leaves the wires
@@ -127,14 +127,14 @@ attention-state before t v u first second ack m h i ka kt kl kc k4 k5 =
     ap (λ b. cond b Free (cond ((v.four.there && v.four.listens) || (v.five.there && v.five.listens)) Pulled (Due (due_at v ack)))) unl
     ∙ ap (λ l. cond (eqb (elim second [ None ↦ first | Some b ↦ b ]) 63) Free l)
     (sym (lines-heeding v.four v.five (Due (due_at v ack)) Pulled)
-    ∙ ap (λ (l : List all.Printer). rests (Due (due_at v ack)) Pulled l) (sym (tuned-listening after v i.tuned))
-    ∙ ap (λ (l : List all.Printer). rests (Due (due_at v ack)) Pulled (listening after l)) i.printers
+    ∙ ap (λ (l : List all.TimedPrinter). rests (Due (due_at v ack)) Pulled l) (sym (tuned-listening after v i.tuned))
+    ∙ ap (λ (l : List all.TimedPrinter). rests (Due (due_at v ack)) Pulled (listening after l)) i.printers
     ∙ lines-taking after (printer_takes second) (printers_of t) (Due (due_at v ack)) Pulled) in
-    let ps : printers_of u ≡ map (λ (q : all.Printer). cond (is_listener q.device after) q (taking 1 q)) (map (taking (printer_takes second)) (printers_of t)) =
-    ap (λ (xs : List all.Printer). xs ++ printer_list u.five) (k4 ∙ map-listening (λ x. x) (taking 1) after v.four 4 i.tuned.four_is i.tuned.four_listens)
-    ∙ ap (λ (xs : List all.Printer). map (λ (q : all.Printer). cond (is_listener q.device after) q (taking 1 q)) (printer_list v.four) ++ xs) (k5 ∙ map-listening (λ x. x) (taking 1) after v.five 5 i.tuned.five_is i.tuned.five_listens)
-    ∙ sym (map-append (λ (q : all.Printer). cond (is_listener q.device after) q (taking 1 q)) (printer_list v.four) (printer_list v.five))
-    ∙ ap (λ (xs : List all.Printer). map (λ (q : all.Printer). cond (is_listener q.device after) q (taking 1 q)) xs) i.printers in
+    let ps : printers_of u ≡ map (λ (q : all.TimedPrinter). cond (is_listener q.device after) q (taking 1 q)) (map (taking (printer_takes second)) (printers_of t)) =
+    ap (λ (xs : List all.TimedPrinter). xs ++ printer_list u.five) (k4 ∙ map-listening (λ x. x) (taking 1) after v.four 4 i.tuned.four_is i.tuned.four_listens)
+    ∙ ap (λ (xs : List all.TimedPrinter). map (λ (q : all.TimedPrinter). cond (is_listener q.device after) q (taking 1 q)) (printer_list v.four) ++ xs) (k5 ∙ map-listening (λ x. x) (taking 1) after v.five 5 i.tuned.five_is i.tuned.five_listens)
+    ∙ sym (map-append (λ (q : all.TimedPrinter). cond (is_listener q.device after) q (taking 1 q)) (printer_list v.four) (printer_list v.five))
+    ∙ ap (λ (xs : List all.TimedPrinter). map (λ (q : all.TimedPrinter). cond (is_listener q.device after) q (taking 1 q)) xs) i.printers in
     let times : end_of v ack (first == 63) ≡ cond (eqb (elim second [ None ↦ first | Some b ↦ b ]) 63) (ack + delay_at R (drop (2 + commands_take second) (left t.computer)) 0 + delay_at Cr (drop (2 + commands_take second) (left t.computer)) 1) (ack + delay_at R (drop (2 + commands_take second) (left t.computer)) 0) =
     ap (λ b. cond b (closed_at v ack) (freed_at v ack)) unl
     ∙ ap (λ l. cond (eqb (elim second [ None ↦ first | Some b ↦ b ]) 63) (ack + delay_at R l 0 + delay_at Cr l 1) (ack + delay_at R l 0)) i.computer in
@@ -164,7 +164,7 @@ attention-edges before t v first second time ack f m due call answer frame more 
     let unl = unlisten-is first second ms in
     let ending : ending_of v ack (first == 63) ≡ record {
       atn = ack + delay_at R (drop (2 + commands_take second) (left t.computer)) 0;
-      line = cond (eqb (elim second [ None ↦ first | Some b ↦ b ]) 63) (Some (ack + delay_at R (drop (2 + commands_take second) (left t.computer)) 0 + all.greatest (map (λ (p : all.Printer). delay_at Dr p.numbers (printer_takes second)) (printers_of t)))) None;
+      line = cond (eqb (elim second [ None ↦ first | Some b ↦ b ]) 63) (Some (ack + delay_at R (drop (2 + commands_take second) (left t.computer)) 0 + all.greatest (map (λ (p : all.TimedPrinter). delay_at Dr p.numbers (printer_takes second)) (printers_of t)))) None;
       clock = cond (eqb (elim second [ None ↦ first | Some b ↦ b ]) 63) (Some (ack + delay_at R (drop (2 + commands_take second) (left t.computer)) 0 + delay_at Cr (drop (2 + commands_take second) (left t.computer)) 1)) None;
     } =
     ap (λ b. ending_of v ack b) unl
@@ -184,7 +184,7 @@ attention-edges before t v first second time ack f m due call answer frame more 
     ∙ ap (λ (d : Done). due_edges (lines_of t.lines) ++ edges_done (lines_of t.lines) d.piece) (sym (done-answered before t first second h)))
 
 -- a printer that stays the same twice stays the same
-pub same-then : {p q r : Printer} → IsSamePrinter p q → IsSamePrinter q r → IsSamePrinter p r
+pub same-then : {p q r : TimedPrinter} → IsSamePrinter p q → IsSamePrinter q r → IsSamePrinter p r
 same-then a b = record { device = b.device ∙ a.device; there = b.there ∙ a.there; numbers = b.numbers ∙ a.numbers }
 
 -- the edges of a second command, as the talker adds them
@@ -205,7 +205,7 @@ pub first-is : (t a : Talker) (first look : ℕ) → look ≡ t.time + delay_at 
 first-is t a first look k c p =
     ap (λ (x : ℕ). frame_times x false first (left a.computer) (command_hearers 0 (printers_of a))) k
     ∙ ap (λ (x : List ℕ). frame_times (t.time + delay_at Bb (left t.computer) 0 + delay_at Aw (left t.computer) 1) false first x (command_hearers 0 (printers_of a))) c
-    ∙ ap (λ (x : List all.Printer). frame_times (t.time + delay_at Bb (left t.computer) 0 + delay_at Aw (left t.computer) 1) false first (drop 2 (left t.computer)) (command_hearers 0 x)) p
+    ∙ ap (λ (x : List all.TimedPrinter). frame_times (t.time + delay_at Bb (left t.computer) 0 + delay_at Aw (left t.computer) 1) false first (drop 2 (left t.computer)) (command_hearers 0 x)) p
     ∙ ap (λ x. frame_times (t.time + delay_at Bb (left t.computer) 0 + delay_at Aw (left t.computer) 1) false first (drop 2 (left t.computer)) x) (commands-taking 0 1 (printers_of t))
 
 -- the second command, by the numbers before the attention
@@ -214,7 +214,7 @@ pub second-is : (t k : Talker) (ack : ℕ) (second : Option ℕ) → left k.comp
 second-is t k ack None c p = refl
 second-is t k ack (Some b) c p =
     ap (λ (x : List ℕ). Some (record { look = ack + delay_at Aw x 0; sent = frame_times (ack + delay_at Aw x 0) false b (drop 1 x) (command_hearers 0 (printers_of k)) })) c
-    ∙ ap (λ (x : List all.Printer). Some (record { look = ack + delay_at Aw (drop 19 (left t.computer)) 0; sent = frame_times (ack + delay_at Aw (drop 19 (left t.computer)) 0) false b (drop 1 (drop 19 (left t.computer))) (command_hearers 0 x) })) p
+    ∙ ap (λ (x : List all.TimedPrinter). Some (record { look = ack + delay_at Aw (drop 19 (left t.computer)) 0; sent = frame_times (ack + delay_at Aw (drop 19 (left t.computer)) 0) false b (drop 1 (drop 19 (left t.computer))) (command_hearers 0 x) })) p
     ∙ ap (λ x. Some (record { look = ack + delay_at Aw (drop 19 (left t.computer)) 0; sent = frame_times (ack + delay_at Aw (drop 19 (left t.computer)) 0) false b (drop 1 (drop 19 (left t.computer))) x })) (commands-taking 0 3 (printers_of t))
 
 -- the last acknowledgement, as the talker has it
@@ -227,12 +227,12 @@ seconds None numbers = refl
 seconds (Some b) numbers = drop-twice 19 18 numbers
 
 -- how many numbers of a printer an attention has taken before ATN's release
-seconds-taking : (second : Option ℕ) (ps : List all.Printer) → second_taking second (map (taking 3) ps) ≡ map (taking (printer_takes second)) ps
+seconds-taking : (second : Option ℕ) (ps : List all.TimedPrinter) → second_taking second (map (taking 3) ps) ≡ map (taking (printer_takes second)) ps
 seconds-taking None ps = refl
 seconds-taking (Some b) ps = taking-twice 3 2 ps
 
 -- a second command takes the same numbers of each printer
-second-taking-append : (second : Option ℕ) (xs ys : List all.Printer) → second_taking second xs ++ second_taking second ys ≡ second_taking second (xs ++ ys)
+second-taking-append : (second : Option ℕ) (xs ys : List all.TimedPrinter) → second_taking second xs ++ second_taking second ys ≡ second_taking second (xs ++ ys)
 second-taking-append None xs ys = refl
 second-taking-append (Some b) xs ys = sym (map-append (taking 2) xs ys)
 
@@ -247,8 +247,8 @@ tuned-attention law before t s first second i f g lf lg = record {
 }
 
 -- one step of both printers
-pub both : (f : all.Printer → all.Printer) (t u : Talker) → printer_list u.four ≡ map f (printer_list t.four) → printer_list u.five ≡ map f (printer_list t.five) → printers_of u ≡ map f (printers_of t)
-both f t u p q = ap (λ (xs : List all.Printer). xs ++ printer_list u.five) p ∙ ap (λ (xs : List all.Printer). map f (printer_list t.four) ++ xs) q ∙ sym (map-append f (printer_list t.four) (printer_list t.five))
+pub both : (f : all.TimedPrinter → all.TimedPrinter) (t u : Talker) → printer_list u.four ≡ map f (printer_list t.four) → printer_list u.five ≡ map f (printer_list t.five) → printers_of u ≡ map f (printers_of t)
+both f t u p q = ap (λ (xs : List all.TimedPrinter). xs ++ printer_list u.five) p ∙ ap (λ (xs : List all.TimedPrinter). map f (printer_list t.four) ++ xs) q ∙ sym (map-append f (printer_list t.four) (printer_list t.five))
 
 -- the talker after the commands of an attention
 pub commanded : ListenerAfterOneMore → (before : List Item) (t k s v : Talker) (first : ℕ) (second : Option ℕ) → IsTuned before t → IsSamePrinter t.four s.four → IsSamePrinter t.five s.five → s.four.listens ≡ t.four.listens → s.five.listens ≡ t.five.listens
@@ -259,7 +259,7 @@ pub commanded : ListenerAfterOneMore → (before : List Item) (t k s v : Talker)
 commanded law before t k s v first second i f g lf lg kc kp sc s4 s5 e = subst (λ (x : Talker). IsCommanded before t x first second) (sym e) (record {
   tuned = tuned-attention law before t s first second i f g lf lg;
   printers =
-      ap (λ (xs : List all.Printer). xs ++ printer_list s.five) s4 ∙ ap (λ (xs : List all.Printer). second_taking second (printer_list k.four) ++ xs) s5
-      ∙ second-taking-append second (printer_list k.four) (printer_list k.five) ∙ ap (λ (xs : List all.Printer). second_taking second xs) kp ∙ seconds-taking second (printers_of t);
+      ap (λ (xs : List all.TimedPrinter). xs ++ printer_list s.five) s4 ∙ ap (λ (xs : List all.TimedPrinter). second_taking second (printer_list k.four) ++ xs) s5
+      ∙ second-taking-append second (printer_list k.four) (printer_list k.five) ∙ ap (λ (xs : List all.TimedPrinter). second_taking second xs) kp ∙ seconds-taking second (printers_of t);
   computer = sc ∙ ap (λ l. drop (second_takes second) l) kc ∙ seconds second (left t.computer);
 })

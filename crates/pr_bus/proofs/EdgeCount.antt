@@ -10,7 +10,7 @@ use Rattle.pr_wire.specs.declared.Edge.{Edge}
 use Rattle.pr_wire.specs.Levels.{edge_at}
 use Rattle.pr_wire.specs.Pieces.{FrameTimes, SecondFrame, Ending, answer_edges, frame_edges, second_edges, ending_edges}
 use Rattle.pr_wire.specs.Pieces.Piece.{Unanswered, Attention as Attended, DataByte}
-use Rattle.pr_bus.specs.Timed.{Lines, Free, Pulled, Due, Hearer, Printer, BusState, Done, greatest, bits_of, frame_times, command_hearers, data_hearers, done, answered, unanswered, heard_byte, dropped_byte, answer_at, dropped_piece, due_edges, edges_done, item_edges, timed_edges}
+use Rattle.pr_bus.specs.Timed.{Lines, Free, Pulled, Due, Hearer, TimedPrinter, BusState, Done, greatest, bits_of, frame_times, command_hearers, data_hearers, done, answered, unanswered, heard_byte, dropped_byte, answer_at, dropped_piece, due_edges, edges_done, item_edges, timed_edges}
 use Rattle.pr_bus.specs.WiresState.{wires_after}
 use Rattle.pr_bus.specs.Laws.{IsItem, AreItems}
 use Rattle.pr_bus.specs.Sums.{edge_share, edge_bound}
@@ -46,7 +46,7 @@ parts-count : (c : Edge) (x y z v : List Edge) → length (c ∷ x ++ y ++ z ++ 
 parts-count c x y z v = omega (arith, length-append (x ++ y ++ z) v, length-append (x ++ y) z, length-append x y)
 
 -- what is due before an attention, ATN's pull, DATA's pull and the look
-attended-count : (l : Lines) (a : ℕ) (ps : List Printer) (look : ℕ) (f : FrameTimes) (m : Option SecondFrame) (e : Ending)
+attended-count : (l : Lines) (a : ℕ) (ps : List TimedPrinter) (look : ℕ) (f : FrameTimes) (m : Option SecondFrame) (e : Ending)
     → length (due_edges l ++ edges_done l (Some (Attended a (answer_at l a ps) look f m e))) ≤ 4 + length (frame_edges false f) + length (second_edges m) + length (ending_edges e)
 attended-count Free a ps look f m e =
     omega (arith, answer-count (answer_at Free a ps) look, parts-count (edge_at a false false true) (answer_edges (answer_at Free a ps) look) (frame_edges false f) (second_edges m) (ending_edges e))
@@ -87,7 +87,7 @@ attended-edges w byte None h =
     let hs = command_hearers 1 w.printers in
     let f : FrameTimes = frame_times look false byte (drop 2 w.computer) hs in
     let r : ℕ = f.ack + delay_at R (drop 19 w.computer) 0 in
-    let due : ℕ = r + greatest (map (λ (p : Printer). delay_at Dr p.numbers 3) w.printers) in
+    let due : ℕ = r + greatest (map (λ (p : TimedPrinter). delay_at Dr p.numbers 3) w.printers) in
     let closed : ℕ = r + delay_at Cr (drop 19 w.computer) 1 in
     let c = ending-count (eqb byte 63) r due closed in
     omega (arith, attended-count w.lines (w.now + delay_at Bb w.computer 0) w.printers look f None (ending_at (eqb byte 63) r due closed), command-count look byte (drop 2 w.computer) hs, c, three (eqb byte 63))
@@ -99,7 +99,7 @@ attended-edges w byte (Some s) h =
     let hs2 = command_hearers 3 w.printers in
     let g : FrameTimes = frame_times look2 false s (drop 1 (drop 19 w.computer)) hs2 in
     let r : ℕ = g.ack + delay_at R (drop 37 w.computer) 0 in
-    let due : ℕ = r + greatest (map (λ (p : Printer). delay_at Dr p.numbers 5) w.printers) in
+    let due : ℕ = r + greatest (map (λ (p : TimedPrinter). delay_at Dr p.numbers 5) w.printers) in
     let closed : ℕ = r + delay_at Cr (drop 37 w.computer) 1 in
     let c = ending-count (eqb s 63) r due closed in
     let m : SecondFrame = record { look = look2; sent = g } in
@@ -112,14 +112,14 @@ item-count present w (Sent b eoi) h s = by (one_listens w.before (devices w.prin
   where
     by : (v : Bool) → one_listens w.before (devices w.printers) ≡ v → length (item_edges w (Sent b eoi)) ≤ 22
     by true e = let n = listening-some w.before w.printers e in
-        subst (λ (ls : List Printer). length (due_edges w.lines ++ edges_done w.lines (elim ls as (λ l. Done) [ [] ↦ dropped_byte w (Sent b eoi) | p ∷ ps ↦ heard_byte w b eoi (p ∷ ps) ]).piece) ≤ 22) (sym n.is)
+        subst (λ (ls : List TimedPrinter). length (due_edges w.lines ++ edges_done w.lines (elim ls as (λ l. Done) [ [] ↦ dropped_byte w (Sent b eoi) | p ∷ ps ↦ heard_byte w b eoi (p ∷ ps) ]).piece) ≤ 22) (sym n.is)
         (heard-count w.lines (w.now + delay_at Bb w.computer 0) (frame_times (w.now + delay_at Bb w.computer 0) eoi b (drop 1 w.computer) (data_hearers eoi (n.first ∷ n.others))) (pulled-is w.lines (s.tied ∙ ap (λ ds. one_listens w.before ds) (sym s.present_are) ∙ e)) (eight-bits (w.now + delay_at Bb w.computer 0) eoi b (drop 1 w.computer) (data_hearers eoi (n.first ∷ n.others))))
     by false e = let n = listening-none w.before w.printers e in
-        subst (λ (ls : List Printer). length (due_edges w.lines ++ edges_done w.lines (elim ls as (λ l. Done) [ [] ↦ dropped_byte w (Sent b eoi) | p ∷ ps ↦ heard_byte w b eoi (p ∷ ps) ]).piece) ≤ 22) (sym n)
+        subst (λ (ls : List TimedPrinter). length (due_edges w.lines ++ edges_done w.lines (elim ls as (λ l. Done) [ [] ↦ dropped_byte w (Sent b eoi) | p ∷ ps ↦ heard_byte w b eoi (p ∷ ps) ]).piece) ≤ 22) (sym n)
         (omega (arith, dropped-count w.lines (w.now + delay_at Bb w.computer 0)))
 item-count present w (Attention byte second) h s = by w.printers
   where
-    by : (ps : List Printer) → length (due_edges w.lines ++ edges_done w.lines (elim ps as (λ l. Done) [ [] ↦ unanswered w (Attention byte second) | p ∷ qs ↦ answered w byte second ]).piece) ≤ 44
+    by : (ps : List TimedPrinter) → length (due_edges w.lines ++ edges_done w.lines (elim ps as (λ l. Done) [ [] ↦ unanswered w (Attention byte second) | p ∷ qs ↦ answered w byte second ]).piece) ≤ 44
     by [] = omega (arith, unanswered-count w.lines (w.now + delay_at Bb w.computer 0) (w.now + delay_at Bb w.computer 0 + delay_at Aw w.computer 1))
     by (p ∷ ps) = attended-edges w byte second h
 

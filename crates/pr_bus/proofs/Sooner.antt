@@ -4,7 +4,7 @@ use Rattle.pr_serial.specs.declared.Item.{Item}
 use Rattle.pr_serial.specs.declared.Item.TheVariants.{Attention, Sent}
 use Rattle.pr_wire.specs.declared.delay.Kind.TheVariants.{Bb, Aw, R, Cr}
 use Rattle.pr_wire.specs.Delays.{delay_at}
-use Rattle.pr_bus.specs.Timed.{Printer, BusState, Done, listening, frame_times, command_hearers, data_hearers, done, answered, unanswered, heard_byte, dropped_byte}
+use Rattle.pr_bus.specs.Timed.{TimedPrinter, BusState, Done, listening, frame_times, command_hearers, data_hearers, done, answered, unanswered, heard_byte, dropped_byte}
 use Rattle.pr_bus.specs.WiresState.{wires_after}
 use Rattle.pr_bus.specs.Laws.{IsItem, AreItems}
 use Rattle.pr_bus.specs.Sums.{time_share, time_bound}
@@ -13,7 +13,7 @@ use Rattle.pr_bus.proofs.Bounds.{command-lasts, data-lasts}
 use Rattle.pr_bus.proofs.TimedLawful.{command-hearers, data-hearers, second-not}
 
 -- a byte ends within its share
-sent-soon : (w : BusState) (b : ℕ) (eoi : Bool) (ls : List Printer) → (elim ls as (λ l. Done) [ [] ↦ dropped_byte w (Sent b eoi) | p ∷ ps ↦ heard_byte w b eoi (p ∷ ps) ]).wires.now ≤ w.now + 14790
+sent-soon : (w : BusState) (b : ℕ) (eoi : Bool) (ls : List TimedPrinter) → (elim ls as (λ l. Done) [ [] ↦ dropped_byte w (Sent b eoi) | p ∷ ps ↦ heard_byte w b eoi (p ∷ ps) ]).wires.now ≤ w.now + 14790
 sent-soon w b eoi [] = let h = delay_in Bb w.computer 0 in omega (arith, h.to)
 sent-soon w b eoi (p ∷ ps) =
     let h = delay_in Bb w.computer 0 in
@@ -27,14 +27,14 @@ cond_le true a b n h k = h
 cond_le false a b n h k = k
 
 -- an attention ends within its share
-attention-soon : (before : List Item) (now : ℕ) (w : BusState) (ps : List Printer) (first : ℕ) (second : Option ℕ) → IsItem (Attention first second) → w.printers ≡ ps
+attention-soon : (before : List Item) (now : ℕ) (w : BusState) (ps : List TimedPrinter) (first : ℕ) (second : Option ℕ) → IsItem (Attention first second) → w.printers ≡ ps
     → (elim ps as (λ l. Done) [ [] ↦ unanswered w (Attention first second) | p ∷ qs ↦ answered w first second ]).wires.now ≤ w.now + 32158
 attention-soon before now w [] first second h e = let b = delay_in Bb w.computer 0 in let a = delay_in Aw w.computer 1 in omega (arith, a.to, b.to)
 attention-soon before now w (p ∷ ps) first None h e =
     let b = delay_in Bb w.computer 0 in let a = delay_in Aw w.computer 1 in let r = delay_in R (drop 19 w.computer) 0 in let c = delay_in Cr (drop 19 w.computer) 1 in
     let look : ℕ = w.now + delay_at Bb w.computer 0 + delay_at Aw w.computer 1 in
     let f : (frame_times look false first (drop 2 w.computer) (command_hearers 1 w.printers)).ack ≤ look + 13479 =
-    subst (λ (l : List Printer). (frame_times look false first (drop 2 w.computer) (command_hearers 1 l)).ack ≤ look + 13479) (sym e)
+    subst (λ (l : List TimedPrinter). (frame_times look false first (drop 2 w.computer) (command_hearers 1 l)).ack ≤ look + 13479) (sym e)
     (command-lasts look _ (frame-lawful false look false first (drop 2 w.computer) _ _ (command-hearers 1 (p ∷ ps)) (λ k. k))) in
     cond_le (eqb first 63) _ _ (w.now + 32158) (omega (arith, a.to, b.to, r.to, c.to, f)) (omega (arith, a.to, b.to, r.to, f))
 attention-soon before now w (p ∷ ps) first (Some s) h e =
@@ -42,11 +42,11 @@ attention-soon before now w (p ∷ ps) first (Some s) h e =
     let look : ℕ = w.now + delay_at Bb w.computer 0 + delay_at Aw w.computer 1 in
     let first_ack : ℕ = (frame_times look false first (drop 2 w.computer) (command_hearers 1 w.printers)).ack in
     let f : (frame_times look false first (drop 2 w.computer) (command_hearers 1 w.printers)).ack ≤ look + 13479 =
-    subst (λ (l : List Printer). (frame_times look false first (drop 2 w.computer) (command_hearers 1 l)).ack ≤ look + 13479) (sym e)
+    subst (λ (l : List TimedPrinter). (frame_times look false first (drop 2 w.computer) (command_hearers 1 l)).ack ≤ look + 13479) (sym e)
     (command-lasts look _ (frame-lawful false look false first (drop 2 w.computer) _ _ (command-hearers 1 (p ∷ ps)) (λ k. k))) in
     let look2 : ℕ = first_ack + delay_at Aw (drop 19 w.computer) 0 in
     let g : (frame_times look2 false s (drop 1 (drop 19 w.computer)) (command_hearers 3 w.printers)).ack ≤ look2 + 13479 =
-    subst (λ (l : List Printer). (frame_times look2 false s (drop 1 (drop 19 w.computer)) (command_hearers 3 l)).ack ≤ look2 + 13479) (sym e)
+    subst (λ (l : List TimedPrinter). (frame_times look2 false s (drop 1 (drop 19 w.computer)) (command_hearers 3 l)).ack ≤ look2 + 13479) (sym e)
     (command-lasts look2 _ (frame-lawful false look2 false s (drop 1 (drop 19 w.computer)) _ _ (command-hearers 3 (p ∷ ps)) (λ k. k))) in
     let second_ack : ℕ = (frame_times look2 false s (drop 1 (drop 19 w.computer)) (command_hearers 3 w.printers)).ack in
     let end : second_ack + delay_at R (drop 37 w.computer) 0 ≤ w.now + 32158 = omega (arith, a.to, b.to, a2.to, r.to, f, g) in

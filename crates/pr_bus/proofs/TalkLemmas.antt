@@ -13,7 +13,7 @@ use Rattle.pr_wire.specs.Delays.{delay_at}
 use Rattle.pr_wire.specs.Choices.{left}
 use Rattle.pr_wire.specs.Pieces.{frame_edges}
 use Rattle.pr_bus.specs.declared.lines.Lines.TheVariants as kept
-use Rattle.pr_bus.specs.declared.printer.Printer.{Printer}
+use Rattle.pr_bus.specs.declared.printer.TimedPrinter.{TimedPrinter}
 use Rattle.pr_bus.specs.declared.talker.Talker.{Talker}
 use Rattle.pr_bus.specs.Timed as all
 use Rattle.pr_bus.specs.Timed.{Pulled, Due, BusState, Done, taking, listening, frame_times, data_hearers, done, heard_byte, dropped_byte, item_edges, due_edges, edges_done, dropped_piece}
@@ -22,22 +22,22 @@ use Rattle.pr_bus.specs.Talk.{state_of, IsTuned, IsSameTalker, IsSameTuned, prin
 use Rattle.pr_bus.specs.Talking.{lines_of, option_list}
 
 -- a printer, with its numbers that are left
-abbrev pub lone : Printer → all.Printer
+abbrev pub lone : TimedPrinter → all.TimedPrinter
 lone p = record { device = p.device; numbers = left p.choices }
 
 -- the same as a list
-abbrev pub one : Printer → List all.Printer
+abbrev pub one : TimedPrinter → List all.TimedPrinter
 one p = lone p ∷ []
 
 -- who listens of two lists of printers
-pub listening-append : (before : List Item) (xs ys : List all.Printer) → listening before (xs ++ ys) ≡ listening before xs ++ listening before ys
+pub listening-append : (before : List Item) (xs ys : List all.TimedPrinter) → listening before (xs ++ ys) ≡ listening before xs ++ listening before ys
 listening-append before [] ys = refl
 listening-append before (x ∷ xs) ys =
     ap (λ l. cond (is_listener x.device before) (x ∷ []) [] ++ l) (listening-append before xs ys)
     ∙ sym (append_assoc (cond (is_listener x.device before) (x ∷ []) []) (listening before xs) (listening before ys))
 
 -- whether a printer listens
-pub listening-one : (before : List Item) (p : Printer) (d : ℕ) → p.device ≡ d → p.listens ≡ is_listener d before → listening before (printer_list p) ≡ heeding p
+pub listening-one : (before : List Item) (p : TimedPrinter) (d : ℕ) → p.device ≡ d → p.listens ≡ is_listener d before → listening before (printer_list p) ≡ heeding p
 listening-one before p d e l = by p.there
   where
     same : is_listener p.device before ≡ p.listens
@@ -55,12 +55,12 @@ tuned-listening before t i =
     ∙ ap (λ l. heeding t.four ++ l) (listening-one before t.five 5 i.five_is i.five_listens)
 
 -- a list that is not empty
-abbrev IsSome : List all.Printer → Type 0
+abbrev IsSome : List all.TimedPrinter → Type 0
 IsSome [] = ⊥
 IsSome (p ∷ ps) = Unit {0}
 
 -- a printer hears bytes if it is there and listens
-pub heeding-is : (p : Printer) → heeding p ≡ cond (p.there && p.listens) (one p) []
+pub heeding-is : (p : TimedPrinter) → heeding p ≡ cond (p.there && p.listens) (one p) []
 heeding-is p = by p.there p.listens
   where
     by : (t l : Bool) → cond l (cond t (one p) []) [] ≡ cond (t && l) (one p) []
@@ -70,7 +70,7 @@ heeding-is p = by p.there p.listens
     by false false = refl
 
 -- one of the two printers listens
-heeding-some : (p q : Printer) → ((p.there && p.listens) || (q.there && q.listens)) ≡ true → IsSome (heeding p ++ heeding q)
+heeding-some : (p q : TimedPrinter) → ((p.there && p.listens) || (q.there && q.listens)) ≡ true → IsSome (heeding p ++ heeding q)
 heeding-some p q h = subst IsSome (sym (ap (λ l. l ++ heeding q) (heeding-is p) ∙ ap (λ l. cond (p.there && p.listens) (one p) [] ++ l) (heeding-is q))) (by (p.there && p.listens) (q.there && q.listens) h)
   where
     by : (u v : Bool) → (u || v) ≡ true → IsSome (cond u (one p) [] ++ cond v (one q) [])
@@ -79,7 +79,7 @@ heeding-some p q h = subst IsSome (sym (ap (λ l. l ++ heeding q) (heeding-is p)
     by false false h = let j : false ≡ true = h in cc
 
 -- neither of the two printers listens
-heeding-none : (p q : Printer) → ((p.there && p.listens) || (q.there && q.listens)) ≡ false → heeding p ++ heeding q ≡ []
+heeding-none : (p q : TimedPrinter) → ((p.there && p.listens) || (q.there && q.listens)) ≡ false → heeding p ++ heeding q ≡ []
 heeding-none p q h = ap (λ l. l ++ heeding q) (heeding-is p) ∙ ap (λ l. cond (p.there && p.listens) (one p) [] ++ l) (heeding-is q) ∙ by (p.there && p.listens) (q.there && q.listens) h
   where
     by : (u v : Bool) → (u || v) ≡ false → cond u (one p) [] ++ cond v (one q) [] ≡ []
@@ -88,7 +88,7 @@ heeding-none p q h = ap (λ l. l ++ heeding q) (heeding-is p) ∙ ap (λ l. cond
     by false false h = refl
 
 -- a byte that is heard, by who listens
-done-some : (w : BusState) (b : ℕ) (eoi : Bool) (ls : List all.Printer) → listening w.before w.printers ≡ ls → IsSome ls → done w (Sent b eoi) ≡ heard_byte w b eoi ls
+done-some : (w : BusState) (b : ℕ) (eoi : Bool) (ls : List all.TimedPrinter) → listening w.before w.printers ≡ ls → IsSome ls → done w (Sent b eoi) ≡ heard_byte w b eoi ls
 done-some w b eoi [] e s = absurd s
 done-some w b eoi (p ∷ ps) e s = ap (λ l. elim l [ [] ↦ dropped_byte w (Sent b eoi) | q ∷ qs ↦ heard_byte w b eoi (q ∷ qs) ]) e
 
@@ -103,14 +103,14 @@ pub done-dropped : (before : List Item) (t : Talker) (b : ℕ) (eoi : Bool) → 
 done-dropped before t b eoi i h = ap (λ l. elim l [ [] ↦ dropped_byte (state_of before t) (Sent b eoi) | q ∷ qs ↦ heard_byte (state_of before t) b eoi (q ∷ qs) ]) (tuned-listening before t i ∙ heeding-none t.four t.five h)
 
 -- who listens decides which numbers are taken
-pub map-listening : (f g : all.Printer → all.Printer) (before : List Item) (p : Printer) (d : ℕ) → p.device ≡ d → p.listens ≡ is_listener d before
-    → map (λ (q : all.Printer). cond p.listens (f q) (g q)) (printer_list p) ≡ map (λ (q : all.Printer). cond (is_listener q.device before) (f q) (g q)) (printer_list p)
+pub map-listening : (f g : all.TimedPrinter → all.TimedPrinter) (before : List Item) (p : TimedPrinter) (d : ℕ) → p.device ≡ d → p.listens ≡ is_listener d before
+    → map (λ (q : all.TimedPrinter). cond p.listens (f q) (g q)) (printer_list p) ≡ map (λ (q : all.TimedPrinter). cond (is_listener q.device before) (f q) (g q)) (printer_list p)
 map-listening f g before p d e l = by p.there
   where
     same : p.listens ≡ is_listener p.device before
     same = l ∙ ap (λ n. is_listener n before) (sym e)
 
-    by : (v : Bool) → map (λ (q : all.Printer). cond p.listens (f q) (g q)) (cond v (one p) []) ≡ map (λ (q : all.Printer). cond (is_listener q.device before) (f q) (g q)) (cond v (one p) [])
+    by : (v : Bool) → map (λ (q : all.TimedPrinter). cond p.listens (f q) (g q)) (cond v (one p) []) ≡ map (λ (q : all.TimedPrinter). cond (is_listener q.device before) (f q) (g q)) (cond v (one p) [])
     by true = ap (λ v. cond v (f (lone p)) (g (lone p)) ∷ []) same
     by false = refl
 
@@ -121,10 +121,10 @@ pub heard-state : (before : List Item) (t u : Talker) (b : ℕ) (eoi : Bool) (lo
     → printer_list u.four ≡ after_byte eoi t.four → printer_list u.five ≡ after_byte eoi t.five
     → state_of (before ++ Sent b eoi ∷ []) u ≡ (heard_byte (state_of before t) b eoi (heeding t.four ++ heeding t.five)).wires
 heard-state before t u b eoi look rest i k r n l c p q =
-    let ps : printers_of u ≡ map (λ (x : all.Printer). cond (is_listener x.device before) (taking (cond eoi 4 3) x) x) (printers_of t) =
-    ap (λ (xs : List all.Printer). xs ++ printer_list u.five) (p ∙ map-listening (taking (cond eoi 4 3)) (λ x. x) before t.four 4 i.four_is i.four_listens)
-    ∙ ap (λ (xs : List all.Printer). map (λ (x : all.Printer). cond (is_listener x.device before) (taking (cond eoi 4 3) x) x) (printer_list t.four) ++ xs) (q ∙ map-listening (taking (cond eoi 4 3)) (λ x. x) before t.five 5 i.five_is i.five_listens)
-    ∙ sym (map-append (λ (x : all.Printer). cond (is_listener x.device before) (taking (cond eoi 4 3) x) x) (printer_list t.four) (printer_list t.five)) in
+    let ps : printers_of u ≡ map (λ (x : all.TimedPrinter). cond (is_listener x.device before) (taking (cond eoi 4 3) x) x) (printers_of t) =
+    ap (λ (xs : List all.TimedPrinter). xs ++ printer_list u.five) (p ∙ map-listening (taking (cond eoi 4 3)) (λ x. x) before t.four 4 i.four_is i.four_listens)
+    ∙ ap (λ (xs : List all.TimedPrinter). map (λ (x : all.TimedPrinter). cond (is_listener x.device before) (taking (cond eoi 4 3) x) x) (printer_list t.four) ++ xs) (q ∙ map-listening (taking (cond eoi 4 3)) (λ x. x) before t.five 5 i.five_is i.five_listens)
+    ∙ sym (map-append (λ (x : all.TimedPrinter). cond (is_listener x.device before) (taking (cond eoi 4 3) x) x) (printer_list t.four) (printer_list t.five)) in
     rw (ps, n, l, c, r, k) refl
 
 -- the edges that the talker makes of a byte that is heard are those of the item
@@ -151,14 +151,14 @@ and-split true v h = absurd (let j : true ≡ false = h in cc)
 and-split false v h = (refl, h)
 
 -- the releases of DATA where nobody listens
-pub releases : (p q : Printer) (x y : Option ℕ) → ((p.there && p.listens) || (q.there && q.listens)) ≡ false
-    → ((p.there && p.listens) ≡ false → option_list x ≡ map (λ (r : all.Printer). delay_at Dr r.numbers 0) (printer_list p))
-    → ((q.there && q.listens) ≡ false → option_list y ≡ map (λ (r : all.Printer). delay_at Dr r.numbers 0) (printer_list q))
-    → option_list x ++ option_list y ≡ map (λ (r : all.Printer). delay_at Dr r.numbers 0) (printer_list p ++ printer_list q)
+pub releases : (p q : TimedPrinter) (x y : Option ℕ) → ((p.there && p.listens) || (q.there && q.listens)) ≡ false
+    → ((p.there && p.listens) ≡ false → option_list x ≡ map (λ (r : all.TimedPrinter). delay_at Dr r.numbers 0) (printer_list p))
+    → ((q.there && q.listens) ≡ false → option_list y ≡ map (λ (r : all.TimedPrinter). delay_at Dr r.numbers 0) (printer_list q))
+    → option_list x ++ option_list y ≡ map (λ (r : all.TimedPrinter). delay_at Dr r.numbers 0) (printer_list p ++ printer_list q)
 releases p q x y h f g =
     let k = and-split (p.there && p.listens) (q.there && q.listens) h in
-    ap (λ l. l ++ option_list y) (f k.0) ∙ ap (λ l. map (λ (r : all.Printer). delay_at Dr r.numbers 0) (printer_list p) ++ l) (g k.1)
-    ∙ sym (map-append (λ (r : all.Printer). delay_at Dr r.numbers 0) (printer_list p) (printer_list q))
+    ap (λ l. l ++ option_list y) (f k.0) ∙ ap (λ l. map (λ (r : all.TimedPrinter). delay_at Dr r.numbers 0) (printer_list p) ++ l) (g k.1)
+    ∙ sym (map-append (λ (r : all.TimedPrinter). delay_at Dr r.numbers 0) (printer_list p) (printer_list q))
 
 -- DATA stays pulled after an attention where somebody listens
 pub rest-heard : (t : Talker) (ack : ℕ) (u : Bool) → u ≡ false → ((t.four.there && t.four.listens) || (t.five.there && t.five.listens)) ≡ true → Pulled ≡ rest_of t ack u

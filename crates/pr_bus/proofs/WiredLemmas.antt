@@ -18,7 +18,7 @@ use Rattle.pr_wire.specs.Table.{IsAllowed}
 use Rattle.pr_receiver.specs.Given.{inputs_with}
 use Rattle.pr_receiver.specs.Laws.{LawfulIsAllowed}
 use Rattle.pr_receiver.specs.Taken.{device_of, number_taken}
-use Rattle.pr_bus.specs.declared.ear.Ear.{Ear}
+use Rattle.pr_bus.specs.declared.ear.WiredEar.{WiredEar}
 use Rattle.pr_bus.specs.declared.log.Log.{Log}
 use Rattle.pr_bus.specs.declared.talker.Talker.{Talker}
 use Rattle.pr_bus.specs.declared.wires.Begun.{Begun}
@@ -84,11 +84,11 @@ pub trace-allowed : TraceLaws → (present : Present) (d : DelayNumbers) (items 
 trace-allowed laws present d items a = let s = laws.spell present d.computer d.four d.five items a in laws.lawful (trace_from present d items) (s.0, s.1)
 
 -- what an ear does with edges that come behind a trace
-abbrev pub Listens : ℕ → Ear → List Edge → Ear → Type 0
+abbrev pub Listens : ℕ → WiredEar → List Edge → WiredEar → Type 0
 Listens device old es new = (there : Bool) (forgotten trace : List Edge) → IsAllowed (trace ++ es) → Hears device there forgotten trace old → Hears device there forgotten (trace ++ es) new
 
 -- a printer after one item more
-ear-more : TraceLaws → (present : Present) (d : DelayNumbers) (mark : Option ℕ) (items : List Item) (x : Item) (es : List Edge) (device : ℕ) (there : Bool) (old grown new : Ear) → IsItem x → AreItems items → IsReached mark items
+ear-more : TraceLaws → (present : Present) (d : DelayNumbers) (mark : Option ℕ) (items : List Item) (x : Item) (es : List Edge) (device : ℕ) (there : Bool) (old grown new : WiredEar) → IsItem x → AreItems items → IsReached mark items
     → es ≡ item_edges (state_from present d items) x → IsSameEar old grown → Listens device grown es new
     → Hears device there (trace_until present d mark items) (trace_from present d items) old
     → Hears device there (trace_until present d mark (items ++ x ∷ [])) (trace_from present d (items ++ x ∷ [])) new
@@ -174,7 +174,7 @@ share-small (Sent b eoi) = omega arith
 share-small (Attention first second) = omega arith
 
 -- a receiver can count the edges of one item more
-taken-small : TimedTracesAreBounded → ItemsKeepTheirShares → (present : Present) (d : DelayNumbers) (items : List Item) (x : Item) (es forgotten : List Edge) (device : ℕ) (there : Bool) (old grown : Ear) → AreItems items → IsItem x → length items < 2 ^ 32
+taken-small : TimedTracesAreBounded → ItemsKeepTheirShares → (present : Present) (d : DelayNumbers) (items : List Item) (x : Item) (es forgotten : List Edge) (device : ℕ) (there : Bool) (old grown : WiredEar) → AreItems items → IsItem x → length items < 2 ^ 32
     → es ≡ item_edges (state_from present d items) x → IsSameEar old grown → Hears device there forgotten (trace_from present d items) old → number_taken grown.receiver + length es < 2 ^ 63
 taken-small bounded shares present d items x es forgotten device there old grown a i l e s h =
     let count : number_taken grown.receiver ≡ number_taken old.receiver = ap number_taken s.receiver in
@@ -238,7 +238,7 @@ pub record RoomLaws : Type 0 where
   pub few : InputsOfAnItem
 
 -- a printer may hear the edges of one item more, since they give at most two inputs
-may-more : RoomLaws → (present : Present) (d : DelayNumbers) (mark : Option ℕ) (items : List Item) (x : Item) (es : List Edge) (device : ℕ) (there : Bool) (old grown : Ear) → IsItem x → AreItems items → is_present present device ≡ there
+may-more : RoomLaws → (present : Present) (d : DelayNumbers) (mark : Option ℕ) (items : List Item) (x : Item) (es : List Edge) (device : ℕ) (there : Bool) (old grown : WiredEar) → IsItem x → AreItems items → is_present present device ≡ there
     → es ≡ item_edges (state_from present d items) x → IsSameEar old grown → HasRoom grown → Hears device there (trace_until present d mark items) (trace_from present d items) old → grown.there ≡ true → MayHear es grown
 may-more laws present d mark items x es device there old grown i a p e s room h t =
     let yes : there ≡ true = sym h.there_is ∙ sym s.there ∙ t in
@@ -285,7 +285,7 @@ ears-may laws w x es grown h f i e s4 s5 r4 r5 =
     )
 
 -- a printer keeps what it heard since the mark
-pub heard-since : WiresAreHeard → (present : Present) (d : DelayNumbers) (mark : Option ℕ) (items : List Item) (device : ℕ) (there : Bool) (ear : Ear) → AreItems items → is_present present device ≡ there
+pub heard-since : WiresAreHeard → (present : Present) (d : DelayNumbers) (mark : Option ℕ) (items : List Item) (device : ℕ) (there : Bool) (ear : WiredEar) → AreItems items → is_present present device ≡ there
     → Hears device there (trace_until present d mark items) (trace_from present d items) ear → heard_by present device (items_before mark items) ++ ear.inputs.items ≡ heard_by present device items
 heard-since law present d mark items device true ear a p h =
     let k = h.hears refl in
@@ -352,5 +352,5 @@ pub wired-still : (w : Inside) → IsWired w → IsWired (record w { failed = tr
 wired-still w h = record { items = h.items; within = h.within; trace = h.trace; time = h.time; four = h.four; five = h.five; ears = h.ears; at = λ f. absurd (let j : true ≡ false = f in cc) }
 
 -- an ear is the ear that it was
-pub same-ear : (ear : Ear) → IsSameEar ear ear
+pub same-ear : (ear : WiredEar) → IsSameEar ear ear
 same-ear ear = record { there = refl; receiver = refl; inputs = refl }

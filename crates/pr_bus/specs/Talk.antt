@@ -8,8 +8,8 @@ use Rattle.pr_serial.specs.Answers.{is_listener}
 use Rattle.pr_wire.specs.Choices.{left}
 use Rattle.pr_wire.specs.Pieces.{FrameTimes, SecondFrame, Ending}
 use Rattle.pr_bus.specs.declared.talker.Talker.{Talker}
-use Rattle.pr_bus.specs.declared.printer.Printer as one
-use Rattle.pr_bus.specs.Timed.{Lines, Free, Pulled, Due, taking, BusState, Printer, greatest, frame_times, data_hearers, command_hearers}
+use Rattle.pr_bus.specs.declared.printer.TimedPrinter as one
+use Rattle.pr_bus.specs.Timed.{Lines, Free, Pulled, Due, taking, BusState, TimedPrinter, greatest, frame_times, data_hearers, command_hearers}
 use Rattle.pr_bus.specs.Printers.{printer_list, heeding, IsSamePrinter}
 use Rattle.pr_bus.specs.Talking.{lines_of}
 
@@ -45,7 +45,7 @@ abbrev pub heard_frame : Talker → ℕ → Bool → ℕ → FrameTimes
 heard_frame t look eoi byte = frame_times look eoi byte (left t.computer) (data_hearers eoi (heeding t.four ++ heeding t.five))
 
 -- the printers that are there
-abbrev pub printers_of : Talker → List Printer
+abbrev pub printers_of : Talker → List TimedPrinter
 printers_of t = printer_list t.four ++ printer_list t.five
 
 -- the moments of a command's frame
@@ -57,7 +57,7 @@ abbrev pub freed_at : Talker → ℕ → ℕ
 freed_at t ack = ack + delay_at R (left t.computer) 0
 
 abbrev pub due_at : Talker → ℕ → ℕ
-due_at t ack = freed_at t ack + greatest (map (λ (p : Printer). delay_at Dr p.numbers 0) (printers_of t))
+due_at t ack = freed_at t ack + greatest (map (λ (p : TimedPrinter). delay_at Dr p.numbers 0) (printers_of t))
 
 abbrev pub closed_at : Talker → ℕ → ℕ
 closed_at t ack = freed_at t ack + delay_at Cr (left t.computer) 1
@@ -90,10 +90,10 @@ abbrev pub second_takes : Option ℕ → ℕ
 second_takes None = 0
 second_takes (Some b) = 18
 
-abbrev pub second_taking : Option ℕ → List Printer → List Printer
+abbrev pub second_taking : Option ℕ → List TimedPrinter → List TimedPrinter
 second_taking None ps = ps
 second_taking (Some b) ps = map (taking 2) ps
 
 -- a printer after it heard who shall listen
-abbrev pub tuned_to : ℕ → one.Printer → one.Printer
+abbrev pub tuned_to : ℕ → one.TimedPrinter → one.TimedPrinter
 tuned_to first p = record p { listens = if first == command.unlisten then false else (p.listens || first == command.listen + p.device) }

@@ -15,7 +15,7 @@ use Rattle.pr_wire.specs.Pieces.Between.{Resting, Held, Loose}
 use Rattle.pr_wire.specs.Pieces.Piece.{Unanswered, Attention as Attended, DataByte, Dropped}
 
 -- a present printer: its device, and its numbers not yet taken
-pub record Printer : Type 0 where
+pub record TimedPrinter : Type 0 where
   pub device : ℕ
   pub numbers : List ℕ
 
@@ -38,7 +38,7 @@ pub record BusState : Type 0 where
   pub now : ℕ
   pub lines : Lines
   pub computer : List ℕ
-  pub printers : List Printer
+  pub printers : List TimedPrinter
 
 -- the greatest of a list of moments, 0 if there is none
 abbrev pub greatest : List ℕ → ℕ
@@ -81,19 +81,19 @@ frame_times look eoi byte numbers hearers =
     }
 
 -- each present printer hears a command; its numbers for it begin at an index
-abbrev pub command_hearers : ℕ → List Printer → List Hearer
+abbrev pub command_hearers : ℕ → List TimedPrinter → List Hearer
 command_hearers i printers =
-    map (λ (p : Printer). record { hold = delay_at H p.numbers i; wait = 0; answer = 0; accept = delay_at F p.numbers (i + 1) }) printers
+    map (λ (p : TimedPrinter). record { hold = delay_at H p.numbers i; wait = 0; answer = 0; accept = delay_at F p.numbers (i + 1) }) printers
 
 -- the printers that listen
-abbrev pub listening : List Item → List Printer → List Printer
+abbrev pub listening : List Item → List TimedPrinter → List TimedPrinter
 listening before [] = []
 listening before (p ∷ ps) = cond (is_listener p.device before) (p ∷ []) [] ++ listening before ps
 
 -- the printers that listen hear a data byte
-abbrev pub data_hearers : Bool → List Printer → List Hearer
+abbrev pub data_hearers : Bool → List TimedPrinter → List Hearer
 data_hearers eoi printers =
-    map (λ (p : Printer). record {
+    map (λ (p : TimedPrinter). record {
       hold = delay_at H p.numbers 0;
       wait = delay_at Ye p.numbers 1;
       answer = cond eoi (delay_at Ei p.numbers 2) 0;
@@ -101,7 +101,7 @@ data_hearers eoi printers =
     }) printers
 
 -- a printer has taken some of its numbers
-abbrev pub taking : ℕ → Printer → Printer
+abbrev pub taking : ℕ → TimedPrinter → TimedPrinter
 taking n p = record p { numbers = drop n p.numbers }
 
 -- what stands before a piece
@@ -126,12 +126,12 @@ unanswered w x =
     }
 
 -- DATA is pulled in answer to ATN at the least AT, unless it is pulled
-abbrev pub answer_at : Lines → ℕ → List Printer → Option ℕ
+abbrev pub answer_at : Lines → ℕ → List TimedPrinter → Option ℕ
 answer_at Pulled a printers = None
-answer_at _ a printers = Some (a + least (map (λ (p : Printer). delay_at At p.numbers 0) printers))
+answer_at _ a printers = Some (a + least (map (λ (p : TimedPrinter). delay_at At p.numbers 0) printers))
 
 -- the second command of an attention, after the first acknowledgement
-abbrev pub second_frame : ℕ → Option ℕ → List ℕ → List Printer → Option SecondFrame
+abbrev pub second_frame : ℕ → Option ℕ → List ℕ → List TimedPrinter → Option SecondFrame
 second_frame k None numbers printers = None
 second_frame k (Some byte) numbers printers =
     let look = k + delay_at Aw numbers 0 in
@@ -157,8 +157,8 @@ answered w byte second =
     let r = last_ack first.ack more + delay_at R rest 0 in
     let before = w.before ++ Attention byte second ∷ [] in
     let listeners = listening before w.printers in
-    let deaf = map (λ (p : Printer). cond (is_listener p.device before) p (taking 1 p)) (map (taking (printer_takes second)) w.printers) in
-    let due = r + greatest (map (λ (p : Printer). delay_at Dr p.numbers (printer_takes second)) w.printers) in
+    let deaf = map (λ (p : TimedPrinter). cond (is_listener p.device before) p (taking 1 p)) (map (taking (printer_takes second)) w.printers) in
+    let due = r + greatest (map (λ (p : TimedPrinter). delay_at Dr p.numbers (printer_takes second)) w.printers) in
     let closed = r + delay_at Cr rest 1 in
     let unlisten = eqb (elim second [ None ↦ byte | Some b ↦ b ]) command.unlisten in
     record {
@@ -174,7 +174,7 @@ answered w byte second =
     }
 
 -- a byte that a present printer hears
-abbrev pub heard_byte : BusState → ℕ → Bool → List Printer → Done
+abbrev pub heard_byte : BusState → ℕ → Bool → List TimedPrinter → Done
 heard_byte w byte eoi hearers =
     let look = w.now + delay_at Bb w.computer 0 in
     let sent = frame_times look eoi byte (drop 1 w.computer) (data_hearers eoi hearers) in
@@ -185,7 +185,7 @@ heard_byte w byte eoi hearers =
         now = sent.ack;
         lines = Pulled;
         computer = drop 18 w.computer;
-        printers = map (λ (p : Printer). cond (is_listener p.device w.before) (taking (cond eoi 4 3) p) p) w.printers;
+        printers = map (λ (p : TimedPrinter). cond (is_listener p.device w.before) (taking (cond eoi 4 3) p) p) w.printers;
       };
     }
 
@@ -229,7 +229,7 @@ timed_edges w [] = []
 timed_edges w (x ∷ xs) = item_edges w x ++ timed_edges (done w x).wires xs
 
 -- the printers that are present, with their numbers
-abbrev pub present_printers : Present → List ℕ → List ℕ → List Printer
+abbrev pub present_printers : Present → List ℕ → List ℕ → List TimedPrinter
 present_printers present four five =
     cond present.four (record { device = 4; numbers = four } ∷ []) [] ++ cond present.five (record { device = 5; numbers = five } ∷ []) []
 

@@ -5,16 +5,16 @@ ghost use Rattle.pr_receiver.specs.Taken.{number_taken};
 ghost use Rattle.pr_bus.specs.EarState.{MayHear};
 ghost use Rattle.pr_bus.specs.Together.{HearsMore, Listens};
 
-use crate::ear::{Ear, push_given};
+use crate::ear::{WiredEar, push_given};
 use pr_receiver::{fronts_are_allowed, inputs_add_up};
 use pr_wire::Edge;
 
-impl Ear {
+impl WiredEar {
     /// Hears edges from the front, and so does another printer: for their inputs there is room.
     /// Returns how many: the edges of a whole frame at once, tested once for both, where both find
     /// it next, and else one.
     #[inline(always)]
-    fn hear_front_with(&mut self, other: &mut Ear, edges: &[Edge]) -> usize
+    fn hear_front_with(&mut self, other: &mut WiredEar, edges: &[Edge]) -> usize
         requires some { 0 < length edges.now }
         requires taken { number_taken self.old.receiver + length edges.now < 2 ^ 63 }
         requires other_taken { number_taken other.old.receiver + length edges.now < 2 ^ 63 }
@@ -39,7 +39,7 @@ impl Ear {
     }
 
     /// Hears edges, and so does another printer: for their inputs there is room.
-    fn hear_with(&mut self, other: &mut Ear, edges: &[Edge])
+    fn hear_with(&mut self, other: &mut WiredEar, edges: &[Edge])
         requires taken { number_taken self.old.receiver + length edges.now < 2 ^ 63 }
         requires other_taken { number_taken other.old.receiver + length edges.now < 2 ^ 63 }
         requires may { MayHear edges.now self.old }
@@ -54,8 +54,8 @@ impl Ear {
         }
     }
 
-    /// Hears edges as [`Ear::listen`] does, and so does another printer.
-    pub fn listen_with(&mut self, other: &mut Ear, edges: &[Edge])
+    /// Hears edges as [`WiredEar::listen`] does, and so does another printer.
+    pub fn listen_with(&mut self, other: &mut WiredEar, edges: &[Edge])
         requires taken { number_taken self.old.receiver + length edges.now < 2 ^ 63 }
         requires other_taken { number_taken other.old.receiver + length edges.now < 2 ^ 63 }
         requires may { self.old.there ≡ true → MayHear edges.now self.old }

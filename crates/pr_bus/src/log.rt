@@ -5,7 +5,7 @@ ghost use Rattle.pr_wire.specs.Levels.{start};
 ghost use Rattle.pr_receiver.specs.Taken.{number_taken};
 ghost use Rattle.pr_bus.specs.EarState.{ForgetsAs, Hears, IsSameEar, HasRoom, ListensAs, MayHear};
 
-use crate::ear::Ear;
+use crate::ear::WiredEar;
 use crate::laws::timed_traces_spell;
 use crate::lines::push;
 use pr_receiver::fronts_are_allowed;
@@ -18,8 +18,8 @@ use std::alloc::Global;
 pub struct Log {
     pub items: Vec<Item>,
     pub trace: Vec<Edge>,
-    pub four: Ear,
-    pub five: Ear,
+    pub four: WiredEar,
+    pub five: WiredEar,
 }
 
 impl Log {
@@ -34,8 +34,8 @@ impl Log {
         fronts_are_allowed();
         let mut trace = Vec::new(alloc);
         push(&mut trace, 0, true, true, true)?;
-        let mut four = Ear::new(alloc, 4, present.four);
-        let mut five = Ear::new(alloc, 5, present.five);
+        let mut four = WiredEar::new(alloc, 4, present.four);
+        let mut five = WiredEar::new(alloc, 5, present.five);
         four.listen(&trace);
         five.listen(&trace);
         Ok(Log {

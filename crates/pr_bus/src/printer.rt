@@ -15,19 +15,19 @@ use pr_wire::{Choices, Kind};
 
 /// A printer of the bus, present or not.
 #[derive(Drop)]
-pub struct Printer {
+pub struct TimedPrinter {
     pub device: u8,
     pub there: bool,
     pub listens: bool,
     pub choices: Choices,
 }
 
-impl Printer {
+impl TimedPrinter {
     /// A printer that does not listen.
-    pub fn new(device: u8, there: bool, choices: Choices) -> Printer
+    pub fn new(device: u8, there: bool, choices: Choices) -> TimedPrinter
         ensures { result ≡ record { device = device; there = there; listens = false; choices = choices } }
     {
-        Printer {
+        TimedPrinter {
             device,
             there,
             listens: false,
@@ -37,7 +37,7 @@ impl Printer {
 
     /// What it waits before it answers ATN.
     pub fn called(&mut self) -> Option<u16>
-        ensures time { option_list result ≡ map (λ (p : all.Printer). delay_at At p.numbers 0) (printer_list self.old) }
+        ensures time { option_list result ≡ map (λ (p : all.TimedPrinter). delay_at At p.numbers 0) (printer_list self.old) }
         ensures after { printer_list self.new ≡ map (taking 1) (printer_list self.old) }
         ensures same { IsSamePrinter self.old self.new }
         ensures listens { self.new.listens ≡ self.old.listens }
@@ -96,7 +96,7 @@ impl Printer {
     /// What it waits before it releases DATA after ATN, if it does not listen.
     pub fn freed(&mut self) -> Option<u16>
         ensures time { (self.old.there && self.old.listens) ≡ false →
-            option_list result ≡ map (λ (p : all.Printer). delay_at Dr p.numbers 0) (printer_list self.old) }
+            option_list result ≡ map (λ (p : all.TimedPrinter). delay_at Dr p.numbers 0) (printer_list self.old) }
         ensures after { printer_list self.new ≡ after_freed self.old }
         ensures same { IsSamePrinter self.old self.new }
         ensures listens { self.new.listens ≡ self.old.listens }

@@ -15,7 +15,7 @@ ghost use Rattle.pr_serial.specs.Sendable.{MaySend};
 use crate::frame::push_frame;
 use crate::hearer::joined;
 use crate::lines::{Lines, greatest, least, push, push_answer, push_call, push_due};
-use crate::printer::Printer;
+use crate::printer::TimedPrinter;
 use pr_commands::UNLISTEN;
 use pr_serial::NoMemory;
 use pr_serial::laws::items_make_listeners;
@@ -27,8 +27,8 @@ pub struct Talker {
     pub time: u64,
     pub lines: Lines,
     pub computer: Choices,
-    pub four: Printer,
-    pub five: Printer,
+    pub four: TimedPrinter,
+    pub five: TimedPrinter,
     pub edges: Vec<Edge>,
 }
 

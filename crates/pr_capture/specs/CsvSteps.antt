@@ -3,7 +3,7 @@
 use Rattle.std.specs.Prelude.{◌≡◌, ◌⊎◌, ℕ, ◌+◌, ◌==◌, ◌&&◌, Bool, true, false, not, List, [], ◌∷◌, ◌++◌, if◌then◌else◌, Option, Some, None, Result, Ok, Err}
 use Rattle.std.specs.List.{list_all}
 use Rattle.pr_wire.specs.declared.Edge.{Edge}
-use Rattle.pr_wire.specs.TraceText.{lines_of}
+use Rattle.pr_text.specs.Lines.{lines_of}
 use Rattle.pr_capture.specs.declared.csv.Place.{Place}
 use Rattle.pr_capture.specs.declared.csv.Place.TheVariants.{Names, Rows}
 use Rattle.pr_capture.specs.declared.csv.CsvReader.{CsvReader}

@@ -2,7 +2,6 @@
 
 ghost use Rattle.std.specs.Prelude.{◌≡◌, ◌+◌, ◌^◌, ◌<◌, ◌≤◌, ◌∷◌, ◌++◌, [], false, true, None, IfErr, IfOk, length, option_copied, take};
 ghost use Rattle.std.specs.List.{list_all, prefix_len};
-ghost use Rattle.pr_wire.specs.TraceText.{is_digit};
 ghost use Rattle.pr_capture.specs.Csv.{column_of, columns_in, field_at, fields_of, is_silent, level_of, level_or, micros_in, number_from, row, sample_of, time_in, time_or};
 ghost use Rattle.pr_capture.specs.CsvSteps.{field_len, fields_left, is_inner, line_number, AnswersEnd, EndsText, FaultsIn, HasRead, HoldsMore, ReadsLine, ReadsMore, Refuses};
 ghost use Rattle.pr_capture.specs.declared.csv.Place.TheVariants.{Names};
@@ -10,6 +9,7 @@ ghost use Rattle.pr_capture.specs.declared.fault.CaptureFault.TheVariants.{NoMem
 
 use crate::fault::{CaptureFault, Wire};
 use crate::signals::{Signals, are_framing, level_in, without_front};
+use pr_text::digit_count;
 use pr_wire::{Edge, Levels};
 use std::alloc::Global;
 
@@ -116,26 +116,6 @@ fn columns_in(
         return Err(CaptureFault::NoSignal(number, Wire::Data));
     };
     Ok(Columns { atn, clock, line })
-}
-
-/// A digit.
-fn is_digit(b: u8) -> bool
-    ensures { result ≡ is_digit b }
-{
-    b >= b'0' && b <= b'9'
-}
-
-/// How many digits stand in front.
-fn digit_count(bytes: &[u8]) -> usize
-    ensures count { result ≡ prefix_len is_digit bytes.now }
-    ensures within { result ≤ length bytes.now }
-{
-    for (i, b) in bytes.iter().enumerate() {
-        if !is_digit(*b) {
-            return i;
-        }
-    }
-    bytes.len()
 }
 
 /// The number that digits spell behind those that spell another, as long as it is below 2^64.

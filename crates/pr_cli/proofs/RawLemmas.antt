@@ -7,18 +7,18 @@ use Rattle.std.proofs.lemmas.List.{map-append}
 use Rattle.pr_page.specs.Taken.{HasTaken}
 use Rattle.pr_page.specs.declared.input.Input.{Input}
 use Rattle.pr_page.specs.declared.input.Input.TheVariants.{Byte, Select}
-use Rattle.pr_page.specs.declared.state.State.{State}
+use Rattle.pr_page.specs.declared.state.PrinterState.{PrinterState}
 use Rattle.pr_cli.specs.Raw.{raw_inputs}
 
 -- the bytes that came from a reader, printed, and how many more may come
-pub record HasPrinted (limit : ℕ) (before after : Option (List ℕ)) (lower : Bool) (printer : State) (left : ℕ) : Type 0 where
+pub record HasPrinted (limit : ℕ) (before after : Option (List ℕ)) (lower : Bool) (printer : PrinterState) (left : ℕ) : Type 0 where
   pub bytes : List ℕ
   pub taken : Consumes before after bytes
   pub printed : HasTaken (raw_inputs lower bytes) printer
   pub room : length bytes + left ≡ limit
 
 -- before the first byte the selection is taken
-pub none_printed : (limit : ℕ) (a : Option (List ℕ)) (lower : Bool) (p : State) → HasTaken (Select lower ∷ []) p → HasPrinted limit a a lower p limit
+pub none_printed : (limit : ℕ) (a : Option (List ℕ)) (lower : Bool) (p : PrinterState) → HasTaken (Select lower ∷ []) p → HasPrinted limit a a lower p limit
 none_printed limit a lower p h = record { bytes = []; taken = Consumes-nil a; printed = h; room = omega arith }
 
 -- the inputs of more bytes
@@ -26,7 +26,7 @@ pub inputs_of_more : (lower : Bool) (bytes more : List ℕ) → raw_inputs lower
 inputs_of_more lower bytes more = ap (λ l. Select lower ∷ l) (sym (map-append Byte bytes more))
 
 -- one block more
-pub print_more : (limit : ℕ) (a b d : Option (List ℕ)) (lower : Bool) (p q : State) (left n : ℕ) (block : List ℕ) → (r : HasPrinted limit a b lower p left)
+pub print_more : (limit : ℕ) (a b d : Option (List ℕ)) (lower : Bool) (p q : PrinterState) (left n : ℕ) (block : List ℕ) → (r : HasPrinted limit a b lower p left)
     → Consumes b d block → length block ≡ n → n ≤ left → ((inputs : List Input) → HasTaken inputs p → HasTaken (inputs ++ map Byte block) q) → HasPrinted limit a d lower q (left - n)
 print_more limit a b d lower p q left n block r k l w f = record {
   bytes = r.bytes ++ block;

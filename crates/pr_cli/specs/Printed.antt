@@ -6,7 +6,7 @@ use Rattle.pr_page.specs.Taken.{HasTaken}
 use Rattle.pr_page.specs.declared.input.Input.{Input}
 use Rattle.pr_page.specs.declared.input.Input.TheVariants.{Byte}
 use Rattle.pr_page.specs.declared.paper.Paper.{Paper}
-use Rattle.pr_page.specs.declared.state.State.{State}
+use Rattle.pr_page.specs.declared.state.PrinterState.{PrinterState}
 use Rattle.pr_cli.specs.Raw.{raw_inputs}
 use Rattle.pr_cli.specs.declared.fault.CliFault.{CliFault}
 use Rattle.pr_cli.specs.declared.fault.CliFault.TheVariants.{Script, Trace, Wave, TooLarge, NoMemory, ReadFailed, WriteFailed}
@@ -35,5 +35,5 @@ IsReadingFault ReadFailed = Unit {0}
 IsReadingFault _ = ⊥
 
 -- whatever a printer has taken before, after it has taken that and these bytes
-abbrev pub PrintsOn : List ℕ → State → State → Type 0
+abbrev pub PrintsOn : List ℕ → PrinterState → PrinterState → Type 0
 PrintsOn bytes old new = (before : List Input) → HasTaken before old → HasTaken (before ++ map Byte bytes) new

@@ -12,8 +12,7 @@ use Rattle.std.proofs.lemmas.List.Splits.{length-slice_split, slice_split_first,
 use Rattle.std.proofs.lemmas.List.Sums.{fails_before_first, passes_at_first, prefix_len-le-length}
 use Rattle.std.proofs.lemmas.Str.Parse.{IsNumeralModel, numerals_by_fold, parse_digits}
 use Rattle.std.proofs.lemmas.Str.Pattern.{contains_char}
-use Rattle.pr_basic.specs.Grammar.{number_after, number_of}
-use Rattle.pr_basic.specs.Lexemes.{is_digit}
+use Rattle.pr_text.specs.Digits.{is_digit, number_after, number_of}
 use Rattle.pr_serial.specs.Bus.{DelayNumbers}
 use Rattle.pr_options.specs.DelayLists.{delays_of, is_number_list, is_raw_number, numbers_in, three_lists, up_to_three, words_of}
 use Rattle.pr_options.specs.declared.delays.DelayFault.{DelayFault}

@@ -2,13 +2,13 @@
 
 ghost use Rattle.std.specs.Prelude.{◌≡◌, ◌==◌, Some, None, false, true, IfOk, MatchOption, IsErrOf};
 ghost use Rattle.std.specs.List.{after_first, before_first, list_all};
-ghost use Rattle.pr_basic.specs.Grammar.{number_of};
-ghost use Rattle.pr_basic.specs.Lexemes.{is_digit};
+ghost use Rattle.pr_text.specs.Digits.{is_digit, number_of};
 ghost use Rattle.pr_wire.specs.Choices.{left};
 ghost use Rattle.pr_bus.specs.DelaysLeft.{numbers_left};
 ghost use Rattle.pr_options.specs.DelayLists.{IsFresh, delays_of, is_number_list, is_raw_number, numbers_in};
 
 use pr_bus::Delays;
+use pr_text::is_digit;
 use pr_wire::Choices;
 use std::alloc::{AllocFailed, Global};
 use thiserror::Error;
@@ -104,7 +104,7 @@ fn read_number(word: &str) -> Option<u16>
 fn all_digits(bytes: &[u8]) -> bool
     ensures { result ≡ list_all is_digit bytes.now }
 {
-    bytes.iter().all(|b| *b >= b'0' && *b <= b'9')
+    bytes.iter().all(|b| is_digit(*b))
 }
 
 #[cfg(test)]

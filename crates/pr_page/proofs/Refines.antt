@@ -15,7 +15,7 @@ use Rattle.pr_page.proofs.Paging.{IsSheet, IsSheet-append, AreLinesTo-lines, Are
 use Rattle.pr_page.specs.declared.input.Input.{Input}
 use Rattle.pr_page.specs.declared.input.Input.TheVariants.{Select, Byte}
 use Rattle.pr_page.specs.declared.settings.Settings.{Settings}
-use Rattle.pr_page.specs.declared.state.State.{State}
+use Rattle.pr_page.specs.declared.state.PrinterState.{PrinterState}
 use Rattle.pr_page.specs.declared.pending.Pending.{Pending}
 use Rattle.pr_page.specs.declared.pending.Pending.TheVariants.{Idle}
 
@@ -56,14 +56,14 @@ acts_in-narrow m (Address h l) = narrow_if (nat_le (256 * h + l) 479) _ _ (tt, t
 acts_in-narrow m Nothing = tt
 
 -- settings and sheet are those of the tokens
-pub record IsOf (tokens : List Token) (s : State) : Type 0 where
+pub record IsOf (tokens : List Token) (s : PrinterState) : Type 0 where
   pub settings : modes_of s.settings ≡ modes_at (reverse tokens)
   pub sheet : IsSheet (acts_of (reverse tokens)) s.sheet
 
 reverse-push : (tokens : List Token) (t : Token) → reverse (tokens ++ t ∷ []) ≡ t ∷ reverse tokens
 reverse-push tokens t = reverse-append tokens (t ∷ [])
 
-IsOf-token : (tokens : List Token) (s : State) (t : Token) → IsOf tokens s → IsOf (tokens ++ t ∷ []) (state_after_token s t)
+IsOf-token : (tokens : List Token) (s : PrinterState) (t : Token) → IsOf tokens s → IsOf (tokens ++ t ∷ []) (state_after_token s t)
 IsOf-token tokens s t h = record {
   settings = modes_at-push s.settings t (reverse tokens) h.settings ∙ sym (ap modes_at (reverse-push tokens t));
   sheet =
@@ -72,18 +72,18 @@ IsOf-token tokens s t h = record {
       (IsSheet-append (acts_of (reverse tokens)) s.sheet (acts_in (modes_of s.settings) t) (acts_in-narrow (modes_of s.settings) t) h.sheet));
 }
 
-IsOf-tokens : (tokens : List Token) (s : State) (more : List Token) → IsOf tokens s → IsOf (tokens ++ more) (state_after_tokens s more)
+IsOf-tokens : (tokens : List Token) (s : PrinterState) (more : List Token) → IsOf tokens s → IsOf (tokens ++ more) (state_after_tokens s more)
 IsOf-tokens tokens s [] h = rw (append-nil tokens) h
 IsOf-tokens tokens s (t ∷ more) h =
     rw (← append_assoc tokens (t ∷ []) more) (IsOf-tokens (tokens ++ t ∷ []) (state_after_token s t) more (IsOf-token tokens s t h))
 
 -- tokens leave the selection
-after_tokens-lower : (s : State) (tokens : List Token) → (state_after_tokens s tokens).lower ≡ s.lower
+after_tokens-lower : (s : PrinterState) (tokens : List Token) → (state_after_tokens s tokens).lower ≡ s.lower
 after_tokens-lower s [] = refl
 after_tokens-lower s (t ∷ tokens) = after_tokens-lower (state_after_token s t) tokens
 
 -- what is kept is that of the inputs
-pub record Holds (inputs : List Input) (s : State) : Type 0 where
+pub record Holds (inputs : List Input) (s : PrinterState) : Type 0 where
   pub tokens : List Token
   pub cut : Cut (bytes_of false inputs) tokens s.pending
   pub of_tokens : IsOf tokens s
@@ -116,7 +116,7 @@ grown bytes tokens p b lower cut =
       pending = last.pending;
     }
 
-Holds-step : (inputs : List Input) (s : State) (x : Input) → Holds inputs s → Holds (inputs ++ x ∷ []) (step s x)
+Holds-step : (inputs : List Input) (s : PrinterState) (x : Input) → Holds inputs s → Holds (inputs ++ x ∷ []) (step s x)
 Holds-step inputs s (Select lower) h = record {
   tokens = h.tokens;
   cut = rw (bytes_of-select false lower inputs) h.cut;
@@ -137,7 +137,7 @@ Holds-step inputs s (Byte b) h =
       taken = ap (λ n. n + 1) h.taken ∙ sym (longer inputs (Byte b));
     }
 
-Holds-all : (before : List Input) (s : State) (inputs : List Input) → Holds before s → Holds (before ++ inputs) (state_after s inputs)
+Holds-all : (before : List Input) (s : PrinterState) (inputs : List Input) → Holds before s → Holds (before ++ inputs) (state_after s inputs)
 Holds-all before s [] h = rw (append-nil before) h
 Holds-all before s (x ∷ inputs) h =
     rw (← append_assoc before (x ∷ []) inputs) (Holds-all (before ++ x ∷ []) (step s x) inputs (Holds-step before s x h))
@@ -160,14 +160,14 @@ pub state_after-taken : (inputs : List Input) → (state_after start inputs).tak
 state_after-taken inputs = (Holds-all [] start inputs Holds-start).taken
 
 -- one more input is one more step
-pub state_after-push : (s : State) (inputs : List Input) (x : Input) → state_after s (inputs ++ x ∷ []) ≡ step (state_after s inputs) x
+pub state_after-push : (s : PrinterState) (inputs : List Input) (x : Input) → state_after s (inputs ++ x ∷ []) ≡ step (state_after s inputs) x
 state_after-push s [] x = refl
 state_after-push s (y ∷ inputs) x = state_after-push (step s y) inputs x
 
-pub HasTaken-page : (inputs : List Input) (s : State) → HasTaken inputs s → IsPage inputs s.sheet.paper
+pub HasTaken-page : (inputs : List Input) (s : PrinterState) → HasTaken inputs s → IsPage inputs s.sheet.paper
 HasTaken-page inputs s h = rw h.kept (state_after-page inputs)
 
-pub HasTaken-value : (inputs : List Input) (s : State) → HasTaken inputs s → s.sheet.paper ≡ page_of inputs
+pub HasTaken-value : (inputs : List Input) (s : PrinterState) → HasTaken inputs s → s.sheet.paper ≡ page_of inputs
 unfolding page_of
 HasTaken-value inputs s h = ap (λ s. s.sheet.paper) h.kept
 
@@ -175,14 +175,14 @@ pub page_of-page : (inputs : List Input) → IsPage inputs (page_of inputs)
 unfolding page_of
 page_of-page inputs = state_after-page inputs
 
-pub HasTaken-taken : (inputs : List Input) (s : State) → HasTaken inputs s → s.taken ≡ length inputs
+pub HasTaken-taken : (inputs : List Input) (s : PrinterState) → HasTaken inputs s → s.taken ≡ length inputs
 HasTaken-taken inputs s h = rw h.kept (state_after-taken inputs)
 
-pub HasTaken-push : (inputs : List Input) (s : State) (x : Input) (s' : State) → HasTaken inputs s → s' ≡ step s x → HasTaken (inputs ++ x ∷ []) s'
+pub HasTaken-push : (inputs : List Input) (s : PrinterState) (x : Input) (s' : PrinterState) → HasTaken inputs s → s' ≡ step s x → HasTaken (inputs ++ x ∷ []) s'
 HasTaken-push inputs s x s' h stepped = record { kept = stepped ∙ ap (λ s. step s x) h.kept ∙ sym (state_after-push start inputs x) }
 
 -- the fields of a value that has taken the inputs have taken them
-pub HasTaken-same : (inputs : List Input) (s s' : State) → s' ≡ s → HasTaken inputs s → HasTaken inputs s'
+pub HasTaken-same : (inputs : List Input) (s s' : PrinterState) → s' ≡ s → HasTaken inputs s → HasTaken inputs s'
 HasTaken-same inputs s s' e h = record { kept = e ∙ h.kept }
 
 -- what follows from a clause on `Ok`

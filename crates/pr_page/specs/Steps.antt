@@ -10,7 +10,7 @@ use Rattle.pr_page.specs.declared.settings.Settings.{Settings}
 use Rattle.pr_page.specs.declared.paper.Mark.{Mark}
 use Rattle.pr_page.specs.declared.paper.Mark.TheVariants.{Dots}
 use Rattle.pr_page.specs.declared.paper.Placed.{Placed}
-use Rattle.pr_page.specs.declared.state.State.{State}
+use Rattle.pr_page.specs.declared.state.PrinterState.{PrinterState}
 use Rattle.pr_page.specs.declared.sheet.Sheet.{Sheet}
 use Rattle.pr_page.specs.declared.pending.Pending.{Pending}
 use Rattle.pr_page.specs.declared.pending.Pending.TheVariants.{Idle, ColumnCode, ColumnTens, RepeatCode, RepeatCount, EscapeCode, AddressCode, AddressHigh}
@@ -94,30 +94,30 @@ sheet_after_all s [] = s
 sheet_after_all s (act ∷ acts) = sheet_after_all (sheet_after s act) acts
 
 -- what is kept after a token
-abbrev pub state_after_token : State → Token → State
+abbrev pub state_after_token : PrinterState → Token → PrinterState
 state_after_token s t = record s {
   settings = settings_after_token s.settings t;
   sheet = sheet_after_all s.sheet (acts_in (modes_of s.settings) t);
 }
 
 -- what is kept after tokens
-abbrev pub state_after_tokens : State → List Token → State
+abbrev pub state_after_tokens : PrinterState → List Token → PrinterState
 state_after_tokens s [] = s
 state_after_tokens s (t ∷ tokens) = state_after_tokens (state_after_token s t) tokens
 
 -- what is kept after an input
-abbrev pub step : State → Input → State
+abbrev pub step : PrinterState → Input → PrinterState
 step s (Select lower) = record s { lower = lower; taken = s.taken + 1 }
 step s (Byte b) =
     record (state_after_tokens s (tokens_by s.pending s.lower b)) { pending = pending_after s.pending b; taken = s.taken + 1 }
 
 -- what is kept after inputs
-abbrev pub state_after : State → List Input → State
+abbrev pub state_after : PrinterState → List Input → PrinterState
 state_after s [] = s
 state_after s (x ∷ inputs) = state_after (step s x) inputs
 
 -- what is kept at first
-abbrev pub start : State
+abbrev pub start : PrinterState
 start = record {
   settings = record { graphic = false; wide = false; reverse = false; override_set = None };
   lower = false;
@@ -131,7 +131,7 @@ abbrev pub GoesOn : Sheet → Sheet → Type 0
 GoesOn old new = (new.position ≤ line_dots) × (new.y ≤ old.y + 21)
 
 -- the numbers that are kept stay small
-abbrev pub IsInRange : State → Type 0
+abbrev pub IsInRange : PrinterState → Type 0
 IsInRange s = (s.sheet.position ≤ line_dots) × (s.sheet.y ≤ 21 * s.taken) × (s.taken ≤ 2 ^ 32)
 
 -- so many equal columns of dots, side by side from x on

@@ -2,12 +2,12 @@
 use Rattle.std.specs.Prelude.{◌≡◌, ℕ, List}
 use Rattle.pr_page.specs.Steps.{start, state_after}
 use Rattle.pr_page.specs.declared.input.Input.{Input}
-use Rattle.pr_page.specs.declared.state.State.{State}
+use Rattle.pr_page.specs.declared.state.PrinterState.{PrinterState}
 
 -- the printer has taken these inputs, in this order, and no others
-pub record HasTaken (inputs : List Input) (printer : State) : Type 0 where
+pub record HasTaken (inputs : List Input) (printer : PrinterState) : Type 0 where
   pub kept : printer ≡ state_after start inputs
 
 -- how many inputs the printer has taken
-abbrev pub number_taken : State → ℕ
+abbrev pub number_taken : PrinterState → ℕ
 number_taken printer = printer.taken

@@ -10,7 +10,7 @@ ghost use Rattle.pr_page.specs.Taken.{HasTaken, number_taken};
 use crate::NoMemory;
 use crate::input::Input;
 use crate::paper::Paper;
-use crate::state::State;
+use crate::state::PrinterState;
 use std::alloc::Global;
 use std::marker::Model;
 
@@ -23,14 +23,14 @@ use std::marker::Model;
 #[derive(Drop)]
 pub struct Printer {
     alloc: Global,
-    state: State,
+    state: PrinterState,
 }
 
 impl Model for Printer {
-    ghost use Rattle.pr_page.specs.declared.state.State.{State};
+    ghost use Rattle.pr_page.specs.declared.state.PrinterState.{PrinterState};
     ghost use Rattle.pr_page.specs.Steps.{IsInRange};
 
-    ghost Value = { State };
+    ghost Value = { PrinterState };
 
     ghost view = { λ p. p.state };
 
@@ -46,7 +46,7 @@ impl Printer {
     {
         Printer {
             alloc,
-            state: State::new(alloc),
+            state: PrinterState::new(alloc),
         }
     }
 

@@ -16,7 +16,7 @@ use std::alloc::{AllocError, Global};
 
 /// All that the inputs taken have left behind.
 #[derive(Drop)]
-pub struct State {
+pub struct PrinterState {
     pub settings: Settings,
     /// The last selection (true: lower/upper case).
     pub lower: bool,
@@ -36,12 +36,12 @@ fn leaves_settings(b: u8) -> bool
     b >= 160 || b >= 32 && b < 128
 }
 
-impl State {
+impl PrinterState {
     /// Nothing has been taken.
-    pub fn new(alloc: Global) -> State
+    pub fn new(alloc: Global) -> PrinterState
         ensures { result ≡ start }
     {
-        State {
+        PrinterState {
             settings: Settings {
                 graphic: false,
                 wide: false,

@@ -14,7 +14,7 @@ use Rattle.pr_page.specs.declared.input.Input.{Input}
 use Rattle.pr_receiver.specs.Heard.{heard_of}
 use Rattle.pr_receiver.specs.Given.{input_at, inputs_with}
 use Rattle.pr_receiver.specs.Taken.{HasTaken, device_of, number_taken, refusal_of}
-use Rattle.pr_receiver.specs.declared.state.State.{State}
+use Rattle.pr_receiver.specs.declared.state.Progress.{Progress}
 use Rattle.pr_receiver.proofs.Hearing.{each-push}
 use Rattle.pr_receiver.proofs.Ended.{fault-stays, traces-give}
 
@@ -23,7 +23,7 @@ abbrev IsAnswer : Result (Option Input) WaveFault → Result (Option Input) Wave
 IsAnswer answer wanted = answer ≡ wanted
 
 -- a receiver has taken the first edges, and these inputs came with them
-pub record HasGiven (device : ℕ) (edges : List Edge) (n : ℕ) (receiver : State) (inputs : List Input) : Type 0 where
+pub record HasGiven (device : ℕ) (edges : List Edge) (n : ℕ) (receiver : Progress) (inputs : List Input) : Type 0 where
   pub taken : HasTaken (take n edges) receiver
   pub refusal : refusal_of receiver ≡ None
   pub device_is : device_of receiver ≡ device
@@ -35,7 +35,7 @@ take-next : (edges : List Edge) (n : ℕ) (d : Edge) → n < length edges → ta
 take-next edges n d h = rw (add-one, take-suc edges n d h) refl
 
 -- one edge more was accepted, and its input kept
-pub gives-next : AllowedIsReached → (device : ℕ) (edges : List Edge) (n : ℕ) (r new : State) (inputs kept : List Input) (d : Edge) (input : Option Input)
+pub gives-next : AllowedIsReached → (device : ℕ) (edges : List Edge) (n : ℕ) (r new : Progress) (inputs kept : List Input) (d : Edge) (input : Option Input)
     → HasGiven device edges n r inputs → n < length edges
     → ((es : List Edge) → HasTaken es r → refusal_of r ≡ None → IsAllowed (es ++ get_or edges n d ∷ []) → IsAnswer (Ok input) (Ok (input_at (device_of r) es (get_or edges n d))))
     → ((es : List Edge) → HasTaken es r → HasTaken (es ++ get_or edges n d ∷ []) new)
@@ -59,7 +59,7 @@ gives-next allowed device edges n r new inputs kept d input g h a t f v c k =
     }
 
 -- the fault of the edge that was refused is that of the whole list
-pub refused-whole : AllowedIsReached → FaultIsReached → (device : ℕ) (edges : List Edge) (n : ℕ) (r : State) (inputs : List Input) (d : Edge) (w : WaveFault)
+pub refused-whole : AllowedIsReached → FaultIsReached → (device : ℕ) (edges : List Edge) (n : ℕ) (r : Progress) (inputs : List Input) (d : Edge) (w : WaveFault)
     → HasGiven device edges n r inputs → n < length edges
     → ((es : List Edge) → HasTaken es r → refusal_of r ≡ None → IsAllowed (es ++ get_or edges n d ∷ []) → IsAnswer (Err w) (Ok (input_at (device_of r) es (get_or edges n d))))
     → ((es : List Edge) → HasTaken es r → refusal_of r ≡ None → fault_of (es ++ get_or edges n d ∷ []) ≡ Some w)
@@ -78,7 +78,7 @@ handed_on (Ok x) w P h p = tt
 handed_on (Err x) w P h p = rw h p
 
 -- at the end all edges have been taken
-pub given-all : (device : ℕ) (edges : List Edge) (n : ℕ) (r : State) (inputs : List Input) → HasGiven device edges n r inputs → length edges ≤ n → HasTaken edges r × (inputs ≡ inputs_with device edges)
+pub given-all : (device : ℕ) (edges : List Edge) (n : ℕ) (r : Progress) (inputs : List Input) → HasGiven device edges n r inputs → length edges ≤ n → HasTaken edges r × (inputs ≡ inputs_with device edges)
 given-all device edges n r inputs g h =
     let a : take n edges ≡ edges = take_all n edges h in
     (subst (λ l. HasTaken l r) a g.taken, g.given ∙ ap (inputs_with device) a)

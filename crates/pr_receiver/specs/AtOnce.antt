@@ -7,7 +7,7 @@ use Rattle.pr_wire.specs.Table.{IsAllowed}
 use Rattle.pr_page.specs.declared.input.Input.{Input}
 use Rattle.pr_receiver.specs.Given.{frames_ended, inputs_with}
 use Rattle.pr_receiver.specs.Taken.{HasTaken, device_of, number_taken, refusal_of}
-use Rattle.pr_receiver.specs.declared.state.State.{State}
+use Rattle.pr_receiver.specs.declared.state.Progress.{Progress}
 
 -- edges behind others end one frame
 abbrev pub EndOneFrame : List Edge → List Edge → Type 0
@@ -22,7 +22,7 @@ abbrev pub BringInput : ℕ → List Edge → List Edge → Option Input → Typ
 BringInput device before edges input = inputs_with device (before ++ edges) ≡ inputs_with device before ++ option_to_list input
 
 -- a receiver has taken so many edges in front, edge by edge, and this input came with the last of them; if none, it is as it was
-pub record TakesAtOnce (old : State) (edges : List Edge) (n : ℕ) (input : Option Input) (new : State) : Type 0 where
+pub record TakesAtOnce (old : Progress) (edges : List Edge) (n : ℕ) (input : Option Input) (new : Progress) : Type 0 where
   pub taken : (before : List Edge) → HasTaken before old → HasTaken (before ++ take n edges) new
   pub inputs : (before : List Edge) → HasTaken before old → BringInput (device_of old) before (take n edges) input
   pub ends : 0 < n → (before : List Edge) → HasTaken before old → EndOneFrame before (take n edges)

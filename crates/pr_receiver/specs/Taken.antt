@@ -7,14 +7,14 @@ use Rattle.pr_wire.specs.Reached.{Reached, begin, reached}
 use Rattle.pr_receiver.specs.Heard.{is_listening, is_called}
 use Rattle.pr_receiver.specs.Given.{frames_ended}
 use Rattle.pr_receiver.specs.declared.listener.Listener.{Listener}
-use Rattle.pr_receiver.specs.declared.state.State.{State}
+use Rattle.pr_receiver.specs.declared.state.Progress.{Progress}
 
 -- what a device keeps of frames
 abbrev pub kept_of : ℕ → List Frame → Listener
 kept_of device frames = record { device = device; listens = is_listening device frames; called = is_called device frames }
 
 -- the receiver has taken these edges, in this order, and no others; an edge that it refused is none of them
-pub record HasTaken (edges : List Edge) (receiver : State) : Type 0 where
+pub record HasTaken (edges : List Edge) (receiver : Progress) : Type 0 where
   pub come : Reached
   pub leads : reached begin edges ≡ Ok come
   pub last : receiver.last ≡ come.last
@@ -23,13 +23,13 @@ pub record HasTaken (edges : List Edge) (receiver : State) : Type 0 where
   pub listener : receiver.listener ≡ kept_of receiver.listener.device (frames_ended edges)
 
 -- the number of the device whose receiver it is
-abbrev pub device_of : State → ℕ
+abbrev pub device_of : Progress → ℕ
 device_of receiver = receiver.listener.device
 
 -- how many edges the receiver has taken
-abbrev pub number_taken : State → ℕ
+abbrev pub number_taken : Progress → ℕ
 number_taken receiver = receiver.taken
 
 -- the fault with which it refuses, if it has refused an edge
-abbrev pub refusal_of : State → Option WaveFault
+abbrev pub refusal_of : Progress → Option WaveFault
 refusal_of receiver = receiver.refused

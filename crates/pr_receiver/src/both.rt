@@ -3,7 +3,7 @@
 ghost use Rattle.std.specs.Prelude.{◌≡◌, ◌^◌, ◌+◌, ◌<◌, ◌≤◌, false, length};
 ghost use Rattle.pr_receiver.specs.Steps.{IsSound, MayPass};
 
-use crate::state::State;
+use crate::state::Progress;
 use pr_page::Input;
 use pr_wire::Edge;
 
@@ -26,10 +26,10 @@ fn differ(edge: Edge, other: Edge) -> bool
     edge != other
 }
 
-impl State {
+impl Progress {
     /// Takes the edges of a frame at once, where this place and the other's find them next.
     #[inline(always)]
-    pub fn pass_frame_with(&mut self, other: &mut State, edges: &[Edge]) -> PassedBoth
+    pub fn pass_frame_with(&mut self, other: &mut Progress, edges: &[Edge]) -> PassedBoth
         requires room { self.old.taken + length edges.now < 2 ^ 64 }
         requires other_room { other.old.taken + length edges.now < 2 ^ 64 }
         requires sound { IsSound self.old }

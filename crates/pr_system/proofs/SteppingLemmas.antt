@@ -9,7 +9,7 @@ use Rattle.pr_serial.specs.Heard.{heard_by}
 use Rattle.pr_serial.specs.Telling.{items_before}
 use Rattle.pr_serial.specs.Laws.{ItemsOnlyGrow}
 use Rattle.pr_page.specs.declared.input.Input.{Input}
-use Rattle.pr_page.specs.declared.state.State.{State}
+use Rattle.pr_page.specs.declared.state.PrinterState.{PrinterState}
 use Rattle.pr_page.specs.Taken.{HasTaken, number_taken}
 use Rattle.pr_channels.specs.declared.faults.Stop.{Stop}
 use Rattle.pr_channels.specs.Seen.{Seen}
@@ -36,7 +36,7 @@ shows_as device inputs present present' mark mark' items items' there marked sen
     subst H sent (subst G marked (subst F there is))
 
 -- a printer that is given what it heard since the mark
-pub fed_more : (present : Present) (device : ℕ) (mark : Option ℕ) (items : List Item) (inputs : List Input) (old new : State) → Shows present device mark items inputs → IsFed present device (items_before mark items) old
+pub fed_more : (present : Present) (device : ℕ) (mark : Option ℕ) (items : List Item) (inputs : List Input) (old new : PrinterState) → Shows present device mark items inputs → IsFed present device (items_before mark items) old
     → ((before : List Input) → HasTaken before old → HasTaken (before ++ inputs) new) → number_taken new ≡ number_taken old + length inputs → IsFed present device items new
 fed_more present device mark items inputs old new is fed taken count =
     let P : List Input → Type 0 = λ xs. HasTaken xs new in
@@ -47,7 +47,7 @@ fed_more present device mark items inputs old new is fed taken count =
     }
 
 -- so many inputs can be given
-pub room_to_feed : (present : Present) (device : ℕ) (mark : Option ℕ) (items : List Item) (inputs : List Input) (old : State) → Shows present device mark items inputs → IsFed present device (items_before mark items) old
+pub room_to_feed : (present : Present) (device : ℕ) (mark : Option ℕ) (items : List Item) (inputs : List Input) (old : PrinterState) → Shows present device mark items inputs → IsFed present device (items_before mark items) old
     → 2 * length items ≤ 4294967296 → number_taken old + length inputs ≤ 4294967296
 room_to_feed present device mark items inputs old is fed few =
     omega (arith, few, fed.count, ap length is.heard, length-append (heard_by present device (items_before mark items)) inputs, is.bounded)
@@ -84,7 +84,7 @@ advanced next old mid new mode channel number answer statement works in_step fou
     })
 
 -- a printer that had taken what it heard before the statement has taken what it heard before the mark
-pub fed_before : ItemsOnlyGrow → (old new : Seen) (mode : StatusMode) (device : ℕ) (printer : State) → old.sent ≡ items_of old.elements → Advanced old new mode → IsFed old.present device old.sent printer → IsFed new.present device (items_before new.mark new.sent) printer
+pub fed_before : ItemsOnlyGrow → (old new : Seen) (mode : StatusMode) (device : ℕ) (printer : PrinterState) → old.sent ≡ items_of old.elements → Advanced old new mode → IsFed old.present device old.sent printer → IsFed new.present device (items_before new.mark new.sent) printer
 fed_before grow old new mode device printer in_step a fed =
     let grown = grow old.elements a.more in
     let sent : new.sent ≡ items_of old.elements ++ grown.0 = a.sent ∙ ap items_of a.elements ∙ grown.1 in

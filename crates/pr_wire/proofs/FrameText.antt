@@ -5,7 +5,7 @@ use Rattle.std.proofs.lemmas.List.{take_more_set, length-take-le, length-set}
 use Rattle.std.specs.Prelude.{slice_set}
 use Rattle.pr_wire.specs.declared.Edge.{Edge}
 use Rattle.pr_wire.specs.declared.Frame.{Frame}
-use Rattle.pr_wire.specs.declared.line.Line.{Line}
+use Rattle.pr_wire.specs.declared.line.EdgeLine.{EdgeLine}
 use Rattle.pr_wire.specs.declared.first_lines.FirstLines.{FirstLines}
 use Rattle.pr_wire.specs.declared.place.Place.{Place}
 use Rattle.pr_wire.specs.declared.part.LinePart.{LinePart}
@@ -18,7 +18,8 @@ use Rattle.pr_wire.specs.LineParts.{is_nothing}
 use Rattle.pr_wire.specs.Reached.{begin, reached, led}
 use Rattle.pr_wire.specs.Checking.{with_frame}
 use Rattle.pr_wire.specs.TextSteps.{ended_line_in}
-use Rattle.pr_wire.specs.TraceText.{lines_of, AreEdgeLines}
+use Rattle.pr_wire.specs.TraceText.{AreEdgeLines}
+use Rattle.pr_text.specs.Lines.{lines_of}
 use Rattle.pr_wire.proofs.CheckLaws.{nothing_is}
 use Rattle.pr_wire.proofs.LineLaws.{ended_line-is}
 use Rattle.pr_wire.proofs.PartLaws.{nothing_empty}
@@ -34,7 +35,7 @@ both_lines (l ∷ ls) ms [] fs h k = absurd h
 both_lines (l ∷ ls) ms (e ∷ es) fs h k = (h.0, both_lines ls ms es fs h.1 k)
 
 -- one line more
-pub more_lines : (text : List ℕ) (f g : FirstLines) (l : Line) → f.count < 22 → ended_line_in (drop f.len text) ≡ Some l
+pub more_lines : (text : List ℕ) (f g : FirstLines) (l : EdgeLine) → f.count < 22 → ended_line_in (drop f.len text) ≡ Some l
     → g.edges ≡ slice_set f.edges f.count l.edge → g.count ≡ f.count + 1 → g.len ≡ f.len + l.len → AreFirstLines text f → AreFirstLines text g
 more_lines text f g l n k e c len h =
     let t = ended_line-is (drop f.len text) l k in

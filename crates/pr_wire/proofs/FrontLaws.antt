@@ -5,8 +5,8 @@ use Rattle.std.proofs.lemmas.Nat.{le_bytes_4}
 use Rattle.std.proofs.lemmas.List.{ext_get_or, get_or-take, get_or-drop}
 use Rattle.std.proofs.lemmas.List.Sums.{prefix_len_is, prefix_len_passes, prefix_len-le-length}
 use Rattle.std.specs.Prelude.{IfSome}
-use Rattle.pr_wire.specs.declared.line.Line.{Line}
-use Rattle.pr_wire.specs.TraceText.{is_digit, number_after}
+use Rattle.pr_wire.specs.declared.line.EdgeLine.{EdgeLine}
+use Rattle.pr_text.specs.Digits.{is_digit, number_after}
 use Rattle.pr_wire.specs.TextSteps.{ended_in, ended_line_in, time_in}
 use Rattle.pr_wire.specs.Fronts.{word_at, IsFront}
 use Rattle.pr_wire.proofs.LineLaws.{ended_parts, time_parts, time_read, front-number, digit-value}
@@ -73,7 +73,7 @@ three-digits ds n h a b c k w =
     by (suc (suc (suc j))) e v = absurd (omega arith)
 
 -- the front of a line that was read
-pub front-of : (text : List ℕ) (l : Line) (n : ℕ) → ended_line_in text ≡ Some l → l.len ≡ n + 8 → 4 ≤ n → n ≤ 8 → n ≤ length text → ((k : ℕ) → get_or text k 0 < 256)
+pub front-of : (text : List ℕ) (l : EdgeLine) (n : ℕ) → ended_line_in text ≡ Some l → l.len ≡ n + 8 → 4 ≤ n → n ≤ 8 → n ≤ length text → ((k : ℕ) → get_or text k 0 < 256)
     → IsFront n (word_at text 0) (word_at text (n - 4)) (1000 * (l.edge.time / 1000))
 unfolding ended_line_in
 front-of text l n h e p q w b =
@@ -99,7 +99,7 @@ front-of text l n h e p q w b =
     }
 
 -- a line that begins with a front
-pub front-read : (text : List ℕ) (n first last time m : ℕ) (l : Line) → IsFront n first last time → ((k : ℕ) → get_or text k 0 < 256) → 16 ≤ length text → word_at text 0 ≡ first → word_at text (n - 4) ≡ last
+pub front-read : (text : List ℕ) (n first last time m : ℕ) (l : EdgeLine) → IsFront n first last time → ((k : ℕ) → get_or text k 0 < 256) → 16 ≤ length text → word_at text 0 ≡ first → word_at text (n - 4) ≡ last
     → is_digit (get_or text n 0) ≡ true → is_digit (get_or text (n + 1) 0) ≡ true → is_digit (get_or text (n + 2) 0) ≡ true
     → m ≡ time + (100 * (get_or text n 0 - 48) + 10 * (get_or text (n + 1) 0 - 48) + (get_or text (n + 2) 0 - 48)) → m < 2 ^ 64
     → ended_in (Some m) (n + 3) (drop (n + 3) text) ≡ Some l → ended_line_in text ≡ Some l
@@ -113,7 +113,7 @@ front-read text n first last time m l f b w p q x y z e small h =
     let read : time_in (take (n + 3) text) ≡ Some m = time_read (take (n + 3) text) m (omega (arith, length-take (n + 3) text, f.greatest, w)) number small in
     rw (count, read) h
 
-pub front-line : (text : List ℕ) (n first last time m : ℕ) (x y z : Bool) (r : Option Line) → IsFront n first last time → ((k : ℕ) → get_or text k 0 < 256) → 16 ≤ length text → word_at text 0 ≡ first → word_at text (n - 4) ≡ last
+pub front-line : (text : List ℕ) (n first last time m : ℕ) (x y z : Bool) (r : Option EdgeLine) → IsFront n first last time → ((k : ℕ) → get_or text k 0 < 256) → 16 ≤ length text → word_at text 0 ≡ first → word_at text (n - 4) ≡ last
     → x ≡ is_digit (get_or text n 0) → y ≡ is_digit (get_or text (n + 1) 0) → z ≡ is_digit (get_or text (n + 2) 0) → ((x && y) && z) ≡ true
     → m ≡ time + (100 * (get_or text n 0 - 48) + 10 * (get_or text (n + 1) 0 - 48) + (get_or text (n + 2) 0 - 48)) → m < 2 ^ 64
     → r ≡ ended_in (Some m) (n + 3) (drop (n + 3) text) → IfSome r (λ l. ended_line_in text ≡ Some l)

@@ -7,8 +7,10 @@ use Rattle.std.specs.Prelude.{All}
 use Rattle.std.proofs.lemmas.Fmt.{decimal_step, digits_decimal, digits_value-decimal, decimal_nonempty}
 use Rattle.std.proofs.lemmas.Str.Parse.{IsNumeralModel, numerals_by_fold}
 use Rattle.pr_wire.specs.declared.Edge.{Edge}
-use Rattle.pr_wire.specs.declared.line.Line.{Line}
-use Rattle.pr_wire.specs.TraceText.{levels_text, edge_text, trace_text, lines_of, is_digit, number_after, IsEdgeLine, AreEdgeLines, IsTraceText, IsFirstBad}
+use Rattle.pr_wire.specs.declared.line.EdgeLine.{EdgeLine}
+use Rattle.pr_wire.specs.TraceText.{levels_text, edge_text, trace_text, IsEdgeLine, AreEdgeLines, IsTraceText, IsFirstBad}
+use Rattle.pr_text.specs.Digits.{is_digit, number_after}
+use Rattle.pr_text.specs.Lines.{lines_of}
 use Rattle.pr_wire.specs.TraceText.Return.{Without}
 use Rattle.pr_wire.specs.TextSteps.{line_in}
 use Rattle.pr_wire.specs.Written.{three_digits, levels_line}
@@ -19,8 +21,8 @@ use Rattle.pr_wire.proofs.LineLaws.Behind.{Nothing}
 line_once : (line : List ℕ) (e f : Edge) → IsEdgeLine line e → IsEdgeLine line f → e ≡ f
 line_once line e f h k = by (line_in (line ++ [])) (line_read line e Nothing h) (line_read line f Nothing k)
   where
-    by : (v : Option Line) → IsRead (line ++ []) e → IsRead (line ++ []) f → e ≡ f
-    by v a b = let s : a.read ≡ b.read = let t : Some a.read ≡ Some b.read = sym a.is ∙ b.is in cc in sym a.edge ∙ (ap (λ (l : Line). l.edge) s ∙ b.edge)
+    by : (v : Option EdgeLine) → IsRead (line ++ []) e → IsRead (line ++ []) f → e ≡ f
+    by v a b = let s : a.read ≡ b.read = let t : Some a.read ≡ Some b.read = sym a.is ∙ b.is in cc in sym a.edge ∙ (ap (λ (l : EdgeLine). l.edge) s ∙ b.edge)
 
 lines_once : (ls : List (List ℕ)) (es fs : List Edge) → AreEdgeLines ls es → AreEdgeLines ls fs → es ≡ fs
 lines_once [] [] [] h k = refl
@@ -61,7 +63,7 @@ one_line_more (m ∷ ls) [] l e h k = absurd h
 one_line_more (m ∷ ls) (f ∷ fs) l e h k = (h.0, one_line_more ls fs l e h.1 k)
 
 -- one line more is read
-pub read_more : (text rest : List ℕ) (edges : List Edge) (l : Line) → HasRead text rest edges → line_in rest ≡ Some l → HasRead text (drop l.len rest) (edges ++ l.edge ∷ [])
+pub read_more : (text rest : List ℕ) (edges : List Edge) (l : EdgeLine) → HasRead text rest edges → line_in rest ≡ Some l → HasRead text (drop l.len rest) (edges ++ l.edge ∷ [])
 read_more text rest edges l h k =
     let f = line_in-is rest l k in
     record {

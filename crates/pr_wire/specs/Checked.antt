@@ -15,7 +15,8 @@ use Rattle.pr_wire.specs.Checking.{with_frame}
 use Rattle.pr_wire.specs.LineParts.{part_with}
 use Rattle.pr_wire.specs.Reached.{Reached, begin, reached, add, led, one_more}
 use Rattle.pr_wire.specs.Table.{fault_at}
-use Rattle.pr_wire.specs.TraceText.{AreEdgeLines, IsFirstBad, lines_of}
+use Rattle.pr_wire.specs.TraceText.{AreEdgeLines, IsFirstBad}
+use Rattle.pr_text.specs.Lines.{lines_of}
 
 -- how many lines have spelled an edge
 abbrev pub line_count : Checker → ℕ

@@ -1,6 +1,8 @@
 -- Trusted: traces as text: which texts spell which edges, which line is the first bad one, and the text that is written.
-use Rattle.std.specs.Prelude.{◌≡◌, ℕ, ◌+◌, ◌-◌, ◌*◌, ◌^◌, ◌<◌, ◌==◌, ◌&&◌, Bool, true, false, List, [], ◌∷◌, ◌++◌, length, flat_map, decimal, nat_le, if◌then◌else◌}
+use Rattle.std.specs.Prelude.{◌≡◌, ℕ, ◌+◌, ◌^◌, ◌<◌, Bool, true, false, List, [], ◌∷◌, ◌++◌, length, flat_map, decimal}
 use Rattle.std.specs.List.{list_all}
+use Rattle.pr_text.specs.Digits.{is_digit, number_after}
+use Rattle.pr_text.specs.Lines.{lines_of}
 use Rattle.pr_wire.specs.declared.Edge.{Edge}
 
 -- a level's digit: 1 is released
@@ -19,25 +21,6 @@ edge_text e = decimal e.time ++ (levels_text e ++ 10 ∷ [])
 -- the text of a trace: a line for each edge
 abbrev pub trace_text : List Edge → List ℕ
 trace_text edges = flat_map edge_text edges
-
--- lines, with a byte before the first of them
-abbrev pub onto_first : ℕ → List (List ℕ) → List (List ℕ)
-onto_first b [] = (b ∷ []) ∷ []
-onto_first b (l ∷ ls) = (b ∷ l) ∷ ls
-
--- the lines of a text, without their ends: each ends with byte 10, but perhaps the last
-unfoldable pub lines_of : List ℕ → List (List ℕ)
-lines_of [] = []
-lines_of (b ∷ bs) = if b == 10 then [] ∷ lines_of bs else onto_first b (lines_of bs)
-
--- a decimal digit
-abbrev pub is_digit : ℕ → Bool
-is_digit b = nat_le 48 b && nat_le b 57
-
--- the number that digits spell, after a front that spells n
-abbrev pub number_after : ℕ → List ℕ → ℕ
-number_after n [] = n
-number_after n (d ∷ ds) = number_after (10 * n + (d - 48)) ds
 
 -- a byte 13 may stand at a line's end
 pub data Return : Type 0 where

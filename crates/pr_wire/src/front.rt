@@ -4,7 +4,8 @@ ghost use Rattle.std.specs.Prelude.{◌≡◌, ◌+◌, ◌<◌, ◌≤◌, leng
 ghost use Rattle.pr_wire.specs.TextSteps.{ended_line_in};
 ghost use Rattle.pr_wire.specs.Fronts.{IsFront, word_at};
 
-use crate::line::{Line, is_digit, read_ended, read_ended_line};
+use crate::line::{EdgeLine, read_ended, read_ended_line};
+use pr_text::is_digit;
 
 /// The fewest and the most digits of a front: two words of four digits, which may overlap.
 const LEAST: usize = 4;
@@ -43,7 +44,7 @@ fn word(text: &[u8], at: usize) -> u32
 
 impl Front {
     /// The front of a line that was read, if it has one.
-    fn of(text: &[u8], line: Line) -> Option<Front>
+    fn of(text: &[u8], line: EdgeLine) -> Option<Front>
         requires { ended_line_in text.now ≡ Some line }
     {
         if line.len < LEAST + TAIL_LEN || line.len > MOST + TAIL_LEN {
@@ -63,7 +64,7 @@ impl Front {
 
     /// The edge of the first line, if the line begins with this front and ends with byte 10 alone.
     #[inline(always)]
-    fn read(self, text: &[u8]) -> Option<Line>
+    fn read(self, text: &[u8]) -> Option<EdgeLine>
         ensures line { IfSome result (λ line. ended_line_in text.now ≡ Some line) }
         ensures some { IfSome result (λ line. 0 < line.len) }
         ensures within { IfSome result (λ line. line.len ≤ length text.now) }
@@ -90,7 +91,7 @@ impl Front {
 /// The edge of the first line, if the line spells one and ends with byte 10 alone: at once where it
 /// begins with the front of an earlier line, which is kept.
 #[inline(always)]
-pub fn read_next(front: &mut Option<Front>, text: &[u8]) -> Option<Line>
+pub fn read_next(front: &mut Option<Front>, text: &[u8]) -> Option<EdgeLine>
     ensures line { result ≡ ended_line_in text.now }
     ensures some { IfSome result (λ line. 0 < line.len) }
     ensures within { IfSome result (λ line. line.len ≤ length text.now) }

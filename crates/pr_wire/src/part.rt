@@ -3,7 +3,8 @@
 ghost use Rattle.std.specs.Prelude.{◌≡◌, ◌<◌};
 ghost use Rattle.pr_wire.specs.LineParts.{edge_of_part, is_nothing, level_after, part_after, time_after};
 
-use crate::line::{is_digit, read_level};
+use crate::line::read_level;
+use pr_text::is_digit;
 use crate::{Edge, Levels};
 
 /// What has come of a line. Times are in microseconds.

@@ -34,7 +34,7 @@ command-computer : (c : goal.In_ok-release) → left c.command.new.self.computer
 command-computer c = c.in_ok-ack.ensures.computer ∙ ap (λ l. drop 17 l) (answer-computer c) ∙ drop-twice 2 17 (left c.args.self.now.computer)
 
 command-printers : (c : goal.In_ok-release) → printers_of c.command.new.self ≡ map (taking 3) (printers_of c.args.self.now)
-command-printers c = both (taking 2) c.answer.new.self c.command.new.self c.in_ok-ack.ensures.four c.in_ok-ack.ensures.five ∙ ap (λ (l : List all.Printer). map (taking 2) l) (answer-printers c) ∙ taking-twice 1 2 (printers_of c.args.self.now)
+command-printers c = both (taking 2) c.answer.new.self c.command.new.self c.in_ok-ack.ensures.four c.in_ok-ack.ensures.five ∙ ap (λ (l : List all.TimedPrinter). map (taking 2) l) (answer-printers c) ∙ taking-twice 1 2 (printers_of c.args.self.now)
 
 frame-is : (c : goal.In_ok-release) → command_frame c.answer.new.self (c.args.self.now.time + c.from.result + c.from-2.result) c.args.first ≡ first_of c.args.self.now c.args.first
 frame-is c = first-is c.args.self.now c.answer.new.self c.args.first _ (look-is c) (answer-computer c) (answer-printers c)
