@@ -75,7 +75,7 @@ function commands(   i, n, pair, part) {
         "27 16 0 8 65 193 27 16 0 13 66 16 10 13 67 26 14 18 68 13")
     page("parameters-like-commands", "Parameters are no commands: 16, 26 and 27 as parameters of each other.", \
         "16 27 16 65 16 26 27 66 26 16 27 67 27 16 0 27 68 27 16 26 16 69 13")
-    n = split("16 16,48 26 26,2 27 27,16 27,16,0", pair, " ")
+    n = split("16 16,200 26 26,200 27 27,16 27,16,200", pair, " ")
     for (i = 1; i <= n; i++) {
         gsub(/,/, " ", pair[i])
         name = pair[i]
@@ -94,7 +94,7 @@ function lines() {
     page("full-line-and-graphics", "A line of cells that wraps in graphic mode is 14/126 inch high.", times(65, 80) " 8 193 13")
     page("full-line-of-dots", "480 columns fill a line; the 481st wraps.", "8 26 255 129 26 225 130 131 13")
     page("dots-and-a-cell-that-wraps", "A line of dots that wraps in character mode is 21/126 inch high.", "8 27 16 1 223 193 15 65 13")
-    page("wrap-keeps-styles", "A wrap ends the line as 10 does: override, reverse and width go on.", "17 18 14 16 55 56 65 66 13 67 13")
+    page("wrap-keeps-styles", "A wrap ends the line as 10 does: override, reverse and width go on.", "17 18 14 16 55 56 65 66 67 13 68 13")
     page("move-without-a-mark", "A move alone marks nothing, and ends with its line.", "16 53 48 13 65 27 16 1 223 10 66 13")
     page("wrap-behind-a-move", "A mark that does not fit behind a move leaves an empty row.", "27 16 1 220 65 13 14 27 16 1 220 66 13")
     page("pitches", "Rows of 21 and of 14/126 inch: the mode in which the line ends counts.", "65 13 8 193 13 194 10 15 66 13 8 10 10 15 10 10 67 13")
