@@ -61,7 +61,7 @@ function step(time, edge,   i, low, high) {
     high = place == "Pulse" ? free + 450 : (greatest[i] == "" ? "" : since + greatest[i])
     if (time < low) { outside[i, "early"]++; return "too early" }
     if (high != "" && time > high) { outside[i, "late"]++; return "too late" }
-    note(i, "seen")
+    note(i, "lawful")
     if (time == low) note(i, "least")
     if (time == high) note(i, "greatest")
     before = time
@@ -69,9 +69,15 @@ function step(time, edge,   i, low, high) {
     go(i, time, substr(edge, 3))
     return ""
 }
-function note(i, what) {
-    counts[i, what]++
-    if (!((i, what, case_name) in shown)) { shown[i, what, case_name] = 1; shows[i, what] = shows[i, what] " " case_name }
+# An edge counts where its trace turns out to be lawful.
+function note(i, what) { notes++; noted_row[notes] = i; noted[notes] = what }
+function count_notes(   k, i, what) {
+    for (k = 1; k <= notes; k++) {
+        i = noted_row[k]
+        what = noted[k]
+        counts[i, what]++
+        if (!((i, what, case_name) in shown)) { shown[i, what, case_name] = 1; shows[i, what] = shows[i, what] " " case_name }
+    }
 }
 # The place that row i reaches with the edge at this moment.
 function go(i, time, line,   from) {
@@ -99,7 +105,7 @@ function spot() { return place == "High 7" ? "High" : place }
 # Goes through a trace; answers its frames and then `lawful`, or its first fault.
 function walk(count,   i, fault) {
     place = "Idle"
-    since = before = eoi = 0
+    since = before = eoi = notes = 0
     levels = "111"
     frames = ""
     if (count == 0 || moment[0] + 0 != 0 || level[0] != "111") { start_faults++; return "edge 0: bad start" }
@@ -107,7 +113,7 @@ function walk(count,   i, fault) {
         fault = step(moment[i] + 0, level[i])
         if (fault != "") { faults[spot(), fault]++; return "edge " i ": " fault }
     }
-    if (may_end()) return frames "lawful\n"
+    if (may_end()) { count_notes(); return frames "lawful\n" }
     faults[spot(), "truncated"]++
     return "edge " count ": truncated"
 }
@@ -124,7 +130,7 @@ function mark(width, name) {
 function end_line() { page["row " (graphic ? 14 : 21) "/126 inch high"]++; position = furthest = 0 }
 function bound(value, list, name,   i, n, part) {
     n = split(list, part, " ")
-    for (i = 1; i <= n; i++) if (part[i] == value) page[name " " value]++
+    for (i = 1; i <= n; i++) if (part[i] == value) { if (name ~ /byte$/ && name !~ /repeat/) ends[name " " value]++; else page[name " " value]++ }
 }
 function command_done(   i, dot) {
     in_mode(first == 27 ? "27 16" : first)
@@ -159,9 +165,9 @@ function take(value) {
     else if (value == 14) { graphic = 0; wide = 1 }
     else if (value == 15) graphic = wide = 0
     else if (value == 10 || value == 13) end_line()
-    else if (graphic) { bound(value, "127 128 255", "byte in graphic mode"); if (value >= 128) mark(1, "column of dots") }
+    else if (graphic) { bound(value, "127 128 255", "graphic byte"); if (value >= 128) mark(1, "column of dots") }
     else {
-        bound(value, "31 32 127 128 159 160 255", "byte in character mode")
+        bound(value, "31 32 127 128 159 160 255", "byte")
         if ((value >= 32 && value <= 127) || value >= 160) mark(wide ? 12 : 6, wide ? "wide cell" : "cell")
     }
 }
@@ -177,7 +183,7 @@ function hear(device, count,   i, part, listening) {
         split(frame[i], part, " ")
         if (frame[i] == "command " 32 + device) {
             listening = 1
-            if (parameters) page["selection behind " unfinished()]++
+            if (parameters) selected_behind[unfinished()]++
         } else if (frame[i] == "command 63") listening = 0
         else if (part[1] == "data" && listening) take(part[2])
     }
@@ -205,10 +211,10 @@ function settle(   i, answer, wanted, rest) {
     if (words ~ /^raw/ && words !~ /lower/) {
         reset_printer()
         for (i = 0; i < bytes; i++) take(input_byte[i])
-        if (parameters) page["unfinished " unfinished()]++
+        if (parameters) unfinished_by[unfinished()]++
     }
     for (i = 0; i < outputs; i++) {
-        if (output[i] ~ / cell /) { rest = output[i]; sub(/^ *[0-9]+ cell [0-9]+/, "", rest); style[rest == "" ? " plain" : rest]++ }
+        if (output[i] ~ / cell /) { rest = output[i]; sub(/^ *[0-9]+ cell [0-9]+ ?/, "", rest); style[rest == "" ? "plain" : rest]++ }
         if (output[i] ~ /^stop/) { split(output[i], part, " "); stops[part[2], words ~ /kept/ ? "kept" : "each"]++ }
     }
     if (mistake != "") { rest = mistake; sub(/^[^:]*: /, "", rest); told[rest]++ }
@@ -231,9 +237,16 @@ function number(count, may_be, what) {
     if (!count) missing(what)
     return count + 0
 }
-function line_of(names, counts_of, what,   i, n, part) {
+# Names with their counts, in lines of at most 100 characters.
+function line_of(title, names, counts_of,   i, n, part, line) {
     n = split(names, part, "[|]")
-    for (i = 1; i <= n; i++) printf "%-38s %5s\n", part[i], number(counts_of[part[i]], 1, what part[i])
+    line = title ":"
+    for (i = 1; i <= n; i++) {
+        item = part[i] " (" number(counts_of[part[i]], 1, title " " part[i]) ")" (i < n ? "," : "")
+        if (length(line " " item) > 100) { print line; line = "   " }
+        line = line " " item
+    }
+    print line
 }
 BEGIN {
     table()
@@ -282,7 +295,7 @@ END {
     printf "\n%-40s %6s %6s %6s %6s %6s\n", "row of Table.antt", "lawful", "least", "great.", "early", "late"
     for (i = 1; i <= rows; i++) {
         most = greatest[i] != "" || at[i] == "Pulse"
-        printf "%-40s %6s %6s %6s %6s %6s\n", clause[i], number(counts[i, "seen"], 1, clause[i]), number(counts[i, "least"], 1, clause[i] " at its least"), \
+        printf "%-40s %6s %6s %6s %6s %6s\n", clause[i], number(counts[i, "lawful"], 1, clause[i]), number(counts[i, "least"], 1, clause[i] " at its least"), \
             number(counts[i, "greatest"], most, clause[i] " at its greatest"), number(outside[i, "early"], least[i] > 1, clause[i] " too early"), \
             number(outside[i, "late"], most, clause[i] " too late")
     }
@@ -301,21 +314,19 @@ END {
     for (i = 1; i <= n; i++)
         printf "%-24s %9s %9s\n", list[i] == 27 ? "27 before another byte" : list[i], number(codes[list[i], "character"], 1, list[i] " in character mode"), number(codes[list[i], "graphic"], 1, list[i] " in graphic mode")
     printf "\n"
-    line_of("column 0|column 79|column 80|column without digits|dot address 0|dot address 479|dot address 480|dot address 65535|" \
-        "repeat 0|repeat 1|repeat 255|repeated byte 127|repeated byte 128|repeated byte 255|" \
-        "byte in character mode 31|byte in character mode 32|byte in character mode 127|byte in character mode 128|" \
-        "byte in character mode 159|byte in character mode 160|byte in character mode 255|" \
-        "byte in graphic mode 127|byte in graphic mode 128|byte in graphic mode 255|" \
-        "cell up to the edge|cell that wraps|wide cell up to the edge|wide cell that wraps|column of dots up to the edge|" \
-        "column of dots that wraps|mark over another|row 14/126 inch high|row 21/126 inch high|" \
-        "unfinished 16|unfinished 16 n|unfinished 26|unfinished 26 n|unfinished 27|unfinished 27 16|unfinished 27 16 n|" \
-        "selection behind 16|selection behind 16 n|selection behind 26|selection behind 26 n|selection behind 27|" \
-        "selection behind 27 16|selection behind 27 16 n", page, "")
-    line_of(" plain| lower| reverse| wide| lower reverse| lower wide| reverse wide| lower reverse wide", style, "a cell")
+    line_of("Moves", "column 0|column 79|column 80|column without digits|dot address 0|dot address 479|dot address 480|dot address 65535", page)
+    line_of("Repeats", "repeat 0|repeat 1|repeat 255|repeated byte 127|repeated byte 128|repeated byte 255", page)
+    line_of("Bytes in character mode", "byte 31|byte 32|byte 127|byte 128|byte 159|byte 160|byte 255", ends)
+    line_of("Bytes in graphic mode", "graphic byte 127|graphic byte 128|graphic byte 255", ends)
+    line_of("Lines", "cell up to the edge|cell that wraps|wide cell up to the edge|wide cell that wraps|column of dots up to the edge|" \
+        "column of dots that wraps|mark over another|row 14/126 inch high|row 21/126 inch high", page)
+    line_of("Cells", "plain|lower|reverse|wide|lower reverse|lower wide|reverse wide|lower reverse wide", style)
+    line_of("Unfinished commands", "16|16 n|26|26 n|27|27 16|27 16 n", unfinished_by)
+    line_of("Selections inside a command, behind", "16|16 n|26|26 n|27|27 16|27 16 n", selected_behind)
     printf "\n%-24s %9s %9s\n", "stop, by status", "each", "kept"
     n = split("1 2 3 5 6", list, " ")
     for (i = 1; i <= n; i++) printf "%-24s %9s %9s\n", list[i], number(stops[list[i], "each"], 1, "stop " list[i]), number(stops[list[i], "kept"], 1, "stop " list[i] " where the status is kept")
     printf "\n"
-    line_of("unknown word|bad number|bad device|bad secondary address|bad byte|too long|bad trace line|bad start|bad order|bad shape|too early|too late|truncated", told, "")
+    line_of("Faults", "unknown word|bad number|bad device|bad secondary address|bad byte|too long|bad trace line|bad start|bad order|bad shape|too early|too late|truncated", told)
     exit bad
 }
