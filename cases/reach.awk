@@ -220,7 +220,13 @@ function settle(   i, answer, wanted, rest) {
     if (mistake != "") { rest = mistake; sub(/^[^:]*: /, "", rest); told[rest]++ }
     words = ""
 }
-function trace_line(text, i,   part) { split(text, part, " "); sub(/\r$/, "", part[2]); moment[i] = part[1]; level[i] = part[2] }
+function trace_line(text, i,   part) {
+    split(text, part, " ")
+    sub(/^0+/, "", part[1])
+    sub(/\r$/, "", part[2])
+    moment[i] = part[1]
+    level[i] = part[2]
+}
 # Bytes of an input told by numbers, as lines too.
 function number_line(text,   i, n, part) {
     n = split(text, part, " ")
@@ -312,7 +318,7 @@ END {
     printf "\n%-24s %9s %9s\n", "code, in mode", "character", "graphic"
     n = split("8|10|13|14|15|16|17|18|26|27|27 16|145|146", list, "[|]")
     for (i = 1; i <= n; i++)
-        printf "%-24s %9s %9s\n", list[i] == 27 ? "27 before another byte" : list[i], number(codes[list[i], "character"], 1, list[i] " in character mode"), number(codes[list[i], "graphic"], 1, list[i] " in graphic mode")
+        printf "%-24s %9s %9s\n", (list[i] == 27 ? "27 before another byte" : list[i]), number(codes[list[i], "character"], 1, list[i] " in character mode"), number(codes[list[i], "graphic"], 1, list[i] " in graphic mode")
     printf "\n"
     line_of("Moves", "column 0|column 79|column 80|column without digits|dot address 0|dot address 479|dot address 480|dot address 65535", page)
     line_of("Repeats", "repeat 0|repeat 1|repeat 255|repeated byte 127|repeated byte 128|repeated byte 255", page)
