@@ -189,24 +189,26 @@ function hear(device, count,   i, part, listening) {
     }
 }
 
-function settle(   i, answer, wanted, rest) {
+function compare(wanted, found) { if (wanted != found) { print case_name ": the answer is " wanted ", here " found; bad = 1 } }
+function settle(   i, wanted, rest) {
     if (words == "") return
     answers++
-    if (words == "check" || (words ~ /^bus/ && words !~ /[|]/)) {
-        wanted = ""
-        if (words ~ /^bus/) { for (i = 0; i < outputs; i++) trace_line(output[i], i); answer = walk(outputs) }
-        else if (mistake !~ /^line/) {
-            for (i = 0; i < inputs; i++) trace_line(input[i], i)
-            answer = walk(inputs)
-            for (i = 0; i < outputs; i++) wanted = wanted output[i] "\n"
-            if (wanted == "") wanted = mistake
-            if (answer != wanted) { print case_name ": the answer is " wanted ", here " answer; bad = 1 }
-        }
-    }
-    if (words ~ /check/ && words ~ /bus/) {
+    wanted = ""
+    for (i = 0; i < outputs; i++) wanted = wanted output[i] "\n"
+    if (words == "check" && mistake !~ /^line/) {
+        for (i = 0; i < inputs; i++) trace_line(input[i], i)
+        compare(wanted == "" ? mistake : wanted, walk(inputs))
+    } else if (words ~ /^bus/ && words !~ /[|]/) {
+        for (i = 0; i < outputs; i++) trace_line(output[i], i)
+        spelled = walk(outputs)
+        spelled_words = words
+        if (spelled !~ /lawful/) compare("a lawful trace", spelled)
+    } else if (words ~ /[|] check$/) {
+        if (words == spelled_words " | check") compare(wanted, spelled)
         for (i = 0; i < outputs; i++) frame[i + 1] = output[i]
         hear(4, outputs)
         hear(5, outputs)
+        spelled_words = ""
     }
     if (words ~ /^raw/ && words !~ /lower/) {
         reset_printer()
