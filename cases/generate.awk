@@ -161,6 +161,10 @@ function scripts(   i, j, n, list, modes, all) {
         "OPEN 1,4:OPEN 2,4,7|PRINT#2,CHR$(145)CHR$(18)\"A\";|PRINT#1,CHR$(17)\"B\";|PRINT#2,\"C\"|PRINT#2,\"D\"", "both", "each")
     script("selection-and-modes", "A selection leaves graphic mode, width and position.", \
         "OPEN 1,4:OPEN 2,4,7|PRINT#1,CHR$(14)\"A\"CHR$(8)CHR$(193);|PRINT#2,CHR$(194);CHR$(15)\"B\"", "both", "each")
+    script("second-of-the-other", "A secondary address is for the printer called directly before it: printer 4 listens on in its own set.", \
+        "OPEN 4,4:OPEN 5,5,7|CMD 4,\"A\";|PRINT#5,\"B\"", "both", "each")
+    script("second-before-the-other", "LISTEN to another printer selects nothing for this one: printer 4 listens on in its own set.", \
+        "OPEN 4,4,7:OPEN 5,5|CMD 4,\"A\";|PRINT#5,\"B\"", "both", "each")
     n = split("0 7 15", list, " ")
     for (i = 1; i <= n; i++)
         script("second-" list[i], list[i] == 7 ? "Secondary address 7 selects the lower/upper case set." : "Another secondary address than 7 selects nothing more.", \
