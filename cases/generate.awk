@@ -40,7 +40,7 @@ function codes() {
     code(145, "the graphic/upper case set up to the next 13", "a column of dots and no code")
     code(146, "reverse ends", "a column of dots and no code")
 }
-function commands(   i, n, pair, part) {
+function commands(   i, n, pair, part, dot, name) {
     n = split("00 09 10 79 80 99", pair, " ")
     for (i = 1; i <= n; i++)
         page("column-" pair[i], "16 and the digits " pair[i] (pair[i] < 80 ? ": that column." : ": no column, so nothing; the digits are taken."), \
@@ -56,14 +56,16 @@ function commands(   i, n, pair, part) {
     n = split("0,0 0,1 1,0 1,223 1,224 2,0 255,255", pair, " ")
     for (i = 1; i <= n; i++) {
         split(pair[i], part, ",")
-        page("address-" part[1] "-" part[2], "27 16 and dot " part[1] * 256 + part[2] (part[1] * 256 + part[2] < 480 ? "." : ", which is none: nothing; its bytes are taken."), \
+        dot = part[1] * 256 + part[2]
+        page("address-" part[1] "-" part[2], "27 16 and dot " dot (dot < 480 ? "." : ", which is none: nothing; its bytes are taken."), \
             "8 129 27 16 " part[1] " " part[2] " 255 13")
     }
     page("address-in-character-mode", "27 16 moves to a dot in character mode too.", "65 27 16 0 7 66 27 16 1 218 67 13")
     n = split("0,193 1,193 255,193 2,128 2,255 2,127 2,0 13,145", pair, " ")
     for (i = 1; i <= n; i++) {
         split(pair[i], part, ",")
-        page("repeat-" part[1] "-" part[2], "26 in graphic mode: " part[1] " times the column " part[2] (part[2] < 128 ? ", which is none: nothing; both bytes are taken." : " less 128."), \
+        page("repeat-" part[1] "-" part[2], "26 in graphic mode: " part[1] " times the column " part[2] \
+            (part[2] < 128 ? ", which is none: nothing; both bytes are taken." : " less 128."), \
             "8 130 26 " part[1] " " part[2] " 131 13")
     }
     page("repeat-in-character-mode", "26 in character mode: nothing; both bytes are taken.", "65 26 3 193 66 26 13 10 67 13")
@@ -88,7 +90,8 @@ function lines() {
     page("cell-at-475", "A cell at dot 475 does not fit, and wraps.", "27 16 1 219 65 66 13")
     page("wide-at-468", "A wide cell at dot 468 fits.", "14 27 16 1 212 65 66 13")
     page("wide-at-469", "A wide cell at dot 469 does not fit, and wraps.", "14 27 16 1 213 65 66 13")
-    page("column-of-dots-at-479", "A column of dots at 479 fits; the next wraps, and the row above it is 14/126 inch high.", "8 27 16 1 223 193 194 13")
+    page("column-of-dots-at-479", "A column of dots at 479 fits; the next wraps, and the row above it is 14/126 inch high.", \
+        "8 27 16 1 223 193 194 13")
     page("forty-wide-cells", "Forty wide cells fill a line; the next wraps.", "14" times(65, 41) " 13")
     page("full-line-and-return", "A line that is just full ends once.", times(65, 80) " 13 66 13")
     page("full-line-and-graphics", "A line of cells that wraps in graphic mode is 14/126 inch high.", times(65, 80) " 8 193 13")
@@ -106,7 +109,8 @@ function lines() {
     page("overprint-from-the-right", "Marks from the right to the left.", "16 50 48 65 16 49 48 66 16 48 48 67 8 27 16 0 0 193 13")
     page("no-marks-below-32", "Below 32 only codes count.", range(0, 7) " 65 9 11 12 66 19 20 21 22 23 24 25 67 28 29 30 31 32 13")
     page("cells-of-32-to-127", "Each byte of 32 to 127 is a cell.", range(30, 31) range(32, 127) " 13")
-    page("no-marks-of-128-to-159", "128 to 159 mark nothing in character mode, but 145 and 146 are codes.", "127" range(128, 144) " 65" range(147, 160) " 13")
+    page("no-marks-of-128-to-159", "128 to 159 mark nothing in character mode, but 145 and 146 are codes.", \
+        "127" range(128, 144) " 65" range(147, 160) " 13")
     page("cells-of-160-to-255", "Each byte of 160 to 255 is a cell.", range(158, 255) " 13", "", "--set lower")
     page("dots-of-128-to-255", "Each byte of 128 to 255 is a column in graphic mode, and none below it.", "8" range(28, 255) " 13")
 }
@@ -167,9 +171,11 @@ function scripts(   i, j, n, list, modes, all) {
         "OPEN 4,4,7:OPEN 5,5|CMD 4,\"A\";|PRINT#5,\"B\"", "both", "each")
     n = split("0 7 15", list, " ")
     for (i = 1; i <= n; i++)
-        script("second-" list[i], list[i] == 7 ? "Secondary address 7 selects the lower/upper case set." : "Another secondary address than 7 selects nothing more.", \
+        script("second-" list[i], (list[i] == 7 ? "Secondary address 7 selects the lower/upper case set." : \
+            "Another secondary address than 7 selects nothing more."), \
             "OPEN 4,4," list[i] "|PRINT#4,\"A\"|CLOSE 4|OPEN 4,4|PRINT#4,\"B\"", "4", "each")
-    script("device-30", "A device that is none of the printers: the attention is answered, the bytes are not.", "OPEN 4,30|PRINT#4,\"A\"|OPEN 5,6,7|CMD 5,\"B\"|CLOSE 5", "both", "each")
+    script("device-30", "A device that is none of the printers: the attention is answered, the bytes are not.", \
+        "OPEN 4,30|PRINT#4,\"A\"|OPEN 5,6,7|CMD 5,\"B\"|CLOSE 5", "both", "each")
     split("none 4 5 both", list, " ")
     split("each kept", modes, " ")
     for (i = 1; i <= 4; i++)
@@ -183,7 +189,8 @@ function scripts(   i, j, n, list, modes, all) {
         "|2 OPEN 4,5|3 PRINT#9|3 CMD 9,\"B\"|6 OPEN 0,4", all, "|")
     for (i = 1; i <= 5; i++)
         for (j = 1; j <= 2; j++)
-            script("stop-" substr(all[i], 1, 1) (i == 4 ? "-by-cmd" : "") "-" modes[j], "Error " substr(all[i], 1, 1) " while a CMD is in force: the held byte and an UNLISTEN belong to the statement that stops.", \
+            script("stop-" substr(all[i], 1, 1) (i == 4 ? "-by-cmd" : "") "-" modes[j], \
+                "Error " substr(all[i], 1, 1) " while a CMD is in force: the held byte and an UNLISTEN belong to the statement that stops.", \
                 "OPEN 4,4|CMD 4,\"A\"|" substr(all[i], 3) "|PRINT \"B\"", "both", modes[j])
     for (j = 1; j <= 2; j++)
         script("stop-5-" modes[j], "Error 5 by a byte that waited for an absent printer; the LISTEN is sent, and an UNLISTEN behind it.", \
@@ -280,7 +287,7 @@ function delays(name, shows, statements, items, present, manner,   i, n, part, p
     put("$ bus " words " | check")
     end_case()
 }
-function all_delays(   i, j, n, there, manners, told, text, items) {
+function all_delays(   i, j, n, there, manners, told, text, items, shows) {
     split("BB 901 AW 1001 NE 199 RY 60 S 181 V 181 R 101 CR 101 AT 1000 H 10000 YE 51 EI 121 F 80 DR 60", there, " ")
     for (i = 1; i < 28; i += 2) span[there[i]] = there[i + 1]
     text = "OPEN 4,4:OPEN 5,5,7|CMD 4,\"A\";|PRINT#5,\"B\""
@@ -293,12 +300,15 @@ function all_delays(   i, j, n, there, manners, told, text, items) {
     told["corners"] = "Each delay the least or the greatest by chance"
     for (i = 1; i <= 3; i++)
         for (j = 1; j <= n; j++) {
-            if (there[i] == 4) delays(manners[j] "-4", told[manners[j]] ", with printer 4 alone, which hears what is sent to printer 5 too.", text, items, 4, manners[j])
-            else if (there[i] == 5) delays(manners[j] "-5", told[manners[j]] ", with printer 5 alone: the byte for printer 4 is dropped.", "OPEN 4,4:OPEN 5,5|CMD 4,\"A\";|REM|PRINT \"B\"", "@36 65 66", 5, manners[j])
-            else delays(manners[j] "-both", told[manners[j]] ", with both printers, of which one listens and then both.", text, items, "both", manners[j])
+            shows = told[manners[j]] ", with "
+            if (there[i] == 4) delays(manners[j] "-4", shows "printer 4 alone, which hears what is sent to printer 5 too.", text, items, 4, manners[j])
+            else if (there[i] == 5) delays(manners[j] "-5", shows "printer 5 alone: the bytes for printer 4 are dropped.", \
+                "OPEN 4,4:OPEN 5,5|CMD 4,\"A\";|REM|PRINT \"B\"", "@36 65 66", 5, manners[j])
+            else delays(manners[j] "-both", shows "both printers, of which one listens and then both.", text, items, "both", manners[j])
         }
     for (i = 1; i <= 3; i++)
-        delays("corners-" i, told["corners"] ", with a CLOSE of a secondary address.", "OPEN 5,5,7|PRINT#5,\"A\"|CLOSE 5", "@37,103 65 13! @63 @37,231 @63", "both", "corners")
+        delays("corners-" i, told["corners"] ", with a CLOSE of a secondary address.", \
+            "OPEN 5,5,7|PRINT#5,\"A\"|CLOSE 5", "@37,103 65 13! @63 @37,231 @63", "both", "corners")
 }
 
 # Traces. An edge has its moment, its levels and the place in which it comes.

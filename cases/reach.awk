@@ -256,6 +256,21 @@ function line_of(title, names, counts_of,   i, n, part, line) {
     }
     print line
 }
+function five(name, a, b, c, d, e) { printf "%-40s %6s %6s %6s %6s %6s\n", name, a, b, c, d, e }
+function two(name, a, b) { printf "%-24s %9s %9s\n", name, a, b }
+# A row's counts: edges of lawful traces, and refused ones.
+function table_row(i, name,   most) {
+    most = greatest[i] != "" || at[i] == "Pulse"
+    five(name, number(counts[i, "lawful"], 1, name), number(counts[i, "least"], 1, name " at its least"), \
+        number(counts[i, "greatest"], most, name " at its greatest"), number(outside[i, "early"], least[i] > 1, name " too early"), \
+        number(outside[i, "late"], most, name " too late"))
+}
+# The faults in a place: none is too early where the least is 1, and none truncated where a trace may end.
+function place_row(name) {
+    five(name, number(faults[name, "bad order"], 1, "order in " name), number(faults[name, "bad shape"], 1, "shape in " name), \
+        number(faults[name, "too early"], name !~ /^(Ready|After|Last|UNLISTEN pulled)$/, "too early in " name), \
+        number(faults[name, "too late"], name != "Idle", "too late in " name), number(faults[name, "truncated"], !may_end(), "truncated in " name))
+}
 BEGIN {
     table()
     split("8 10 13 14 15 17 18 145 146", list, " ")
@@ -300,27 +315,20 @@ END {
         exit bad
     }
     printf "%d cases, %d answers\n", cases, answers
-    printf "\n%-40s %6s %6s %6s %6s %6s\n", "row of Table.antt", "lawful", "least", "great.", "early", "late"
-    for (i = 1; i <= rows; i++) {
-        most = greatest[i] != "" || at[i] == "Pulse"
-        printf "%-40s %6s %6s %6s %6s %6s\n", clause[i], number(counts[i, "lawful"], 1, clause[i]), number(counts[i, "least"], 1, clause[i] " at its least"), \
-            number(counts[i, "greatest"], most, clause[i] " at its greatest"), number(outside[i, "early"], least[i] > 1, clause[i] " too early"), \
-            number(outside[i, "late"], most, clause[i] " too late")
-    }
-    printf "\n%-40s %6s %6s %6s %6s %6s\n", "place (bad start: " start_faults ")", "order", "shape", "early", "late", "trunc."
+    print ""
+    five("row of Table.antt", "lawful", "least", "great.", "early", "late")
+    for (i = 1; i <= rows; i++) table_row(i, clause[i])
+    print ""
+    five("place (bad start: " start_faults ")", "order", "shape", "early", "late", "trunc.")
     n = split("Idle|Call released|Call pulled|Ready|Free|Pulse|After|Bit|High|Last|Ack First|Ack Second|Ack Data|" \
         "Freed pulled|Freed released|UNLISTEN pulled|UNLISTEN released", list, "[|]")
-    for (i = 1; i <= n; i++) {
-        place = list[i]
-        slow = place !~ /^(Ready|After|Last|UNLISTEN pulled)$/
-        printf "%-40s %6s %6s %6s %6s %6s\n", place, number(faults[place, "bad order"], 1, "order in " place), number(faults[place, "bad shape"], 1, "shape in " place), \
-            number(faults[place, "too early"], slow, "too early in " place), number(faults[place, "too late"], place != "Idle", "too late in " place), \
-            number(faults[place, "truncated"], !may_end(), "truncated in " place)
-    }
-    printf "\n%-24s %9s %9s\n", "code, in mode", "character", "graphic"
+    for (i = 1; i <= n; i++) { place = list[i]; place_row(place) }
+    print ""
+    two("code, in mode", "character", "graphic")
     n = split("8|10|13|14|15|16|17|18|26|27|27 16|145|146", list, "[|]")
     for (i = 1; i <= n; i++)
-        printf "%-24s %9s %9s\n", (list[i] == 27 ? "27 before another byte" : list[i]), number(codes[list[i], "character"], 1, list[i] " in character mode"), number(codes[list[i], "graphic"], 1, list[i] " in graphic mode")
+        two((list[i] == 27 ? "27 before another byte" : list[i]), number(codes[list[i], "character"], 1, list[i] " in character mode"), \
+            number(codes[list[i], "graphic"], 1, list[i] " in graphic mode"))
     printf "\n"
     line_of("Moves", "column 0|column 79|column 80|column without digits|dot address 0|dot address 479|dot address 480|dot address 65535", page)
     line_of("Repeats", "repeat 0|repeat 1|repeat 255|repeated byte 127|repeated byte 128|repeated byte 255", page)
@@ -331,10 +339,13 @@ END {
     line_of("Cells", "plain|lower|reverse|wide|lower reverse|lower wide|reverse wide|lower reverse wide", style)
     line_of("Unfinished commands", "16|16 n|26|26 n|27|27 16|27 16 n", unfinished_by)
     line_of("Selections inside a command, behind", "16|16 n|26|26 n|27|27 16|27 16 n", selected_behind)
-    printf "\n%-24s %9s %9s\n", "stop, by status", "each", "kept"
+    print ""
+    two("stop, by status", "each", "kept")
     n = split("1 2 3 5 6", list, " ")
-    for (i = 1; i <= n; i++) printf "%-24s %9s %9s\n", list[i], number(stops[list[i], "each"], 1, "stop " list[i]), number(stops[list[i], "kept"], 1, "stop " list[i] " where the status is kept")
-    printf "\n"
-    line_of("Faults", "unknown word|bad number|bad device|bad secondary address|bad byte|too long|bad trace line|bad start|bad order|bad shape|too early|too late|truncated", told)
+    for (i = 1; i <= n; i++)
+        two(list[i], number(stops[list[i], "each"], 1, "stop " list[i]), number(stops[list[i], "kept"], 1, "stop " list[i] " where the status is kept"))
+    print ""
+    line_of("Faults", "unknown word|bad number|bad device|bad secondary address|bad byte|too long|bad trace line|" \
+        "bad start|bad order|bad shape|too early|too late|truncated", told)
     exit bad
 }
