@@ -6,7 +6,7 @@ use Rattle.std.specs.List.{list_all, prefix_len}
 use Rattle.std.proofs.lemmas.Grind.{common_steps}
 use Rattle.pr_wire.specs.declared.Edge.{Edge}
 use Rattle.pr_text.specs.Lines.{lines_of, onto_first}
-use Rattle.pr_capture.specs.declared.csv.Place.TheVariants.{Names, Rows}
+use Rattle.pr_capture.specs.declared.csv.RowPlace.TheVariants.{Names, Rows}
 use Rattle.pr_capture.specs.declared.csv.Columns.{Columns}
 use Rattle.pr_capture.specs.declared.csv.CsvReader.{CsvReader}
 use Rattle.pr_capture.specs.declared.fault.CaptureFault.{CaptureFault}

@@ -4,3 +4,4 @@ pub mod Names
 pub mod CsvFields
 pub mod CsvTimes
 pub mod CsvReading
+pub mod VcdWords

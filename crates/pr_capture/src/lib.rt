@@ -1,9 +1,14 @@
-//! Traces of the serial bus in the formats of other tools: Value Change Dumps.
+//! Traces of the serial bus in the formats of other tools: Value Change Dumps, and tables of comma
+//! separated values.
 #![tactic(auto)]
 
+mod changes;
 mod csv;
+mod entries;
 mod fault;
 mod gatherer;
+mod header;
+mod known;
 mod signals;
 mod vcd;
 
