@@ -43,7 +43,7 @@ last-line (b ∷ []) some h = rw (first-inner b [] h) refl
 last-line (b ∷ c ∷ bs) some h = rw (first-inner b (c ∷ bs) h) (ap (onto_first b) (last-line (c ∷ bs) (omega arith) (rest-inner b (c ∷ bs) h)))
 
 -- samples behind samples
-behind-behind : (a b : List Edge) (t : Told) → told_behind a (told_behind b t) ≡ told_behind (a ++ b) t
+pub behind-behind : (a b : List Edge) (t : Told) → told_behind a (told_behind b t) ≡ told_behind (a ++ b) t
 behind-behind a b t = let P : List Edge → Told = λ v. record { samples = v; fault = t.fault } in ap P (sym (append_assoc a b t.samples))
 
 -- a fault that is handed on

@@ -5,3 +5,4 @@ pub mod CsvFields
 pub mod CsvTimes
 pub mod CsvReading
 pub mod VcdWords
+pub mod VcdTelling
