@@ -1,85 +1,23 @@
 -- A dump that is read word by word.
 use Rattle.std.proofs.Common.{◌≡◌, ℕ, suc, ◌+◌, ◌<◌, ◌==◌, Bool, true, false, List, [], ◌∷◌, ◌++◌, length, take, drop, get_or, refl, ap, sym, subst, ◌∙◌, inl, inr, arith, append_assoc, append-nil, Option, None}
-use Rattle.std.specs.Prelude.{◌⊎◌, IfOk, IsErrAnd, Result, Ok, Err, Some}
+use Rattle.std.specs.Prelude.{◌⊎◌, IsErrAnd, Result, Ok, Err, Some}
 use Rattle.std.specs.List.{list_all, prefix_len}
 use Rattle.std.proofs.lemmas.List.{take-append-drop, take_more}
 use Rattle.std.proofs.lemmas.List.Sums.{prefix_len_stops}
 use Rattle.std.proofs.lemmas.Grind.{common_steps}
 use Rattle.pr_wire.specs.declared.Edge.{Edge}
 use Rattle.pr_capture.specs.declared.fault.CaptureFault.{CaptureFault}
-use Rattle.pr_capture.specs.declared.fault.CaptureFault.TheVariants.{BadWord, NoMemory}
 use Rattle.pr_capture.specs.declared.progress.Progress.{Progress}
 use Rattle.pr_capture.specs.declared.vcd_reader.VcdReader.{VcdReader}
 use Rattle.pr_capture.specs.declared.signals.Signals.{Signals}
-use Rattle.pr_capture.specs.Recording.{ended, refused, told_behind, Told}
+use Rattle.pr_capture.specs.Recording.{ended, told_behind}
 use Rattle.pr_capture.specs.Samples.{listed}
 use Rattle.pr_capture.specs.Words.{end_line, is_space, line_behind, word_of, words_behind, Word}
-use Rattle.pr_capture.specs.VcdPieces.{begun_behind, piece_at, pieces_behind, Begun, Piece}
 use Rattle.pr_capture.specs.VcdPieces.Begun.{Nothing}
-use Rattle.pr_capture.specs.VcdPieces.Piece.{Stray}
-use Rattle.pr_capture.specs.VcdReading.{goes_on, no_codes, pieces_told, sample_of, step, told_at_end, vcd_told, Place}
-use Rattle.pr_capture.specs.VcdReading.Place.{Header, Changes}
-use Rattle.pr_capture.specs.VcdSteps.{begun_of, is_letter, place_of, still_told, words_told, AnswersEnd, EndsText, HasRead, HoldsMore, MayEnd, ReadsMore, ReadsPiece, ReadsWords, Refuses}
+use Rattle.pr_capture.specs.VcdReading.{no_codes, vcd_told}
+use Rattle.pr_capture.specs.VcdReading.Place.{Header}
+use Rattle.pr_capture.specs.VcdSteps.{begun_of, is_letter, place_of, still_told, words_told, AnswersEnd, EndsText, HasRead, HoldsMore, MayEnd, ReadsMore, ReadsWords, Refuses}
 use Rattle.pr_capture.proofs.CsvReading.{behind-behind}
-
--- Pieces.
-
--- what is told behind a piece, or of its fault
-piece-told : (s : Signals) (end : ℕ) (q : Piece) (old new : Place) (sample : Option Edge) (qs : List Piece) → step s old q ≡ Ok new → sample ≡ sample_of new
-    → pieces_told s end old (q ∷ qs) ≡ told_behind (listed sample) (pieces_told s end new qs)
-piece-told s end q old new sample qs e f =
-    ap (λ v. goes_on v (λ next. pieces_told s end next qs)) e ∙ ap (λ x. told_behind (listed x) (pieces_told s end new qs)) (sym f)
-
-piece-refused : (s : Signals) (end : ℕ) (q : Piece) (old : Place) (f : CaptureFault) (qs : List Piece) → step s old q ≡ Err f
-    → pieces_told s end old (q ∷ qs) ≡ refused f
-piece-refused s end q old f qs e = ap (λ v. goes_on v (λ next. pieces_told s end next qs)) e
-
--- a word that can not stand anywhere
-stray : (s : Signals) (p : Place) (line : ℕ) → step s p (Stray line) ≡ Err (BadWord line)
-stray s (Header scale c) line = refl
-stray s (Changes scale c seen) line = refl
-
--- Words.
-
--- a word that ends no piece
-pub no-piece : (s : Signals) (w : Word) (old new : Progress) → piece_at (begun_of old) w ≡ [] → begun_behind (begun_of old) w ≡ begun_of new
-    → place_of new.known ≡ place_of old.known → ReadsWords s (w ∷ []) old (Ok None) new
-no-piece s w old new a b c = λ end more.
-    ap (λ qs. pieces_told s end (place_of old.known) (qs ++ pieces_behind (begun_behind (begun_of old) w) more)) a
-    ∙ (ap (λ g. pieces_told s end (place_of old.known) (pieces_behind g more)) b
-    ∙ ap (λ p. pieces_told s end p (pieces_behind (begun_of new) more)) (sym c))
-
--- a word that ends a piece
-pub one-piece : (s : Signals) (w : Word) (q : Piece) (old new : Progress) (result : Result (Option Edge) CaptureFault) → piece_at (begun_of old) w ≡ q ∷ []
-    → begun_behind (begun_of old) w ≡ begun_of new → ReadsPiece s q (place_of old.known) result (place_of new.known) → ReadsWords s (w ∷ []) old result new
-one-piece s w q old new (Ok sample) a b h = λ end more.
-    ap (λ qs. pieces_told s end (place_of old.known) (qs ++ pieces_behind (begun_behind (begun_of old) w) more)) a
-    ∙ (piece-told s end q (place_of old.known) (place_of new.known) sample (pieces_behind (begun_behind (begun_of old) w) more) h.0 h.1
-    ∙ ap (λ g. told_behind (listed sample) (pieces_told s end (place_of new.known) (pieces_behind g more))) b)
-one-piece s w q old new (Err f) a b (inl m) = inl m
-one-piece s w q old new (Err f) a b (inr e) = inr (λ end more.
-    ap (λ qs. pieces_told s end (place_of old.known) (qs ++ pieces_behind (begun_behind (begun_of old) w) more)) a
-    ∙ piece-refused s end q (place_of old.known) f (pieces_behind (begun_behind (begun_of old) w) more) e)
-
-pub stray-word : (s : Signals) (w : Word) (old new : Progress) (line : ℕ) → piece_at (begun_of old) w ≡ Stray line ∷ []
-    → ReadsWords s (w ∷ []) old (Err (BadWord line)) new
-stray-word s w old new line a = inr (λ end more.
-    ap (λ qs. pieces_told s end (place_of old.known) (qs ++ pieces_behind (begun_behind (begun_of old) w) more)) a
-    ∙ piece-refused s end (Stray line) (place_of old.known) (BadWord line) (pieces_behind (begun_behind (begun_of old) w) more) (stray s (place_of old.known) line))
-
--- behind a sample the text may end
-end-at : (p : Place) → (sample_of p ≡ None) ⊎ ((end : ℕ) → told_at_end end p ≡ ended)
-end-at (Header scale c) = inl refl
-end-at (Changes scale c seen) = inr (λ end. refl)
-
-pub may-end : (s : Signals) (q : Piece) (old : Place) (new : Progress) (result : Result (Option Edge) CaptureFault) → begun_of new ≡ Nothing
-    → ReadsPiece s q old result (place_of new.known) → IfOk result (λ sample. (sample ≡ None) ⊎ MayEnd new)
-may-end s q old new (Err f) b h = tt
-may-end s q old new (Ok sample) b h = from (end-at (place_of new.known))
-  where
-    from : (sample_of (place_of new.known) ≡ None) ⊎ ((end : ℕ) → told_at_end end (place_of new.known) ≡ ended) → (sample ≡ None) ⊎ MayEnd new
-    from (inl e) = inl (h.1 ∙ e)
-    from (inr e) = inr (λ s end. ap (λ g. pieces_told s end (place_of new.known) (pieces_behind g [])) b ∙ e end)
 
 -- Letters.
 

@@ -1,5 +1,5 @@
 -- Trusted: what a Value Change Dump says of the bus: samples of its three lines, up to the first fault if there is one.
-use Rattle.std.specs.Prelude.{ℕ, ◌+◌, ◌*◌, ◌/◌, ◌==◌, ◌&&◌, ◌||◌, Bool, true, false, not, List, [], ◌∷◌, ◌++◌, codes, length, nat_lt, if◌then◌else◌, Option, Some, None, Result, Ok, Err}
+use Rattle.std.specs.Prelude.{ℕ, ◌*◌, ◌/◌, ◌&&◌, ◌||◌, Bool, true, false, List, [], ◌∷◌, codes, nat_lt, if◌then◌else◌, Option, Some, None, Result, Ok, Err}
 use Rattle.std.specs.List.{list_all}
 use Rattle.std.specs.Str.{bytes_eq}
 use Rattle.pr_text.specs.Digits.{is_digit}
@@ -156,17 +156,20 @@ stamped scale seen line digits =
 
 -- The whole.
 
--- a piece leads from one place to the next, or has a fault; among the changes sections say nothing
+-- a piece leads from one place to the next, or has a fault. In the header other words than those of sections say nothing, but for
+-- a time stamp, which shows that the header did not end; among the changes sections say nothing
 abbrev pub step : Signals → Place → Piece → Result Place CaptureFault
-step s p (Stray line) = Err (BadWord line)
-step s p (Unended line) = Err (NoEnd line)
 step s (Header scale c) (Section line k inside) = headed s scale c line k inside
 step s (Header scale c) (Stamp line digits) = Err (NoDefinitions line)
-step s (Header scale c) (Change line level code) = Err (NoDefinitions line)
+step s (Header scale c) (Change line level code) = Ok (Header scale c)
+step s (Header scale c) (Stray line) = Ok (Header scale c)
+step s (Header scale c) (Unended line) = Err (NoEnd line)
 step s (Changes scale c seen) (Section line k inside) = Ok (Changes scale c seen)
 step s (Changes scale c seen) (Stamp line digits) = stamped scale seen line digits >>= λ next. Ok (Changes scale c next)
 step s (Changes scale c seen) (Change line level code) =
     changed s.is_inverted c seen line level code >>= λ next. Ok (Changes scale c next)
+step s (Changes scale c seen) (Stray line) = Err (BadWord line)
+step s (Changes scale c seen) (Unended line) = Err (NoEnd line)
 
 -- a sample, once all three levels are known
 abbrev pub sample_in : (time : ℕ) → (atn clock line : Option Bool) → Option Edge

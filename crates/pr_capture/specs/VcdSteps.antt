@@ -1,6 +1,6 @@
 -- Linking words: how a reader of Value Change Dumps goes on. The clauses of `VcdReader` say all that a caller needs of them.
 -- No reader needs to believe them.
-use Rattle.std.specs.Prelude.{◌≡◌, ◌⊎◌, ℕ, ◌==◌, Bool, not, List, [], ◌∷◌, ◌++◌, map, Vec, Option, Some, None, Result, Ok, Err}
+use Rattle.std.specs.Prelude.{◌≡◌, ◌⊎◌, ℕ, Bool, not, List, [], ◌++◌, map, Vec, Option, Some, None, Result, Ok, Err}
 use Rattle.std.specs.Global.{Global}
 use Rattle.pr_wire.specs.declared.Edge.{Edge}
 use Rattle.pr_capture.specs.declared.header.WireCodes.{WireCodes}
@@ -16,7 +16,7 @@ use Rattle.pr_capture.specs.declared.fault.CaptureFault.TheVariants.{NoMemory}
 use Rattle.pr_capture.specs.declared.signals.Signals.{Signals}
 use Rattle.pr_capture.specs.Recording.{ended, refused, told_behind, Told}
 use Rattle.pr_capture.specs.Samples.{listed}
-use Rattle.pr_capture.specs.Words.{end_line, is_space, word_of, words_behind, Word}
+use Rattle.pr_capture.specs.Words.{end_line, is_space, words_behind, Word}
 use Rattle.pr_capture.specs.VcdPieces.{pieces_behind, Begun, Piece}
 use Rattle.pr_capture.specs.VcdPieces.Begun.{Nothing, Inside, Behind}
 use Rattle.pr_capture.specs.VcdReading.{pieces_told, sample_of, step, vcd_told, Codes, Place}

@@ -1,7 +1,7 @@
 //! What is known of a dump behind some of its pieces.
 
 ghost use Rattle.std.specs.Prelude.{◌≡◌, IfErr, IfOk, Err, Ok};
-ghost use Rattle.pr_capture.specs.VcdPieces.Piece.{Change, Section, Stamp};
+ghost use Rattle.pr_capture.specs.VcdPieces.Piece.{Change, Section, Stamp, Stray};
 ghost use Rattle.pr_capture.specs.VcdReading.{changed, header_ended, sample_of, stamped};
 ghost use Rattle.pr_capture.specs.VcdSteps.{codes_of, place_at, place_of, words_in, ReadsPiece};
 
@@ -159,6 +159,20 @@ impl Known {
         Ok(seen.sample())
     }
 
+    /// Goes on behind a word that is none of these.
+    pub fn take_stray(
+        &mut self,
+        signals: &Signals<'_>,
+        line: usize,
+    ) -> Result<Option<Edge>, CaptureFault>
+        ensures { ReadsPiece signals.now (Stray line) (place_of self.old) result (place_of self.new) }
+    {
+        match self.stage {
+            Stage::InHeader(_) => Ok(None),
+            Stage::InChanges(_, _) => Err(CaptureFault::BadWord(line)),
+        }
+    }
+
     /// Goes on behind a change.
     pub fn take_change(
         &mut self,
@@ -170,7 +184,7 @@ impl Known {
         ensures { ReadsPiece signals.now (Change line level code.now) (place_of self.old) result (place_of self.new) }
     {
         let Stage::InChanges(scale, seen) = self.stage else {
-            return Err(CaptureFault::NoDefinitions(line));
+            return Ok(None);
         };
         let seen = changed(signals.is_inverted, &self.codes, seen, line, level, code)?;
         self.stage = Stage::InChanges(scale, seen);

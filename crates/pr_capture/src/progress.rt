@@ -90,7 +90,7 @@ impl Progress {
     {
         match entry_of(word) {
             Entry::Silent => Ok(None),
-            Entry::Foreign => Err(CaptureFault::BadWord(number)),
+            Entry::Foreign => self.known.take_stray(signals, number),
             Entry::Opens(keyword) => {
                 self.inside.clear();
                 self.phase = Phase::InSection(number, keyword);
@@ -153,13 +153,11 @@ impl Progress {
     pub fn answer(&self, end: usize) -> Result<Option<Edge>, CaptureFault>
         ensures { AnswersEnd end self.now result }
     {
-        match self.phase {
-            Phase::InSection(line, _) => Err(CaptureFault::NoEnd(line)),
-            Phase::BehindValue(line, _) => Err(CaptureFault::BadWord(line)),
-            Phase::Between => match self.known.stage {
-                Stage::InHeader(_) => Err(CaptureFault::NoDefinitions(end)),
-                Stage::InChanges(_, _) => Ok(None),
-            },
+        match (self.phase, self.known.stage) {
+            (Phase::InSection(line, _), _) => Err(CaptureFault::NoEnd(line)),
+            (_, Stage::InHeader(_)) => Err(CaptureFault::NoDefinitions(end)),
+            (Phase::BehindValue(line, _), _) => Err(CaptureFault::BadWord(line)),
+            (Phase::Between, _) => Ok(None),
         }
     }
 }

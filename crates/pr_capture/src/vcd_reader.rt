@@ -141,3 +141,6 @@ impl<'a> VcdReader<'a> {
         }
     }
 }
+
+#[cfg(test)]
+mod tests;

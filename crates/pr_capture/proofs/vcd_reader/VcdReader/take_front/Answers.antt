@@ -1,4 +1,4 @@
-use Rattle.std.proofs.Common.{arith, get_or, take, length, ◌<◌}
+use Rattle.std.proofs.Common.{arith, take}
 use Rattle.pr_capture.specs.VcdSteps.{Refuses}
 use Rattle.pr_capture.proofs.CsvReading.{handed-on}
 use Rattle.pr_capture.proofs.VcdTelling.{faulty-front, front-letters, read-front, read-held, space-behind}
