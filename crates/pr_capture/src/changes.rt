@@ -1,6 +1,6 @@
 //! What is known of the wires among the changes of a dump.
 
-ghost use Rattle.std.specs.Prelude.{◌≡◌, option_copied};
+ghost use Rattle.std.specs.Prelude.{◌≡◌};
 ghost use Rattle.std.specs.List.{list_all};
 ghost use Rattle.pr_text.specs.Digits.{is_digit};
 ghost use Rattle.pr_capture.specs.VcdReading.{level_if, sample_in, time_at, whole_micros};

@@ -130,7 +130,10 @@ fn note(
 ) -> Result<(), NoMemory>
     ensures { OnOk result (code_of known.new ≡ first_some (code_of known.old) (code_in signals.now wire (words_in inside.now))) }
 {
-    if known.is_none() && let Some(code) = code_in(signals, wire, inside) {
+    if known.is_some() {
+        return Ok(());
+    }
+    if let Some(code) = code_in(signals, wire, inside) {
         *known = Some(copied(alloc, code)?);
     }
     Ok(())

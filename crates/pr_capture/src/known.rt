@@ -31,11 +31,7 @@ pub struct Known {
 }
 
 /// Where the first changes stand, behind a header that ends on a line.
-fn header_ended(
-    line: usize,
-    scale: Option<u64>,
-    codes: &WireCodes,
-) -> Result<Stage, CaptureFault>
+fn header_ended(line: usize, scale: Option<u64>, codes: &WireCodes) -> Result<Stage, CaptureFault>
     ensures ok { IfOk result (λ stage. header_ended line scale (codes_of codes.now) ≡ Ok (place_at stage (codes_of codes.now))) }
     ensures err { IfErr result (λ f. header_ended line scale (codes_of codes.now) ≡ Err f) }
 {

@@ -1,10 +1,10 @@
 //! Reading a dump word by word.
 
-ghost use Rattle.std.specs.Prelude.{◌≡◌, ◌⊎◌, ℕ, ◌∷◌, ◌++◌, [], None, IfErr, IfOk};
+ghost use Rattle.std.specs.Prelude.{◌≡◌, ◌⊎◌, ℕ, ◌∷◌, [], None, IfErr, IfOk};
 ghost use Rattle.pr_capture.specs.declared.fault.CaptureFault.TheVariants.{NoMemory};
 ghost use Rattle.pr_capture.specs.declared.progress.Phase.TheVariants.{Between, InSection};
 ghost use Rattle.pr_capture.specs.VcdPieces.{with_word};
-ghost use Rattle.pr_capture.specs.VcdReading.{no_codes, sample_of};
+ghost use Rattle.pr_capture.specs.VcdReading.{no_codes};
 ghost use Rattle.pr_capture.specs.VcdReading.Place.{Header};
 ghost use Rattle.pr_capture.specs.VcdPieces.Begun.{Nothing};
 ghost use Rattle.pr_capture.specs.VcdSteps.{begun_of, place_of, words_in, AnswersEnd, MayEnd, ReadsWords};

@@ -78,9 +78,9 @@ impl<'a> VcdReader<'a> {
         if self.letters.is_empty() {
             return Ok(None);
         }
-        let sample =
-            self.progress
-                .take_word(&self.signals, self.number, self.letters.as_slice())?;
+        let sample = self
+            .progress
+            .take_word(&self.signals, self.number, self.letters.as_slice())?;
         self.letters.clear();
         Ok(sample)
     }

@@ -317,7 +317,8 @@ fn what_is_written(rt: HostRuntime) -> Result<(), Fail> {
 
 /// Whether a call is refused memory. If not, it gives what it gives with ample memory.
 fn is_refused(rt: &(impl Abort + AllocGlobal)) -> bool {
-    let text = b"$timescale 1 us $end $var wire 1 ! ATN $end $var wire 1 \" CLK $end\n$var wire 1 # DATA $end $enddefinitions $end #5 1! 1\" 1#\n#105 0! b0 \"\n";
+    let text =
+        b"$timescale 1 us $end $var wire 1 ! ATN $end $var wire 1 \" CLK $end\n$var wire 1 # DATA $end $enddefinitions $end #5 1! 1\" 1#\n#105 0! b0 \"\n";
     match read(rt, names(), text, 20) {
         Ok(edges) => {
             assert_eq!(rt; edges.len(), 2);
