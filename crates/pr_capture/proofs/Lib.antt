@@ -6,3 +6,5 @@ pub mod CsvTimes
 pub mod CsvReading
 pub mod VcdWords
 pub mod VcdTelling
+pub mod VcdReadLines
+pub mod VcdReadBack

@@ -35,14 +35,14 @@ not-line : (b : ℕ) → is_space b ≡ false → (b == 10) ≡ false
 not-line b h = grind (arith, common_steps)
 
 -- letters go on with a word, on its line
-letters-words : (n : ℕ) (letters bytes more : List ℕ) → list_all is_letter bytes ≡ true
+pub letters-words : (n : ℕ) (letters bytes more : List ℕ) → list_all is_letter bytes ≡ true
     → words_behind n letters (bytes ++ more) ≡ words_behind n (letters ++ bytes) more
 letters-words n letters [] more h = ap (λ l. words_behind n l more) (sym (append-nil letters))
 letters-words n letters (b ∷ bs) more h =
     let no : is_space b ≡ false = first-letter b bs h in
     rw no (letters-words n (letters ++ b ∷ []) bs more (rest-letters b bs h) ∙ ap (λ l. words_behind n l more) (append_assoc letters (b ∷ []) bs))
 
-letters-end : (n : ℕ) (bytes more : List ℕ) → list_all is_letter bytes ≡ true → end_line n (bytes ++ more) ≡ end_line n more
+pub letters-end : (n : ℕ) (bytes more : List ℕ) → list_all is_letter bytes ≡ true → end_line n (bytes ++ more) ≡ end_line n more
 letters-end n [] more h = refl
 letters-end n (b ∷ bs) more h =
     let no : (b == 10) ≡ false = not-line b (first-letter b bs h) in

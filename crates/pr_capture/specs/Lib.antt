@@ -10,3 +10,4 @@ pub mod Words
 pub mod VcdPieces
 pub mod VcdReading
 pub mod VcdSteps
+pub mod VcdReadingLaws

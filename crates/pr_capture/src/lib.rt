@@ -19,4 +19,4 @@ pub use fault::{CaptureFault, Wire};
 pub use gatherer::Gatherer;
 pub use signals::Signals;
 pub use vcd::{VcdWriter, push_vcd_head, vcd_adds_up, write_vcd};
-pub use vcd_reader::VcdReader;
+pub use vcd_reader::{VcdReader, vcd_is_read_back};

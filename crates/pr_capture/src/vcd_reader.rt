@@ -4,6 +4,7 @@ ghost use Rattle.std.specs.Prelude.{◌≡◌, ◌⊎◌, ◌+◌, ◌^◌, ◌<
 ghost use Rattle.std.specs.List.{list_all, prefix_len};
 ghost use Rattle.pr_capture.specs.declared.fault.CaptureFault.TheVariants.{NoMemory};
 ghost use Rattle.pr_capture.specs.Words.{is_space, word_of};
+ghost use Rattle.pr_capture.specs.VcdReadingLaws.{VcdIsReadBack};
 ghost use Rattle.pr_capture.specs.VcdSteps.{is_letter, line_number, EndsText, HasRead, HoldsMore, MayEnd, ReadsMore, ReadsWords, Refuses};
 
 use crate::fault::CaptureFault;
@@ -141,6 +142,12 @@ impl<'a> VcdReader<'a> {
         }
     }
 }
+
+/// A law, with nothing to run: what is written of edges, each later than the one before and with other
+/// levels, is read back as these edges.
+pub fn vcd_is_read_back()
+    ensures { VcdIsReadBack }
+{}
 
 #[cfg(test)]
 mod tests;
