@@ -1,0 +1,5 @@
+pub mod Turning
+pub mod Cutting
+pub mod Adding
+pub mod Bytes
+pub mod Stepping

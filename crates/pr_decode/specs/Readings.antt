@@ -41,7 +41,7 @@ opening (l ∷ r ∷ es) = Some (record { command = not r.levels.atn; look = l.t
 opening es = None
 
 abbrev pub opening_of : Stretch → Option Opening
-opening_of s = if s.first.levels.clock then opening (turns_of s) else None
+opening_of s = if s.called then None else (if s.first.levels.clock then opening (turns_of s) else None)
 
 -- an edge comes too late for a bit since CLOCK was released
 abbrev pub is_late : (since : ℕ) → Edge → Bool
@@ -72,11 +72,14 @@ pub record Bits : Type 0 where
   pub last : Stretch
   pub behind : List Stretch
 
+abbrev pub put_bit : Bit → Bits → Bits
+put_bit b more = record more { bits = b ∷ more.bits }
+
 -- as many bits as come from a stretch with CLOCK pulled on, at most so many
 abbrev pub bits_from : (most : ℕ) → Stretch → List Stretch → Bits
 bits_from (suc n) low (high ∷ next ∷ ss) =
     if ends_bit high next
-    then (let more = bits_from n next ss in record more { bits = record { low = low; high = high; down = next.first } ∷ more.bits })
+    then put_bit (record { low = low; high = high; down = next.first }) (bits_from n next ss)
     else record { bits = []; last = low; behind = high ∷ next ∷ ss }
 bits_from n low ss = record { bits = []; last = low; behind = ss }
 
@@ -155,19 +158,26 @@ abbrev pub number_of : List Bit → ℕ
 number_of [] = 0
 number_of (b ∷ bs) = suc (suc (number_of bs))
 
--- what a stretch begins: a byte, if it is an opening and ATN is not pulled with the stretch behind it
+-- what an opening begins with the stretch behind it, in which ATN is not pulled: a byte, and how many stretches its bits are
+abbrev pub begun_by : Option Opening → Stretch → List Stretch → Option (Reading × ℕ)
+begun_by None low ss = None
+begun_by (Some o) low ss =
+    if low.called then None else (let b = bits_from 8 low ss in Some (reading o low.first.time b, number_of b.bits))
+
 abbrev pub begins : Stretch → List Stretch → Option (Reading × ℕ)
 begins s [] = None
-begins s (low ∷ ss) = elim (opening_of s) [
-  | None ↦ None
-  | Some o ↦ if low.called then None else (let b = bits_from 8 low ss in Some (reading o low.first.time b, number_of b.bits))
-  ]
+begins s (low ∷ ss) = begun_by (opening_of s) low ss
+
+-- a reading, if there is one, and what is said behind its stretches
+abbrev pub said : Option (Reading × ℕ) → (ℕ → List Reading) → List Reading
+said None behind = behind 0
+said (Some r) behind = r.0 ∷ behind r.1
 
 -- what stretches say, from the front, behind so many that belong to a byte
 abbrev pub readings : (taken : ℕ) → List Stretch → List Reading
 readings n [] = []
 readings (suc n) (s ∷ ss) = readings n ss
-readings zero (s ∷ ss) = elim (begins s ss) [ None ↦ readings 0 ss | Some r ↦ r.0 ∷ readings r.1 ss ]
+readings zero (s ∷ ss) = said (begins s ss) (λ n. readings n ss)
 
 -- what a recording says, whole
 abbrev pub readings_of : List Edge → List Reading

@@ -66,11 +66,11 @@ turned level (Thrice a b c) e = if same e.levels.line level then Thrice a b c el
 turned level (Often a b c d) e = Often a b c d
 
 -- a stretch that begins, and one with an edge more
-abbrev pub began : Edge → Stretch
-began e = record { first = e; last = e; turns = turned (not e.levels.clock) Still e }
+abbrev pub began : (called : Bool) → Edge → Stretch
+began called e = record { called = called; first = e; last = e; turns = turned (not e.levels.clock) Still e }
 
 abbrev pub with_edge : Stretch → Edge → Stretch
-with_edge s e = record { first = s.first; last = e; turns = turned (not s.first.levels.clock) s.turns e }
+with_edge s e = record { called = s.called; first = s.first; last = e; turns = turned (not s.first.levels.clock) s.turns e }
 
 -- the opening that turns are
 abbrev pub opened : Turns → Option Opening
@@ -86,7 +86,7 @@ opened (Often a b c d) = Some (record {
     })
 
 abbrev pub opening_in : Stretch → Option Opening
-opening_in s = if s.first.levels.clock then opened s.turns else None
+opening_in s = if s.called then None else (if s.first.levels.clock then opened s.turns else None)
 
 -- the acknowledgement among turns
 abbrev pub acknowledged_in : Turns → Option ℕ
@@ -132,7 +132,7 @@ moved (Some t) s e = Some (if s.first.levels.clock then with_bit t s.first e els
 abbrev pub after : Option Transfer → Stretch → Edge → Decoder
 after t s e =
     if goes_on s.first s.last e then record { stretch = Some (with_edge s e); transfer = t }
-    else record { stretch = Some (began e); transfer = moved t s e }
+    else record { stretch = Some (began (calls s.last e) e); transfer = moved t s e }
 
 -- the byte that stays, by what the edge ends
 abbrev pub kept_of : Option Reading → Option Transfer → Option Transfer

@@ -76,7 +76,7 @@ transfer_in (Low p o bs n) s = Some (transfer o (first_low bs s).first.time bs s
 transfer_in (High p o bs n l) s = Some (transfer o (first_low bs l).first.time bs l.first.time)
 
 abbrev pub stretch_in : Stretch → Edge → declared.Stretch
-stretch_in s last = record { first = s.first; last = last; turns = noted (turns_of s) }
+stretch_in s last = record { called = s.called; first = s.first; last = last; turns = noted (turns_of s) }
 
 abbrev pub kept : Option Seen → Decoder
 kept None = record { stretch = None; transfer = None }

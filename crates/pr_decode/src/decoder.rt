@@ -114,7 +114,7 @@ impl Decoder {
             self.stretch = Some(stretch.with(edge));
         } else {
             self.transfer = moved(self.transfer, stretch, edge);
-            self.stretch = Some(Stretch::begun(edge));
+            self.stretch = Some(Stretch::begun(calls(stretch.last, edge), edge));
         }
     }
 
@@ -145,7 +145,7 @@ impl Decoder {
         ensures stays { OnErr result (self.new ≡ self.old) }
     {
         let Some(stretch) = self.stretch else {
-            self.stretch = Some(Stretch::begun(edge));
+            self.stretch = Some(Stretch::begun(false, edge));
             return Ok(None);
         };
         if edge.time < stretch.last.time {

@@ -1,7 +1,7 @@
 //! Readings: bytes with their moments. All times are in microseconds, as those of the edges.
 
-ghost use Rattle.std.specs.Prelude.{◌≡◌, ◌-◌, if◌then◌else◌};
-ghost use Rattle.pr_decode.specs.Steps.{begun_transfer, widened, with_bit};
+ghost use Rattle.std.specs.Prelude.{◌≡◌};
+ghost use Rattle.pr_decode.specs.Steps.{begun_transfer, weight, widened, with_bit};
 
 use pr_wire::Edge;
 

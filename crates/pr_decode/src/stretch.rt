@@ -40,6 +40,8 @@ impl Turns {
 /// A stretch as far as it came.
 #[derive(Clone, Copy)]
 pub struct Stretch {
+    /// Whether its first edge pulls ATN.
+    pub called: bool,
     pub first: Edge,
     pub last: Edge,
     pub turns: Turns,
@@ -60,11 +62,12 @@ pub fn is_late(since: u64, edge: Edge) -> bool
 }
 
 impl Stretch {
-    /// A stretch that begins with this edge.
-    pub fn begun(edge: Edge) -> Stretch
-        ensures { result ≡ began edge }
+    /// A stretch that begins with this edge, which pulls ATN or does not.
+    pub fn begun(called: bool, edge: Edge) -> Stretch
+        ensures { result ≡ began called edge }
     {
         Stretch {
+            called,
             first: edge,
             last: edge,
             turns: Turns::Still.with(!edge.levels.clock, edge),
@@ -76,6 +79,7 @@ impl Stretch {
         ensures { result ≡ with_edge self edge }
     {
         Stretch {
+            called: self.called,
             first: self.first,
             last: edge,
             turns: self.turns.with(!self.first.levels.clock, edge),
@@ -93,7 +97,7 @@ impl Stretch {
     pub fn opening(self) -> Option<Opening>
         ensures { result ≡ opening_in self }
     {
-        if !self.first.levels.clock {
+        if self.called || !self.first.levels.clock {
             return None;
         }
         let (look, ready, pulse) = match self.turns {
