@@ -3,3 +3,4 @@ pub mod Cutting
 pub mod Adding
 pub mod Bytes
 pub mod Stepping
+pub mod Moving

@@ -29,21 +29,21 @@ all-bits : (bs : List Bit) → with_more bs 0 ≡ length bs
 all-bits [] = refl
 all-bits (b ∷ bs) = ap suc (all-bits bs)
 
-eight-bits : (bs : List Bit) → with_more bs 0 ≡ 8 → (length bs == 8) ≡ true
+pub eight-bits : (bs : List Bit) → with_more bs 0 ≡ 8 → (length bs == 8) ≡ true
 eight-bits bs h = ap (λ n. n == 8) (sym (all-bits bs) ∙ h)
 
 fewer : (bs : List Bit) (n : ℕ) → length bs < with_more bs (suc n)
 fewer [] n = omega arith
 fewer (b ∷ bs) n = let k : length bs < with_more bs (suc n) = fewer bs n in omega arith
 
-few-bits : (bs : List Bit) (n : ℕ) → with_more bs (suc n) ≡ 8 → length bs < 8
+pub few-bits : (bs : List Bit) (n : ℕ) → with_more bs (suc n) ≡ 8 → length bs < 8
 few-bits bs n h = let k : length bs < with_more bs (suc n) = fewer bs n in omega arith
 
-not-eight : (bs : List Bit) (n : ℕ) → with_more bs (suc n) ≡ 8 → (length bs == 8) ≡ false
+pub not-eight : (bs : List Bit) (n : ℕ) → with_more bs (suc n) ≡ 8 → (length bs == 8) ≡ false
 not-eight bs n h = let k : length bs < 8 = few-bits bs n h in ne_eqb (length bs) 8 (λ e. absurd (omega arith))
 
 -- what is read of a byte with all bits, and with fewer
-abbrev sent : Opening → List Bit → Stretch → Transfer
+abbrev pub sent : Opening → List Bit → Stretch → Transfer
 sent o bs l = transfer o (first_low bs l).first.time bs l.first.time
 
 frame-read : (o : Opening) (bs : List Bit) (l : Stretch) (ss : List Stretch) → (length bs == 8) ≡ true
@@ -57,14 +57,14 @@ glitch-read o bs l ss h =
     ap (λ v. if v then Frame (sent o bs l) (frame_end (acknowledgement (turns_of l)) ss) else Glitch (sent o bs l) (glitch_end ss)) h
 
 -- a byte that has begun, read with its end
-frame-comes : (p : Stretch) (o : Opening) (bs : List Bit) (l : Stretch) (ss : List Stretch) (end : FrameEnd) → HasBegun p o bs 0 l
+pub frame-comes : (p : Stretch) (o : Opening) (bs : List Bit) (l : Stretch) (ss : List Stretch) (end : FrameEnd) → HasBegun p o bs 0 l
     → frame_end (acknowledgement (turns_of l)) ss ≡ end
     → readings 0 (p ∷ (stretched bs ++ l ∷ ss)) ≡ Frame (sent o bs l) end ∷ readings 0 (l ∷ ss)
 frame-comes p o bs l ss end h k =
     byte-read p o bs 0 l ss h refl
     ∙ ap (λ r. r ∷ readings 0 (l ∷ ss)) (frame-read o bs l ss (eight-bits bs h.eight) ∙ ap (Frame (sent o bs l)) k)
 
-glitch-comes : (p : Stretch) (o : Opening) (bs : List Bit) (n : ℕ) (l : Stretch) (ss : List Stretch) (end : GlitchEnd) → HasBegun p o bs (suc n) l
+pub glitch-comes : (p : Stretch) (o : Opening) (bs : List Bit) (n : ℕ) (l : Stretch) (ss : List Stretch) (end : GlitchEnd) → HasBegun p o bs (suc n) l
     → bits_from (suc n) l ss ≡ none_come l ss → glitch_end ss ≡ end
     → readings 0 (p ∷ (stretched bs ++ l ∷ ss)) ≡ Glitch (sent o bs l) end ∷ readings 0 (l ∷ ss)
 glitch-comes p o bs n l ss end h c k =
@@ -113,13 +113,13 @@ after-off t s last e h =
     ap (λ v. if v then on else off) h
 
 -- what is kept, where an edge goes on and where it ends the stretch
-keeps-on : (p q : Past) (s : Stretch) (last e : Edge) → goes_on s.first last e ≡ true → transfer_in q (longer s e) ≡ transfer_in p s
+pub keeps-on : (p q : Past) (s : Stretch) (last e : Edge) → goes_on s.first last e ≡ true → transfer_in q (longer s e) ≡ transfer_in p s
     → kept (Some (record { past = q; current = longer s e; last = e })) ≡ after (transfer_in p s) (stretch_in s last) e
 keeps-on p q s last e h k =
     decoder-is (stretch_in (longer s e) e) (with_edge (stretch_in s last) e) (transfer_in q (longer s e)) (transfer_in p s) (kept-longer s last e) k
     ∙ sym (after-on (transfer_in p s) s last e h)
 
-keeps-off : (p q : Past) (s : Stretch) (last e : Edge) (c : Bool) → goes_on s.first last e ≡ false → calls last e ≡ c
+pub keeps-off : (p q : Past) (s : Stretch) (last e : Edge) (c : Bool) → goes_on s.first last e ≡ false → calls last e ≡ c
     → transfer_in q (begun c e) ≡ moved (transfer_in p s) (stretch_in s last) e
     → kept (Some (record { past = q; current = begun c e; last = e })) ≡ after (transfer_in p s) (stretch_in s last) e
 keeps-off p q s last e c h k m =
@@ -128,7 +128,7 @@ keeps-off p q s last e c h k m =
     ∙ sym (after-off (transfer_in p s) s last e h)
 
 -- the stretches behind an edge that ends one
-off-called : (s : Stretch) (last e : Edge) (es : List Edge) (c : Bool) → goes_on s.first last e ≡ false → calls last e ≡ c
+pub off-called : (s : Stretch) (last e : Edge) (es : List Edge) (c : Bool) → goes_on s.first last e ≡ false → calls last e ≡ c
     → stretches_from s last (e ∷ es) ≡ s ∷ stretches_from (begun c e) e es
 off-called s last e es c h k = stretches-off s last e es h ∙ ap (λ v. s ∷ stretches_from (begun v e) e es) k
 
