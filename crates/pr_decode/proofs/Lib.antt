@@ -4,3 +4,4 @@ pub mod Adding
 pub mod Bytes
 pub mod Stepping
 pub mod Moving
+pub mod Taken

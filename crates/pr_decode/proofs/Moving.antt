@@ -26,17 +26,17 @@ ended-low : (t : Transfer) (s : Stretch) (last e : Edge) → s.first.levels.cloc
     → ended_by (Some t) (stretch_in s last) e ≡ low_ended t (stretch_in s last) e
 ended-low t s last e h = ap (λ v. if v then high_ended t (stretch_in s last) e else low_ended t (stretch_in s last) e) h
 
-ended-high : (t : Transfer) (s : Stretch) (last e : Edge) → s.first.levels.clock ≡ true
+pub ended-high : (t : Transfer) (s : Stretch) (last e : Edge) → s.first.levels.clock ≡ true
     → ended_by (Some t) (stretch_in s last) e ≡ high_ended t (stretch_in s last) e
 ended-high t s last e h = ap (λ v. if v then high_ended t (stretch_in s last) e else low_ended t (stretch_in s last) e) h
 
 -- of one that has all bits, and of one that has fewer
-ended-frame : (t : Transfer) (s : Stretch) (last e : Edge) → s.first.levels.clock ≡ false → (t.bits == 8) ≡ true
+pub ended-frame : (t : Transfer) (s : Stretch) (last e : Edge) → s.first.levels.clock ≡ false → (t.bits == 8) ≡ true
     → ended_by (Some t) (stretch_in s last) e ≡ frame_ended t (stretch_in s last) e
 ended-frame t s last e h k =
     ended-low t s last e h ∙ ap (λ v. if v then frame_ended t (stretch_in s last) e else called_at t (stretch_in s last) e) k
 
-ended-bits : (t : Transfer) (s : Stretch) (last e : Edge) → s.first.levels.clock ≡ false → (t.bits == 8) ≡ false
+pub ended-bits : (t : Transfer) (s : Stretch) (last e : Edge) → s.first.levels.clock ≡ false → (t.bits == 8) ≡ false
     → ended_by (Some t) (stretch_in s last) e ≡ called_at t (stretch_in s last) e
 ended-bits t s last e h k =
     ended-low t s last e h ∙ ap (λ v. if v then frame_ended t (stretch_in s last) e else called_at t (stretch_in s last) e) k
@@ -61,7 +61,7 @@ low-on p o bs n s last e h k = record {
 }
 
 -- one that has all bits, and waits
-frame-waits : (p : Stretch) (o : Opening) (bs : List Bit) (s : Stretch) (last e : Edge) → IsRight (Low p o bs 0) s
+pub frame-waits : (p : Stretch) (o : Opening) (bs : List Bit) (s : Stretch) (last e : Edge) → IsRight (Low p o bs 0) s
     → frame_ended (sent o bs s) (stretch_in s last) e ≡ None → Next (Low p o bs 0) s last e
 frame-waits p o bs s last e (h, a) m = by (goes_on s.first last e) refl m
   where
@@ -80,7 +80,7 @@ frame-waits p o bs s last e (h, a) m = by (goes_on s.first last e) refl m
         none (Some t) r = absurd (cc)
 
 -- one that has fewer
-low-moves : (p : Stretch) (o : Opening) (bs : List Bit) (n : ℕ) (s : Stretch) (last e : Edge) → HasBegun p o bs (suc n) s
+pub low-moves : (p : Stretch) (o : Opening) (bs : List Bit) (n : ℕ) (s : Stretch) (last e : Edge) → HasBegun p o bs (suc n) s
     → calls last e ≡ false → Next (Low p o bs (suc n)) s last e
 low-moves p o bs n s last e h k = by (goes_on s.first last e) refl
   where
@@ -96,7 +96,7 @@ low-moves p o bs n s last e h k = by (goes_on s.first last e) refl
     }
 
 -- a byte whose CLOCK is released goes on
-high-moves : (p : Stretch) (o : Opening) (bs : List Bit) (n : ℕ) (l s : Stretch) (last e : Edge) → IsRight (High p o bs n l) s
+pub high-moves : (p : Stretch) (o : Opening) (bs : List Bit) (n : ℕ) (l s : Stretch) (last e : Edge) → IsRight (High p o bs n l) s
     → is_late s.first.time e ≡ false → calls last e ≡ false → Next (High p o bs n l) s last e
 high-moves p o bs n l s last e (h, b) k c = by (goes_on s.first last e) refl
   where
@@ -162,7 +162,7 @@ unacknowledged-gives p o bs s last e (h, a) k es =
     ∙ (frame-comes p o bs s next (frame.Unacknowledged e.time) h (ap (λ v. frame_end v next) a ∙ ap waiting_end i.is)
     ∙ ap (λ x. Frame (sent o bs s) (frame.Unacknowledged e.time) ∷ readings 0 x) (sym is))
 
-frame-gives : (p : Stretch) (o : Opening) (bs : List Bit) (s : Stretch) (last e : Edge) (r : Reading) → IsRight (Low p o bs 0) s
+pub frame-gives : (p : Stretch) (o : Opening) (bs : List Bit) (s : Stretch) (last e : Edge) (r : Reading) → IsRight (Low p o bs 0) s
     → frame_ended (sent o bs s) (stretch_in s last) e ≡ Some r → Gives (Low p o bs 0) s last e r
 frame-gives p o bs s last e r (h, a) m = by (goes_on s.first last e) refl m
   where
@@ -185,7 +185,7 @@ frame-gives p o bs s last e r (h, a) m = by (goes_on s.first last e) refl m
         rw (← given) (unacknowledged-gives p o bs s last e (h, a) k)
 
 -- a call ends a byte with CLOCK pulled
-called-low-gives : (p : Stretch) (o : Opening) (bs : List Bit) (n : ℕ) (s : Stretch) (last e : Edge) → HasBegun p o bs (suc n) s
+pub called-low-gives : (p : Stretch) (o : Opening) (bs : List Bit) (n : ℕ) (s : Stretch) (last e : Edge) → HasBegun p o bs (suc n) s
     → calls last e ≡ true → Gives (Low p o bs (suc n)) s last e (Glitch (sent o bs s) (glitch.Attention e.time))
 called-low-gives p o bs n s last e h k es =
     let i = head-of (begun true e) e es in
@@ -219,7 +219,7 @@ no-bit n l h [] k = refl
 no-bit n l h (x ∷ xs) k = none-comes n l h x xs (k x xs refl)
 
 -- the end of a stretch with CLOCK released that is not called
-high-ends : (h : Stretch) (ss : List Stretch) → h.called ≡ false → glitch_end (h ∷ ss) ≡ high_end h ss
+pub high-ends : (h : Stretch) (ss : List Stretch) → h.called ≡ false → glitch_end (h ∷ ss) ≡ high_end h ss
 high-ends h ss k = ap (λ v. if v then glitch.Attention h.first.time else high_end h ss) k
 
 -- a stretch with an edge that comes too late
@@ -233,7 +233,7 @@ late-stretch n l h ss t c k =
     by (x ∷ ss) = ap (λ v. silence_or v (glitch.Attention x.first.time)) (late-stays h.first.time h.rest (x.first ∷ []) t k)
 
 -- an edge that comes too late ends a byte
-late-gives : (p : Stretch) (o : Opening) (bs : List Bit) (n : ℕ) (l s : Stretch) (last e : Edge) → IsRight (High p o bs n l) s
+pub late-gives : (p : Stretch) (o : Opening) (bs : List Bit) (n : ℕ) (l s : Stretch) (last e : Edge) → IsRight (High p o bs n l) s
     → is_late s.first.time e ≡ true → Gives (High p o bs n l) s last e (Glitch (sent o bs l) (glitch.Silence e.time))
 late-gives p o bs n l s last e (h, b) k = by (goes_on s.first last e) refl
   where
@@ -265,7 +265,7 @@ late-gives p o bs n l s last e (h, b) k = by (goes_on s.first last e) refl
             ∙ ap (λ v. silence_or v (glitch.Attention e.time)) late)
 
 -- so does a call
-called-high-gives : (p : Stretch) (o : Opening) (bs : List Bit) (n : ℕ) (l s : Stretch) (last e : Edge) → IsRight (High p o bs n l) s
+pub called-high-gives : (p : Stretch) (o : Opening) (bs : List Bit) (n : ℕ) (l s : Stretch) (last e : Edge) → IsRight (High p o bs n l) s
     → is_late s.first.time e ≡ false → calls last e ≡ true → Gives (High p o bs n l) s last e (Glitch (sent o bs l) (glitch.Attention e.time))
 called-high-gives p o bs n l s last e (h, b) k c =
     high-gives p o bs n l s last e (glitch.Attention e.time) h (λ es. (both es).0) (λ es. (both es).1)

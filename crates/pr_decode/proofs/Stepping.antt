@@ -80,7 +80,7 @@ kept-longer s last e =
     let make : Turns → declared.Stretch = λ t. record { called = s.called; first = s.first; last = e; turns = t } in
     ap make (turns-longer s e)
 
-kept-begun : (c : Bool) (e : Edge) → stretch_in (begun c e) e ≡ began c e
+pub kept-begun : (c : Bool) (e : Edge) → stretch_in (begun c e) e ≡ began c e
 kept-begun c e =
     let make : Turns → declared.Stretch = λ t. record { called = c; first = e; last = e; turns = t } in
     ap make (turns-begun c e)

@@ -1,9 +1,14 @@
 -- Laws: what recordings say. The functions of src/laws.rt prove them, and callers take them from there.
-use Rattle.std.specs.Prelude.{◌≡◌, List, ◌++◌}
+use Rattle.std.specs.Prelude.{◌≡◌, List, ◌++◌, Option}
+use Rattle.std.specs.Option.{option_to_list}
 use Rattle.pr_wire.specs.declared.Edge.{Edge}
 use Rattle.pr_decode.specs.declared.reading.Reading.{Reading}
-use Rattle.pr_decode.specs.Readings.{settled_of}
+use Rattle.pr_decode.specs.Readings.{readings_of, settled_of}
 
 -- more edges only add readings
 abbrev pub MoreEdgesAddReadings : Type 0
 MoreEdgesAddReadings = (edges more : List Edge) → (later : List Reading) × (settled_of (edges ++ more) ≡ settled_of edges ++ later)
+
+-- at most one reading is cut by the end of the recording, the last
+abbrev pub OnlyTheLastIsCut : Type 0
+OnlyTheLastIsCut = (edges : List Edge) → (cut : Option Reading) × (readings_of edges ≡ settled_of edges ++ option_to_list cut)

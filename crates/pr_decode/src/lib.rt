@@ -6,8 +6,10 @@
 #![tactic(auto)]
 
 mod decoder;
+mod laws;
 mod reading;
 mod stretch;
 
 pub use decoder::{Decoder, GoesBack};
+pub use laws::readings_add_up;
 pub use reading::{FrameEnd, GlitchEnd, Halves, Opening, Pulse, Reading, Transfer};
