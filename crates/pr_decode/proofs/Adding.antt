@@ -55,12 +55,12 @@ byte-read s o bs n l ss h k =
     let first : Stretch = first_low bs l in
     let tail : List Stretch = tail_of bs l ss in
     let read : bits_from 8 first tail ≡ all =
-        ap (λ m. bits_from m first tail) (sym h.eight) ∙ (bits-come bs l ss n h.bits ∙ (ap (onto bs) k ∙ onto-none bs l ss))
+    ap (λ m. bits_from m first tail) (sym h.eight) ∙ (bits-come bs l ss n h.bits ∙ (ap (onto bs) k ∙ onto-none bs l ss))
     in
     let starts : begins s (first ∷ tail) ≡ Some (reading o first.first.time all, number_of bs) =
-        ap (λ v. begun_by v first tail) h.opens
-        ∙ (ap (λ v. if v then None else Some (reading o first.first.time (bits_from 8 first tail), number_of (bits_from 8 first tail).bits)) h.uncalled
-        ∙ ap (λ y. Some (reading o first.first.time y, number_of y.bits)) read)
+    ap (λ v. begun_by v first tail) h.opens
+    ∙ (ap (λ v. if v then None else Some (reading o first.first.time (bits_from 8 first tail), number_of (bits_from 8 first tail).bits)) h.uncalled
+    ∙ ap (λ y. Some (reading o first.first.time y, number_of y.bits)) read)
     in
     ap (λ x. readings 0 (s ∷ x)) (stretched-first bs l ss)
     ∙ (ap (λ v. said v (λ m. readings m (first ∷ tail))) starts

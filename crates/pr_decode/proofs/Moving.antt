@@ -71,9 +71,11 @@ frame-waits p o bs s last e (h, a) m = by (goes_on s.first last e) refl m
         → Next (Low p o bs 0) s last e
     by false k q = absurd (cc)
     by true k q =
-        low-on p o bs 0 s last e k
-        (begun-further p o bs 0 s (e ∷ []) h, sym (acknowledged-now s e)
-        ∙ none (acknowledged_in (turned (not s.first.levels.clock) (noted (turns_of s)) e)) q)
+        low-on p o bs 0 s last e k (
+          begun-further p o bs 0 s (e ∷ []) h,
+          sym (acknowledged-now s e)
+              ∙ none (acknowledged_in (turned (not s.first.levels.clock) (noted (turns_of s)) e)) q,
+        )
       where
         none : (u : Option ℕ) → acknowledged_at (sent o bs s) u ≡ None → u ≡ None
         none None r = refl
@@ -260,9 +262,11 @@ late-gives p o bs n l s last e (h, b) k = by (goes_on s.first last e) refl
             let i = head-of (begun (calls last e) e) e es in
             let x : Stretch = record { called = calls last e; first = e; rest = [] ++ i.more } in
             let is : stretches_from s last (e ∷ es) ≡ s ∷ x ∷ i.behind = stretches-off s last e es m ∙ ap (λ y. s ∷ y) i.is in
-            rw is
-            (none-comes n l s x i.behind (late-ends-none s x e.time late), high-ends s (x ∷ i.behind) b.uncalled
-            ∙ ap (λ v. silence_or v (glitch.Attention e.time)) late)
+            rw is (
+              none-comes n l s x i.behind (late-ends-none s x e.time late),
+              high-ends s (x ∷ i.behind) b.uncalled
+                  ∙ ap (λ v. silence_or v (glitch.Attention e.time)) late,
+            )
 
 -- so does a call
 pub called-high-gives : (p : Stretch) (o : Opening) (bs : List Bit) (n : ℕ) (l s : Stretch) (last e : Edge) → IsRight (High p o bs n l) s
@@ -277,8 +281,10 @@ called-high-gives p o bs n l s last e (h, b) k c =
         let i = head-of (begun true e) e es in
         let x : Stretch = record { called = true; first = e; rest = [] ++ i.more } in
         let is : stretches_from s last (e ∷ es) ≡ s ∷ x ∷ i.behind =
-            off-called s last e es true (calls-off s last e c) c ∙ ap (λ y. s ∷ y) i.is
+        off-called s last e es true (calls-off s last e c) c ∙ ap (λ y. s ∷ y) i.is
         in
-        rw is
-        (none-comes n l s x i.behind (call-ends-none s x refl), high-ends s (x ∷ i.behind) b.uncalled
-        ∙ ap (λ v. silence_or v (glitch.Attention e.time)) (late-none s.first.time s.rest e b.in_time k))
+        rw is (
+          none-comes n l s x i.behind (call-ends-none s x refl),
+          high-ends s (x ∷ i.behind) b.uncalled
+              ∙ ap (λ v. silence_or v (glitch.Attention e.time)) (late-none s.first.time s.rest e b.in_time k),
+        )

@@ -196,7 +196,7 @@ more-taken edges given d new e s r h m n k = by k.seen k.keeps k.right k.told
         let c : r ≡ ended_by (transfer_in x.past x.current) (stretch_in x.current x.last) e = rw (b, a) at m in
         let f : new ≡ after_edge (transfer_in x.past x.current) (stretch_in x.current x.last) e = rw (b, a) at n in
         let g : new ≡ after (kept_of r (transfer_in x.past x.current)) (stretch_in x.current x.last) e =
-            f ∙ ap (λ y. after (kept_of y (transfer_in x.past x.current)) (stretch_in x.current x.last) e) (sym c)
+        f ∙ ap (λ y. after (kept_of y (transfer_in x.past x.current)) (stretch_in x.current x.last) e) (sym c)
         in
         rw g (seen-more edges given d e k x right t r (sym c))
 
@@ -285,6 +285,8 @@ more-edges edges more =
 -- at most one reading is cut, the last
 pub one-cut : OnlyTheLastIsCut
 one-cut edges =
-    let r = read-all edges in
-    (cut_in r.decoder.transfer, all-read edges r.given r.decoder r.has
-        ∙ ap (λ x. x ++ option_to_list (cut_in r.decoder.transfer)) (sym (all-settled edges r.given r.decoder r.has)))
+    let r = read-all edges in (
+      cut_in r.decoder.transfer,
+      all-read edges r.given r.decoder r.has
+          ∙ ap (λ x. x ++ option_to_list (cut_in r.decoder.transfer)) (sym (all-settled edges r.given r.decoder r.has)),
+    )

@@ -32,11 +32,11 @@ turns_of s = turns (not s.first.levels.clock) (edges_in s)
 -- an opening: DATA is pulled (the look), and released (ready); perhaps pulled and released again (end-or-identify)
 abbrev pub opening : List Edge → Option Opening
 opening (l ∷ r ∷ p ∷ f ∷ es) = Some (record {
-      command = not r.levels.atn;
-      look = l.time;
-      ready = r.time;
-      pulse = Some (record { pulled = p.time; released = f.time });
-    })
+  command = not r.levels.atn;
+  look = l.time;
+  ready = r.time;
+  pulse = Some (record { pulled = p.time; released = f.time });
+})
 opening (l ∷ r ∷ es) = Some (record { command = not r.levels.atn; look = l.time; ready = r.time; pulse = None })
 opening es = None
 

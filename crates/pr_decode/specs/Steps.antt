@@ -79,11 +79,11 @@ opened (Once a) = None
 opened (Twice a b) = Some (record { command = not b.levels.atn; look = a.time; ready = b.time; pulse = None })
 opened (Thrice a b c) = Some (record { command = not b.levels.atn; look = a.time; ready = b.time; pulse = None })
 opened (Often a b c d) = Some (record {
-      command = not b.levels.atn;
-      look = a.time;
-      ready = b.time;
-      pulse = Some (record { pulled = c.time; released = d.time });
-    })
+  command = not b.levels.atn;
+  look = a.time;
+  ready = b.time;
+  pulse = Some (record { pulled = c.time; released = d.time });
+})
 
 abbrev pub opening_in : Stretch → Option Opening
 opening_in s = if s.called then None else (if s.first.levels.clock then opened s.turns else None)

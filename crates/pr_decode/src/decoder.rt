@@ -169,3 +169,6 @@ impl Decoder {
         })
     }
 }
+
+#[cfg(test)]
+mod tests;
