@@ -5,3 +5,4 @@ pub mod Bytes
 pub mod Stepping
 pub mod Moving
 pub mod Taken
+pub mod FrameRead

@@ -138,7 +138,7 @@ abbrev pub Gives : Past → Stretch → (last e : Edge) → Reading → Type 0
 Gives p s last e r = (es : List Edge) → to_come p s last (e ∷ es) ≡ r ∷ to_come Waiting s last (e ∷ es)
 
 -- a frame is given with its acknowledgement
-acknowledged-gives : (p : Stretch) (o : Opening) (bs : List Bit) (s : Stretch) (last e : Edge) (t : ℕ) → HasBegun p o bs 0 s
+pub acknowledged-gives : (p : Stretch) (o : Opening) (bs : List Bit) (s : Stretch) (last e : Edge) (t : ℕ) → HasBegun p o bs 0 s
     → goes_on s.first last e ≡ true → acknowledgement (turns_of (longer s e)) ≡ Some t
     → Gives (Low p o bs 0) s last e (Frame (sent o bs s) (frame.Acknowledged t))
 acknowledged-gives p o bs s last e t h k a es =

@@ -2,7 +2,10 @@
 use Rattle.std.specs.Prelude.{◌≡◌, List, ◌++◌, Option}
 use Rattle.std.specs.Option.{option_to_list}
 use Rattle.pr_wire.specs.declared.Edge.{Edge}
+use Rattle.pr_wire.specs.declared.Frame.{Frame}
+use Rattle.pr_wire.specs.Pieces.{IsCut, Piece, Spells}
 use Rattle.pr_decode.specs.declared.reading.Reading.{Reading}
+use Rattle.pr_decode.specs.PieceReadings.{frames_in, pieces_read}
 use Rattle.pr_decode.specs.Readings.{readings_of, settled_of}
 
 -- more edges only add readings
@@ -12,3 +15,11 @@ MoreEdgesAddReadings = (edges more : List Edge) → (later : List Reading) × (s
 -- at most one reading is cut by the end of the recording, the last
 abbrev pub OnlyTheLastIsCut : Type 0
 OnlyTheLastIsCut = (edges : List Edge) → (cut : Option Reading) × (readings_of edges ≡ settled_of edges ++ option_to_list cut)
+
+-- a lawful trace says the frames of its pieces, with the moments of these, and nothing else
+abbrev pub TracesSayTheirPieces : Type 0
+TracesSayTheirPieces = (edges : List Edge) (pieces : List Piece) → IsCut edges pieces → readings_of edges ≡ pieces_read pieces
+
+-- without their moments they are those that it spells
+abbrev pub TracesSayWhatTheySpell : Type 0
+TracesSayWhatTheySpell = (edges : List Edge) (frames : List Frame) → Spells edges frames → frames_in (readings_of edges) ≡ frames
