@@ -6,3 +6,4 @@ pub mod Stepping
 pub mod Moving
 pub mod Taken
 pub mod FrameRead
+pub mod PiecesRead

@@ -133,7 +133,7 @@ pub off-called : (s : Stretch) (last e : Edge) (es : List Edge) (c : Bool) → g
 off-called s last e es c h k = stretches-off s last e es h ∙ ap (λ v. s ∷ stretches_from (begun v e) e es) k
 
 -- nothing begins in front of a call
-skips-call : (s : Stretch) (e : Edge) (es : List Edge) → readings 0 (s ∷ stretches_from (begun true e) e es) ≡ readings 0 (stretches_from (begun true e) e es)
+pub skips-call : (s : Stretch) (e : Edge) (es : List Edge) → readings 0 (s ∷ stretches_from (begun true e) e es) ≡ readings 0 (stretches_from (begun true e) e es)
 skips-call s e es =
     let k = head-of (begun true e) e es in
     let h : Stretch = record { called = true; first = e; rest = [] ++ k.more } in
