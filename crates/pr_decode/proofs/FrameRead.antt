@@ -94,11 +94,12 @@ not-late u d h = le-ltb 1000 (d - u) (omega arith)
 are-bits : (x : Bool) (c : ℕ) (bs : List BitTimes) → AreClocked c bs → AreBits (bits_read x c bs) (last_low x c bs)
 are-bits x c [] h = tt
 are-bits x c (b ∷ bs) (u, d, h) =
-    let down : Edge = edge_at b.down x false (first_level bs) in
-    (ap (ends_bit (high_at x b)) (first-low-is x b.down bs)
-    ∙ ap (λ v. is_none (if v then Some b.down else None)) (not-late b.up b.down d.to),
-    ap (λ (s : Stretch). s.first) (sym (first-low-is x b.down bs)),
-    are-bits x b.down bs h)
+    let down : Edge = edge_at b.down x false (first_level bs) in (
+      ap (ends_bit (high_at x b)) (first-low-is x b.down bs)
+          ∙ ap (λ v. is_none (if v then Some b.down else None)) (not-late b.up b.down d.to),
+      ap (λ (s : Stretch). s.first) (sym (first-low-is x b.down bs)),
+      are-bits x b.down bs h,
+    )
 
 -- and say what the frame says
 number-read : (x : Bool) (c : ℕ) (bs : List BitTimes) → length (bits_read x c bs) ≡ length bs

@@ -145,11 +145,11 @@ walk-attention b s last a answer look first second end h w z = by (called-edge b
         let m = walk-second f k first.ack second refl refl z in
         let n = walk-end m.to m.at end m.pulled m.called in
         let one : Walk s last (e ∷ (answer_edges answer look ++ frame_edges false first)) (frame_read false look first ∷ []) f k =
-            walk-both s t f last e k (e ∷ []) (answer_edges answer look ++ frame_edges false first) [] (frame_read false look first ∷ [])
-            (walk-call s last e (stands-released b s last h) refl) (walk-first t e answer look first refl refl w)
+        walk-both s t f last e k (e ∷ []) (answer_edges answer look ++ frame_edges false first) [] (frame_read false look first ∷ [])
+        (walk-call s last e (stands-released b s last h) refl) (walk-first t e answer look first refl refl w)
         in
         let two = walk-both s f m.to last k m.at (e ∷ (answer_edges answer look ++ frame_edges false first)) (second_edges second)
-            (frame_read false look first ∷ []) (second_read second) one m.walk
+        (frame_read false look first ∷ []) (second_read second) one m.walk
         in
         rw q (record {
           to = n.to;

@@ -25,14 +25,14 @@ pulse_read (Some p) = Some (record { pulled = p.pulled; released = p.released })
 -- a frame of a piece, by ATN's level and the release of CLOCK before it
 abbrev pub frame_read : (atn : Bool) → (look : ℕ) → FrameTimes → Reading
 frame_read atn look f = read.Frame (record {
-      opening = record { command = not atn; look = look; ready = f.free; pulse = pulse_read f.pulse };
-      pull = f.pull;
-      bits = 8;
-      byte = byte_sent f;
-      low = halves (low_times f.pull f.bits);
-      high = halves (high_times f.bits);
-      last_pull = last_pull f.pull f.bits;
-    }) (Acknowledged f.ack)
+  opening = record { command = not atn; look = look; ready = f.free; pulse = pulse_read f.pulse };
+  pull = f.pull;
+  bits = 8;
+  byte = byte_sent f;
+  low = halves (low_times f.pull f.bits);
+  high = halves (high_times f.bits);
+  last_pull = last_pull f.pull f.bits;
+}) (Acknowledged f.ack)
 
 -- the frames of a piece
 abbrev pub second_read : Option SecondFrame → List Reading
