@@ -1,10 +1,9 @@
 -- The bits of a byte that has begun, among the stretches.
-use Rattle.std.proofs.Common.{◌≡◌, ℕ, suc, zero, Bool, true, false, not, ◌&&◌, List, [], ◌∷◌, ◌++◌, length, Option, Some, None, if◌then◌else◌, refl, sym, ap, ◌∙◌, append_assoc, append-nil}
+use Rattle.std.proofs.Common.{◌≡◌, ℕ, suc, Bool, true, false, not, ◌&&◌, List, [], ◌∷◌, ◌++◌, Option, Some, None, if◌then◌else◌, refl, sym, ap, ◌∙◌}
 use Rattle.pr_wire.specs.declared.Edge.{Edge}
 use Rattle.pr_decode.specs.declared.reading.Opening.{Opening}
-use Rattle.pr_decode.specs.declared.reading.Reading.{Reading}
 use Rattle.pr_decode.specs.Readings.{Bit, Bits, begins, begun_by, bits_from, ends_bit, first_late, is_none, number_of, opening, opening_of, put_bit, reading, readings, said, turns_of}
-use Rattle.pr_decode.specs.Stretches.{Stretch, begun, longer}
+use Rattle.pr_decode.specs.Stretches.{Stretch}
 use Rattle.pr_decode.specs.Taking.{AreBits, HasBegun, first_low, stretched, with_more}
 
 -- what follows the first stretch of bits

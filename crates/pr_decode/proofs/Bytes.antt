@@ -1,9 +1,8 @@
 -- A byte with one bit more.
-use Rattle.std.proofs.Common.{◌≡◌, ℕ, suc, zero, ◌+◌, ◌*◌, ◌-◌, ◌<◌, ◌≤◌, ◌==◌, Bool, true, false, List, [], ◌∷◌, ◌++◌, length, map, min, max, if◌then◌else◌, refl, sym, ap, ◌∙◌, arith}
+use Rattle.std.proofs.Common.{◌≡◌, ℕ, suc, zero, ◌+◌, ◌*◌, ◌-◌, ◌<◌, ◌≤◌, Bool, true, false, List, [], ◌∷◌, ◌++◌, length, map, min, max, if◌then◌else◌, refl, sym, ap, ◌∙◌, arith}
 use Rattle.std.proofs.Math.Dec.{eqb-suc-zero}
 use Rattle.std.proofs.Math.Nat.{min-eq_left}
 use Rattle.std.proofs.lemmas.List.{length-append, length-map, map-append}
-use Rattle.pr_wire.specs.declared.Edge.{Edge}
 use Rattle.pr_wire.specs.Levels.{byte_of}
 use Rattle.pr_decode.specs.declared.reading.Halves.{Halves}
 use Rattle.pr_decode.specs.declared.reading.Opening.{Opening}

@@ -1,5 +1,5 @@
 -- Stretches, with one edge more.
-use Rattle.std.proofs.Common.{◌≡◌, ℕ, Bool, true, false, not, ◌&&◌, List, [], ◌∷◌, ◌++◌, Option, Some, None, if◌then◌else◌, refl, sym, ap, ◌∙◌, append_assoc, append-nil}
+use Rattle.std.proofs.Common.{◌≡◌, ℕ, Bool, true, false, not, ◌&&◌, List, [], ◌∷◌, ◌++◌, Some, None, if◌then◌else◌, refl, sym, ap, ◌∙◌, append_assoc, append-nil}
 use Rattle.pr_wire.specs.declared.Edge.{Edge}
 use Rattle.pr_wire.specs.Table.{same}
 use Rattle.pr_decode.specs.Readings.{first_late, is_late}

@@ -1,24 +1,23 @@
 -- A frame of a lawful trace, read.
-use Rattle.std.proofs.Common.{◌≡◌, ℕ, suc, zero, ◌+◌, ◌-◌, ◌<◌, ◌≤◌, Bool, true, false, not, ◌&&◌, List, [], ◌∷◌, ◌++◌, length, map, Option, Some, None, if◌then◌else◌, refl, sym, ap, ◌∙◌, append_assoc, arith}
+use Rattle.std.proofs.Common.{◌≡◌, ℕ, suc, ◌+◌, ◌-◌, ◌≤◌, Bool, true, false, not, ◌&&◌, List, [], ◌∷◌, ◌++◌, length, map, Option, Some, None, if◌then◌else◌, refl, sym, ap, ◌∙◌, append_assoc, arith}
 use Rattle.std.specs.Prelude.{nat_lt}
 use Rattle.std.proofs.lemmas.Bool.{le-ltb}
 use Rattle.pr_wire.specs.declared.Edge.{Edge}
 use Rattle.pr_wire.specs.Levels.{byte_of, edge_at}
-use Rattle.pr_wire.specs.Pieces.{AreClocked, BitTimes, EoiAnswer, FrameTimes, IsFrame, IsOpened, bit_edges, byte_sent, frame_edges, last_pull, levels_of, pulse_edges}
+use Rattle.pr_wire.specs.Pieces.{AreClocked, BitTimes, EoiAnswer, FrameTimes, IsFrame, IsOpened, bit_edges, frame_edges, last_pull, levels_of}
 use Rattle.pr_wire.specs.Table.{same}
 use Rattle.pr_decode.specs.declared.reading.FrameEnd.TheVariants as frame
-use Rattle.pr_decode.specs.declared.reading.Halves.{Halves}
 use Rattle.pr_decode.specs.declared.reading.Opening.{Opening}
 use Rattle.pr_decode.specs.declared.reading.Reading.{Reading}
 use Rattle.pr_decode.specs.declared.reading.Reading.TheVariants.{Frame}
 use Rattle.pr_decode.specs.declared.reading.Transfer.{Transfer}
-use Rattle.pr_decode.specs.PieceReadings.{frame_read, high_times, low_times, pulse_read}
-use Rattle.pr_decode.specs.Readings.{Bit, ends_bit, first_late, halves, high_half, is_late, is_none, level_of, low_half, opening_of, readings, transfer, turns_of}
+use Rattle.pr_decode.specs.PieceReadings.{frame_read, high_times, low_times}
+use Rattle.pr_decode.specs.Readings.{Bit, ends_bit, halves, high_half, is_none, level_of, low_half, opening_of, readings}
 use Rattle.pr_decode.specs.Stretches.{Stretch, begun, calls, goes_on, longer, stretches_from}
-use Rattle.pr_decode.specs.Taking.{AreBits, HasBegun, Past, first_low, stretched, to_come, with_more}
-use Rattle.pr_decode.specs.Taking.Past.{Low, Waiting}
+use Rattle.pr_decode.specs.Taking.{AreBits, HasBegun, first_low, stretched, to_come, with_more}
+use Rattle.pr_decode.specs.Taking.Past.{Waiting}
 use Rattle.pr_decode.proofs.Adding.{low-opens-nothing, nothing-begins}
-use Rattle.pr_decode.proofs.Cutting.{calls-off, stretches-off, stretches-on}
+use Rattle.pr_decode.proofs.Cutting.{stretches-off, stretches-on}
 use Rattle.pr_decode.proofs.Moving.{acknowledged-gives}
 use Rattle.pr_decode.proofs.Stepping.{off-called, sent}
 

@@ -7,3 +7,4 @@ pub mod Moving
 pub mod Taken
 pub mod FrameRead
 pub mod PiecesRead
+pub mod OutlinesRead

@@ -1,7 +1,6 @@
 -- What one edge more changes where a byte has begun: it goes on, or it is given.
-use Rattle.std.proofs.Common.{◌≡◌, ℕ, suc, zero, ◌==◌, Bool, true, false, not, List, [], ◌∷◌, ◌++◌, length, Option, Some, None, if◌then◌else◌, refl, sym, ap, ◌∙◌, append_assoc}
+use Rattle.std.proofs.Common.{◌≡◌, ℕ, suc, zero, ◌==◌, Bool, true, false, not, List, [], ◌∷◌, ◌++◌, Option, Some, None, if◌then◌else◌, refl, sym, ap, ◌∙◌}
 use Rattle.pr_wire.specs.declared.Edge.{Edge}
-use Rattle.pr_decode.specs.declared.reading.FrameEnd.{FrameEnd}
 use Rattle.pr_decode.specs.declared.reading.FrameEnd.TheVariants as frame
 use Rattle.pr_decode.specs.declared.reading.GlitchEnd.{GlitchEnd}
 use Rattle.pr_decode.specs.declared.reading.GlitchEnd.TheVariants as glitch
@@ -9,16 +8,15 @@ use Rattle.pr_decode.specs.declared.reading.Opening.{Opening}
 use Rattle.pr_decode.specs.declared.reading.Reading.{Reading}
 use Rattle.pr_decode.specs.declared.reading.Reading.TheVariants.{Frame, Glitch}
 use Rattle.pr_decode.specs.declared.reading.Transfer.{Transfer}
-use Rattle.pr_decode.specs.declared.stretch.Stretch as declared
 use Rattle.pr_decode.specs.Readings.{Bit, acknowledgement, bits_from, ends_bit, first_late, frame_end, glitch_end, high_end, is_late, readings, silence_or, transfer, turns_of, waiting_end}
-use Rattle.pr_decode.specs.Steps.{acknowledged_at, acknowledged_in, called_at, ended_by, frame_ended, high_ended, low_ended, moved, turned, with_bit}
+use Rattle.pr_decode.specs.Steps.{acknowledged_at, acknowledged_in, called_at, ended_by, frame_ended, high_ended, low_ended, turned, with_bit}
 use Rattle.pr_decode.specs.Stretches.{Stretch, begun, calls, goes_on, longer, stretches_from}
-use Rattle.pr_decode.specs.Taking.{HasBegun, IsBit, IsRight, Past, first_low, noted, stretch_in, stretched, to_come, transfer_in}
+use Rattle.pr_decode.specs.Taking.{HasBegun, IsRight, Past, first_low, noted, stretch_in, stretched, to_come}
 use Rattle.pr_decode.specs.Taking.Past.{High, Low, Waiting}
 use Rattle.pr_decode.proofs.Adding.{begun-further, begun-more, call-ends-none, called-ends-none, ends-bit, first-further, late-ends-none, low-opens-nothing, more-first, more-stretched, none-comes, none_come, nothing-begins}
 use Rattle.pr_decode.proofs.Bytes.{transfer-more}
-use Rattle.pr_decode.proofs.Cutting.{Head, calls-off, clock-falls, clock-rises, head-of, late-none, late-one, late-stays, stretches-off, stretches-on}
-use Rattle.pr_decode.proofs.Stepping.{Next, eight-bits, few-bits, frame-comes, glitch-comes, keeps-off, keeps-on, not-eight, off-called, sent}
+use Rattle.pr_decode.proofs.Cutting.{calls-off, clock-falls, clock-rises, head-of, late-none, late-one, late-stays, stretches-off, stretches-on}
+use Rattle.pr_decode.proofs.Stepping.{Next, few-bits, frame-comes, glitch-comes, keeps-off, keeps-on, off-called, sent}
 use Rattle.pr_decode.proofs.Turning.{acknowledged-longer, acknowledged-noted, begun-unacknowledged, turns-longer}
 
 -- what is ended of a byte, by CLOCK's level

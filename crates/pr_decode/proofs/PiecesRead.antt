@@ -3,7 +3,7 @@ use Rattle.std.proofs.Common.{◌≡◌, ℕ, ◌==◌, Bool, true, false, not, 
 use Rattle.pr_wire.specs.declared.Edge.{Edge}
 use Rattle.pr_wire.specs.declared.Frame as wire
 use Rattle.pr_wire.specs.Levels.{edge_at, start}
-use Rattle.pr_wire.specs.Pieces.{AreLawful, Between, Ending, EoiAnswer, FrameTimes, IsAnswered, IsFrame, IsPiece, IsSecond, Piece, SecondFrame, after_ending, after_piece, answer_edges, call_edge, edges_of, ending_edges, frame_edges, frame_sent, frames_of, has_pulse, piece_edges, piece_frames, second_edges, second_frames}
+use Rattle.pr_wire.specs.Pieces.{AreLawful, Between, Ending, EoiAnswer, FrameTimes, IsFrame, IsPiece, IsSecond, Piece, SecondFrame, after_ending, after_piece, answer_edges, call_edge, edges_of, ending_edges, frame_edges, frame_sent, frames_of, has_pulse, piece_edges, piece_frames, second_edges, second_frames}
 use Rattle.pr_wire.specs.Pieces.Between.{Held, Loose, Resting}
 use Rattle.pr_wire.specs.Pieces.Piece.{Attention, DataByte, Dropped, Unanswered}
 use Rattle.pr_wire.specs.Table.{same}

@@ -1,28 +1,23 @@
 -- What one edge more changes of what a decoder keeps, and of the readings that come yet.
-use Rattle.std.proofs.Common.{◌≡◌, ℕ, suc, zero, ◌+◌, ◌<◌, ◌==◌, Bool, true, false, not, List, [], ◌∷◌, ◌++◌, length, Option, Some, None, if◌then◌else◌, refl, sym, ap, ◌∙◌, append_assoc, arith}
+use Rattle.std.proofs.Common.{◌≡◌, ℕ, suc, ◌+◌, ◌<◌, ◌==◌, Bool, true, false, List, [], ◌∷◌, ◌++◌, length, Option, Some, None, if◌then◌else◌, refl, sym, ap, ◌∙◌, arith}
 use Rattle.std.proofs.lemmas.Bool.{ne_eqb}
 use Rattle.pr_wire.specs.declared.Edge.{Edge}
 use Rattle.pr_decode.specs.declared.decoder.Decoder.{Decoder}
 use Rattle.pr_decode.specs.declared.reading.FrameEnd.{FrameEnd}
-use Rattle.pr_decode.specs.declared.reading.FrameEnd.TheVariants as frame
 use Rattle.pr_decode.specs.declared.reading.GlitchEnd.{GlitchEnd}
-use Rattle.pr_decode.specs.declared.reading.GlitchEnd.TheVariants as glitch
 use Rattle.pr_decode.specs.declared.reading.Opening.{Opening}
-use Rattle.pr_decode.specs.declared.reading.Reading.{Reading}
 use Rattle.pr_decode.specs.declared.reading.Reading.TheVariants.{Frame, Glitch}
 use Rattle.pr_decode.specs.declared.reading.Transfer.{Transfer}
 use Rattle.pr_decode.specs.declared.stretch.Stretch as declared
 use Rattle.pr_decode.specs.declared.stretch.Turns.{Turns}
-use Rattle.pr_decode.specs.declared.stretch.Turns.TheVariants.{Still}
-use Rattle.pr_decode.specs.Readings.{Bit, Bits, acknowledgement, bits_from, ends_bit, first_late, frame_end, glitch_end, high_end, is_late, opening, opening_of, reading, readings, silence_or, transfer, turns_of, waiting_end}
-use Rattle.pr_decode.specs.Steps.{acknowledged_at, acknowledged_in, after, began, begun_behind, called_at, ended_by, frame_ended, high_ended, low_ended, moved, opened, opening_in, turned, with_bit, with_edge}
+use Rattle.pr_decode.specs.Readings.{Bit, acknowledgement, bits_from, frame_end, glitch_end, opening_of, reading, readings, transfer, turns_of}
+use Rattle.pr_decode.specs.Steps.{after, began, begun_behind, moved, opening_in, with_edge}
 use Rattle.pr_decode.specs.Stretches.{Stretch, begun, calls, goes_on, longer, stretches_from}
-use Rattle.pr_decode.specs.Taking.{HasBegun, IsBit, IsRight, Past, Seen, first_low, kept, noted, stretch_in, stretched, to_come, transfer_in, with_more}
-use Rattle.pr_decode.specs.Taking.Past.{High, Low, Waiting}
-use Rattle.pr_decode.proofs.Adding.{begun-further, begun-more, byte-read, call-begins, call-ends-none, called-ends-none, ends-bit, first-further, late-ends-none, low-opens-nothing, more-first, more-stretched, none-comes, none_come, nothing-begins, opening-released}
-use Rattle.pr_decode.proofs.Bytes.{transfer-more}
-use Rattle.pr_decode.proofs.Cutting.{Head, calls-off, clock-falls, clock-rises, head-of, late-none, late-one, late-stays, stretches-off, stretches-on}
-use Rattle.pr_decode.proofs.Turning.{acknowledged-longer, acknowledged-noted, begun-unacknowledged, opened-noted, turns-begun, turns-longer}
+use Rattle.pr_decode.specs.Taking.{HasBegun, IsRight, Past, first_low, kept, stretch_in, stretched, to_come, transfer_in, with_more}
+use Rattle.pr_decode.specs.Taking.Past.{Low, Waiting}
+use Rattle.pr_decode.proofs.Adding.{byte-read, call-begins, none_come, nothing-begins, opening-released}
+use Rattle.pr_decode.proofs.Cutting.{clock-falls, head-of, stretches-off, stretches-on}
+use Rattle.pr_decode.proofs.Turning.{opened-noted, turns-begun, turns-longer}
 
 -- a byte has eight bits exactly where none is left
 all-bits : (bs : List Bit) → with_more bs 0 ≡ length bs

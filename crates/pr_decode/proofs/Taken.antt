@@ -1,5 +1,5 @@
 -- One edge more, taken by a decoder, and the end of a recording.
-use Rattle.std.proofs.Common.{◌≡◌, ℕ, suc, zero, ◌==◌, Bool, true, false, not, List, [], ◌∷◌, ◌++◌, length, Option, Some, None, if◌then◌else◌, refl, sym, ap, ◌∙◌, append_assoc, append-nil, subst}
+use Rattle.std.proofs.Common.{◌≡◌, ℕ, suc, zero, ◌==◌, Bool, true, false, not, List, [], ◌∷◌, ◌++◌, Option, Some, None, if◌then◌else◌, refl, sym, ap, ◌∙◌, append_assoc, append-nil, subst}
 use Rattle.std.proofs.lemmas.Bool.{ne_eqb}
 use Rattle.std.proofs.lemmas.List.Elements.{filter-append}
 use Rattle.std.specs.List.{filter}
@@ -8,18 +8,17 @@ use Rattle.pr_wire.specs.declared.Edge.{Edge}
 use Rattle.pr_decode.specs.declared.decoder.Decoder.{Decoder}
 use Rattle.pr_decode.specs.declared.reading.FrameEnd.TheVariants as frame
 use Rattle.pr_decode.specs.declared.reading.GlitchEnd.TheVariants as glitch
-use Rattle.pr_decode.specs.declared.reading.Opening.{Opening}
 use Rattle.pr_decode.specs.declared.reading.Reading.{Reading}
 use Rattle.pr_decode.specs.declared.reading.Reading.TheVariants.{Frame, Glitch}
 use Rattle.pr_decode.specs.declared.reading.Transfer.{Transfer}
 use Rattle.pr_decode.specs.declared.stretch.Stretch as declared
 use Rattle.pr_decode.specs.Laws.{MoreEdgesAddReadings, OnlyTheLastIsCut}
-use Rattle.pr_decode.specs.Readings.{acknowledgement, bits_from, first_late, frame_end, glitch_end, high_end, is_late, is_settled, readings, readings_of, settled_of, silence_or, turns_of, waiting_end}
-use Rattle.pr_decode.specs.Steps.{acknowledged_at, acknowledged_in, after, after_edge, began, called_at, cut_in, ended_by, frame_ended, high_ended, kept_of, low_ended, turned}
-use Rattle.pr_decode.specs.Stretches.{Stretch, begun, calls, goes_on, stretches_from}
-use Rattle.pr_decode.specs.Taking.{HasBegun, HasRead, IsRight, IsRightSeen, Past, Seen, first_low, kept, noted, stretch_in, stretched, to_come, to_come_behind, transfer_in}
+use Rattle.pr_decode.specs.Readings.{frame_end, is_late, is_settled, readings_of, settled_of, silence_or}
+use Rattle.pr_decode.specs.Steps.{acknowledged_at, acknowledged_in, after, after_edge, began, cut_in, ended_by, kept_of, turned}
+use Rattle.pr_decode.specs.Stretches.{Stretch, begun, calls, goes_on}
+use Rattle.pr_decode.specs.Taking.{HasRead, IsRight, IsRightSeen, Past, Seen, kept, stretch_in, to_come, to_come_behind, transfer_in}
 use Rattle.pr_decode.specs.Taking.Past.{High, Low, Waiting}
-use Rattle.pr_decode.proofs.Adding.{low-opens-nothing, none_come, nothing-begins}
+use Rattle.pr_decode.proofs.Adding.{low-opens-nothing, nothing-begins}
 use Rattle.pr_decode.proofs.Moving.{Gives, called-high-gives, called-low-gives, ended-bits, ended-frame, ended-high, frame-gives, frame-waits, high-ends, high-moves, late-gives, low-moves}
 use Rattle.pr_decode.proofs.Stepping.{Next, eight-bits, frame-comes, glitch-comes, kept-begun, not-eight, sent, waits}
 

@@ -1,9 +1,7 @@
 -- The turns of DATA in a stretch, with one edge more.
-use Rattle.std.proofs.Common.{◌≡◌, ℕ, Bool, true, false, not, List, [], ◌∷◌, ◌++◌, Option, Some, None, if◌then◌else◌, refl, sym, ap, ◌∙◌}
+use Rattle.std.proofs.Common.{◌≡◌, ℕ, Bool, true, false, not, List, [], ◌∷◌, ◌++◌, Some, None, if◌then◌else◌, refl, ap, ◌∙◌}
 use Rattle.pr_wire.specs.declared.Edge.{Edge}
 use Rattle.pr_wire.specs.Table.{same}
-use Rattle.pr_decode.specs.declared.reading.Opening.{Opening}
-use Rattle.pr_decode.specs.declared.stretch.Turns.{Turns}
 use Rattle.pr_decode.specs.declared.stretch.Turns.TheVariants.{Still, Once, Twice, Thrice, Often}
 use Rattle.pr_decode.specs.Readings.{acknowledgement, opening, turns, turns_of}
 use Rattle.pr_decode.specs.Steps.{acknowledged_in, opened, turned}

@@ -1,5 +1,6 @@
 pub mod Stretches
 pub mod Readings
+pub mod Outlines
 pub mod PieceReadings
 pub mod Steps
 pub mod Taking

@@ -40,6 +40,7 @@ opening (l ∷ r ∷ p ∷ f ∷ es) = Some (record {
 opening (l ∷ r ∷ es) = Some (record { command = not r.levels.atn; look = l.time; ready = r.time; pulse = None })
 opening es = None
 
+-- a stretch is one where CLOCK is released; none is where ATN's pull begins it
 abbrev pub opening_of : Stretch → Option Opening
 opening_of s = if s.called then None else (if s.first.levels.clock then opening (turns_of s) else None)
 
@@ -56,7 +57,8 @@ abbrev pub is_none : Option ℕ → Bool
 is_none None = true
 is_none (Some t) = false
 
--- a stretch with CLOCK released ends a bit, if the next one follows in time and ATN is pulled by neither
+-- a stretch with CLOCK released ends a bit, if the next one follows in time and ATN is pulled by neither; CLOCK is then pulled in
+-- that one, since it is not as it was
 abbrev pub ends_bit : (high next : Stretch) → Bool
 ends_bit high next = not high.called && not next.called && is_none (first_late high.first.time (high.rest ++ next.first ∷ []))
 
@@ -72,6 +74,7 @@ pub record Bits : Type 0 where
   pub last : Stretch
   pub behind : List Stretch
 
+-- a bit in front of others
 abbrev pub put_bit : Bit → Bits → Bits
 put_bit b more = record more { bits = b ∷ more.bits }
 

@@ -1,6 +1,6 @@
 //! The decoder: what a recording says, edge by edge.
 
-ghost use Rattle.std.specs.Prelude.{◌≡◌, ◌++◌, ◌∷◌, [], ◌<◌, ◌↔◌, List, OnOk, OnErr, IfOk, IsErr, Some};
+ghost use Rattle.std.specs.Prelude.{◌≡◌, ◌++◌, ◌∷◌, [], ◌<◌, ◌↔◌, List, OnErr, IfOk, IsErr, Some};
 ghost use Rattle.std.specs.Option.{option_to_list};
 ghost use Rattle.pr_wire.specs.declared.Edge.{Edge};
 ghost use Rattle.pr_decode.specs.declared.reading.Reading.{Reading};

@@ -1,6 +1,6 @@
 //! Laws of the definitions, with nothing to run. A caller whose proof needs one calls the function.
 
-ghost use Rattle.pr_decode.specs.Laws.{MoreEdgesAddReadings, OnlyTheLastIsCut, TracesSayTheirPieces, TracesSayWhatTheySpell};
+ghost use Rattle.pr_decode.specs.Laws.{MoreEdgesAddReadings, OnlyTheLastIsCut, OutlinesDecide, TracesSayTheirPieces, TracesSayWhatTheySpell};
 
 /// A law: more edges only add readings behind those that there were, and the end of a recording cuts
 /// at most the last.
@@ -14,4 +14,11 @@ pub fn readings_add_up()
 pub fn traces_are_read()
     ensures moments { TracesSayTheirPieces }
     ensures spelled { TracesSayWhatTheySpell }
+{}
+
+/// A law: recordings whose stretches, in which CLOCK stays as it is, have the same outlines say the same:
+/// of a stretch nothing counts but its first edge, the edges at which DATA turns, and when an edge first
+/// came too late for a bit.
+pub fn moments_decide()
+    ensures { OutlinesDecide }
 {}

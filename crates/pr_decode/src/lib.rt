@@ -11,5 +11,5 @@ mod reading;
 mod stretch;
 
 pub use decoder::{Decoder, GoesBack};
-pub use laws::{readings_add_up, traces_are_read};
+pub use laws::{moments_decide, readings_add_up, traces_are_read};
 pub use reading::{FrameEnd, GlitchEnd, Halves, Opening, Pulse, Reading, Transfer};

@@ -413,6 +413,8 @@ fn edge(time: u64, atn: bool, clock: bool, line: bool) -> Edge {
 #[test]
 fn times_that_go_back(rt: HostRuntime) -> Result<(), Fail> {
     crate::readings_add_up();
+    crate::traces_are_read();
+    crate::moments_decide();
     let mut decoder = Decoder::new();
     assert_eq!(rt; decoder.take(edge(9, true, true, false)), Ok(None));
     assert_eq!(rt; decoder.take(edge(8, true, true, true)), Err(GoesBack));
