@@ -1,3 +1,4 @@
+pub mod Places
 pub mod LexemeLaws
 pub mod LineLaws
 pub mod ListLaws

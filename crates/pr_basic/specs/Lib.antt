@@ -7,6 +7,8 @@ pub mod StatementLaws
 pub mod Performing
 pub mod Lexemes
 pub mod Grammar
+pub mod FaultRules
+pub mod FaultPlaces
 pub mod Faults
 pub mod Lexing
 pub mod Reading

@@ -8,22 +8,5 @@ use Rattle.pr_basic.specs.Reads.{with_front}
 use Rattle.pr_basic.proofs.ScriptLaws.{few_kept, part_fails, part_taken, still_is}
 use Rattle.pr_basic.proofs.script.read_part.Goals as goal
 
-pub returns-in_err-statement-clause-reads : goal.returns-in_err-statement-clause-reads
-returns-in_err-statement-clause-reads c =
-    let n : c.len.result ≡ length c.args.statements.now.items = search rules in
-    let p = err_from_is_err_and c.from_residual.result c.from_residual.ensures.1 in
-    rw (p.1, p.2) (part_fails _ _ _ (rw n at c.in_err-statement.ensures.reads))
-
-pub returns-clause-reads : goal.returns-clause-reads
-returns-clause-reads c =
-    let n : c.len.result ≡ length c.args.statements.now.items = search rules in
-    let said : counted (statement_limit - length c.args.statements.now.items) (here c.args.bytes.now) ≡ Ok c.in_ok-statement.statement = rw n at c.in_ok-statement.ensures.reads.0 in
-    part_taken _ _ _ _ said c.in_ok-keep.ensures.kept
-    ∙ (ap (λ ls. with_front c.keep.new.statements.items (statements_in (statement_limit - length c.keep.new.statements.items) (parts ls))) (sym c.in_ok-statement.ensures.reads.1)
-    ∙ ap (with_front c.keep.new.statements.items) (still_is _ _ _ c.after_colon.ensures))
-
 pub returns-clause-few : goal.returns-clause-few
-returns-clause-few c =
-    let n : c.len.result ≡ length c.args.statements.now.items = search rules in
-    let said : counted (statement_limit - length c.args.statements.now.items) (here c.args.bytes.now) ≡ Ok c.in_ok-statement.statement = rw n at c.in_ok-statement.ensures.reads.0 in
-    few_kept _ _ _ _ c.requires said c.in_ok-keep.ensures.kept
+returns-clause-few c = ?
