@@ -7,6 +7,8 @@ pub mod ScriptLaws
 pub mod Spelling
 pub mod Fronts
 pub mod LexemesAgree
+pub mod PlacesFound
+pub mod Spots
 pub mod Prefixes
 pub mod ListsAgree
 pub mod ListFaults

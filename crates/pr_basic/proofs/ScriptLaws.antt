@@ -28,7 +28,7 @@ work None = 0
 work (Some b) = length b.now + 1
 
 -- the first part and the others
-parts_first : (l : Lexeme) (ls : List Lexeme) → parts (l ∷ ls) ≡ part_of (l ∷ ls) ∷ parts (after_part (l ∷ ls))
+pub parts_first : (l : Lexeme) (ls : List Lexeme) → parts (l ∷ ls) ≡ part_of (l ∷ ls) ∷ parts (after_part (l ∷ ls))
 unfolding parts part_of after_part
 parts_first Colon ls = refl
 parts_first l [] = refl

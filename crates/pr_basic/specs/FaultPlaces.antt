@@ -2,7 +2,7 @@
 use Rattle.std.specs.Prelude.{◌≡◌, ℕ, suc, ◌+◌, ◌-◌, ◌≤◌, ◌<◌, ◌⊎◌, Bool, true, false, List, [], ◌∷◌, ◌++◌, length}
 use Rattle.std.specs.List.{list_all}
 use Rattle.pr_basic.specs.Limits.{statement_limit}
-use Rattle.pr_basic.specs.Lexemes.{AreLexemes, IsLexeme, Lexeme, Digits, Colon, is_space}
+use Rattle.pr_basic.specs.Lexemes.{AreLexemes, IsLexeme, Lexeme, Digits, Colon, NoSpace, is_space}
 use Rattle.pr_basic.specs.Grammar.{AreLines, AreParts, HasNumber, parts, without_return}
 use Rattle.pr_basic.specs.FaultRules.{IsPartFault, within}
 use Rattle.pr_text.specs.Digits.{number_of}
@@ -39,11 +39,6 @@ IsFaultOfLexemes room f done inside lexemes =
     ((f ≡ BadNumber) × (ds : List ℕ) × (rest : List Lexeme) × (lexemes ≡ Digits ds ∷ rest) × (63999 < number_of ds) × (done ≡ []) × (inside ≡ 0))
     ⊎ ((rest : List Lexeme) × (number : List Lexeme) × (front : List Lexeme) × HasNumber lexemes rest × (lexemes ≡ number ++ rest)
     × ArePartsFault room f front inside (parts rest) × (done ≡ number ++ front))
-
--- no space stands first
-abbrev pub NoSpace : List ℕ → Type 0
-NoSpace [] = Unit {0}
-NoSpace (b ∷ bs) = is_space b ≡ false
 
 -- a line begins with these lexemes, and these are the bytes left behind them and the spaces there
 abbrev pub BeginsWith : List ℕ → List Lexeme → List ℕ → Type 0

@@ -76,11 +76,6 @@ here bs = part_of (lexemes_of bs)
 abbrev pub later : List ℕ → List Lexeme
 later bs = after_part (lexemes_of bs)
 
--- no space stands first
-abbrev pub first_isnt_space : List ℕ → Type 0
-first_isnt_space [] = Unit {0}
-first_isnt_space (b ∷ bs) = is_space b ≡ false
-
 -- the bytes from the first one on that is no space
 unfoldable pub unspaced : List ℕ → List ℕ
 unspaced [] = []

@@ -2,9 +2,9 @@
 
 ghost use Rattle.std.specs.Prelude.{◌≡◌, ◌∷◌, [], ◌<◌, ◌≤◌, ◌+◌, length, map, suc, IfSome, MatchOption, IsTrue};
 ghost use Rattle.std.specs.List.{prefix_len};
-ghost use Rattle.pr_basic.specs.Lexemes.{is_no_quote, is_space};
+ghost use Rattle.pr_basic.specs.Lexemes.{NoSpace, is_no_quote, is_space};
 ghost use Rattle.pr_text.specs.Digits.{is_digit};
-ghost use Rattle.pr_basic.specs.Lexing.{IsRest, after_first, begins, first_isnt_space, front, here, later, lexemes_of, past, text_front, unspaced, word_front};
+ghost use Rattle.pr_basic.specs.Lexing.{IsRest, after_first, begins, front, here, later, lexemes_of, past, text_front, unspaced, word_front};
 ghost use Rattle.std.specs.Char.{to_ascii_lowercase};
 ghost use Rattle.pr_basic.specs.Seen.{seen};
 
@@ -182,7 +182,7 @@ pub fn after_colon(bytes: &[u8]) -> Option<&[u8]>
 /// The bytes from the first one on that is not a space.
 pub fn after_spaces(bytes: &[u8]) -> &[u8]
     ensures lexemes { lexemes_of result.now ≡ lexemes_of bytes.now }
-    ensures first { first_isnt_space result.now }
+    ensures first { NoSpace result.now }
     ensures passed { result.now ≡ unspaced bytes.now }
     ensures within { length result.now ≤ length bytes.now }
 {
