@@ -74,4 +74,4 @@ one_of_both bytes = cases (script_of bytes) refl
   where
     cases : (r : Whole) → script_of bytes ≡ r → ((ss : List Statement) × IsScript bytes ss) ⊎ ((fault : ScriptFault) × IsFirstFault bytes fault)
     cases (Ok ss) h = inl (ss, script_sound bytes ss h)
-    cases (Err e) h = inr (at_number e.fault e.number, e.place, script_fails bytes e.fault e.number e.place h)
+    cases (Err e) h = inr (at_number e.fault e.number, (e.place, script_fails bytes e.fault e.number e.place h))

@@ -9,8 +9,8 @@ use Rattle.pr_basic.specs.Lexemes.{Colon, Lexeme, Remark, Word}
 use Rattle.pr_basic.specs.Lexing.{IsRest, after_part, here, later, lexemes_of, part_of, past, unspaced}
 use Rattle.pr_basic.specs.Limits.{statement_limit}
 use Rattle.pr_basic.specs.Reading.{statement_in, ◌>>=◌}
-use Rattle.pr_basic.specs.ReadingScripts.{Passed, Told, and_more, at_line, behind, column_of, counted, in_line, in_part, is_begun, line_statements, lines_statements, numbered, room_after, statements_in, statements_of}
-use Rattle.pr_basic.specs.Reads.{FailsIn, IsNumbered, StandsIn, UnlessMemory, still, with_front}
+use Rattle.pr_basic.specs.ReadingScripts.{Passed, Told, and_more, at_line, behind, column_of, counted, first_digits, in_line, in_part, is_begun, line_statements, lines_statements, numbered, room_after, statements_in, statements_of}
+use Rattle.pr_basic.specs.Reads.{FailsIn, StandsIn, UnlessMemory, still, with_front}
 use Rattle.pr_basic.specs.declared.fault.LineFault.{LineFault}
 use Rattle.pr_basic.specs.declared.fault.LineFault.TheVariants as line
 use Rattle.pr_basic.specs.declared.statement.Statement.{Statement}
@@ -132,13 +132,15 @@ pub record IsReadTo (old new : List Statement) (line : List ℕ) (rest : Option 
   pub left : IfSome rest (λ r. r.now ≡ past (length done) line)
 
 -- a line is read up to what follows its number
-pub read_begins : (ss : List Statement) (line : List ℕ) (rest : Bor (List ℕ)) → IsNumbered rest.now line → IsReadTo ss ss line (Some rest)
-read_begins ss line rest h = record { done = h.number; read = rw h.told refl; left = h.left }
+pub read_begins : (ss : List Statement) (line : List ℕ) (rest : Bor (List ℕ)) → numbered (lexemes_of line) ≡ Ok (first_digits (lexemes_of line), lexemes_of rest.now)
+    → rest.now ≡ past (length (first_digits (lexemes_of line))) line → IsReadTo ss ss line (Some rest)
+read_begins ss line rest h k = record { done = first_digits (lexemes_of line); read = rw h refl; left = k }
 
 -- a line number that fails fails the line
-pub number_fails : (room : ℕ) (f : LineFault) (rest : List ℕ) (inside : ℕ) (line : List ℕ) → StandsIn f rest inside line (numbered (lexemes_of line))
-    → UnlessMemory f (StandsIn f rest inside line (statements_of room (lexemes_of line)))
-number_fails room f rest inside line h = unless_of f _ (record { done = h.done; told = rw h.told refl; left = h.left })
+pub number_fails : (room : ℕ) (f : LineFault) (rest : List ℕ) (inside : ℕ) (line : List ℕ) → numbered (lexemes_of line) ≡ Err (f, record { done = []; inside = inside })
+    → rest ≡ line → UnlessMemory f (StandsIn f rest inside line (statements_of room (lexemes_of line)))
+unfolding past
+number_fails room f rest inside line h k = unless_of f _ (record { done = []; told = rw h refl; left = k })
 
 -- what is behind lexemes is behind those before them too
 behind_on : (done d : List Lexeme) (now new : List Statement) (a b : Said) → with_front now a ≡ with_front new (behind d b) → with_front now (behind done a) ≡ with_front new (behind (done ++ d) b)
@@ -248,3 +250,10 @@ pub script_ends : (now : List Statement) (n start room : ℕ) (bs : List ℕ) �
 unfolding lines_statements lines_of
 script_ends now n start room [] h = ap Ok (append-nil now)
 script_ends now n start room (b ∷ bs) h = absurd (omega arith)
+
+-- what is left behind the colon, by the part it ends
+pub left_on : (next : Option (Bor (List ℕ))) (rest bs : List ℕ) → IsRest rest bs → IfSome next (λ r. r.now ≡ past (suc (length (here rest))) rest) → IfSome next (λ r. r.now ≡ past (suc (length (here bs))) bs)
+left_on None rest bs h k = tt
+left_on (Some r) rest bs h k =
+    let size : length h.gone + suc (length (here rest)) ≡ suc (length (here bs)) = omega (arith, ap length h.goes_on, length-append h.gone (here rest)) in
+    k ∙ ap (past (suc (length (here rest)))) h.is ∙ past_past (length h.gone) (suc (length (here rest))) bs ∙ ap (λ n. past n bs) size

@@ -22,6 +22,11 @@ unfoldable pub numbered : List Lexeme → Result (List Lexeme × List Lexeme) (L
 numbered (Digits ds ∷ ls) = if nat_le (number_of ds) 63999 then Ok (Digits ds ∷ [], ls) else Err (BadNumber, record { done = []; inside = 0 })
 numbered ls = Ok ([], ls)
 
+-- the digits that stand first
+unfoldable pub first_digits : List Lexeme → List Lexeme
+first_digits (Digits ds ∷ ls) = Digits ds ∷ []
+first_digits ls = []
+
 -- a statement begins with the first lexeme
 abbrev pub is_begun : List Lexeme → Bool
 is_begun [] = false

@@ -8,7 +8,7 @@ use Rattle.pr_basic.specs.Grammar.{parts}
 use Rattle.pr_basic.specs.FaultRules.{Placed, within}
 use Rattle.pr_basic.specs.FaultPlaces.{at_number}
 use Rattle.pr_basic.specs.Reading.{line_in}
-use Rattle.pr_basic.specs.ReadingScripts.{Passed, Told, numbered, statements_in}
+use Rattle.pr_basic.specs.ReadingScripts.{Passed, Told, statements_in}
 use Rattle.pr_basic.specs.declared.statement.Statement.{Statement}
 use Rattle.pr_basic.specs.declared.fault.Flaw.{Flaw}
 use Rattle.pr_basic.specs.declared.fault.LineFault.{LineFault}
@@ -73,12 +73,6 @@ pub record StandsIn {Y : Type 0} (f : LineFault) (rest : List ℕ) (inside : ℕ
   pub done : List Lexeme
   pub told : said ≡ Err (f, record { done = done; inside = inside })
   pub left : rest ≡ past (length done) line
-
--- what follows a line's number, if it has one
-pub record IsNumbered (rest line : List ℕ) : Type 0 where
-  pub number : List Lexeme
-  pub told : numbered (lexemes_of line) ≡ Ok (number, lexemes_of rest)
-  pub left : rest ≡ past (length number) line
 
 -- a fault but for want of memory is the line's
 abbrev pub FailsIn : {Y : Type 0} → Flaw → List ℕ → Result Y (LineFault × Passed) → Type 0
