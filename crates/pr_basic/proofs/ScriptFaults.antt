@@ -317,23 +317,28 @@ in_line_err line (Err (g, at)) f column h =
     let same : (g, column_of line at) ≡ (f, column) = err_is _ _ (in_line line (Err (g, at))) refl h in
     (at, ap (λ (p : LineFault × ℕ). Err (p.0, at)) same, ap (λ (p : LineFault × ℕ). p.1) (sym same))
 
+-- a fault of a line's lexemes is the line's, at its column
+pub line_placed : (room : ℕ) (f : LineFault) (at : Passed) (bytes : List ℕ) → IsFaultOfLexemes room f at.done at.inside (lexemes_of bytes) → IsLineFault room f (column_of bytes at) bytes
+line_placed room f at bytes h =
+    let p = placed_in room f at bytes h in
+    record {
+      lexemes = lexemes_of bytes;
+      done = at.done;
+      inside = at.inside;
+      left = unspaced (past (length at.done) bytes);
+      found = lexemes_spelled (length bytes) bytes (omega arith);
+      fault = h;
+      begins = past_begins at.done p.more bytes p.cut;
+      at = omega (arith, p.inside, p.left);
+    }
+
 -- a line that fails has a fault of the table
 line_fails : (room : ℕ) (f : LineFault) (column : ℕ) (line : List ℕ) → line_statements room line ≡ Err (f, column) → IsLineFault room f column (without_return line)
 line_fails room f column line h =
     let bytes = without_return line in
     let e = in_line_err bytes (statements_of room (lexemes_of bytes)) f column h in
-    let k = lexemes_fail room f e.0 (lexemes_of bytes) e.1 in
-    let p = placed_in room f e.0 bytes k in
-    record {
-      lexemes = lexemes_of bytes;
-      done = e.0.done;
-      inside = e.0.inside;
-      left = unspaced (past (length e.0.done) bytes);
-      found = lexemes_spelled (length bytes) bytes (omega arith);
-      fault = k;
-      begins = past_begins e.0.done p.more bytes p.cut;
-      at = omega (arith, e.2, p.inside, p.left);
-    }
+    let P : ℕ → Type 0 = λ n. IsLineFault room f n bytes in
+    subst P (sym e.2) (line_placed room f e.0 bytes (lexemes_fail room f e.0 (lexemes_of bytes) e.1))
 
 -- a line with a fault of the table fails
 line_fault_read : (room : ℕ) (f : LineFault) (column : ℕ) (line : List ℕ) → IsLineFault room f column (without_return line) → line_statements room line ≡ Err (f, column)

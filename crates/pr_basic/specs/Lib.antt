@@ -10,6 +10,7 @@ pub mod Grammar
 pub mod FaultRules
 pub mod FaultPlaces
 pub mod Faults
+pub mod FaultsAlone
 pub mod Lexing
 pub mod Reading
 pub mod ReadingScripts
