@@ -256,4 +256,6 @@ pub fn each_text_is_a_script_or_has_one_fault()
 {}
 
 #[cfg(test)]
+mod places;
+#[cfg(test)]
 mod tests;
