@@ -5,8 +5,10 @@ ghost use Rattle.std.specs.List.{list_any};
 ghost use Rattle.std.specs.Str.{bytes_eq};
 ghost use Rattle.clap.specs.Words.{first_of, found_of, kind_of, rows_of, subcommand_of, subcommand_rows_of, takes};
 ghost use Rattle.pr_options.specs.CommandLine.{print1525};
-ghost use Rattle.pr_options.specs.Inputs.{AsksToRead, IsBadFrom, IsBadNames, IsBadStart, IsUnfit, is_given};
+ghost use Rattle.pr_options.specs.Given.{is_given, is_of_words};
+ghost use Rattle.pr_options.specs.Inputs.{AsksToRead, IsBadFrom, IsBadNames, IsBadStart, IsUnfit, fits, wants_recording};
 ghost use Rattle.pr_options.specs.Jobs.{AsksFor, HasBadAs, HasBadDelays, HasBadFrom, HasBadNames, HasBadPresent, HasBadSet, HasBadStart, HasBadStatus, IsLine, IsNoRecording};
+ghost use Rattle.pr_options.specs.Parts.{IsOfClap, IsOfInput};
 ghost use Rattle.pr_options.specs.Subcommands.{IsOurs};
 
 use crate::clap_command::make_command;
@@ -175,14 +177,20 @@ fn job_of<'a>(alloc: Global, matches: &ArgMatches<'a>) -> Result<Job<'a>, JobFau
     };
     let input = input_of(options)?;
     if name == "check" {
-        let report = read_report(value_in(options, REPORT_AS)).ok_or(JobFault::BadAs)?;
+        let Some(report) = read_report(value_in(options, REPORT_AS)) else {
+            return Err(JobFault::BadAs);
+        };
         return Ok(Job::Check(input, report));
     }
     if name == "bus" {
-        let format = read_trace_format(value_in(options, TRACE_AS)).ok_or(JobFault::BadAs)?;
+        let Some(format) = read_trace_format(value_in(options, TRACE_AS)) else {
+            return Err(JobFault::BadAs);
+        };
         return Ok(Job::Bus(present, delays, mode, format));
     }
-    let format = read_format(value_in(options, PAGE_AS)).ok_or(JobFault::BadAs)?;
+    let Some(format) = read_format(value_in(options, PAGE_AS)) else {
+        return Err(JobFault::BadAs);
+    };
     if name == "raw" {
         return Ok(Job::Raw { lower, format });
     }
@@ -209,8 +217,7 @@ fn input_of<'a>(options: &ArgMatches<'a>) -> Result<TraceInput<'a>, JobFault>
     let Some(start) = read_start(value_in(options, FROM_TIME)) else {
         return Err(JobFault::BadStart);
     };
-    let is_recorded = is_inverted || is_given(options, NAMES.name) || is_given(options, FROM_TIME.name);
-    if source == Source::Text && is_recorded {
+    if !fits(source, options) {
         return Err(JobFault::NoRecording);
     }
     Ok(TraceInput {
@@ -218,6 +225,25 @@ fn input_of<'a>(options: &ArgMatches<'a>) -> Result<TraceInput<'a>, JobFault>
         signals,
         start,
     })
+}
+
+/// Whether what is given goes with the source: with a text nothing of a recording.
+fn fits(source: Source, options: &ArgMatches<'_>) -> bool
+    ensures { result ≡ fits source (rows_of (found_of options.now)) }
+{
+    match source {
+        Source::Text => !wants_recording(options),
+        Source::Vcd | Source::Csv => true,
+    }
+}
+
+/// Whether anything is given that goes with a recording alone.
+fn wants_recording(options: &ArgMatches<'_>) -> bool
+    ensures { result ≡ wants_recording (rows_of (found_of options.now)) }
+{
+    is_given(options, INVERT.name)
+        || is_given(options, NAMES.name)
+        || is_given(options, FROM_TIME.name)
 }
 
 /// The value of an option, or that of its default where the subcommand does not have it.
@@ -231,7 +257,14 @@ fn value_in<'a>(options: &ArgMatches<'a>, option: Valued) -> &'a str
 fn is_given(options: &ArgMatches<'_>, name: &str) -> bool
     ensures { result ≡ is_given name.now (rows_of (found_of options.now)) }
 {
-    options.value_source(name) == Some(ValueSource::CommandLine)
+    is_of_words(options.value_source(name))
+}
+
+/// Whether a value comes from the words, and not from a default.
+fn is_of_words(source: Option<ValueSource>) -> bool
+    ensures { result ≡ is_of_words source }
+{
+    matches!(source, Some(ValueSource::CommandLine))
 }
 
 /// A refusal by clap. Its want of memory is the program's own.

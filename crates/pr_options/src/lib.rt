@@ -15,6 +15,7 @@ mod format;
 mod help;
 mod option_values;
 mod options;
+mod parts;
 
 pub use command_line::{Job, JobFault, explains, read_job};
 pub use delays::{DelayFault, read_delays};

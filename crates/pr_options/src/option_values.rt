@@ -1,16 +1,14 @@
 //! The values of the program's options.
 
-ghost use Rattle.std.specs.Prelude.{◌≡◌, option_map, IfSome};
-ghost use Rattle.std.specs.List.{list_all};
-ghost use Rattle.pr_text.specs.Digits.{is_digit};
+ghost use Rattle.std.specs.Prelude.{◌≡◌, ◌∷◌, [], option_map, IfSome};
 ghost use Rattle.pr_options.specs.Options.{format_of, mode_of, present_of, report_of, set_of, source_of, start_of, trace_format_of};
-ghost use Rattle.pr_options.specs.SignalNames.{names_of, names_told};
+ghost use Rattle.pr_options.specs.SignalNames.{names_of, names_told, three_names};
 
 use crate::format::{Format, Report, Source, TraceFormat};
+use crate::parts::{all_digits, cut};
 use pr_basic::StatusMode;
 use pr_capture::Signals;
 use pr_serial::Present;
-use pr_text::is_digit;
 
 /// Which printers are present: `none`, `4`, `5` or `both` (profile). None for any other text.
 pub fn read_present(text: &str) -> Option<Present>
@@ -103,9 +101,25 @@ pub fn read_signals(text: &str, is_inverted: bool) -> Option<Signals<'_>>
     ensures names { option_map names_told result ≡ names_of text.now }
     ensures levels { IfSome result (λ s. s.is_inverted ≡ is_inverted) }
 {
-    let (atn, others) = text.split_once(',')?;
-    let (clock, line) = others.split_once(',')?;
-    if atn.is_empty() || clock.is_empty() || line.is_empty() || line.contains(',') {
+    let (atn, others) = cut(text, ',');
+    let (clock, line) = cut(others, ',');
+    if line.contains(',') {
+        return None;
+    }
+    signals_named(atn, clock, line, is_inverted)
+}
+
+/// The signals of these names, if none of them is empty.
+fn signals_named<'a>(
+    atn: &'a str,
+    clock: &'a str,
+    line: &'a str,
+    is_inverted: bool,
+) -> Option<Signals<'a>>
+    ensures names { option_map names_told result ≡ three_names (atn.now ∷ clock.now ∷ line.now ∷ []) }
+    ensures levels { IfSome result (λ s. s.is_inverted ≡ is_inverted) }
+{
+    if atn.is_empty() || clock.is_empty() || line.is_empty() {
         return None;
     }
     Some(Signals {
@@ -125,13 +139,6 @@ pub fn read_start(text: &str) -> Option<u64>
         return None;
     }
     text.parse().ok()
-}
-
-/// Whether each byte is a digit.
-pub(crate) fn all_digits(bytes: &[u8]) -> bool
-    ensures { result ≡ list_all is_digit bytes.now }
-{
-    bytes.iter().all(|b| is_digit(*b))
 }
 
 #[cfg(test)]
