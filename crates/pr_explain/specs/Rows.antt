@@ -1,5 +1,6 @@
 -- Trusted: which edges a row of the table takes, and which a place takes.
-use Rattle.std.specs.Prelude.{ℕ, Bool, true, false, not, ◌&&◌, Option, Some, None, Result, Ok, Err, nat_lt}
+use Rattle.std.specs.Prelude.{◌≡◌, ℕ, ◌<◌, ◌^◌, List, Bool, true, false, not, ◌&&◌, Option, Some, None, Result, Ok, Err, nat_lt}
+use Rattle.std.specs.List.{list_any}
 use Rattle.pr_wire.specs.declared.Levels.{Levels}
 use Rattle.pr_wire.specs.declared.Edge.{Edge}
 use Rattle.pr_wire.specs.declared.place.Step.{Step}
@@ -26,3 +27,7 @@ is_step (Err flaw) = false
 -- an edge is taken at a place, by the table
 abbrev pub is_taken : Place → Edge → Bool
 is_taken p e = is_step (by_row p e)
+
+-- these are the rows at a place: an edge is taken there exactly if one of them takes it
+abbrev pub AreRows : List (Option Row) → Place → Type 0
+AreRows rows p = (e : Edge) → e.time < 2 ^ 64 → list_any (λ row. takes row e) rows ≡ is_taken p e

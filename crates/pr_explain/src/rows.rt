@@ -1,10 +1,9 @@
 //! The rows of the table of lawful traces at a place.
 
-ghost use Rattle.std.specs.Prelude.{◌≡◌, ◌+◌, ◌^◌, ◌<◌, Some, None};
-ghost use Rattle.std.specs.List.{list_any};
+ghost use Rattle.std.specs.Prelude.{◌≡◌, ◌+◌, ◌^◌, ◌<◌, Some, false, true, length, List, Bool, ℕ};
 ghost use Rattle.pr_wire.specs.declared.Edge.{Edge};
 ghost use Rattle.pr_wire.specs.Delays.{bounds_of};
-ghost use Rattle.pr_explain.specs.Rows.{is_taken, lies, takes};
+ghost use Rattle.pr_explain.specs.Rows.{AreRows, lies, takes};
 
 use pr_wire::{Kind, Levels, Place, Sending, bounds};
 
@@ -21,13 +20,6 @@ pub struct Row {
     pub earliest: u64,
     /// The greatest moment, in microseconds, if there is one.
     pub latest: Option<u64>,
-}
-
-/// Levels of ATN, CLOCK and DATA.
-fn levels(atn: bool, clock: bool, line: bool) -> Levels
-    ensures { result ≡ record { atn = atn; clock = clock; line = line } }
-{
-    Levels { atn, clock, line }
 }
 
 /// The row of an edge to these levels that comes at least so long after one moment and at most so
@@ -48,180 +40,227 @@ fn between(
     })
 }
 
-/// The row of an edge to these levels that comes a delay of this kind after a moment.
-fn by_kind(levels: Levels, since: u64, kind: Kind) -> Option<Row>
-    ensures { (e : Edge) → e.time < 2 ^ 64 → takes result e ≡ lies levels (since + (bounds_of kind).0) (Some (since + (bounds_of kind).2)) e }
+/// The row of an edge to these levels of ATN, CLOCK and DATA that comes a delay of this kind after a
+/// moment.
+fn by_kind(atn: bool, clock: bool, line: bool, since: u64, kind: Kind) -> Option<Row>
+    ensures { (e : Edge) → e.time < 2 ^ 64 →
+        takes result e ≡ lies (record { atn = atn; clock = clock; line = line }) (since + (bounds_of kind).0) (Some (since + (bounds_of kind).2)) e }
 {
     let (least, _, greatest) = bounds(kind);
+    let levels = Levels { atn, clock, line };
     between(levels, since, u64::from(least), since, u64::from(greatest))
 }
 
-/// The row of an edge to these levels that comes at least the least delay of a kind after a moment.
-fn from_kind(levels: Levels, since: u64, kind: Kind) -> Option<Row>
-    ensures { (e : Edge) → e.time < 2 ^ 64 → takes result e ≡ lies levels (since + (bounds_of kind).0) None e }
+/// All lines are released: ATN is pulled.
+fn after_idle(since: u64) -> [Option<Row>; 3]
+    ensures { AreRows result (Place.Idle since) }
 {
-    let (least, _, _) = bounds(kind);
-    Some(Row {
+    let (least, _, _) = bounds(Kind::Bb);
+    let levels = Levels {
+        atn: false,
+        clock: false,
+        line: true,
+    };
+    let earliest = since.checked_add(u64::from(least));
+    let row = earliest.map(|earliest| Row {
         levels,
-        earliest: since.checked_add(u64::from(least))?,
+        earliest,
         latest: None,
-    })
+    });
+    [row, None, None]
 }
 
-/// How long after DATA was released a pulse may last that two printers make together: the greatest
-/// wait and the greatest answer, in microseconds.
-fn pulse(since: u64, free: u64) -> Option<Row>
-    ensures { (e : Edge) → e.time < 2 ^ 64 →
-        takes result e ≡ lies (record { atn = true; clock = true; line = true }) (since + 80) (Some (free + 450)) e }
+/// ATN is pulled, and no printer pulls DATA: one answers, or the computer looks, and goes on or gives
+/// up.
+fn after_call(since: u64) -> [Option<Row>; 3]
+    ensures { AreRows result (Place.Call since false) }
+{
+    let (look, _, _) = bounds(Kind::Aw);
+    let levels = Levels {
+        atn: false,
+        clock: true,
+        line: false,
+    };
+    let look = u64::from(look);
+    [
+        by_kind(false, false, false, since, Kind::At),
+        between(levels, since, look, since, look),
+        by_kind(true, true, true, since, Kind::Aw),
+    ]
+}
+
+/// ATN is pulled, and a printer pulls DATA: the computer looks.
+fn after_answered_call(since: u64) -> [Option<Row>; 3]
+    ensures { AreRows result (Place.Call since true) }
+{
+    let row = by_kind(false, true, false, since, Kind::Aw);
+    [row, None, None]
+}
+
+/// Each hearer is to release DATA.
+fn after_ready(since: u64, sending: Sending) -> [Option<Row>; 3]
+    ensures { AreRows result (Place.Ready since sending) }
+{
+    let row = by_kind(sending.atn(), true, true, since, Kind::H);
+    [row, None, None]
+}
+
+/// CLOCK is pulled with the first bit, or before a data byte DATA is pulled in answer to
+/// end-or-identify.
+fn after_free(since: u64, sending: Sending) -> [Option<Row>; 3]
+    ensures { AreRows result (Place.Free since sending) }
+{
+    let atn = sending.atn();
+    let low = by_kind(atn, false, false, since, Kind::Ne);
+    let high = by_kind(atn, false, true, since, Kind::Ne);
+    let answer = match sending {
+        Sending::First | Sending::Second => None,
+        Sending::Data => by_kind(true, true, false, since, Kind::Ye),
+    };
+    [low, high, answer]
+}
+
+/// DATA is released again, at the latest the greatest wait and the greatest answer after its release
+/// before.
+fn after_pulse(since: u64, free: u64) -> [Option<Row>; 3]
+    ensures { AreRows result (Place.Pulse since free) }
 {
     let (least, _, greatest) = bounds(Kind::Ei);
     let (_, _, wait) = bounds(Kind::Ye);
+    let levels = Levels {
+        atn: true,
+        clock: true,
+        line: true,
+    };
     let end = u64::from(wait) + u64::from(greatest);
-    between(levels(true, true, true), since, u64::from(least), free, end)
+    let row = between(levels, since, u64::from(least), free, end);
+    [row, None, None]
 }
 
-/// The rows of the table at a place: at most three edges may follow there.
+/// CLOCK is pulled with the first bit.
+fn after_answer(since: u64) -> [Option<Row>; 3]
+    ensures { AreRows result (Place.After since) }
+{
+    let low = by_kind(true, false, false, since, Kind::Ry);
+    let high = by_kind(true, false, true, since, Kind::Ry);
+    [low, high, None]
+}
+
+/// CLOCK is released, and DATA keeps the bit.
+fn after_bit(since: u64, sending: Sending, bit: bool) -> [Option<Row>; 3]
+    ensures { (eoi : Bool) (seen : List Bool) → AreRows result (Place.Bit since sending eoi seen bit) }
+{
+    let row = by_kind(sending.atn(), true, bit, since, Kind::S);
+    [row, None, None]
+}
+
+/// CLOCK is pulled with the next bit, or behind the last one with DATA released.
+fn after_high(since: u64, sending: Sending, seen: usize) -> [Option<Row>; 3]
+    ensures { (eoi bit : Bool) (bits : List Bool) → length bits ≡ seen → AreRows result (Place.High since sending eoi bits bit) }
+{
+    let atn = sending.atn();
+    let low = if seen < LAST_BIT {
+        by_kind(atn, false, false, since, Kind::V)
+    } else {
+        None
+    };
+    let high = if seen <= LAST_BIT {
+        by_kind(atn, false, true, since, Kind::V)
+    } else {
+        None
+    };
+    [low, high, None]
+}
+
+/// DATA is pulled: the byte is acknowledged.
+fn after_last(since: u64, sending: Sending) -> [Option<Row>; 3]
+    ensures { (eoi : Bool) (seen : List Bool) → AreRows result (Place.Last since sending eoi seen) }
+{
+    let row = by_kind(sending.atn(), false, false, since, Kind::F);
+    [row, None, None]
+}
+
+/// The computer goes on with the next byte, or ATN is released or pulled.
+fn after_ack(since: u64, sending: Sending) -> [Option<Row>; 3]
+    ensures { (byte : ℕ) → AreRows result (Place.Ack since sending byte) }
+{
+    let (next, other) = match sending {
+        Sending::First => (
+            by_kind(false, true, false, since, Kind::Aw),
+            by_kind(true, false, false, since, Kind::R),
+        ),
+        Sending::Second => (None, by_kind(true, false, false, since, Kind::R)),
+        Sending::Data => (
+            by_kind(true, true, false, since, Kind::Bb),
+            by_kind(false, false, false, since, Kind::Bb),
+        ),
+    };
+    [next, other, None]
+}
+
+/// ATN is released behind an attention, and DATA is still pulled.
+fn after_freed(since: u64, unlistened: bool) -> [Option<Row>; 3]
+    ensures { AreRows result (Place.Freed since unlistened false) }
+{
+    let release = by_kind(true, false, true, since, Kind::Dr);
+    if unlistened {
+        return [release, None, None];
+    }
+    let next = by_kind(true, true, false, since, Kind::Bb);
+    let other = by_kind(false, false, false, since, Kind::Bb);
+    [release, next, other]
+}
+
+/// ATN is released behind an attention, and DATA too.
+fn after_released(since: u64, unlistened: bool) -> [Option<Row>; 3]
+    ensures { AreRows result (Place.Freed since unlistened true) }
+{
+    if unlistened {
+        let row = by_kind(true, true, true, since, Kind::Cr);
+        return [row, None, None];
+    }
+    let idle = by_kind(true, true, true, since, Kind::Bb);
+    let other = by_kind(false, false, true, since, Kind::Bb);
+    [idle, other, None]
+}
+
+/// The rows of the table of lawful traces at a place: at most three edges may follow there. An edge is
+/// taken at the place exactly if one of the rows has its levels and its moment lies within.
 pub fn rows_from(place: &Place) -> [Option<Row>; 3]
-    ensures { (e : Edge) → e.time < 2 ^ 64 → list_any (λ row. takes row e) result ≡ is_taken place.now e }
+    ensures { AreRows result place.now }
 {
     match place {
-        Place::Idle(since) => [
-            from_kind(levels(false, false, true), *since, Kind::Bb),
-            None,
-            None,
-        ],
-        Place::Call(since, is_pulled) => after_call(*since, *is_pulled),
-        Place::Ready(since, sending) => [
-            by_kind(levels(sending.atn(), true, true), *since, Kind::H),
-            None,
-            None,
-        ],
+        Place::Idle(since) => after_idle(*since),
+        Place::Call(since, false) => after_call(*since),
+        Place::Call(since, true) => after_answered_call(*since),
+        Place::Ready(since, sending) => after_ready(*since, *sending),
         Place::Free(since, sending) => after_free(*since, *sending),
-        Place::Pulse(since, free) => [pulse(*since, *free), None, None],
-        Place::After(since) => with_either_bit(true, *since, Kind::Ry),
+        Place::Pulse(since, free) => after_pulse(*since, *free),
+        Place::After(since) => after_answer(*since),
         Place::Bit {
             since,
             sending,
             bit,
             ..
-        } => [
-            by_kind(levels(sending.atn(), true, *bit), *since, Kind::S),
-            None,
-            None,
-        ],
+        } => after_bit(*since, *sending, *bit),
         Place::High {
             since,
             sending,
             seen,
             ..
         } => after_high(*since, *sending, seen.len()),
-        Place::Last(since, sending, _, _) => [
-            by_kind(levels(sending.atn(), false, false), *since, Kind::F),
-            None,
-            None,
-        ],
+        Place::Last(since, sending, _, _) => after_last(*since, *sending),
         Place::Ack(since, sending, _) => after_ack(*since, *sending),
         Place::Freed {
             since,
             unlistened,
-            data_released,
-        } => after_freed(*since, *unlistened, *data_released),
-    }
-}
-
-/// CLOCK's pull, with either level of DATA, a delay of this kind after a moment.
-fn with_either_bit(atn: bool, since: u64, kind: Kind) -> [Option<Row>; 3] {
-    [
-        by_kind(levels(atn, false, false), since, kind),
-        by_kind(levels(atn, false, true), since, kind),
-        None,
-    ]
-}
-
-fn after_call(since: u64, is_pulled: bool) -> [Option<Row>; 3] {
-    let (look, _, _) = bounds(Kind::Aw);
-    if is_pulled {
-        [
-            by_kind(levels(false, true, false), since, Kind::Aw),
-            None,
-            None,
-        ]
-    } else {
-        [
-            by_kind(levels(false, false, false), since, Kind::At),
-            between(
-                levels(false, true, false),
-                since,
-                u64::from(look),
-                since,
-                u64::from(look),
-            ),
-            by_kind(levels(true, true, true), since, Kind::Aw),
-        ]
-    }
-}
-
-fn after_free(since: u64, sending: Sending) -> [Option<Row>; 3] {
-    let [low, high, _] = with_either_bit(sending.atn(), since, Kind::Ne);
-    let answer = match sending {
-        Sending::First | Sending::Second => None,
-        Sending::Data => by_kind(levels(true, true, false), since, Kind::Ye),
-    };
-    [low, high, answer]
-}
-
-fn after_high(since: u64, sending: Sending, seen: usize) -> [Option<Row>; 3] {
-    if seen < LAST_BIT {
-        with_either_bit(sending.atn(), since, Kind::V)
-    } else if seen == LAST_BIT {
-        [
-            by_kind(levels(sending.atn(), false, true), since, Kind::V),
-            None,
-            None,
-        ]
-    } else {
-        [None, None, None]
-    }
-}
-
-fn after_ack(since: u64, sending: Sending) -> [Option<Row>; 3] {
-    match sending {
-        Sending::First => [
-            by_kind(levels(false, true, false), since, Kind::Aw),
-            by_kind(levels(true, false, false), since, Kind::R),
-            None,
-        ],
-        Sending::Second => [
-            by_kind(levels(true, false, false), since, Kind::R),
-            None,
-            None,
-        ],
-        Sending::Data => [
-            by_kind(levels(true, true, false), since, Kind::Bb),
-            by_kind(levels(false, false, false), since, Kind::Bb),
-            None,
-        ],
-    }
-}
-
-fn after_freed(since: u64, unlistened: bool, data_released: bool) -> [Option<Row>; 3] {
-    let release = if data_released {
-        None
-    } else {
-        by_kind(levels(true, false, true), since, Kind::Dr)
-    };
-    match (unlistened, data_released) {
-        (true, true) => [
-            by_kind(levels(true, true, true), since, Kind::Cr),
-            None,
-            None,
-        ],
-        (true, false) => [release, None, None],
-        (false, _) => [
-            release,
-            by_kind(levels(true, true, data_released), since, Kind::Bb),
-            by_kind(levels(false, false, data_released), since, Kind::Bb),
-        ],
+            data_released: false,
+        } => after_freed(*since, *unlistened),
+        Place::Freed {
+            since,
+            unlistened,
+            data_released: true,
+        } => after_released(*since, *unlistened),
     }
 }
 

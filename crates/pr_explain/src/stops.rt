@@ -94,11 +94,18 @@ fn statement_count(alloc: Global, line: &[u8]) -> Result<usize, NoMemory> {
 
 /// The digits of a BASIC line's number; none where it has no number.
 pub fn label_of(line: &[u8]) -> &[u8] {
-    let mut rest = line;
-    while let [b' ' | b'\t', more @ ..] = rest {
-        rest = more;
-    }
+    let rest = after_blanks(line);
     &rest[..digit_count(rest)]
+}
+
+/// What stands behind the spaces and tabs in front.
+fn after_blanks(line: &[u8]) -> &[u8] {
+    for (i, byte) in line.iter().enumerate() {
+        if *byte != b' ' && *byte != b'\t' {
+            return &line[i..];
+        }
+    }
+    &[]
 }
 
 #[cfg(test)]

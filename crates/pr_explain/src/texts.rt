@@ -1,5 +1,7 @@
 //! Pieces of the texts.
 
+ghost use Rattle.std.specs.Prelude.{◌≡◌, ◌+◌, ◌<◌, ◌≤◌, length};
+
 use itoa::Buffer;
 use pr_wire::{Levels, NoMemory};
 
@@ -44,13 +46,22 @@ pub fn push_shown(text: &mut Vec<u8>, byte: u8) -> Result<(), NoMemory> {
     text.extend_from_slice(&[b'\\', b'x', high, low])
 }
 
+/// The first [`SHOWN`] bytes of a line, or all where they are fewer.
+fn front(line: &[u8]) -> &[u8] {
+    if line.len() < SHOWN {
+        line
+    } else {
+        &line[..SHOWN]
+    }
+}
+
 /// Adds the bytes of a line, escaped, and `..` behind the first [`SHOWN`] where there are more.
 pub fn push_cut(text: &mut Vec<u8>, line: &[u8]) -> Result<(), NoMemory> {
-    let shown = if line.len() > SHOWN { &line[..SHOWN] } else { line };
+    let shown = front(line);
     for byte in shown {
         push_shown(text, *byte)?;
     }
-    if line.len() > SHOWN {
+    if shown.len() < line.len() {
         push(text, "..")?;
     }
     Ok(())
@@ -69,7 +80,10 @@ pub fn without_end(line: &[u8]) -> &[u8] {
 }
 
 /// What stands before the end of the first line, with that end, and what stands behind.
-pub fn cut_line(text: &[u8]) -> (&[u8], &[u8]) {
+pub fn cut_line(text: &[u8]) -> (&[u8], &[u8])
+    ensures whole { length result.0.now + length result.1.now ≡ length text.now }
+    ensures some { 0 < length text.now → 0 < length result.0.now }
+{
     for (i, byte) in text.iter().enumerate() {
         if *byte == b'\n' {
             return (&text[..i + 1], &text[i + 1..]);

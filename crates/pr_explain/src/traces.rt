@@ -54,14 +54,13 @@ pub fn explain_edges(alloc: Global, edges: &[Edge]) -> Result<Vec<u8>, NoMemory>
 /// What stands before a line with this number, from 1, and the line with its end.
 fn line_at(trace: &[u8], number: usize) -> (&[u8], &[u8]) {
     let mut rest = trace;
-    let mut left = number;
-    while left > 1 && !rest.is_empty() {
+    for _ in 1..number {
         let (_, more) = cut_line(rest);
         rest = more;
-        left -= 1;
     }
     let (line, _) = cut_line(rest);
-    (&trace[..trace.len() - rest.len()], line)
+    let start = trace.len().saturating_sub(rest.len());
+    (&trace[..start], line)
 }
 
 /// Adds a line that spells no edge, and what a line is.
