@@ -148,17 +148,17 @@ function chars(bytes,   i, n, part, text) {
     return text
 }
 function pending(name, first, rest) {
-    script("pending-" name, "A command cut in two by a selection of the other set: its bytes go on behind it.", \
+    script("pending-behind-" name, "A command cut in two by a selection of the other set: its bytes go on behind it.", \
         "OPEN 1,4:OPEN 2,4,7|PRINT#1,\"A\"" chars(first) ";|PRINT#2," chars(rest) "\"B\"", "both", "each")
 }
 function scripts(   i, j, n, list, modes, all) {
-    pending("16-", "16", "50 48")
-    pending("16-50-", "16 50", "48")
-    pending("26-", "8 26", "3 193 15")
-    pending("26-3-", "8 26 3", "193 15")
-    pending("27-", "27", "16 0 9")
-    pending("27-16-", "27 16", "0 9")
-    pending("27-16-0-", "27 16 0", "9")
+    pending("16", "16", "50 48")
+    pending("16-50", "16 50", "48")
+    pending("26", "8 26", "3 193 15")
+    pending("26-3", "8 26 3", "193 15")
+    pending("27", "27", "16 0 9")
+    pending("27-16", "27 16", "0 9")
+    pending("27-16-0", "27 16 0", "9")
     script("selection-behind-an-escape", "27 before another byte, with a selection between them.", \
         "OPEN 1,4:OPEN 2,4,7|PRINT#1,CHR$(27);|PRINT#2,\"A\"", "both", "each")
     script("selection-and-override", "A selection leaves the override and reverse; 13 ends them.", \
@@ -169,6 +169,19 @@ function scripts(   i, j, n, list, modes, all) {
         "OPEN 4,4:OPEN 5,5,7|CMD 4,\"A\";|PRINT#5,\"B\"", "both", "each")
     script("second-before-the-other", "LISTEN to another printer selects nothing for this one: printer 4 listens on in its own set.", \
         "OPEN 4,4,7:OPEN 5,5|CMD 4,\"A\";|PRINT#5,\"B\"", "both", "each")
+    script("channel-127", "A file of 127 gets no line feed.", "OPEN 127,4|PRINT#127,\"A\"|CMD 127,\"B\"|PRINT \"C\"|PRINT#127", "both", "each")
+    script("channel-255", "A file of 255 gets a line feed behind each list, under CMD too.", \
+        "OPEN 255,4|PRINT#255,\"A\"|CMD 255,\"B\"|PRINT \"C\"|PRINT \"D\";|PRINT#255", "both", "each")
+    script("screen-behind-channel-128", "PRINT# ends its channel number: the screen gets no line feed.", \
+        "OPEN 128,4|PRINT#128,\"A\"|PRINT \"B\"", "both", "each")
+    script("channel-behind-close", "CLOSE leaves the channel number of CMD: PRINT goes on with line feeds.", \
+        "OPEN 200,4|CMD 200,\"A\"|CLOSE 200|PRINT \"B\"|OPEN 4,4|PRINT#4,\"C\"", "both", "each")
+    script("chr-behind-a-semicolon", "A list ends its line where its last part is no semicolon, be it a string or CHR$.", \
+        "PRINT \"A\";CHR$(66)|PRINT CHR$(67);\"D\"|PRINT CHR$(69);\"F\";|PRINT;CHR$(71)", "both", "each")
+    for (j = 1; j <= 2; j++)
+        script("absent-then-others-" (j == 1 ? "each" : "kept"), \
+            "A byte that nobody hears, and then each other statement, with the status as the words say.", \
+            "OPEN 5,5|PRINT#5,\"A\"|OPEN 4,4|REM|CLOSE 4|PRINT \"X\"|CMD 5,\"B\"", "4", (j == 1 ? "each" : "kept"))
     n = split("0 7 15", list, " ")
     for (i = 1; i <= n; i++)
         script("second-" list[i], (list[i] == 7 ? "Secondary address 7 selects the lower/upper case set." : \
@@ -301,9 +314,10 @@ function all_delays(   i, j, n, there, manners, told, text, items, shows) {
     for (i = 1; i <= 3; i++)
         for (j = 1; j <= n; j++) {
             shows = told[manners[j]] ", with "
-            if (there[i] == 4) delays(manners[j] "-4", shows "printer 4 alone, which hears what is sent to printer 5 too.", text, items, 4, manners[j])
+            if (there[i] == 4) delays(manners[j] "-4", shows "printer 4 alone, which hears what is sent to printer 5 too.", \
+                text, items, 4, manners[j])
             else if (there[i] == 5) delays(manners[j] "-5", shows "printer 5 alone: the bytes for printer 4 are dropped.", \
-                "OPEN 4,4:OPEN 5,5|CMD 4,\"A\";|REM|PRINT \"B\"", "@36 65 66", 5, manners[j])
+                "OPEN 4,4:OPEN 5,5|CMD 4,\"A\"|PRINT#5,\"B\"", "@36 65 13! @37 @63", 5, manners[j])
             else delays(manners[j] "-both", shows "both printers, of which one listens and then both.", text, items, "both", manners[j])
         }
     for (i = 1; i <= 3; i++)

@@ -59,8 +59,8 @@ function step(time, edge,   i, low, high) {
     if (!i) return "bad shape"
     low = since + least[i]
     high = place == "Pulse" ? free + 450 : (greatest[i] == "" ? "" : since + greatest[i])
-    if (time < low) { outside[i, "early"]++; return "too early" }
-    if (high != "" && time > high) { outside[i, "late"]++; return "too late" }
+    if (time < low) { outside[i, "early"]++; shows[i, "early"] = shows[i, "early"] " " case_name; return "too early" }
+    if (high != "" && time > high) { outside[i, "late"]++; shows[i, "late"] = shows[i, "late"] " " case_name; return "too late" }
     note(i, "lawful")
     if (time == low) note(i, "least")
     if (time == high) note(i, "greatest")
@@ -102,6 +102,7 @@ function go(i, time, line,   from) {
 }
 # A place by the name that its faults are counted under.
 function spot() { return place == "High 7" ? "High" : place }
+function refuse(fault) { faults[spot(), fault]++; shows[spot(), fault] = shows[spot(), fault] " " case_name }
 # Goes through a trace; answers its frames and then `lawful`, or its first fault.
 function walk(count,   i, fault) {
     place = "Idle"
@@ -111,10 +112,10 @@ function walk(count,   i, fault) {
     if (count == 0 || moment[0] + 0 != 0 || level[0] != "111") { start_faults++; return "edge 0: bad start" }
     for (i = 1; i < count; i++) {
         fault = step(moment[i] + 0, level[i])
-        if (fault != "") { faults[spot(), fault]++; return "edge " i ": " fault }
+        if (fault != "") { refuse(fault); return "edge " i ": " fault }
     }
     if (may_end()) { count_notes(); return frames "lawful\n" }
-    faults[spot(), "truncated"]++
+    refuse("truncated")
     return "edge " count ": truncated"
 }
 
@@ -271,6 +272,19 @@ function place_row(name) {
         number(faults[name, "too early"], name !~ /^(Ready|After|Last|UNLISTEN pulled)$/, "too early in " name), \
         number(faults[name, "too late"], name != "Idle", "too late in " name), number(faults[name, "truncated"], !may_end(), "truncated in " name))
 }
+# Which cases reach each row, and which are refused in each place.
+function tell_names(   i, j, n, told_as) {
+    n = split("least greatest early late", told_as, " ")
+    for (i = 1; i <= rows; i++) {
+        print clause[i]
+        for (j = 1; j <= n; j++) if ((i, told_as[j]) in shows) print "    " told_as[j] ":" shows[i, told_as[j]]
+    }
+    n = split("bad order|bad shape|too early|too late|truncated", told_as, "[|]")
+    for (i = 1; i <= places; i++) {
+        print "refused in the place " place_names[i]
+        for (j = 1; j <= n; j++) if ((place_names[i], told_as[j]) in shows) print "    " told_as[j] ":" shows[place_names[i], told_as[j]]
+    }
+}
 BEGIN {
     table()
     split("8 10 13 14 15 17 18 145 146", list, " ")
@@ -306,23 +320,16 @@ kind == "!" { mistake = rest }
 END {
     settle()
     if (known != rows) missing("the table has " known " rows, here are " rows)
-    if (names != "") {
-        for (i = 1; i <= rows; i++) {
-            print clause[i]
-            print "    at the least:" shows[i, "least"]
-            print "    at the greatest:" (greatest[i] == "" && at[i] != "Pulse" ? " (there is none)" : shows[i, "greatest"])
-        }
-        exit bad
-    }
+    places = split("Idle|Call released|Call pulled|Ready|Free|Pulse|After|Bit|High|Last|Ack First|Ack Second|Ack Data|" \
+        "Freed pulled|Freed released|UNLISTEN pulled|UNLISTEN released", place_names, "[|]")
+    if (names != "") { tell_names(); exit bad }
     printf "%d cases, %d answers\n", cases, answers
     print ""
     five("row of Table.antt", "lawful", "least", "great.", "early", "late")
     for (i = 1; i <= rows; i++) table_row(i, clause[i])
     print ""
     five("place (bad start: " start_faults ")", "order", "shape", "early", "late", "trunc.")
-    n = split("Idle|Call released|Call pulled|Ready|Free|Pulse|After|Bit|High|Last|Ack First|Ack Second|Ack Data|" \
-        "Freed pulled|Freed released|UNLISTEN pulled|UNLISTEN released", list, "[|]")
-    for (i = 1; i <= n; i++) { place = list[i]; place_row(place) }
+    for (i = 1; i <= places; i++) { place = place_names[i]; place_row(place) }
     print ""
     two("code, in mode", "character", "graphic")
     n = split("8|10|13|14|15|16|17|18|26|27|27 16|145|146", list, "[|]")
@@ -343,7 +350,8 @@ END {
     two("stop, by status", "each", "kept")
     n = split("1 2 3 5 6", list, " ")
     for (i = 1; i <= n; i++)
-        two(list[i], number(stops[list[i], "each"], 1, "stop " list[i]), number(stops[list[i], "kept"], 1, "stop " list[i] " where the status is kept"))
+        two(list[i], number(stops[list[i], "each"], 1, "stop " list[i]), \
+            number(stops[list[i], "kept"], 1, "stop " list[i] " where the status is kept"))
     print ""
     line_of("Faults", "unknown word|bad number|bad device|bad secondary address|bad byte|too long|bad trace line|" \
         "bad start|bad order|bad shape|too early|too late|truncated", told)
