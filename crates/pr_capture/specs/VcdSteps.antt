@@ -16,7 +16,7 @@ use Rattle.pr_capture.specs.declared.fault.CaptureFault.TheVariants.{NoMemory}
 use Rattle.pr_capture.specs.declared.signals.Signals.{Signals}
 use Rattle.pr_capture.specs.Recording.{ended, refused, told_behind, Told}
 use Rattle.pr_capture.specs.Samples.{listed}
-use Rattle.pr_capture.specs.Words.{end_line, is_space, words_behind, Word}
+use Rattle.pr_capture.specs.Words.{end_line, is_space, word_of, words_behind, Word}
 use Rattle.pr_capture.specs.VcdPieces.{pieces_behind, Begun, Piece}
 use Rattle.pr_capture.specs.VcdPieces.Begun.{Nothing, Inside, Behind}
 use Rattle.pr_capture.specs.VcdReading.{pieces_told, sample_of, step, vcd_told, Codes, Place}
@@ -84,6 +84,10 @@ is_letter b = not (is_space b)
 -- what is told yet, if a text goes on so
 abbrev pub still_told : VcdReader → (more : List ℕ) → Told
 still_told r more = words_told r.signals (end_line r.number more) r.progress (words_behind r.number r.letters.items more)
+
+-- the word that has begun, if one has
+abbrev pub word_begun : VcdReader → List Word
+word_begun r = word_of r.number r.letters.items
 
 -- the reader has taken a text, and has given these samples
 pub record HasRead (s : Signals) (text : List ℕ) (samples : List Edge) (r : VcdReader) : Type 0 where

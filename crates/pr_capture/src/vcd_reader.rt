@@ -3,9 +3,9 @@
 ghost use Rattle.std.specs.Prelude.{◌≡◌, ◌⊎◌, ◌+◌, ◌^◌, ◌<◌, ◌≤◌, ◌∷◌, [], true, None, IfErr, IfOk, length, take};
 ghost use Rattle.std.specs.List.{list_all, prefix_len};
 ghost use Rattle.pr_capture.specs.declared.fault.CaptureFault.TheVariants.{NoMemory};
-ghost use Rattle.pr_capture.specs.Words.{is_space, word_of};
+ghost use Rattle.pr_capture.specs.Words.{is_space};
 ghost use Rattle.pr_capture.specs.VcdReadingLaws.{VcdIsReadBack};
-ghost use Rattle.pr_capture.specs.VcdSteps.{is_letter, line_number, EndsText, HasRead, HoldsMore, MayEnd, ReadsMore, ReadsWords, Refuses};
+ghost use Rattle.pr_capture.specs.VcdSteps.{is_letter, line_number, word_begun, EndsText, HasRead, HoldsMore, MayEnd, ReadsMore, ReadsWords, Refuses};
 
 use crate::fault::CaptureFault;
 use crate::progress::Progress;
@@ -70,7 +70,7 @@ impl<'a> VcdReader<'a> {
 
     /// Ends the word that has begun, if one has, and gives its sample, if it has one.
     fn take_letters(&mut self) -> Result<Option<Edge>, CaptureFault>
-        ensures read { ReadsWords self.old.signals (word_of self.old.number self.old.letters.items) self.old.progress result self.new.progress }
+        ensures read { ReadsWords self.old.signals (word_begun self.old) self.old.progress result self.new.progress }
         ensures end { IfOk result (λ sample. (sample ≡ None) ⊎ MayEnd self.new.progress) }
         ensures letters { IfOk result (λ _. self.new.letters.items ≡ []) }
         ensures number { self.new.number ≡ self.old.number }
