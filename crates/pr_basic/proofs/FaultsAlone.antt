@@ -7,7 +7,8 @@ use Rattle.pr_basic.specs.Grammar.{HasNumber, parts, without_return}
 use Rattle.pr_basic.specs.FaultRules.{AfterFile, GoesTooFar, IsFaultOutsideLists, IsItemFault, IsListFault, IsPartFault, IsStatementFault, Lacks, NoNumber, Placed, Spot, start_of, within}
 use Rattle.pr_basic.specs.FaultPlaces.{AreLinesFault, ArePartsFault, IsFaultOfLexemes, IsFirstFaultAt, IsLineFault, at_number, size_of, with_colons}
 use Rattle.pr_basic.specs.Faults.{IsFirstFault}
-use Rattle.pr_basic.specs.FaultsAlone.{AreLinesFaultAlone, ArePartsFaultAlone, GoesTooFarAlone, IsFaultOutsideListsAlone, IsFirstFaultAlone, IsItemFaultAlone, IsLineFaultAlone, IsListFaultAlone, IsPartFaultAlone, IsStatementFaultAlone, PlacesChangeNoFault}
+use Rattle.pr_basic.specs.FaultsAlone.{AreLinesFaultAlone, ArePartsFaultAlone, GoesTooFarAlone, IsFaultOutsideListsAlone, IsFirstFaultAlone, IsItemFaultAlone, IsLineFaultAlone, IsListFaultAlone, IsPartFaultAlone, IsStatementFaultAlone}
+use Rattle.pr_basic.specs.FaultLaws.{PlacesChangeNoFault}
 use Rattle.pr_basic.specs.ReadingScripts.{Passed, column_of}
 use Rattle.pr_text.specs.Digits.{number_of}
 use Rattle.pr_text.specs.Lines.{lines_of}
@@ -193,35 +194,47 @@ line_back room f line (lexemes, found, inr h) =
 
 -- a script's fault, told without its place
 script_alone : (bytes : List ℕ) (fault : ScriptFault) → IsFirstFault bytes fault → IsFirstFaultAlone bytes fault
-script_alone bytes fault (place, (f, number, g, e)) = (f, number, record {
-  before = g.before;
-  line = g.line;
-  after = g.after;
-  statements = g.statements;
-  cut = g.cut;
-  good = g.good;
-  few = g.few;
-  fault = line_alone _ f g.column (without_return g.line) g.fault;
-  at = g.numbered;
-}, e)
+script_alone bytes fault (place, (f, number, g, e)) = (
+  f,
+  number,
+  record {
+    before = g.before;
+    line = g.line;
+    after = g.after;
+    statements = g.statements;
+    cut = g.cut;
+    good = g.good;
+    few = g.few;
+    fault = line_alone _ f g.column (without_return g.line) g.fault;
+    at = g.numbered;
+  },
+  e,
+)
 
 -- and back
 script_back : (bytes : List ℕ) (fault : ScriptFault) → IsFirstFaultAlone bytes fault → IsFirstFault bytes fault
 script_back bytes fault (f, number, g, e) =
-    let p = line_back _ f (without_return g.line) g.fault in
-    (size_of g.before + p.column, (f, number, record {
-      before = g.before;
-      line = g.line;
-      after = g.after;
-      statements = g.statements;
-      column = p.column;
-      cut = g.cut;
-      good = g.good;
-      few = g.few;
-      fault = p.fault;
-      numbered = g.at;
-      at = refl;
-    }, e))
+    let p = line_back _ f (without_return g.line) g.fault in (
+      size_of g.before + p.column,
+      (
+        f,
+        number,
+        record {
+          before = g.before;
+          line = g.line;
+          after = g.after;
+          statements = g.statements;
+          column = p.column;
+          cut = g.cut;
+          good = g.good;
+          few = g.few;
+          fault = p.fault;
+          numbered = g.at;
+          at = refl;
+        },
+        e,
+      ),
+    )
 
 -- places change no fault
 pub places_change_none : PlacesChangeNoFault

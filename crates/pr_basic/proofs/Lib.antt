@@ -18,6 +18,7 @@ pub mod StatementFaultsRead
 pub mod ScriptsAgree
 pub mod ScriptFaults
 pub mod ReadScript
+pub mod LinesAt
 pub mod FaultsAlone
 pub mod PrintingLemmas
 pub mod EffectLemmas

@@ -353,6 +353,16 @@ line_fault_read room f column line h =
     let same : column_of bytes at ≡ column = omega (arith, h.at, left, p.inside, p.left) in
     ap (in_line bytes) said ∙ ap (λ n. Err (f, n)) same
 
+-- a fault's column is within its line
+pub column_within : (room : ℕ) (f : LineFault) (column : ℕ) (bytes : List ℕ) → IsLineFault room f column bytes → column ≤ length bytes
+column_within room f column bytes h =
+    let ls : lexemes_of bytes ≡ h.lexemes = lexemes_found bytes h.lexemes h.found in
+    let at : Passed = record { done = h.done; inside = h.inside } in
+    let P : List Lexeme → Type 0 = λ v. IsFaultOfLexemes room f h.done h.inside v in
+    let p = placed_in room f at bytes (subst P (sym ls) h.fault) in
+    let left : length h.left ≡ length (unspaced (past (length h.done) bytes)) = ap length (begins_past bytes h.done h.left h.begins) in
+    omega (arith, h.at, left, p.inside)
+
 -- a fault that is told of a line
 at_line_err : {A : Type 0} (n start : ℕ) (r : Result A (LineFault × ℕ)) (e : Told) → at_line n start r ≡ Err e → (column : ℕ) × (r ≡ Err (e.fault, column)) × (e.number ≡ n) × (e.place ≡ start + column)
 at_line_err n start (Ok x) e h = absurd (cc)

@@ -7,7 +7,6 @@ use Rattle.pr_basic.specs.Lexemes.{AreLexemes, Lexeme, Word, Digits, Quoted, Com
 use Rattle.pr_basic.specs.Grammar.{Item, AreItems, AreLines, AreParts, HasNumber, is_printable, items_bytes, items_lexemes, parts, without_return}
 use Rattle.pr_basic.specs.FaultRules.{AfterDevice, AfterFile, AfterSecond, BeginsStatement, HasList, Lacks, NoNumber, begins_item, begins_statement, takes_file, takes_list}
 use Rattle.pr_basic.specs.FaultPlaces.{at_number}
-use Rattle.pr_basic.specs.Faults.{IsFirstFault}
 use Rattle.pr_text.specs.Digits.{number_of}
 use Rattle.pr_text.specs.Lines.{lines_of}
 use Rattle.pr_basic.specs.declared.lexemes.Keyword.{Keyword}
@@ -111,8 +110,3 @@ pub record AreLinesFaultAlone (room : ℕ) (f : LineFault) (place : ℕ) (lines 
 abbrev pub IsFirstFaultAlone : List ℕ → ScriptFault → Type 0
 IsFirstFaultAlone bytes fault = (f : LineFault) × (place : ℕ)
     × AreLinesFaultAlone statement_limit f place (lines_of bytes) × (fault ≡ at_number f (place + 1))
-
--- a text has a first fault exactly where it has it without a place
-abbrev pub PlacesChangeNoFault : Type 0
-PlacesChangeNoFault = (bytes : List ℕ) (fault : ScriptFault)
-    → (IsFirstFault bytes fault → IsFirstFaultAlone bytes fault) × (IsFirstFaultAlone bytes fault → IsFirstFault bytes fault)

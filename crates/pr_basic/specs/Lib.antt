@@ -11,6 +11,8 @@ pub mod FaultRules
 pub mod FaultPlaces
 pub mod Faults
 pub mod FaultsAlone
+pub mod LineAt
+pub mod FaultLaws
 pub mod Lexing
 pub mod Reading
 pub mod ReadingScripts

@@ -1,7 +1,7 @@
 //! Laws of the definitions, with nothing to run. A caller whose proof needs one calls the function.
 
 ghost use Rattle.pr_basic.specs.StatementLaws.{StopsExactly, StatusExactly, StatusFoundNext, SentAfterEarlier};
-ghost use Rattle.pr_basic.specs.FaultsAlone.{PlacesChangeNoFault};
+ghost use Rattle.pr_basic.specs.FaultLaws.{PlacesChangeNoFault};
 
 use pr_serial::laws::{answers_add_up, elements_send_items};
 

@@ -37,7 +37,7 @@ pub enum Lexeme<'a> {
 }
 
 /// A space or a tab.
-fn is_space(b: u8) -> bool
+pub fn is_space(b: u8) -> bool
     ensures { result ≡ is_space b }
 {
     b == b' ' || b == b'\t'
@@ -112,7 +112,7 @@ fn word_front(bytes: &[u8]) -> (Lexeme<'_>, usize)
 
 /// The lexeme in front of some bytes, and how many bytes it has.
 #[tactic(auto, unfolding(crate::specs::Lexing::front))]
-fn front(bytes: &[u8]) -> (Lexeme<'_>, usize)
+pub fn front(bytes: &[u8]) -> (Lexeme<'_>, usize)
     requires { 0 < length bytes.now }
     ensures lexeme { (seen result.0, result.1) ≡ front bytes.now }
     ensures within { result.1 ≤ length bytes.now }

@@ -72,7 +72,7 @@ fn opened(file: u8, device: u8, second: Option<u8>) -> Option<Statement>
 }
 
 /// What follows OPEN.
-#[tactic(auto, using(crate::proofs::Places::rest_on, crate::proofs::Places::rest_same), unfolding(crate::specs::Reading::open_in))]
+#[tactic(auto, using(crate::proofs::Places::reads_on, crate::proofs::Places::rest_on, crate::proofs::Places::rest_same), unfolding(crate::specs::Reading::open_in))]
 fn open(bytes: &[u8]) -> Result<(Statement, &[u8]), Flaw<'_>>
     ensures reads { ReadsAll result (open_in (here bytes.now)) (later bytes.now) }
     ensures shorter { IfOk result (λ p. length p.1.now ≤ length bytes.now) }

@@ -22,7 +22,7 @@ use std::alloc::Global;
 pub const STATEMENT_LIMIT: usize = 1_000_000;
 
 /// The largest line number (profile, after the KERNAL's BASIC).
-const LINE_NUMBER_LIMIT: u32 = 63_999;
+pub const LINE_NUMBER_LIMIT: u32 = 63_999;
 
 /// The statements of a script, in order, at most [`STATEMENT_LIMIT`].
 ///
@@ -216,7 +216,7 @@ fn after_number(bytes: &[u8]) -> Result<&[u8], Flaw<'_>>
 }
 
 /// The first line, and what follows its end.
-fn cut_line(bytes: &[u8]) -> (&[u8], &[u8])
+pub fn cut_line(bytes: &[u8]) -> (&[u8], &[u8])
     requires { 0 < length bytes.now }
     ensures lines { lines_of bytes.now ≡ result.0.now ∷ lines_of result.1.now }
     ensures less { length result.1.now < length bytes.now }

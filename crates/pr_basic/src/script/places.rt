@@ -154,7 +154,11 @@ fn later_lines(rt: HostRuntime) {
         (b"PRINT\n\t99999", ScriptFault::BadNumber(2), 7),
         (b"\n\n\nX", ScriptFault::UnknownWord(4), 3),
         (b"\r\n\r\n  X\r\n", ScriptFault::UnknownWord(3), 6),
-        (b"REM :FOO\nPRINT\"A\":PRINT\"B\":CLOSE", ScriptFault::BadNumber(2), 32),
+        (
+            b"REM :FOO\nPRINT\"A\":PRINT\"B\":CLOSE",
+            ScriptFault::BadNumber(2),
+            32,
+        ),
     ];
     for (script, fault, place) in cases {
         stands_at(&rt, alloc, script, fault, place);
