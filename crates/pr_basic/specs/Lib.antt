@@ -7,7 +7,10 @@ pub mod StatementLaws
 pub mod Performing
 pub mod Lexemes
 pub mod Grammar
+pub mod FaultRules
+pub mod FaultPlaces
 pub mod Faults
+pub mod FaultsAlone
 pub mod Lexing
 pub mod Reading
 pub mod ReadingScripts

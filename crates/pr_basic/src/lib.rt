@@ -19,8 +19,10 @@ mod script;
 mod session;
 mod statement;
 
-pub use fault::ScriptFault;
+pub use fault::{FaultAt, ScriptFault};
 pub use performing::perform;
-pub use script::{STATEMENT_LIMIT, each_text_is_a_script_or_has_one_fault, read_script};
+pub use script::{
+    STATEMENT_LIMIT, each_text_is_a_script_or_has_one_fault, read_script, read_script_at,
+};
 pub use session::{Session, StatusMode};
 pub use statement::{Device, Line, Second, Statement, number_of_second};
