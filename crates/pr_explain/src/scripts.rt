@@ -1,5 +1,7 @@
 //! Why a script is refused.
 
+ghost use Rattle.std.specs.Prelude.{◌≤◌, length};
+
 use crate::context::{expected_at, foreign_word};
 use crate::stops::label_of;
 use crate::texts::{cut_line, push, push_cut, push_number, push_shown, without_end};
@@ -48,7 +50,7 @@ pub fn explain_script(alloc: Global, script: &[u8]) -> Result<Vec<u8>, NoMemory>
 
 /// The place behind so many bytes of a script.
 fn spot_at(script: &[u8], place: usize) -> Spot<'_> {
-    let mut number = 1;
+    let mut number: usize = 1;
     let mut rest = script;
     let mut left = place;
     for _ in 0..place {
@@ -57,7 +59,7 @@ fn spot_at(script: &[u8], place: usize) -> Spot<'_> {
             break;
         }
         left -= line.len();
-        number += 1;
+        number = number.saturating_add(1);
         rest = more;
     }
     let (line, _) = cut_line(rest);
@@ -140,23 +142,28 @@ fn word_of(rest: &[u8]) -> &[u8] {
     let [first, ..] = rest else {
         return rest;
     };
-    if first.is_ascii_alphabetic() {
-        return front_of(rest, |byte| byte.is_ascii_alphabetic());
+    if first.is_ascii_alphabetic() || first.is_ascii_digit() {
+        &rest[..word_len(rest, first.is_ascii_digit())]
+    } else {
+        &rest[..1]
     }
-    if first.is_ascii_digit() {
-        return front_of(rest, |byte| byte.is_ascii_digit());
-    }
-    &rest[..1]
 }
 
-/// The bytes in front that pass a test, at most [`WORD`].
-fn front_of(rest: &[u8], test: impl Fn(&u8) -> bool) -> &[u8] {
+/// How many letters stand in front, or digits, at most [`WORD`].
+fn word_len(rest: &[u8], are_digits: bool) -> usize
+    ensures { result ≤ length rest.now }
+{
     for (i, byte) in rest.iter().enumerate() {
-        if i == WORD || !test(byte) {
-            return &rest[..i];
+        let goes_on = if are_digits {
+            byte.is_ascii_digit()
+        } else {
+            byte.is_ascii_alphabetic()
+        };
+        if i == WORD || !goes_on {
+            return i;
         }
     }
-    rest
+    rest.len()
 }
 
 #[cfg(test)]
