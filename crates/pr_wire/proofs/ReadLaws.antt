@@ -1,11 +1,10 @@
 -- A trace text that is read edge by edge.
 use Rattle.std.proofs.Common.{◌≡◌, ℕ, ◌+◌, ◌<◌, List, [], ◌∷◌, ◌++◌, length, take, drop, refl, ap, sym, subst, ◌∙◌, arith, append_assoc, append-nil, take-append-drop, length-append, false, true, Option, Some, None, Result, Ok, Err}
-use Rattle.std.specs.Prelude.{◌==◌, IfErr, IsErrAnd}
+use Rattle.std.specs.Prelude.{◌==◌, IfErr, IsErrAnd, get_or}
 use Rattle.std.specs.Option.{option_to_list}
 use Rattle.std.proofs.lemmas.Grind.{common_steps}
 use Rattle.pr_wire.specs.declared.Edge.{Edge}
 use Rattle.pr_wire.specs.declared.line.EdgeLine.{EdgeLine}
-use Rattle.pr_wire.specs.declared.part.LinePart.{LinePart}
 use Rattle.pr_wire.specs.declared.part.LinePart.TheVariants.{Nothing}
 use Rattle.pr_wire.specs.declared.reader.TraceReader.{TraceReader}
 use Rattle.pr_wire.specs.declared.text.TraceFault.{TraceFault}
@@ -14,8 +13,8 @@ use Rattle.pr_text.specs.Lines.{lines_of}
 use Rattle.pr_wire.specs.LineParts.{part_after, edge_of_part, is_nothing}
 use Rattle.pr_wire.specs.TextSteps.{ended_line_in}
 use Rattle.pr_wire.specs.TraceReading.{EndsText, FaultsIn, HasRead, ReadsMore}
-use Rattle.pr_wire.specs.TraceText.{AreEdgeLines, IsFirstBad, SaysEdges}
-use Rattle.pr_wire.proofs.ScanLaws.{scanned_none, scanned_byte, scanned_line, scanned_bad, scanned_whole, scanned_ends, scanned_same_lines, first_bad_lines}
+use Rattle.pr_wire.specs.TraceText.{AreEdgeLines, SaysEdges}
+use Rattle.pr_wire.proofs.ScanLaws.{scanned_none, scanned_byte, scanned_line, scanned_bad, scanned_whole, scanned_ends, scanned_same_lines, says_lines}
 
 -- nothing was read
 pub read_nothing : (r : TraceReader) → r.part ≡ Nothing → r.count ≡ 0 → HasRead [] [] r
@@ -45,7 +44,7 @@ read_end old new e k p c = λ text edges h. record {
 pub faulty_end : (old : TraceReader) (n : ℕ) → edge_of_part old.part ≡ None → n ≡ old.count + 1 → FaultsIn (10 ∷ []) old (BadLine n)
 faulty_end old n k e = λ text edges h more.
     let P : ℕ → Type 0 = λ m. SaysEdges ((text ++ 10 ∷ []) ++ more) edges (Some m) in
-    subst P (ap (λ m. m + 1) h.count ∙ sym e) (scanned_bad text edges old.part k h.scanned more, refl)
+    subst P (ap (λ m. m + 1) h.count ∙ sym e) (scanned_bad text edges old.part k h.scanned more)
 
 -- a whole line comes
 pub read_whole : (old new : TraceReader) (block : List ℕ) (line : EdgeLine) → is_nothing old.part ≡ true → ended_line_in block ≡ Some line → new.part ≡ old.part → new.count ≡ old.count + 1
@@ -86,6 +85,14 @@ pub ends_faulty : (r : TraceReader) (v : Result (Option Edge) TraceFault) (f : T
 ends_faulty r (Ok x) f n e h = absurd e
 ends_faulty r (Err x) NoMemory n e h = absurd h
 ends_faulty r (Err x) (BadLine m) n e h = rw e (λ text edges k.
-    let bad = h text edges k [] in
     let whole = append-nil (text ++ 10 ∷ []) in
-    (first_bad_lines m ((text ++ 10 ∷ []) ++ []) text (ap lines_of whole ∙ scanned_same_lines text edges r.part n k.scanned) bad.0, bad.1))
+    says_lines ((text ++ 10 ∷ []) ++ []) text edges (Some m) (ap lines_of whole ∙ scanned_same_lines text edges r.part n k.scanned) (h text edges k []))
+
+-- the first byte of a block
+pub first_byte : (block : List ℕ) (d : ℕ) → 0 < length block → take 1 block ≡ get_or block 0 d ∷ []
+first_byte [] d some = absurd (omega arith)
+first_byte (b ∷ bs) d some = refl
+
+-- the same bytes were read
+pub reads_same : (bytes same : List ℕ) (e : Option Edge) (old new : TraceReader) → bytes ≡ same → ReadsMore bytes e old new → ReadsMore same e old new
+reads_same bytes same e old new is h = λ text edges k. let P : List ℕ → Type 0 = λ v. HasRead (text ++ v) (edges ++ option_to_list e) new in subst P is (h text edges k)

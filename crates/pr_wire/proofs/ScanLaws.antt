@@ -1,5 +1,5 @@
 -- A trace text that comes byte by byte: its lines and its edges.
-use Rattle.std.proofs.Common.{◌≡◌, ℕ, ◌+◌, ◌<◌, List, [], ◌∷◌, ◌++◌, length, take, refl, ap, sym, subst, ◌∙◌, arith, append_assoc, append-nil, true, false, Some, None}
+use Rattle.std.proofs.Common.{◌≡◌, ℕ, ◌+◌, ◌<◌, List, [], ◌∷◌, ◌++◌, length, take, refl, ap, sym, subst, ◌∙◌, arith, append_assoc, append-nil, true, false, Option, Some, None}
 use Rattle.std.specs.List.{list_all}
 use Rattle.std.specs.Prelude.{◌==◌}
 use Rattle.std.proofs.lemmas.Grind.{common_steps}
@@ -10,7 +10,7 @@ use Rattle.pr_wire.specs.declared.line.EdgeLine.{EdgeLine}
 use Rattle.pr_wire.specs.Checked.{is_inner, IsScanned}
 use Rattle.pr_wire.specs.LineParts.{part_after, edge_of_part, is_nothing}
 use Rattle.pr_wire.specs.TextSteps.{ended_line_in}
-use Rattle.pr_wire.specs.TraceText.{AreEdgeLines, IsTraceText, IsFirstBad}
+use Rattle.pr_wire.specs.TraceText.{AreEdgeLines, IsTraceText, IsFirstBad, SaysEdges}
 use Rattle.pr_text.specs.Lines.{lines_of}
 use Rattle.pr_wire.proofs.LineLaws.{ended_line-is, on_line, alone, at_end, no_line}
 use Rattle.pr_wire.proofs.PartLaws.{part_more, part_line, line_part, nothing_empty, something_some}
@@ -76,8 +76,8 @@ scanned_line text edges part e k h = record {
 }
 
 -- the line has ended, and spells none
-pub scanned_bad : (text : List ℕ) (edges : List Edge) (part : LinePart) → edge_of_part part ≡ None → IsScanned text edges part → (more : List ℕ) → IsFirstBad (length edges + 1) ((text ++ 10 ∷ []) ++ more)
-scanned_bad text edges part k h more = record {
+pub scanned_bad : (text : List ℕ) (edges : List Edge) (part : LinePart) → edge_of_part part ≡ None → IsScanned text edges part → (more : List ℕ) → SaysEdges ((text ++ 10 ∷ []) ++ more) edges (Some (length edges + 1))
+scanned_bad text edges part k h more = (record {
   good = h.good;
   edges = edges;
   bad = h.line;
@@ -86,7 +86,7 @@ scanned_bad text edges part k h more = record {
   are_edges = h.are_edges;
   is_bad = λ e l. absurd (let n : Some e ≡ None = sym (line_part h.line e l) ∙ (ap edge_of_part (sym h.part_is) ∙ k) in cc);
   number = ap (λ n. n + 1) (as_many h.good edges h.are_edges);
-}
+}, refl)
 
 -- a part of which nothing has come
 pub nothing_is : (p : LinePart) → is_nothing p ≡ true → p ≡ Nothing
@@ -148,3 +148,17 @@ first_bad_lines n text other e h = record {
   is_bad = h.is_bad;
   number = h.number;
 }
+
+-- and say the same edges
+pub says_lines : (text other : List ℕ) (edges : List Edge) (bad : Option ℕ) → lines_of text ≡ lines_of other → SaysEdges text edges bad → SaysEdges other edges bad
+says_lines text other edges None e h = subst (λ ls. AreEdgeLines ls edges) e h
+says_lines text other edges (Some n) e h = (record {
+  good = h.0.good;
+  edges = h.0.edges;
+  bad = h.0.bad;
+  more = h.0.more;
+  lines = sym e ∙ h.0.lines;
+  are_edges = h.0.are_edges;
+  is_bad = h.0.is_bad;
+  number = h.0.number;
+}, h.1)
