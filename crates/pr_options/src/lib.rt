@@ -15,5 +15,5 @@ mod option_values;
 
 pub use command_line::{Job, JobFault, read_job};
 pub use delays::{DelayFault, read_delays};
-pub use format::Format;
+pub use format::{Format, Report, Source, TraceFormat, TraceInput};
 pub use option_values::{read_format, read_present, read_set, read_status};
