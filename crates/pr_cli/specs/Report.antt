@@ -12,6 +12,7 @@ use Rattle.pr_capture.specs.declared.fault.CaptureFault.TheVariants as capture
 use Rattle.pr_capture.specs.Csv.{csv_told}
 use Rattle.pr_capture.specs.Recording.{Told}
 use Rattle.pr_capture.specs.Samples.{edges_of}
+use Rattle.pr_capture.specs.VcdReading.{vcd_told}
 use Rattle.pr_story.specs.Moments.{timed_frames}
 use Rattle.pr_story.specs.StoryText.{story_lines, story_of}
 use Rattle.pr_options.specs.declared.format.Report.{Report}
@@ -36,7 +37,7 @@ abbrev pub SaysSamples : TraceInput → Source → (text : List ℕ) → (sample
 SaysSamples input source.Text text samples fault =
     (bad : Option ℕ) × SaysEdges text samples bad × (option_map (λ n. Trace (trace.BadLine n)) bad ≡ fault)
 SaysSamples input source.Csv text samples fault = IsTold (csv_told input.signals text) samples fault
-SaysSamples input source.Vcd text samples fault = ⊥
+SaysSamples input source.Vcd text samples fault = IsTold (vcd_told input.signals text) samples fault
 
 -- the edges that the samples of a format make, from a start on; a trace text has edges
 abbrev pub edges_made : Source → (start : ℕ) → (samples : List Edge) → List Edge
@@ -107,9 +108,9 @@ ReadsAll left (Err (Wave fault)) = IsAtEnd left
 ReadsAll left (Err _) = Unit {0}
 
 -- a fault of an input: never one of a script, and want of memory always as itself
-abbrev pub IsInputFault : CliFault → Type 0
-IsInputFault (Script fault) = ⊥
-IsInputFault (Trace trace.NoMemory) = ⊥
-IsInputFault (Wave wave.NoMemory) = ⊥
-IsInputFault (Capture capture.NoMemory) = ⊥
-IsInputFault _ = Unit {0}
+abbrev pub IsReportFault : CliFault → Type 0
+IsReportFault (Script fault) = ⊥
+IsReportFault (Trace trace.NoMemory) = ⊥
+IsReportFault (Wave wave.NoMemory) = ⊥
+IsReportFault (Capture capture.NoMemory) = ⊥
+IsReportFault _ = Unit {0}
