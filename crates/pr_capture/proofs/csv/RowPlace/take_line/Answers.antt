@@ -2,7 +2,7 @@ use Rattle.std.proofs.Common.{arith, length, ◌≤◌}
 use Rattle.std.specs.Prelude.{option_copied}
 use Rattle.pr_capture.specs.CsvSteps.{fields_left}
 use Rattle.pr_capture.proofs.CsvFields.{left-few}
-use Rattle.pr_capture.proofs.csv.Place.take_line.Goals as goal
+use Rattle.pr_capture.proofs.csv.RowPlace.take_line.Goals as goal
 
 pub columns_in-requires : goal.columns_in-requires
 columns_in-requires c =
