@@ -2,6 +2,7 @@
 
 ghost use Rattle.std.specs.Prelude.{◌≡◌, ◌+◌, ◌^◌, ◌<◌, Some, false, true, length, List, Bool, ℕ};
 ghost use Rattle.pr_wire.specs.declared.Edge.{Edge};
+ghost use Rattle.pr_wire.specs.declared.place.Sending.{Sending};
 ghost use Rattle.pr_wire.specs.Delays.{bounds_of};
 ghost use Rattle.pr_explain.specs.Rows.{AreRows, lies, takes};
 
@@ -154,22 +155,29 @@ fn after_bit(since: u64, sending: Sending, bit: bool) -> [Option<Row>; 3]
     [row, None, None]
 }
 
-/// CLOCK is pulled with the next bit, or behind the last one with DATA released.
-fn after_high(since: u64, sending: Sending, seen: usize) -> [Option<Row>; 3]
-    ensures { (eoi bit : Bool) (bits : List Bool) → length bits ≡ seen → AreRows result (Place.High since sending eoi bits bit) }
+/// CLOCK is pulled with the next bit.
+fn after_high(since: u64, sending: Sending) -> [Option<Row>; 3]
+    ensures { (eoi : Bool) (seen : List Bool) (bit : Bool) → length seen < 7 → AreRows result (Place.High since sending eoi seen bit) }
 {
-    let atn = sending.atn();
-    let low = if seen < LAST_BIT {
-        by_kind(atn, false, false, since, Kind::V)
-    } else {
-        None
-    };
-    let high = if seen <= LAST_BIT {
-        by_kind(atn, false, true, since, Kind::V)
-    } else {
-        None
-    };
+    let low = by_kind(sending.atn(), false, false, since, Kind::V);
+    let high = by_kind(sending.atn(), false, true, since, Kind::V);
     [low, high, None]
+}
+
+/// CLOCK is pulled behind the last bit, and DATA is released.
+fn after_last_bit(since: u64, sending: Sending) -> [Option<Row>; 3]
+    ensures { (eoi : Bool) (seen : List Bool) (bit : Bool) → length seen ≡ 7 → AreRows result (Place.High since sending eoi seen bit) }
+{
+    let row = by_kind(sending.atn(), false, true, since, Kind::V);
+    [row, None, None]
+}
+
+/// More bits than a byte has.
+fn after_too_many() -> [Option<Row>; 3]
+    ensures { (since : ℕ) (sending : Sending) (eoi : Bool) (seen : List Bool) (bit : Bool) → 7 < length seen →
+        AreRows result (Place.High since sending eoi seen bit) }
+{
+    [None, None, None]
 }
 
 /// DATA is pulled: the byte is acknowledged.
@@ -248,7 +256,15 @@ pub fn rows_from(place: &Place) -> [Option<Row>; 3]
             sending,
             seen,
             ..
-        } => after_high(*since, *sending, seen.len()),
+        } => {
+            if seen.len() < LAST_BIT {
+                after_high(*since, *sending)
+            } else if seen.len() == LAST_BIT {
+                after_last_bit(*since, *sending)
+            } else {
+                after_too_many()
+            }
+        }
         Place::Last(since, sending, _, _) => after_last(*since, *sending),
         Place::Ack(since, sending, _) => after_ack(*since, *sending),
         Place::Freed {

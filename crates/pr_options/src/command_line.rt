@@ -19,7 +19,7 @@ use crate::option_values::{
     read_status, read_trace_format,
 };
 use crate::options::{
-    DELAYS, EXPLAIN, FROM, FROM_TIME, INVERT, NAMES, PAGE_AS, PRESENT, REPORT_AS, SET, STATUS,
+    DELAYS, FORMATS, FROM, FROM_TIME, INVERT, NAMES, PAGE_AS, PRESENT, REPORT_AS, SET, STATUS,
     TRACE_AS, Valued,
 };
 use clap::ArgMatches;
@@ -88,6 +88,24 @@ pub enum JobFault {
     /// Memory was refused.
     #[error("out of memory")]
     NoMemory,
+}
+
+impl JobFault {
+    /// What values the option has of which this is a bad one, as the help says it. None of other
+    /// faults.
+    pub fn values(&self) -> Option<&'static str> {
+        match self {
+            JobFault::BadPresent => Some(PRESENT.help),
+            JobFault::BadDelays => Some(DELAYS.help),
+            JobFault::BadStatus => Some(STATUS.help),
+            JobFault::BadSet => Some(SET.help),
+            JobFault::BadFrom => Some(FROM.help),
+            JobFault::BadNames => Some(NAMES.help),
+            JobFault::BadStart => Some(FROM_TIME.help),
+            JobFault::BadAs => Some(FORMATS),
+            JobFault::NoRecording | JobFault::Line(_) | JobFault::NoMemory => None,
+        }
+    }
 }
 
 impl From<DelayFault> for JobFault {

@@ -95,3 +95,7 @@ pub const EXPLAIN: Flag = Flag {
     name: "explain",
     help: "Tells more of a refusal or of an error, in further lines on standard error",
 };
+
+/// What values `--as` has, by subcommand.
+pub const FORMATS: &str =
+    "The format: list, text or svg of pages and raw, text or vcd of bus, frames or story of check";

@@ -322,3 +322,23 @@ fn fault_texts(rt: HostRuntime) -> Result<(), Fail> {
     }
     Ok(())
 }
+
+/// The values of each option that has a bad one are told, as the help has them.
+#[test]
+fn values_are_told(rt: HostRuntime) {
+    let faults = [
+        (JobFault::BadPresent, "none, 4, 5 or both"),
+        (JobFault::BadDelays, "900,999/9"),
+        (JobFault::BadStatus, "kept"),
+        (JobFault::BadSet, "upper"),
+        (JobFault::BadFrom, "csv"),
+        (JobFault::BadNames, "CLK"),
+        (JobFault::BadStart, "microseconds"),
+        (JobFault::BadAs, "story"),
+    ];
+    for (fault, wanted) in faults {
+        assert!(rt; fault.values().is_some_and(|values| values.contains(wanted)), "{wanted}");
+    }
+    assert!(rt; JobFault::NoRecording.values().is_none());
+    assert!(rt; JobFault::NoMemory.values().is_none());
+}
