@@ -120,7 +120,7 @@ impl Halves {
 
 impl Transfer {
     /// A byte whose bits begin with this edge, CLOCK's first pull.
-    pub fn begun(opening: Opening, edge: Edge) -> Transfer
+    pub(crate) fn begun(opening: Opening, edge: Edge) -> Transfer
         ensures { result ≡ begun_transfer opening edge }
     {
         let none = Halves {
@@ -139,7 +139,7 @@ impl Transfer {
     }
 
     /// With one bit more, by the edges that release CLOCK and pull it again.
-    pub fn with_bit(self, up: Edge, down: Edge) -> Transfer
+    pub(crate) fn with_bit(self, up: Edge, down: Edge) -> Transfer
         ensures { result ≡ with_bit self up down }
     {
         let low = up.time.saturating_sub(self.last_pull);

@@ -13,7 +13,7 @@ const LONGEST_BIT: u64 = 1000;
 
 /// The edges at which DATA has turned in a stretch, the first four at most.
 #[derive(Clone, Copy)]
-pub enum Turns {
+pub(crate) enum Turns {
     Still,
     Once(Edge),
     Twice(Edge, Edge),
@@ -39,7 +39,7 @@ impl Turns {
 
 /// A stretch as far as it came.
 #[derive(Clone, Copy)]
-pub struct Stretch {
+pub(crate) struct Stretch {
     /// Whether its first edge pulls ATN.
     pub called: bool,
     pub first: Edge,
@@ -48,14 +48,14 @@ pub struct Stretch {
 }
 
 /// Whether an edge pulls ATN behind the edge before it.
-pub fn calls(last: Edge, edge: Edge) -> bool
+pub(crate) fn calls(last: Edge, edge: Edge) -> bool
     ensures { result ≡ calls last edge }
 {
     last.levels.atn && !edge.levels.atn
 }
 
 /// Whether an edge comes too late for a bit, since CLOCK was released.
-pub fn is_late(since: u64, edge: Edge) -> bool
+pub(crate) fn is_late(since: u64, edge: Edge) -> bool
     ensures { result ≡ is_late since edge }
 {
     edge.time.saturating_sub(since) > LONGEST_BIT
@@ -63,7 +63,7 @@ pub fn is_late(since: u64, edge: Edge) -> bool
 
 impl Stretch {
     /// A stretch that begins with this edge, which pulls ATN or does not.
-    pub fn begun(called: bool, edge: Edge) -> Stretch
+    pub(crate) fn begun(called: bool, edge: Edge) -> Stretch
         ensures { result ≡ began called edge }
     {
         Stretch {
@@ -75,7 +75,7 @@ impl Stretch {
     }
 
     /// With one edge more.
-    pub fn with(self, edge: Edge) -> Stretch
+    pub(crate) fn with(self, edge: Edge) -> Stretch
         ensures { result ≡ with_edge self edge }
     {
         Stretch {
@@ -87,14 +87,14 @@ impl Stretch {
     }
 
     /// Whether an edge goes on with the stretch.
-    pub fn goes_on(self, edge: Edge) -> bool
+    pub(crate) fn goes_on(self, edge: Edge) -> bool
         ensures { result ≡ goes_on self.first self.last edge }
     {
         edge.levels.clock == self.first.levels.clock && !calls(self.last, edge)
     }
 
     /// The moments of an opening, where the stretch is one.
-    pub fn opening(self) -> Option<Opening>
+    pub(crate) fn opening(self) -> Option<Opening>
         ensures { result ≡ opening_in self }
     {
         if self.called || !self.first.levels.clock {
@@ -121,7 +121,7 @@ impl Stretch {
     }
 
     /// The moment of the acknowledgement, where there is one in the stretch.
-    pub fn acknowledgement(self) -> Option<u64>
+    pub(crate) fn acknowledgement(self) -> Option<u64>
         ensures { result ≡ acknowledged_in self.turns }
     {
         match self.turns {
