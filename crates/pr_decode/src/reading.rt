@@ -1,4 +1,5 @@
-//! Readings: bytes with their moments. All times are in microseconds, as those of the edges.
+//! Readings: bytes with their moments (the Programmer's Reference Guide's timing of the serial bus). All
+//! times are in microseconds, as those of the edges.
 
 ghost use Rattle.std.specs.Prelude.{◌≡◌};
 ghost use Rattle.pr_decode.specs.Steps.{begun_transfer, weight, widened, with_bit};
@@ -68,7 +69,7 @@ pub enum FrameEnd {
 pub enum GlitchEnd {
     /// ATN is pulled.
     Attention(u64),
-    /// CLOCK is released for more than 1000 microseconds; this is the first edge after that.
+    /// CLOCK is released for more than 1000 microseconds (profile); this is the first edge after that.
     Silence(u64),
     /// The recording ends.
     Cut,

@@ -8,7 +8,7 @@ ghost use Rattle.pr_decode.specs.Steps.{acknowledged_in, began, opening_in, turn
 use crate::reading::{Opening, Pulse};
 use pr_wire::Edge;
 
-/// For how many microseconds CLOCK may be released in a bit.
+/// For how many microseconds CLOCK may be released in a bit (profile).
 const LONGEST_BIT: u64 = 1000;
 
 /// The edges at which DATA has turned in a stretch, the first four at most.
