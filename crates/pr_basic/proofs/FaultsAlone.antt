@@ -1,20 +1,17 @@
 -- The table of faults with their places is the table without them.
-use Rattle.std.proofs.Common.{◌≡◌, ℕ, suc, ◌+◌, ◌-◌, ◌<◌, ◌≤◌, List, [], ◌∷◌, ◌++◌, length, refl, ap, subst, sym, ◌∙◌, arith, append_assoc, ◌⊎◌, inl, inr}
-use Rattle.pr_basic.specs.Limits.{statement_limit}
+use Rattle.std.proofs.Common.{◌≡◌, ℕ, ◌+◌, ◌<◌, List, [], ◌∷◌, ◌++◌, length, refl, ap, subst, sym, ◌⊎◌, inl, inr}
 use Rattle.pr_basic.specs.Lexemes.{AreLexemes, Comma, Digits, Lexeme}
-use Rattle.pr_basic.specs.Lexing.{lexemes_of}
 use Rattle.pr_basic.specs.Grammar.{HasNumber, parts, without_return}
-use Rattle.pr_basic.specs.FaultRules.{AfterFile, GoesTooFar, IsFaultOutsideLists, IsItemFault, IsListFault, IsPartFault, IsStatementFault, Lacks, NoNumber, Placed, Spot, start_of, within}
-use Rattle.pr_basic.specs.FaultPlaces.{AreLinesFault, ArePartsFault, IsFaultOfLexemes, IsFirstFaultAt, IsLineFault, at_number, size_of, with_colons}
+use Rattle.pr_basic.specs.FaultRules.{AfterFile, GoesTooFar, IsFaultOutsideLists, IsItemFault, IsPartFault, IsStatementFault, Lacks, NoNumber, Placed, Spot, start_of, within}
+use Rattle.pr_basic.specs.FaultPlaces.{ArePartsFault, IsFaultOfLexemes, IsLineFault, size_of, with_colons}
 use Rattle.pr_basic.specs.Faults.{IsFirstFault}
-use Rattle.pr_basic.specs.FaultsAlone.{AreLinesFaultAlone, ArePartsFaultAlone, GoesTooFarAlone, IsFaultOutsideListsAlone, IsFirstFaultAlone, IsItemFaultAlone, IsLineFaultAlone, IsListFaultAlone, IsPartFaultAlone, IsStatementFaultAlone}
+use Rattle.pr_basic.specs.FaultsAlone.{ArePartsFaultAlone, GoesTooFarAlone, IsFaultOutsideListsAlone, IsFirstFaultAlone, IsItemFaultAlone, IsLineFaultAlone, IsPartFaultAlone, IsStatementFaultAlone}
 use Rattle.pr_basic.specs.FaultLaws.{PlacesChangeNoFault}
 use Rattle.pr_basic.specs.ReadingScripts.{Passed, column_of}
 use Rattle.pr_text.specs.Digits.{number_of}
-use Rattle.pr_text.specs.Lines.{lines_of}
 use Rattle.pr_basic.specs.declared.lexemes.Keyword.TheVariants as word
 use Rattle.pr_basic.specs.declared.fault.LineFault.{LineFault}
-use Rattle.pr_basic.specs.declared.fault.LineFault.TheVariants.{UnknownWord, BadNumber, BadDevice, BadSecond, BadByte, TooLong, TooMany}
+use Rattle.pr_basic.specs.declared.fault.LineFault.TheVariants.{UnknownWord, BadNumber, BadDevice, BadSecond, BadByte, TooLong}
 use Rattle.pr_basic.specs.declared.fault.ScriptFault.{ScriptFault}
 use Rattle.pr_basic.proofs.LexemesAgree.{lexemes_found}
 use Rattle.pr_basic.proofs.ScriptFaults.{line_placed}

@@ -1,22 +1,19 @@
 -- The line of a place, the number of a line and the lexeme at the front of bytes.
-use Rattle.std.proofs.Common.{◌≡◌, ℕ, zero, suc, ◌+◌, ◌-◌, ◌<◌, ◌≤◌, List, [], ◌∷◌, ◌++◌, length, take, drop, min, refl, ap, Bor, subst, sym, ◌∙◌, arith, Bool, true, false, append_assoc, append-nil, get_or, length-append, ◌⊎◌, inl, inr}
+use Rattle.std.proofs.Common.{◌≡◌, ℕ, suc, ◌+◌, ◌-◌, ◌<◌, ◌≤◌, List, [], ◌∷◌, ◌++◌, length, take, drop, min, refl, ap, Bor, subst, sym, ◌∙◌, arith, false, append_assoc, append-nil, get_or, length-append, ◌⊎◌, inl, inr}
 use Rattle.std.proofs.lemmas.List.{take-append-drop}
 use Rattle.pr_text.specs.Digits.{number_of}
 use Rattle.pr_text.specs.Lines.{lines_of}
 use Rattle.pr_basic.specs.Grammar.{without_return}
-use Rattle.pr_basic.specs.Lexemes.{AreLexemes, Digits, IsLexeme, Lexeme, NoSpace, is_space}
-use Rattle.pr_basic.specs.Lexing.{Front, front, lexemes_of}
-use Rattle.pr_basic.specs.FaultPlaces.{IsFirstFaultAt, IsLineFault, at_number, size_of}
+use Rattle.pr_basic.specs.Lexemes.{Digits, Lexeme, NoSpace, is_space}
+use Rattle.pr_basic.specs.Lexing.{front, lexemes_of}
+use Rattle.pr_basic.specs.FaultPlaces.{at_number, size_of}
 use Rattle.pr_basic.specs.Seen.{seen}
 use Rattle.pr_basic.specs.declared.lexemes.Lexeme as code
 use Rattle.pr_basic.specs.declared.lexemes.Lexeme.TheVariants as the
 use Rattle.pr_basic.specs.FaultLaws.{FaultsTellTheirLine, PlacesHaveOneLine}
 use Rattle.pr_basic.specs.LineAt.{HasBasicNumber, IsLexemeAt, IsLineAt}
-use Rattle.pr_basic.specs.declared.fault.LineFault.{LineFault}
-use Rattle.pr_basic.specs.declared.fault.ScriptFault.{ScriptFault}
 use Rattle.pr_basic.proofs.LexemesAgree.{front_lexeme, lexeme_front, lexemes_found, lexemes_spelled}
 use Rattle.pr_basic.proofs.LineLaws.{return_within}
-use Rattle.pr_basic.proofs.PlacesFound.{begins_past}
 use Rattle.pr_basic.proofs.ScriptFaults.{column_within}
 
 -- the size of lines and more lines

@@ -1,5 +1,5 @@
 -- What is left of a line after some of its lexemes.
-use Rattle.std.proofs.Common.{◌≡◌, ℕ, zero, suc, ◌+◌, ◌-◌, ◌<◌, ◌≤◌, List, [], ◌∷◌, ◌++◌, length, take, drop, refl, ap, Result, Ok, Err, Bor, subst, sym, ◌∙◌, arith, Bool, true, false, append_assoc, append-nil, length-append, length-drop, get_or, drop-cons}
+use Rattle.std.proofs.Common.{◌≡◌, ℕ, zero, suc, ◌+◌, ◌-◌, ◌<◌, ◌≤◌, List, [], ◌∷◌, ◌++◌, length, drop, refl, ap, Result, Ok, Err, Bor, sym, ◌∙◌, arith, true, false, append_assoc, append-nil, length-append, get_or, drop-cons}
 use Rattle.std.proofs.lemmas.List.{drop_all}
 use Rattle.pr_basic.specs.Lexemes.{Lexeme, is_space}
 use Rattle.pr_basic.specs.Reads.{ReadsOn}

@@ -1,14 +1,14 @@
 -- What is left of a line after some of its lexemes, as the definition of places has it.
-use Rattle.std.proofs.Common.{◌≡◌, ℕ, zero, suc, ◌+◌, ◌-◌, ◌<◌, ◌≤◌, List, [], ◌∷◌, ◌++◌, length, take, drop, refl, ap, subst, sym, ◌∙◌, arith, Bool, true, false, append_assoc, append-nil, length-append, length-drop, ◌⊎◌, inl, inr}
+use Rattle.std.proofs.Common.{◌≡◌, ℕ, zero, suc, ◌+◌, ◌-◌, ◌≤◌, List, [], ◌∷◌, ◌++◌, length, take, drop, refl, ap, subst, sym, ◌∙◌, arith, Bool, true, false, length-append, length-drop, inl, inr}
 use Rattle.std.specs.List.{list_all}
 use Rattle.std.proofs.lemmas.Grind.{common_steps}
 use Rattle.std.proofs.lemmas.List.{take-append-drop}
 use Rattle.std.proofs.Math.Seq.{drop-append_seam}
-use Rattle.pr_basic.specs.Lexemes.{AreLexemes, IsLexeme, Lexeme, NoSpace, Quoted, Stray, is_space}
+use Rattle.pr_basic.specs.Lexemes.{IsLexeme, Lexeme, NoSpace, Quoted, is_space}
 use Rattle.pr_basic.specs.Lexing.{Front, after_first, front, lexemes_after, lexemes_of, past, unspaced}
 use Rattle.pr_basic.specs.FaultPlaces.{BeginsWith}
 use Rattle.pr_basic.proofs.LexemeLaws.{first_lexeme}
-use Rattle.pr_basic.proofs.LexemesAgree.{front_lexeme, lexeme_front, lexemes_spelled, spaces_read}
+use Rattle.pr_basic.proofs.LexemesAgree.{front_lexeme, lexeme_front, spaces_read}
 use Rattle.pr_basic.proofs.Fronts.{front_spelled}
 
 -- spaces in front are passed over

@@ -19,9 +19,9 @@ use Rattle.pr_basic.specs.declared.statement.Statement.{Statement}
 use Rattle.pr_basic.proofs.LexemesAgree.{lexemes_found, lexemes_spelled}
 use Rattle.pr_basic.proofs.ListFaults.{bind_err, err_is}
 use Rattle.pr_basic.proofs.PlacesFound.{begins_past, past_begins, past_lexemes, past_within, string_left, unspaced_within}
-use Rattle.pr_basic.proofs.ScriptLaws.{Said, front_taken, no_part_counted, parts_first}
+use Rattle.pr_basic.proofs.ScriptLaws.{front_taken, no_part_counted, parts_first}
 use Rattle.pr_basic.proofs.ScriptsAgree.{counted_more, counted_none, counted_some, line_complete, line_sound, numbered_complete, numbered_sound}
-use Rattle.pr_basic.proofs.Spots.{EndsWith, Fits, IsSpot, part_spot}
+use Rattle.pr_basic.proofs.Spots.{Fits, part_spot}
 use Rattle.pr_basic.proofs.StatementFaults.{statement_fails}
 use Rattle.pr_basic.proofs.StatementFaultsRead.{statement_fault_read}
 use Rattle.pr_basic.proofs.StatementsAgree.{statement_complete, statement_sound}

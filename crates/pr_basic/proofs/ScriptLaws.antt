@@ -1,16 +1,16 @@
 -- Laws of lines read part by part, and of scripts read line by line.
-use Rattle.std.proofs.Common.{◌≡◌, ℕ, suc, ◌+◌, ◌-◌, ◌<◌, ◌≤◌, List, [], ◌∷◌, ◌++◌, length, take, refl, ap, subst, sym, ◌∙◌, arith, Bool, true, false, append_assoc, append-nil, Option, Some, None, IfSome, Result, Ok, Err, Bor, length-append, MatchOption, ◌⊎◌, inl, inr, ◌≢◌}
+use Rattle.std.proofs.Common.{◌≡◌, ℕ, suc, ◌+◌, ◌-◌, ◌<◌, ◌≤◌, List, [], ◌∷◌, ◌++◌, length, take, refl, ap, sym, ◌∙◌, arith, Bool, true, false, append_assoc, append-nil, Option, Some, None, IfSome, Result, Ok, Err, Bor, length-append, MatchOption, ◌⊎◌, inl, inr, ◌≢◌}
 use Rattle.std.proofs.lemmas.Grind.{common_steps}
 use Rattle.std.proofs.Math.Seq.{take-append_seam}
-use Rattle.pr_basic.specs.FaultRules.{Placed, start_of, within}
-use Rattle.pr_basic.specs.Grammar.{parts, without_return}
+use Rattle.pr_basic.specs.FaultRules.{start_of, within}
+use Rattle.pr_basic.specs.Grammar.{parts}
 use Rattle.pr_text.specs.Lines.{lines_of, onto_first}
 use Rattle.pr_basic.specs.Lexemes.{Colon, Lexeme, Remark, Word}
 use Rattle.pr_basic.specs.Lexing.{IsRest, after_part, here, later, lexemes_of, part_of, past, unspaced}
 use Rattle.pr_basic.specs.Limits.{statement_limit}
 use Rattle.pr_basic.specs.Reading.{statement_in, ◌>>=◌}
-use Rattle.pr_basic.specs.ReadingScripts.{Passed, Told, and_more, at_line, behind, column_of, counted, first_digits, in_line, in_part, is_begun, line_statements, lines_statements, numbered, room_after, statements_in, statements_of}
-use Rattle.pr_basic.specs.Reads.{FailsIn, StandsIn, UnlessMemory, still, with_front}
+use Rattle.pr_basic.specs.ReadingScripts.{Passed, Told, and_more, at_line, behind, counted, first_digits, in_line, in_part, is_begun, line_statements, lines_statements, numbered, room_after, statements_in, statements_of}
+use Rattle.pr_basic.specs.Reads.{StandsIn, UnlessMemory, still, with_front}
 use Rattle.pr_basic.specs.declared.fault.LineFault.{LineFault}
 use Rattle.pr_basic.specs.declared.fault.LineFault.TheVariants as line
 use Rattle.pr_basic.specs.declared.statement.Statement.{Statement}

@@ -10,13 +10,13 @@ use Rattle.pr_basic.specs.Grammar.{AreLines, AreParts, HasNumber, IsLine, IsScri
 use Rattle.pr_text.specs.Digits.{number_of}
 use Rattle.pr_text.specs.Lines.{lines_of}
 use Rattle.pr_basic.specs.Reading.{statement_in, ◌>>=◌}
-use Rattle.pr_basic.specs.ReadingScripts.{and_more, at_line, counted, is_begun, in_line, in_part, behind, line_statements, lines_statements, numbered, room_after, script_of, statements_in, statements_of, Passed, Told}
+use Rattle.pr_basic.specs.ReadingScripts.{and_more, at_line, counted, is_begun, in_line, in_part, behind, line_statements, lines_statements, numbered, room_after, script_of, statements_in, statements_of, Passed}
 use Rattle.pr_basic.specs.declared.fault.LineFault.{LineFault}
 use Rattle.pr_basic.specs.declared.fault.LineFault.TheVariants.{BadNumber, TooMany}
 use Rattle.pr_basic.specs.declared.statement.Statement.{Statement}
 use Rattle.pr_basic.proofs.LexemesAgree.{lexemes_found, lexemes_spelled}
 use Rattle.pr_basic.proofs.ListsAgree.{bind_ok}
-use Rattle.pr_basic.proofs.ScriptLaws.{no_part_counted, no_room, none_more}
+use Rattle.pr_basic.proofs.ScriptLaws.{no_part_counted, no_room}
 use Rattle.pr_basic.proofs.StatementsAgree.{no_statement, statement_complete, statement_sound}
 
 -- where there is room, a part is read as it stands

@@ -1,12 +1,12 @@
 -- The places of faults in a part.
-use Rattle.std.proofs.Common.{◌≡◌, ℕ, suc, ◌+◌, ◌≤◌, List, [], ◌∷◌, ◌++◌, length, refl, ap, subst, sym, ◌∙◌, arith, append_assoc, length-append, ◌⊎◌, inl, inr}
-use Rattle.pr_basic.specs.Lexemes.{Lexeme, Word, Digits, Quoted, Comma, OpenParen, CloseParen}
+use Rattle.std.proofs.Common.{◌≡◌, ℕ, suc, ◌+◌, ◌≤◌, List, [], ◌∷◌, ◌++◌, length, refl, ap, sym, ◌∙◌, arith, append_assoc, length-append, ◌⊎◌, inl, inr}
+use Rattle.pr_basic.specs.Lexemes.{Lexeme, Word, Digits, Quoted, Comma, OpenParen}
 use Rattle.pr_basic.specs.Grammar.{items_lexemes}
 use Rattle.pr_basic.specs.FaultRules.{AfterDevice, AfterFile, AfterSecond, GoesTooFar, HasList, IsFaultOutsideLists, IsItemFault, IsListFault, IsPartFault, IsStatementFault, Placed, Spot, start_of, within}
 use Rattle.pr_basic.specs.declared.lexemes.Keyword.{Keyword}
 use Rattle.pr_basic.specs.declared.lexemes.Keyword.TheVariants as word
 use Rattle.pr_basic.specs.declared.fault.LineFault.{LineFault}
-use Rattle.pr_basic.specs.declared.fault.LineFault.TheVariants.{UnknownWord, BadNumber, BadDevice, BadSecond, BadByte, TooLong, TooMany, NoMemory}
+use Rattle.pr_basic.specs.declared.fault.LineFault.TheVariants.{UnknownWord, BadNumber, BadDevice, BadSecond, BadByte, TooLong}
 
 -- lexemes are the last ones of a part
 pub record EndsWith (part next : List Lexeme) : Type 0 where

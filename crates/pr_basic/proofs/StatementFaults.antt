@@ -1,5 +1,5 @@
 -- The faults of statements that are read are those of the table.
-use Rattle.std.proofs.Common.{◌≡◌, ℕ, ◌≤◌, List, [], ◌∷◌, refl, ap, subst, sym, ◌∙◌, arith, Bool, true, false, Option, Some, Result, Ok, Err, inl, inr, ◌&&◌}
+use Rattle.std.proofs.Common.{◌≡◌, ℕ, ◌≤◌, List, [], ◌∷◌, refl, ap, subst, ◌∙◌, arith, Bool, true, false, Option, Some, Result, Ok, Err, inl, inr, ◌&&◌}
 use Rattle.std.specs.Prelude.{nat_le}
 use Rattle.std.proofs.lemmas.Grind.{common_steps}
 use Rattle.pr_basic.specs.Lexemes.{Lexeme, Word, Remark, Digits, Comma}

@@ -1,5 +1,5 @@
 -- Trusted: where the first fault of a script stands: how many bytes of the text stand before it.
-use Rattle.std.specs.Prelude.{◌≡◌, ℕ, suc, ◌+◌, ◌-◌, ◌≤◌, ◌<◌, ◌⊎◌, Bool, true, false, List, [], ◌∷◌, ◌++◌, length}
+use Rattle.std.specs.Prelude.{◌≡◌, ℕ, suc, ◌+◌, ◌-◌, ◌≤◌, ◌<◌, ◌⊎◌, true, List, [], ◌∷◌, ◌++◌, length}
 use Rattle.std.specs.List.{list_all}
 use Rattle.pr_basic.specs.Limits.{statement_limit}
 use Rattle.pr_basic.specs.Lexemes.{AreLexemes, IsLexeme, Lexeme, Digits, Colon, NoSpace, is_space}
@@ -36,7 +36,8 @@ pub record ArePartsFault (room : ℕ) (f : LineFault) (done : List Lexeme) (insi
 -- the first fault of a line's lexemes: a line number above 63999, which stands first, or a fault after the line's number, if there is one
 abbrev pub IsFaultOfLexemes : ℕ → LineFault → List Lexeme → ℕ → List Lexeme → Type 0
 IsFaultOfLexemes room f done inside lexemes =
-    ((f ≡ BadNumber) × (ds : List ℕ) × (rest : List Lexeme) × (lexemes ≡ Digits ds ∷ rest) × (63999 < number_of ds) × (done ≡ []) × (inside ≡ 0))
+    ((f ≡ BadNumber) × (ds : List ℕ) × (rest : List Lexeme) × (lexemes ≡ Digits ds ∷ rest) × (63999 < number_of ds)
+    × (done ≡ []) × (inside ≡ 0))
     ⊎ ((rest : List Lexeme) × (number : List Lexeme) × (front : List Lexeme) × HasNumber lexemes rest × (lexemes ≡ number ++ rest)
     × ArePartsFault room f front inside (parts rest) × (done ≡ number ++ front))
 

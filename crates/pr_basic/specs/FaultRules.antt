@@ -118,13 +118,17 @@ IsItemFault (UnknownWord, at) n next =
 IsItemFault (BadNumber, at) n next = (rest : List Lexeme) × (next ≡ Word word.Chr ∷ OpenParen ∷ rest)
     × ((ds : List ℕ) → Lacks (Digits ds) rest) × (at ≡ start_of rest)
 -- a byte outside 32 to 126 in a string, after at most 255 bytes: that byte, behind the quote; a CHR$ of more than 255: its digits
-IsItemFault (BadByte, at) n next = ((good : List ℕ) × (b : ℕ) × (more : List ℕ) × (rest : List Lexeme) × (next ≡ Quoted (good ++ b ∷ more) ∷ rest)
-    × (list_all is_printable good ≡ true) × (is_printable b ≡ false) × (n + length good ≤ byte_limit) × (at ≡ within next (1 + length good)))
+IsItemFault (BadByte, at) n next = ((good : List ℕ) × (b : ℕ) × (more : List ℕ) × (rest : List Lexeme)
+    × (next ≡ Quoted (good ++ b ∷ more) ∷ rest)
+    × (list_all is_printable good ≡ true) × (is_printable b ≡ false) × (n + length good ≤ byte_limit)
+    × (at ≡ within next (1 + length good)))
     ⊎ ((ds : List ℕ) × (rest : List Lexeme) × (next ≡ Word word.Chr ∷ OpenParen ∷ Digits ds ∷ rest) × (255 < number_of ds)
     × (at ≡ start_of (Digits ds ∷ rest)))
 -- the 256th byte: one of a string that may stand there: that byte, behind the quote; or that of a whole CHR$: there
-IsItemFault (TooLong, at) n next = ((good : List ℕ) × (b : ℕ) × (more : List ℕ) × (rest : List Lexeme) × (next ≡ Quoted (good ++ b ∷ more) ∷ rest)
-    × (list_all is_printable good ≡ true) × (is_printable b ≡ true) × (n + length good ≡ byte_limit) × (at ≡ within next (1 + length good)))
+IsItemFault (TooLong, at) n next = ((good : List ℕ) × (b : ℕ) × (more : List ℕ) × (rest : List Lexeme)
+    × (next ≡ Quoted (good ++ b ∷ more) ∷ rest)
+    × (list_all is_printable good ≡ true) × (is_printable b ≡ true) × (n + length good ≡ byte_limit)
+    × (at ≡ within next (1 + length good)))
     ⊎ ((ds : List ℕ) × (rest : List Lexeme) × (next ≡ Word word.Chr ∷ OpenParen ∷ Digits ds ∷ CloseParen ∷ rest)
     × (number_of ds ≤ 255) × (n ≡ byte_limit) × (at ≡ start_of next))
 IsItemFault f n next = ⊥

@@ -6,7 +6,6 @@ use Rattle.pr_basic.specs.Lexemes.{Lexeme}
 use Rattle.pr_basic.specs.Lexing.{IsRest, here, later, lexemes_of, past}
 use Rattle.pr_basic.specs.Grammar.{parts}
 use Rattle.pr_basic.specs.FaultRules.{Placed, within}
-use Rattle.pr_basic.specs.FaultPlaces.{at_number}
 use Rattle.pr_basic.specs.Reading.{line_in}
 use Rattle.pr_basic.specs.ReadingScripts.{Passed, Told, statements_in}
 use Rattle.pr_basic.specs.declared.statement.Statement.{Statement}

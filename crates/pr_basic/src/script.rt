@@ -138,7 +138,8 @@ fn read_part<'a>(
         (statements_in (statement_limit - length statements.old.items) (parts (lexemes_of bytes.entry.now)))
         ≡ with_front statements.new.items
         (behind (here bytes.entry.now ++ Colon ∷ []) (still (statement_limit - length statements.new.items) rest)))
-        (λ e. FailsIn e bytes.entry.now (statements_in (statement_limit - length statements.old.items) (parts (lexemes_of bytes.entry.now)))) }
+        (λ e. FailsIn e bytes.entry.now
+        (statements_in (statement_limit - length statements.old.items) (parts (lexemes_of bytes.entry.now)))) }
     ensures few { OnOk result (length statements.new.items ≤ statement_limit) }
     ensures less { IfOk result (λ rest. IfSome rest (λ r. length r.now < length bytes.entry.now)) }
     ensures left { IfOk result (λ rest. IfSome rest (λ r. r.now ≡ past (suc (length (here bytes.entry.now))) bytes.entry.now)) }

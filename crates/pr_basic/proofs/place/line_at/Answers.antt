@@ -1,5 +1,5 @@
-use Rattle.std.proofs.Common.{◌≡◌, ◌<◌, ◌≤◌, ◌+◌, ◌-◌, arith, length, rules}
-use Rattle.pr_basic.proofs.LinesAt.{line_found, no_line_found, none_before, one_before}
+use Rattle.std.proofs.Common.{◌<◌, ◌-◌, arith, length}
+use Rattle.pr_basic.proofs.LinesAt.{no_line_found, none_before, one_before}
 use Rattle.pr_basic.proofs.place.line_at.Goals as goal
 
 pub loop-rest-init : goal.loop-rest-init

@@ -1,4 +1,4 @@
-use Rattle.std.proofs.Common.{arith, ap, length, ◌≤◌, ◌-◌}
+use Rattle.std.proofs.Common.{arith, ap, length, ◌-◌}
 use Rattle.pr_basic.proofs.LineLaws.{return_within}
 use Rattle.pr_basic.proofs.script.read_line.Goals as goal
 

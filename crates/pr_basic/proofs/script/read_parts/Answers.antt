@@ -1,6 +1,6 @@
 use Rattle.std.proofs.lemmas.Result.{err_from_is_err_and}
-use Rattle.std.proofs.Common.{arith, refl, rules, ap, ◌≡◌}
-use Rattle.pr_basic.proofs.ScriptLaws.{line_fails, number_fails, read_begins, read_on}
+use Rattle.std.proofs.Common.{refl}
+use Rattle.pr_basic.proofs.ScriptLaws.{line_fails, number_fails, read_on}
 use Rattle.pr_basic.proofs.script.read_parts.Goals as goal
 
 pub returns-in_err-rest-clause-reads : goal.returns-in_err-rest-clause-reads

@@ -1,4 +1,4 @@
-use Rattle.std.proofs.Common.{◌≡◌, ◌≤◌, ap, ◌∙◌, arith, refl, length, ◌-◌, ◌+◌, suc}
+use Rattle.std.proofs.Common.{◌≡◌, ◌≤◌, ap, ◌∙◌, arith, refl, length, ◌-◌, ◌+◌}
 use Rattle.pr_basic.specs.Limits.{statement_limit}
 use Rattle.pr_basic.specs.ReadingScripts.{lines_statements}
 use Rattle.pr_basic.specs.Reads.{with_front}
