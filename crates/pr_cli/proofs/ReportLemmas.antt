@@ -1,14 +1,18 @@
 -- An input that is reported block by block.
 use Rattle.std.proofs.Common.{◌≡◌, ◌⊎◌, ◌≤◌, ℕ, ◌+◌, ◌-◌, List, [], ◌++◌, length, take, drop, refl, ap, sym, subst, ◌∙◌, arith, append-nil, append_assoc, length-append, take-append-drop, inl, inr, Option, Some, None, Result, Ok, Err}
-use Rattle.std.specs.Prelude.{IfErr, IfOk, IfSome}
+use Rattle.std.specs.Prelude.{IfErr, IfOk, IfSome, IsErrAnd}
 use Rattle.std.specs.Option.{option_to_list}
-use Rattle.std.specs.Io.KnownBytes.{Consumes, IsAtEnd}
-use Rattle.std.proofs.KnownBytes.{Consumes-nil, Consumes-trans}
+use Rattle.std.specs.Io.KnownBytes.{Appends, Consumes, IsAtEnd}
+use Rattle.std.proofs.KnownBytes.{Appends-nil, Consumes-nil, Consumes-trans}
 use Rattle.pr_wire.specs.declared.Edge.{Edge}
+use Rattle.pr_wire.specs.declared.WaveFault.{WaveFault}
+use Rattle.pr_wire.specs.Table.{fault_of}
 use Rattle.pr_options.specs.declared.format.Report.{Report}
+use Rattle.pr_options.specs.declared.format.Report.TheVariants as report
 use Rattle.pr_options.specs.declared.format.TraceInput.{TraceInput}
-use Rattle.pr_cli.specs.Report.{SaysSamples}
-use Rattle.pr_cli.specs.Reported.{EndsInput, EndsSamples, GivesMore, GivesReport, HasGiven, HasHeard, HasNoted, HearsMore, EndsNoted, IsOwnFault, IsRefused, IsReportOf, IsTraceFault, IsWhole, NotesBlock, RefusesInput}
+use Rattle.pr_cli.specs.Check.{trace_limit}
+use Rattle.pr_cli.specs.Report.{edges_made, refusal, AnswersReport, IsReport, Reports, SaysSamples, WritesReport}
+use Rattle.pr_cli.specs.Reported.{AreLines, EndsInput, EndsNoted, EndsSamples, GivesMore, GivesReport, HasGiven, HasHeard, HasNoted, HearsMore, IsOwnFault, IsRefused, IsReportOf, IsTraceFault, IsWhole, NotesBlock, RefusesInput, WritesText}
 use Rattle.pr_cli.specs.declared.reporter.ReportText.{ReportText}
 use Rattle.pr_cli.specs.declared.reporter.TraceReporter.{TraceReporter}
 use Rattle.pr_cli.specs.declared.source_reader.SourceReader.{SourceReader}
@@ -183,3 +187,99 @@ not_whole (Some g) f e o w = by g (let same : f ≡ g = cc in let P : CliFault �
     by NoMemory o w = w
     by ReadFailed o w = w
     by WriteFailed o w = w
+
+-- what holds of known bytes
+pub if_known : (known : Option (List ℕ)) (P Q : List ℕ → Type 0) → IfSome known P → ((text : List ℕ) → P text → Q text) → IfSome known Q
+if_known None P Q h f = tt
+if_known (Some text) P Q h f = f text h
+
+-- an input that is not refused by itself is short
+short_is : (limit : ℕ) (input : TraceInput) (r : Report) (text : List ℕ) (t : ReportText) → IsReportOf limit input r text t → IsWhole t.refused → length text ≤ limit
+short_is limit input r text t h w = h.short (by h.own h.is_own (sym h.ends.is_refused) w)
+  where
+    by : (own : Option CliFault) → IfSome own IsOwnFault → refusal own (fault_of (edges_made input.source input.start h.samples)) ≡ t.refused → IsWhole t.refused → own ≡ None
+    by None o e w = refl
+    by (Some f) o e w = absurd (not_whole t.refused f (sym e) o w)
+
+-- the report that its lines are
+reports : (limit : ℕ) (input : TraceInput) (r : Report) (text : List ℕ) (t : ReportText) → (r ≡ report.Frames → t.refused ≡ None) → IsReportOf limit input r text t
+    → Reports input r text t.refused t.lines.items
+reports limit input r text t told h = record {
+  edges = edges_made input.source input.start h.samples;
+  fault = h.own;
+  says = record { samples = h.samples; are_samples = h.says; are_edges = refl };
+  is_refused = h.ends.is_refused;
+  is_report = by r t.refused told h.ends.are_lines;
+}
+  where
+    by : (r : Report) (v : Option CliFault) → (r ≡ report.Frames → v ≡ None) → AreLines r (edges_made input.source input.start h.samples) v t.lines.items
+        → IsReport r (edges_made input.source input.start h.samples) v t.lines.items
+    by report.Frames None n l = l
+    by report.Frames (Some f) n l = absurd (let k : Some f ≡ None = n refl in cc)
+    by report.Story None n l = l
+    by report.Story (Some f) n l = l
+
+-- no report of frames is one of a trace that is refused
+withheld : (limit : ℕ) (input : TraceInput) (text : List ℕ) (t : ReportText) (f : CliFault) → t.refused ≡ Some f → IsReportOf limit input report.Frames text t
+    → Reports input report.Frames text (Some f) []
+withheld limit input text t f e h = record {
+  edges = edges_made input.source input.start h.samples;
+  fault = h.own;
+  says = record { samples = h.samples; are_samples = h.says; are_edges = refl };
+  is_refused = sym e ∙ h.ends.is_refused;
+  is_report = refl;
+}
+
+-- the answer where nothing is written
+pub frames_refused : (input : TraceInput) (r : Report) (text : List ℕ) (t : ReportText) (f : CliFault) (a : Option (List ℕ)) → r ≡ report.Frames → t.refused ≡ Some f → IsRefused t
+    → IsReportOf trace_limit input r text t → AnswersReport input r text a a (Err f)
+frames_refused input r text t f a frames e refused h =
+    let k : IsReportOf trace_limit input report.Frames text t = rw frames at h in
+    let o : IsTraceFault f = let P : Option CliFault → Type 0 = λ v. IfSome v IsTraceFault in subst P e refused in
+    let w : WritesReport input report.Frames text (Some f) a a = ([], withheld trace_limit input text t f e k, Appends-nil a) in
+    let P : Report → Type 0 = λ x. AnswersReport input x text a a (Err f) in
+    subst P (sym frames) (by f o w (λ x is. short_is trace_limit input report.Frames text t k (rw (e, is) tt)))
+  where
+    by : (f : CliFault) → IsTraceFault f → WritesReport input report.Frames text (Some f) a a → ((x : WaveFault) → f ≡ Wave x → length text ≤ trace_limit) → AnswersReport input report.Frames text a a (Err f)
+    by (Script x) o w s = absurd o
+    by (Trace x) o w s = w
+    by (Wave x) o w s = (s x refl, w)
+    by (Capture x) o w s = w
+    by TooLarge o w s = absurd o
+    by NoMemory o w s = absurd o
+    by ReadFailed o w s = absurd o
+    by WriteFailed o w s = absurd o
+
+-- the answer where the report is written
+pub report_written : (input : TraceInput) (r : Report) (text : List ℕ) (t : ReportText) (a b : Option (List ℕ)) (v : Result (Unit {0}) CliFault) → (r ≡ report.Frames → t.refused ≡ None) → IsRefused t
+    → IsReportOf trace_limit input r text t → WritesText t a b v → AnswersReport input r text a b v
+report_written input r text t a b v told refused h w = by v w
+  where
+    whole : Reports input r text t.refused t.lines.items
+    whole = reports trace_limit input r text t told h
+
+    refused_as : (u : Option CliFault) → t.refused ≡ u → Reports input r text u t.lines.items
+    refused_as u e = let P : Option CliFault → Type 0 = λ x. Reports input r text x t.lines.items in subst P e whole
+
+    own : (f : CliFault) → t.refused ≡ Some f → IsTraceFault f
+    own f e = let P : Option CliFault → Type 0 = λ x. IfSome x IsTraceFault in subst P e refused
+
+    short : (u : Option CliFault) → t.refused ≡ u → IsWhole u → length text ≤ trace_limit
+    short u e i = short_is trace_limit input r text t h (rw e i)
+
+    by : (v : Result (Unit {0}) CliFault) → WritesText t a b v → AnswersReport input r text a b v
+    by (Ok x) w = (short None w.0 tt, (t.lines.items, refused_as None w.0, w.1))
+    by (Err (Script x)) w = absurd (own (Script x) w.0)
+    by (Err (Trace x)) w = (t.lines.items, refused_as (Some (Trace x)) w.0, w.1)
+    by (Err (Wave x)) w = (short (Some (Wave x)) w.0 tt, (t.lines.items, refused_as (Some (Wave x)) w.0, w.1))
+    by (Err (Capture x)) w = (t.lines.items, refused_as (Some (Capture x)) w.0, w.1)
+    by (Err TooLarge) w = absurd (own TooLarge w.0)
+    by (Err NoMemory) w = absurd (own NoMemory w.0)
+    by (Err ReadFailed) w = absurd (own ReadFailed w.0)
+    by (Err WriteFailed) w = (t.refused, t.lines.items, whole, w)
+
+-- the answer that a `?` hands on
+pub frames_refused_on : (input : TraceInput) (r : Report) (text : List ℕ) (t : ReportText) (f : CliFault) (v : Result (Unit {0}) CliFault) (a : Option (List ℕ)) → IsErrAnd v (λ x. x ≡ f)
+    → r ≡ report.Frames → t.refused ≡ Some f → IsRefused t → IsReportOf trace_limit input r text t → AnswersReport input r text a a v
+frames_refused_on input r text t f (Ok x) a is frames e refused h = absurd is
+frames_refused_on input r text t f (Err x) a is frames e refused h = let P : CliFault → Type 0 = λ g. AnswersReport input r text a a (Err g) in subst P (sym is) (frames_refused input r text t f a frames e refused h)

@@ -16,4 +16,4 @@ loop-rest-preserved c =
 
 pub returns-in-Err-clause-noted : goal.returns-in-Err-clause-noted
 returns-in-Err-clause-noted c =
-    front_faulty _ c.loop-rest.rest.now _ _ _ _ _ c.in-Err.fault c.in_ok-own_fault-in-Err.field-0 c.in_ok-own_fault-in-Err.ensures.same c.in_ok-own_fault-in-Err.ensures.own c.in-Err.ensures.refused c.loop-rest.invariant.noted
+    front_faulty _ c.loop-rest.rest.now _ _ c.take_front.new.self _ _ c.in-Err.fault c.in_ok-own_fault-in-Err.field-0 c.in_ok-own_fault-in-Err.ensures.same c.in_ok-own_fault-in-Err.ensures.own c.in-Err.ensures.refused c.loop-rest.invariant.noted
