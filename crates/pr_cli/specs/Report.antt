@@ -3,6 +3,7 @@ use Rattle.std.specs.Prelude.{◌≡◌, ℕ, ◌<◌, ◌≤◌, false, List, [
 use Rattle.std.specs.Io.KnownBytes.{Appends, IsAtEnd, Keeps}
 use Rattle.pr_wire.specs.declared.Edge.{Edge}
 use Rattle.pr_wire.specs.declared.Frame.{Frame}
+use Rattle.pr_wire.specs.declared.WaveFault.{WaveFault}
 use Rattle.pr_wire.specs.declared.WaveFault.TheVariants as wave
 use Rattle.pr_wire.specs.declared.text.TraceFault.TheVariants as trace
 use Rattle.pr_wire.specs.Pieces.{Spells}
@@ -53,10 +54,10 @@ pub record Says (input : TraceInput) (text : List ℕ) (edges : List Edge) (faul
 
 -- What is written.
 
--- why a trace is refused: the fault of its input, or else the first fault of its edges
-abbrev pub refusal : (fault : Option CliFault) → List Edge → Option CliFault
-refusal (Some fault) edges = Some fault
-refusal None edges = option_map (λ w. Wave w) (fault_of edges)
+-- why a trace is refused: the fault of its input, or else that of its edges
+abbrev pub refusal : (own : Option CliFault) → (fault : Option WaveFault) → Option CliFault
+refusal (Some own) fault = Some own
+refusal None fault = option_map (λ w. Wave w) fault
 
 -- the report on edges that are refused so, or are not: of frames only where they are not, of a story as far as it goes
 abbrev pub IsReport : Report → List Edge → (refused : Option CliFault) → (text : List ℕ) → Type 0
@@ -70,7 +71,7 @@ pub record Reports (input : TraceInput) (r : Report) (text : List ℕ) (refused 
   pub edges : List Edge
   pub fault : Option CliFault
   pub says : Says input text edges fault
-  pub is_refused : refused ≡ refusal fault edges
+  pub is_refused : refused ≡ refusal fault (fault_of edges)
   pub is_report : IsReport r edges refused written
 
 -- the report was written, and the trace is refused so, or is not

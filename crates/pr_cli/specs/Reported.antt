@@ -1,7 +1,7 @@
 -- Linking words, for proofs: what a reader of a trace in any format has given, which lines were made of it, and what a part of `check` answers. No reader needs to believe them.
-use Rattle.std.specs.Prelude.{◌≡◌, ◌⊎◌, ℕ, ◌<◌, ◌≤◌, Bool, true, false, List, [], ◌∷◌, ◌++◌, flat_map, length, Option, Some, None, Result, Ok, Err, IfSome}
+use Rattle.std.specs.Prelude.{◌≡◌, ◌⊎◌, ℕ, ◌<◌, ◌≤◌, Bool, true, false, List, [], ◌∷◌, ◌++◌, codes, flat_map, length, Option, Some, None, Result, Ok, Err, IfSome}
 use Rattle.std.specs.Option.{option_to_list}
-use Rattle.std.specs.Io.KnownBytes.{IsAtEnd}
+use Rattle.std.specs.Io.KnownBytes.{Appends, IsAtEnd}
 use Rattle.pr_wire.specs.declared.Edge.{Edge}
 use Rattle.pr_wire.specs.declared.WaveFault.{WaveFault}
 use Rattle.pr_wire.specs.declared.WaveFault.TheVariants as wave
@@ -25,6 +25,7 @@ use Rattle.pr_options.specs.declared.format.Source.TheVariants as source
 use Rattle.pr_options.specs.declared.format.TraceInput.{TraceInput}
 use Rattle.pr_cli.specs.FrameText.{frame_line}
 use Rattle.pr_cli.specs.Report.{edges_made, refusal, IsReport, SaysSamples}
+use Rattle.pr_cli.specs.PartlyWritten.{AppendsFront}
 use Rattle.pr_cli.specs.declared.reporter.FrameReporter.{FrameReporter}
 use Rattle.pr_cli.specs.declared.reporter.ReportText.{ReportText}
 use Rattle.pr_cli.specs.declared.reporter.TraceReporter.{TraceReporter}
@@ -119,6 +120,7 @@ pub record HasReported (report : Report) (edges : List Edge) (r : FrameReporter)
   pub lines : r.lines.items ≡ lines_of_frames report given
   pub behind : r.behind_data ≡ data_behind false given
   pub told : TellsSoFar edges given r.teller r.fault
+  pub memory : r.fault ≡ Some wave.NoMemory → ⊥
 
 -- the lines of a frame were added
 pub record AddsLines (f : TimedFrame) (old new : FrameReporter) : Type 0 where
@@ -132,6 +134,20 @@ pub record AddsLines (f : TimedFrame) (old new : FrameReporter) : Type 0 where
 abbrev pub ReportsMore : (more : List Edge) → (old new : FrameReporter) → Type 0
 ReportsMore more old new = (report : Report) (edges : List Edge) → HasReported report edges old → HasReported report (edges ++ more) new
 
+-- the fault of the edges taken, if they have one; the frames are all of theirs
+pub record IsEdgeFault (edges : List Edge) (given : List TimedFrame) (fault : Option WaveFault) : Type 0 where
+  pub fault_is : fault ≡ fault_of edges
+  pub frames : timed_frames edges ≡ given
+  pub memory : fault ≡ Some wave.NoMemory → ⊥
+
+abbrev pub HasEnded : FrameReporter → Option WaveFault → Type 0
+HasEnded r fault = (report : Report) (edges : List Edge) → (h : HasReported report edges r) → IsEdgeFault edges h.given fault
+
+-- the last line of a report
+abbrev pub last_line : (refused : Option CliFault) → List ℕ
+last_line None = codes "lawful\n"
+last_line (Some fault) = []
+
 -- the lines for edges that are refused so, or are not
 abbrev pub AreLines : Report → List Edge → (refused : Option CliFault) → (lines : List ℕ) → Type 0
 AreLines report edges None lines = IsReport report edges None lines
@@ -139,8 +155,9 @@ AreLines report edges (Some fault) lines = lines ≡ lines_of_frames report (tim
 
 -- the lines for edges of an input with this fault, if it has one, and why they are refused, if they are
 pub record EndsReport (report : Report) (edges : List Edge) (own : Option CliFault) (t : ReportText) : Type 0 where
-  pub is_refused : t.refused ≡ refusal own edges
+  pub is_refused : t.refused ≡ refusal own (fault_of edges)
   pub are_lines : AreLines report edges t.refused t.lines.items
+  pub faults : IfSome own IsOwnFault → IfSome t.refused IsTraceFault
 
 -- Reports on samples.
 
@@ -149,6 +166,16 @@ abbrev pub HasMade : TraceInput → (samples edges : List Edge) → Option Gathe
 HasMade input samples edges None = (input.source ≡ source.Text) × (edges ≡ samples)
 HasMade input samples edges (Some g) =
     ((ss : List Edge) → edges_made input.source input.start ss ≡ edges_of input.start ss) × HasGathered input.start samples edges g
+
+-- with a sample more comes this edge, if any
+abbrev pub MakesMore : Edge → Option Gatherer → Option Edge → Option Gatherer → Type 0
+MakesMore sample old e new = (input : TraceInput) (samples edges : List Edge) → HasMade input samples edges old
+    → HasMade input (samples ++ sample ∷ []) (edges ++ option_to_list e) new
+
+-- and at the end of the samples
+abbrev pub MakesAll : Option Gatherer → Option Edge → Type 0
+MakesAll g e = (input : TraceInput) (samples edges : List Edge) → HasMade input samples edges g
+    → edges ++ option_to_list e ≡ edges_made input.source input.start samples
 
 -- the reporter has taken these samples
 pub record HasHeard (input : TraceInput) (report : Report) (samples : List Edge) (r : TraceReporter) : Type 0 where
@@ -191,6 +218,7 @@ pub record IsReportOf (limit : ℕ) (input : TraceInput) (report : Report) (text
   pub samples : List Edge
   pub own : Option CliFault
   pub says : SaysSamples input input.source text samples own
+  pub is_own : IfSome own IsOwnFault
   pub short : own ≡ None → length text ≤ limit
   pub ends : EndsReport report (edges_made input.source input.start samples) own t
 
@@ -227,3 +255,9 @@ abbrev pub EndsNoted : SourceReader → TraceReporter → Result ReportText CliF
 EndsNoted r n (Ok t) = (limit : ℕ) (input : TraceInput) (report : Report) (text : List ℕ) → length text ≤ limit → HasNoted input report text r n
     → IsReportOf limit input report text t
 EndsNoted r n (Err fault) = Unit {0}
+
+-- what the lines of a report come to that are written
+abbrev pub WritesText : ReportText → Option (List ℕ) → Option (List ℕ) → Result (Unit {0}) CliFault → Type 0
+WritesText t old new (Ok _) = (t.refused ≡ None) × Appends old new t.lines.items
+WritesText t old new (Err WriteFailed) = AppendsFront old new t.lines.items
+WritesText t old new (Err fault) = (t.refused ≡ Some fault) × Appends old new t.lines.items

@@ -1,11 +1,11 @@
 //! A trace in any format in, a report on its frames out.
 
-ghost use Rattle.std.specs.Prelude.{◌≡◌, ◌+◌, ◌^◌, ◌<◌, ◌≤◌, ◌↔◌, length, false, true, IfErr, IfOk, IfSome, IsErrOf, OnOk};
+ghost use Rattle.std.specs.Prelude.{◌≡◌, ◌≢◌, ◌+◌, ◌^◌, ◌<◌, ◌≤◌, ◌↔◌, length, false, true, None, Some, IfErr, IfOk, IfSome, IsErrOf, OnErr, OnOk};
 ghost use Rattle.std.specs.Option.{option_to_list};
 ghost use Rattle.pr_options.specs.declared.format.Report.{Report};
 ghost use Rattle.pr_cli.specs.Check.{trace_limit};
 ghost use Rattle.pr_cli.specs.Report.{AnswersReport, IsReportFault, ReadsAll, WritesNoReport};
-ghost use Rattle.pr_cli.specs.Reported.{EndsNoted, GivesReport, HasReadAll, HearsMore, IsNoReport, IsRefused, NotesBlock, edges_heard, lines_read};
+ghost use Rattle.pr_cli.specs.Reported.{EndsNoted, GivesReport, HasReadAll, HearsMore, IsNoReport, IsRefused, NotesBlock, WritesText, edges_heard, lines_read};
 ghost use Rattle.pr_cli.specs.Watched.{has_failed, wrapped};
 
 use crate::check::CHECK_LIMIT;
@@ -59,11 +59,30 @@ pub fn check_as_over<R: Read, W: Write>(
     ensures write_failed { IsErrOf result CliFault.WriteFailed ↔ (has_failed output.new ≡ true) }
 {
     let text = report_input(alloc, input, trace, report, CHECK_LIMIT)?;
-    if report == Report::Frames {
-        if let Some(fault) = text.refused {
-            return Err(fault);
-        }
+    let text = unless_withheld(report, text)?;
+    write_report(output, text)
+}
+
+/// The report, but of frames where the trace is refused: then nothing is written.
+fn unless_withheld(report: Report, text: ReportText) -> Result<ReportText, CliFault>
+    ensures same { IfOk result (λ t. t ≡ text) }
+    ensures told { OnOk result (report ≡ Report.Frames → text.refused ≡ None) }
+    ensures frames { OnErr result (report ≡ Report.Frames) }
+    ensures refused { IfErr result (λ fault. text.refused ≡ Some fault) }
+{
+    match (report, text.refused) {
+        (Report::Frames, Some(fault)) => Err(fault),
+        _ => Ok(text),
     }
+}
+
+/// Writes the lines of a report, and answers why the trace is refused, if it is.
+fn write_report<W: Write>(output: &mut Watched<W>, text: ReportText) -> Result<(), CliFault>
+    requires fresh { has_failed output.old ≡ false }
+    requires refused { IsRefused text }
+    ensures written { WritesText text (W.contents (wrapped output.old)) (W.contents (wrapped output.new)) result }
+    ensures failed { IsErrOf result CliFault.WriteFailed ↔ (has_failed output.new ≡ true) }
+{
     match write_whole(output, text.lines.as_slice()) {
         Ok(()) => {}
         Err(WriteFault) => return Err(CliFault::WriteFailed),
@@ -121,7 +140,7 @@ fn report_block(
     requires lines { lines_read reader.old + length block.now + 1 < 2 ^ 64 }
     requires edges { edges_heard reporter.old + length block.now + 1 < 2 ^ 64 }
     ensures noted { IfOk result (λ fault. NotesBlock block.now reader.old reporter.old fault reader.new reporter.new) }
-    ensures lines { OnOk result (lines_read reader.new ≤ lines_read reader.old + length block.now) }
+    ensures lines { IfOk result (λ fault. fault ≡ None → lines_read reader.new ≤ lines_read reader.old + length block.now) }
     ensures edges { OnOk result (edges_heard reporter.new ≤ edges_heard reporter.old + length block.now) }
 {
     let mut rest = block;
@@ -131,11 +150,21 @@ fn report_block(
                 report_if_some(reporter, sample)?;
                 rest = &rest[len..];
             }
-            Err(CliFault::NoMemory) => return Err(AllocError),
-            Err(fault) => return Ok(Some(fault)),
+            Err(fault) => return Ok(Some(own_fault(fault)?)),
         }
     }
     Ok(None)
+}
+
+/// A fault of an input, where it is no want of memory.
+fn own_fault(fault: CliFault) -> Result<CliFault, AllocError>
+    ensures same { IfOk result (λ own. own ≡ fault) }
+    ensures own { OnOk result (fault ≢ CliFault.NoMemory) }
+{
+    match fault {
+        CliFault::NoMemory => Err(AllocError),
+        own => Ok(own),
+    }
 }
 
 /// Reports on a sample, if there is one.
@@ -157,8 +186,7 @@ fn last_report(
 ) -> Result<ReportText, CliFault>
     requires lines { lines_read reader + 1 < 2 ^ 64 }
     requires edges { edges_heard reporter + 2 < 2 ^ 64 }
-    ensures report { EndsNoted reader.entry reporter.entry result }
-    ensures refused { IfOk result IsRefused }
+    ensures report { EndsNoted reader.entry reporter result }
     ensures own { IfErr result (λ fault. fault ≡ CliFault.NoMemory) }
 {
     match reader.finish() {
@@ -166,7 +194,12 @@ fn last_report(
             report_if_some(&mut reporter, sample)?;
             Ok(reporter.finish(None)?)
         }
-        Err(CliFault::NoMemory) => Err(CliFault::NoMemory),
-        Err(fault) => Ok(reporter.finish(Some(fault))?),
+        Err(fault) => {
+            let own = own_fault(fault)?;
+            Ok(reporter.finish(Some(own))?)
+        }
     }
 }
+
+#[cfg(test)]
+mod tests;

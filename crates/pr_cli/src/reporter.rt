@@ -1,10 +1,11 @@
 //! The lines of a report on edges or samples that come one by one.
 
-ghost use Rattle.std.specs.Prelude.{◌≡◌, ◌≢◌, ◌+◌, ◌^◌, ◌<◌, ◌≤◌, ◌∷◌, [], List, IfOk, IfSome, OnOk};
+ghost use Rattle.std.specs.Prelude.{◌≡◌, ◌+◌, ◌^◌, ◌<◌, ◌≤◌, ◌∷◌, ◌++◌, [], List, IfOk, OnOk};
+ghost use Rattle.std.specs.Option.{option_to_list};
 ghost use Rattle.pr_wire.specs.declared.Edge.{Edge};
-ghost use Rattle.pr_wire.specs.Table.{fault_of};
 ghost use Rattle.pr_options.specs.declared.format.Report.{Report};
-ghost use Rattle.pr_cli.specs.Reported.{AddsLines, EndsReport, EndsSamples, HasHeard, HasReported, HearsMore, ReportsMore, edges_heard, edges_taken};
+ghost use Rattle.pr_cli.specs.Report.{refusal};
+ghost use Rattle.pr_cli.specs.Reported.{AddsLines, EndsReport, EndsSamples, HasEnded, HasHeard, HasReported, HearsMore, MakesAll, MakesMore, ReportsMore, edges_heard, edges_taken, last_line};
 
 use crate::fault::CliFault;
 use crate::frame_text::push_frame;
@@ -79,10 +80,21 @@ impl FrameReporter {
         }
     }
 
+    /// Takes the next edge, if there is one.
+    fn take_if(&mut self, edge: Option<Edge>) -> Result<(), AllocError>
+        requires few { edges_taken self.old + 1 < 2 ^ 64 }
+        ensures reported { OnOk result (ReportsMore (option_to_list edge) self.old self.new) }
+        ensures count { OnOk result (edges_taken self.new ≤ edges_taken self.old + 1) }
+    {
+        match edge {
+            Some(edge) => self.take(edge),
+            None => Ok(()),
+        }
+    }
+
     /// Why the edges are no lawful trace, if they are none.
     fn edge_fault(&self) -> Option<WaveFault>
-        ensures fault { (report : Report) (edges : List Edge) → HasReported report edges self.now → result ≡ fault_of edges }
-        ensures memory { IfSome result (λ fault. fault ≢ WaveFault.NoMemory) }
+        ensures { HasEnded self.now result }
     {
         match self.fault {
             Some(fault) => Some(fault),
@@ -92,20 +104,55 @@ impl FrameReporter {
 
     /// Ends the edges of an input with this fault, if it has one: where nothing is refused, `lawful`
     /// stands behind the lines of their frames.
-    pub fn finish(self, own: Option<CliFault>) -> Result<ReportText, AllocError>
+    fn finish(self, own: Option<CliFault>) -> Result<ReportText, AllocError>
         ensures { IfOk result (λ text. (report : Report) (edges : List Edge) → HasReported report edges self → EndsReport report edges own text) }
     {
         frames_are_told();
         lawful_traces();
-        let refused = match own {
-            Some(fault) => Some(fault),
-            None => self.edge_fault().map(CliFault::Wave),
-        };
-        let mut lines = self.lines;
-        if refused.is_none() {
-            lines.extend_from_slice(b"lawful\n")?;
-        }
+        let refused = refusal(own, self.edge_fault());
+        let lines = with_last_line(self.lines, refused)?;
         Ok(ReportText { lines, refused })
+    }
+}
+
+/// Why a trace is refused: by its input's fault, or else by that of its edges.
+fn refusal(own: Option<CliFault>, fault: Option<WaveFault>) -> Option<CliFault>
+    ensures { result ≡ refusal own fault }
+{
+    match (own, fault) {
+        (Some(own), _) => Some(own),
+        (None, Some(fault)) => Some(CliFault::Wave(fault)),
+        (None, None) => None,
+    }
+}
+
+/// Lines, and behind them `lawful` where nothing is refused.
+fn with_last_line(mut lines: Vec<u8>, refused: Option<CliFault>) -> Result<Vec<u8>, AllocError>
+    ensures { IfOk result (λ v. v.items ≡ lines.items ++ last_line refused) }
+{
+    if refused.is_none() {
+        lines.extend_from_slice(b"lawful\n")?;
+    }
+    Ok(lines)
+}
+
+/// The edge that is made with the next sample, or is the next edge of an input that has edges.
+fn next_edge(gatherer: &mut Option<Gatherer>, sample: Edge) -> Option<Edge>
+    ensures { MakesMore sample gatherer.old result gatherer.new }
+{
+    match gatherer {
+        Some(gatherer) => gatherer.take(sample),
+        None => Some(sample),
+    }
+}
+
+/// The edge that is made at the end of the samples, if one is.
+fn last_edge(gatherer: Option<Gatherer>) -> Option<Edge>
+    ensures { MakesAll gatherer result }
+{
+    match gatherer {
+        Some(gatherer) => gatherer.finish(),
+        None => None,
     }
 }
 
@@ -139,28 +186,17 @@ impl TraceReporter {
         ensures heard { OnOk result (HearsMore (sample ∷ []) self.old self.new) }
         ensures count { OnOk result (edges_heard self.new ≤ edges_heard self.old + 1) }
     {
-        let edge = match &mut self.gatherer {
-            Some(gatherer) => gatherer.take(sample),
-            None => Some(sample),
-        };
-        match edge {
-            Some(edge) => self.frames.take(edge),
-            None => Ok(()),
-        }
+        let edge = next_edge(&mut self.gatherer, sample);
+        self.frames.take_if(edge)
     }
 
     /// Ends the samples of an input with this fault, if it has one.
     pub fn finish(mut self, own: Option<CliFault>) -> Result<ReportText, AllocError>
         requires few { edges_heard self + 1 < 2 ^ 64 }
-        ensures { IfOk result (λ text. EndsSamples self.entry own text) }
+        ensures { IfOk result (λ text. EndsSamples self own text) }
     {
-        let last = match self.gatherer {
-            Some(gatherer) => gatherer.finish(),
-            None => None,
-        };
-        if let Some(edge) = last {
-            self.frames.take(edge)?;
-        }
+        let last = last_edge(self.gatherer);
+        self.frames.take_if(last)?;
         self.frames.finish(own)
     }
 }
