@@ -1,12 +1,10 @@
 -- The row of a bit that stands, against the table.
-use Rattle.std.proofs.Common.{◌≡◌, ◌+◌, ◌++◌, ◌∷◌, [], length, ℕ, Bool, true, false, not, ◌&&◌, ◌||◌, List, Option, Some, None, Ok, Err, refl, sym, ap, ◌∙◌}
+use Rattle.std.proofs.Common.{◌≡◌, ◌+◌, ◌++◌, ◌∷◌, [], length, ℕ, Bool, true, false, not, ◌&&◌, ◌||◌, List, Some, None, Ok, Err, refl, ap, ◌∙◌}
 use Rattle.std.specs.Prelude.{if◌then◌else◌, nat_lt}
-use Rattle.pr_wire.specs.declared.Edge.{Edge}
-use Rattle.pr_wire.specs.declared.Frame.{Frame}
 use Rattle.pr_wire.specs.declared.place.Sending.{Sending}
 use Rattle.pr_wire.specs.declared.place.Place.{Place}
 use Rattle.pr_wire.specs.declared.place.Place.TheVariants.{Bit, High}
-use Rattle.pr_wire.specs.declared.place.Flaw.TheVariants.{Shape, TooEarly, TooLate}
+use Rattle.pr_wire.specs.declared.place.Flaw.TheVariants.{TooEarly, TooLate}
 use Rattle.pr_wire.specs.Table.{atn_of, is_late, same, timed, where_true, within}
 use Rattle.pr_explain.specs.Rows.{is_step, is_taken, lies}
 

@@ -25,13 +25,7 @@ pub struct Row {
 
 /// The row of an edge to these levels that comes at least so long after one moment and at most so
 /// long after another.
-fn between(
-    levels: Levels,
-    since: u64,
-    least: u64,
-    other: u64,
-    greatest: u64,
-) -> Option<Row>
+fn between(levels: Levels, since: u64, least: u64, other: u64, greatest: u64) -> Option<Row>
     ensures { (e : Edge) → e.time < 2 ^ 64 → takes result e ≡ lies levels (since + least) (Some (other + greatest)) e }
 {
     Some(Row {

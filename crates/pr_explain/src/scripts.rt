@@ -37,10 +37,12 @@ pub fn explain_script(alloc: Global, script: &[u8]) -> Result<Vec<u8>, NoMemory>
     let mut text = Vec::new(alloc);
     match read_script_at(alloc, script) {
         Ok(_) => Ok(text),
-        Err(FaultAt {
-            fault: ScriptFault::NoMemory,
-            ..
-        }) => Err(AllocError),
+        Err(
+            FaultAt {
+                fault: ScriptFault::NoMemory,
+                ..
+            },
+        ) => Err(AllocError),
         Err(refused) => {
             push_fault(&mut text, spot_at(script, refused.place), refused.fault)?;
             Ok(text)
@@ -92,7 +94,10 @@ fn push_fault(text: &mut Vec<u8>, spot: Spot<'_>, fault: ScriptFault) -> Result<
         Some(name) if is_unknown(fault) => {
             push(text, "  ")?;
             push(text, name)?;
-            push(text, " not among OPEN, CMD, PRINT, PRINT#, CLOSE, REM and CHR$\n")
+            push(
+                text,
+                " not among OPEN, CMD, PRINT, PRINT#, CLOSE, REM and CHR$\n",
+            )
         }
         _ => Ok(()),
     }

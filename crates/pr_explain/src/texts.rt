@@ -1,6 +1,6 @@
 //! Pieces of the texts.
 
-ghost use Rattle.std.specs.Prelude.{◌≡◌, ◌+◌, ◌<◌, ◌≤◌, length};
+ghost use Rattle.std.specs.Prelude.{◌≡◌, ◌+◌, ◌<◌, length};
 
 use itoa::Buffer;
 use pr_wire::{Levels, NoMemory};

@@ -30,8 +30,10 @@ pub fn explain_trace(alloc: Global, trace: &[u8]) -> Result<Vec<u8>, NoMemory> {
         Err(TraceFault::BadLine(number)) => {
             let (before, line) = line_at(trace, number);
             push_bad_line(&mut text, number, line)?;
-            if let Ok(edges) = read_trace(alloc, before) {
-                push_edges(&mut text, edges.as_slice(), Numbering::Lines, false)?;
+            match read_trace(alloc, before) {
+                Ok(edges) => push_edges(&mut text, edges.as_slice(), Numbering::Lines, false)?,
+                Err(TraceFault::BadLine(_)) => {}
+                Err(TraceFault::NoMemory) => return Err(AllocError),
             }
         }
         Err(TraceFault::NoMemory) => return Err(AllocError),
@@ -194,7 +196,14 @@ fn push_miss(text: &mut Vec<u8>, edge: Edge, place: &Place) -> Result<(), NoMemo
 fn push_by(text: &mut Vec<u8>, missed: u64, when: &str) -> Result<(), NoMemory> {
     push(text, "  it comes ")?;
     push_number(text, missed)?;
-    push(text, if missed == 1 { " microsecond too " } else { " microseconds too " })?;
+    push(
+        text,
+        if missed == 1 {
+            " microsecond too "
+        } else {
+            " microseconds too "
+        },
+    )?;
     push(text, when)?;
     push(text, "\n")
 }

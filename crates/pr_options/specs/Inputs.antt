@@ -1,5 +1,5 @@
 -- Trusted: the trace that a command line wants to be checked, by the rows of clap's matches.
-use Rattle.std.specs.Prelude.{◌≡◌, ℕ, ◌||◌, Bool, true, false, not, List, Option, Some, None}
+use Rattle.std.specs.Prelude.{◌≡◌, ℕ, ◌||◌, Bool, true, false, not, List, Some, None}
 use Rattle.clap.specs.Words.{Row}
 use Rattle.pr_options.specs.Options.{source_of, start_of}
 use Rattle.pr_options.specs.OptionNames as option

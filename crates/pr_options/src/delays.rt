@@ -1,6 +1,6 @@
 //! The value of `--delays`.
 
-ghost use Rattle.std.specs.Prelude.{◌≡◌, ◌==◌, Some, None, false, true, IfOk, MatchOption, IsErrOf};
+ghost use Rattle.std.specs.Prelude.{◌≡◌, Some, None, false, true, IfOk, MatchOption, IsErrOf};
 ghost use Rattle.pr_text.specs.Digits.{number_of};
 ghost use Rattle.pr_wire.specs.Choices.{left};
 ghost use Rattle.pr_bus.specs.DelaysLeft.{numbers_left};

@@ -1,7 +1,9 @@
 //! Explanations of scripts.
 
 use super::*;
+use std::env::FillError;
 use std::process::Abort;
+use std::rt::Env;
 use std::test::Fail;
 
 /// The script is explained so.
@@ -95,4 +97,33 @@ fn long_lines(rt: HostRuntime) -> Result<(), Fail> {
     }
     wanted.push_str("^\n  line 1, column 263: \"A\": a list has at most 255 bytes\n")?;
     told(&rt, script.as_slice(), wanted.as_str())
+}
+
+/// Whether an explanation is refused memory. If not, it is as with ample memory.
+fn is_refused(rt: &(impl Abort + AllocGlobal)) -> bool {
+    match explain_script(rt.alloc(), b"20 PRINT+") {
+        Ok(text) => {
+            assert!(rt; text.as_slice().ends_with(b"REM and CHR$\n"));
+            false
+        }
+        Err(_refused) => true,
+    }
+}
+
+/// Whether an allocation may be refused: `tests/faults.c` says so by this variable.
+fn may_be_refused(rt: &impl Env) -> bool {
+    match rt.var("FAULT_ALLOC", &mut [0; 8]) {
+        Err(FillError::NotPresent) => false,
+        _ => true,
+    }
+}
+
+/// The script that refuses each allocation in turn refuses one call at most, and the same call again
+/// answers as ever. With no growth refused no call is.
+#[test]
+fn each_growth_refused(rt: HostRuntime) {
+    let first = is_refused(&rt);
+    let second = is_refused(&rt);
+    assert!(rt; !(first && second));
+    assert!(rt; may_be_refused(&rt) || !(first || second));
 }

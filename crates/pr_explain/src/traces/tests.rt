@@ -2,7 +2,9 @@
 
 use super::*;
 use pr_wire::example::TRACE_TEXT;
+use std::env::FillError;
 use std::process::Abort;
+use std::rt::Env;
 use std::test::Fail;
 
 /// The trace text is explained so.
@@ -13,11 +15,7 @@ fn told(rt: &(impl Abort + AllocGlobal), trace: &[u8], wanted: &str) -> Result<(
 }
 
 /// The first lines of the example, and more behind them.
-fn first_lines(
-    rt: &impl AllocGlobal,
-    count: usize,
-    more: &str,
-) -> Result<Vec<u8>, NoMemory> {
+fn first_lines(rt: &impl AllocGlobal, count: usize, more: &str) -> Result<Vec<u8>, NoMemory> {
     let mut text = Vec::new(rt.alloc());
     let mut rest = TRACE_TEXT.as_bytes();
     for _ in 0..count {
@@ -95,7 +93,8 @@ fn traces_that_end_too_soon(rt: HostRuntime) -> Result<(), Fail> {
 /// A bad line is told, and an edge before it that is refused.
 #[test]
 fn bad_lines(rt: HostRuntime) -> Result<(), Fail> {
-    let line_is = "\n  a line is a time in microseconds, a space, and a digit each for ATN, CLOCK and DATA \
+    let line_is =
+        "\n  a line is a time in microseconds, a space, and a digit each for ATN, CLOCK and DATA \
                    (1 released, 0 pulled), as in 100 001\n";
     let rows: [(&[u8], &str, &str); 3] = [
         (b"0 121", "  line 1: 0 121", ""),
@@ -119,8 +118,41 @@ fn bad_lines(rt: HostRuntime) -> Result<(), Fail> {
 fn edges_of_recordings(rt: HostRuntime) -> Result<(), Fail> {
     let edges = read_trace(rt.alloc(), b"0 111\n99 001\n")?;
     let text = explain_edges(rt.alloc(), edges.as_slice())?;
-    let wanted = "  edge 1: 99 001\n  the edge before it: 0 111\n  the place there: idle, all lines are \
+    let wanted =
+        "  edge 1: 99 001\n  the edge before it: 0 111\n  the place there: idle, all lines are \
                   released, since 0\n  could follow: 001 from 100 on\n  it comes 1 microsecond too early\n";
     assert_eq!(rt; text.as_slice(), wanted.as_bytes());
     Ok(())
+}
+
+/// Whether an explanation is refused memory. If not, it is as with ample memory.
+fn is_refused(rt: &(impl Abort + AllocGlobal)) -> bool {
+    match explain_trace(rt.alloc(), b"0 111\n0 001\n?\n") {
+        Ok(text) => {
+            assert!(rt;
+                text.as_slice()
+                    .ends_with(b"  it is not later than the edge before it\n")
+            );
+            false
+        }
+        Err(_refused) => true,
+    }
+}
+
+/// Whether an allocation may be refused: `tests/faults.c` says so by this variable.
+fn may_be_refused(rt: &impl Env) -> bool {
+    match rt.var("FAULT_ALLOC", &mut [0; 8]) {
+        Err(FillError::NotPresent) => false,
+        _ => true,
+    }
+}
+
+/// The script that refuses each allocation in turn refuses one call at most, and the same call again
+/// answers as ever. With no growth refused no call is.
+#[test]
+fn each_growth_refused(rt: HostRuntime) {
+    let first = is_refused(&rt);
+    let second = is_refused(&rt);
+    assert!(rt; !(first && second));
+    assert!(rt; may_be_refused(&rt) || !(first || second));
 }

@@ -337,7 +337,10 @@ fn values_are_told(rt: HostRuntime) {
         (JobFault::BadAs, "story"),
     ];
     for (fault, wanted) in faults {
-        assert!(rt; fault.values().is_some_and(|values| values.contains(wanted)), "{wanted}");
+        assert!(rt;
+            fault.values().is_some_and(|values| values.contains(wanted)),
+            "{wanted}"
+        );
     }
     assert!(rt; JobFault::NoRecording.values().is_none());
     assert!(rt; JobFault::NoMemory.values().is_none());

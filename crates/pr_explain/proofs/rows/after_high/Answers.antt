@@ -1,4 +1,4 @@
-use Rattle.std.proofs.Common.{◌∙◌, ap, ap₂, false, ◌||◌, length}
+use Rattle.std.proofs.Common.{◌∙◌, ap₂, false, ◌||◌, length}
 use Rattle.std.proofs.lemmas.Bool.{lt-ltb}
 use Rattle.pr_explain.proofs.RowLemmas.{high_rows}
 use Rattle.pr_explain.proofs.rows.after_high.Goals as goal

@@ -1,4 +1,4 @@
-use Rattle.std.proofs.Common.{◌∙◌, sym, ap, true, false, lit<}
+use Rattle.std.proofs.Common.{◌∙◌, sym, true, false, lit<}
 use Rattle.pr_options.proofs.NameLemmas.{names_by, no_names}
 use Rattle.pr_options.proofs.PartLemmas.{mark_told}
 use Rattle.pr_options.proofs.option_values.read_signals.Goals as goal
