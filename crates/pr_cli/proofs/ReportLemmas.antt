@@ -2,7 +2,7 @@
 use Rattle.std.proofs.Common.{◌≡◌, ◌⊎◌, ◌≤◌, ℕ, ◌+◌, ◌-◌, List, [], ◌++◌, length, take, drop, refl, ap, sym, subst, ◌∙◌, arith, append-nil, append_assoc, length-append, take-append-drop, inl, inr, Option, Some, None, Result, Ok, Err}
 use Rattle.std.specs.Prelude.{IfErr, IfOk, IfSome, IsErrAnd}
 use Rattle.std.specs.Option.{option_to_list}
-use Rattle.std.specs.Io.KnownBytes.{Appends, Consumes, IsAtEnd}
+use Rattle.std.specs.Io.KnownBytes.{Consumes, IsAtEnd}
 use Rattle.std.proofs.KnownBytes.{Appends-nil, Consumes-nil, Consumes-trans}
 use Rattle.pr_wire.specs.declared.Edge.{Edge}
 use Rattle.pr_wire.specs.declared.WaveFault.{WaveFault}
@@ -90,11 +90,14 @@ pub front_faulty : (block rest : List ℕ) (r s v : SourceReader) (n m : TraceRe
     → NotesBlock block r n (Some g) v m
 front_faulty block rest r s v n m f g same other refuses k =
     let own = own_is _ _ f other refuses in
-    rw same (own.0, λ input report t h more.
-    let a = k.noted input report t h in
-    let whole : ((t ++ k.front) ++ rest) ++ more ≡ (t ++ block) ++ more = ap (λ l. l ++ more) (append_assoc t k.front rest ∙ ap (λ l. t ++ l) (sym k.whole)) in
-    let P : List ℕ → Type 0 = λ l. SaysSamples input input.source l a.samples (Some f) in
-    (a.samples, subst P whole (own.1 input (t ++ k.front) a.samples a.given more), a.heard))
+    rw same (
+      own.0,
+      λ input report t h more.
+          let a = k.noted input report t h in
+          let whole : ((t ++ k.front) ++ rest) ++ more ≡ (t ++ block) ++ more = ap (λ l. l ++ more) (append_assoc t k.front rest ∙ ap (λ l. t ++ l) (sym k.whole)) in
+          let P : List ℕ → Type 0 = λ l. SaysSamples input input.source l a.samples (Some f) in
+          (a.samples, subst P whole (own.1 input (t ++ k.front) a.samples a.given more), a.heard),
+    )
 
 -- the bytes that came from a reader were reported, and so many more may come
 pub record ReadSoFar (limit : ℕ) (before after : Option (List ℕ)) (input : TraceInput) (report : Report) (r : SourceReader) (n : TraceReporter) (left : ℕ) : Type 0 where

@@ -1,6 +1,6 @@
 -- Reports: edges by their frames, samples by their edges, inputs by their samples.
-use Rattle.std.proofs.Common.{◌≡◌, ℕ, ◌+◌, Bool, true, false, List, [], ◌∷◌, ◌++◌, refl, ap, sym, subst, ◌∙◌, append-nil, append_assoc, Option, Some, None, Result, Ok, Err}
-use Rattle.std.specs.Prelude.{codes, flat_map, map, option_map, IfOk, IfSome, OnOk}
+use Rattle.std.proofs.Common.{◌≡◌, ℕ, ◌+◌, Bool, false, List, [], ◌∷◌, ◌++◌, refl, ap, sym, subst, ◌∙◌, append-nil, append_assoc, Option, Some, None, Result, Ok, Err}
+use Rattle.std.specs.Prelude.{codes, flat_map, map, IfOk, IfSome, OnOk}
 use Rattle.std.specs.Option.{option_to_list}
 use Rattle.std.proofs.lemmas.Grind.{flat_map-append}
 use Rattle.pr_wire.specs.declared.Edge.{Edge}

@@ -1,6 +1,6 @@
 -- A reader of a trace in any format, by the readers of each.
-use Rattle.std.proofs.Common.{◌≡◌, ◌⊎◌, inl, inr, ℕ, List, [], ◌∷◌, ◌++◌, refl, ap, sym, subst, ◌∙◌, append-nil, Option, Some, None, Result, Ok, Err}
-use Rattle.std.specs.Prelude.{option_map, IfErr, IfOk, IsErrAnd}
+use Rattle.std.proofs.Common.{◌≡◌, ◌⊎◌, inl, inr, ℕ, List, ◌++◌, refl, ap, sym, subst, ◌∙◌, append-nil, Option, Some, None, Result, Ok, Err}
+use Rattle.std.specs.Prelude.{IfErr, IsErrAnd}
 use Rattle.std.specs.Option.{option_to_list}
 use Rattle.pr_wire.specs.declared.Edge.{Edge}
 use Rattle.pr_wire.specs.declared.reader.TraceReader.{TraceReader}
@@ -11,18 +11,16 @@ use Rattle.pr_capture.specs.declared.csv.CsvReader.{CsvReader}
 use Rattle.pr_capture.specs.declared.vcd_reader.VcdReader.{VcdReader}
 use Rattle.pr_capture.specs.declared.fault.CaptureFault.{CaptureFault}
 use Rattle.pr_capture.specs.declared.fault.CaptureFault.TheVariants as capture
-use Rattle.pr_capture.specs.Csv.{csv_told}
 use Rattle.pr_capture.specs.CsvSteps as csv
 use Rattle.pr_capture.specs.Recording.{ended, refused, told_behind, Told}
 use Rattle.pr_capture.specs.Samples.{listed}
-use Rattle.pr_capture.specs.VcdReading.{vcd_told}
 use Rattle.pr_capture.specs.VcdSteps as vcd
 use Rattle.pr_options.specs.declared.format.Source.{Source}
 use Rattle.pr_options.specs.declared.format.Source.TheVariants as source
 use Rattle.pr_options.specs.declared.format.TraceInput.{TraceInput}
 use Rattle.pr_cli.specs.Faults.{fault_of_capture, fault_of_trace}
 use Rattle.pr_cli.specs.Report.{IsTold, SaysSamples}
-use Rattle.pr_cli.specs.Reported.{EndsInput, GivesMore, HasGiven, IsOwnFault, RefusesInput}
+use Rattle.pr_cli.specs.Reported.{EndsInput, GivesMore, IsOwnFault, RefusesInput}
 use Rattle.pr_cli.specs.declared.source_reader.SourceReader.{SourceReader}
 use Rattle.pr_cli.specs.declared.source_reader.SourceReader.TheVariants as reader
 use Rattle.pr_cli.specs.declared.fault.CliFault.{CliFault}
@@ -77,8 +75,11 @@ told_whole told samples e is = rw is (append-nil (samples ++ listed e) ∙ ap (�
 
 -- a trace text's fault
 pub text_refused : (old : TraceReader) (bytes : List ℕ) (f : TraceFault) → text.FaultsIn bytes old f → RefusesInput bytes (reader.Text old) (fault_of_trace f)
-text_refused old bytes (trace.BadLine n) h = inr (tt, λ input t samples k more.
-    in_format input source.Text ((t ++ bytes) ++ more) samples (Some (Trace (trace.BadLine n))) k.0 (Some n, h t samples k.1 more, refl))
+text_refused old bytes (trace.BadLine n) h = inr (
+  tt,
+  λ input t samples k more.
+      in_format input source.Text ((t ++ bytes) ++ more) samples (Some (Trace (trace.BadLine n))) k.0 (Some n, h t samples k.1 more, refl),
+)
 text_refused old bytes trace.NoMemory h = absurd h
 
 -- a recording's fault
@@ -88,8 +89,11 @@ csv_refused old bytes f (inr h) = by (own_fault f)
   where
     by : (fault_of_capture f ≡ NoMemory) ⊎ (IsOwnFault (fault_of_capture f) × (Capture f ≡ fault_of_capture f)) → RefusesInput bytes (reader.Csv old) (fault_of_capture f)
     by (inl m) = inl m
-    by (inr o) = inr (o.0, λ input t samples k more.
-        in_format input source.Csv ((t ++ bytes) ++ more) samples (Some (fault_of_capture f)) k.0 (told_refused _ samples f (fault_of_capture f) (h input.signals t samples k.1 more) o.1))
+    by (inr o) = inr (
+      o.0,
+      λ input t samples k more.
+          in_format input source.Csv ((t ++ bytes) ++ more) samples (Some (fault_of_capture f)) k.0 (told_refused _ samples f (fault_of_capture f) (h input.signals t samples k.1 more) o.1),
+    )
 
 pub vcd_refused : (old : VcdReader) (bytes : List ℕ) (f : CaptureFault) → vcd.Refuses bytes old f → RefusesInput bytes (reader.Vcd old) (fault_of_capture f)
 vcd_refused old bytes f (inl m) = inl (ap fault_of_capture m)
@@ -97,8 +101,11 @@ vcd_refused old bytes f (inr h) = by (own_fault f)
   where
     by : (fault_of_capture f ≡ NoMemory) ⊎ (IsOwnFault (fault_of_capture f) × (Capture f ≡ fault_of_capture f)) → RefusesInput bytes (reader.Vcd old) (fault_of_capture f)
     by (inl m) = inl m
-    by (inr o) = inr (o.0, λ input t samples k more.
-        in_format input source.Vcd ((t ++ bytes) ++ more) samples (Some (fault_of_capture f)) k.0 (told_refused _ samples f (fault_of_capture f) (h input.signals t samples k.1 more) o.1))
+    by (inr o) = inr (
+      o.0,
+      λ input t samples k more.
+          in_format input source.Vcd ((t ++ bytes) ++ more) samples (Some (fault_of_capture f)) k.0 (told_refused _ samples f (fault_of_capture f) (h input.signals t samples k.1 more) o.1),
+    )
 
 -- a text that ends
 pub text_ends : (r : TraceReader) (e : Option Edge) → text.EndsText r (Ok e) → EndsInput (reader.Text r) (Ok e)
@@ -114,8 +121,11 @@ vcd_ends r e h = λ input t samples k.
 
 -- or has a fault at its end
 pub text_end_refused : (r : TraceReader) (f : TraceFault) → text.EndsText r (Err f) → EndsInput (reader.Text r) (Err (fault_of_trace f))
-text_end_refused r (trace.BadLine n) h = inr (tt, λ input t samples k.
-    in_format input source.Text t samples (Some (Trace (trace.BadLine n))) k.0 (Some n, h t samples k.1, refl))
+text_end_refused r (trace.BadLine n) h = inr (
+  tt,
+  λ input t samples k.
+      in_format input source.Text t samples (Some (Trace (trace.BadLine n))) k.0 (Some n, h t samples k.1, refl),
+)
 text_end_refused r trace.NoMemory h = absurd h
 
 pub csv_end_refused : (r : CsvReader) (f : CaptureFault) → csv.EndsText r (Err f) → EndsInput (reader.Csv r) (Err (fault_of_capture f))
@@ -123,8 +133,11 @@ csv_end_refused r f h = by (own_fault f)
   where
     by : (fault_of_capture f ≡ NoMemory) ⊎ (IsOwnFault (fault_of_capture f) × (Capture f ≡ fault_of_capture f)) → EndsInput (reader.Csv r) (Err (fault_of_capture f))
     by (inl m) = inl m
-    by (inr o) = inr (o.0, λ input t samples k.
-        in_format input source.Csv t samples (Some (fault_of_capture f)) k.0 (told_refused _ samples f (fault_of_capture f) (h input.signals t samples k.1) o.1))
+    by (inr o) = inr (
+      o.0,
+      λ input t samples k.
+          in_format input source.Csv t samples (Some (fault_of_capture f)) k.0 (told_refused _ samples f (fault_of_capture f) (h input.signals t samples k.1) o.1),
+    )
 
 pub vcd_end_refused : (r : VcdReader) (f : CaptureFault) → vcd.EndsText r (Err f) → EndsInput (reader.Vcd r) (Err (fault_of_capture f))
 vcd_end_refused r f (inl m) = inl (ap fault_of_capture m)
@@ -132,8 +145,11 @@ vcd_end_refused r f (inr h) = by (own_fault f)
   where
     by : (fault_of_capture f ≡ NoMemory) ⊎ (IsOwnFault (fault_of_capture f) × (Capture f ≡ fault_of_capture f)) → EndsInput (reader.Vcd r) (Err (fault_of_capture f))
     by (inl m) = inl m
-    by (inr o) = inr (o.0, λ input t samples k.
-        in_format input source.Vcd t samples (Some (fault_of_capture f)) k.0 (told_refused _ samples f (fault_of_capture f) (h input.signals t samples k.1) o.1))
+    by (inr o) = inr (
+      o.0,
+      λ input t samples k.
+          in_format input source.Vcd t samples (Some (fault_of_capture f)) k.0 (told_refused _ samples f (fault_of_capture f) (h input.signals t samples k.1) o.1),
+    )
 
 -- a fault that is handed on by `?`
 pub handed_on : {A : Type 0} (v : Result A CliFault) (f : CliFault) (P : CliFault → Type 0) → IsErrAnd v (λ x. x ≡ f) → P f → IfErr v P

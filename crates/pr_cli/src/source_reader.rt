@@ -1,6 +1,6 @@
 //! Reading a trace in any format.
 
-ghost use Rattle.std.specs.Prelude.{◌≡◌, ◌≢◌, ◌+◌, ◌^◌, ◌<◌, ◌≤◌, [], None, length, take, IfErr, IfOk, OnOk};
+ghost use Rattle.std.specs.Prelude.{◌+◌, ◌^◌, ◌<◌, ◌≤◌, [], length, take, IfErr, IfOk, OnOk};
 ghost use Rattle.pr_cli.specs.Reported.{EndsInput, GivesMore, HasGiven, RefusesInput, lines_read};
 
 use crate::fault::CliFault;

@@ -77,16 +77,19 @@ scanned_line text edges part e k h = record {
 
 -- the line has ended, and spells none
 pub scanned_bad : (text : List ℕ) (edges : List Edge) (part : LinePart) → edge_of_part part ≡ None → IsScanned text edges part → (more : List ℕ) → SaysEdges ((text ++ 10 ∷ []) ++ more) edges (Some (length edges + 1))
-scanned_bad text edges part k h more = (record {
-  good = h.good;
-  edges = edges;
-  bad = h.line;
-  more = lines_of more;
-  lines = lines_to_end text edges part h more;
-  are_edges = h.are_edges;
-  is_bad = λ e l. absurd (let n : Some e ≡ None = sym (line_part h.line e l) ∙ (ap edge_of_part (sym h.part_is) ∙ k) in cc);
-  number = ap (λ n. n + 1) (as_many h.good edges h.are_edges);
-}, refl)
+scanned_bad text edges part k h more = (
+  record {
+    good = h.good;
+    edges = edges;
+    bad = h.line;
+    more = lines_of more;
+    lines = lines_to_end text edges part h more;
+    are_edges = h.are_edges;
+    is_bad = λ e l. absurd (let n : Some e ≡ None = sym (line_part h.line e l) ∙ (ap edge_of_part (sym h.part_is) ∙ k) in cc);
+    number = ap (λ n. n + 1) (as_many h.good edges h.are_edges);
+  },
+  refl,
+)
 
 -- a part of which nothing has come
 pub nothing_is : (p : LinePart) → is_nothing p ≡ true → p ≡ Nothing
@@ -152,13 +155,16 @@ first_bad_lines n text other e h = record {
 -- and say the same edges
 pub says_lines : (text other : List ℕ) (edges : List Edge) (bad : Option ℕ) → lines_of text ≡ lines_of other → SaysEdges text edges bad → SaysEdges other edges bad
 says_lines text other edges None e h = subst (λ ls. AreEdgeLines ls edges) e h
-says_lines text other edges (Some n) e h = (record {
-  good = h.0.good;
-  edges = h.0.edges;
-  bad = h.0.bad;
-  more = h.0.more;
-  lines = sym e ∙ h.0.lines;
-  are_edges = h.0.are_edges;
-  is_bad = h.0.is_bad;
-  number = h.0.number;
-}, h.1)
+says_lines text other edges (Some n) e h = (
+  record {
+    good = h.0.good;
+    edges = h.0.edges;
+    bad = h.0.bad;
+    more = h.0.more;
+    lines = sym e ∙ h.0.lines;
+    are_edges = h.0.are_edges;
+    is_bad = h.0.is_bad;
+    number = h.0.number;
+  },
+  h.1,
+)

@@ -80,9 +80,23 @@ fn trace_of_two_letters(rt: HostRuntime) {
 #[test]
 fn dumps(rt: HostRuntime) {
     let script = b"OPEN 4,4\nCMD 4,\"\";\n";
-    let dump = traced_as(&rt, script, FOUR, "900,999/9", TraceFormat::Vcd, Ending::Done);
+    let dump = traced_as(
+        &rt,
+        script,
+        FOUR,
+        "900,999/9",
+        TraceFormat::Vcd,
+        Ending::Done,
+    );
     assert_eq!(&rt; dump.as_slice(), ONE_ATTENTION_DUMP.as_bytes());
-    let stopped = traced_as(&rt, b"PRINT#9,\"A\"", BOTH, "", TraceFormat::Vcd, Ending::Stopped);
+    let stopped = traced_as(
+        &rt,
+        b"PRINT#9,\"A\"",
+        BOTH,
+        "",
+        TraceFormat::Vcd,
+        Ending::Stopped,
+    );
     assert_eq!(&rt; stopped.as_slice(), EMPTY_DUMP.as_bytes());
     writes(&rt, DUMP, b"", Ending::Done, EMPTY_DUMP);
 }

@@ -13,7 +13,8 @@ use pr_wire::{TraceFault, WaveFault};
 use std::process::Abort;
 
 /// The story of the example trace.
-const EXAMPLE_STORY: &str = "attention\n        1100         1930  $24  LISTEN 4\ndata\n        2130         2960  $48  'H'\n        3060         3890  $49  'I'\n        3990         5140  $0D  return, end-or-identify\nattention\n        6240         7070  $3F  UNLISTEN\nlawful\n";
+const EXAMPLE_STORY: &str =
+    "attention\n        1100         1930  $24  LISTEN 4\ndata\n        2130         2960  $48  'H'\n        3060         3890  $49  'I'\n        3990         5140  $0D  return, end-or-identify\nattention\n        6240         7070  $3F  UNLISTEN\nlawful\n";
 
 /// The story of one attention, without its last line.
 const ONE_TOLD: &str = "attention\n        2999         3829  $24  LISTEN 4\n";
@@ -31,7 +32,11 @@ fn answers(
     let mut output = Watched::new(Vec::new(rt.alloc()));
     let answer = check_as_over(rt.alloc(), &mut input, &mut output, trace, report);
     assert_eq!(rt; answer, wanted, "{text}");
-    assert_eq!(rt; output.into_inner().as_slice(), written.as_bytes(), "{text}");
+    assert_eq!(rt;
+        output.into_inner().as_slice(),
+        written.as_bytes(),
+        "{text}"
+    );
 }
 
 /// The trace is refused with this fault: the story up to there is told, and of frames nothing.
@@ -59,9 +64,21 @@ fn formats_and_reports(rt: HostRuntime) {
         writes(&rt, frames, text.as_bytes(), Ending::Done, ONE_COMMAND);
     }
     let story = Call::CheckAs(Source::Text, Report::Story);
-    writes(&rt, story, TRACE_TEXT.as_bytes(), Ending::Done, EXAMPLE_STORY);
+    writes(
+        &rt,
+        story,
+        TRACE_TEXT.as_bytes(),
+        Ending::Done,
+        EXAMPLE_STORY,
+    );
     let frames = Call::CheckAs(Source::Text, Report::Frames);
-    writes(&rt, frames, TRACE_TEXT.as_bytes(), Ending::Done, EXAMPLE_LINES);
+    writes(
+        &rt,
+        frames,
+        TRACE_TEXT.as_bytes(),
+        Ending::Done,
+        EXAMPLE_LINES,
+    );
 }
 
 /// The last line of one attention is missing, cut or another one.
@@ -85,7 +102,13 @@ fn refused_texts(rt: HostRuntime) {
     // A bad line is told before a fault of the edges.
     let bad = CliFault::Trace(TraceFault::BadLine(25));
     cut(&rt, "3829 100\n\n", bad);
-    refused(&rt, Source::Text, "", CliFault::Wave(WaveFault::Start(0)), "");
+    refused(
+        &rt,
+        Source::Text,
+        "",
+        CliFault::Wave(WaveFault::Start(0)),
+        "",
+    );
 }
 
 #[test]
@@ -94,9 +117,21 @@ fn refused_recordings(rt: HostRuntime) {
     let none = CliFault::Capture(CaptureFault::NoSignal(1, Wire::Clock));
     refused(&rt, csv, "Time,ATN,DATA\n", none, "");
     let unknown = CliFault::Capture(CaptureFault::Unknown(3));
-    refused(&rt, csv, "Time,ATN,CLOCK,DATA\n0,1,1,1\n0.1,x,1,1\n", unknown, "");
+    refused(
+        &rt,
+        csv,
+        "Time,ATN,CLOCK,DATA\n0,1,1,1\n0.1,x,1,1\n",
+        unknown,
+        "",
+    );
     let back = CliFault::Capture(CaptureFault::GoesBack(3));
-    refused(&rt, csv, "Time,ATN,CLOCK,DATA\n1,1,1,1\n0.5,1,1,1\n", back, "");
+    refused(
+        &rt,
+        csv,
+        "Time,ATN,CLOCK,DATA\n1,1,1,1\n0.5,1,1,1\n",
+        back,
+        "",
+    );
     // A trace starts with all lines released.
     let start = CliFault::Wave(WaveFault::Start(0));
     refused(&rt, csv, "Time,ATN,CLOCK,DATA\n0,0,1,1\n", start, "");

@@ -167,9 +167,19 @@ fn recordings(rt: HostRuntime) {
     let story = Call::CheckAs(Source::Text, Report::Story);
     all_fail(&rt, story, ONE_ATTENTION.as_bytes(), ONE_STORY.as_bytes());
     let table = Call::CheckAs(Source::Csv, Report::Frames);
-    all_fail(&rt, table, ONE_ATTENTION_TABLE.as_bytes(), ONE_COMMAND.as_bytes());
+    all_fail(
+        &rt,
+        table,
+        ONE_ATTENTION_TABLE.as_bytes(),
+        ONE_COMMAND.as_bytes(),
+    );
     let dump = Call::CheckAs(Source::Vcd, Report::Story);
-    all_fail(&rt, dump, ONE_ATTENTION_DUMP.as_bytes(), ONE_STORY.as_bytes());
+    all_fail(
+        &rt,
+        dump,
+        ONE_ATTENTION_DUMP.as_bytes(),
+        ONE_STORY.as_bytes(),
+    );
 }
 
 /// The example trace as a Value Change Dump, as `pr_capture` writes it. None where memory is refused.

@@ -73,7 +73,12 @@ fn texts_up_to_their_first_bad_line(rt: HostRuntime) {
     says(&rt, "0 111\n\n100 001\n", 1, bad(2));
     says(&rt, "0 111\n100 001\n0 121\n200 000\n", 2, bad(3));
     says(&rt, "0 111\n100 00", 1, bad(2));
-    says(&rt, "0 111\n18446744073709551615 001\n18446744073709551616 001\n", 2, bad(3));
+    says(
+        &rt,
+        "0 111\n18446744073709551615 001\n18446744073709551616 001\n",
+        2,
+        bad(3),
+    );
 }
 
 /// A whole line is taken at once, and a part of a line byte by byte.

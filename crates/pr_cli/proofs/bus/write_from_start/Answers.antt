@@ -1,4 +1,4 @@
-use Rattle.std.proofs.Common.{sym, ◌∙◌, [], None}
+use Rattle.std.proofs.Common.{◌∙◌, [], None}
 use Rattle.pr_system.specs.RunningState.{trace_so_far}
 use Rattle.pr_system.specs.StepByStep.{stepped_through}
 use Rattle.pr_cli.specs.Bus.{trace_in}
@@ -170,4 +170,3 @@ returns-clause-trace g c =
       text = appends_more old after_steps new (text_so_far f all) c.deref-2.result.now (trace_in f all) ended told c.in_ok-write_some-2.ensures.text;
       ending = c.in_ok-ending.ensures.ending;
     }
-

@@ -1,4 +1,4 @@
-use Rattle.std.proofs.Common.{◌≡◌, ◌≤◌, ◌+◌, arith, rules, take, length, length-take, Some, None}
+use Rattle.std.proofs.Common.{◌≡◌, ◌≤◌, arith, rules, take, length, length-take, Some, None}
 use Rattle.std.specs.Io.KnownBytes.{IsAtEnd}
 use Rattle.pr_cli.specs.Reported.{NotesBlock}
 use Rattle.pr_cli.proofs.KnownSteps.{too_many}
