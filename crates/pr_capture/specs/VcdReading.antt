@@ -1,5 +1,5 @@
 -- Trusted: what a Value Change Dump says of the bus: samples of its three lines, up to the first fault if there is one.
-use Rattle.std.specs.Prelude.{ℕ, ◌*◌, ◌/◌, ◌&&◌, ◌||◌, Bool, true, false, List, [], ◌∷◌, codes, nat_lt, if◌then◌else◌, Option, Some, None, Result, Ok, Err}
+use Rattle.std.specs.Prelude.{ℕ, ◌*◌, ◌/◌, ◌==◌, ◌&&◌, ◌||◌, Bool, true, false, not, List, [], ◌∷◌, codes, nat_lt, if◌then◌else◌, Option, Some, None, Result, Ok, Err}
 use Rattle.std.specs.List.{list_all}
 use Rattle.std.specs.Str.{bytes_eq}
 use Rattle.pr_text.specs.Digits.{is_digit}
@@ -127,13 +127,24 @@ abbrev pub is_code : Option (List ℕ) → (code : List ℕ) → Bool
 is_code None code = false
 is_code (Some known) code = bytes_eq known code
 
--- a wire has a level
-abbrev pub level_if : (changes : Bool) → (level : Bool) → (before : Option Bool) → Option Bool
-level_if true level before = Some level
+-- all three levels are known
+abbrev pub all_known : (atn clock line : Option Bool) → Bool
+all_known (Some a) (Some c) (Some l) = true
+all_known _ _ _ = false
+
+-- a level of a wire; x and z leave it not known, as long as the three levels have not all been known at once
+abbrev pub level_behind : (known : Bool) → (line : ℕ) → (inverted : Bool) → (level : ℕ) → Result (Option Bool) CaptureFault
+level_behind known line inverted b =
+    if (b == 120 || b == 88 || b == 122 || b == 90) && not known then Ok None
+    else (level_in line inverted b >>= λ l. Ok (Some l))
+
+-- what is known of a wire's level
+abbrev pub level_if : (changes : Bool) → (level before : Option Bool) → Option Bool
+level_if true level before = level
 level_if false level before = before
 
--- a level of each wire that has this code
-abbrev pub with_level : Codes → Seen → (code : List ℕ) → (level : Bool) → Seen
+-- the same of each wire that has this code
+abbrev pub with_level : Codes → Seen → (code : List ℕ) → (level : Option Bool) → Seen
 with_level c seen code level = record {
   time = seen.time;
   atn = level_if (is_code c.atn code) level seen.atn;
@@ -145,7 +156,7 @@ with_level c seen code level = record {
 abbrev pub changed : (inverted : Bool) → Codes → Seen → (line level : ℕ) → (code : List ℕ) → Result Seen CaptureFault
 changed inverted c seen line level code =
     if is_code c.atn code || is_code c.clock code || is_code c.line code
-    then (level_in line inverted level >>= λ l. Ok (with_level c seen code l))
+    then (level_behind (all_known seen.atn seen.clock seen.line) line inverted level >>= λ l. Ok (with_level c seen code l))
     else Ok seen
 
 -- a time stamp, not before that of an earlier one

@@ -3,9 +3,11 @@
 ghost use Rattle.std.specs.Prelude.{◌≡◌};
 ghost use Rattle.std.specs.List.{list_all};
 ghost use Rattle.pr_text.specs.Digits.{is_digit};
-ghost use Rattle.pr_capture.specs.VcdReading.{level_if, sample_in, time_at, whole_micros};
+ghost use Rattle.pr_capture.specs.VcdReading.{all_known, level_behind, level_if, sample_in, time_at, whole_micros};
 
 use crate::csv::number_from;
+use crate::fault::CaptureFault;
+use crate::signals::level_in;
 use pr_text::is_digit;
 use pr_wire::{Edge, Levels};
 
@@ -51,14 +53,38 @@ pub fn time_at(scale: u64, digits: &[u8]) -> Option<u64>
     whole_micros(scale, number_from(0, digits))
 }
 
-/// A wire's level behind a change.
-pub fn level_if(changes: bool, level: bool, before: Option<bool>) -> Option<bool>
+/// A wire's level on a line: x and z leave it not known, as long as the three levels have not all been
+/// known at once.
+pub fn level_behind(
+    known: bool,
+    line: usize,
+    is_inverted: bool,
+    level: u8,
+) -> Result<Option<bool>, CaptureFault>
+    ensures { result ≡ level_behind known line is_inverted level }
+{
+    if (level == b'x' || level == b'X' || level == b'z' || level == b'Z') && !known {
+        return Ok(None);
+    }
+    let level = level_in(line, is_inverted, level)?;
+    Ok(Some(level))
+}
+
+/// What is known of a wire's level behind a change.
+pub fn level_if(changes: bool, level: Option<bool>, before: Option<bool>) -> Option<bool>
     ensures { result ≡ level_if changes level before }
 {
-    if changes { Some(level) } else { before }
+    if changes { level } else { before }
 }
 
 impl Seen {
+    /// Whether all three levels are known.
+    pub fn all_known(self) -> bool
+        ensures { result ≡ all_known self.atn self.clock self.line }
+    {
+        self.atn.is_some() && self.clock.is_some() && self.line.is_some()
+    }
+
     /// A sample, once all three levels are known.
     pub fn sample(self) -> Option<Edge>
         ensures { result ≡ sample_in self.time self.atn self.clock self.line }

@@ -159,6 +159,25 @@ fn dump_of_sigrok_cli(rt: HostRuntime) -> Result<(), Fail> {
     )
 }
 
+/// Levels that are not known before all three are: x in the section of first levels, z for a tristate
+/// line, and a level that is lost again. Behind inverters they are none too.
+#[test]
+fn levels_not_known_yet(rt: HostRuntime) -> Result<(), Fail> {
+    let head =
+        "$timescale 1 us $end $var wire 1 a ATN $end $var wire 1 c CLOCK $end $var wire 1 d DATA $end $enddefinitions $end";
+    let text = format!(in rt.alloc();
+        "{head}\n#0 $dumpvars xa Xc bx d $end\n#3 1a 1c\n#4 zc\n#5 0d bZ a\n#6 1c\n#7 0a\n#8 1d\n"
+    )?;
+    says(&rt, names(), text.as_str(), "7 010\n8 011\n")?;
+    let inverted = Signals {
+        atn: b"ATN",
+        clock: b"CLOCK",
+        line: b"DATA",
+        is_inverted: true,
+    };
+    says(&rt, inverted, text.as_str(), "7 101\n8 100\n")
+}
+
 /// Names of one's own, and probes behind inverters.
 #[test]
 fn names_and_inverters(rt: HostRuntime) -> Result<(), Fail> {
@@ -279,10 +298,10 @@ fn refuses_changes(
 /// Faults of the changes, each with its line.
 #[test]
 fn faults_of_changes(rt: HostRuntime) -> Result<(), Fail> {
-    refuses_changes(&rt, "#0\n1A\nxC\n1D\n", "line 7: level x")?;
-    refuses_changes(&rt, "#0\n1A\n1C\nZD", "line 8: level z")?;
-    refuses_changes(&rt, "$dumpoff X! bx\n\nA $end", "line 5: level x")?;
-    refuses_changes(&rt, "#0 bz D", "line 5: level z")?;
+    refuses_changes(&rt, "#0\n1A\n1C\n1D\nxC", "line 9: level x")?;
+    refuses_changes(&rt, "#0\n1A\n1C\nZD\n1D\nZD", "line 10: level z")?;
+    refuses_changes(&rt, "1A 1D 0C\n$dumpoff X! bx\n\nA $end", "line 6: level x")?;
+    refuses_changes(&rt, "xA 1A 1C 1D #0 bz D", "line 5: level z")?;
     refuses_changes(&rt, "b01 A", "line 5: bad level")?;
     refuses_changes(&rt, "b A", "line 5: bad level")?;
     refuses_changes(&rt, "r1 A", "line 5: bad level")?;
