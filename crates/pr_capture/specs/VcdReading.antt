@@ -11,7 +11,7 @@ use Rattle.pr_capture.specs.declared.changes.Seen.{Seen}
 use Rattle.pr_capture.specs.declared.fault.Wire.{Wire}
 use Rattle.pr_capture.specs.declared.fault.Wire.TheVariants.{Atn, Clock, Data}
 use Rattle.pr_capture.specs.declared.fault.CaptureFault.{CaptureFault}
-use Rattle.pr_capture.specs.declared.fault.CaptureFault.TheVariants.{BadWord, NoEnd, NoDefinitions, NoTimescale, NoSignal}
+use Rattle.pr_capture.specs.declared.fault.CaptureFault.TheVariants.{BadWord, NoEnd, NoDefinitions, NoLevel, NoTimescale, NoSignal}
 use Rattle.pr_capture.specs.declared.signals.Signals.{Signals}
 use Rattle.pr_capture.specs.Recording.{◌>>=◌, ended, is_named, level_in, refused, told_behind, Told}
 use Rattle.pr_capture.specs.Samples.{listed}
@@ -196,10 +196,29 @@ abbrev pub goes_on : Result Place CaptureFault → (Place → Told) → Told
 goes_on (Err f) rest = refused f
 goes_on (Ok p) rest = told_behind (listed (sample_of p)) (rest p)
 
+-- the first wire without a level
+abbrev pub without_level : (atn clock line : Option Bool) → Option Wire
+without_level None clock line = Some Atn
+without_level (Some a) None line = Some Clock
+without_level (Some a) (Some c) None = Some Data
+without_level (Some a) (Some c) (Some l) = None
+
+-- no level was said, and no moment behind 0: so is the dump of an empty trace
+abbrev pub is_blank : (time : ℕ) → (atn clock line : Option Bool) → Bool
+is_blank time None None None = time == 0
+is_blank time _ _ _ = false
+
+-- each wire has to have a level
+abbrev pub level_wanted : (end : ℕ) → (missing : Option Wire) → Told
+level_wanted end None = ended
+level_wanted end (Some wire) = refused (NoLevel end wire)
+
 -- a text ends on this line
 abbrev pub told_at_end : (end : ℕ) → Place → Told
 told_at_end end (Header scale c) = refused (NoDefinitions end)
-told_at_end end (Changes scale c seen) = ended
+told_at_end end (Changes scale c seen) =
+    if is_blank seen.time seen.atn seen.clock seen.line then ended
+    else level_wanted end (without_level seen.atn seen.clock seen.line)
 
 -- what pieces tell from a place on
 abbrev pub pieces_told : Signals → (end : ℕ) → Place → List Piece → Told

@@ -1,12 +1,12 @@
 //! What is known of the wires among the changes of a dump.
 
-ghost use Rattle.std.specs.Prelude.{◌≡◌};
+ghost use Rattle.std.specs.Prelude.{◌≡◌, if◌then◌else◌, None};
 ghost use Rattle.std.specs.List.{list_all};
 ghost use Rattle.pr_text.specs.Digits.{is_digit};
-ghost use Rattle.pr_capture.specs.VcdReading.{all_known, level_behind, level_if, sample_in, time_at, whole_micros};
+ghost use Rattle.pr_capture.specs.VcdReading.{all_known, is_blank, level_behind, level_if, sample_in, time_at, whole_micros, without_level};
 
 use crate::csv::number_from;
-use crate::fault::CaptureFault;
+use crate::fault::{CaptureFault, Wire};
 use crate::signals::level_in;
 use pr_text::is_digit;
 use pr_wire::{Edge, Levels};
@@ -83,6 +83,26 @@ impl Seen {
         ensures { result ≡ all_known self.atn self.clock self.line }
     {
         self.atn.is_some() && self.clock.is_some() && self.line.is_some()
+    }
+
+    /// The first wire without a level, if a dump ends here that is not blank: in which a level was said,
+    /// or a moment behind 0.
+    pub fn missing(self) -> Option<Wire>
+        ensures { result ≡ if is_blank self.time self.atn self.clock self.line then None else without_level self.atn self.clock self.line }
+    {
+        if self.time == 0 && self.atn.is_none() && self.clock.is_none() && self.line.is_none() {
+            return None;
+        }
+        if self.atn.is_none() {
+            return Some(Wire::Atn);
+        }
+        if self.clock.is_none() {
+            return Some(Wire::Clock);
+        }
+        if self.line.is_none() {
+            return Some(Wire::Data);
+        }
+        None
     }
 
     /// A sample, once all three levels are known.

@@ -41,7 +41,7 @@ pub enum CaptureFault {
     /// A time before that of an earlier line.
     #[error("line {0}: time goes back")]
     GoesBack(usize),
-    /// The row has no level of the wire.
+    /// The row has no level of the wire, or the dump that ends on the line never gave one.
     #[error("line {0}: no level of {1}")]
     NoLevel(usize, Wire),
     /// The wire's level is not known.

@@ -315,6 +315,18 @@ fn faults_of_changes(rt: HostRuntime) -> Result<(), Fail> {
     refuses_changes(&rt, "#2O", "line 5: bad time")
 }
 
+/// Wires that never get a level; a dump that is blank behind its header says no edges.
+#[test]
+fn wires_without_levels(rt: HostRuntime) -> Result<(), Fail> {
+    refuses_changes(&rt, "1C 1D\n#9", "line 6: no level of ATN")?;
+    refuses_changes(&rt, "1A\n#9\n", "line 7: no level of CLOCK")?;
+    refuses_changes(&rt, "#0 1A 0C xD\n#9 1A", "line 6: no level of DATA")?;
+    refuses_changes(&rt, "#0 $dumpvars xA xC zD $end\n#1", "line 6: no level of ATN")?;
+    refuses_changes(&rt, "1A 1C 1D xB #4 b1", "line 5: bad word")?;
+    let blank = "$timescale 1 us $end $var wire 1 a ATN $end $var wire 1 c CLOCK $end $var wire 1 d DATA $end $enddefinitions $end #0 xa $dumpoff $end";
+    says(&rt, names(), blank, "")
+}
+
 /// The edges of a trace text are read again as they were written.
 fn read_again(rt: &(impl Abort + AllocGlobal), trace: &str) -> Result<(), Fail> {
     let edges = read_trace(rt.alloc(), trace.as_bytes())?;
