@@ -15,7 +15,7 @@ use Rattle.pr_capture.specs.declared.fault.CaptureFault.TheVariants.{BadWord, No
 use Rattle.pr_capture.specs.declared.signals.Signals.{Signals}
 use Rattle.pr_capture.specs.Recording.{◌>>=◌, ended, is_named, level_in, refused, told_behind, Told}
 use Rattle.pr_capture.specs.Samples.{listed}
-use Rattle.pr_capture.specs.Csv.{behind_digits, digits_in, number_from, time_or}
+use Rattle.pr_capture.specs.Csv.{behind_digits, digits_in, field_at, number_from, time_or}
 use Rattle.pr_capture.specs.Words.{end_line, words_of}
 use Rattle.pr_capture.specs.VcdPieces.{pieces_behind, Piece}
 use Rattle.pr_capture.specs.VcdPieces.Piece.{Section, Stamp, Change, Stray, Unended}
@@ -69,12 +69,18 @@ abbrev pub first_some : Option (List ℕ) → Option (List ℕ) → Option (List
 first_some None other = other
 first_some (Some code) other = Some code
 
+-- signals of these kinds have no levels
+abbrev pub has_levels : (kind : Option (List ℕ)) → Bool
+has_levels None = true
+has_levels (Some k) =
+    not (bytes_eq k (codes "real") || bytes_eq k (codes "realtime") || bytes_eq k (codes "string") || bytes_eq k (codes "event"))
+
 abbrev pub with_signal : Signals → Codes → (inside : List (List ℕ)) → Codes
-with_signal s c inside = record {
+with_signal s c inside = if has_levels (field_at 0 inside) then (record {
   atn = first_some c.atn (code_in s Atn inside);
   clock = first_some c.clock (code_in s Clock inside);
   line = first_some c.line (code_in s Data inside);
-}
+}) else c
 
 -- The places of a dump: in the header, and among the changes, where times have a scale and some levels are known.
 pub data Place : Type 0 where

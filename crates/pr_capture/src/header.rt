@@ -3,7 +3,7 @@
 ghost use Rattle.std.specs.Prelude.{◌≡◌, ◌≤◌, option_copied, IfOk, IfSome, OnOk};
 ghost use Rattle.pr_capture.specs.declared.fault.Wire.TheVariants.{Atn, Clock, Data};
 ghost use Rattle.pr_capture.specs.Csv.{field_at};
-ghost use Rattle.pr_capture.specs.VcdReading.{code_in, first_some, is_code, scale_in, scale_of, unit_in, with_signal};
+ghost use Rattle.pr_capture.specs.VcdReading.{code_in, first_some, has_levels, is_code, scale_in, scale_of, unit_in, with_signal};
 ghost use Rattle.pr_capture.specs.VcdSteps.{code_of, codes_of, words_in};
 
 use crate::entries::is_word;
@@ -93,6 +93,21 @@ fn code_in<'w>(signals: &Signals<'_>, wire: Wire, inside: &'w [Vec<u8>]) -> Opti
     }
 }
 
+/// Whether signals of a kind have levels: not numbers, texts and events.
+fn has_levels(kind: Option<&[u8]>) -> bool
+    ensures { result ≡ has_levels (option_copied kind.entry) }
+{
+    match kind {
+        None => true,
+        Some(kind) => {
+            !(is_word(kind, b"real")
+                || is_word(kind, b"realtime")
+                || is_word(kind, b"string")
+                || is_word(kind, b"event"))
+        }
+    }
+}
+
 /// Bytes in a vector of their own.
 pub fn copied(alloc: Global, bytes: &[u8]) -> Result<Vec<u8>, NoMemory>
     ensures { IfOk result (λ v. v.items ≡ bytes.now) }
@@ -140,7 +155,7 @@ fn note(
 }
 
 impl WireCodes {
-    /// Notes the codes of the wires whose signal has its section with these words.
+    /// Notes the codes of the wires whose signal has its section with these words, if it has levels.
     pub fn note_signal(
         &mut self,
         alloc: Global,
@@ -149,6 +164,9 @@ impl WireCodes {
     ) -> Result<(), NoMemory>
         ensures { OnOk result (codes_of self.new ≡ with_signal signals.now (codes_of self.old) (words_in inside.now)) }
     {
+        if !has_levels(word_at(inside, 0)) {
+            return Ok(());
+        }
         note(alloc, &mut self.atn, signals, Wire::Atn, inside)?;
         note(alloc, &mut self.clock, signals, Wire::Clock, inside)?;
         note(alloc, &mut self.line, signals, Wire::Data, inside)

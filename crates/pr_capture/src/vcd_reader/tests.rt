@@ -178,6 +178,17 @@ fn levels_not_known_yet(rt: HostRuntime) -> Result<(), Fail> {
     says(&rt, inverted, text.as_str(), "7 101\n8 100\n")
 }
 
+/// Signals that are no wires whatever their name: numbers, texts and events.
+#[test]
+fn kinds_without_levels(rt: HostRuntime) -> Result<(), Fail> {
+    says(
+        &rt,
+        names(),
+        "$timescale 1 us $end $var real 1 r ATN $end $var realtime 1 t CLOCK $end $var string 1 s DATA $end $var event 1 e ATN $end $var reg 1 a ATN $end $var tri 1 c CLOCK $end $var logic 1 d DATA $end $enddefinitions $end r0 r r5 t stext s 1e 1a 1c 1d #2 1e r1.5 t 0c",
+        "0 111\n2 101\n",
+    )
+}
+
 /// Names of one's own, and probes behind inverters.
 #[test]
 fn names_and_inverters(rt: HostRuntime) -> Result<(), Fail> {
