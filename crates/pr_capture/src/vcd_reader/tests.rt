@@ -268,6 +268,7 @@ fn faults_of_headers(rt: HostRuntime) -> Result<(), Fail> {
     refuses(&rt, "\n\n$date today $end\n", "line 4: no $enddefinitions")?;
     refuses(&rt, "$scope a $end\n#0\n", "line 2: no $enddefinitions")?;
     refuses(&rt, "$scope a $end\n1!\n", "line 3: no $enddefinitions")?;
+    refuses(&rt, "$scope a $end\n1 0\n", "line 3: no $enddefinitions")?;
     refuses(&rt, "t,ATN,CLOCK,DATA\nb1", "line 2: no $enddefinitions")?;
     refuses(&rt, "$date\n\n$var wire 1 ! ATN", "line 1: no $end")?;
     refuses(&rt, "$timescale 2 ns $end", "line 1: no timescale")?;
@@ -321,6 +322,8 @@ fn faults_of_changes(rt: HostRuntime) -> Result<(), Fail> {
     refuses_changes(&rt, "#20\n1A\n#19\n", "line 7: time goes back")?;
     refuses_changes(&rt, "#20\n1A\n2A\n", "line 7: bad word")?;
     refuses_changes(&rt, "#20\nb1", "line 6: bad word")?;
+    refuses_changes(&rt, "#5 0 #6 ", "line 5: bad word")?;
+    refuses_changes(&rt, "1A\nx", "line 6: bad word")?;
     refuses_changes(&rt, "\n$comment\n#20\n1A", "line 6: no $end")?;
     refuses_changes(&rt, "# 20", "line 5: bad time")?;
     refuses_changes(&rt, "#2O", "line 5: bad time")
