@@ -100,7 +100,7 @@ time_in l =
     if list_all is_framing (behind_decimals (behind_digits l)) then micros_in (digits_in l) (decimals_in (behind_digits l))
     else None
 
--- a row's time, not before that of an earlier row
+-- a row's time, in whole microseconds not before that of an earlier row
 abbrev pub time_or : (number before : ℕ) → Option ℕ → Result ℕ CaptureFault
 time_or number before None = Err (BadTime number)
 time_or number before (Some t) = if nat_lt t before then Err (GoesBack number) else Ok t

@@ -165,7 +165,7 @@ changed inverted c seen line level code =
     then (level_behind (all_known seen.atn seen.clock seen.line) line inverted level >>= λ l. Ok (with_level c seen code l))
     else Ok seen
 
--- a time stamp, not before that of an earlier one
+-- a time stamp, in whole microseconds not before that of an earlier one
 abbrev pub stamped : (scale : ℕ) → Seen → (line : ℕ) → (digits : List ℕ) → Result Seen CaptureFault
 stamped scale seen line digits =
     time_or line seen.time (time_at scale digits) >>= λ t.

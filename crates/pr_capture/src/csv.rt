@@ -185,7 +185,7 @@ fn time_in(field: &[u8]) -> Option<u64>
     }
 }
 
-/// A row's time, which is not before that of an earlier row.
+/// A row's time, which in whole microseconds is not before that of an earlier row.
 pub fn time_or(number: usize, before: u64, time: Option<u64>) -> Result<u64, CaptureFault>
     ensures { result ≡ time_or number before time }
 {

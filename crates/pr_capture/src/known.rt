@@ -56,7 +56,7 @@ fn header_ended(line: usize, scale: Option<u64>, codes: &WireCodes) -> Result<St
     Ok(Stage::InChanges(scale, seen))
 }
 
-/// What is known behind a time stamp.
+/// What is known behind a time stamp, which in whole microseconds is not before that of an earlier one.
 fn stamped(scale: u64, seen: Seen, line: usize, digits: &[u8]) -> Result<Seen, CaptureFault>
     ensures { result ≡ stamped scale seen line digits.now }
 {
