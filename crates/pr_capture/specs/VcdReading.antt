@@ -13,7 +13,7 @@ use Rattle.pr_capture.specs.declared.fault.Wire.TheVariants.{Atn, Clock, Data}
 use Rattle.pr_capture.specs.declared.fault.CaptureFault.{CaptureFault}
 use Rattle.pr_capture.specs.declared.fault.CaptureFault.TheVariants.{BadWord, NoEnd, NoDefinitions, NoLevel, NoTimescale, NoSignal}
 use Rattle.pr_capture.specs.declared.signals.Signals.{Signals}
-use Rattle.pr_capture.specs.Recording.{◌>>=◌, ended, is_named, level_in, refused, told_behind, Told}
+use Rattle.pr_capture.specs.Recording.{◌>>=◌, ended, first_some, is_named, level_in, refused, second_name, told_behind, Told}
 use Rattle.pr_capture.specs.Samples.{listed}
 use Rattle.pr_capture.specs.Csv.{behind_digits, digits_in, field_at, number_from, time_or}
 use Rattle.pr_capture.specs.Words.{end_line, words_of}
@@ -50,24 +50,25 @@ scale_in (both ∷ []) = scale_of (digits_in both) (unit_in (behind_digits both)
 scale_in (count ∷ unit ∷ []) = scale_of count (unit_in unit)
 scale_in (count ∷ unit ∷ more ∷ words) = None
 
--- the code of a section `$var`, whose words are a kind, a size, a code and a name, if it is a signal of one bit with a wire's name
-abbrev pub code_in : Signals → Wire → (inside : List (List ℕ)) → Option (List ℕ)
-code_in s wire (kind ∷ size ∷ code ∷ name ∷ more) = if bytes_eq size (codes "1") && is_named s wire name then Some code else None
-code_in s wire _ = None
+-- the code of a section `$var`, whose words are a kind, a size, a code and a name, if it is a signal of one bit with
+-- the name that is wanted
+abbrev pub code_in : (wanted : List ℕ) → (inside : List (List ℕ)) → Option (List ℕ)
+code_in wanted (kind ∷ size ∷ code ∷ name ∷ more) = if bytes_eq size (codes "1") && is_named wanted name then Some code else None
+code_in wanted _ = None
 
--- the codes of the wires that are known
+-- the codes of the wires that are known, and of a signal with CLOCK's second name
 pub record Codes : Type 0 where
   pub atn : Option (List ℕ)
   pub clock : Option (List ℕ)
+  pub second : Option (List ℕ)
   pub line : Option (List ℕ)
 
 abbrev pub no_codes : Codes
-no_codes = record { atn = None; clock = None; line = None }
+no_codes = record { atn = None; clock = None; second = None; line = None }
 
--- of several signals with one name the first counts
-abbrev pub first_some : Option (List ℕ) → Option (List ℕ) → Option (List ℕ)
-first_some None other = other
-first_some (Some code) other = Some code
+-- CLOCK's own
+abbrev pub clock_code : Codes → Option (List ℕ)
+clock_code c = first_some c.clock c.second
 
 -- signals of these kinds have no levels
 abbrev pub has_levels : (kind : Option (List ℕ)) → Bool
@@ -75,11 +76,13 @@ has_levels None = true
 has_levels (Some k) =
     not (bytes_eq k (codes "real") || bytes_eq k (codes "realtime") || bytes_eq k (codes "string") || bytes_eq k (codes "event"))
 
+-- of several signals with one name the first counts
 abbrev pub with_signal : Signals → Codes → (inside : List (List ℕ)) → Codes
 with_signal s c inside = if has_levels (field_at 0 inside) then (record {
-  atn = first_some c.atn (code_in s Atn inside);
-  clock = first_some c.clock (code_in s Clock inside);
-  line = first_some c.line (code_in s Data inside);
+  atn = first_some c.atn (code_in s.atn.now inside);
+  clock = first_some c.clock (code_in s.clock.now inside);
+  second = first_some c.second (code_in (second_name s) inside);
+  line = first_some c.line (code_in s.line.now inside);
 }) else c
 
 -- The places of a dump: in the header, and among the changes, where times have a scale and some levels are known.
@@ -105,7 +108,7 @@ abbrev pub header_ended : (line : ℕ) → (scale : Option ℕ) → Codes → Re
 header_ended line scale c =
     scale_or line scale >>= λ n.
     code_or line Atn c.atn >>= λ atn.
-    code_or line Clock c.clock >>= λ clock.
+    code_or line Clock (clock_code c) >>= λ clock.
     code_or line Data c.line >>= λ code.
     Ok (Changes n c nothing_seen)
 
@@ -154,14 +157,14 @@ abbrev pub with_level : Codes → Seen → (code : List ℕ) → (level : Option
 with_level c seen code level = record {
   time = seen.time;
   atn = level_if (is_code c.atn code) level seen.atn;
-  clock = level_if (is_code c.clock code) level seen.clock;
+  clock = level_if (is_code (clock_code c) code) level seen.clock;
   line = level_if (is_code c.line code) level seen.line;
 }
 
 -- a change; that of another signal says nothing
 abbrev pub changed : (inverted : Bool) → Codes → Seen → (line level : ℕ) → (code : List ℕ) → Result Seen CaptureFault
 changed inverted c seen line level code =
-    if is_code c.atn code || is_code c.clock code || is_code c.line code
+    if is_code c.atn code || is_code (clock_code c) code || is_code c.line code
     then (level_behind (all_known seen.atn seen.clock seen.line) line inverted level >>= λ l. Ok (with_level c seen code l))
     else Ok seen
 

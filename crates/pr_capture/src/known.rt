@@ -41,7 +41,7 @@ fn header_ended(line: usize, scale: Option<u64>, codes: &WireCodes) -> Result<St
     if codes.atn.is_none() {
         return Err(CaptureFault::NoSignal(line, Wire::Atn));
     }
-    if codes.clock.is_none() {
+    if codes.clock.is_none() && codes.second.is_none() {
         return Err(CaptureFault::NoSignal(line, Wire::Clock));
     }
     if codes.line.is_none() {

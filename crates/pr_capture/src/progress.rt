@@ -50,6 +50,7 @@ impl Progress {
         let codes = WireCodes {
             atn: None,
             clock: None,
+            second: None,
             line: None,
         };
         Progress {

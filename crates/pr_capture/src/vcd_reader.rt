@@ -34,7 +34,7 @@ fn word_len(text: &[u8]) -> usize
 }
 
 /// Reads a Value Change Dump that comes in blocks. It keeps the word that has begun, no more than four
-/// words of a section, and the codes of the three wires.
+/// words of a section, and the codes of the three wires and of a signal CLK.
 #[derive(Drop)]
 pub struct VcdReader<'a> {
     signals: Signals<'a>,

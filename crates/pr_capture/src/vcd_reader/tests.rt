@@ -178,6 +178,18 @@ fn levels_not_known_yet(rt: HostRuntime) -> Result<(), Fail> {
     says(&rt, inverted, text.as_str(), "7 101\n8 100\n")
 }
 
+/// CLOCK comes before CLK wherever they stand; of several signals called CLK the first counts, where none is
+/// called CLOCK.
+#[test]
+fn clock_before_clk(rt: HostRuntime) -> Result<(), Fail> {
+    let head = "$timescale 1 us $end $var wire 1 k clk $end $var wire 1 a ATN $end";
+    let rest = "$var wire 1 d DATA $end $enddefinitions $end 1a 1d 1k 0c #3 1c";
+    let both = format!(in rt.alloc(); "{head} $var wire 1 c Clock $end {rest}")?;
+    says(&rt, names(), both.as_str(), "0 101\n3 111\n")?;
+    let clk = format!(in rt.alloc(); "{head} $var wire 1 c CLK $end {rest}")?;
+    says(&rt, names(), clk.as_str(), "0 111\n")
+}
+
 /// Signals that are no wires whatever their name: numbers, texts and events.
 #[test]
 fn kinds_without_levels(rt: HostRuntime) -> Result<(), Fail> {
@@ -335,9 +347,14 @@ fn wires_without_levels(rt: HostRuntime) -> Result<(), Fail> {
     refuses_changes(&rt, "1C 1D\n#9", "line 6: no level of ATN")?;
     refuses_changes(&rt, "1A\n#9\n", "line 7: no level of CLOCK")?;
     refuses_changes(&rt, "#0 1A 0C xD\n#9 1A", "line 6: no level of DATA")?;
-    refuses_changes(&rt, "#0 $dumpvars xA xC zD $end\n#1", "line 6: no level of ATN")?;
+    refuses_changes(
+        &rt,
+        "#0 $dumpvars xA xC zD $end\n#1",
+        "line 6: no level of ATN",
+    )?;
     refuses_changes(&rt, "1A 1C 1D xB #4 b1", "line 5: bad word")?;
-    let blank = "$timescale 1 us $end $var wire 1 a ATN $end $var wire 1 c CLOCK $end $var wire 1 d DATA $end $enddefinitions $end #0 xa $dumpoff $end";
+    let blank =
+        "$timescale 1 us $end $var wire 1 a ATN $end $var wire 1 c CLOCK $end $var wire 1 d DATA $end $enddefinitions $end #0 xa $dumpoff $end";
     says(&rt, names(), blank, "")
 }
 
