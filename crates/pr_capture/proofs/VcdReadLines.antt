@@ -79,7 +79,7 @@ digits-letters (d ∷ ds) h =
 
 -- the codes that are written
 abbrev pub written : Codes
-written = record { atn = Some (65 ∷ []); clock = Some (67 ∷ []); line = Some (68 ∷ []) }
+written = record { atn = Some (65 ∷ []); clock = Some (67 ∷ []); second = None; line = Some (68 ∷ []) }
 
 -- what a text tells that goes on here, among the changes
 abbrev pub told_here : Signals → (n : ℕ) → Seen → (text : List ℕ) → Told
@@ -346,10 +346,10 @@ section-told s n p q k key ls rest e inner whole c d =
 
 -- the codes known behind the first wires
 abbrev one_code : Codes
-one_code = record { atn = Some (65 ∷ []); clock = None; line = None }
+one_code = record { atn = Some (65 ∷ []); clock = None; second = None; line = None }
 
 abbrev two_codes : Codes
-two_codes = record { atn = Some (65 ∷ []); clock = Some (67 ∷ []); line = None }
+two_codes = record { atn = Some (65 ∷ []); clock = Some (67 ∷ []); second = None; line = None }
 
 -- the words of a wire's section
 abbrev wire_words : (code : ℕ) → (name : List ℕ) → List (List ℕ)
@@ -362,7 +362,7 @@ clock-known : (s : Signals) → IsAsWritten s → with_signal s one_code (wire_w
 clock-known s h = rw (h.clock, h.line) refl
 
 line-known : (s : Signals) → IsAsWritten s → with_signal s two_codes (wire_words 68 (codes "DATA")) ≡ written
-line-known s h = rw h.line refl
+line-known s h = rw (h.clock, h.line) refl
 
 -- a place in the header, by the scale that is written
 abbrev in_header : Codes → Place

@@ -12,7 +12,7 @@ use Rattle.pr_capture.specs.declared.fault.Wire.TheVariants.{Atn, Clock, Data}
 use Rattle.pr_capture.specs.declared.fault.CaptureFault.{CaptureFault}
 use Rattle.pr_capture.specs.declared.fault.CaptureFault.TheVariants.{BadLevel, BadTime, GoesBack, NoLevel, NoSignal}
 use Rattle.pr_capture.specs.declared.signals.Signals.{Signals}
-use Rattle.pr_capture.specs.Recording.{◌>>=◌, ended, is_framing, is_named, level_in, refused, told_behind, without_front, Told}
+use Rattle.pr_capture.specs.Recording.{◌>>=◌, ended, first_some, is_framing, is_named, level_in, refused, second_name, told_behind, without_front, Told}
 
 -- Lines and fields.
 
@@ -40,10 +40,14 @@ field_at (suc place) (f ∷ fs) = field_at place fs
 
 -- The columns.
 
--- the place of the first field that is the name of a wire's signal
-abbrev pub column_of : Signals → Wire → (place : ℕ) → (fields : List (List ℕ)) → Option ℕ
-column_of s wire place [] = None
-column_of s wire place (f ∷ fs) = if is_named s wire f then Some place else column_of s wire (place + 1) fs
+-- the place of the first field that is this name
+abbrev pub column_of : (name : List ℕ) → (place : ℕ) → (fields : List (List ℕ)) → Option ℕ
+column_of name place [] = None
+column_of name place (f ∷ fs) = if is_named name f then Some place else column_of name (place + 1) fs
+
+-- that of CLOCK, by its first name or else by its second
+abbrev pub clock_column : Signals → (fields : List (List ℕ)) → Option ℕ
+clock_column s fs = first_some (column_of s.clock.now 1 fs) (column_of (second_name s) 1 fs)
 
 -- there has to be one
 abbrev pub column_or : (number : ℕ) → Wire → Option ℕ → Result ℕ CaptureFault
@@ -53,9 +57,9 @@ column_or number wire (Some place) = Ok place
 -- the columns of the three lines, by the fields behind that of the time
 abbrev pub columns_in : Signals → (number : ℕ) → (fields : List (List ℕ)) → Result Columns CaptureFault
 columns_in s number fs =
-    column_or number Atn (column_of s Atn 1 fs) >>= λ atn.
-    column_or number Clock (column_of s Clock 1 fs) >>= λ clock.
-    column_or number Data (column_of s Data 1 fs) >>= λ line.
+    column_or number Atn (column_of s.atn.now 1 fs) >>= λ atn.
+    column_or number Clock (clock_column s fs) >>= λ clock.
+    column_or number Data (column_of s.line.now 1 fs) >>= λ line.
     Ok (record { atn = atn; clock = clock; line = line })
 
 -- the columns that a line names; the first is the time, whatever its name
@@ -100,7 +104,7 @@ time_in l =
     if list_all is_framing (behind_decimals (behind_digits l)) then micros_in (digits_in l) (decimals_in (behind_digits l))
     else None
 
--- a row's time, not before that of an earlier row
+-- a row's time, in whole microseconds not before that of an earlier row
 abbrev pub time_or : (number before : ℕ) → Option ℕ → Result ℕ CaptureFault
 time_or number before None = Err (BadTime number)
 time_or number before (Some t) = if nat_lt t before then Err (GoesBack number) else Ok t

@@ -3,8 +3,6 @@ use Rattle.std.specs.Prelude.{ℕ, ◌==◌, ◌&&◌, ◌||◌, Bool, false, no
 use Rattle.std.specs.Char.{eq_ignore_ascii_case}
 use Rattle.std.specs.List.{list_all}
 use Rattle.pr_wire.specs.declared.Edge.{Edge}
-use Rattle.pr_capture.specs.declared.fault.Wire.{Wire}
-use Rattle.pr_capture.specs.declared.fault.Wire.TheVariants.{Atn, Clock, Data}
 use Rattle.pr_capture.specs.declared.fault.CaptureFault.{CaptureFault}
 use Rattle.pr_capture.specs.declared.fault.CaptureFault.TheVariants.{BadLevel, Floating, Unknown}
 use Rattle.pr_capture.specs.declared.signals.Signals.{Signals}
@@ -47,12 +45,18 @@ has_name [] ls = list_all is_framing ls
 has_name (n ∷ ns) [] = false
 has_name (n ∷ ns) (l ∷ ls) = eq_ignore_ascii_case n l && has_name ns ls
 
--- a field is the name of a wire's signal; where CLOCK is looked for, CLK is one too
-abbrev pub is_named : Signals → Wire → (field : List ℕ) → Bool
-is_named s Atn field = has_name s.atn.now (without_front field)
-is_named s Clock field =
-    has_name s.clock.now (without_front field) || (has_name (codes "clock") s.clock.now && has_name (codes "clk") (without_front field))
-is_named s Data field = has_name s.line.now (without_front field)
+-- a field is a signal's name
+abbrev pub is_named : (name field : List ℕ) → Bool
+is_named name field = has_name name (without_front field)
+
+-- the name that counts for CLOCK where no signal has the first: CLK, if that is CLOCK
+abbrev pub second_name : Signals → List ℕ
+second_name s = if has_name (codes "clock") s.clock.now then codes "clk" else s.clock.now
+
+-- the first of two that there is
+abbrev pub first_some : {A : Type 0} → (first second : Option A) → Option A
+first_some None second = second
+first_some (Some x) second = Some x
 
 -- a level, on a line: 1 is released, unless the probes stand behind inverters
 abbrev pub level_in : (number : ℕ) → (inverted : Bool) → ℕ → Result Bool CaptureFault

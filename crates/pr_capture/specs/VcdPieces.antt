@@ -28,6 +28,11 @@ keyword_of l =
 abbrev pub is_level : ℕ → Bool
 is_level b = list_any (λ d. d == b) (codes "01xXzZuUwWlLhH-")
 
+-- the code of its signal has to stand behind it
+abbrev pub level_entry : (level : ℕ) → (code : List ℕ) → Entry
+level_entry b [] = Foreign
+level_entry b (c ∷ code) = Level b
+
 -- the first letter of a value whose code stands in the next word: b before bits, r before a number, s before a text
 abbrev pub is_value : ℕ → Bool
 is_value b = list_any (λ d. d == b) (codes "bBrRsS")
@@ -44,7 +49,7 @@ entry_of [] = Silent
 entry_of (b ∷ bs) =
     if b == 36 then (if is_bracket (b ∷ bs) then Silent else Opens (keyword_of (b ∷ bs)))
     else (if b == 35 then Time
-    else (if is_level b then Level b
+    else (if is_level b then level_entry b bs
     else (if is_value b then Value (bit_of b bs)
     else Foreign)))
 

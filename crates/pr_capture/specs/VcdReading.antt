@@ -1,5 +1,5 @@
 -- Trusted: what a Value Change Dump says of the bus: samples of its three lines, up to the first fault if there is one.
-use Rattle.std.specs.Prelude.{ℕ, ◌*◌, ◌/◌, ◌&&◌, ◌||◌, Bool, true, false, List, [], ◌∷◌, codes, nat_lt, if◌then◌else◌, Option, Some, None, Result, Ok, Err}
+use Rattle.std.specs.Prelude.{ℕ, ◌*◌, ◌/◌, ◌==◌, ◌&&◌, ◌||◌, Bool, true, false, not, List, [], ◌∷◌, codes, nat_lt, if◌then◌else◌, Option, Some, None, Result, Ok, Err}
 use Rattle.std.specs.List.{list_all}
 use Rattle.std.specs.Str.{bytes_eq}
 use Rattle.pr_text.specs.Digits.{is_digit}
@@ -11,11 +11,11 @@ use Rattle.pr_capture.specs.declared.changes.Seen.{Seen}
 use Rattle.pr_capture.specs.declared.fault.Wire.{Wire}
 use Rattle.pr_capture.specs.declared.fault.Wire.TheVariants.{Atn, Clock, Data}
 use Rattle.pr_capture.specs.declared.fault.CaptureFault.{CaptureFault}
-use Rattle.pr_capture.specs.declared.fault.CaptureFault.TheVariants.{BadWord, NoEnd, NoDefinitions, NoTimescale, NoSignal}
+use Rattle.pr_capture.specs.declared.fault.CaptureFault.TheVariants.{BadWord, NoEnd, NoDefinitions, NoLevel, NoTimescale, NoSignal}
 use Rattle.pr_capture.specs.declared.signals.Signals.{Signals}
-use Rattle.pr_capture.specs.Recording.{◌>>=◌, ended, is_named, level_in, refused, told_behind, Told}
+use Rattle.pr_capture.specs.Recording.{◌>>=◌, ended, first_some, is_named, level_in, refused, second_name, told_behind, Told}
 use Rattle.pr_capture.specs.Samples.{listed}
-use Rattle.pr_capture.specs.Csv.{behind_digits, digits_in, number_from, time_or}
+use Rattle.pr_capture.specs.Csv.{behind_digits, digits_in, field_at, number_from, time_or}
 use Rattle.pr_capture.specs.Words.{end_line, words_of}
 use Rattle.pr_capture.specs.VcdPieces.{pieces_behind, Piece}
 use Rattle.pr_capture.specs.VcdPieces.Piece.{Section, Stamp, Change, Stray, Unended}
@@ -50,31 +50,40 @@ scale_in (both ∷ []) = scale_of (digits_in both) (unit_in (behind_digits both)
 scale_in (count ∷ unit ∷ []) = scale_of count (unit_in unit)
 scale_in (count ∷ unit ∷ more ∷ words) = None
 
--- the code of a section `$var`, whose words are a kind, a size, a code and a name, if it is a signal of one bit with a wire's name
-abbrev pub code_in : Signals → Wire → (inside : List (List ℕ)) → Option (List ℕ)
-code_in s wire (kind ∷ size ∷ code ∷ name ∷ more) = if bytes_eq size (codes "1") && is_named s wire name then Some code else None
-code_in s wire _ = None
+-- the code of a section `$var`, whose words are a kind, a size, a code and a name, if it is a signal of one bit with
+-- the name that is wanted
+abbrev pub code_in : (wanted : List ℕ) → (inside : List (List ℕ)) → Option (List ℕ)
+code_in wanted (kind ∷ size ∷ code ∷ name ∷ more) = if bytes_eq size (codes "1") && is_named wanted name then Some code else None
+code_in wanted _ = None
 
--- the codes of the wires that are known
+-- the codes of the wires that are known, and of a signal with CLOCK's second name
 pub record Codes : Type 0 where
   pub atn : Option (List ℕ)
   pub clock : Option (List ℕ)
+  pub second : Option (List ℕ)
   pub line : Option (List ℕ)
 
 abbrev pub no_codes : Codes
-no_codes = record { atn = None; clock = None; line = None }
+no_codes = record { atn = None; clock = None; second = None; line = None }
+
+-- CLOCK's own
+abbrev pub clock_code : Codes → Option (List ℕ)
+clock_code c = first_some c.clock c.second
+
+-- signals of these kinds have no levels
+abbrev pub has_levels : (kind : Option (List ℕ)) → Bool
+has_levels None = true
+has_levels (Some k) =
+    not (bytes_eq k (codes "real") || bytes_eq k (codes "realtime") || bytes_eq k (codes "string") || bytes_eq k (codes "event"))
 
 -- of several signals with one name the first counts
-abbrev pub first_some : Option (List ℕ) → Option (List ℕ) → Option (List ℕ)
-first_some None other = other
-first_some (Some code) other = Some code
-
 abbrev pub with_signal : Signals → Codes → (inside : List (List ℕ)) → Codes
-with_signal s c inside = record {
-  atn = first_some c.atn (code_in s Atn inside);
-  clock = first_some c.clock (code_in s Clock inside);
-  line = first_some c.line (code_in s Data inside);
-}
+with_signal s c inside = if has_levels (field_at 0 inside) then (record {
+  atn = first_some c.atn (code_in s.atn.now inside);
+  clock = first_some c.clock (code_in s.clock.now inside);
+  second = first_some c.second (code_in (second_name s) inside);
+  line = first_some c.line (code_in s.line.now inside);
+}) else c
 
 -- The places of a dump: in the header, and among the changes, where times have a scale and some levels are known.
 pub data Place : Type 0 where
@@ -99,7 +108,7 @@ abbrev pub header_ended : (line : ℕ) → (scale : Option ℕ) → Codes → Re
 header_ended line scale c =
     scale_or line scale >>= λ n.
     code_or line Atn c.atn >>= λ atn.
-    code_or line Clock c.clock >>= λ clock.
+    code_or line Clock (clock_code c) >>= λ clock.
     code_or line Data c.line >>= λ code.
     Ok (Changes n c nothing_seen)
 
@@ -127,28 +136,39 @@ abbrev pub is_code : Option (List ℕ) → (code : List ℕ) → Bool
 is_code None code = false
 is_code (Some known) code = bytes_eq known code
 
--- a wire has a level
-abbrev pub level_if : (changes : Bool) → (level : Bool) → (before : Option Bool) → Option Bool
-level_if true level before = Some level
+-- all three levels are known
+abbrev pub all_known : (atn clock line : Option Bool) → Bool
+all_known (Some a) (Some c) (Some l) = true
+all_known _ _ _ = false
+
+-- a level of a wire; x and z leave it not known, as long as the three levels have not all been known at once
+abbrev pub level_behind : (known : Bool) → (line : ℕ) → (inverted : Bool) → (level : ℕ) → Result (Option Bool) CaptureFault
+level_behind known line inverted b =
+    if (b == 120 || b == 88 || b == 122 || b == 90) && not known then Ok None
+    else (level_in line inverted b >>= λ l. Ok (Some l))
+
+-- what is known of a wire's level
+abbrev pub level_if : (changes : Bool) → (level before : Option Bool) → Option Bool
+level_if true level before = level
 level_if false level before = before
 
--- a level of each wire that has this code
-abbrev pub with_level : Codes → Seen → (code : List ℕ) → (level : Bool) → Seen
+-- the same of each wire that has this code
+abbrev pub with_level : Codes → Seen → (code : List ℕ) → (level : Option Bool) → Seen
 with_level c seen code level = record {
   time = seen.time;
   atn = level_if (is_code c.atn code) level seen.atn;
-  clock = level_if (is_code c.clock code) level seen.clock;
+  clock = level_if (is_code (clock_code c) code) level seen.clock;
   line = level_if (is_code c.line code) level seen.line;
 }
 
 -- a change; that of another signal says nothing
 abbrev pub changed : (inverted : Bool) → Codes → Seen → (line level : ℕ) → (code : List ℕ) → Result Seen CaptureFault
 changed inverted c seen line level code =
-    if is_code c.atn code || is_code c.clock code || is_code c.line code
-    then (level_in line inverted level >>= λ l. Ok (with_level c seen code l))
+    if is_code c.atn code || is_code (clock_code c) code || is_code c.line code
+    then (level_behind (all_known seen.atn seen.clock seen.line) line inverted level >>= λ l. Ok (with_level c seen code l))
     else Ok seen
 
--- a time stamp, not before that of an earlier one
+-- a time stamp, in whole microseconds not before that of an earlier one
 abbrev pub stamped : (scale : ℕ) → Seen → (line : ℕ) → (digits : List ℕ) → Result Seen CaptureFault
 stamped scale seen line digits =
     time_or line seen.time (time_at scale digits) >>= λ t.
@@ -185,10 +205,29 @@ abbrev pub goes_on : Result Place CaptureFault → (Place → Told) → Told
 goes_on (Err f) rest = refused f
 goes_on (Ok p) rest = told_behind (listed (sample_of p)) (rest p)
 
+-- the first wire without a level
+abbrev pub without_level : (atn clock line : Option Bool) → Option Wire
+without_level None clock line = Some Atn
+without_level (Some a) None line = Some Clock
+without_level (Some a) (Some c) None = Some Data
+without_level (Some a) (Some c) (Some l) = None
+
+-- no level was said, and no moment behind 0: so is the dump of an empty trace
+abbrev pub is_blank : (time : ℕ) → (atn clock line : Option Bool) → Bool
+is_blank time None None None = time == 0
+is_blank time _ _ _ = false
+
+-- each wire has to have a level
+abbrev pub level_wanted : (end : ℕ) → (missing : Option Wire) → Told
+level_wanted end None = ended
+level_wanted end (Some wire) = refused (NoLevel end wire)
+
 -- a text ends on this line
 abbrev pub told_at_end : (end : ℕ) → Place → Told
 told_at_end end (Header scale c) = refused (NoDefinitions end)
-told_at_end end (Changes scale c seen) = ended
+told_at_end end (Changes scale c seen) =
+    if is_blank seen.time seen.atn seen.clock seen.line then ended
+    else level_wanted end (without_level seen.atn seen.clock seen.line)
 
 -- what pieces tell from a place on
 abbrev pub pieces_told : Signals → (end : ℕ) → Place → List Piece → Told

@@ -35,7 +35,7 @@ code_of (Some v) = Some v.items
 
 -- the codes that are held
 abbrev pub codes_of : WireCodes → Codes
-codes_of c = record { atn = code_of c.atn; clock = code_of c.clock; line = code_of c.line }
+codes_of c = record { atn = code_of c.atn; clock = code_of c.clock; second = code_of c.second; line = code_of c.line }
 
 -- the place at which a reader is
 abbrev pub place_at : Stage → Codes → Place

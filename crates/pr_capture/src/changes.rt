@@ -1,11 +1,13 @@
 //! What is known of the wires among the changes of a dump.
 
-ghost use Rattle.std.specs.Prelude.{◌≡◌};
+ghost use Rattle.std.specs.Prelude.{◌≡◌, if◌then◌else◌, None};
 ghost use Rattle.std.specs.List.{list_all};
 ghost use Rattle.pr_text.specs.Digits.{is_digit};
-ghost use Rattle.pr_capture.specs.VcdReading.{level_if, sample_in, time_at, whole_micros};
+ghost use Rattle.pr_capture.specs.VcdReading.{all_known, is_blank, level_behind, level_if, sample_in, time_at, whole_micros, without_level};
 
 use crate::csv::number_from;
+use crate::fault::{CaptureFault, Wire};
+use crate::signals::level_in;
 use pr_text::is_digit;
 use pr_wire::{Edge, Levels};
 
@@ -51,14 +53,58 @@ pub fn time_at(scale: u64, digits: &[u8]) -> Option<u64>
     whole_micros(scale, number_from(0, digits))
 }
 
-/// A wire's level behind a change.
-pub fn level_if(changes: bool, level: bool, before: Option<bool>) -> Option<bool>
+/// A wire's level on a line: x and z leave it not known, as long as the three levels have not all been
+/// known at once.
+pub fn level_behind(
+    known: bool,
+    line: usize,
+    is_inverted: bool,
+    level: u8,
+) -> Result<Option<bool>, CaptureFault>
+    ensures { result ≡ level_behind known line is_inverted level }
+{
+    if (level == b'x' || level == b'X' || level == b'z' || level == b'Z') && !known {
+        return Ok(None);
+    }
+    let level = level_in(line, is_inverted, level)?;
+    Ok(Some(level))
+}
+
+/// What is known of a wire's level behind a change.
+pub fn level_if(changes: bool, level: Option<bool>, before: Option<bool>) -> Option<bool>
     ensures { result ≡ level_if changes level before }
 {
-    if changes { Some(level) } else { before }
+    if changes { level } else { before }
 }
 
 impl Seen {
+    /// Whether all three levels are known.
+    pub fn all_known(self) -> bool
+        ensures { result ≡ all_known self.atn self.clock self.line }
+    {
+        self.atn.is_some() && self.clock.is_some() && self.line.is_some()
+    }
+
+    /// The first wire without a level, if a dump ends here that is not blank: in which a level was said,
+    /// or a moment behind 0.
+    pub fn missing(self) -> Option<Wire>
+        ensures { result ≡ if is_blank self.time self.atn self.clock self.line then None else without_level self.atn self.clock self.line }
+    {
+        if self.time == 0 && self.atn.is_none() && self.clock.is_none() && self.line.is_none() {
+            return None;
+        }
+        if self.atn.is_none() {
+            return Some(Wire::Atn);
+        }
+        if self.clock.is_none() {
+            return Some(Wire::Clock);
+        }
+        if self.line.is_none() {
+            return Some(Wire::Data);
+        }
+        None
+    }
+
     /// A sample, once all three levels are known.
     pub fn sample(self) -> Option<Edge>
         ensures { result ≡ sample_in self.time self.atn self.clock self.line }

@@ -2,13 +2,13 @@
 
 ghost use Rattle.std.specs.Prelude.{◌≡◌, ◌+◌, ◌^◌, ◌<◌, ◌≤◌, ◌∷◌, ◌++◌, [], false, true, None, IfErr, IfOk, length, option_copied, take};
 ghost use Rattle.std.specs.List.{list_all, prefix_len};
-ghost use Rattle.pr_capture.specs.Csv.{column_of, columns_in, field_at, fields_of, is_silent, level_of, level_or, micros_in, number_from, row, sample_of, time_in, time_or};
+ghost use Rattle.pr_capture.specs.Csv.{clock_column, column_of, columns_in, field_at, fields_of, is_silent, level_of, level_or, micros_in, number_from, row, sample_of, time_in, time_or};
 ghost use Rattle.pr_capture.specs.CsvSteps.{field_len, fields_left, is_inner, line_number, AnswersEnd, EndsText, FaultsIn, HasRead, HoldsMore, ReadsLine, ReadsMore, Refuses};
 ghost use Rattle.pr_capture.specs.declared.csv.RowPlace.TheVariants.{Names};
 ghost use Rattle.pr_capture.specs.declared.fault.CaptureFault.TheVariants.{NoMemory};
 
 use crate::fault::{CaptureFault, Wire};
-use crate::signals::{Signals, are_framing, level_in, without_front};
+use crate::signals::{Signals, are_framing, is_named, level_in, without_front};
 use pr_text::digit_count;
 use pr_wire::{Edge, Levels};
 use std::alloc::Global;
@@ -79,22 +79,33 @@ fn field_at(line: &[u8], place: usize) -> Option<&[u8]>
     Some(split_field(rest).0)
 }
 
-/// The place of the first field that is the name of a wire's signal; the first field has place 1.
-fn column_of(signals: &Signals<'_>, wire: Wire, fields: Option<&[u8]>) -> Option<usize>
+/// The place of the first field that is this name; the first field has place 1.
+fn column_of(name: &[u8], fields: Option<&[u8]>) -> Option<usize>
     requires { length (fields_left (option_copied fields)) + 1 < 2 ^ 64 }
-    ensures { result ≡ column_of signals.now wire 1 (fields_left (option_copied fields.entry)) }
+    ensures { result ≡ column_of name.now 1 (fields_left (option_copied fields.entry)) }
 {
     let mut place = 1;
     let mut left = fields;
     while let Some(line) = left {
         let (field, more) = split_field(line);
-        if signals.is_named(wire, field) {
+        if is_named(name, field) {
             return Some(place);
         }
         place += 1;
         left = more;
     }
     None
+}
+
+/// The place of CLOCK's column, by its first name or else by its second.
+fn clock_column(signals: &Signals<'_>, fields: Option<&[u8]>) -> Option<usize>
+    requires { length (fields_left (option_copied fields)) + 1 < 2 ^ 64 }
+    ensures { result ≡ clock_column signals.now (fields_left (option_copied fields.entry)) }
+{
+    match column_of(signals.clock, fields) {
+        Some(place) => Some(place),
+        None => column_of(signals.second_name(), fields),
+    }
 }
 
 /// The columns of the three lines, by the fields behind that of the time.
@@ -106,13 +117,13 @@ fn columns_in(
     requires { length (fields_left (option_copied fields)) + 1 < 2 ^ 64 }
     ensures { result ≡ columns_in signals.now number (fields_left (option_copied fields.entry)) }
 {
-    let Some(atn) = column_of(signals, Wire::Atn, fields) else {
+    let Some(atn) = column_of(signals.atn, fields) else {
         return Err(CaptureFault::NoSignal(number, Wire::Atn));
     };
-    let Some(clock) = column_of(signals, Wire::Clock, fields) else {
+    let Some(clock) = clock_column(signals, fields) else {
         return Err(CaptureFault::NoSignal(number, Wire::Clock));
     };
-    let Some(line) = column_of(signals, Wire::Data, fields) else {
+    let Some(line) = column_of(signals.line, fields) else {
         return Err(CaptureFault::NoSignal(number, Wire::Data));
     };
     Ok(Columns { atn, clock, line })
@@ -185,7 +196,7 @@ fn time_in(field: &[u8]) -> Option<u64>
     }
 }
 
-/// A row's time, which is not before that of an earlier row.
+/// A row's time, which in whole microseconds is not before that of an earlier row.
 pub fn time_or(number: usize, before: u64, time: Option<u64>) -> Result<u64, CaptureFault>
     ensures { result ≡ time_or number before time }
 {

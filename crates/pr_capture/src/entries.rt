@@ -2,7 +2,7 @@
 
 ghost use Rattle.std.specs.Prelude.{◌≡◌};
 ghost use Rattle.std.specs.Str.{bytes_eq};
-ghost use Rattle.pr_capture.specs.VcdPieces.{bit_of, entry_of, is_bracket, is_level, is_value, keeps, keyword_of, rest_of};
+ghost use Rattle.pr_capture.specs.VcdPieces.{bit_of, entry_of, is_bracket, is_level, is_value, keeps, keyword_of, level_entry, rest_of};
 
 /// What a section says, by its keyword.
 #[derive(Clone, Copy)]
@@ -97,6 +97,17 @@ fn bit_of(first: u8, letters: &[u8]) -> u8
     }
 }
 
+/// A level, if the code of its signal stands behind it.
+fn level_entry(level: u8, code: &[u8]) -> Entry
+    ensures { result ≡ level_entry level code.now }
+{
+    if code.is_empty() {
+        Entry::Foreign
+    } else {
+        Entry::Level(level)
+    }
+}
+
 /// What a word is that stands in no section.
 pub fn entry_of(letters: &[u8]) -> Entry
     ensures { result ≡ entry_of letters.now }
@@ -113,7 +124,7 @@ pub fn entry_of(letters: &[u8]) -> Entry
             } else if *b == b'#' {
                 Entry::Time
             } else if is_level(*b) {
-                Entry::Level(*b)
+                level_entry(*b, rest)
             } else if is_value(*b) {
                 Entry::Value(bit_of(*b, rest))
             } else {

@@ -38,10 +38,10 @@ pub enum CaptureFault {
     /// A time that is no number of its unit, or not below 2^64 microseconds or 2^64 of a dump's own unit.
     #[error("line {0}: bad time")]
     BadTime(usize),
-    /// A time before that of an earlier line.
+    /// A time before that of an earlier line; times are compared in whole microseconds.
     #[error("line {0}: time goes back")]
     GoesBack(usize),
-    /// The row has no level of the wire.
+    /// The row has no level of the wire, or the dump that ends on the line never gave one.
     #[error("line {0}: no level of {1}")]
     NoLevel(usize, Wire),
     /// The wire's level is not known.

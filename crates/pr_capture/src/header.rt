@@ -1,14 +1,13 @@
 //! What the header of a dump says: the unit of all times, and the codes of the three wires.
 
 ghost use Rattle.std.specs.Prelude.{◌≡◌, ◌≤◌, option_copied, IfOk, IfSome, OnOk};
-ghost use Rattle.pr_capture.specs.declared.fault.Wire.TheVariants.{Atn, Clock, Data};
 ghost use Rattle.pr_capture.specs.Csv.{field_at};
-ghost use Rattle.pr_capture.specs.VcdReading.{code_in, first_some, is_code, scale_in, scale_of, unit_in, with_signal};
+ghost use Rattle.pr_capture.specs.Recording.{first_some};
+ghost use Rattle.pr_capture.specs.VcdReading.{code_in, has_levels, is_code, scale_in, scale_of, unit_in, with_signal};
 ghost use Rattle.pr_capture.specs.VcdSteps.{code_of, codes_of, words_in};
 
 use crate::entries::is_word;
-use crate::fault::Wire;
-use crate::signals::Signals;
+use crate::signals::{Signals, is_named};
 use pr_text::digit_count;
 use pr_wire::NoMemory;
 use std::alloc::Global;
@@ -79,17 +78,32 @@ pub fn scale_in(inside: &[Vec<u8>]) -> Option<u64>
     }
 }
 
-/// The code of a signal of one bit that has a wire's name, if the words of a section `$var` tell one.
-fn code_in<'w>(signals: &Signals<'_>, wire: Wire, inside: &'w [Vec<u8>]) -> Option<&'w [u8]>
-    ensures { option_copied result ≡ code_in signals.now wire (words_in inside.now) }
+/// The code of a signal of one bit that has a name, if the words of a section `$var` tell one.
+fn code_in<'w>(wanted: &[u8], inside: &'w [Vec<u8>]) -> Option<&'w [u8]>
+    ensures { option_copied result ≡ code_in wanted.now (words_in inside.now) }
 {
     let name = word_at(inside, 3)?;
     let code = word_at(inside, 2)?;
     let size = word_at(inside, 1)?;
-    if is_word(size, b"1") && signals.is_named(wire, name) {
+    if is_word(size, b"1") && is_named(wanted, name) {
         Some(code)
     } else {
         None
+    }
+}
+
+/// Whether signals of a kind have levels: not numbers, texts and events.
+fn has_levels(kind: Option<&[u8]>) -> bool
+    ensures { result ≡ has_levels (option_copied kind.entry) }
+{
+    match kind {
+        None => true,
+        Some(kind) => {
+            !(is_word(kind, b"real")
+                || is_word(kind, b"realtime")
+                || is_word(kind, b"string")
+                || is_word(kind, b"event"))
+        }
     }
 }
 
@@ -117,30 +131,31 @@ fn has_code(wire: &Option<Vec<u8>>, code: &[u8]) -> bool
 pub struct WireCodes {
     pub atn: Option<Vec<u8>>,
     pub clock: Option<Vec<u8>>,
+    /// That of a signal with CLOCK's second name.
+    pub second: Option<Vec<u8>>,
     pub line: Option<Vec<u8>>,
 }
 
-/// Notes the code of a wire, if it is not known and these words tell it.
+/// Notes the code of a signal with a name, if none is known and these words tell one.
 fn note(
     alloc: Global,
     known: &mut Option<Vec<u8>>,
-    signals: &Signals<'_>,
-    wire: Wire,
+    name: &[u8],
     inside: &[Vec<u8>],
 ) -> Result<(), NoMemory>
-    ensures { OnOk result (code_of known.new ≡ first_some (code_of known.old) (code_in signals.now wire (words_in inside.now))) }
+    ensures { OnOk result (code_of known.new ≡ first_some (code_of known.old) (code_in name.now (words_in inside.now))) }
 {
     if known.is_some() {
         return Ok(());
     }
-    if let Some(code) = code_in(signals, wire, inside) {
+    if let Some(code) = code_in(name, inside) {
         *known = Some(copied(alloc, code)?);
     }
     Ok(())
 }
 
 impl WireCodes {
-    /// Notes the codes of the wires whose signal has its section with these words.
+    /// Notes the codes of the wires whose signal has its section with these words, if it has levels.
     pub fn note_signal(
         &mut self,
         alloc: Global,
@@ -149,20 +164,34 @@ impl WireCodes {
     ) -> Result<(), NoMemory>
         ensures { OnOk result (codes_of self.new ≡ with_signal signals.now (codes_of self.old) (words_in inside.now)) }
     {
-        note(alloc, &mut self.atn, signals, Wire::Atn, inside)?;
-        note(alloc, &mut self.clock, signals, Wire::Clock, inside)?;
-        note(alloc, &mut self.line, signals, Wire::Data, inside)
+        if !has_levels(word_at(inside, 0)) {
+            return Ok(());
+        }
+        note(alloc, &mut self.atn, signals.atn, inside)?;
+        note(alloc, &mut self.clock, signals.clock, inside)?;
+        note(alloc, &mut self.second, signals.second_name(), inside)?;
+        note(alloc, &mut self.line, signals.line, inside)
+    }
+
+    /// Whether CLOCK has this code: that of its first name counts, if a signal has it.
+    fn is_clock(&self, code: &[u8]) -> bool
+        ensures { result ≡ is_code (first_some (code_of self.now.clock) (code_of self.now.second)) code.now }
+    {
+        match &self.clock {
+            None => has_code(&self.second, code),
+            Some(known) => is_word(known.as_slice(), code),
+        }
     }
 
     /// Which wires have a code: ATN, CLOCK and DATA.
     pub fn which(&self, code: &[u8]) -> (bool, bool, bool)
         ensures atn { result.0 ≡ is_code (code_of self.now.atn) code.now }
-        ensures clock { result.1 ≡ is_code (code_of self.now.clock) code.now }
+        ensures clock { result.1 ≡ is_code (first_some (code_of self.now.clock) (code_of self.now.second)) code.now }
         ensures line { result.2 ≡ is_code (code_of self.now.line) code.now }
     {
         (
             has_code(&self.atn, code),
-            has_code(&self.clock, code),
+            self.is_clock(code),
             has_code(&self.line, code),
         )
     }

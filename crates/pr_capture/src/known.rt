@@ -5,12 +5,12 @@ ghost use Rattle.pr_capture.specs.VcdPieces.Piece.{Change, Section, Stamp, Stray
 ghost use Rattle.pr_capture.specs.VcdReading.{changed, header_ended, sample_of, stamped};
 ghost use Rattle.pr_capture.specs.VcdSteps.{codes_of, place_at, place_of, words_in, ReadsPiece};
 
-use crate::changes::{Seen, level_if, time_at};
+use crate::changes::{Seen, level_behind, level_if, time_at};
 use crate::csv::time_or;
 use crate::entries::Keyword;
 use crate::fault::{CaptureFault, Wire};
 use crate::header::{WireCodes, scale_in};
-use crate::signals::{Signals, level_in};
+use crate::signals::Signals;
 use pr_wire::Edge;
 use std::alloc::Global;
 
@@ -41,7 +41,7 @@ fn header_ended(line: usize, scale: Option<u64>, codes: &WireCodes) -> Result<St
     if codes.atn.is_none() {
         return Err(CaptureFault::NoSignal(line, Wire::Atn));
     }
-    if codes.clock.is_none() {
+    if codes.clock.is_none() && codes.second.is_none() {
         return Err(CaptureFault::NoSignal(line, Wire::Clock));
     }
     if codes.line.is_none() {
@@ -56,7 +56,7 @@ fn header_ended(line: usize, scale: Option<u64>, codes: &WireCodes) -> Result<St
     Ok(Stage::InChanges(scale, seen))
 }
 
-/// What is known behind a time stamp.
+/// What is known behind a time stamp, which in whole microseconds is not before that of an earlier one.
 fn stamped(scale: u64, seen: Seen, line: usize, digits: &[u8]) -> Result<Seen, CaptureFault>
     ensures { result ≡ stamped scale seen line digits.now }
 {
@@ -84,7 +84,7 @@ fn changed(
     if !(atn || clock || data) {
         return Ok(seen);
     }
-    let level = level_in(line, is_inverted, level)?;
+    let level = level_behind(seen.all_known(), line, is_inverted, level)?;
     Ok(Seen {
         time: seen.time,
         atn: level_if(atn, level, seen.atn),

@@ -50,6 +50,7 @@ impl Progress {
         let codes = WireCodes {
             atn: None,
             clock: None,
+            second: None,
             line: None,
         };
         Progress {
@@ -157,7 +158,10 @@ impl Progress {
             (Phase::InSection(line, _), _) => Err(CaptureFault::NoEnd(line)),
             (_, Stage::InHeader(_)) => Err(CaptureFault::NoDefinitions(end)),
             (Phase::BehindValue(line, _), _) => Err(CaptureFault::BadWord(line)),
-            (Phase::Between, _) => Ok(None),
+            (Phase::Between, Stage::InChanges(_, seen)) => match seen.missing() {
+                Some(wire) => Err(CaptureFault::NoLevel(end, wire)),
+                None => Ok(None),
+            },
         }
     }
 }

@@ -2,16 +2,16 @@
 
 ghost use Rattle.std.specs.Prelude.{◌≡◌};
 ghost use Rattle.std.specs.List.{list_all};
-ghost use Rattle.pr_capture.specs.Recording.{has_name, is_framing, is_named, level_in, without_front};
+ghost use Rattle.pr_capture.specs.Recording.{has_name, is_framing, is_named, level_in, second_name, without_front};
 
-use crate::fault::{CaptureFault, Wire};
+use crate::fault::CaptureFault;
 
 /// Which signals of a recording are the lines of the bus, and how their levels are meant.
 #[derive(Clone, Copy)]
 pub struct Signals<'a> {
     /// ATN's name, as bytes. Its letters may be capitals or not.
     pub atn: &'a [u8],
-    /// CLOCK's name, likewise. Where it is CLOCK, a signal called CLK is CLOCK too.
+    /// CLOCK's name, likewise. Where it is CLOCK and no signal is called so, one called CLK is CLOCK.
     pub clock: &'a [u8],
     /// DATA's name, likewise.
     pub line: &'a [u8],
@@ -68,19 +68,22 @@ fn has_name(name: &[u8], bytes: &[u8]) -> bool
     are_framing(left)
 }
 
+/// Whether a field is a signal's name.
+pub fn is_named(name: &[u8], field: &[u8]) -> bool
+    ensures { result ≡ is_named name.now field.now }
+{
+    has_name(name, without_front(field))
+}
+
 impl Signals<'_> {
-    /// Whether a field is the name of a wire's signal.
-    pub fn is_named(&self, wire: Wire, field: &[u8]) -> bool
-        ensures { result ≡ is_named self.now wire field.now }
+    /// The name that counts for CLOCK where no signal has the first: CLK, if that is CLOCK.
+    pub fn second_name(&self) -> &[u8]
+        ensures { result.now ≡ second_name self.now }
     {
-        let name = without_front(field);
-        match wire {
-            Wire::Atn => has_name(self.atn, name),
-            Wire::Clock => {
-                has_name(self.clock, name)
-                    || (has_name(b"clock", self.clock) && has_name(b"clk", name))
-            }
-            Wire::Data => has_name(self.line, name),
+        if has_name(b"clock", self.clock) {
+            b"clk"
+        } else {
+            self.clock
         }
     }
 }

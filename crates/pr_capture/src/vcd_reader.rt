@@ -34,7 +34,7 @@ fn word_len(text: &[u8]) -> usize
 }
 
 /// Reads a Value Change Dump that comes in blocks. It keeps the word that has begun, no more than four
-/// words of a section, and the codes of the three wires.
+/// words of a section, and the codes of the three wires and of a signal CLK.
 #[derive(Drop)]
 pub struct VcdReader<'a> {
     signals: Signals<'a>,
@@ -132,7 +132,8 @@ impl<'a> VcdReader<'a> {
     /// # Errors
     ///
     /// The fault of the last word; a section without its end, or a value without a code; no
-    /// `$enddefinitions`; [`CaptureFault::NoMemory`] as for [`VcdReader::take_front`].
+    /// `$enddefinitions`; a wire that never got a level, unless the dump is blank behind its header: no
+    /// level there, and no moment behind 0; [`CaptureFault::NoMemory`] as for [`VcdReader::take_front`].
     pub fn finish(mut self) -> Result<Option<Edge>, CaptureFault>
         ensures { EndsText self.entry result }
     {

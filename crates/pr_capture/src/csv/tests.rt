@@ -115,7 +115,7 @@ fn names_and_inverters(rt: HostRuntime) -> Result<(), Fail> {
         "t,channel 1,channel 0,channel 10,CHANNEL 2\n0,0,1,1,0\n",
         "0 011\n",
     )?;
-    says(&rt, names(), "t,CLK,CLOCK,DATA,ATN\n0,0,1,1,1\n", "0 101\n")
+    says(&rt, names(), "t,CLK,CLOCK,DATA,ATN\n0,0,1,1,1\n", "0 111\n")
 }
 
 /// Whole microseconds of seconds.

@@ -159,6 +159,48 @@ fn dump_of_sigrok_cli(rt: HostRuntime) -> Result<(), Fail> {
     )
 }
 
+/// Levels that are not known before all three are: x in the section of first levels, z for a tristate
+/// line, and a level that is lost again. Behind inverters they are none too.
+#[test]
+fn levels_not_known_yet(rt: HostRuntime) -> Result<(), Fail> {
+    let head =
+        "$timescale 1 us $end $var wire 1 a ATN $end $var wire 1 c CLOCK $end $var wire 1 d DATA $end $enddefinitions $end";
+    let text = format!(in rt.alloc();
+        "{head}\n#0 $dumpvars xa Xc bx d $end\n#3 1a 1c\n#4 zc\n#5 0d bZ a\n#6 1c\n#7 0a\n#8 1d\n"
+    )?;
+    says(&rt, names(), text.as_str(), "7 010\n8 011\n")?;
+    let inverted = Signals {
+        atn: b"ATN",
+        clock: b"CLOCK",
+        line: b"DATA",
+        is_inverted: true,
+    };
+    says(&rt, inverted, text.as_str(), "7 101\n8 100\n")
+}
+
+/// CLOCK comes before CLK wherever they stand; of several signals called CLK the first counts, where none is
+/// called CLOCK.
+#[test]
+fn clock_before_clk(rt: HostRuntime) -> Result<(), Fail> {
+    let head = "$timescale 1 us $end $var wire 1 k clk $end $var wire 1 a ATN $end";
+    let rest = "$var wire 1 d DATA $end $enddefinitions $end 1a 1d 1k 0c #3 1c";
+    let both = format!(in rt.alloc(); "{head} $var wire 1 c Clock $end {rest}")?;
+    says(&rt, names(), both.as_str(), "0 101\n3 111\n")?;
+    let clk = format!(in rt.alloc(); "{head} $var wire 1 c CLK $end {rest}")?;
+    says(&rt, names(), clk.as_str(), "0 111\n")
+}
+
+/// Signals that are no wires whatever their name: numbers, texts and events.
+#[test]
+fn kinds_without_levels(rt: HostRuntime) -> Result<(), Fail> {
+    says(
+        &rt,
+        names(),
+        "$timescale 1 us $end $var real 1 r ATN $end $var realtime 1 t CLOCK $end $var string 1 s DATA $end $var event 1 e ATN $end $var reg 1 a ATN $end $var tri 1 c CLOCK $end $var logic 1 d DATA $end $enddefinitions $end r0 r r5 t stext s 1e 1a 1c 1d #2 1e r1.5 t 0c",
+        "0 111\n2 101\n",
+    )
+}
+
 /// Names of one's own, and probes behind inverters.
 #[test]
 fn names_and_inverters(rt: HostRuntime) -> Result<(), Fail> {
@@ -238,6 +280,7 @@ fn faults_of_headers(rt: HostRuntime) -> Result<(), Fail> {
     refuses(&rt, "\n\n$date today $end\n", "line 4: no $enddefinitions")?;
     refuses(&rt, "$scope a $end\n#0\n", "line 2: no $enddefinitions")?;
     refuses(&rt, "$scope a $end\n1!\n", "line 3: no $enddefinitions")?;
+    refuses(&rt, "$scope a $end\n1 0\n", "line 3: no $enddefinitions")?;
     refuses(&rt, "t,ATN,CLOCK,DATA\nb1", "line 2: no $enddefinitions")?;
     refuses(&rt, "$date\n\n$var wire 1 ! ATN", "line 1: no $end")?;
     refuses(&rt, "$timescale 2 ns $end", "line 1: no timescale")?;
@@ -279,10 +322,10 @@ fn refuses_changes(
 /// Faults of the changes, each with its line.
 #[test]
 fn faults_of_changes(rt: HostRuntime) -> Result<(), Fail> {
-    refuses_changes(&rt, "#0\n1A\nxC\n1D\n", "line 7: level x")?;
-    refuses_changes(&rt, "#0\n1A\n1C\nZD", "line 8: level z")?;
-    refuses_changes(&rt, "$dumpoff X! bx\n\nA $end", "line 5: level x")?;
-    refuses_changes(&rt, "#0 bz D", "line 5: level z")?;
+    refuses_changes(&rt, "#0\n1A\n1C\n1D\nxC", "line 9: level x")?;
+    refuses_changes(&rt, "#0\n1A\n1C\nZD\n1D\nZD", "line 10: level z")?;
+    refuses_changes(&rt, "1A 1D 0C\n$dumpoff X! bx\n\nA $end", "line 6: level x")?;
+    refuses_changes(&rt, "xA 1A 1C 1D #0 bz D", "line 5: level z")?;
     refuses_changes(&rt, "b01 A", "line 5: bad level")?;
     refuses_changes(&rt, "b A", "line 5: bad level")?;
     refuses_changes(&rt, "r1 A", "line 5: bad level")?;
@@ -291,9 +334,28 @@ fn faults_of_changes(rt: HostRuntime) -> Result<(), Fail> {
     refuses_changes(&rt, "#20\n1A\n#19\n", "line 7: time goes back")?;
     refuses_changes(&rt, "#20\n1A\n2A\n", "line 7: bad word")?;
     refuses_changes(&rt, "#20\nb1", "line 6: bad word")?;
+    refuses_changes(&rt, "#5 0 #6 ", "line 5: bad word")?;
+    refuses_changes(&rt, "1A\nx", "line 6: bad word")?;
     refuses_changes(&rt, "\n$comment\n#20\n1A", "line 6: no $end")?;
     refuses_changes(&rt, "# 20", "line 5: bad time")?;
     refuses_changes(&rt, "#2O", "line 5: bad time")
+}
+
+/// Wires that never get a level; a dump that is blank behind its header says no edges.
+#[test]
+fn wires_without_levels(rt: HostRuntime) -> Result<(), Fail> {
+    refuses_changes(&rt, "1C 1D\n#9", "line 6: no level of ATN")?;
+    refuses_changes(&rt, "1A\n#9\n", "line 7: no level of CLOCK")?;
+    refuses_changes(&rt, "#0 1A 0C xD\n#9 1A", "line 6: no level of DATA")?;
+    refuses_changes(
+        &rt,
+        "#0 $dumpvars xA xC zD $end\n#1",
+        "line 6: no level of ATN",
+    )?;
+    refuses_changes(&rt, "1A 1C 1D xB #4 b1", "line 5: bad word")?;
+    let blank =
+        "$timescale 1 us $end $var wire 1 a ATN $end $var wire 1 c CLOCK $end $var wire 1 d DATA $end $enddefinitions $end #0 xa $dumpoff $end";
+    says(&rt, names(), blank, "")
 }
 
 /// The edges of a trace text are read again as they were written.

@@ -11,6 +11,6 @@ decreases-loop-left l = length (fields_left (option_copied l.left))
 -- the fields left decide, and there are not too many
 abbrev pub invariant-loop-left : goal.invariant-loop-left
 invariant-loop-left l = record {
-  left : column_of l.signals l.wire l.place (fields_left (option_copied l.left)) ≡ column_of l.signals l.wire 1 (fields_left (option_copied l.fields));
+  left : column_of l.name l.place (fields_left (option_copied l.left)) ≡ column_of l.name 1 (fields_left (option_copied l.fields));
   few : l.place + length (fields_left (option_copied l.left)) < 2 ^ 64;
 }
