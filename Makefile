@@ -4,6 +4,7 @@
 # make bench        speed and peak memory beside `wc -l`, with the aim of each
 # make peer         traces and pictures of runs, read by others: sigrok's decoder of the bus (sigrok-cli and libsigrokdecode4),
 #                   xmllint and rsvg-convert (libxml2-utils, librsvg2-bin and netpbm)
+# make lib          proves and builds libprint1525.a, the library for C programs (docs/C.md)
 # make install      copies the built program to $(PREFIX)/bin
 
 SHELL := /bin/bash
@@ -18,7 +19,7 @@ TESTS := $(foreach crate,$(GROWTHS),crates/$(crate)/out/$(crate)_tests)
 # What the program and the tests are built from.
 SOURCES := crates.txt $(shell find crates -path '*/out' -prune -o \( -name '*.rt' -o -name '*.antt' \) -print)
 
-.PHONY: run try build test outside bench peer install
+.PHONY: run try build test outside bench peer lib install
 
 run: build
 	@$(PROGRAM) pages < examples/hello.bas
@@ -40,12 +41,20 @@ test:
 	@$(MAKE) --no-print-directory outside
 
 # The tests outside the prover: the built program, and the tests of crates that go on after a refusal.
-outside: build $(TESTS)
+outside: build lib $(TESTS)
 	@tests/run $(PROGRAM)
 
 # So are the tests.
 $(TESTS): $(SOURCES)
 	@cd $(@D)/.. && rt test > out.log 2>&1 || { cat out.log; exit 1; }; rm -f out.log
+
+# The library for C programs: the archives of two crates and a part of the toolchain's in one.
+lib: libprint1525.a
+
+libprint1525.a: $(SOURCES) tests/archive
+	@for crate in pr_ear pr_c; do \
+		(cd crates/$$crate && rt lib > out.log 2>&1 || { cat out.log; exit 1; }; rm -f out.log) || exit 1; done
+	@tests/archive $@ pr_ear pr_c
 
 bench: build $(TESTS)
 	@tests/bench $(PROGRAM)
