@@ -1,13 +1,11 @@
 -- What is made in memory, and handed to the caller.
-use Rattle.std.proofs.Common.{◌≡◌, ℕ, List, [], Bool, Option, Some, Result, Ok, Err, refl, sym, subst}
-use Rattle.std.specs.Prelude.{IfErr, IfOk}
+use Rattle.std.proofs.Common.{ℕ, List, [], Bool, Some, Result, Ok, Err, refl, sym, subst}
 use Rattle.pr_options.specs.declared.format.Format.{Format}
 use Rattle.pr_cli.specs.Bus.{AnswersBus}
 use Rattle.pr_cli.specs.Check.{AnswersCheck}
 use Rattle.pr_cli.specs.Pages.{AnswersPages, IsTextOf, Start}
 use Rattle.pr_cli.specs.Raw.{AnswersRaw, IsRawText}
 use Rattle.pr_cli.specs.declared.pages.Ending.{Ending}
-use Rattle.pr_cli.specs.declared.pages.Ending.TheVariants.{Done}
 use Rattle.pr_cli.specs.declared.fault.CliFault.{CliFault}
 use Rattle.pr_cli.specs.declared.fault.CliFault.TheVariants.{Script, Trace, Wave, TooLarge, NoMemory, ReadFailed, WriteFailed}
 use Rattle.pr_c.specs.Answers.{IsBusText, IsFramesText, IsPagesText, IsPaperRefusal, IsPaperText, IsScriptRefusal, IsTraceRefusal, Tells}

@@ -1,9 +1,9 @@
--- Words of calls: a text that was made, or the fault in its place, is handed to the caller. No claim rests on them.
+-- Linking words: a text that was made, or the fault in its place, is handed to the caller. No reader needs to believe them.
 use Rattle.std.specs.Prelude.{◌≡◌, ℕ, ◌<◌, ◌≤◌, List, ◌++◌, length, drop, Result, Ok, Err}
 use Rattle.pr_cli.specs.declared.pages.Ending.{Ending}
 use Rattle.pr_cli.specs.declared.pages.Ending.TheVariants.{Done}
 use Rattle.pr_cli.specs.declared.fault.CliFault.{CliFault}
-use Rattle.pr_cli.specs.declared.fault.CliFault.TheVariants.{Script, Trace, Wave, TooLarge, NoMemory, ReadFailed, WriteFailed}
+use Rattle.pr_cli.specs.declared.fault.CliFault.TheVariants.{Script, Trace, Wave, TooLarge, NoMemory}
 use Rattle.pr_c.specs.declared.told.Told.{Told}
 use Rattle.pr_c.specs.declared.told.Told.TheVariants.{Written, TooSmall, Refused}
 

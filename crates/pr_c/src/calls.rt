@@ -22,7 +22,8 @@ pub fn pages(
     format: Format,
     out: &mut [u8],
 ) -> Told
-    ensures tells { Tells (IsPagesText (start_of present delays mode) format script.now) (IsScriptRefusal script.now) out.old out.new result }
+    ensures tells { Tells (IsPagesText (start_of present delays mode) format script.now) (IsScriptRefusal script.now)
+        out.old out.new result }
     ensures length { length out.new ≡ length out.old }
 {
     let mut input = Watched::new(script);
