@@ -1,6 +1,7 @@
 # make run          proves and builds the program (once) and prints the page of examples/hello.bas
 # make try          prints that page within a minute or two, by a build of which nothing is proved
 # make test         the gate: every proof, test and must-fail edit, then the tests outside the prover
+# make cases        makes the inputs and answers of cases/ anew; make test says if the program's answers differ from them
 # make bench        speed and peak memory beside `wc -l`, with the aim of each
 # make peer         traces and pictures of runs, read by others: sigrok's decoder of the bus (sigrok-cli and libsigrokdecode4),
 #                   xmllint and rsvg-convert (libxml2-utils, librsvg2-bin and netpbm)
@@ -19,7 +20,7 @@ TESTS := $(foreach crate,$(GROWTHS),crates/$(crate)/out/$(crate)_tests)
 # What the program and the tests are built from.
 SOURCES := crates.txt $(shell find crates -path '*/out' -prune -o \( -name '*.rt' -o -name '*.antt' \) -print)
 
-.PHONY: run try build test outside bench peer lib install
+.PHONY: run try build test outside cases bench peer lib install
 
 run: build
 	@$(PROGRAM) pages < examples/hello.bas
@@ -43,6 +44,9 @@ test:
 # The tests outside the prover: the built program, and the tests of crates that go on after a refusal.
 outside: build lib $(TESTS)
 	@tests/run $(PROGRAM)
+	@cases/run $(PROGRAM)
+	@cases/made --check
+	@cases/reach --check
 
 # So are the tests.
 $(TESTS): $(SOURCES)
@@ -55,6 +59,12 @@ libprint1525.a: $(SOURCES) tests/archive
 	@for crate in pr_ear pr_c; do \
 		(cd crates/$$crate && rt lib > out.log 2>&1 || { cat out.log; exit 1; }; rm -f out.log) || exit 1; done
 	@tests/archive $@ pr_ear pr_c
+
+# What differs shows in `git diff`.
+cases: build
+	@cases/made
+	@cases/run --make $(PROGRAM)
+	@cases/reach --write
 
 bench: build $(TESTS)
 	@tests/bench $(PROGRAM)

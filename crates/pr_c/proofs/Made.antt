@@ -1,13 +1,14 @@
 -- What is made in memory, and handed to the caller.
 use Rattle.std.proofs.Common.{ℕ, List, [], Bool, Some, Result, Ok, Err, refl, sym, subst}
 use Rattle.pr_options.specs.declared.format.Format.{Format}
+use Rattle.pr_options.specs.declared.format.TraceFormat.TheVariants as trace_format
 use Rattle.pr_cli.specs.Bus.{AnswersBus}
 use Rattle.pr_cli.specs.Check.{AnswersCheck}
 use Rattle.pr_cli.specs.Pages.{AnswersPages, IsTextOf, Start}
 use Rattle.pr_cli.specs.Raw.{AnswersRaw, IsRawText}
 use Rattle.pr_cli.specs.declared.pages.Ending.{Ending}
 use Rattle.pr_cli.specs.declared.fault.CliFault.{CliFault}
-use Rattle.pr_cli.specs.declared.fault.CliFault.TheVariants.{Script, Trace, Wave, TooLarge, NoMemory, ReadFailed, WriteFailed}
+use Rattle.pr_cli.specs.declared.fault.CliFault.TheVariants.{Script, Trace, Wave, Capture, TooLarge, NoMemory, ReadFailed, WriteFailed}
 use Rattle.pr_c.specs.Answers.{IsBusText, IsFramesText, IsPagesText, IsPaperRefusal, IsPaperText, IsScriptRefusal, IsTraceRefusal, Tells}
 use Rattle.pr_c.specs.Giving.{Gives, in_memory, without_run}
 use Rattle.pr_c.specs.declared.told.Told.{Told}
@@ -33,6 +34,7 @@ pages-made start format script text (Ok ending) a = (a.0, a.2, subst (λ t. IsTe
 pages-made start format script text (Err (Script f)) a = (a.0, a.1)
 pages-made start format script text (Err (Trace f)) a = absurd a
 pages-made start format script text (Err (Wave f)) a = absurd a
+pages-made start format script text (Err (Capture f)) a = absurd a
 pages-made start format script text (Err TooLarge) a = a.0
 pages-made start format script text (Err NoMemory) a = tt
 pages-made start format script text (Err ReadFailed) a = tt
@@ -40,11 +42,12 @@ pages-made start format script text (Err WriteFailed) a = tt
 
 -- the trace text
 pub bus-made : (start : Start) (script text : List ℕ) (made : Result Ending CliFault)
-    → AnswersBus start script (Some []) (Some text) made → IsMade (IsBusText start script) (IsScriptRefusal script) text made
+    → AnswersBus start trace_format.Text script (Some []) (Some text) made → IsMade (IsBusText start script) (IsScriptRefusal script) text made
 bus-made start script text (Ok ending) a = (a.0, a.1, a.2, a.3, a.4)
 bus-made start script text (Err (Script f)) a = (a.0, a.1)
 bus-made start script text (Err (Trace f)) a = absurd a
 bus-made start script text (Err (Wave f)) a = absurd a
+bus-made start script text (Err (Capture f)) a = absurd a
 bus-made start script text (Err TooLarge) a = a.0
 bus-made start script text (Err NoMemory) a = tt
 bus-made start script text (Err ReadFailed) a = tt
@@ -57,6 +60,7 @@ raw-made lower format bytes text (Ok u) a = (a.1, refl, subst (λ t. IsRawText l
 raw-made lower format bytes text (Err (Script f)) a = absurd a
 raw-made lower format bytes text (Err (Trace f)) a = absurd a
 raw-made lower format bytes text (Err (Wave f)) a = absurd a
+raw-made lower format bytes text (Err (Capture f)) a = absurd a
 raw-made lower format bytes text (Err TooLarge) a = a.0
 raw-made lower format bytes text (Err NoMemory) a = tt
 raw-made lower format bytes text (Err ReadFailed) a = tt
@@ -69,6 +73,7 @@ check-made trace text (Ok u) a = (a.0, a.1, refl, a.2, a.3)
 check-made trace text (Err (Script f)) a = absurd a
 check-made trace text (Err (Trace f)) a = (a.0, a.1)
 check-made trace text (Err (Wave f)) a = (a.0, a.1)
+check-made trace text (Err (Capture f)) a = absurd a
 check-made trace text (Err TooLarge) a = a.0
 check-made trace text (Err NoMemory) a = tt
 check-made trace text (Err ReadFailed) a = tt

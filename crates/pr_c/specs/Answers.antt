@@ -13,6 +13,7 @@ use Rattle.pr_wire.specs.declared.text.TraceFault.{TraceFault}
 use Rattle.pr_wire.specs.declared.text.TraceFault.TheVariants as trace
 use Rattle.pr_system.specs.declared.outcome.Outcome.{Outcome}
 use Rattle.pr_options.specs.declared.format.Format.{Format}
+use Rattle.pr_options.specs.declared.format.TraceFormat.TheVariants as trace_format
 use Rattle.pr_cli.specs.Bus.{bus_text}
 use Rattle.pr_cli.specs.Check.{IsBadText, IsFaultyText, IsLawfulText, trace_limit}
 use Rattle.pr_cli.specs.FrameText.{frame_lines}
@@ -21,7 +22,7 @@ use Rattle.pr_cli.specs.Raw.{IsRawText, raw_limit}
 use Rattle.pr_cli.specs.declared.pages.Ending.{Ending}
 use Rattle.pr_cli.specs.declared.pages.Ending.TheVariants.{Done, Stopped}
 use Rattle.pr_cli.specs.declared.fault.CliFault.{CliFault}
-use Rattle.pr_cli.specs.declared.fault.CliFault.TheVariants.{Script, Trace, Wave, TooLarge, NoMemory, ReadFailed, WriteFailed}
+use Rattle.pr_cli.specs.declared.fault.CliFault.TheVariants.{Script, Trace, Wave, Capture, TooLarge, NoMemory, ReadFailed, WriteFailed}
 use Rattle.pr_c.specs.declared.told.Answer.{Answer}
 use Rattle.pr_c.specs.declared.told.Told.{Told}
 use Rattle.pr_c.specs.declared.told.Told.TheVariants.{Written, TooSmall, Refused}
@@ -43,7 +44,7 @@ IsPagesText start format script ending text =
 abbrev pub IsBusText : Start → List ℕ → Ending → List ℕ → Type 0
 IsBusText start script ending text =
     (statements : List Statement) × (length script ≤ script_limit) × IsScript script statements
-    × (ending ≡ ending_of (run_of start.mode start.present statements).stop) × (text ≡ bus_text start statements)
+    × (ending ≡ ending_of (run_of start.mode start.present statements).stop) × (text ≡ bus_text start trace_format.Text statements)
 
 -- the text of a printer's page
 abbrev pub IsPaperText : Bool → Format → List ℕ → Ending → List ℕ → Type 0
@@ -115,6 +116,7 @@ answer_of (TooSmall n) = plain 4 n
 answer_of (Refused (Script fault)) = refusal (script_numbers fault)
 answer_of (Refused (Trace fault)) = refusal (trace_numbers fault)
 answer_of (Refused (Wave fault)) = refusal (wave_numbers fault)
+answer_of (Refused (Capture fault)) = refusal (0, 0)
 answer_of (Refused TooLarge) = refusal (9, 0)
 answer_of (Refused NoMemory) = plain 3 0
 answer_of (Refused ReadFailed) = plain 3 0

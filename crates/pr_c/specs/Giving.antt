@@ -3,7 +3,7 @@ use Rattle.std.specs.Prelude.{◌≡◌, ℕ, ◌<◌, ◌≤◌, List, ◌++◌
 use Rattle.pr_cli.specs.declared.pages.Ending.{Ending}
 use Rattle.pr_cli.specs.declared.pages.Ending.TheVariants.{Done}
 use Rattle.pr_cli.specs.declared.fault.CliFault.{CliFault}
-use Rattle.pr_cli.specs.declared.fault.CliFault.TheVariants.{Script, Trace, Wave, TooLarge, NoMemory}
+use Rattle.pr_cli.specs.declared.fault.CliFault.TheVariants.{Script, Trace, Wave, Capture, TooLarge, NoMemory}
 use Rattle.pr_c.specs.declared.told.Told.{Told}
 use Rattle.pr_c.specs.declared.told.Told.TheVariants.{Written, TooSmall, Refused}
 
@@ -12,6 +12,7 @@ abbrev pub in_memory : CliFault → CliFault
 in_memory (Script fault) = Script fault
 in_memory (Trace fault) = Trace fault
 in_memory (Wave fault) = Wave fault
+in_memory (Capture fault) = Capture fault
 in_memory TooLarge = TooLarge
 in_memory _ = NoMemory
 

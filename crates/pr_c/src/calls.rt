@@ -8,7 +8,9 @@ ghost use Rattle.pr_cli.specs.Pages.{start_of};
 use crate::told::{Told, give};
 use pr_basic::StatusMode;
 use pr_bus::Delays;
-use pr_cli::{CliFault, Ending, Format, Watched, bus_over, check_over, pages_over, raw_over};
+use pr_cli::{
+    CliFault, Ending, Format, TraceFormat, Watched, bus_over, check_over, pages_over, raw_over,
+};
 use pr_serial::Present;
 use std::alloc::Global;
 
@@ -54,7 +56,15 @@ pub fn bus(
 {
     let mut input = Watched::new(script);
     let mut output = Watched::new(Vec::new(alloc));
-    let made = bus_over(alloc, &mut input, &mut output, present, delays, mode);
+    let made = bus_over(
+        alloc,
+        &mut input,
+        &mut output,
+        present,
+        delays,
+        mode,
+        TraceFormat::Text,
+    );
     give(made, &output.into_inner(), out)
 }
 

@@ -128,6 +128,7 @@ pub fn numbered(told: Told) -> Answer
         Told::Refused(CliFault::Trace(TraceFault::BadLine(line))) => refused(8, line),
         Told::Refused(CliFault::Trace(TraceFault::NoMemory)) => refused(0, 0),
         Told::Refused(CliFault::Wave(fault)) => of_wave(fault),
+        Told::Refused(CliFault::Capture(_)) => refused(0, 0),
         Told::Refused(CliFault::TooLarge) => refused(9, 0),
         Told::Refused(CliFault::NoMemory)
         | Told::Refused(CliFault::ReadFailed)

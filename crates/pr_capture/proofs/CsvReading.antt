@@ -6,7 +6,7 @@ use Rattle.std.specs.List.{list_all, prefix_len}
 use Rattle.std.proofs.lemmas.Grind.{common_steps}
 use Rattle.pr_wire.specs.declared.Edge.{Edge}
 use Rattle.pr_text.specs.Lines.{lines_of, onto_first}
-use Rattle.pr_capture.specs.declared.csv.Place.TheVariants.{Names, Rows}
+use Rattle.pr_capture.specs.declared.csv.RowPlace.TheVariants.{Names, Rows}
 use Rattle.pr_capture.specs.declared.csv.Columns.{Columns}
 use Rattle.pr_capture.specs.declared.csv.CsvReader.{CsvReader}
 use Rattle.pr_capture.specs.declared.fault.CaptureFault.{CaptureFault}
@@ -43,7 +43,7 @@ last-line (b ∷ []) some h = rw (first-inner b [] h) refl
 last-line (b ∷ c ∷ bs) some h = rw (first-inner b (c ∷ bs) h) (ap (onto_first b) (last-line (c ∷ bs) (omega arith) (rest-inner b (c ∷ bs) h)))
 
 -- samples behind samples
-behind-behind : (a b : List Edge) (t : Told) → told_behind a (told_behind b t) ≡ told_behind (a ++ b) t
+pub behind-behind : (a b : List Edge) (t : Told) → told_behind a (told_behind b t) ≡ told_behind (a ++ b) t
 behind-behind a b t = let P : List Edge → Told = λ v. record { samples = v; fault = t.fault } in ap P (sym (append_assoc a b t.samples))
 
 -- a fault that is handed on

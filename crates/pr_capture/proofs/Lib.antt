@@ -4,3 +4,7 @@ pub mod Names
 pub mod CsvFields
 pub mod CsvTimes
 pub mod CsvReading
+pub mod VcdWords
+pub mod VcdTelling
+pub mod VcdReadLines
+pub mod VcdReadBack

@@ -4,8 +4,8 @@ use Rattle.std.specs.Prelude.{◌≡◌, ◌⊎◌, ℕ, ◌+◌, ◌==◌, ◌&
 use Rattle.std.specs.List.{list_all}
 use Rattle.pr_wire.specs.declared.Edge.{Edge}
 use Rattle.pr_text.specs.Lines.{lines_of}
-use Rattle.pr_capture.specs.declared.csv.Place.{Place}
-use Rattle.pr_capture.specs.declared.csv.Place.TheVariants.{Names, Rows}
+use Rattle.pr_capture.specs.declared.csv.RowPlace.{RowPlace}
+use Rattle.pr_capture.specs.declared.csv.RowPlace.TheVariants.{Names, Rows}
 use Rattle.pr_capture.specs.declared.csv.CsvReader.{CsvReader}
 use Rattle.pr_capture.specs.declared.fault.CaptureFault.{CaptureFault}
 use Rattle.pr_capture.specs.declared.fault.CaptureFault.TheVariants.{NoMemory}
@@ -29,12 +29,12 @@ abbrev pub is_inner : ℕ → Bool
 is_inner b = not (b == 10)
 
 -- what lines tell from a place on
-abbrev pub told_from : Signals → Place → (number : ℕ) → List (List ℕ) → Told
+abbrev pub told_from : Signals → RowPlace → (number : ℕ) → List (List ℕ) → Told
 told_from s Names number ls = lines_told s number ls
 told_from s (Rows c before) number ls = rows_told c s.is_inverted number before ls
 
 -- a line leads from one place to another and gives a sample, if it gives one, or it has a fault
-abbrev pub ReadsLine : Signals → (number : ℕ) → (line : List ℕ) → (old : Place) → Result (Option Edge) CaptureFault → (new : Place) → Type 0
+abbrev pub ReadsLine : Signals → (number : ℕ) → (line : List ℕ) → (old : RowPlace) → Result (Option Edge) CaptureFault → (new : RowPlace) → Type 0
 ReadsLine s number line old (Ok sample) new =
     (more : List (List ℕ)) → told_from s old number (line ∷ more) ≡ told_behind (listed sample) (told_from s new (number + 1) more)
 ReadsLine s number line old (Err f) new = (more : List (List ℕ)) → told_from s old number (line ∷ more) ≡ refused f

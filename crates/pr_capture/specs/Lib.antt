@@ -6,3 +6,8 @@ pub mod Gathering
 pub mod Recording
 pub mod Csv
 pub mod CsvSteps
+pub mod Words
+pub mod VcdPieces
+pub mod VcdReading
+pub mod VcdSteps
+pub mod VcdReadingLaws

@@ -4,7 +4,7 @@ ghost use Rattle.std.specs.Prelude.{◌≡◌, ◌+◌, ◌^◌, ◌<◌, ◌≤
 ghost use Rattle.std.specs.List.{list_all, prefix_len};
 ghost use Rattle.pr_capture.specs.Csv.{column_of, columns_in, field_at, fields_of, is_silent, level_of, level_or, micros_in, number_from, row, sample_of, time_in, time_or};
 ghost use Rattle.pr_capture.specs.CsvSteps.{field_len, fields_left, is_inner, line_number, AnswersEnd, EndsText, FaultsIn, HasRead, HoldsMore, ReadsLine, ReadsMore, Refuses};
-ghost use Rattle.pr_capture.specs.declared.csv.Place.TheVariants.{Names};
+ghost use Rattle.pr_capture.specs.declared.csv.RowPlace.TheVariants.{Names};
 ghost use Rattle.pr_capture.specs.declared.fault.CaptureFault.TheVariants.{NoMemory};
 
 use crate::fault::{CaptureFault, Wire};
@@ -119,7 +119,7 @@ fn columns_in(
 }
 
 /// The number that digits spell behind those that spell another, as long as it is below 2^64.
-fn number_from(front: u64, digits: &[u8]) -> Option<u64>
+pub fn number_from(front: u64, digits: &[u8]) -> Option<u64>
     ensures { result ≡ number_from front digits.now }
 {
     let mut number = front;
@@ -186,7 +186,7 @@ fn time_in(field: &[u8]) -> Option<u64>
 }
 
 /// A row's time, which is not before that of an earlier row.
-fn time_or(number: usize, before: u64, time: Option<u64>) -> Result<u64, CaptureFault>
+pub fn time_or(number: usize, before: u64, time: Option<u64>) -> Result<u64, CaptureFault>
     ensures { result ≡ time_or number before time }
 {
     match time {
@@ -276,14 +276,14 @@ fn row(
 
 /// Which lines come next.
 #[derive(Drop)]
-enum Place {
+enum RowPlace {
     /// Some without a word, and that of the names.
     Names,
     /// Rows, behind one of this time in microseconds.
     Rows(Columns, u64),
 }
 
-impl Place {
+impl RowPlace {
     /// Goes on behind a line with this number, and gives its sample, if it has one.
     fn take_line(
         &mut self,
@@ -299,13 +299,13 @@ impl Place {
             return Ok(None);
         }
         match self {
-            Place::Names => {
+            RowPlace::Names => {
                 let (_, fields) = split_field(line);
                 let columns = columns_in(signals, number, fields)?;
-                *self = Place::Rows(columns, 0);
+                *self = RowPlace::Rows(columns, 0);
                 Ok(None)
             }
-            Place::Rows(columns, before) => {
+            RowPlace::Rows(columns, before) => {
                 let sample = row(*columns, signals.is_inverted, number, *before, line)?;
                 *before = sample.time;
                 Ok(Some(sample))
@@ -333,7 +333,7 @@ fn line_len(text: &[u8]) -> usize
 pub struct CsvReader<'a> {
     signals: Signals<'a>,
     number: usize,
-    place: Place,
+    place: RowPlace,
     line: Vec<u8>,
 }
 
@@ -346,7 +346,7 @@ impl<'a> CsvReader<'a> {
         CsvReader {
             signals,
             number: 1,
-            place: Place::Names,
+            place: RowPlace::Names,
             line: Vec::new(alloc),
         }
     }
@@ -387,8 +387,8 @@ impl<'a> CsvReader<'a> {
         ensures { AnswersEnd self.now last result }
     {
         match self.place {
-            Place::Names => Err(CaptureFault::NoSignal(self.number, Wire::Atn)),
-            Place::Rows(_, _) => Ok(last),
+            RowPlace::Names => Err(CaptureFault::NoSignal(self.number, Wire::Atn)),
+            RowPlace::Rows(_, _) => Ok(last),
         }
     }
 

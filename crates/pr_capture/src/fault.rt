@@ -23,7 +23,19 @@ pub enum CaptureFault {
     /// No signal has the wire's name.
     #[error("line {0}: no signal {1}")]
     NoSignal(usize, Wire),
-    /// A time that is no number of seconds, or not below 2^64 microseconds.
+    /// A word that can not stand here.
+    #[error("line {0}: bad word")]
+    BadWord(usize),
+    /// A section that the text does not end.
+    #[error("line {0}: no $end")]
+    NoEnd(usize),
+    /// The header does not end with `$enddefinitions`.
+    #[error("line {0}: no $enddefinitions")]
+    NoDefinitions(usize),
+    /// No `$timescale`, or one that is not 1, 10 or 100 units from fs to s.
+    #[error("line {0}: no timescale")]
+    NoTimescale(usize),
+    /// A time that is no number of its unit, or not below 2^64 microseconds or 2^64 of a dump's own unit.
     #[error("line {0}: bad time")]
     BadTime(usize),
     /// A time before that of an earlier line.

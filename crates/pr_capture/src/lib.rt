@@ -1,14 +1,22 @@
-//! Traces of the serial bus in the formats of other tools: Value Change Dumps.
+//! Traces of the serial bus in the formats of other tools: Value Change Dumps, and tables of comma
+//! separated values.
 #![tactic(auto)]
 
+mod changes;
 mod csv;
+mod entries;
 mod fault;
 mod gatherer;
+mod header;
+mod known;
+mod progress;
 mod signals;
 mod vcd;
+mod vcd_reader;
 
 pub use csv::CsvReader;
 pub use fault::{CaptureFault, Wire};
 pub use gatherer::Gatherer;
 pub use signals::Signals;
 pub use vcd::{VcdWriter, push_vcd_head, vcd_adds_up, write_vcd};
+pub use vcd_reader::{VcdReader, vcd_is_read_back};

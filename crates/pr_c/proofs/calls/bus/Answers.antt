@@ -1,4 +1,5 @@
 use Rattle.std.proofs.Common.{[], Some}
+use Rattle.pr_options.specs.declared.format.TraceFormat.TheVariants as trace_format
 use Rattle.pr_cli.specs.Bus.{AnswersBus}
 use Rattle.pr_cli.specs.Pages.{start_of}
 use Rattle.pr_c.proofs.Made.{bus-made, tells}
@@ -8,5 +9,5 @@ pub returns-clause-tells : goal.returns-clause-tells
 returns-clause-tells c =
     let start = start_of c.args.present c.args.delays c.args.mode in
     let known = rw (c.new-input.ensures.inner, c.new-output.ensures.inner, c.new.ensures.items) at c.bus_over-made.ensures.bus in
-    let made : AnswersBus start c.args.script.now (Some []) (Some c.deref.result.now) c.bus_over-made.result = rw (c.deref.ensures.value, c.into_inner.ensures) known in
+    let made : AnswersBus start trace_format.Text c.args.script.now (Some []) (Some c.deref.result.now) c.bus_over-made.result = rw (c.deref.ensures.value, c.into_inner.ensures) known in
     tells _ _ c.deref.result.now _ _ c.bus_over-made.result c.give.result (bus-made start c.args.script.now c.deref.result.now c.bus_over-made.result made) c.give.ensures.gives

@@ -1,0 +1,144 @@
+//! The words of a Value Change Dump, each for itself.
+
+ghost use Rattle.std.specs.Prelude.{◌≡◌};
+ghost use Rattle.std.specs.Str.{bytes_eq};
+ghost use Rattle.pr_capture.specs.VcdPieces.{bit_of, entry_of, is_bracket, is_level, is_value, keeps, keyword_of, rest_of};
+
+/// What a section says, by its keyword.
+#[derive(Clone, Copy)]
+pub enum Keyword {
+    /// The unit of all times.
+    Timescale,
+    /// A signal.
+    Var,
+    /// Nothing but that the header ends.
+    Definitions,
+    /// Nothing of the bus.
+    Other,
+}
+
+/// What a word is that stands in no section.
+#[derive(Clone, Copy)]
+pub enum Entry {
+    /// The keyword of a section.
+    Opens(Keyword),
+    /// The keyword of a section whose words stand as if it were not there, or an end.
+    Silent,
+    /// A time stamp.
+    Time,
+    /// A level, and the code of its signal.
+    Level(u8),
+    /// A value that is no level but where it is a single bit; the code of its signal is the next word.
+    Value(u8),
+    /// Nothing that is known.
+    Foreign,
+}
+
+/// Whether these letters make this word.
+pub fn is_word(letters: &[u8], word: &[u8]) -> bool
+    ensures { result ≡ bytes_eq letters.now word.now }
+{
+    letters == word
+}
+
+/// Whether a section with this keyword has changes inside, or it is the end of one.
+fn is_bracket(letters: &[u8]) -> bool
+    ensures { result ≡ is_bracket letters.now }
+{
+    is_word(letters, b"$end")
+        || is_word(letters, b"$dumpvars")
+        || is_word(letters, b"$dumpall")
+        || is_word(letters, b"$dumpon")
+        || is_word(letters, b"$dumpoff")
+}
+
+/// What a section says that has this keyword.
+fn keyword_of(letters: &[u8]) -> Keyword
+    ensures { result ≡ keyword_of letters.now }
+{
+    if is_word(letters, b"$timescale") {
+        Keyword::Timescale
+    } else if is_word(letters, b"$var") {
+        Keyword::Var
+    } else if is_word(letters, b"$enddefinitions") {
+        Keyword::Definitions
+    } else {
+        Keyword::Other
+    }
+}
+
+/// Whether a letter is the level of one bit.
+fn is_level(b: u8) -> bool
+    ensures { result ≡ is_level b }
+{
+    b"01xXzZuUwWlLhH-".contains(&b)
+}
+
+/// Whether a value begins so whose code is the next word.
+fn is_value(b: u8) -> bool
+    ensures { result ≡ is_value b }
+{
+    b"bBrRsS".contains(&b)
+}
+
+/// The level of such a value, if it is a single bit; else its first letter.
+fn bit_of(first: u8, letters: &[u8]) -> u8
+    ensures { result ≡ bit_of first letters.now }
+{
+    match letters {
+        [b] => {
+            if first == b'b' || first == b'B' {
+                *b
+            } else {
+                first
+            }
+        }
+        _ => first,
+    }
+}
+
+/// What a word is that stands in no section.
+pub fn entry_of(letters: &[u8]) -> Entry
+    ensures { result ≡ entry_of letters.now }
+{
+    match letters {
+        [] => Entry::Silent,
+        [b, rest @ ..] => {
+            if *b == b'$' {
+                if is_bracket(letters) {
+                    Entry::Silent
+                } else {
+                    Entry::Opens(keyword_of(letters))
+                }
+            } else if *b == b'#' {
+                Entry::Time
+            } else if is_level(*b) {
+                Entry::Level(*b)
+            } else if is_value(*b) {
+                Entry::Value(bit_of(*b, rest))
+            } else {
+                Entry::Foreign
+            }
+        }
+    }
+}
+
+/// The letters behind the first.
+pub fn rest_of(letters: &[u8]) -> &[u8]
+    ensures { result.now ≡ rest_of letters.now }
+{
+    match letters {
+        [] => &[],
+        [_, rest @ ..] => rest,
+    }
+}
+
+/// Whether the words of a section are looked at.
+pub fn keeps(keyword: Keyword) -> bool
+    ensures { result ≡ keeps keyword }
+{
+    match keyword {
+        Keyword::Timescale | Keyword::Var => true,
+        Keyword::Definitions | Keyword::Other => false,
+    }
+}

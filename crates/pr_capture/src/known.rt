@@ -1,0 +1,189 @@
+//! What is known of a dump behind some of its pieces.
+
+ghost use Rattle.std.specs.Prelude.{◌≡◌, IfErr, IfOk, Err, Ok};
+ghost use Rattle.pr_capture.specs.VcdPieces.Piece.{Change, Section, Stamp, Stray};
+ghost use Rattle.pr_capture.specs.VcdReading.{changed, header_ended, sample_of, stamped};
+ghost use Rattle.pr_capture.specs.VcdSteps.{codes_of, place_at, place_of, words_in, ReadsPiece};
+
+use crate::changes::{Seen, level_if, time_at};
+use crate::csv::time_or;
+use crate::entries::Keyword;
+use crate::fault::{CaptureFault, Wire};
+use crate::header::{WireCodes, scale_in};
+use crate::signals::{Signals, level_in};
+use pr_wire::Edge;
+use std::alloc::Global;
+
+/// Which pieces come next.
+#[derive(Clone, Copy)]
+pub enum Stage {
+    /// Those of the header, behind a timescale of so many femtoseconds, if one came.
+    InHeader(Option<u64>),
+    /// Changes, by this timescale.
+    InChanges(u64, Seen),
+}
+
+/// What is known of a dump so far.
+#[derive(Drop)]
+pub struct Known {
+    pub stage: Stage,
+    pub codes: WireCodes,
+}
+
+/// Where the first changes stand, behind a header that ends on a line.
+fn header_ended(line: usize, scale: Option<u64>, codes: &WireCodes) -> Result<Stage, CaptureFault>
+    ensures ok { IfOk result (λ stage. header_ended line scale (codes_of codes.now) ≡ Ok (place_at stage (codes_of codes.now))) }
+    ensures err { IfErr result (λ f. header_ended line scale (codes_of codes.now) ≡ Err f) }
+{
+    let Some(scale) = scale else {
+        return Err(CaptureFault::NoTimescale(line));
+    };
+    if codes.atn.is_none() {
+        return Err(CaptureFault::NoSignal(line, Wire::Atn));
+    }
+    if codes.clock.is_none() {
+        return Err(CaptureFault::NoSignal(line, Wire::Clock));
+    }
+    if codes.line.is_none() {
+        return Err(CaptureFault::NoSignal(line, Wire::Data));
+    }
+    let seen = Seen {
+        time: 0,
+        atn: None,
+        clock: None,
+        line: None,
+    };
+    Ok(Stage::InChanges(scale, seen))
+}
+
+/// What is known behind a time stamp.
+fn stamped(scale: u64, seen: Seen, line: usize, digits: &[u8]) -> Result<Seen, CaptureFault>
+    ensures { result ≡ stamped scale seen line digits.now }
+{
+    let time = time_or(line, seen.time, time_at(scale, digits))?;
+    Ok(Seen {
+        time,
+        atn: seen.atn,
+        clock: seen.clock,
+        line: seen.line,
+    })
+}
+
+/// What is known behind a change.
+fn changed(
+    is_inverted: bool,
+    codes: &WireCodes,
+    seen: Seen,
+    line: usize,
+    level: u8,
+    code: &[u8],
+) -> Result<Seen, CaptureFault>
+    ensures { result ≡ changed is_inverted (codes_of codes.now) seen line level code.now }
+{
+    let (atn, clock, data) = codes.which(code);
+    if !(atn || clock || data) {
+        return Ok(seen);
+    }
+    let level = level_in(line, is_inverted, level)?;
+    Ok(Seen {
+        time: seen.time,
+        atn: level_if(atn, level, seen.atn),
+        clock: level_if(clock, level, seen.clock),
+        line: level_if(data, level, seen.line),
+    })
+}
+
+impl Known {
+    /// The sample behind a piece, if all levels are known.
+    fn sample(&self) -> Option<Edge>
+        ensures { result ≡ sample_of (place_of self.now) }
+    {
+        match self.stage {
+            Stage::InHeader(_) => None,
+            Stage::InChanges(_, seen) => seen.sample(),
+        }
+    }
+
+    /// Goes on behind a section.
+    pub fn take_section(
+        &mut self,
+        alloc: Global,
+        signals: &Signals<'_>,
+        line: usize,
+        keyword: Keyword,
+        inside: &[Vec<u8>],
+    ) -> Result<Option<Edge>, CaptureFault>
+        ensures { ReadsPiece signals.now (Section line keyword (words_in inside.now)) (place_of self.old) result (place_of self.new) }
+    {
+        let Stage::InHeader(scale) = self.stage else {
+            return Ok(self.sample());
+        };
+        match keyword {
+            Keyword::Timescale => {
+                let Some(scale) = scale_in(inside) else {
+                    return Err(CaptureFault::NoTimescale(line));
+                };
+                self.stage = Stage::InHeader(Some(scale));
+                Ok(None)
+            }
+            Keyword::Var => {
+                self.codes.note_signal(alloc, signals, inside)?;
+                Ok(None)
+            }
+            Keyword::Definitions => {
+                self.stage = header_ended(line, scale, &self.codes)?;
+                Ok(None)
+            }
+            Keyword::Other => Ok(None),
+        }
+    }
+
+    /// Goes on behind a time stamp.
+    pub fn take_stamp(
+        &mut self,
+        signals: &Signals<'_>,
+        line: usize,
+        digits: &[u8],
+    ) -> Result<Option<Edge>, CaptureFault>
+        ensures { ReadsPiece signals.now (Stamp line digits.now) (place_of self.old) result (place_of self.new) }
+    {
+        let Stage::InChanges(scale, seen) = self.stage else {
+            return Err(CaptureFault::NoDefinitions(line));
+        };
+        let seen = stamped(scale, seen, line, digits)?;
+        self.stage = Stage::InChanges(scale, seen);
+        Ok(seen.sample())
+    }
+
+    /// Goes on behind a word that is none of these.
+    pub fn take_stray(
+        &mut self,
+        signals: &Signals<'_>,
+        line: usize,
+    ) -> Result<Option<Edge>, CaptureFault>
+        ensures { ReadsPiece signals.now (Stray line) (place_of self.old) result (place_of self.new) }
+    {
+        match self.stage {
+            Stage::InHeader(_) => Ok(None),
+            Stage::InChanges(_, _) => Err(CaptureFault::BadWord(line)),
+        }
+    }
+
+    /// Goes on behind a change.
+    pub fn take_change(
+        &mut self,
+        signals: &Signals<'_>,
+        line: usize,
+        level: u8,
+        code: &[u8],
+    ) -> Result<Option<Edge>, CaptureFault>
+        ensures { ReadsPiece signals.now (Change line level code.now) (place_of self.old) result (place_of self.new) }
+    {
+        let Stage::InChanges(scale, seen) = self.stage else {
+            return Ok(None);
+        };
+        let seen = changed(signals.is_inverted, &self.codes, seen, line, level, code)?;
+        self.stage = Stage::InChanges(scale, seen);
+        Ok(seen.sample())
+    }
+}

@@ -1,0 +1,153 @@
+//! Reading Value Change Dumps (IEEE 1364, four-state), as simulators and logic analysers write them.
+
+ghost use Rattle.std.specs.Prelude.{◌≡◌, ◌⊎◌, ◌+◌, ◌^◌, ◌<◌, ◌≤◌, ◌∷◌, [], true, None, IfErr, IfOk, length, take};
+ghost use Rattle.std.specs.List.{list_all, prefix_len};
+ghost use Rattle.pr_capture.specs.declared.fault.CaptureFault.TheVariants.{NoMemory};
+ghost use Rattle.pr_capture.specs.Words.{is_space};
+ghost use Rattle.pr_capture.specs.VcdReadingLaws.{VcdIsReadBack};
+ghost use Rattle.pr_capture.specs.VcdSteps.{is_letter, line_number, word_begun, EndsText, HasRead, HoldsMore, MayEnd, ReadsMore, ReadsWords, Refuses};
+
+use crate::fault::CaptureFault;
+use crate::progress::Progress;
+use crate::signals::Signals;
+use pr_wire::Edge;
+use std::alloc::Global;
+
+/// Whether a byte is white space.
+fn is_space(b: u8) -> bool
+    ensures { result ≡ is_space b }
+{
+    b == b' ' || (b >= 9 && b <= 13)
+}
+
+/// How many bytes stand before the first white space.
+fn word_len(text: &[u8]) -> usize
+    ensures len { result ≡ prefix_len is_letter text.now }
+    ensures within { result ≤ length text.now }
+{
+    for (i, b) in text.iter().enumerate() {
+        if is_space(*b) {
+            return i;
+        }
+    }
+    text.len()
+}
+
+/// Reads a Value Change Dump that comes in blocks. It keeps the word that has begun, no more than four
+/// words of a section, and the codes of the three wires.
+#[derive(Drop)]
+pub struct VcdReader<'a> {
+    signals: Signals<'a>,
+    number: usize,
+    letters: Vec<u8>,
+    progress: Progress,
+}
+
+impl<'a> VcdReader<'a> {
+    /// Nothing of a text has come. It takes no memory.
+    pub fn new(alloc: Global, signals: Signals<'a>) -> VcdReader<'a>
+        ensures read { HasRead signals.entry [] [] result }
+        ensures number { line_number result ≡ 1 }
+    {
+        VcdReader {
+            signals,
+            number: 1,
+            letters: Vec::new(alloc),
+            progress: Progress::new(alloc),
+        }
+    }
+
+    /// Goes on with the word that has begun.
+    fn go_on(&mut self, bytes: &[u8]) -> Result<(), CaptureFault>
+        requires { list_all is_letter bytes.now ≡ true }
+        ensures read { IfOk result (λ _. HoldsMore bytes.now self.old self.new) }
+        ensures refused { IfErr result (λ f. f ≡ NoMemory) }
+        ensures number { IfOk result (λ _. line_number self.new ≡ line_number self.old) }
+    {
+        self.letters.extend_from_slice(bytes)?;
+        Ok(())
+    }
+
+    /// Ends the word that has begun, if one has, and gives its sample, if it has one.
+    fn take_letters(&mut self) -> Result<Option<Edge>, CaptureFault>
+        ensures read { ReadsWords self.old.signals (word_begun self.old) self.old.progress result self.new.progress }
+        ensures end { IfOk result (λ sample. (sample ≡ None) ⊎ MayEnd self.new.progress) }
+        ensures letters { IfOk result (λ _. self.new.letters.items ≡ []) }
+        ensures number { self.new.number ≡ self.old.number }
+        ensures signals { self.new.signals ≡ self.old.signals }
+    {
+        if self.letters.is_empty() {
+            return Ok(None);
+        }
+        let sample = self
+            .progress
+            .take_word(&self.signals, self.number, self.letters.as_slice())?;
+        self.letters.clear();
+        Ok(sample)
+    }
+
+    /// Takes white space, which ends the word that has begun, and gives the sample, if there is one.
+    fn end_word(&mut self, b: u8) -> Result<Option<Edge>, CaptureFault>
+        requires few { line_number self.old + 1 < 2 ^ 64 }
+        requires space { is_space b ≡ true }
+        ensures read { IfOk result (λ sample. ReadsMore (b ∷ []) sample self.old self.new) }
+        ensures refused { IfErr result (λ f. Refuses (b ∷ []) self.old f) }
+        ensures number { IfOk result (λ sample. line_number self.new ≤ line_number self.old + 1) }
+    {
+        let sample = self.take_letters()?;
+        if b == b'\n' {
+            self.number += 1;
+        }
+        Ok(sample)
+    }
+
+    /// Takes bytes from the front of a block: the rest of a word with the byte behind it, or else all of
+    /// them. Gives how many, and the sample that the word makes, if it makes one.
+    ///
+    /// # Errors
+    ///
+    /// The first fault of the text, whose word these bytes end; [`CaptureFault::NoMemory`] where the growth
+    /// of the word, or of what is kept of a section, was refused. Nothing is promised of the reader
+    /// afterwards.
+    pub fn take_front(&mut self, block: &[u8]) -> Result<(usize, Option<Edge>), CaptureFault>
+        requires few { line_number self.old + 1 < 2 ^ 64 }
+        requires some { 0 < length block.now }
+        ensures read { IfOk result (λ r. ReadsMore (take r.0 block.now) r.1 self.old self.new) }
+        ensures refused { IfErr result (λ f. Refuses block.now self.old f) }
+        ensures some { IfOk result (λ r. 0 < r.0) }
+        ensures within { IfOk result (λ r. r.0 ≤ length block.now) }
+        ensures number { IfOk result (λ r. line_number self.new ≤ line_number self.old + 1) }
+    {
+        let len = word_len(block);
+        self.go_on(&block[..len])?;
+        if len == block.len() {
+            return Ok((len, None));
+        }
+        let sample = self.end_word(block[len])?;
+        Ok((len + 1, sample))
+    }
+
+    /// Ends the text, whose last word may end with it, and gives the sample of that word, if it makes one.
+    ///
+    /// # Errors
+    ///
+    /// The fault of the last word; a section without its end, or a value without a code; no
+    /// `$enddefinitions`; [`CaptureFault::NoMemory`] as for [`VcdReader::take_front`].
+    pub fn finish(mut self) -> Result<Option<Edge>, CaptureFault>
+        ensures { EndsText self.entry result }
+    {
+        match self.take_letters()? {
+            Some(sample) => Ok(Some(sample)),
+            None => self.progress.answer(self.number),
+        }
+    }
+}
+
+/// A law, with nothing to run: what is written of edges, each later than the one before and with other
+/// levels, is read back as these edges.
+pub fn vcd_is_read_back()
+    ensures { VcdIsReadBack }
+{}
+
+#[cfg(test)]
+mod tests;

@@ -1,0 +1,10 @@
+pub mod Turning
+pub mod Cutting
+pub mod Adding
+pub mod Bytes
+pub mod Stepping
+pub mod Moving
+pub mod Taken
+pub mod FrameRead
+pub mod PiecesRead
+pub mod OutlinesRead

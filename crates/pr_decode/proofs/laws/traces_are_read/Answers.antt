@@ -1,0 +1,8 @@
+use Rattle.pr_decode.proofs.PiecesRead.{traces-say, traces-spell}
+use Rattle.pr_decode.proofs.laws.traces_are_read.Goals as goal
+
+pub returns-clause-moments : goal.returns-clause-moments
+returns-clause-moments c = traces-say
+
+pub returns-clause-spelled : goal.returns-clause-spelled
+returns-clause-spelled c = traces-spell

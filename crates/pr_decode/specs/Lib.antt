@@ -1,0 +1,7 @@
+pub mod Stretches
+pub mod Readings
+pub mod Outlines
+pub mod PieceReadings
+pub mod Steps
+pub mod Taking
+pub mod Laws

@@ -1,0 +1,24 @@
+//! Laws of the definitions, with nothing to run. A caller whose proof needs one calls the function.
+
+ghost use Rattle.pr_decode.specs.Laws.{MoreEdgesAddReadings, OnlyTheLastIsCut, OutlinesDecide, TracesSayTheirPieces, TracesSayWhatTheySpell};
+
+/// A law: more edges only add readings behind those that there were, and the end of a recording cuts
+/// at most the last.
+pub fn readings_add_up()
+    ensures more { MoreEdgesAddReadings }
+    ensures cut { OnlyTheLastIsCut }
+{}
+
+/// A law: a lawful trace says the frames of its whole pieces with their moments, however it is cut, and
+/// nothing else; without their moments they are the frames that it spells.
+pub fn traces_are_read()
+    ensures moments { TracesSayTheirPieces }
+    ensures spelled { TracesSayWhatTheySpell }
+{}
+
+/// A law: recordings whose stretches, in which CLOCK stays as it is, have the same outlines say the same:
+/// of a stretch nothing counts but its first edge, the edges at which DATA turns, and when an edge first
+/// came too late for a bit.
+pub fn moments_decide()
+    ensures { OutlinesDecide }
+{}
