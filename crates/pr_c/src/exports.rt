@@ -134,12 +134,7 @@ pub extern "C" fn print1525_raw(
 
 /// Puts the frames that a trace text spells at the front of the caller's buffer.
 #[unsafe(no_mangle)]
-pub extern "C" fn print1525_check(
-    alloc: Global,
-    text: &[u8],
-    out: &mut [u8],
-    answer: &mut Answer,
-)
+pub extern "C" fn print1525_check(alloc: Global, text: &[u8], out: &mut [u8], answer: &mut Answer)
     ensures tells { TellsCheck text.now out.old out.new answer.new }
     ensures length { length out.new ≡ length out.old }
 {

@@ -1,5 +1,5 @@
-use crate::told::{Told, numbered};
 use crate::calls::{check, raw};
+use crate::told::{Told, numbered};
 use pr_cli::{CliFault, Ending, Format};
 use pr_wire::TraceFault;
 
