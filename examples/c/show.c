@@ -38,7 +38,9 @@ int main(int count, char **words) {
                         no_delays, 0, format, text, capacity, &answer);
     }
     if (answer.code <= PRINT1525_STOPPED && text) fwrite(text, 1, answer.length, stdout);
-    if (answer.code == PRINT1525_REFUSED)
+    if (answer.code == PRINT1525_REFUSED && answer.place == 0)
+        fprintf(stderr, "%s\n", print1525_fault_text(answer.fault));
+    else if (answer.code == PRINT1525_REFUSED)
         fprintf(stderr, "line %lu: %s\n", (unsigned long)answer.place, print1525_fault_text(answer.fault));
     free(text);
     free(script);
