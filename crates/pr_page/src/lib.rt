@@ -19,4 +19,3 @@ pub use paper::{Mark, Paper, Placed, Row, Sequence};
 pub use pr_text::NoMemory;
 pub use printer::{Printer, each_list_has_one_page};
 pub use sheet::LINE_DOTS;
-

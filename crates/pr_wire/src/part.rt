@@ -4,8 +4,8 @@ ghost use Rattle.std.specs.Prelude.{◌≡◌, ◌<◌};
 ghost use Rattle.pr_wire.specs.LineParts.{edge_of_part, is_nothing, level_after, part_after, time_after};
 
 use crate::line::read_level;
-use pr_text::is_digit;
 use crate::{Edge, Levels};
+use pr_text::is_digit;
 
 /// What has come of a line. Times are in microseconds.
 #[derive(Clone, Copy)]
