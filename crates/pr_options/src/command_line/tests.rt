@@ -3,6 +3,7 @@
 use super::*;
 use pr_wire::Kind;
 use std::process::Abort;
+use std::test::Fail;
 
 const BOTH: Present = Present {
     four: true,
@@ -25,20 +26,21 @@ type First = (u16, u16, u16);
 
 /// What words ask for, or why they ask for nothing.
 #[derive(Clone, Copy, PartialEq, Eq)]
-enum Asked {
+enum Asked<'a> {
     Pages(Present, First, StatusMode, Format),
-    Bus(Present, First, StatusMode),
-    Check,
+    Bus(Present, First, StatusMode, TraceFormat),
+    /// With the names of ATN, CLOCK and DATA, whether levels are inverted, and the start.
+    Check(Source, [&'a str; 3], bool, u64, Report),
     Raw(bool, Format),
     /// clap refuses the words, or answers a request for help, with this exit status.
     Line(i32),
-    BadPresent,
-    BadDelays,
-    BadStatus,
-    BadSet,
-    BadAs,
+    /// Refused with this text.
+    Bad(&'static str),
     NoMemory,
 }
+
+/// The names of no option.
+const NAMED: [&str; 3] = ["ATN", "CLOCK", "DATA"];
 
 /// The first delays that are taken.
 fn first_delays(mut delays: Delays) -> First {
@@ -50,32 +52,52 @@ fn first_delays(mut delays: Delays) -> First {
 }
 
 /// What a job asks for.
-fn asked_by(job: Job) -> Asked {
+fn asked_by(job: Job<'_>) -> Asked<'_> {
     match job {
         Job::Pages(present, delays, mode, format) => {
             Asked::Pages(present, first_delays(delays), mode, format)
         }
-        Job::Bus(present, delays, mode) => Asked::Bus(present, first_delays(delays), mode),
-        Job::Check => Asked::Check,
+        Job::Bus(present, delays, mode, format) => {
+            Asked::Bus(present, first_delays(delays), mode, format)
+        }
+        Job::Check(input, report) => {
+            let signals = input.signals;
+            let names = [
+                str::from_utf8(signals.atn).unwrap_or("?"),
+                str::from_utf8(signals.clock).unwrap_or("?"),
+                str::from_utf8(signals.line).unwrap_or("?"),
+            ];
+            Asked::Check(
+                input.source,
+                names,
+                signals.is_inverted,
+                input.start,
+                report,
+            )
+        }
         Job::Raw { lower, format } => Asked::Raw(lower, format),
     }
 }
 
 /// Why words ask for nothing.
-fn refused_by(fault: JobFault) -> Asked {
-    match fault {
-        JobFault::Line(error) => Asked::Line(error.exit_code()),
-        JobFault::BadPresent => Asked::BadPresent,
-        JobFault::BadDelays => Asked::BadDelays,
-        JobFault::BadStatus => Asked::BadStatus,
-        JobFault::BadSet => Asked::BadSet,
-        JobFault::BadAs => Asked::BadAs,
-        JobFault::NoMemory => Asked::NoMemory,
-    }
+fn refused_by(fault: JobFault) -> Asked<'static> {
+    Asked::Bad(match fault {
+        JobFault::Line(error) => return Asked::Line(error.exit_code()),
+        JobFault::BadPresent => "bad --present",
+        JobFault::BadDelays => "bad --delays",
+        JobFault::BadStatus => "bad --status",
+        JobFault::BadSet => "bad --set",
+        JobFault::BadFrom => "bad --from",
+        JobFault::BadNames => "bad --names",
+        JobFault::BadStart => "bad --from-time",
+        JobFault::NoRecording => "no recording",
+        JobFault::BadAs => "bad --as",
+        JobFault::NoMemory => return Asked::NoMemory,
+    })
 }
 
 /// The words of a line, parted by blanks and behind the program's name, ask for this.
-fn asks(rt: &(impl Abort + AllocGlobal), line: &str, wanted: Asked) {
+fn asks(rt: &(impl Abort + AllocGlobal), line: &str, wanted: Asked<'_>) {
     let mut words = Vec::new(rt.alloc());
     assert!(rt; words.push("print1525").is_ok());
     for word in line.split(' ') {
@@ -111,16 +133,58 @@ fn runs(rt: HostRuntime) {
     let drawn = Asked::Pages(BOTH, typical, each, Format::Picture);
     asks(&rt, "pages --as=svg", drawn);
 
-    asks(&rt, "bus", Asked::Bus(BOTH, typical, each));
-    let nobody = Asked::Bus(NONE, typical, kept);
+    let text = TraceFormat::Text;
+    asks(&rt, "bus", Asked::Bus(BOTH, typical, each, text));
+    asks(
+        &rt,
+        "bus --explain --as=text",
+        Asked::Bus(BOTH, typical, each, text),
+    );
+    let nobody = Asked::Bus(NONE, typical, kept, text);
     asks(&rt, "bus --status=kept --present=none", nobody);
-    let chosen = Asked::Bus(BOTH, (100, 100, 8), kept);
+    let chosen = Asked::Bus(BOTH, (100, 100, 8), kept, text);
     asks(&rt, "bus --delays=//7 --status kept", chosen);
+    let dumped = Asked::Bus(FOUR, typical, each, TraceFormat::Vcd);
+    asks(&rt, "bus --present 4 --as vcd", dumped);
 }
 
 #[test]
-fn traces_and_bytes(rt: HostRuntime) {
-    asks(&rt, "check", Asked::Check);
+fn traces_to_check(rt: HostRuntime) {
+    let frames = Report::Frames;
+    let plain = Asked::Check(Source::Text, NAMED, false, 0, frames);
+    asks(&rt, "check", plain);
+    asks(&rt, "check --from text --as=frames --explain", plain);
+    let story = Asked::Check(Source::Text, NAMED, false, 0, Report::Story);
+    asks(&rt, "check --as story", story);
+    let recorded = Asked::Check(Source::Vcd, NAMED, false, 0, frames);
+    asks(&rt, "check --from=vcd", recorded);
+    asks(
+        &rt,
+        "check --from vcd --names ATN,CLOCK,DATA --from-time 0",
+        recorded,
+    );
+    let whole = Asked::Check(Source::Csv, ["D0", "a", "="], true, 1500, Report::Story);
+    asks(
+        &rt,
+        "check --from-time=1500 --invert --from csv --names D0,a,= --as story",
+        whole,
+    );
+    let late = Asked::Check(
+        Source::Vcd,
+        NAMED,
+        false,
+        18_446_744_073_709_551_615,
+        frames,
+    );
+    asks(
+        &rt,
+        "check --from vcd --from-time 18446744073709551615",
+        late,
+    );
+}
+
+#[test]
+fn bytes_of_a_printer(rt: HostRuntime) {
     asks(&rt, "raw", Asked::Raw(false, Format::List));
     let drawn = Asked::Raw(true, Format::Picture);
     asks(&rt, "raw --as=svg --set=lower", drawn);
@@ -138,9 +202,20 @@ fn refused_by_clap(rt: HostRuntime) {
         "pages --set lower",
         "pages --as=svg --as=svg",
         "bus --delays 1 --delays 1",
-        "bus --as text",
+        "bus --as text --as text",
+        "bus --from text",
+        "bus --explain=yes",
+        "bus --explain --explain",
+        "bus --delays --explain",
+        "--explain bus",
+        "pages -- --explain",
         "check --delays 1",
-        "check --as list",
+        "check --names",
+        "check --names --explain",
+        "check --invert=0",
+        "check --from vcd --from csv",
+        "check --set upper",
+        "raw --explain",
         "raw --present 4",
         "raw --set",
         "help",
@@ -157,26 +232,116 @@ fn refused_by_clap(rt: HostRuntime) {
     }
 }
 
-/// The printers are judged first, then the delays, the status, the set and the format.
+/// The printers are judged first, then the delays, the status, the set, the source, the names and the
+/// start, then what goes with a recording alone, and at last `--as`.
 #[test]
 fn bad_values(rt: HostRuntime) {
     let rows = [
-        ("pages --present x --delays 65536", Asked::BadPresent),
-        ("bus --status y --present x", Asked::BadPresent),
-        ("pages --as x --present x", Asked::BadPresent),
-        ("pages --present=", Asked::BadPresent),
-        ("bus --delays 65536", Asked::BadDelays),
-        ("pages --status y --delays 1,", Asked::BadDelays),
-        ("pages --present 4 --status y", Asked::BadStatus),
-        ("bus --delays 1 --status y", Asked::BadStatus),
-        ("pages --as pdf --status y", Asked::BadStatus),
-        ("raw --as pdf --set 7", Asked::BadSet),
-        ("raw --set=", Asked::BadSet),
-        ("pages --as pdf --delays 1/2", Asked::BadAs),
-        ("pages --as=", Asked::BadAs),
-        ("raw --set lower --as Text", Asked::BadAs),
+        ("pages --present x --delays 65536", "bad --present"),
+        ("bus --status y --present x", "bad --present"),
+        ("pages --as x --present x", "bad --present"),
+        ("pages --present=", "bad --present"),
+        ("bus --delays 65536", "bad --delays"),
+        ("pages --status y --delays 1,", "bad --delays"),
+        ("bus --as x --status y --delays 1,", "bad --delays"),
+        ("pages --present 4 --status y", "bad --status"),
+        ("bus --delays 1 --status y", "bad --status"),
+        ("pages --as pdf --status y", "bad --status"),
+        ("raw --as pdf --set 7", "bad --set"),
+        ("raw --set=", "bad --set"),
+        (
+            "check --as x --from-time x --names x --from x",
+            "bad --from",
+        ),
+        ("check --from=", "bad --from"),
+        ("check --from-time x --names x,y", "bad --names"),
+        ("check --as x --names x,y,z,", "bad --names"),
+        ("check --from vcd --names=,y,z", "bad --names"),
+        ("check --from vcd --names x,,z", "bad --names"),
+        ("check --from vcd --names=", "bad --names"),
+        ("check --as x --from-time 1.5", "bad --from-time"),
+        (
+            "check --from csv --from-time 18446744073709551616",
+            "bad --from-time",
+        ),
+        ("check --from csv --from-time=", "bad --from-time"),
+        ("check --invert --as x", "no recording"),
+        ("check --from text --names ATN,CLOCK,DATA", "no recording"),
+        ("check --from-time 0", "no recording"),
+        ("pages --as pdf --delays 1/2", "bad --as"),
+        ("pages --as=", "bad --as"),
+        ("pages --as vcd", "bad --as"),
+        ("bus --as svg", "bad --as"),
+        ("bus --as list", "bad --as"),
+        ("check --as text", "bad --as"),
+        ("check --from vcd --invert --as list", "bad --as"),
+        ("raw --set lower --as Text", "bad --as"),
     ];
     for (line, wanted) in rows {
-        asks(&rt, line, wanted);
+        asks(&rt, line, Asked::Bad(wanted));
     }
+}
+
+#[test]
+fn explanations(rt: HostRuntime) {
+    assert!(rt; explains(&["print1525", "pages", "--explain"]));
+    assert!(rt; explains(&["--explain"]));
+    assert!(rt; !explains(&[]));
+    assert!(rt;
+        !explains(&[
+            "print1525",
+            "pages",
+            "--explain=",
+            "explain",
+            "--Explain",
+            "--explai"
+        ])
+    );
+}
+
+#[test]
+fn fault_texts(rt: HostRuntime) -> Result<(), Fail> {
+    let texts = [
+        (JobFault::BadPresent, "bad --present"),
+        (JobFault::BadDelays, "bad --delays"),
+        (JobFault::BadStatus, "bad --status"),
+        (JobFault::BadSet, "bad --set"),
+        (JobFault::BadFrom, "bad --from"),
+        (JobFault::BadNames, "bad --names"),
+        (JobFault::BadStart, "bad --from-time"),
+        (
+            JobFault::NoRecording,
+            "--names, --invert and --from-time go with --from vcd or csv",
+        ),
+        (JobFault::BadAs, "bad --as"),
+        (JobFault::NoMemory, "out of memory"),
+    ];
+    for (fault, wanted) in texts {
+        let text = format!(in rt.alloc(); "{fault}")?;
+        assert_eq!(rt; text.as_str(), wanted);
+    }
+    Ok(())
+}
+
+/// The values of each option that has a bad one are told, as the help has them.
+#[test]
+fn values_are_told(rt: HostRuntime) {
+    let faults = [
+        (JobFault::BadPresent, "none, 4, 5 or both"),
+        (JobFault::BadDelays, "900,999/9"),
+        (JobFault::BadStatus, "kept"),
+        (JobFault::BadSet, "upper"),
+        (JobFault::BadFrom, "csv"),
+        (JobFault::BadNames, "CLK"),
+        (JobFault::BadStart, "microseconds"),
+        (JobFault::BadAs, "story"),
+    ];
+    for (fault, wanted) in faults {
+        assert!(rt;
+            fault.values().is_some_and(|values| values.contains(wanted)),
+            "{wanted}"
+        );
+    }
+    assert!(rt; JobFault::NoRecording.values().is_none());
+    assert!(rt; JobFault::NoMemory.values().is_none());
 }

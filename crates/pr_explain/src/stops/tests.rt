@@ -1,0 +1,106 @@
+//! Errors in BASIC's own words.
+
+use super::*;
+use std::env::FillError;
+use std::process::Abort;
+use std::rt::Env;
+use std::test::Fail;
+
+/// The error of a statement of the script is told so.
+fn told(
+    rt: &(impl Abort + AllocGlobal),
+    script: &str,
+    stop: Stop,
+    statement: usize,
+    wanted: &str,
+) -> Result<(), Fail> {
+    let text = explain_stop(rt.alloc(), script.as_bytes(), stop, statement)?;
+    assert_eq!(rt; text.as_slice(), wanted.as_bytes(), "{script}");
+    Ok(())
+}
+
+#[test]
+fn errors_in_lines(rt: HostRuntime) -> Result<(), Fail> {
+    told(
+        &rt,
+        "10 OPEN 4,4\n20 OPEN 7,7:PRINT#7,\"A:B\":REM :\n30 CLOSE 7\n",
+        Stop::DeviceNotPresent,
+        3,
+        "?DEVICE NOT PRESENT  ERROR IN 20 (statement 3)\n  line 2: 20 OPEN 7,7:PRINT#7,\"A:B\":REM :\n  \
+         no printer has answered; --present says which there are\n",
+    )?;
+    told(
+        &rt,
+        "OPEN 4,4\r\n\r\nPRINT#5,\"X\"",
+        Stop::FileNotOpen,
+        2,
+        "?FILE NOT OPEN  ERROR (statement 2)\n  line 3: PRINT#5,\"X\"\n  the file is not open\n",
+    )?;
+    told(
+        &rt,
+        "  63999  OPEN 4,4:OPEN 4,4\n",
+        Stop::FileOpen,
+        2,
+        "?FILE OPEN  ERROR IN 63999 (statement 2)\n  line 1:   63999  OPEN 4,4:OPEN 4,4\n  \
+         the file is open already\n",
+    )
+}
+
+#[test]
+fn names_of_errors(rt: HostRuntime) -> Result<(), Fail> {
+    let rows = [
+        (
+            Stop::TooManyFiles,
+            "TOO MANY FILES",
+            "ten files are open already",
+        ),
+        (Stop::FileOpen, "FILE OPEN", "the file is open already"),
+        (Stop::FileNotOpen, "FILE NOT OPEN", "the file is not open"),
+        (
+            Stop::DeviceNotPresent,
+            "DEVICE NOT PRESENT",
+            "no printer has answered; --present says which there are",
+        ),
+        (
+            Stop::NotInputFile,
+            "NOT INPUT FILE",
+            "file 0 cannot be opened",
+        ),
+    ];
+    for (stop, name, reason) in rows {
+        let wanted = format!(in rt.alloc();
+            "?{name}  ERROR (statement 1)\n  line 1: REM\n  {reason}\n"
+        )?;
+        told(&rt, "REM", stop, 1, wanted.as_str())?;
+    }
+    Ok(())
+}
+
+/// Whether an explanation is refused memory. If not, it is as with ample memory.
+fn is_refused(rt: &(impl Abort + AllocGlobal)) -> bool {
+    match explain_stop(rt.alloc(), b"10 OPEN 4,4\n20 OPEN 4,4", Stop::FileOpen, 2) {
+        Ok(text) => {
+            assert!(rt; text.as_slice().ends_with(b"the file is open already\n"));
+            false
+        }
+        Err(_refused) => true,
+    }
+}
+
+/// Whether an allocation may be refused: `tests/faults.c` says so by this variable.
+fn may_be_refused(rt: &impl Env) -> bool {
+    match rt.var("FAULT_ALLOC", &mut [0; 8]) {
+        Err(FillError::NotPresent) => false,
+        _ => true,
+    }
+}
+
+/// The script that refuses each allocation in turn refuses one call at most, and the same call again
+/// answers as ever. With no growth refused no call is.
+#[test]
+fn each_growth_refused(rt: HostRuntime) {
+    let first = is_refused(&rt);
+    let second = is_refused(&rt);
+    assert!(rt; !(first && second));
+    assert!(rt; may_be_refused(&rt) || !(first || second));
+}
