@@ -43,7 +43,7 @@ check_app = with_rule (with_option input_app option.report_as) (flag_rule option
 
 -- the subcommand that writes the page of a printer's bytes
 abbrev pub raw_app : App
-raw_app = with_option (with_option (new_app (codes "raw")) option.set) option.page_as
+raw_app = with_rule (with_option (with_option (new_app (codes "raw")) option.set) option.page_as) (flag_rule option.explain)
 
 -- the program without its subcommands, of which it wants one; it has a version to tell
 abbrev pub program_app : App

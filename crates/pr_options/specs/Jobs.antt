@@ -1,6 +1,5 @@
 -- Trusted: what a command line asks for, by clap's meaning of the command.
-use Rattle.std.specs.Prelude.{◌≡◌, Bool, false, List, Option, Some, None, codes, if◌then◌else◌, is_some}
-use Rattle.std.specs.Str.{bytes_eq}
+use Rattle.std.specs.Prelude.{◌≡◌, ◌⊎◌, Bool, List, Option, Some, None, codes}
 use Rattle.clap.specs.Words.{Row, Text}
 use Rattle.pr_serial.specs.declared.Present.{Present}
 use Rattle.pr_serial.specs.Bus.{DelayNumbers}
@@ -135,15 +134,8 @@ HasBadStart met = HasBadInput met IsBadStart
 abbrev pub IsNoRecording : Met → Type 0
 IsNoRecording met = HasBadInput met IsUnfit
 
--- the value of --as is one of the subcommand's
-abbrev pub is_form : (name : Text) → List Row → Bool
-is_form name rows =
-    if bytes_eq name (codes "check") then is_some (report_of (value_in option.report_as rows))
-    else (if bytes_eq name (codes "bus") then is_some (trace_format_of (value_in option.trace_as rows))
-    else is_some (format_of (value_in option.page_as rows)))
-
--- good values of all other options, and a value of --as that is none of the subcommand's
-pub record HasBadAs (met : Met) : Type 0 where
+-- good values of all other options, and a bad value of --as, by the name of the subcommand
+pub record HasBadAs (met : Met) (IsBad : Text → List Row → Type 0) : Type 0 where
   pub name : Text
   pub rows : List Row
   pub lower : Bool
@@ -152,7 +144,20 @@ pub record HasBadAs (met : Met) : Type 0 where
   pub is_run : IsGoodRun rows
   pub is_set : set_of (value_in option.set rows) ≡ Some lower
   pub is_input : AsksToRead rows input
-  pub is_bad : is_form name rows ≡ false
+  pub is_bad : IsBad name rows
+
+-- `pages` or `raw`, and a value of --as that is no format of a page
+abbrev pub HasBadPageAs : Met → Type 0
+HasBadPageAs met =
+    HasBadAs met (λ name rows. ((name ≡ codes "pages") ⊎ (name ≡ codes "raw")) × (format_of (value_in option.page_as rows) ≡ None))
+
+-- `bus`, and a value of --as that is no format of a trace
+abbrev pub HasBadTraceAs : Met → Type 0
+HasBadTraceAs met = HasBadAs met (λ name rows. (name ≡ codes "bus") × (trace_format_of (value_in option.trace_as rows) ≡ None))
+
+-- `check`, and a value of --as that is no report
+abbrev pub HasBadReportAs : Met → Type 0
+HasBadReportAs met = HasBadAs met (λ name rows. (name ≡ codes "check") × (report_of (value_in option.report_as rows) ≡ None))
 
 -- the command line is refused as clap refuses it
 abbrev pub IsLine : JobFault → Type 0
@@ -165,5 +170,7 @@ IsLine fault.BadFrom = ⊥
 IsLine fault.BadNames = ⊥
 IsLine fault.BadStart = ⊥
 IsLine fault.NoRecording = ⊥
-IsLine fault.BadAs = ⊥
+IsLine fault.BadPageAs = ⊥
+IsLine fault.BadTraceAs = ⊥
+IsLine fault.BadReportAs = ⊥
 IsLine fault.NoMemory = ⊥

@@ -93,7 +93,8 @@ fn raw_command<'a>(alloc: Global) -> Result<Command<'a>, AllocError>
 {
     let command = new_command(alloc, "raw", help::RAW);
     let one = command.arg(value_option(alloc, SET))?;
-    let whole = one.arg(value_option(alloc, PAGE_AS))?;
+    let two = one.arg(value_option(alloc, PAGE_AS))?;
+    let whole = two.arg(flag_option(alloc, EXPLAIN))?;
     Ok(whole)
 }
 

@@ -7,7 +7,7 @@ ghost use Rattle.clap.specs.Words.{first_of, found_of, kind_of, rows_of, subcomm
 ghost use Rattle.pr_options.specs.CommandLine.{print1525};
 ghost use Rattle.pr_options.specs.Given.{is_given, is_of_words};
 ghost use Rattle.pr_options.specs.Inputs.{AsksToRead, IsBadFrom, IsBadNames, IsBadStart, IsUnfit, fits, wants_recording};
-ghost use Rattle.pr_options.specs.Jobs.{AsksFor, HasBadAs, HasBadDelays, HasBadFrom, HasBadNames, HasBadPresent, HasBadSet, HasBadStart, HasBadStatus, IsLine, IsNoRecording};
+ghost use Rattle.pr_options.specs.Jobs.{AsksFor, HasBadDelays, HasBadFrom, HasBadNames, HasBadPageAs, HasBadPresent, HasBadReportAs, HasBadSet, HasBadStart, HasBadStatus, HasBadTraceAs, IsLine, IsNoRecording};
 ghost use Rattle.pr_options.specs.Parts.{IsOfClap, IsOfInput};
 ghost use Rattle.pr_options.specs.Subcommands.{IsOurs};
 
@@ -19,8 +19,8 @@ use crate::option_values::{
     read_status, read_trace_format,
 };
 use crate::options::{
-    DELAYS, FORMATS, FROM, FROM_TIME, INVERT, NAMES, PAGE_AS, PRESENT, REPORT_AS, SET, STATUS,
-    TRACE_AS, Valued,
+    DELAYS, FROM, FROM_TIME, INVERT, NAMES, PAGE_AS, PRESENT, REPORT_AS, SET, STATUS, TRACE_AS,
+    Valued,
 };
 use clap::ArgMatches;
 use clap::error::ErrorKind;
@@ -81,10 +81,15 @@ pub enum JobFault {
     /// `--names`, `--invert` or `--from-time` is given where the trace is a text.
     #[error("--names, --invert and --from-time go with --from vcd or csv")]
     NoRecording,
-    /// The value of `--as` is none of the subcommand's: `list`, `text` or `svg` of `pages` and `raw`,
-    /// `text` or `vcd` of `bus`, `frames` or `story` of `check`.
+    /// The value of `--as` of `pages` or `raw` is not `list`, `text` or `svg`.
     #[error("bad --as")]
-    BadAs,
+    BadPageAs,
+    /// The value of `--as` of `bus` is not `text` or `vcd`.
+    #[error("bad --as")]
+    BadTraceAs,
+    /// The value of `--as` of `check` is not `frames` or `story`.
+    #[error("bad --as")]
+    BadReportAs,
     /// Memory was refused.
     #[error("out of memory")]
     NoMemory,
@@ -102,7 +107,9 @@ impl JobFault {
             JobFault::BadFrom => Some(FROM.help),
             JobFault::BadNames => Some(NAMES.help),
             JobFault::BadStart => Some(FROM_TIME.help),
-            JobFault::BadAs => Some(FORMATS),
+            JobFault::BadPageAs => Some(PAGE_AS.help),
+            JobFault::BadTraceAs => Some(TRACE_AS.help),
+            JobFault::BadReportAs => Some(REPORT_AS.help),
             JobFault::NoRecording | JobFault::Line(_) | JobFault::NoMemory => None,
         }
     }
@@ -130,7 +137,8 @@ impl From<DelayFault> for JobFault {
 /// The others tell the first bad value in this order: [`JobFault::BadPresent`],
 /// [`JobFault::BadDelays`], [`JobFault::BadStatus`], [`JobFault::BadSet`], [`JobFault::BadFrom`],
 /// [`JobFault::BadNames`], [`JobFault::BadStart`]; then [`JobFault::NoRecording`], where these are
-/// good, and at last [`JobFault::BadAs`].
+/// good, and at last a bad `--as`: [`JobFault::BadPageAs`] of `pages` and `raw`,
+/// [`JobFault::BadTraceAs`] of `bus`, [`JobFault::BadReportAs`] of `check`.
 pub fn read_job<'a>(alloc: Global, words: &'a [&'a str]) -> Result<Job<'a>, JobFault>
     ensures ok { IfOk result (AsksFor (subcommand_of print1525 (map (λ s. s.now) words.entry.now))) }
     // the first bad value
@@ -142,7 +150,9 @@ pub fn read_job<'a>(alloc: Global, words: &'a [&'a str]) -> Result<Job<'a>, JobF
     ensures names { IsErrOf result JobFault.BadNames → HasBadNames (subcommand_of print1525 (map (λ s. s.now) words.entry.now)) }
     ensures start { IsErrOf result JobFault.BadStart → HasBadStart (subcommand_of print1525 (map (λ s. s.now) words.entry.now)) }
     ensures text { IsErrOf result JobFault.NoRecording → IsNoRecording (subcommand_of print1525 (map (λ s. s.now) words.entry.now)) }
-    ensures form { IsErrOf result JobFault.BadAs → HasBadAs (subcommand_of print1525 (map (λ s. s.now) words.entry.now)) }
+    ensures page { IsErrOf result JobFault.BadPageAs → HasBadPageAs (subcommand_of print1525 (map (λ s. s.now) words.entry.now)) }
+    ensures trace { IsErrOf result JobFault.BadTraceAs → HasBadTraceAs (subcommand_of print1525 (map (λ s. s.now) words.entry.now)) }
+    ensures report { IsErrOf result JobFault.BadReportAs → HasBadReportAs (subcommand_of print1525 (map (λ s. s.now) words.entry.now)) }
     // what clap refuses
     ensures line { takes print1525 (map (λ s. s.now) words.entry.now) ≡ true → IfErr result (λ e. ¬ IsLine e) }
 {
@@ -177,7 +187,9 @@ fn job_of<'a>(alloc: Global, matches: &ArgMatches<'a>) -> Result<Job<'a>, JobFau
     ensures names { IsErrOf result JobFault.BadNames → HasBadNames (subcommand_rows_of matches.now) }
     ensures start { IsErrOf result JobFault.BadStart → HasBadStart (subcommand_rows_of matches.now) }
     ensures text { IsErrOf result JobFault.NoRecording → IsNoRecording (subcommand_rows_of matches.now) }
-    ensures form { IsErrOf result JobFault.BadAs → HasBadAs (subcommand_rows_of matches.now) }
+    ensures page { IsErrOf result JobFault.BadPageAs → HasBadPageAs (subcommand_rows_of matches.now) }
+    ensures trace { IsErrOf result JobFault.BadTraceAs → HasBadTraceAs (subcommand_rows_of matches.now) }
+    ensures report { IsErrOf result JobFault.BadReportAs → HasBadReportAs (subcommand_rows_of matches.now) }
     ensures line { IfErr result (λ e. ¬ IsLine e) }
 {
     let Some((name, options)) = matches.subcommand() else {
@@ -196,18 +208,18 @@ fn job_of<'a>(alloc: Global, matches: &ArgMatches<'a>) -> Result<Job<'a>, JobFau
     let input = input_of(options)?;
     if name == "check" {
         let Some(report) = read_report(value_in(options, REPORT_AS)) else {
-            return Err(JobFault::BadAs);
+            return Err(JobFault::BadReportAs);
         };
         return Ok(Job::Check(input, report));
     }
     if name == "bus" {
         let Some(format) = read_trace_format(value_in(options, TRACE_AS)) else {
-            return Err(JobFault::BadAs);
+            return Err(JobFault::BadTraceAs);
         };
         return Ok(Job::Bus(present, delays, mode, format));
     }
     let Some(format) = read_format(value_in(options, PAGE_AS)) else {
-        return Err(JobFault::BadAs);
+        return Err(JobFault::BadPageAs);
     };
     if name == "raw" {
         return Ok(Job::Raw { lower, format });

@@ -45,7 +45,11 @@ Input: a script, statements on lines or parted by `:`, with or without line numb
 A list has strings, CHR$(n) and `;`. No variable, no loop and no `+` is read.
 
 Output: the marks on the paper of printers 4 and 5, the status of each statement, the bytes on
-the screen, and the BASIC error that stopped the run, if one did.
+the screen, and the BASIC error that stopped the run, if one did. With --as text or svg the pages of
+the printers that are present, as lines or as a picture, and the rest below them.
+
+With --explain a refused script is shown with the place of its first fault and what can stand there,
+and a BASIC error with its line. A bad value of an option is told with the good ones.
 
 Exit status: 0 done, 1 stopped by a BASIC error, 2 a refused command line or script, 3 want of
 memory or a failed read or write.
@@ -70,6 +74,9 @@ microseconds, with the wires ATN, CLOCK and DATA, for GTKWave, PulseView and sig
 A delay number is what a delay has above its least, in microseconds; past the greatest delay the
 numbers begin again at the least. Past a list's end each delay is the typical one.
 
+With --explain a refused script is shown with the place of its first fault and what can stand there,
+and a BASIC error with its line. A bad value of an option is told with the good ones.
+
 Exit status: 0 done, 1 stopped by a BASIC error, 2 a refused command line or script, 3 want of
 memory or a failed read or write.
 
@@ -86,12 +93,21 @@ pub const CHECK: Told = Told {
     more: "\
 Input: a trace, as `print1525 bus` writes it. Only the timing of this project is lawful.
 With --from vcd a Value Change Dump, with --from csv a table: a row of names and a row for each
-sample, its time in seconds first, as logic analysers export them. --names, --invert and
---from-time say how such a recording is read; they do not go with a trace text.
+sample, its time in seconds first, as logic analysers export them.
+
+--names, --invert and --from-time say how such a recording is read; they do not go with a trace text.
+Three names stand in the order of ATN, CLOCK and DATA, parted by commas, and no two are the same.
+Capitals do not count, nor do blanks around a name. Without --names the signals are ATN, CLOCK (or
+CLK) and DATA.
 
 Output: a line for each frame, `command 36`, `data 72` or `data 13 eoi`, and then `lawful`. A trace
-that is not lawful is refused with its first fault; edges count from 0. With --as story each line
-has the moment of the frame in front and says what the frame means.
+that is not lawful is refused with its first fault; edges count from 0, lines from 1. With --as story
+a line for each frame has the moments of its look and of its acknowledgement, in microseconds, its
+byte and what it says; the lines `attention` and `data` stand above.
+
+With --explain a refused trace text is shown with the place of its first fault, the edges that could
+follow there and by how much they were missed; of a recording nothing more is told. A bad value of an
+option is told with the good ones.
 
 Exit status: 0 a lawful trace, 2 a refused command line or trace, 3 want of memory or a failed
 read or write.
@@ -110,6 +126,8 @@ pub const RAW: Told = Told {
 Input: bytes as a printer gets them, such as an emulator's raw printer output.
 
 Output: the page that they print, as that of printer 4.
+
+With --explain a bad value of an option is told with the good ones.
 
 Exit status: 0 done, 2 a refused command line or input, 3 want of memory or a failed read or
 write.

@@ -2,7 +2,7 @@
 
 ghost use Rattle.std.specs.Prelude.{◌≡◌, ◌∷◌, [], option_map, IfSome};
 ghost use Rattle.pr_options.specs.Options.{format_of, mode_of, present_of, report_of, set_of, source_of, start_of, trace_format_of};
-ghost use Rattle.pr_options.specs.SignalNames.{names_of, names_told, three_names};
+ghost use Rattle.pr_options.specs.SignalNames.{are_names, differ, names_of, names_told, three_names};
 
 use crate::format::{Format, Report, Source, TraceFormat};
 use crate::parts::{all_digits, cut};
@@ -96,7 +96,8 @@ pub fn read_report(text: &str) -> Option<Report>
 }
 
 /// The signals of a recording by the names of ATN, CLOCK and DATA, which stand in this order, parted
-/// by commas, none of them empty (profile). None for any other text.
+/// by commas. White space around a name does not count; no name is empty, and no two are the same,
+/// capitals or not (profile). None for any other text.
 pub fn read_signals(text: &str, is_inverted: bool) -> Option<Signals<'_>>
     ensures names { option_map names_told result ≡ names_of text.now }
     ensures levels { IfSome result (λ s. s.is_inverted ≡ is_inverted) }
@@ -106,10 +107,15 @@ pub fn read_signals(text: &str, is_inverted: bool) -> Option<Signals<'_>>
     if line.contains(',') {
         return None;
     }
-    signals_named(atn, clock, line, is_inverted)
+    signals_named(
+        atn.trim_ascii(),
+        clock.trim_ascii(),
+        line.trim_ascii(),
+        is_inverted,
+    )
 }
 
-/// The signals of these names, if none of them is empty.
+/// The signals of these names, if they are names of three signals.
 fn signals_named<'a>(
     atn: &'a str,
     clock: &'a str,
@@ -119,7 +125,7 @@ fn signals_named<'a>(
     ensures names { option_map names_told result ≡ three_names (atn.now ∷ clock.now ∷ line.now ∷ []) }
     ensures levels { IfSome result (λ s. s.is_inverted ≡ is_inverted) }
 {
-    if atn.is_empty() || clock.is_empty() || line.is_empty() {
+    if !are_names(atn, clock, line) {
         return None;
     }
     Some(Signals {
@@ -128,6 +134,21 @@ fn signals_named<'a>(
         line: line.as_bytes(),
         is_inverted,
     })
+}
+
+/// Whether these are names of three signals: none is empty, and no two are the same.
+fn are_names(atn: &str, clock: &str, line: &str) -> bool
+    ensures { result ≡ are_names atn.now clock.now line.now }
+{
+    let are_filled = !atn.is_empty() && !clock.is_empty() && !line.is_empty();
+    are_filled && differ(atn, clock) && differ(atn, line) && differ(clock, line)
+}
+
+/// Whether two names are not the same, capitals or not.
+fn differ(a: &str, b: &str) -> bool
+    ensures { result ≡ differ a.now b.now }
+{
+    !a.eq_ignore_ascii_case(b)
 }
 
 /// The moment at which a trace starts, in microseconds: decimal digits that spell a number below

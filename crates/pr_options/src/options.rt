@@ -77,7 +77,8 @@ pub const FROM: Valued = Valued {
 pub const NAMES: Valued = Valued {
     name: "names",
     default: "ATN,CLOCK,DATA",
-    help: "The names of the signals in a recording, capitals or not; CLK is CLOCK too",
+    help: "The names of ATN, CLOCK and DATA in a recording, as in D0,D1,D2, no two the same, capitals or \
+           not; CLK is CLOCK too",
 };
 
 pub const FROM_TIME: Valued = Valued {
@@ -95,7 +96,3 @@ pub const EXPLAIN: Flag = Flag {
     name: "explain",
     help: "Tells more of a refusal or of an error, in further lines on standard error",
 };
-
-/// What values `--as` has, by subcommand.
-pub const FORMATS: &str =
-    "The format: list, text or svg of pages and raw, text or vcd of bus, frames or story of check";

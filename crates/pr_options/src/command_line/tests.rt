@@ -91,7 +91,9 @@ fn refused_by(fault: JobFault) -> Asked<'static> {
         JobFault::BadNames => "bad --names",
         JobFault::BadStart => "bad --from-time",
         JobFault::NoRecording => "no recording",
-        JobFault::BadAs => "bad --as",
+        JobFault::BadPageAs => "bad --as of a page",
+        JobFault::BadTraceAs => "bad --as of a trace",
+        JobFault::BadReportAs => "bad --as of a report",
         JobFault::NoMemory => return Asked::NoMemory,
     })
 }
@@ -186,6 +188,7 @@ fn traces_to_check(rt: HostRuntime) {
 #[test]
 fn bytes_of_a_printer(rt: HostRuntime) {
     asks(&rt, "raw", Asked::Raw(false, Format::List));
+    asks(&rt, "raw --explain", Asked::Raw(false, Format::List));
     let drawn = Asked::Raw(true, Format::Picture);
     asks(&rt, "raw --as=svg --set=lower", drawn);
     let lines = Asked::Raw(false, Format::Lines);
@@ -215,7 +218,8 @@ fn refused_by_clap(rt: HostRuntime) {
         "check --invert=0",
         "check --from vcd --from csv",
         "check --set upper",
-        "raw --explain",
+        "raw --explain=1",
+        "raw --explain --explain",
         "raw --present 4",
         "raw --set",
         "help",
@@ -259,6 +263,11 @@ fn bad_values(rt: HostRuntime) {
         ("check --from vcd --names=,y,z", "bad --names"),
         ("check --from vcd --names x,,z", "bad --names"),
         ("check --from vcd --names=", "bad --names"),
+        ("check --from vcd --names ATN,atn,DATA", "bad --names"),
+        (
+            "check --from csv --as x --names D0,D1,d1 --from-time x",
+            "bad --names",
+        ),
         ("check --as x --from-time 1.5", "bad --from-time"),
         (
             "check --from csv --from-time 18446744073709551616",
@@ -268,14 +277,18 @@ fn bad_values(rt: HostRuntime) {
         ("check --invert --as x", "no recording"),
         ("check --from text --names ATN,CLOCK,DATA", "no recording"),
         ("check --from-time 0", "no recording"),
-        ("pages --as pdf --delays 1/2", "bad --as"),
-        ("pages --as=", "bad --as"),
-        ("pages --as vcd", "bad --as"),
-        ("bus --as svg", "bad --as"),
-        ("bus --as list", "bad --as"),
-        ("check --as text", "bad --as"),
-        ("check --from vcd --invert --as list", "bad --as"),
-        ("raw --set lower --as Text", "bad --as"),
+        ("pages --as pdf --delays 1/2", "bad --as of a page"),
+        ("pages --as=", "bad --as of a page"),
+        ("pages --as vcd", "bad --as of a page"),
+        ("raw --set lower --as Text", "bad --as of a page"),
+        ("raw --as frames --explain", "bad --as of a page"),
+        ("bus --as svg", "bad --as of a trace"),
+        ("bus --explain --as list", "bad --as of a trace"),
+        ("check --as text", "bad --as of a report"),
+        (
+            "check --from vcd --invert --as list",
+            "bad --as of a report",
+        ),
     ];
     for (line, wanted) in rows {
         asks(&rt, line, Asked::Bad(wanted));
@@ -313,7 +326,9 @@ fn fault_texts(rt: HostRuntime) -> Result<(), Fail> {
             JobFault::NoRecording,
             "--names, --invert and --from-time go with --from vcd or csv",
         ),
-        (JobFault::BadAs, "bad --as"),
+        (JobFault::BadPageAs, "bad --as"),
+        (JobFault::BadTraceAs, "bad --as"),
+        (JobFault::BadReportAs, "bad --as"),
         (JobFault::NoMemory, "out of memory"),
     ];
     for (fault, wanted) in texts {
@@ -332,9 +347,12 @@ fn values_are_told(rt: HostRuntime) {
         (JobFault::BadStatus, "kept"),
         (JobFault::BadSet, "upper"),
         (JobFault::BadFrom, "csv"),
-        (JobFault::BadNames, "CLK"),
+        (JobFault::BadNames, "no two the same, capitals or not"),
         (JobFault::BadStart, "microseconds"),
-        (JobFault::BadAs, "story"),
+        (JobFault::BadPageAs, "list"),
+        (JobFault::BadPageAs, "svg"),
+        (JobFault::BadTraceAs, "vcd"),
+        (JobFault::BadReportAs, "story"),
     ];
     for (fault, wanted) in faults {
         assert!(rt;
@@ -344,4 +362,36 @@ fn values_are_told(rt: HostRuntime) {
     }
     assert!(rt; JobFault::NoRecording.values().is_none());
     assert!(rt; JobFault::NoMemory.values().is_none());
+}
+
+/// Of a bad `--as` the values of the subcommand alone are told.
+#[test]
+fn values_of_other_subcommands_are_not_told(rt: HostRuntime) {
+    let faults = [
+        (JobFault::BadPageAs, "vcd"),
+        (JobFault::BadPageAs, "frames"),
+        (JobFault::BadTraceAs, "list"),
+        (JobFault::BadTraceAs, "svg"),
+        (JobFault::BadTraceAs, "story"),
+        (JobFault::BadReportAs, "text"),
+        (JobFault::BadReportAs, "vcd"),
+    ];
+    for (fault, other) in faults {
+        assert!(rt;
+            fault.values().is_some_and(|values| !values.contains(other)),
+            "{other}"
+        );
+    }
+}
+
+/// A name keeps the blanks inside it, and none around it.
+#[test]
+fn blanks_around_names(rt: HostRuntime) {
+    let words = ["print1525", "check", "--from=csv", "--names", " a b, c ,d"];
+    let asked = match read_job(rt.alloc(), &words) {
+        Ok(job) => asked_by(job),
+        Err(fault) => refused_by(fault),
+    };
+    let wanted = Asked::Check(Source::Csv, ["a b", "c", "d"], false, 0, Report::Frames);
+    assert!(rt; asked == wanted);
 }

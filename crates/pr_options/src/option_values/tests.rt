@@ -112,7 +112,10 @@ fn signals(rt: HostRuntime) {
     let texts = [
         ("ATN,CLOCK,DATA", Some(["ATN", "CLOCK", "DATA"])),
         ("D0,D1,D2", Some(["D0", "D1", "D2"])),
-        ("a b,\"c\", d", Some(["a b", "\"c\"", " d"])),
+        ("ATN, CLOCK, DATA", Some(["ATN", "CLOCK", "DATA"])),
+        (" \ta b\n,\"c\",  d ", Some(["a b", "\"c\"", "d"])),
+        ("a,aa,a b", Some(["a", "aa", "a b"])),
+        ("ä,Ä,ä ä", Some(["ä", "Ä", "ä ä"])),
         ("", None),
         (",", None),
         (",,", None),
@@ -122,6 +125,16 @@ fn signals(rt: HostRuntime) {
         ("a,,c", None),
         ("a,b,c,", None),
         ("a,b,c,d", None),
+        (" ,b,c", None),
+        ("a,\t\r,c", None),
+        ("a,b, ", None),
+        ("ATN,ATN,DATA", None),
+        ("ATN,CLOCK,CLOCK", None),
+        ("DATA,CLOCK,DATA", None),
+        ("ATN,CLOCK,atn", None),
+        ("Clock, CLOCK,DATA", None),
+        ("ATN,data,DATA ", None),
+        ("a,a,a", None),
     ];
     for (text, wanted) in texts {
         for is_inverted in [false, true] {

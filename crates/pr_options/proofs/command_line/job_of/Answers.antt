@@ -105,8 +105,8 @@ returns-in_err-input-clause-text c = λ e. record {
   is_bad = c.in_err-input.ensures.text (ap Err (same_fault c.from_residual-in_err-input.result c.in_err-input.field-0.0 fault.NoRecording c.from_residual-in_err-input.ensures.1 e));
 }
 
-pub returns-in_default-read_report-clause-form : goal.returns-in_default-read_report-clause-form
-returns-in_default-read_report-clause-form c = λ e. record {
+pub returns-in_default-read_report-clause-report : goal.returns-in_default-read_report-clause-report
+returns-in_default-read_report-clause-report c = λ e. record {
   name = c.in-Some.name.now;
   rows = rows_of (found_of c.in-Some.options.now);
   lower = c.in-Some-read_set.lower;
@@ -125,8 +125,8 @@ returns-in_default-read_report-clause-form c = λ e. record {
   is_bad = search rules;
 }
 
-pub returns-in_default-read_trace_format-clause-form : goal.returns-in_default-read_trace_format-clause-form
-returns-in_default-read_trace_format-clause-form c = λ e. record {
+pub returns-in_default-read_trace_format-clause-trace : goal.returns-in_default-read_trace_format-clause-trace
+returns-in_default-read_trace_format-clause-trace c = λ e. record {
   name = c.in-Some.name.now;
   rows = rows_of (found_of c.in-Some.options.now);
   lower = c.in-Some-read_set.lower;
@@ -145,8 +145,8 @@ returns-in_default-read_trace_format-clause-form c = λ e. record {
   is_bad = search rules;
 }
 
-pub returns-in_default-read_format-clause-form : goal.returns-in_default-read_format-clause-form
-returns-in_default-read_format-clause-form c = λ e. record {
+pub returns-in_default-read_format-clause-page : goal.returns-in_default-read_format-clause-page
+returns-in_default-read_format-clause-page c = λ e. record {
   name = c.in-Some.name.now;
   rows = rows_of (found_of c.in-Some.options.now);
   lower = c.in-Some-read_set.lower;

@@ -1,7 +1,7 @@
 use Rattle.std.proofs.Common.{ap, ◌∙◌, sym, map, subst, IfOk}
 use Rattle.std.specs.Prelude.{IfSome}
 use Rattle.clap.specs.Words.{App, takes}
-use Rattle.pr_options.specs.Jobs.{AsksFor, HasBadAs, HasBadDelays, HasBadFrom, HasBadNames, HasBadPresent, HasBadSet, HasBadStart, HasBadStatus, IsNoRecording, Met}
+use Rattle.pr_options.specs.Jobs.{AsksFor, HasBadDelays, HasBadFrom, HasBadNames, HasBadPageAs, HasBadPresent, HasBadReportAs, HasBadSet, HasBadStart, HasBadStatus, HasBadTraceAs, IsNoRecording, Met}
 use Rattle.pr_options.specs.Subcommands.{IsOurs}
 use Rattle.pr_options.proofs.CommandLemmas.{met_is, subcommand_ours}
 use Rattle.pr_options.proofs.command_line.read_job.Goals as goal
@@ -41,8 +41,14 @@ returns-in-Ok-try_get_matches_from-clause-start c = λ e. subst HasBadStart (met
 pub returns-in-Ok-try_get_matches_from-clause-text : goal.returns-in-Ok-try_get_matches_from-clause-text
 returns-in-Ok-try_get_matches_from-clause-text c = λ e. subst IsNoRecording (met_is _ (map (λ s. s.now) c.args.words.now) c.in-Ok-try_get_matches_from.matches c.in-Ok.ensures.app c.in-Ok-try_get_matches_from.ensures.matches) (c.job_of.ensures.text e)
 
-pub returns-in-Ok-try_get_matches_from-clause-form : goal.returns-in-Ok-try_get_matches_from-clause-form
-returns-in-Ok-try_get_matches_from-clause-form c = λ e. subst HasBadAs (met_is _ (map (λ s. s.now) c.args.words.now) c.in-Ok-try_get_matches_from.matches c.in-Ok.ensures.app c.in-Ok-try_get_matches_from.ensures.matches) (c.job_of.ensures.form e)
+pub returns-in-Ok-try_get_matches_from-clause-page : goal.returns-in-Ok-try_get_matches_from-clause-page
+returns-in-Ok-try_get_matches_from-clause-page c = λ e. subst HasBadPageAs (met_is _ (map (λ s. s.now) c.args.words.now) c.in-Ok-try_get_matches_from.matches c.in-Ok.ensures.app c.in-Ok-try_get_matches_from.ensures.matches) (c.job_of.ensures.page e)
+
+pub returns-in-Ok-try_get_matches_from-clause-trace : goal.returns-in-Ok-try_get_matches_from-clause-trace
+returns-in-Ok-try_get_matches_from-clause-trace c = λ e. subst HasBadTraceAs (met_is _ (map (λ s. s.now) c.args.words.now) c.in-Ok-try_get_matches_from.matches c.in-Ok.ensures.app c.in-Ok-try_get_matches_from.ensures.matches) (c.job_of.ensures.trace e)
+
+pub returns-in-Ok-try_get_matches_from-clause-report : goal.returns-in-Ok-try_get_matches_from-clause-report
+returns-in-Ok-try_get_matches_from-clause-report c = λ e. subst HasBadReportAs (met_is _ (map (λ s. s.now) c.args.words.now) c.in-Ok-try_get_matches_from.matches c.in-Ok.ensures.app c.in-Ok-try_get_matches_from.ensures.matches) (c.job_of.ensures.report e)
 
 pub returns-in-Err-clause-line : goal.returns-in-Err-clause-line
 returns-in-Err-clause-line c =
