@@ -1,5 +1,6 @@
 //! What can stand at a place of a script.
 
+use crate::words::word_at;
 use pr_basic::ScriptFault;
 
 /// The statement around a place.
@@ -15,11 +16,14 @@ enum Context {
     List,
 }
 
+/// That an OPEN has no name.
+const NO_NAME: &str = "a printer's OPEN takes no file name: OPEN file,device,secondary ends here";
+
 /// What can stand behind some bytes of a line, where this is the fault.
 pub fn expected_at(before: &[u8], rest: &[u8], fault: ScriptFault) -> &'static str {
     let context = context_of(before);
     match fault {
-        ScriptFault::UnknownWord(_) => expected_in(context, before),
+        ScriptFault::UnknownWord(_) => expected_in(context, before, rest),
         ScriptFault::BadNumber(_) => match context {
             Context::Start => "a line number is at most 63999",
             Context::Open | Context::Close | Context::File => {
@@ -28,7 +32,10 @@ pub fn expected_at(before: &[u8], rest: &[u8], fault: ScriptFault) -> &'static s
             Context::List => "CHR$ has a number of at most 255",
         },
         ScriptFault::BadDevice(_) => "a comma and a device of 4 to 30 stand behind the file",
-        ScriptFault::BadSecond(_) => "a secondary address of at most 15 stands here",
+        ScriptFault::BadSecond(_) => match rest {
+            [b'"', ..] => NO_NAME,
+            _ => "a secondary address of at most 15 stands here",
+        },
         ScriptFault::BadByte(_) => match rest {
             [b'0'..=b'9', ..] => "CHR$ has a number of at most 255",
             _ => "a string has the bytes 32 to 126; CHR$(n) gives the others",
@@ -40,20 +47,41 @@ pub fn expected_at(before: &[u8], rest: &[u8], fault: ScriptFault) -> &'static s
 }
 
 /// What can stand in a statement, where an unknown word does.
-fn expected_in(context: Context, before: &[u8]) -> &'static str {
-    match context {
-        Context::Start => "OPEN, CMD, PRINT, PRINT#, CLOSE or REM can stand here",
-        Context::Open => "a comma, or the end of OPEN file,device,secondary can stand here",
-        Context::Close => "the end of the statement stands behind the file",
-        Context::File => "a comma and a list, or the end of the statement can stand here",
-        Context::List => match last_of(before) {
-            Some(b'$') => "( stands behind CHR$",
-            Some(b'(') => "a number stands here",
-            Some(b'0'..=b'9') => ") stands behind the number",
-            Some(b',') => "a list stands behind the comma",
+fn expected_in(context: Context, before: &[u8], rest: &[u8]) -> &'static str {
+    if context == Context::Start {
+        return "OPEN, CMD, PRINT, PRINT#, CLOSE or REM can stand here";
+    }
+    if word_at(rest).begins_statement() && !wants_more(before) {
+        return "a : is missing before this statement";
+    }
+    match (context, rest) {
+        (Context::Open, [b',' | b'"', ..]) => NO_NAME,
+        (Context::Start | Context::Open, _) => {
+            "a comma, or the end of OPEN file,device,secondary can stand here"
+        }
+        (Context::Close, _) => "the end of the statement stands behind the file",
+        (Context::File, _) => "a comma and a list, or the end of the statement can stand here",
+        (Context::List, _) => expected_in_list(before, rest),
+    }
+}
+
+/// What can stand in a list, where an unknown word does.
+fn expected_in_list(before: &[u8], rest: &[u8]) -> &'static str {
+    match last_of(before) {
+        Some(b'$') => "( stands behind CHR$",
+        Some(b'(') => "a number stands here",
+        Some(b'0'..=b'9') => ") stands behind the number",
+        Some(b',') => "a list stands behind the comma",
+        _ => match rest {
+            [b',', ..] => "; and not , stands between the parts of a list here",
             _ => "a string, CHR$(n) or ; can stand here",
         },
     }
+}
+
+/// Whether a statement can not end behind these bytes of it.
+fn wants_more(before: &[u8]) -> bool {
+    matches!(last_of(before), Some(b',' | b'(' | b'$'))
 }
 
 /// The last byte that is no space or tab.
@@ -130,38 +158,6 @@ fn without_label(part: &[u8]) -> &[u8] {
 /// Whether bytes begin with a word, whichever of its letters are capitals.
 fn begins(bytes: &[u8], word: &[u8]) -> bool {
     bytes.len() >= word.len() && bytes[..word.len()].eq_ignore_ascii_case(word)
-}
-
-/// Words of BASIC that this profile does not have, the longer ones of like beginnings first.
-const WORDS: [&str; 58] = [
-    "GOSUB", "GOTO", "GO", "FOR", "NEXT", "IF", "THEN", "TO", "STEP", "LET", "DIM", "READ", "DATA",
-    "RESTORE", "INPUT#", "INPUT", "GET#", "GET", "RETURN", "END", "STOP", "CONT", "RUN", "LIST",
-    "NEW", "CLR", "POKE", "WAIT", "SYS", "LOAD", "SAVE", "VERIFY", "DEF", "ON", "TAB(", "SPC(",
-    "LEFT$", "RIGHT$", "MID$", "STR$", "VAL", "LEN", "ASC", "PEEK", "INT", "ABS", "RND", "SQR",
-    "SGN", "SIN", "COS", "TAN", "ATN", "EXP", "LOG", "FRE", "POS", "USR",
-];
-
-/// What stands in front, where it is common BASIC that this profile does not have: the beginning of a
-/// sentence.
-pub fn foreign_word(rest: &[u8]) -> Option<&'static str> {
-    match rest {
-        [b'?', ..] => return Some("? for PRINT is"),
-        [b'#', ..] => return Some("# with a space before it is"),
-        [b'+' | b'-' | b'*' | b'/' | b'^' | b'=' | b'<' | b'>', ..] => {
-            return Some("an operator is");
-        }
-        [b'%' | b'$', ..] => return Some("a variable is"),
-        _ => {}
-    }
-    for word in WORDS {
-        if begins(rest, word.as_bytes()) {
-            return Some("this word of BASIC is");
-        }
-    }
-    match rest {
-        [b'a'..=b'z' | b'A'..=b'Z', ..] => Some("a variable or another word is"),
-        _ => None,
-    }
 }
 
 #[cfg(test)]

@@ -1,7 +1,7 @@
 //! The places of the table of lawful traces, in words.
 
 use crate::rows::rows_from;
-use crate::texts::{push, push_levels, push_number};
+use crate::texts::{Origin, push, push_levels, push_moment, push_number};
 use pr_wire::{NoMemory, Place, Sending};
 
 /// What is sent.
@@ -14,10 +14,10 @@ fn name_of(sending: Sending) -> &'static str {
 }
 
 /// Adds words, and a moment behind `since`.
-fn push_since(text: &mut Vec<u8>, words: &str, since: u64) -> Result<(), NoMemory> {
+fn push_since(text: &mut Vec<u8>, words: &str, since: u64, origin: Origin) -> Result<(), NoMemory> {
     push(text, words)?;
     push(text, ", since ")?;
-    push_number(text, since)
+    push_moment(text, since, origin)
 }
 
 /// Adds the same, of what is sent.
@@ -26,9 +26,10 @@ fn push_sending(
     words: &str,
     sending: Sending,
     since: u64,
+    origin: Origin,
 ) -> Result<(), NoMemory> {
     push(text, words)?;
-    push_since(text, name_of(sending), since)
+    push_since(text, name_of(sending), since, origin)
 }
 
 /// Adds the same, of a bit of what is sent.
@@ -38,59 +39,107 @@ fn push_bit(
     bit: usize,
     sending: Sending,
     since: u64,
+    origin: Origin,
 ) -> Result<(), NoMemory> {
     push(text, "bit ")?;
     push_number(text, bit as u64)?;
     push(text, " of ")?;
     push(text, name_of(sending))?;
-    push_since(text, words, since)
+    push_since(text, words, since, origin)
 }
 
 /// Adds a place in words.
-pub fn push_place(text: &mut Vec<u8>, place: &Place) -> Result<(), NoMemory> {
+pub fn push_place(text: &mut Vec<u8>, place: &Place, origin: Origin) -> Result<(), NoMemory> {
     match place {
-        Place::Idle(since) => push_since(text, "idle, all lines are released", *since),
-        Place::Call(since, false) => push_since(text, "attention, no printer answers yet", *since),
-        Place::Call(since, true) => push_since(text, "attention, a printer answers", *since),
+        Place::Idle(since) => push_since(text, "idle, all lines are released", *since, origin),
+        Place::Call(since, false) => push_since(
+            text,
+            "attention, no printer answers yet",
+            *since,
+            origin,
+        ),
+        Place::Call(since, true) => push_since(
+            text,
+            "attention, a printer answers",
+            *since,
+            origin,
+        ),
         Place::Ready(since, sending) => {
-            push_sending(text, "the computer is ready to send ", *sending, *since)
+            push_sending(
+                text,
+                "the computer is ready to send ",
+                *sending,
+                *since,
+                origin,
+            )
         }
         Place::Free(since, sending) => {
-            push_sending(text, "the printers are ready for ", *sending, *since)
+            push_sending(
+                text,
+                "the printers are ready for ",
+                *sending,
+                *since,
+                origin,
+            )
         }
-        Place::Pulse(since, _) => push_since(text, "end-or-identify is answered", *since),
-        Place::After(since) => push_since(text, "end-or-identify has been answered", *since),
+        Place::Pulse(since, _) => push_since(text, "end-or-identify is answered", *since, origin),
+        Place::After(since) => push_since(
+            text,
+            "end-or-identify has been answered",
+            *since,
+            origin,
+        ),
         Place::Bit {
             since,
             sending,
             seen,
             ..
-        } => push_bit(text, ", CLOCK is pulled", seen.len(), *sending, *since),
+        } => push_bit(
+            text,
+            ", CLOCK is pulled",
+            seen.len(),
+            *sending,
+            *since,
+            origin,
+        ),
         Place::High {
             since,
             sending,
             seen,
             ..
-        } => push_bit(text, ", CLOCK is released", seen.len(), *sending, *since),
+        } => push_bit(
+            text,
+            ", CLOCK is released",
+            seen.len(),
+            *sending,
+            *since,
+            origin,
+        ),
         Place::Last(since, sending, _, _) => {
-            push_sending(text, "all bits have come of ", *sending, *since)
+            push_sending(text, "all bits have come of ", *sending, *since, origin)
         }
         Place::Ack(since, sending, _) => {
-            push_sending(text, "a printer has acknowledged ", *sending, *since)
+            push_sending(
+                text,
+                "a printer has acknowledged ",
+                *sending,
+                *since,
+                origin,
+            )
         }
         Place::Freed {
             since,
             unlistened: false,
             ..
-        } => push_since(text, "attention has ended", *since),
+        } => push_since(text, "attention has ended", *since, origin),
         Place::Freed { since, .. } => {
-            push_since(text, "attention has ended with UNLISTEN", *since)
+            push_since(text, "attention has ended with UNLISTEN", *since, origin)
         }
     }
 }
 
 /// Adds a line for each edge that may follow at a place.
-pub fn push_rows(text: &mut Vec<u8>, place: &Place) -> Result<(), NoMemory> {
+pub fn push_rows(text: &mut Vec<u8>, place: &Place, origin: Origin) -> Result<(), NoMemory> {
     for row in rows_from(place) {
         let Some(row) = row else {
             continue;
@@ -100,17 +149,17 @@ pub fn push_rows(text: &mut Vec<u8>, place: &Place) -> Result<(), NoMemory> {
         match row.latest {
             Some(latest) if latest == row.earliest => {
                 push(text, " at ")?;
-                push_number(text, latest)?;
+                push_moment(text, latest, origin)?;
             }
             Some(latest) => {
                 push(text, " from ")?;
-                push_number(text, row.earliest)?;
+                push_moment(text, row.earliest, origin)?;
                 push(text, " to ")?;
-                push_number(text, latest)?;
+                push_moment(text, latest, origin)?;
             }
             None => {
                 push(text, " from ")?;
-                push_number(text, row.earliest)?;
+                push_moment(text, row.earliest, origin)?;
                 push(text, " on")?;
             }
         }
@@ -118,6 +167,3 @@ pub fn push_rows(text: &mut Vec<u8>, place: &Place) -> Result<(), NoMemory> {
     }
     Ok(())
 }
-
-#[cfg(test)]
-mod tests;

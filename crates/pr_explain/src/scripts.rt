@@ -1,19 +1,14 @@
 //! Why a script is refused.
 
-ghost use Rattle.std.specs.Prelude.{◌≤◌, length};
-
-use crate::context::{expected_at, foreign_word};
-use crate::stops::label_of;
+use crate::context::expected_at;
 use crate::texts::{cut_line, push, push_cut, push_number, push_shown, without_end};
-use pr_basic::{FaultAt, ScriptFault, read_script_at};
+use crate::words::{foreign_word, word_at};
+use pr_basic::{FaultAt, ScriptFault, basic_number, read_script_at};
 use pr_wire::NoMemory;
 use std::alloc::{AllocError, Global};
 
 /// The most bytes of a line that are shown before the place (profile).
 const BEFORE: usize = 60;
-
-/// The most bytes of the word that is told (profile).
-const WORD: usize = 20;
 
 /// Where a fault stands: its line with what stands before it there.
 #[derive(Clone, Copy)]
@@ -80,27 +75,41 @@ fn push_fault(text: &mut Vec<u8>, spot: Spot<'_>, fault: ScriptFault) -> Result<
     push_number(text, spot.number as u64)?;
     push(text, ", column ")?;
     push_number(text, (spot.before.len() as u64).saturating_add(1))?;
-    let label = label_of(spot.before);
-    if !label.is_empty() {
+    if let Some(label) = basic_number(spot.before) {
         push(text, ", BASIC line ")?;
-        push_cut(text, label)?;
+        push_number(text, u64::from(label))?;
     }
     push(text, ": ")?;
-    push_word(text, word_of(spot.rest))?;
+    push_word(text, &spot.rest[..word_at(spot.rest).len])?;
     push(text, ": ")?;
     push(text, expected_at(spot.before, spot.rest, fault))?;
     push(text, "\n")?;
-    match foreign_word(spot.rest) {
-        Some(name) if is_unknown(fault) => {
-            push(text, "  ")?;
-            push(text, name)?;
-            push(
-                text,
-                " not among OPEN, CMD, PRINT, PRINT#, CLOSE, REM and CHR$\n",
-            )
-        }
-        _ => Ok(()),
+    if is_unknown(fault) {
+        push_hints(text, spot.rest)?;
     }
+    Ok(())
+}
+
+/// Adds what else there is to say of an unknown word: that spaces stand in it, that it is BASIC that this
+/// profile does not have.
+fn push_hints(text: &mut Vec<u8>, rest: &[u8]) -> Result<(), NoMemory> {
+    if let Some(word) = word_at(rest).unspaced() {
+        push(text, "  this is ")?;
+        push(text, word)?;
+        push(
+            text,
+            " with a space in it; no space stands in a word of BASIC here\n",
+        )?;
+    }
+    if let Some(name) = foreign_word(rest) {
+        push(text, "  ")?;
+        push(text, name)?;
+        push(
+            text,
+            " not among OPEN, CMD, PRINT, PRINT#, CLOSE, REM and CHR$\n",
+        )?;
+    }
+    Ok(())
 }
 
 /// Whether a word is not known.
@@ -140,35 +149,6 @@ fn push_word(text: &mut Vec<u8>, word: &[u8]) -> Result<(), NoMemory> {
     push(text, "\"")?;
     push_cut(text, word)?;
     push(text, "\"")
-}
-
-/// The word in front: letters, digits, or one byte else.
-fn word_of(rest: &[u8]) -> &[u8] {
-    let [first, ..] = rest else {
-        return rest;
-    };
-    if first.is_ascii_alphabetic() || first.is_ascii_digit() {
-        &rest[..word_len(rest, first.is_ascii_digit())]
-    } else {
-        &rest[..1]
-    }
-}
-
-/// How many letters stand in front, or digits, at most [`WORD`].
-fn word_len(rest: &[u8], are_digits: bool) -> usize
-    ensures { result ≤ length rest.now }
-{
-    for (i, byte) in rest.iter().enumerate() {
-        let goes_on = if are_digits {
-            byte.is_ascii_digit()
-        } else {
-            byte.is_ascii_alphabetic()
-        };
-        if i == WORD || !goes_on {
-            return i;
-        }
-    }
-    rest.len()
 }
 
 #[cfg(test)]

@@ -1,9 +1,8 @@
 //! The BASIC error that stopped a run, in BASIC's own words.
 
 use crate::texts::{cut_line, push, push_cut, push_number, without_end};
-use pr_basic::{ScriptFault, read_script};
+use pr_basic::{ScriptFault, Statement, basic_number, read_script};
 use pr_channels::Stop;
-use pr_text::digit_count;
 use pr_wire::NoMemory;
 use std::alloc::{AllocError, Global};
 
@@ -46,10 +45,9 @@ pub fn explain_stop(
     push(&mut text, "?")?;
     push(&mut text, name_of(stop))?;
     push(&mut text, "  ERROR")?;
-    let label = label_of(line);
-    if !label.is_empty() {
+    if let Some(label) = basic_number(line) {
         push(&mut text, " IN ")?;
-        push_cut(&mut text, label)?;
+        push_number(&mut text, u64::from(label))?;
     }
     push(&mut text, " (statement ")?;
     push_number(&mut text, statement as u64)?;
@@ -58,9 +56,63 @@ pub fn explain_stop(
     push(&mut text, ": ")?;
     push_cut(&mut text, without_end(line))?;
     push(&mut text, "\n  ")?;
-    push(&mut text, reason_of(stop))?;
+    push_reason(alloc, &mut text, script, stop, statement)?;
     push(&mut text, "\n")?;
     Ok(text)
+}
+
+/// Adds what the error means here, with the device that does not answer.
+fn push_reason(
+    alloc: Global,
+    text: &mut Vec<u8>,
+    script: &[u8],
+    stop: Stop,
+    statement: usize,
+) -> Result<(), NoMemory> {
+    if stop == Stop::DeviceNotPresent {
+        if let Some(device) = device_at(alloc, script, statement)? {
+            push(text, "device ")?;
+            push_number(text, u64::from(device))?;
+            return push(
+                text,
+                " does not answer; --present says which printers there are",
+            );
+        }
+    }
+    push(text, reason_of(stop))
+}
+
+/// The device of a statement, counted from 1, of a script.
+fn device_at(alloc: Global, script: &[u8], statement: usize) -> Result<Option<u8>, NoMemory> {
+    match read_script(alloc, script) {
+        Ok(statements) => Ok(device_of(statements.as_slice(), statement)),
+        Err(ScriptFault::NoMemory) => Err(AllocError),
+        Err(_) => Ok(None),
+    }
+}
+
+/// The device of a statement, counted from 1: its own, or that of the last OPEN of its file before it.
+fn device_of(statements: &[Statement], number: usize) -> Option<u8> {
+    let mut opened = None;
+    let index = number.checked_sub(1)?;
+    let file = match statements.get(index)? {
+        Statement::OpenFile { device, .. } => return Some(device.get()),
+        Statement::Cmd { file, .. } | Statement::PrintTo { file, .. } => *file,
+        Statement::Print { .. } | Statement::CloseFile { .. } | Statement::Rem => return None,
+    };
+    for statement in &statements[..index] {
+        if let Statement::OpenFile {
+            file: other,
+            device,
+            ..
+        } = statement
+        {
+            if *other == file {
+                opened = Some(device.get());
+            }
+        }
+    }
+    opened
 }
 
 /// The line with a statement, counted from 1: the line's number, from 1, and its text with its end.
@@ -90,22 +142,6 @@ fn statement_count(alloc: Global, line: &[u8]) -> Result<usize, NoMemory> {
         Err(ScriptFault::NoMemory) => Err(AllocError),
         Err(_) => Ok(0),
     }
-}
-
-/// The digits of a BASIC line's number; none where it has no number.
-pub fn label_of(line: &[u8]) -> &[u8] {
-    let rest = after_blanks(line);
-    &rest[..digit_count(rest)]
-}
-
-/// What stands behind the spaces and tabs in front.
-fn after_blanks(line: &[u8]) -> &[u8] {
-    for (i, byte) in line.iter().enumerate() {
-        if *byte != b' ' && *byte != b'\t' {
-            return &line[i..];
-        }
-    }
-    &[]
 }
 
 #[cfg(test)]

@@ -3,7 +3,16 @@
 ghost use Rattle.std.specs.Prelude.{◌≡◌, ◌+◌, ◌<◌, length};
 
 use itoa::Buffer;
-use pr_wire::{Levels, NoMemory};
+use pr_wire::{Edge, Levels, NoMemory};
+
+/// Where the moments of edges come from.
+#[derive(Clone, Copy, Debug, PartialEq, Eq)]
+pub enum Origin {
+    /// A trace text, in which each edge has the line of its index, from 1.
+    Text,
+    /// A recording: they are counted from this moment of it, in microseconds.
+    Recording(u64),
+}
 
 /// The most bytes of a line that is shown (profile).
 pub const SHOWN: usize = 100;
@@ -17,6 +26,36 @@ pub fn push(text: &mut Vec<u8>, words: &str) -> Result<(), NoMemory> {
 pub fn push_number(text: &mut Vec<u8>, number: u64) -> Result<(), NoMemory> {
     let mut buffer = Buffer::new();
     text.extend_from_slice(buffer.format(number).as_bytes())
+}
+
+/// Adds in brackets which moment of the recording a moment is, if it is counted from a later one than
+/// the recording's own.
+fn push_recorded(text: &mut Vec<u8>, time: u64, origin: Origin) -> Result<(), NoMemory> {
+    let Origin::Recording(start) = origin else {
+        return Ok(());
+    };
+    match start.checked_add(time) {
+        Some(recorded) if start > 0 => {
+            push(text, " [")?;
+            push_number(text, recorded)?;
+            push(text, "]")
+        }
+        _ => Ok(()),
+    }
+}
+
+/// Adds a moment, and behind it that of the recording in brackets, if that is another.
+pub fn push_moment(text: &mut Vec<u8>, time: u64, origin: Origin) -> Result<(), NoMemory> {
+    push_number(text, time)?;
+    push_recorded(text, time, origin)
+}
+
+/// Adds an edge as a trace text has it, and behind it its moment of the recording, if that is another.
+pub fn push_edge(text: &mut Vec<u8>, edge: Edge, origin: Origin) -> Result<(), NoMemory> {
+    push_number(text, edge.time)?;
+    push(text, " ")?;
+    push_levels(text, edge.levels)?;
+    push_recorded(text, edge.time, origin)
 }
 
 /// A level as a trace text has it: 1 is released.
@@ -77,6 +116,27 @@ pub fn without_end(line: &[u8]) -> &[u8] {
         [front @ .., b'\r'] => front,
         whole => whole,
     }
+}
+
+/// What stands before a line with this number, from 1, and the line with its end.
+pub fn line_at(text: &[u8], number: usize) -> (&[u8], &[u8]) {
+    let mut rest = text;
+    for _ in 1..number {
+        let (_, more) = cut_line(rest);
+        rest = more;
+    }
+    let (line, _) = cut_line(rest);
+    let start = text.len().saturating_sub(rest.len());
+    (&text[..start], line)
+}
+
+/// Adds a line with its number, from 1.
+pub fn push_line(text: &mut Vec<u8>, number: usize, line: &[u8]) -> Result<(), NoMemory> {
+    push(text, "  line ")?;
+    push_number(text, number as u64)?;
+    push(text, ": ")?;
+    push_cut(text, without_end(line))?;
+    push(text, "\n")
 }
 
 /// What stands before the end of the first line, with that end, and what stands behind.

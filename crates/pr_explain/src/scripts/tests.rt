@@ -40,6 +40,116 @@ fn unknown_words(rt: HostRuntime) -> Result<(), Fail> {
     )
 }
 
+/// What is said behind the column of a script of one line.
+fn said(rt: &(impl Abort + AllocGlobal), script: &str, wanted: &str) -> Result<(), Fail> {
+    let text = explain_script(rt.alloc(), script.as_bytes())?;
+    let text = text.as_slice();
+    assert!(rt; text.ends_with(wanted.as_bytes()), "{script}");
+    Ok(())
+}
+
+/// Common slips, each with the word that is found and what is said of it.
+#[test]
+fn common_slips(rt: HostRuntime) -> Result<(), Fail> {
+    let rows = [
+        (
+            "PRINT \"A\" PRINT \"B\"",
+            "column 11: \"PRINT\": a : is missing before this statement\n",
+        ),
+        (
+            "OPEN 4,4 PRINT#4",
+            "column 10: \"PRINT#\": a : is missing before this statement\n",
+        ),
+        (
+            "CLOSE 4 REM",
+            "column 9: \"REM\": a : is missing before this statement\n",
+        ),
+        (
+            "PRINT#4,PRINT",
+            "column 9: \"PRINT\": a list stands behind the comma\n",
+        ),
+        (
+            "OPEN 1,4,7,\"NAME\"",
+            "column 11: \",\": a printer's OPEN takes no file name: OPEN file,device,secondary ends here\n",
+        ),
+        (
+            "OPEN 1,4,\"NAME\"",
+            "column 10: \"\"\": a printer's OPEN takes no file name: OPEN file,device,secondary ends here\n",
+        ),
+        (
+            "OPEN 1,4 7",
+            "column 10: \"7\": a comma, or the end of OPEN file,device,secondary can stand here\n",
+        ),
+        (
+            "PRINT \"A\",\"B\"",
+            "column 10: \",\": ; and not , stands between the parts of a list here\n",
+        ),
+        (
+            "PRINT#4,\"A\",\"B\"",
+            "column 12: \",\": ; and not , stands between the parts of a list here\n",
+        ),
+    ];
+    for (script, wanted) in rows {
+        said(&rt, script, wanted)?;
+    }
+    Ok(())
+}
+
+/// Words with spaces in them, and words of BASIC with what belongs to them.
+#[test]
+fn whole_words(rt: HostRuntime) -> Result<(), Fail> {
+    let start = "OPEN, CMD, PRINT, PRINT#, CLOSE or REM can stand here\n";
+    let list = "a string, CHR$(n) or ; can stand here\n";
+    let spaced = "with a space in it; no space stands in a word of BASIC here\n";
+    let foreign = "not among OPEN, CMD, PRINT, PRINT#, CLOSE, REM and CHR$\n";
+    let rows = [
+        (
+            "PRI NT \"A\"",
+            "\"PRI NT\": ",
+            start,
+            "  this is PRINT ",
+            spaced,
+        ),
+        ("O PEN 4,4", "\"O PEN\": ", start, "  this is OPEN ", spaced),
+        (
+            "PRINT CHR $(65)",
+            "\"CHR $\": ",
+            list,
+            "  this is CHR$ ",
+            spaced,
+        ),
+        (
+            "FORI=1TO9",
+            "\"FOR\": ",
+            start,
+            "  this word of BASIC is ",
+            foreign,
+        ),
+        (
+            "PRINT TAB(5)",
+            "\"TAB(\": ",
+            list,
+            "  this word of BASIC is ",
+            foreign,
+        ),
+        ("PRINT A$", "\"A$\": ", list, "  a variable is ", foreign),
+        ("PRINT X1%", "\"X1%\": ", list, "  a variable is ", foreign),
+    ];
+    for (script, word, expected, front, end) in rows {
+        let wanted = format!(in rt.alloc(); "{word}{expected}{front}{end}")?;
+        said(&rt, script, wanted.as_str())?;
+    }
+    let both = format!(in rt.alloc();
+        "\"GO TO\": {start}  this is GOTO {spaced}  this word of BASIC is {foreign}"
+    )?;
+    said(&rt, "10 GO TO 10", both.as_str())?;
+    said(
+        &rt,
+        "0020 GO",
+        "column 6, BASIC line 20: \"GO\": OPEN, CMD, PRINT, PRINT#, CLOSE or REM can stand here\n  this word of BASIC is not among OPEN, CMD, PRINT, PRINT#, CLOSE, REM and CHR$\n",
+    )
+}
+
 #[test]
 fn other_faults(rt: HostRuntime) -> Result<(), Fail> {
     told(

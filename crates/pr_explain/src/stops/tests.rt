@@ -27,7 +27,7 @@ fn errors_in_lines(rt: HostRuntime) -> Result<(), Fail> {
         Stop::DeviceNotPresent,
         3,
         "?DEVICE NOT PRESENT  ERROR IN 20 (statement 3)\n  line 2: 20 OPEN 7,7:PRINT#7,\"A:B\":REM :\n  \
-         no printer has answered; --present says which there are\n",
+         device 7 does not answer; --present says which printers there are\n",
     )?;
     told(
         &rt,
@@ -44,6 +44,76 @@ fn errors_in_lines(rt: HostRuntime) -> Result<(), Fail> {
         "?FILE OPEN  ERROR IN 63999 (statement 2)\n  line 1:   63999  OPEN 4,4:OPEN 4,4\n  \
          the file is open already\n",
     )
+}
+
+/// The number of a BASIC line is told as BASIC tells it.
+#[test]
+fn numbers_of_lines(rt: HostRuntime) -> Result<(), Fail> {
+    told(
+        &rt,
+        "0030 CLOSE 4:PRINT#4",
+        Stop::FileNotOpen,
+        2,
+        "?FILE NOT OPEN  ERROR IN 30 (statement 2)\n  line 1: 0030 CLOSE 4:PRINT#4\n  the file is not open\n",
+    )?;
+    told(
+        &rt,
+        "000PRINT#4",
+        Stop::FileNotOpen,
+        1,
+        "?FILE NOT OPEN  ERROR IN 0 (statement 1)\n  line 1: 000PRINT#4\n  the file is not open\n",
+    )
+}
+
+/// The device is that of the file's last OPEN before the statement.
+#[test]
+fn devices_that_do_not_answer(rt: HostRuntime) -> Result<(), Fail> {
+    let script = "OPEN 1,4:OPEN 2,30\nCLOSE 1\nOPEN 1,5\nCMD 1\nPRINT#2\nOPEN 2,9\nPRINT#3\nREM\n";
+    let rows = [
+        (
+            5,
+            "CMD 1",
+            4,
+            "device 5 does not answer; --present says which printers there are",
+        ),
+        (
+            6,
+            "PRINT#2",
+            5,
+            "device 30 does not answer; --present says which printers there are",
+        ),
+        (
+            7,
+            "OPEN 2,9",
+            6,
+            "device 9 does not answer; --present says which printers there are",
+        ),
+        (
+            8,
+            "PRINT#3",
+            7,
+            "no printer has answered; --present says which there are",
+        ),
+        (
+            9,
+            "REM",
+            8,
+            "no printer has answered; --present says which there are",
+        ),
+    ];
+    for (statement, line, number, reason) in rows {
+        let wanted = format!(in rt.alloc();
+            "?DEVICE NOT PRESENT  ERROR (statement {statement})\n  line {number}: {line}\n  {reason}\n"
+        )?;
+        told(
+            &rt,
+            script,
+            Stop::DeviceNotPresent,
+            statement,
+            wanted.as_str(),
+        )?;
+    }
+    Ok(())
 }
 
 #[test]
@@ -78,9 +148,14 @@ fn names_of_errors(rt: HostRuntime) -> Result<(), Fail> {
 
 /// Whether an explanation is refused memory. If not, it is as with ample memory.
 fn is_refused(rt: &(impl Abort + AllocGlobal)) -> bool {
-    match explain_stop(rt.alloc(), b"10 OPEN 4,4\n20 OPEN 4,4", Stop::FileOpen, 2) {
+    match explain_stop(
+        rt.alloc(),
+        b"10 OPEN 4,5\n20 PRINT#4,\"A\"",
+        Stop::DeviceNotPresent,
+        2,
+    ) {
         Ok(text) => {
-            assert!(rt; text.as_slice().ends_with(b"the file is open already\n"));
+            assert!(rt; text.as_slice().ends_with(b"which printers there are\n"));
             false
         }
         Err(_refused) => true,

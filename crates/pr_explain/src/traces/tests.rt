@@ -1,6 +1,7 @@
 //! Explanations of traces: the moments are those of the table of lawful traces.
 
 use super::*;
+use crate::texts::cut_line;
 use pr_wire::example::TRACE_TEXT;
 use std::env::FillError;
 use std::process::Abort;
@@ -110,18 +111,6 @@ fn bad_lines(rt: HostRuntime) -> Result<(), Fail> {
         let wanted = format!(in rt.alloc(); "{front}{line_is}{more}")?;
         told(&rt, trace, wanted.as_str())?;
     }
-    Ok(())
-}
-
-/// The edges of a recording have no lines.
-#[test]
-fn edges_of_recordings(rt: HostRuntime) -> Result<(), Fail> {
-    let edges = read_trace(rt.alloc(), b"0 111\n99 001\n")?;
-    let text = explain_edges(rt.alloc(), edges.as_slice())?;
-    let wanted =
-        "  edge 1: 99 001\n  the edge before it: 0 111\n  the place there: idle, all lines are \
-                  released, since 0\n  could follow: 001 from 100 on\n  it comes 1 microsecond too early\n";
-    assert_eq!(rt; text.as_slice(), wanted.as_bytes());
     Ok(())
 }
 
