@@ -31,14 +31,6 @@ impl<R> Kept<R> {
         Kept { inner, bytes }
     }
 
-    /// All the bytes that have come of the reader. None where they were not to be kept, or where memory
-    /// was refused for them.
-    pub fn into_bytes(self) -> Option<Vec<u8>>
-        ensures { result ≡ self.bytes }
-    {
-        self.bytes
-    }
-
     /// Keeps more bytes behind the others, if those are kept and there is memory.
     fn keep(&mut self, more: &[u8])
         ensures inner { read_from self.new ≡ read_from self.old }
@@ -49,6 +41,16 @@ impl<R> Kept<R> {
                 self.bytes = Some(bytes);
             }
         }
+    }
+}
+
+impl<R: Drop> Kept<R> {
+    /// All the bytes that have come of the reader. None where they were not to be kept, or where memory
+    /// was refused for them.
+    pub fn into_bytes(self) -> Option<Vec<u8>>
+        ensures { result ≡ self.bytes }
+    {
+        self.bytes
     }
 }
 
