@@ -19,6 +19,11 @@ abbrev pub takes : Option Row → Edge → Bool
 takes None e = false
 takes (Some r) e = lies r.levels r.earliest r.latest e
 
+-- a row has a moment: its earliest one is no later than its latest
+abbrev pub has_moment : Option Row → Bool
+has_moment None = true
+has_moment (Some r) = not (is_late r.earliest r.latest)
+
 -- it is taken
 abbrev pub is_step : Result Step Flaw → Bool
 is_step (Ok step) = true

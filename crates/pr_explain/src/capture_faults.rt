@@ -1,7 +1,7 @@
 //! The faults of recordings.
 
 use crate::names::push_names;
-use crate::recordings::RecordingKind;
+use crate::recordings::Recording;
 use crate::texts::{line_at, push, push_cut, push_line};
 use pr_capture::{CaptureFault, Signals, Wire};
 use pr_wire::NoMemory;
@@ -90,7 +90,7 @@ fn rule_of_both(fault: CaptureFault) -> &'static str {
 pub fn push_capture_fault(
     text: &mut Vec<u8>,
     recording: &[u8],
-    kind: RecordingKind,
+    kind: Recording,
     signals: Signals<'_>,
     fault: CaptureFault,
 ) -> Result<(), NoMemory> {
@@ -109,8 +109,8 @@ pub fn push_capture_fault(
             push(
                 text,
                 match kind {
-                    RecordingKind::Dump => rule_of_dumps(fault),
-                    RecordingKind::Table => rule_of_tables(fault),
+                    Recording::Dump => rule_of_dumps(fault),
+                    Recording::Table => rule_of_tables(fault),
                 },
             )?;
             push(text, "\n")

@@ -1,9 +1,53 @@
 //! Why edges are no lawful trace.
 
+ghost use Rattle.std.specs.Prelude.{◌≡◌, ◌+◌, if◌then◌else◌, length, None, Some, IfErr, IfOk, OnOk};
+ghost use Rattle.pr_wire.specs.Table.{fault_at, fault_from, fault_of, may_end};
+ghost use Rattle.pr_wire.specs.declared.WaveFault.{WaveFault};
+
 use crate::places::{push_place, push_rows};
 use crate::rows::rows_from;
 use crate::texts::{Origin, push, push_edge, push_number};
 use pr_wire::{Edge, Flaw, Levels, NoMemory, Place};
+
+/// Where edges lead that are all lawful.
+#[derive(Drop)]
+struct Led {
+    last: Edge,
+    place: Place,
+}
+
+/// The first edge that is not lawful, with its index, the edge before it and the place there.
+#[derive(Drop)]
+struct Refused {
+    index: usize,
+    last: Edge,
+    edge: Edge,
+    flaw: Flaw,
+    place: Place,
+}
+
+/// Follows the edges behind the first one of a trace.
+fn follow(first: Edge, others: &[Edge]) -> Result<Led, Refused>
+    ensures led { IfOk result (λ led. fault_from 1 first (Place.Idle 0) others.now
+        ≡ (if may_end led.place then None else Some (WaveFault.Truncated (length others.now + 1)))) }
+    ensures refused { IfErr result (λ r. fault_from 1 first (Place.Idle 0) others.now ≡ Some (fault_at r.flaw r.index)) }
+{
+    let mut last = first;
+    let mut place = Place::Idle(0);
+    for (i, edge) in others.iter().enumerate() {
+        if let Err(flaw) = place.advance(last, *edge) {
+            return Err(Refused {
+                index: i + 1,
+                last,
+                edge: *edge,
+                flaw,
+                place,
+            });
+        }
+        last = *edge;
+    }
+    Ok(Led { last, place })
+}
 
 /// Adds why edges are no lawful trace, if they are none. That they end too soon is told only where
 /// they are whole.
@@ -12,7 +56,9 @@ pub fn push_edges(
     edges: &[Edge],
     origin: Origin,
     is_whole: bool,
-) -> Result<(), NoMemory> {
+) -> Result<(), NoMemory>
+    ensures lawful { OnOk result (fault_of edges.now ≡ None → text.new.items ≡ text.old.items) }
+{
     let [first, others @ ..] = edges else {
         return if is_whole {
             push_no_edge(text, origin)
@@ -23,19 +69,16 @@ pub fn push_edges(
     if !first.is_start() {
         return push_start(text, edges, *first, origin);
     }
-    let mut last = *first;
-    let mut place = Place::Idle(0);
-    for (i, edge) in others.iter().enumerate() {
-        if let Err(flaw) = place.advance(last, *edge) {
-            push_indexed(text, i + 1, *edge, origin)?;
-            return push_flaw(text, flaw, last, *edge, &place, origin);
+    match follow(*first, others) {
+        Err(refused) => push_refused(text, &refused, origin),
+        Ok(led) => {
+            if is_whole && !led.place.may_end() {
+                push_end(text, &led, origin)
+            } else {
+                Ok(())
+            }
         }
-        last = *edge;
     }
-    if is_whole && !place.may_end() {
-        push_end(text, last, &place, origin)?;
-    }
-    Ok(())
 }
 
 /// Adds that there is no edge.
@@ -165,23 +208,18 @@ fn push_behind(
     push_rows(text, place, origin)
 }
 
-/// Adds what is wrong with an edge, after the edge before it and at this place.
-fn push_flaw(
-    text: &mut Vec<u8>,
-    flaw: Flaw,
-    last: Edge,
-    edge: Edge,
-    place: &Place,
-    origin: Origin,
-) -> Result<(), NoMemory> {
-    push_behind(text, "  the edge before it: ", last, place, origin)?;
-    match flaw {
+/// Adds the first edge that is not lawful, and what is wrong with it.
+fn push_refused(text: &mut Vec<u8>, refused: &Refused, origin: Origin) -> Result<(), NoMemory> {
+    let (last, edge) = (refused.last, refused.edge);
+    push_indexed(text, refused.index, edge, origin)?;
+    push_behind(text, "  the edge before it: ", last, &refused.place, origin)?;
+    match refused.flaw {
         Flaw::Order if edge.time <= last.time => {
             push(text, "  it is not later than the edge before it\n")
         }
         Flaw::Order => push(text, "  it has the levels of the edge before it\n"),
         Flaw::Shape => push(text, "  no edge to its levels may follow\n"),
-        Flaw::TooEarly | Flaw::TooLate => push_miss(text, edge, place),
+        Flaw::TooEarly | Flaw::TooLate => push_miss(text, edge, &refused.place),
     }
 }
 
@@ -228,9 +266,9 @@ fn push_by(text: &mut Vec<u8>, missed: u64, when: &str) -> Result<(), NoMemory> 
 }
 
 /// Adds that edges end too soon.
-fn push_end(text: &mut Vec<u8>, last: Edge, place: &Place, origin: Origin) -> Result<(), NoMemory> {
+fn push_end(text: &mut Vec<u8>, led: &Led, origin: Origin) -> Result<(), NoMemory> {
     push_brackets(text, origin)?;
-    push_behind(text, "  the last edge: ", last, place, origin)?;
+    push_behind(text, "  the last edge: ", led.last, &led.place, origin)?;
     push(
         text,
         "  a trace may end where all lines are released, behind a data byte, or behind an attention \

@@ -21,7 +21,7 @@ mod texts;
 mod traces;
 mod words;
 
-pub use recordings::{RecordingKind, explain_recording};
+pub use recordings::{Recording, explain_recording};
 pub use rows::{Row, rows_from};
 pub use scripts::explain_script;
 pub use stops::explain_stop;

@@ -2,7 +2,7 @@
 
 ghost use Rattle.std.specs.Prelude.{◌<◌, ◌≤◌, length, IfSome};
 
-use crate::recordings::RecordingKind;
+use crate::recordings::Recording;
 use crate::texts::{push, push_cut};
 use pr_wire::NoMemory;
 
@@ -15,12 +15,12 @@ pub fn push_names(
     text: &mut Vec<u8>,
     recording: &[u8],
     line: &[u8],
-    kind: RecordingKind,
+    kind: Recording,
 ) -> Result<(), NoMemory> {
     let mut names = NameList::new();
     match kind {
-        RecordingKind::Dump => push_dump_names(text, recording, &mut names)?,
-        RecordingKind::Table => push_table_names(text, line, &mut names)?,
+        Recording::Dump => push_dump_names(text, recording, &mut names)?,
+        Recording::Table => push_table_names(text, line, &mut names)?,
     }
     push(
         text,

@@ -9,7 +9,7 @@ use std::alloc::{AllocError, Global};
 
 /// A format of recordings.
 #[derive(Clone, Copy, Debug, PartialEq, Eq)]
-pub enum RecordingKind {
+pub enum Recording {
     /// A Value Change Dump.
     Dump,
     /// A table of comma separated values.
@@ -25,10 +25,10 @@ enum SampleReader<'a> {
 
 impl<'a> SampleReader<'a> {
     /// Nothing has come. It takes no memory.
-    fn new(alloc: Global, kind: RecordingKind, signals: Signals<'a>) -> SampleReader<'a> {
+    fn new(alloc: Global, kind: Recording, signals: Signals<'a>) -> SampleReader<'a> {
         match kind {
-            RecordingKind::Dump => SampleReader::Dump(VcdReader::new(alloc, signals)),
-            RecordingKind::Table => SampleReader::Table(CsvReader::new(alloc, signals)),
+            Recording::Dump => SampleReader::Dump(VcdReader::new(alloc, signals)),
+            Recording::Table => SampleReader::Table(CsvReader::new(alloc, signals)),
         }
     }
 
@@ -69,7 +69,7 @@ struct Recorded {
 pub fn explain_recording(
     alloc: Global,
     recording: &[u8],
-    kind: RecordingKind,
+    kind: Recording,
     signals: Signals<'_>,
     start: u64,
 ) -> Result<Vec<u8>, NoMemory> {
@@ -88,7 +88,7 @@ pub fn explain_recording(
 fn read_recording(
     alloc: Global,
     recording: &[u8],
-    kind: RecordingKind,
+    kind: Recording,
     signals: Signals<'_>,
     start: u64,
 ) -> Result<Recorded, NoMemory> {

@@ -4,7 +4,8 @@ ghost use Rattle.std.specs.Prelude.{◌≡◌, ◌+◌, ◌^◌, ◌<◌, Some, 
 ghost use Rattle.pr_wire.specs.declared.Edge.{Edge};
 ghost use Rattle.pr_wire.specs.declared.place.Sending.{Sending};
 ghost use Rattle.pr_wire.specs.Delays.{bounds_of};
-ghost use Rattle.pr_explain.specs.Rows.{AreRows, lies, takes};
+ghost use Rattle.std.specs.List.{list_all};
+ghost use Rattle.pr_explain.specs.Rows.{AreRows, has_moment, lies, takes};
 
 use pr_wire::{Kind, Levels, Place, Sending, bounds};
 
@@ -24,22 +25,29 @@ pub struct Row {
 }
 
 /// The row of an edge to these levels that comes at least so long after one moment and at most so
-/// long after another.
+/// long after another; None, where no moment does.
 fn between(levels: Levels, since: u64, least: u64, other: u64, greatest: u64) -> Option<Row>
-    ensures { (e : Edge) → e.time < 2 ^ 64 → takes result e ≡ lies levels (since + least) (Some (other + greatest)) e }
+    ensures takes { (e : Edge) → e.time < 2 ^ 64 → takes result e ≡ lies levels (since + least) (Some (other + greatest)) e }
+    ensures moments { has_moment result ≡ true }
 {
+    let earliest = since.checked_add(least)?;
+    let latest = other.saturating_add(greatest);
+    if latest < earliest {
+        return None;
+    }
     Some(Row {
         levels,
-        earliest: since.checked_add(least)?,
-        latest: Some(other.saturating_add(greatest)),
+        earliest,
+        latest: Some(latest),
     })
 }
 
 /// The row of an edge to these levels of ATN, CLOCK and DATA that comes a delay of this kind after a
 /// moment.
 fn by_kind(atn: bool, clock: bool, line: bool, since: u64, kind: Kind) -> Option<Row>
-    ensures { (e : Edge) → e.time < 2 ^ 64 →
+    ensures takes { (e : Edge) → e.time < 2 ^ 64 →
         takes result e ≡ lies (record { atn = atn; clock = clock; line = line }) (since + (bounds_of kind).0) (Some (since + (bounds_of kind).2)) e }
+    ensures moments { has_moment result ≡ true }
 {
     let (least, _, greatest) = bounds(kind);
     let levels = Levels { atn, clock, line };
@@ -48,7 +56,8 @@ fn by_kind(atn: bool, clock: bool, line: bool, since: u64, kind: Kind) -> Option
 
 /// All lines are released: ATN is pulled.
 fn after_idle(since: u64) -> [Option<Row>; 3]
-    ensures { AreRows result (Place.Idle since) }
+    ensures rows { AreRows result (Place.Idle since) }
+    ensures moments { list_all has_moment result ≡ true }
 {
     let (least, _, _) = bounds(Kind::Bb);
     let levels = Levels {
@@ -68,7 +77,8 @@ fn after_idle(since: u64) -> [Option<Row>; 3]
 /// ATN is pulled, and no printer pulls DATA: one answers, or the computer looks, and goes on or gives
 /// up.
 fn after_call(since: u64) -> [Option<Row>; 3]
-    ensures { AreRows result (Place.Call since false) }
+    ensures rows { AreRows result (Place.Call since false) }
+    ensures moments { list_all has_moment result ≡ true }
 {
     let (look, _, _) = bounds(Kind::Aw);
     let levels = Levels {
@@ -86,7 +96,8 @@ fn after_call(since: u64) -> [Option<Row>; 3]
 
 /// ATN is pulled, and a printer pulls DATA: the computer looks.
 fn after_answered_call(since: u64) -> [Option<Row>; 3]
-    ensures { AreRows result (Place.Call since true) }
+    ensures rows { AreRows result (Place.Call since true) }
+    ensures moments { list_all has_moment result ≡ true }
 {
     let row = by_kind(false, true, false, since, Kind::Aw);
     [row, None, None]
@@ -94,7 +105,8 @@ fn after_answered_call(since: u64) -> [Option<Row>; 3]
 
 /// Each hearer is to release DATA.
 fn after_ready(since: u64, sending: Sending) -> [Option<Row>; 3]
-    ensures { AreRows result (Place.Ready since sending) }
+    ensures rows { AreRows result (Place.Ready since sending) }
+    ensures moments { list_all has_moment result ≡ true }
 {
     let row = by_kind(sending.atn(), true, true, since, Kind::H);
     [row, None, None]
@@ -103,7 +115,8 @@ fn after_ready(since: u64, sending: Sending) -> [Option<Row>; 3]
 /// CLOCK is pulled with the first bit, or before a data byte DATA is pulled in answer to
 /// end-or-identify.
 fn after_free(since: u64, sending: Sending) -> [Option<Row>; 3]
-    ensures { AreRows result (Place.Free since sending) }
+    ensures rows { AreRows result (Place.Free since sending) }
+    ensures moments { list_all has_moment result ≡ true }
 {
     let atn = sending.atn();
     let low = by_kind(atn, false, false, since, Kind::Ne);
@@ -118,7 +131,8 @@ fn after_free(since: u64, sending: Sending) -> [Option<Row>; 3]
 /// DATA is released again, at the latest the greatest wait and the greatest answer after its release
 /// before.
 fn after_pulse(since: u64, free: u64) -> [Option<Row>; 3]
-    ensures { AreRows result (Place.Pulse since free) }
+    ensures rows { AreRows result (Place.Pulse since free) }
+    ensures moments { list_all has_moment result ≡ true }
 {
     let (least, _, greatest) = bounds(Kind::Ei);
     let (_, _, wait) = bounds(Kind::Ye);
@@ -134,7 +148,8 @@ fn after_pulse(since: u64, free: u64) -> [Option<Row>; 3]
 
 /// CLOCK is pulled with the first bit.
 fn after_answer(since: u64) -> [Option<Row>; 3]
-    ensures { AreRows result (Place.After since) }
+    ensures rows { AreRows result (Place.After since) }
+    ensures moments { list_all has_moment result ≡ true }
 {
     let low = by_kind(true, false, false, since, Kind::Ry);
     let high = by_kind(true, false, true, since, Kind::Ry);
@@ -143,7 +158,8 @@ fn after_answer(since: u64) -> [Option<Row>; 3]
 
 /// CLOCK is released, and DATA keeps the bit.
 fn after_bit(since: u64, sending: Sending, bit: bool) -> [Option<Row>; 3]
-    ensures { (eoi : Bool) (seen : List Bool) → AreRows result (Place.Bit since sending eoi seen bit) }
+    ensures rows { (eoi : Bool) (seen : List Bool) → AreRows result (Place.Bit since sending eoi seen bit) }
+    ensures moments { list_all has_moment result ≡ true }
 {
     let row = by_kind(sending.atn(), true, bit, since, Kind::S);
     [row, None, None]
@@ -151,7 +167,8 @@ fn after_bit(since: u64, sending: Sending, bit: bool) -> [Option<Row>; 3]
 
 /// CLOCK is pulled with the next bit.
 fn after_high(since: u64, sending: Sending) -> [Option<Row>; 3]
-    ensures { (eoi : Bool) (seen : List Bool) (bit : Bool) → length seen < 7 → AreRows result (Place.High since sending eoi seen bit) }
+    ensures rows { (eoi : Bool) (seen : List Bool) (bit : Bool) → length seen < 7 → AreRows result (Place.High since sending eoi seen bit) }
+    ensures moments { list_all has_moment result ≡ true }
 {
     let low = by_kind(sending.atn(), false, false, since, Kind::V);
     let high = by_kind(sending.atn(), false, true, since, Kind::V);
@@ -160,7 +177,8 @@ fn after_high(since: u64, sending: Sending) -> [Option<Row>; 3]
 
 /// CLOCK is pulled behind the last bit, and DATA is released.
 fn after_last_bit(since: u64, sending: Sending) -> [Option<Row>; 3]
-    ensures { (eoi : Bool) (seen : List Bool) (bit : Bool) → length seen ≡ 7 → AreRows result (Place.High since sending eoi seen bit) }
+    ensures rows { (eoi : Bool) (seen : List Bool) (bit : Bool) → length seen ≡ 7 → AreRows result (Place.High since sending eoi seen bit) }
+    ensures moments { list_all has_moment result ≡ true }
 {
     let row = by_kind(sending.atn(), false, true, since, Kind::V);
     [row, None, None]
@@ -168,15 +186,17 @@ fn after_last_bit(since: u64, sending: Sending) -> [Option<Row>; 3]
 
 /// More bits than a byte has.
 fn after_too_many() -> [Option<Row>; 3]
-    ensures { (since : ℕ) (sending : Sending) (eoi : Bool) (seen : List Bool) (bit : Bool) → 7 < length seen →
+    ensures rows { (since : ℕ) (sending : Sending) (eoi : Bool) (seen : List Bool) (bit : Bool) → 7 < length seen →
         AreRows result (Place.High since sending eoi seen bit) }
+    ensures moments { list_all has_moment result ≡ true }
 {
     [None, None, None]
 }
 
 /// DATA is pulled: the byte is acknowledged.
 fn after_last(since: u64, sending: Sending) -> [Option<Row>; 3]
-    ensures { (eoi : Bool) (seen : List Bool) → AreRows result (Place.Last since sending eoi seen) }
+    ensures rows { (eoi : Bool) (seen : List Bool) → AreRows result (Place.Last since sending eoi seen) }
+    ensures moments { list_all has_moment result ≡ true }
 {
     let row = by_kind(sending.atn(), false, false, since, Kind::F);
     [row, None, None]
@@ -184,7 +204,8 @@ fn after_last(since: u64, sending: Sending) -> [Option<Row>; 3]
 
 /// The computer goes on with the next byte, or ATN is released or pulled.
 fn after_ack(since: u64, sending: Sending) -> [Option<Row>; 3]
-    ensures { (byte : ℕ) → AreRows result (Place.Ack since sending byte) }
+    ensures rows { (byte : ℕ) → AreRows result (Place.Ack since sending byte) }
+    ensures moments { list_all has_moment result ≡ true }
 {
     let (next, other) = match sending {
         Sending::First => (
@@ -202,7 +223,8 @@ fn after_ack(since: u64, sending: Sending) -> [Option<Row>; 3]
 
 /// ATN is released behind an attention, and DATA is still pulled.
 fn after_freed(since: u64, unlistened: bool) -> [Option<Row>; 3]
-    ensures { AreRows result (Place.Freed since unlistened false) }
+    ensures rows { AreRows result (Place.Freed since unlistened false) }
+    ensures moments { list_all has_moment result ≡ true }
 {
     let release = by_kind(true, false, true, since, Kind::Dr);
     if unlistened {
@@ -215,7 +237,8 @@ fn after_freed(since: u64, unlistened: bool) -> [Option<Row>; 3]
 
 /// ATN is released behind an attention, and DATA too.
 fn after_released(since: u64, unlistened: bool) -> [Option<Row>; 3]
-    ensures { AreRows result (Place.Freed since unlistened true) }
+    ensures rows { AreRows result (Place.Freed since unlistened true) }
+    ensures moments { list_all has_moment result ≡ true }
 {
     if unlistened {
         let row = by_kind(true, true, true, since, Kind::Cr);
@@ -227,9 +250,11 @@ fn after_released(since: u64, unlistened: bool) -> [Option<Row>; 3]
 }
 
 /// The rows of the table of lawful traces at a place: at most three edges may follow there. An edge is
-/// taken at the place exactly if one of the rows has its levels and its moment lies within.
+/// taken at the place exactly if one of the rows has its levels and its moment lies within. Each row has
+/// a moment: its earliest is no later than its latest.
 pub fn rows_from(place: &Place) -> [Option<Row>; 3]
-    ensures { AreRows result place.now }
+    ensures rows { AreRows result place.now }
+    ensures moments { list_all has_moment result ≡ true }
 {
     match place {
         Place::Idle(since) => after_idle(*since),

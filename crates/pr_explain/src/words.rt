@@ -5,7 +5,7 @@ ghost use Rattle.std.specs.Prelude.{◌≤◌, length, IfSome};
 use pr_text::digit_count;
 
 /// The most letters and digits of a word that is no word of BASIC (profile).
-const WORD: usize = 20;
+const LETTERS: usize = 20;
 
 /// The words of this profile, the longer ones of like beginnings first.
 const KEYWORDS: [&str; 7] = ["OPEN", "CLOSE", "CMD", "PRINT#", "PRINT", "REM", "CHR$"];
@@ -136,7 +136,7 @@ fn after_blanks(bytes: &[u8]) -> &[u8] {
     &[]
 }
 
-/// The letters and digits in front, at most [`WORD`], and a variable's mark behind them.
+/// The letters and digits in front, at most [`LETTERS`], and a variable's mark behind them.
 fn other_at(rest: &[u8]) -> Word
     ensures { result.len ≤ length rest.now }
 {
@@ -153,12 +153,12 @@ fn other_at(rest: &[u8]) -> Word
     }
 }
 
-/// How many letters and digits stand in front, at most [`WORD`].
+/// How many letters and digits stand in front, at most [`LETTERS`].
 fn letter_count(rest: &[u8]) -> usize
     ensures { result ≤ length rest.now }
 {
     for (i, byte) in rest.iter().enumerate() {
-        if i == WORD || !byte.is_ascii_alphanumeric() {
+        if i == LETTERS || !byte.is_ascii_alphanumeric() {
             return i;
         }
     }

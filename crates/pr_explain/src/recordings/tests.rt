@@ -24,7 +24,7 @@ const HEADER: &str = "$timescale 1 us $end\n$var wire 1 a ATN $end\n$var wire 1 
 fn told(
     rt: &(impl Abort + AllocGlobal),
     recording: &[u8],
-    kind: RecordingKind,
+    kind: Recording,
     start: u64,
     wanted: &str,
 ) -> Result<(), Fail> {
@@ -41,7 +41,7 @@ fn told_of_dump(
     wanted: &str,
 ) -> Result<(), Fail> {
     let dump = format!(in rt.alloc(); "{HEADER}{changes}")?;
-    told(rt, dump.as_bytes(), RecordingKind::Dump, start, wanted)
+    told(rt, dump.as_bytes(), Recording::Dump, start, wanted)
 }
 
 /// The table with a row of names is explained so.
@@ -52,7 +52,7 @@ fn told_of_table(
     wanted: &str,
 ) -> Result<(), Fail> {
     let table = format!(in rt.alloc(); "Time [s],ATN,CLOCK,DATA\n{rows}")?;
-    told(rt, table.as_bytes(), RecordingKind::Table, start, wanted)
+    told(rt, table.as_bytes(), Recording::Table, start, wanted)
 }
 
 /// The example trace as a table, all of its moments later by so many seconds.
@@ -77,9 +77,9 @@ fn example_table(rt: &impl AllocGlobal, seconds: u64) -> Result<String, Fail> {
 #[test]
 fn lawful_recordings(rt: HostRuntime) -> Result<(), Fail> {
     let table = example_table(&rt, 0)?;
-    told(&rt, table.as_bytes(), RecordingKind::Table, 0, "")?;
+    told(&rt, table.as_bytes(), Recording::Table, 0, "")?;
     let table = example_table(&rt, 3)?;
-    told(&rt, table.as_bytes(), RecordingKind::Table, 3_000_000, "")?;
+    told(&rt, table.as_bytes(), Recording::Table, 3_000_000, "")?;
     told_of_dump(&rt, "#0 1a 1c 1d\n", 0, "")
 }
 
@@ -163,29 +163,29 @@ fn starts_of_recordings(rt: HostRuntime) -> Result<(), Fail> {
 fn names_of_signals(rt: HostRuntime) -> Result<(), Fail> {
     let how =
         "\n  --names tells which signals are ATN, CLOCK and DATA, as in --names ATN,CLOCK,DATA\n";
-    let rows: [(&[u8], RecordingKind, &str, &str); 4] = [
+    let rows: [(&[u8], Recording, &str, &str); 4] = [
         (
             b"; remark\nTime [s], \"D 0\" ,CLOCK,\"a,\x1b\"\r\n0,1,1,1\n",
-            RecordingKind::Table,
+            Recording::Table,
             "  line 2: Time [s], \"D 0\" ,CLOCK,\"a,\\x1B\"\n  ATN is looked for as ATN,",
             "  the recording has the signals D 0, CLOCK, a,\\x1B",
         ),
         (
             b"",
-            RecordingKind::Table,
+            Recording::Table,
             "  line 1: \n  ATN is looked for as ATN,",
             "  the recording names no signal of one bit",
         ),
         (
             b"$comment $var wire 1 x ATN $end $timescale 1 us $end\n$var wire 1 a atn $end $var wire 8 c CLOCK $end\n\
               $var wire 1 ! D1 [3] $end\n$enddefinitions $end\n$var wire 1 z LATE $end\n",
-            RecordingKind::Dump,
+            Recording::Dump,
             "  line 4: $enddefinitions $end\n  CLOCK is looked for as CLOCK,",
             "  the recording has the signals atn, D1",
         ),
         (
             b"t,1,2,3,4,5,6,7,8,9,10,11,12,13,14,15,16,17,18,19,20,21\n",
-            RecordingKind::Table,
+            Recording::Table,
             "  line 1: t,1,2,3,4,5,6,7,8,9,10,11,12,13,14,15,16,17,18,19,20,21\n  ATN is looked for as ATN,",
             "  the recording has the signals 1, 2, 3, 4, 5, 6, 7, 8, 9, 10, 11, 12, 13, 14, 15, 16, 17, 18, 19, 20, ..",
         ),
@@ -262,21 +262,21 @@ fn faults_of_dumps(rt: HostRuntime) -> Result<(), Fail> {
     told(
         &rt,
         b"0,1,1,1\n",
-        RecordingKind::Dump,
+        Recording::Dump,
         0,
         "  line 2: \n  the header of a dump ends with $enddefinitions $end; --from csv reads tables\n",
     )?;
     told(
         &rt,
         b"$var wire 1 a ATN $end\n",
-        RecordingKind::Dump,
+        Recording::Dump,
         0,
         "  line 2: \n  the header of a dump ends with $enddefinitions $end; --from csv reads tables\n",
     )?;
     told(
         &rt,
         b"$enddefinitions $end\n",
-        RecordingKind::Dump,
+        Recording::Dump,
         0,
         "  line 1: $enddefinitions $end\n  the header of a dump has $timescale 1 us $end, or 1, 10 or \
          100 of another unit from fs to s\n",
@@ -292,13 +292,7 @@ fn names_looked_for(rt: HostRuntime) -> Result<(), Fail> {
         line: b"D2",
         is_inverted: false,
     };
-    let text = explain_recording(
-        rt.alloc(),
-        b"t,D0,D1,D2\n",
-        RecordingKind::Table,
-        signals,
-        0,
-    )?;
+    let text = explain_recording(rt.alloc(), b"t,D0,D1,D2\n", Recording::Table, signals, 0)?;
     let wanted =
         b"  line 1: t,D0,D1,D2\n  CLOCK is looked for as D\\xFF, and no signal of one bit has that \
         name\n  the recording has the signals D0, D1, D2\n  --names tells which signals are ATN, CLOCK and \
@@ -308,7 +302,7 @@ fn names_looked_for(rt: HostRuntime) -> Result<(), Fail> {
 }
 
 /// Whether an explanation is refused memory. If not, it is as with ample memory.
-fn is_refused(rt: &(impl Abort + AllocGlobal), recording: &[u8], kind: RecordingKind) -> bool {
+fn is_refused(rt: &(impl Abort + AllocGlobal), recording: &[u8], kind: Recording) -> bool {
     match explain_recording(rt.alloc(), recording, kind, SIGNALS, 1) {
         Ok(text) => {
             assert!(rt; text.as_slice().ends_with(b"too early\n"));
@@ -327,15 +321,15 @@ fn may_be_refused(rt: &impl Env) -> bool {
 }
 
 /// A dump or a table with a fault and with an edge before it that comes too early.
-const RECORDINGS: [(&[u8], RecordingKind); 2] = [
+const RECORDINGS: [(&[u8], Recording); 2] = [
     (
         b"$timescale 1 us $end $var wire 1 a ATN $end $var wire 1 c CLK $end $var wire 1 d DATA $end\n\
           $enddefinitions $end #1 1a 1c 1d #3 0a 0c #9 1a 0a q",
-        RecordingKind::Dump,
+        Recording::Dump,
     ),
     (
         b"Time,ATN,CLOCK,DATA\n0.000001,1,1,1\n0.000003,0,0,1\n0.000009,1,0,0\n1,x,1,1",
-        RecordingKind::Table,
+        Recording::Table,
     ),
 ];
 
