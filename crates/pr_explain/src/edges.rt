@@ -1,9 +1,5 @@
 //! Why edges are no lawful trace.
 
-ghost use Rattle.std.specs.Prelude.{◌≡◌, ◌+◌, if◌then◌else◌, length, None, Some, IfErr, IfOk, OnOk};
-ghost use Rattle.pr_wire.specs.Table.{fault_at, fault_from, fault_of, may_end};
-ghost use Rattle.pr_wire.specs.declared.WaveFault.{WaveFault};
-
 use crate::places::{push_place, push_rows};
 use crate::rows::rows_from;
 use crate::texts::{Origin, push, push_edge, push_number};
@@ -27,11 +23,7 @@ struct Refused {
 }
 
 /// Follows the edges behind the first one of a trace.
-fn follow(first: Edge, others: &[Edge]) -> Result<Led, Refused>
-    ensures led { IfOk result (λ led. fault_from 1 first (Place.Idle 0) others.now
-        ≡ (if may_end led.place then None else Some (WaveFault.Truncated (length others.now + 1)))) }
-    ensures refused { IfErr result (λ r. fault_from 1 first (Place.Idle 0) others.now ≡ Some (fault_at r.flaw r.index)) }
-{
+fn follow(first: Edge, others: &[Edge]) -> Result<Led, Refused> {
     let mut last = first;
     let mut place = Place::Idle(0);
     for (i, edge) in others.iter().enumerate() {
@@ -56,9 +48,7 @@ pub fn push_edges(
     edges: &[Edge],
     origin: Origin,
     is_whole: bool,
-) -> Result<(), NoMemory>
-    ensures lawful { OnOk result (fault_of edges.now ≡ None → text.new.items ≡ text.old.items) }
-{
+) -> Result<(), NoMemory> {
     let [first, others @ ..] = edges else {
         return if is_whole {
             push_no_edge(text, origin)

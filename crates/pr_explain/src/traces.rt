@@ -1,13 +1,8 @@
 //! Why a trace text is refused.
 
-ghost use Rattle.std.specs.Prelude.{◌≡◌, [], List, IfOk};
-ghost use Rattle.pr_wire.specs.declared.Edge.{Edge};
-ghost use Rattle.pr_wire.specs.Pieces.{IsLawful};
-ghost use Rattle.pr_wire.specs.TraceText.{IsTraceText};
-
 use crate::edges::push_edges;
 use crate::texts::{Origin, line_at, push, push_line};
-use pr_wire::{NoMemory, TraceFault, lawful_traces, read_trace, trace_texts};
+use pr_wire::{NoMemory, TraceFault, read_trace};
 use std::alloc::{AllocError, Global};
 
 /// Says why a trace text is refused: which line spells no edge, or where the first edge that is not
@@ -18,11 +13,7 @@ use std::alloc::{AllocError, Global};
 /// # Errors
 ///
 /// [`NoMemory`] where memory was refused.
-pub fn explain_trace(alloc: Global, trace: &[u8]) -> Result<Vec<u8>, NoMemory>
-    ensures lawful { IfOk result (λ text. (edges : List Edge) → IsTraceText trace.now edges → IsLawful edges → text.items ≡ []) }
-{
-    lawful_traces();
-    trace_texts();
+pub fn explain_trace(alloc: Global, trace: &[u8]) -> Result<Vec<u8>, NoMemory> {
     let mut text = Vec::new(alloc);
     match read_trace(alloc, trace) {
         Ok(edges) => push_edges(&mut text, edges.as_slice(), Origin::Text, true)?,
