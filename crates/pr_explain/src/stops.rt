@@ -1,7 +1,7 @@
 //! The BASIC error that stopped a run, in BASIC's own words.
 
 use crate::texts::{cut_line, push, push_cut, push_number, without_end};
-use pr_basic::{ScriptFault, Statement, basic_number, read_script};
+use pr_basic::{ScriptFault, Statement, StatusMode, basic_number, read_script};
 use pr_channels::Stop;
 use pr_wire::NoMemory;
 use std::alloc::{AllocError, Global};
@@ -23,13 +23,15 @@ fn reason_of(stop: Stop) -> &'static str {
         Stop::TooManyFiles => "ten files are open already",
         Stop::FileOpen => "the file is open already",
         Stop::FileNotOpen => "the file is not open",
-        Stop::DeviceNotPresent => "no printer has answered; --present says which there are",
+        Stop::DeviceNotPresent =>
+            "no printer has answered; --present says which printers there are",
         Stop::NotInputFile => "file 0 cannot be opened",
     }
 }
 
 /// Says which error stopped the run of a script at a statement, counted from 1, as BASIC says it, with
-/// the number of its BASIC line if that has one, and the line.
+/// the number of its BASIC line if that has one, and the line. Where the status goes on from statement
+/// to statement, a device that did not answer may be that of a statement before.
 ///
 /// # Errors
 ///
@@ -37,6 +39,7 @@ fn reason_of(stop: Stop) -> &'static str {
 pub fn explain_stop(
     alloc: Global,
     script: &[u8],
+    mode: StatusMode,
     stop: Stop,
     statement: usize,
 ) -> Result<Vec<u8>, NoMemory> {
@@ -56,30 +59,45 @@ pub fn explain_stop(
     push(&mut text, ": ")?;
     push_cut(&mut text, without_end(line))?;
     push(&mut text, "\n  ")?;
-    push_reason(alloc, &mut text, script, stop, statement)?;
+    push_reason(alloc, &mut text, script, mode, stop, statement)?;
     push(&mut text, "\n")?;
     Ok(text)
 }
 
-/// Adds what the error means here, with the device that does not answer.
+/// Adds what the error means here, with the device that does not answer, where that is the
+/// statement's.
 fn push_reason(
     alloc: Global,
     text: &mut Vec<u8>,
     script: &[u8],
+    mode: StatusMode,
     stop: Stop,
     statement: usize,
 ) -> Result<(), NoMemory> {
-    if stop == Stop::DeviceNotPresent {
-        if let Some(device) = device_at(alloc, script, statement)? {
-            push(text, "device ")?;
-            push_number(text, u64::from(device))?;
-            return push(
-                text,
-                " does not answer; --present says which printers there are",
-            );
+    match (stop, mode) {
+        (Stop::DeviceNotPresent, StatusMode::Each) => {
+            match device_at(alloc, script, statement)? {
+                Some(device) => push_silent(text, device),
+                None => push(text, reason_of(stop)),
+            }
         }
+        (Stop::DeviceNotPresent, StatusMode::Kept) => push(
+            text,
+            "no printer has answered, here or at a statement before (--status kept); --present says \
+             which printers there are",
+        ),
+        _ => push(text, reason_of(stop)),
     }
-    push(text, reason_of(stop))
+}
+
+/// Adds that a device does not answer.
+fn push_silent(text: &mut Vec<u8>, device: u8) -> Result<(), NoMemory> {
+    push(text, "device ")?;
+    push_number(text, u64::from(device))?;
+    push(
+        text,
+        " does not answer; --present says which printers there are",
+    )
 }
 
 /// The device of a statement, counted from 1, of a script.

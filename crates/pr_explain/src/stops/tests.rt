@@ -14,7 +14,8 @@ fn told(
     statement: usize,
     wanted: &str,
 ) -> Result<(), Fail> {
-    let text = explain_stop(rt.alloc(), script.as_bytes(), stop, statement)?;
+    let mode = StatusMode::Each;
+    let text = explain_stop(rt.alloc(), script.as_bytes(), mode, stop, statement)?;
     assert_eq!(rt; text.as_slice(), wanted.as_bytes(), "{script}");
     Ok(())
 }
@@ -44,6 +45,19 @@ fn errors_in_lines(rt: HostRuntime) -> Result<(), Fail> {
         "?FILE OPEN  ERROR IN 63999 (statement 2)\n  line 1:   63999  OPEN 4,4:OPEN 4,4\n  \
          the file is open already\n",
     )
+}
+
+/// Where the status goes on, the device may be that of a statement before.
+#[test]
+fn kept_status(rt: HostRuntime) -> Result<(), Fail> {
+    let script = "OPEN 4,4\nOPEN 5,5\nPRINT#5,\"A\"\nPRINT#4,\"B\"\n";
+    let (mode, stop) = (StatusMode::Kept, Stop::DeviceNotPresent);
+    let text = explain_stop(rt.alloc(), script.as_bytes(), mode, stop, 4)?;
+    let wanted = "?DEVICE NOT PRESENT  ERROR (statement 4)\n  line 4: PRINT#4,\"B\"\n  \
+         no printer has answered, here or at a statement before (--status kept); --present says which \
+         printers there are\n";
+    assert_eq!(rt; text.as_slice(), wanted.as_bytes());
+    Ok(())
 }
 
 /// The number of a BASIC line is told as BASIC tells it.
@@ -92,13 +106,13 @@ fn devices_that_do_not_answer(rt: HostRuntime) -> Result<(), Fail> {
             8,
             "PRINT#3",
             7,
-            "no printer has answered; --present says which there are",
+            "no printer has answered; --present says which printers there are",
         ),
         (
             9,
             "REM",
             8,
-            "no printer has answered; --present says which there are",
+            "no printer has answered; --present says which printers there are",
         ),
     ];
     for (statement, line, number, reason) in rows {
@@ -129,7 +143,7 @@ fn names_of_errors(rt: HostRuntime) -> Result<(), Fail> {
         (
             Stop::DeviceNotPresent,
             "DEVICE NOT PRESENT",
-            "no printer has answered; --present says which there are",
+            "no printer has answered; --present says which printers there are",
         ),
         (
             Stop::NotInputFile,
@@ -151,6 +165,7 @@ fn is_refused(rt: &(impl Abort + AllocGlobal)) -> bool {
     match explain_stop(
         rt.alloc(),
         b"10 OPEN 4,5\n20 PRINT#4,\"A\"",
+        StatusMode::Each,
         Stop::DeviceNotPresent,
         2,
     ) {
