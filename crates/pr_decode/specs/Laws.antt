@@ -1,11 +1,11 @@
 -- Laws: what recordings say. The functions of src/laws.rt prove them, and callers take them from there.
-use Rattle.std.specs.Prelude.{◌≡◌, List, ◌++◌, Option, map}
+use Rattle.std.specs.Prelude.{◌≡◌, List, ◌++◌, Option}
 use Rattle.std.specs.Option.{option_to_list}
 use Rattle.pr_wire.specs.declared.Edge.{Edge}
 use Rattle.pr_wire.specs.declared.Frame.{Frame}
 use Rattle.pr_wire.specs.Pieces.{IsCut, Piece, Spells}
 use Rattle.pr_decode.specs.declared.reading.Reading.{Reading}
-use Rattle.pr_decode.specs.Outlines.{outline}
+use Rattle.pr_decode.specs.Outlines.{outlines}
 use Rattle.pr_decode.specs.PieceReadings.{frames_in, pieces_read}
 use Rattle.pr_decode.specs.Readings.{readings_of, settled_of}
 use Rattle.pr_decode.specs.Stretches.{stretches}
@@ -20,7 +20,7 @@ OnlyTheLastIsCut = (edges : List Edge) → (cut : Option Reading) × (readings_o
 
 -- of a stretch nothing counts but its outline: recordings with the same outlines say the same
 abbrev pub OutlinesDecide : Type 0
-OutlinesDecide = (a b : List Edge) → map outline (stretches a) ≡ map outline (stretches b) → readings_of a ≡ readings_of b
+OutlinesDecide = (a b : List Edge) → outlines (stretches a) ≡ outlines (stretches b) → readings_of a ≡ readings_of b
 
 -- a lawful trace says the frames of its pieces, with the moments of these, and nothing else
 abbrev pub TracesSayTheirPieces : Type 0
