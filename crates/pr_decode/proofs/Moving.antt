@@ -14,7 +14,7 @@ use Rattle.pr_decode.specs.Steps.{acknowledged_at, acknowledged_in, advanced, bi
 use Rattle.pr_decode.specs.Stretches.{Stretch, begun, calls, goes_on, longer, stretches_from}
 use Rattle.pr_decode.specs.Taking.{HasBegun, IsRight, Past, first_low, noted, stretch_in, stretched, to_come}
 use Rattle.pr_decode.specs.Taking.Past.{High, Low, Waiting}
-use Rattle.pr_decode.proofs.Adding.{begun-further, begun-more, call-ends-none, called-ends-none, called-off, ends-bit, first-further,  late-ends-none, low-opens-nothing, more-first, more-stretched, none-comes, none_come, nothing-begins, uncalled-behind}
+use Rattle.pr_decode.proofs.Adding.{begun-further, begun-more, call-ends-none, called-ends-none, called-off, ends-bit, first-further, late-ends-none, low-opens-nothing, more-first, more-stretched, none-comes, none_come, nothing-begins, uncalled-behind}
 use Rattle.pr_decode.proofs.Bytes.{transfer-more}
 use Rattle.pr_decode.proofs.Cutting.{calls-off, clock-falls, clock-rises, head-of, late-none, late-one, late-stays, stretches-off, stretches-on}
 use Rattle.pr_decode.proofs.Stepping.{Next, few-bits, frame-comes, glitch-comes, keeps-off, keeps-on, off-called, sent}

@@ -1,5 +1,6 @@
 -- What a recording says, by the outlines of its stretches.
 use Rattle.std.proofs.Common.{◌≡◌, ℕ, suc, zero, ◌-◌, ◌==◌, Bool, true, false, not, ◌&&◌, ◌||◌, List, [], ◌∷◌, ◌++◌, length, map, Option, Some, None, if◌then◌else◌, refl, sym, ap, ◌∙◌, subst}
+use Rattle.std.proofs.lemmas.Bool.{eqb-true}
 use Rattle.std.proofs.lemmas.List.{length-map}
 use Rattle.std.specs.Prelude.{nat_lt}
 use Rattle.pr_wire.specs.declared.Edge.{Edge}
@@ -15,7 +16,7 @@ use Rattle.pr_decode.specs.declared.reading.Reading.TheVariants.{Frame, Glitch}
 use Rattle.pr_decode.specs.declared.reading.Transfer.{Transfer}
 use Rattle.pr_decode.specs.Laws.{OutlinesDecide}
 use Rattle.pr_decode.specs.Outlines.{Outline, Released, acknowledged_behind, acknowledged_of, outline, outlines, released}
-use Rattle.pr_decode.specs.Readings.{Bit, Bits, acknowledgement, begins, begun_by, bits_from, ends_bit, first_late, frame_end, glitch_end, halves, high_end, high_half, is_called, is_late, is_none, level_of, longest_bit, low_half, number_of, opening, opening_of, put_bit, reading, readings, readings_of, said, silence_or, transfer, turns_of}
+use Rattle.pr_decode.specs.Readings.{Bit, Bits, acknowledgement, begins, begun_by, bits_from, ends_bit, first_late, frame_end, glitch_end, halves, high_end, high_half, is_called, is_late, is_none, level_of, longest_bit, low_half, number_of, opening_of, put_bit, reading, readings, said, silence_or, transfer, turns_of}
 use Rattle.pr_decode.specs.Stretches.{Stretch, begun, calls, goes_on, longer, stretches, stretches_from}
 use Rattle.pr_decode.proofs.Adding.{opening-released}
 use Rattle.pr_decode.proofs.Cutting.{clock-turns, stretches-off, stretches-on}
@@ -117,10 +118,17 @@ both-uncalled h x e = by h.called x.called e
     by true v k = absurd (cc)
 
 next-pulled : (h x : Stretch) (ss : List Stretch) → AreNext false (h ∷ x ∷ ss) → ends_bit h x ≡ true → x.first.levels.clock ≡ false
-next-pulled h x ss (k, m, n) e = let u = both-uncalled h x e in m u.1 ∙ ap not (k u.0)
+next-pulled h x ss k e = let u = both-uncalled h x e in k.1.0 u.1 ∙ ap not (k.0 u.0)
 
 next-behind : (h x : Stretch) (ss : List Stretch) → AreNext false (h ∷ x ∷ ss) → ends_bit h x ≡ true → AreNext false ss
-next-behind h x ss (k, m, n) e = subst (λ c. AreNext c ss) (next-pulled h x ss (k, m, n) e) n
+next-behind h x ss k e = subst (λ c. AreNext c ss) (next-pulled h x ss k e) k.1.1
+
+-- the bits from a stretch with CLOCK pulled on, if the next one ends, or not
+abbrev more_bits : ℕ → (l h x : Stretch) → List Stretch → Bool → Bits
+more_bits n l h x ss v =
+    if v
+    then put_bit (record { low = l; high = h; down = x.first }) (bits_from n x ss)
+    else record { bits = []; last = l; behind = h ∷ x ∷ ss }
 
 -- what counts of bits
 record Parts : Type 0 where
@@ -163,7 +171,7 @@ parts-same zero l (h ∷ x ∷ ss) k = refl
 parts-same (suc n) l [] k = refl
 parts-same (suc n) l (h ∷ []) k = refl
 parts-same (suc n) l (h ∷ x ∷ ss) k =
-    by (ends_bit h x) refl ∙ ap one (ends-same h x ss k.0)
+    by (ends_bit h x) refl (λ q. parts-same n x ss (next-behind h x ss k q)) ∙ ap one (ends-same h x ss k.0)
   where
     one : Bool → Parts
     one v =
@@ -171,18 +179,14 @@ parts-same (suc n) l (h ∷ x ∷ ss) k =
         then put_part l.first.time (level_in (outline h (x ∷ ss)).released) h.first.time x.first.time (parts_from n x.first.time (outlines ss))
         else no_part l.first.time (outlines (h ∷ x ∷ ss))
 
-    some : Bool → Bits
-    some v =
-        if v
-        then put_bit (record { low = l; high = h; down = x.first }) (bits_from n x ss)
-        else record { bits = []; last = l; behind = h ∷ x ∷ ss }
-
-    by : (v : Bool) → ends_bit h x ≡ v → parts (some (ends_bit h x)) ≡ one (ends_bit h x)
-    by false q = ap (λ v. parts (some v)) q ∙ sym (ap one q)
-    by true q =
+    by : (v : Bool) → ends_bit h x ≡ v
+        → (ends_bit h x ≡ true → parts (bits_from n x ss) ≡ parts_from n x.first.time (outlines ss))
+        → parts (more_bits n l h x ss (ends_bit h x)) ≡ one (ends_bit h x)
+    by false q m = ap (λ v. parts (more_bits n l h x ss v)) q ∙ sym (ap one q)
+    by true q m =
         let u = both-uncalled h x q in
-        ap (λ v. parts (some v)) q
-        ∙ (ap (put_part l.first.time h.first.levels.line h.first.time x.first.time) (parts-same n x ss (next-behind h x ss k q))
+        ap (λ v. parts (more_bits n l h x ss v)) q
+        ∙ (ap (put_part l.first.time h.first.levels.line h.first.time x.first.time) (m q)
         ∙ (ap (λ v. put_part l.first.time (level_in v) h.first.time x.first.time (parts_from n x.first.time (outlines ss)))
         (sym (is-released h (x ∷ ss) (k.0 u.0)))
         ∙ sym (ap one q)))
@@ -194,44 +198,38 @@ bits-behind zero l (h ∷ []) k = k
 bits-behind zero l (h ∷ x ∷ ss) k = k
 bits-behind (suc n) l [] k = k
 bits-behind (suc n) l (h ∷ []) k = k
-bits-behind (suc n) l (h ∷ x ∷ ss) k = by (ends_bit h x) refl
+bits-behind (suc n) l (h ∷ x ∷ ss) k = by (ends_bit h x) refl (λ q. bits-behind n x ss (next-behind h x ss k q))
   where
-    some : Bool → Bits
-    some v =
-        if v
-        then put_bit (record { low = l; high = h; down = x.first }) (bits_from n x ss)
-        else record { bits = []; last = l; behind = h ∷ x ∷ ss }
-
-    by : (v : Bool) → ends_bit h x ≡ v → AreNext false (some (ends_bit h x)).behind
-    by true q = rw q (bits-behind n x ss (next-behind h x ss k q))
-    by false q = rw q k
+    by : (v : Bool) → ends_bit h x ≡ v → (ends_bit h x ≡ true → AreNext false (bits_from n x ss).behind)
+        → AreNext false (more_bits n l h x ss (ends_bit h x)).behind
+    by true q m = subst (λ v. AreNext false (more_bits n l h x ss v).behind) (sym q) (m q)
+    by false q m = subst (λ v. AreNext false (more_bits n l h x ss v).behind) (sym q) k
 
 -- the acknowledgement stands where all bits have come
 abbrev twice : ℕ → ℕ
 twice zero = 0
 twice (suc n) = suc (suc (twice n))
 
-whole-last : (n : ℕ) (l : Stretch) (ss : List Stretch) → (length (bits_from n l ss).bits == n) ≡ true
+whole-last : (n : ℕ) (l : Stretch) (ss : List Stretch) → length (bits_from n l ss).bits ≡ n
     → acknowledgement (turns_of (bits_from n l ss).last) ≡ acknowledged_behind (twice n) (l ∷ ss)
 whole-last zero l [] e = refl
 whole-last zero l (h ∷ []) e = refl
 whole-last zero l (h ∷ x ∷ ss) e = refl
 whole-last (suc n) l [] e = absurd (cc)
 whole-last (suc n) l (h ∷ []) e = absurd (cc)
-whole-last (suc n) l (h ∷ x ∷ ss) e = by (ends_bit h x) refl
+whole-last (suc n) l (h ∷ x ∷ ss) e = by (ends_bit h x) refl (whole-last n x ss)
   where
-    some : Bool → Bits
-    some v =
-        if v
-        then put_bit (record { low = l; high = h; down = x.first }) (bits_from n x ss)
-        else record { bits = []; last = l; behind = h ∷ x ∷ ss }
+    come : Bool → Bits
+    come v = more_bits n l h x ss v
 
-    by : (v : Bool) → ends_bit h x ≡ v → acknowledgement (turns_of (some (ends_bit h x)).last) ≡ acknowledged_behind (twice n) (x ∷ ss)
-    by true q =
-        let k : (length (some true).bits == suc n) ≡ true = ap (λ v. length (some v).bits == suc n) (sym q) ∙ e in
-        ap (λ v. acknowledgement (turns_of (some v).last)) q ∙ whole-last n x ss k
-    by false q =
-        let k : (length (some false).bits == suc n) ≡ true = ap (λ v. length (some v).bits == suc n) (sym q) ∙ e in
+    by : (v : Bool) → ends_bit h x ≡ v
+        → (length (bits_from n x ss).bits ≡ n → acknowledgement (turns_of (bits_from n x ss).last) ≡ acknowledged_behind (twice n) (x ∷ ss))
+        → acknowledgement (turns_of (come (ends_bit h x)).last) ≡ acknowledged_behind (twice n) (x ∷ ss)
+    by true q m =
+        let k : suc (length (bits_from n x ss).bits) ≡ suc n = ap (λ v. length (come v).bits) (sym q) ∙ e in
+        ap (λ v. acknowledgement (turns_of (come v).last)) q ∙ m (cc)
+    by false q m =
+        let k : 0 ≡ suc n = ap (λ v. length (come v).bits) (sym q) ∙ e in
         absurd (cc)
 
 -- what ends a byte
@@ -314,7 +312,7 @@ reading-same o l ss k = by (length b.bits == 8) refl ∙ ap (λ n. counted_by o 
     by : (v : Bool) → (length b.bits == 8) ≡ v → theirs (length b.bits == 8) ≡ ours (length b.bits == 8)
     by true q =
         ap theirs q
-        ∙ (ap (λ u. Frame t (frame_end u b.behind)) (whole-last 8 l ss q)
+        ∙ (ap (λ u. Frame t (frame_end u b.behind)) (whole-last 8 l ss (eqb-true (length b.bits) 8 q))
         ∙ (ap (Frame t) (frame-same a b.behind) ∙ sym (ap ours q)))
     by false q = ap theirs q ∙ (ap (Glitch t) (glitch-same b.behind (bits-behind 8 l ss k)) ∙ sym (ap ours q))
 
