@@ -15,7 +15,7 @@ use Rattle.pr_decode.specs.declared.reading.Reading.{Reading}
 use Rattle.pr_decode.specs.declared.reading.Reading.TheVariants.{Frame, Glitch}
 use Rattle.pr_decode.specs.declared.reading.Transfer.{Transfer}
 use Rattle.pr_decode.specs.Laws.{OutlinesDecide}
-use Rattle.pr_decode.specs.Outlines.{Outline, Released, acknowledged_behind, acknowledged_of, outline, outlines, released}
+use Rattle.pr_decode.specs.Outlines.{Outline, Released, acknowledged_behind, openings, outline, taken_by, with_acknowledgement}
 use Rattle.pr_decode.specs.Readings.{Bit, Bits, acknowledgement, begins, begun_by, bits_from, ends_bit, first_late, frame_end, glitch_end, halves, high_end, high_half, is_called, is_late, is_none, level_of, longest_bit, low_half, number_of, opening_of, put_bit, reading, readings, said, silence_or, transfer, turns_of}
 use Rattle.pr_decode.specs.Stretches.{Stretch, begun, calls, goes_on, longer, stretches, stretches_from}
 use Rattle.pr_decode.proofs.Adding.{opening-released}
@@ -82,31 +82,26 @@ abbrev late_in : Option Released → Option ℕ
 late_in None = None
 late_in (Some r) = r.late
 
-abbrev opening_in : Option Released → Option Opening
-opening_in None = None
-opening_in (Some r) = r.opening
+abbrev released : Stretch → Released
+released s = record { level = s.first.levels.line; late = first_late s.first.time s.rest }
 
-abbrev acknowledged_in : Option Released → Option ℕ
-acknowledged_in None = None
-acknowledged_in (Some r) = r.acknowledged
-
-is-released : (s : Stretch) (ss : List Stretch) → s.first.levels.clock ≡ true → (outline s ss).released ≡ Some (released s ss)
-is-released s ss h = ap (λ v. if v then Some (released s ss) else None) h
+is-released : (s : Stretch) → s.first.levels.clock ≡ true → (outline s).released ≡ Some (released s)
+is-released s h = ap (λ v. if v then Some (released s) else None) h
 
 -- a bit, by outlines
 abbrev ends_by : Outline → Outline → Bool
 ends_by h x = not h.called && not x.called && is_none (joined (late_in h.released) (late_at h.time x.time))
 
-ends-same : (h x : Stretch) (ss : List Stretch) → IsNext false h → ends_bit h x ≡ ends_by (outline h (x ∷ ss)) (outline x ss)
-ends-same h x ss k = by h.called refl
+ends-same : (h x : Stretch) → IsNext false h → ends_bit h x ≡ ends_by (outline h) (outline x)
+ends-same h x k = by h.called refl
   where
-    by : (v : Bool) → h.called ≡ v → ends_bit h x ≡ ends_by (outline h (x ∷ ss)) (outline x ss)
+    by : (v : Bool) → h.called ≡ v → ends_bit h x ≡ ends_by (outline h) (outline x)
     by true q =
         ap (λ v. not v && not x.called && is_none (first_late h.first.time (h.rest ++ x.first ∷ []))) q
-        ∙ sym (ap (λ v. not v && not x.called && is_none (joined (late_in (outline h (x ∷ ss)).released) (late_at h.first.time x.first.time))) q)
+        ∙ sym (ap (λ v. not v && not x.called && is_none (joined (late_in (outline h).released) (late_at h.first.time x.first.time))) q)
     by false q =
         ap (λ v. not h.called && not x.called && is_none v) (late-joined h.first.time h.rest x.first)
-        ∙ sym (ap (λ v. not h.called && not x.called && is_none (joined (late_in v) (late_at h.first.time x.first.time))) (is-released h (x ∷ ss) (k q)))
+        ∙ sym (ap (λ v. not h.called && not x.called && is_none (joined (late_in v) (late_at h.first.time x.first.time))) (is-released h (k q)))
 
 -- the stretches of a bit that ends
 both-uncalled : (h x : Stretch) → ends_bit h x ≡ true → (h.called ≡ false) × (x.called ≡ false)
@@ -144,7 +139,7 @@ parts b = record {
   lows = map low_half b.bits;
   highs = map high_half b.bits;
   last = b.last.first.time;
-  behind = outlines b.behind;
+  behind = map outline b.behind;
 }
 
 abbrev put_part : ℕ → Bool → (up down : ℕ) → Parts → Parts
@@ -164,31 +159,31 @@ parts_from (suc n) t (h ∷ x ∷ os) =
     if ends_by h x then put_part t (level_in h.released) h.time x.time (parts_from n x.time os) else no_part t (h ∷ x ∷ os)
 parts_from n t os = no_part t os
 
-parts-same : (n : ℕ) (l : Stretch) (ss : List Stretch) → AreNext false ss → parts (bits_from n l ss) ≡ parts_from n l.first.time (outlines ss)
+parts-same : (n : ℕ) (l : Stretch) (ss : List Stretch) → AreNext false ss → parts (bits_from n l ss) ≡ parts_from n l.first.time (map outline ss)
 parts-same zero l [] k = refl
 parts-same zero l (h ∷ []) k = refl
 parts-same zero l (h ∷ x ∷ ss) k = refl
 parts-same (suc n) l [] k = refl
 parts-same (suc n) l (h ∷ []) k = refl
 parts-same (suc n) l (h ∷ x ∷ ss) k =
-    by (ends_bit h x) refl (λ q. parts-same n x ss (next-behind h x ss k q)) ∙ ap one (ends-same h x ss k.0)
+    by (ends_bit h x) refl (λ q. parts-same n x ss (next-behind h x ss k q)) ∙ ap one (ends-same h x k.0)
   where
     one : Bool → Parts
     one v =
         if v
-        then put_part l.first.time (level_in (outline h (x ∷ ss)).released) h.first.time x.first.time (parts_from n x.first.time (outlines ss))
-        else no_part l.first.time (outlines (h ∷ x ∷ ss))
+        then put_part l.first.time (level_in (outline h).released) h.first.time x.first.time (parts_from n x.first.time (map outline ss))
+        else no_part l.first.time (map outline (h ∷ x ∷ ss))
 
     by : (v : Bool) → ends_bit h x ≡ v
-        → (ends_bit h x ≡ true → parts (bits_from n x ss) ≡ parts_from n x.first.time (outlines ss))
+        → (ends_bit h x ≡ true → parts (bits_from n x ss) ≡ parts_from n x.first.time (map outline ss))
         → parts (more_bits n l h x ss (ends_bit h x)) ≡ one (ends_bit h x)
     by false q m = ap (λ v. parts (more_bits n l h x ss v)) q ∙ sym (ap one q)
     by true q m =
         let u = both-uncalled h x q in
         ap (λ v. parts (more_bits n l h x ss v)) q
         ∙ (ap (put_part l.first.time h.first.levels.line h.first.time x.first.time) (m q)
-        ∙ (ap (λ v. put_part l.first.time (level_in v) h.first.time x.first.time (parts_from n x.first.time (outlines ss)))
-        (sym (is-released h (x ∷ ss) (k.0 u.0)))
+        ∙ (ap (λ v. put_part l.first.time (level_in v) h.first.time x.first.time (parts_from n x.first.time (map outline ss)))
+        (sym (is-released h (k.0 u.0)))
         ∙ sym (ap one q)))
 
 -- the stretches behind bits
@@ -241,7 +236,7 @@ abbrev frame_by : Option ℕ → List Outline → FrameEnd
 frame_by (Some t) os = frame.Acknowledged t
 frame_by None os = waiting_by os
 
-frame-same : (a : Option ℕ) (ss : List Stretch) → frame_end a ss ≡ frame_by a (outlines ss)
+frame-same : (a : Option ℕ) (ss : List Stretch) → frame_end a ss ≡ frame_by a (map outline ss)
 frame-same (Some t) ss = refl
 frame-same None [] = refl
 frame-same None (s ∷ ss) = refl
@@ -254,20 +249,20 @@ abbrev glitch_by : List Outline → GlitchEnd
 glitch_by [] = glitch.Cut
 glitch_by (o ∷ os) = if o.called then glitch.Attention o.time else high_by o os
 
-high-same : (s : Stretch) (ss : List Stretch) → s.first.levels.clock ≡ true → high_end s ss ≡ high_by (outline s ss) (outlines ss)
-high-same s [] h = ap (λ v. silence_or (late_in v) glitch.Cut) (sym (is-released s [] h))
+high-same : (s : Stretch) (ss : List Stretch) → s.first.levels.clock ≡ true → high_end s ss ≡ high_by (outline s) (map outline ss)
+high-same s [] h = ap (λ v. silence_or (late_in v) glitch.Cut) (sym (is-released s h))
 high-same s (n ∷ ss) h =
     ap (λ v. silence_or v (glitch.Attention n.first.time)) (late-joined s.first.time s.rest n.first)
-    ∙ ap (λ v. silence_or (joined (late_in v) (late_at s.first.time n.first.time)) (glitch.Attention n.first.time)) (sym (is-released s (n ∷ ss) h))
+    ∙ ap (λ v. silence_or (joined (late_in v) (late_at s.first.time n.first.time)) (glitch.Attention n.first.time)) (sym (is-released s h))
 
-glitch-same : (ss : List Stretch) → AreNext false ss → glitch_end ss ≡ glitch_by (outlines ss)
+glitch-same : (ss : List Stretch) → AreNext false ss → glitch_end ss ≡ glitch_by (map outline ss)
 glitch-same [] k = refl
 glitch-same (s ∷ ss) k = by s.called refl
   where
-    by : (v : Bool) → s.called ≡ v → glitch_end (s ∷ ss) ≡ glitch_by (outlines (s ∷ ss))
+    by : (v : Bool) → s.called ≡ v → glitch_end (s ∷ ss) ≡ glitch_by (map outline (s ∷ ss))
     by true q =
         ap (λ v. if v then glitch.Attention s.first.time else high_end s ss) q
-        ∙ sym (ap (λ v. if v then glitch.Attention s.first.time else high_by (outline s ss) (outlines ss)) q)
+        ∙ sym (ap (λ v. if v then glitch.Attention s.first.time else high_by (outline s) (map outline ss)) q)
     by false q = ap (λ v. if s.called then glitch.Attention s.first.time else v) (high-same s ss (k.0 q))
 
 -- a byte, with its acknowledgement if it has eight bits
@@ -307,7 +302,7 @@ reading-same o l ss k = by (length b.bits == 8) refl ∙ ap (λ n. counted_by o 
     theirs v = if v then Frame t (frame_end (acknowledgement (turns_of b.last)) b.behind) else Glitch t (glitch_end b.behind)
 
     ours : Bool → Reading
-    ours v = if v then Frame t (frame_by a (outlines b.behind)) else Glitch t (glitch_by (outlines b.behind))
+    ours v = if v then Frame t (frame_by a (map outline b.behind)) else Glitch t (glitch_by (map outline b.behind))
 
     by : (v : Bool) → (length b.bits == 8) ≡ v → theirs (length b.bits == 8) ≡ ours (length b.bits == 8)
     by true q =
@@ -329,24 +324,21 @@ abbrev called_by : List Outline → Bool
 called_by [] = false
 called_by (o ∷ os) = o.called
 
-called-same : (ss : List Stretch) → is_called ss ≡ called_by (outlines ss)
+called-same : (ss : List Stretch) → is_called ss ≡ called_by (map outline ss)
 called-same [] = refl
 called-same (s ∷ ss) = refl
 
 abbrev told_by : Bool → Opening → Option ℕ → ℕ → Parts → Option (Reading × ℕ)
 told_by c o a t q = if c then None else Some (reading_by o a t q, number_by q.levels)
 
-abbrev begin_by : Option Opening → Option ℕ → Outline → List Outline → Option (Reading × ℕ)
-begin_by None a l os = None
-begin_by (Some o) a l os = told_by (l.called || called_by os) o a l.time (parts_from 8 l.time os)
+abbrev begins_by : Option (Opening × Option ℕ) → List Outline → Option (Reading × ℕ)
+begins_by e [] = None
+begins_by None (l ∷ os) = None
+begins_by (Some o) (l ∷ os) = told_by (l.called || called_by os) o.0 o.1 l.time (parts_from 8 l.time os)
 
-abbrev begins_by : Outline → List Outline → Option (Reading × ℕ)
-begins_by o [] = None
-begins_by o (l ∷ os) = begin_by (opening_in o.released) (acknowledged_in o.released) l os
-
-begin-same : (o : Opening) (l : Stretch) (ss : List Stretch) → AreNext false ss
-    → begun_by (Some o) l ss ≡ begin_by (Some o) (acknowledged_behind 16 (l ∷ ss)) (outline l ss) (outlines ss)
-begin-same o l ss k =
+begun-same : (o : Opening) (l : Stretch) (ss : List Stretch) → AreNext false ss
+    → begun_by (Some o) l ss ≡ begins_by (with_acknowledgement (Some o) (l ∷ ss)) (map outline (l ∷ ss))
+begun-same o l ss k =
     let b : Bits = bits_from 8 l ss in
     let a : Option ℕ = acknowledged_behind 16 (l ∷ ss) in
     let made : Bool → Reading → ℕ → Option (Reading × ℕ) = λ c r n. if c then None else Some (r, n) in
@@ -354,67 +346,63 @@ begin-same o l ss k =
     ap (λ r. made c r (number_of b.bits)) (reading-same o l ss k)
     ∙ (ap (made c (reading_by o a l.first.time (parts b))) (number-same b.bits)
     ∙ (ap (told_by c o a l.first.time) (parts-same 8 l ss k)
-    ∙ ap (λ v. told_by (l.called || v) o a l.first.time (parts_from 8 l.first.time (outlines ss))) (called-same ss)))
+    ∙ ap (λ v. told_by (l.called || v) o a l.first.time (parts_from 8 l.first.time (map outline ss))) (called-same ss)))
 
--- CLOCK is pulled behind an opening, but where a call begins nothing
-begins-same : (s : Stretch) (ss : List Stretch) → AreNext s.first.levels.clock ss → begins s ss ≡ begins_by (outline s ss) (outlines ss)
+-- a call begins nothing
+begun-called : (o : Opening) (l : Stretch) (ss : List Stretch) → l.called ≡ true
+    → begun_by (Some o) l ss ≡ begins_by (with_acknowledgement (Some o) (l ∷ ss)) (map outline (l ∷ ss))
+begun-called o l ss h =
+    let b : Bits = bits_from 8 l ss in
+    let some : Option (Reading × ℕ) = Some (reading o l.first.time b, number_of b.bits) in
+    let a : Option ℕ = acknowledged_behind 16 (l ∷ ss) in
+    ap (λ c. if c || is_called ss then None else some) h
+    ∙ sym (ap (λ c. told_by (c || called_by (map outline ss)) o a l.first.time (parts_from 8 l.first.time (map outline ss))) h)
+
+begins-same : (s : Stretch) (ss : List Stretch) → AreNext s.first.levels.clock ss
+    → begins s ss ≡ begins_by (with_acknowledgement (opening_of s) ss) (map outline ss)
 begins-same s [] k = refl
-begins-same s (l ∷ ss) k = by (opening_of s) refl s.first.levels.clock refl
+begins-same s (l ∷ ss) k = by (opening_of s) refl
   where
-    shut : (v : Option Opening) (a : Option ℕ) → l.called ≡ true → begin_by v a (outline l ss) (outlines ss) ≡ None
-    shut None a h = refl
-    shut (Some o) a h =
-        ap (λ c. told_by (c || called_by (outlines ss)) o a l.first.time (parts_from 8 l.first.time (outlines ss))) h
+    theirs : Option Opening → Option (Reading × ℕ)
+    theirs v = begun_by v l ss
 
-    closed : (v : Option Opening) → l.called ≡ true → begun_by v l ss ≡ None
-    closed None h = refl
-    closed (Some o) h =
-        let b : Bits = bits_from 8 l ss in
-        let some : Option (Reading × ℕ) = Some (reading o l.first.time b, number_of b.bits) in
-        ap (λ c. if c || is_called ss then None else some) h
+    ours : Option Opening → Option (Reading × ℕ)
+    ours v = begins_by (with_acknowledgement v (l ∷ ss)) (map outline (l ∷ ss))
 
-    at : Option Released → Option (Reading × ℕ)
-    at r = begin_by (opening_in r) (acknowledged_in r) (outline l ss) (outlines ss)
+    called : (o : Opening) → opening_of s ≡ Some o → (v : Bool) → l.called ≡ v → theirs (Some o) ≡ ours (Some o)
+    called o q true h = begun-called o l ss h
+    called o q false h =
+        let pulled : l.first.levels.clock ≡ false = k.0 h ∙ ap not (opening-released s o q) in
+        begun-same o l ss (subst (λ x. AreNext x ss) pulled k.1)
 
-    by : (v : Option Opening) → opening_of s ≡ v → (c : Bool) → s.first.levels.clock ≡ c → begins s (l ∷ ss) ≡ begins_by (outline s (l ∷ ss)) (outlines (l ∷ ss))
-    by None q false c = ap (λ v. begun_by v l ss) q ∙ sym (ap (λ v. at (if v then Some (released s (l ∷ ss)) else None)) c)
-    by None q true c =
-        ap (λ v. begun_by v l ss) q
-        ∙ sym (ap at (is-released s (l ∷ ss) c) ∙ ap (λ v. begin_by v (acknowledged_of v (l ∷ ss)) (outline l ss) (outlines ss)) q)
-    by (Some o) q c m = on l.called refl
-      where
-        up : s.first.levels.clock ≡ true
-        up = opening-released s o q
+    by : (v : Option Opening) → opening_of s ≡ v → theirs (opening_of s) ≡ ours (opening_of s)
+    by None q = ap theirs q ∙ sym (ap ours q)
+    by (Some o) q = ap theirs q ∙ (called o q l.called refl ∙ sym (ap ours q))
 
-        on : (v : Bool) → l.called ≡ v → begins s (l ∷ ss) ≡ begins_by (outline s (l ∷ ss)) (outlines (l ∷ ss))
-        on true h = closed (opening_of s) h ∙ sym (shut (opening_in (outline s (l ∷ ss)).released) (acknowledged_in (outline s (l ∷ ss)).released) h)
-        on false h =
-            let down : l.first.levels.clock ≡ false = k.0 h ∙ ap not up in
-            ap (λ v. begun_by v l ss) q
-            ∙ (begin-same o l ss (subst (λ x. AreNext x ss) down k.1)
-            ∙ sym (ap at (is-released s (l ∷ ss) up) ∙ ap (λ v. begin_by v (acknowledged_of v (l ∷ ss)) (outline l ss) (outlines ss)) q))
+-- what outlines and openings say
+abbrev readings_by : ℕ → List Outline → List (Option (Opening × Option ℕ)) → List Reading
+readings_by n [] es = []
+readings_by (suc n) (o ∷ os) es = readings_by n os es
+readings_by zero (o ∷ os) [] = []
+readings_by zero (o ∷ os) (e ∷ es) = said (begins_by e os) (λ n. readings_by n os es)
 
--- what outlines say
-abbrev readings_by : ℕ → List Outline → List Reading
-readings_by n [] = []
-readings_by (suc n) (o ∷ os) = readings_by n os
-readings_by zero (o ∷ os) = said (begins_by o os) (λ n. readings_by n os)
-
-readings-same : (n : ℕ) (c : Bool) (ss : List Stretch) → AreNext c ss → readings n ss ≡ readings_by n (outlines ss)
+readings-same : (n : ℕ) (c : Bool) (ss : List Stretch) → AreNext c ss → readings n ss ≡ readings_by n (map outline ss) (openings n ss)
 readings-same zero c [] k = refl
 readings-same (suc n) c [] k = refl
 readings-same (suc n) c (s ∷ ss) k = readings-same n s.first.levels.clock ss k.1
 readings-same zero c (s ∷ ss) k =
     by (begins s ss) (λ n. readings-same n s.first.levels.clock ss k.1)
-    ∙ ap (λ v. said v (λ n. readings_by n (outlines ss))) (begins-same s ss k.1)
+    ∙ ap (λ v. said v (λ n. readings_by n (map outline ss) (openings (taken_by (begins s ss)) ss))) (begins-same s ss k.1)
   where
-    by : (v : Option (Reading × ℕ)) → ((n : ℕ) → readings n ss ≡ readings_by n (outlines ss))
-        → said v (λ n. readings n ss) ≡ said v (λ n. readings_by n (outlines ss))
+    by : (v : Option (Reading × ℕ)) → ((n : ℕ) → readings n ss ≡ readings_by n (map outline ss) (openings n ss))
+        → said v (λ n. readings n ss) ≡ said v (λ n. readings_by n (map outline ss) (openings (taken_by v) ss))
     by None k = k 0
     by (Some r) k = ap (λ l. r.0 ∷ l) (k r.1)
 
 pub outlines-decide : OutlinesDecide
-outlines-decide a b h =
+outlines-decide a b h k =
     let x = all-next a in
     let y = all-next b in
-    readings-same 0 x.0 (stretches a) x.1 ∙ (ap (readings_by 0) h ∙ sym (readings-same 0 y.0 (stretches b) y.1))
+    readings-same 0 x.0 (stretches a) x.1
+    ∙ (ap (λ os. readings_by 0 os (openings 0 (stretches a))) h
+    ∙ (ap (readings_by 0 (map outline (stretches b))) k ∙ sym (readings-same 0 y.0 (stretches b) y.1)))
