@@ -1,6 +1,6 @@
 //! The names of a recording's signals.
 
-ghost use Rattle.std.specs.Prelude.{◌<◌, ◌≤◌, length, IfSome};
+ghost use Rattle.std.specs.Prelude.{◌<◌, ◌≤◌, length};
 
 use crate::recordings::Recording;
 use crate::texts::{push, push_cut};
@@ -150,46 +150,55 @@ fn after_spaces(bytes: &[u8]) -> &[u8]
 
 /// Adds the names of a table's columns, but for that of the time.
 fn push_table_names(text: &mut Vec<u8>, line: &[u8], names: &mut NameList) -> Result<(), NoMemory> {
-    let (_time, mut left) = split_field(line);
-    while let Some(rest) = left {
+    let (_time, mut rest) = split_field(line);
+    while !rest.is_empty() {
         let (field, more) = split_field(rest);
-        left = more;
+        rest = more;
         names.push(text, unframed(field))?;
     }
     Ok(())
 }
 
-/// The first field of a line, and what stands behind its comma, if it has one. A comma between
-/// quotation marks does not end it.
-fn split_field(line: &[u8]) -> (&[u8], Option<&[u8]>)
-    ensures { IfSome result.1 (λ rest. length rest.now < length line.now) }
+/// The first field of a line, and what stands behind its comma; nothing, where it has none. A comma
+/// between quotation marks does not end it.
+fn split_field(line: &[u8]) -> (&[u8], &[u8])
+    ensures less { 0 < length line.now → length result.1.now < length line.now }
 {
     let mut is_quoted = false;
     for (i, byte) in line.iter().enumerate() {
         if *byte == b',' && !is_quoted {
-            return (&line[..i], Some(&line[i + 1..]));
+            return (&line[..i], &line[i + 1..]);
         }
         if *byte == b'"' {
             is_quoted = !is_quoted;
         }
     }
-    (line, None)
+    (line, &[])
+}
+
+/// Whether a byte stands around a field and does not belong to it.
+fn is_frame(byte: u8) -> bool {
+    is_space(byte) || byte == b'"'
+}
+
+/// What stands behind the white space and the quotation marks in front.
+fn after_frame(field: &[u8]) -> &[u8] {
+    for (i, byte) in field.iter().enumerate() {
+        if !is_frame(*byte) {
+            return &field[i..];
+        }
+    }
+    &[]
 }
 
 /// A field without the white space and the quotation marks around it.
 fn unframed(field: &[u8]) -> &[u8] {
-    let mut rest = field;
-    while let [byte, more @ ..] = rest {
-        if !is_space(*byte) && *byte != b'"' {
-            break;
+    let rest = after_frame(field);
+    let mut len = 0;
+    for (i, byte) in rest.iter().enumerate() {
+        if !is_frame(*byte) {
+            len = i + 1;
         }
-        rest = more;
     }
-    while let [more @ .., byte] = rest {
-        if !is_space(*byte) && *byte != b'"' {
-            break;
-        }
-        rest = more;
-    }
-    rest
+    &rest[..len.min(rest.len())]
 }

@@ -1,5 +1,8 @@
 //! Why a recording is refused.
 
+ghost use Rattle.std.specs.Prelude.{◌+◌, ◌^◌, ◌<◌, ◌≤◌, length, IfOk};
+ghost use Rattle.pr_explain.specs.Lines.{lines_read};
+
 use crate::capture_faults::push_capture_fault;
 use crate::edges::push_edges;
 use crate::texts::Origin;
@@ -25,7 +28,9 @@ enum SampleReader<'a> {
 
 impl<'a> SampleReader<'a> {
     /// Nothing has come. It takes no memory.
-    fn new(alloc: Global, kind: Recording, signals: Signals<'a>) -> SampleReader<'a> {
+    fn new(alloc: Global, kind: Recording, signals: Signals<'a>) -> SampleReader<'a>
+        ensures { lines_read result ≤ 1 }
+    {
         match kind {
             Recording::Dump => SampleReader::Dump(VcdReader::new(alloc, signals)),
             Recording::Table => SampleReader::Table(CsvReader::new(alloc, signals)),
@@ -33,7 +38,13 @@ impl<'a> SampleReader<'a> {
     }
 
     /// Takes bytes from the front. Gives how many, and the sample that they end, if they end one.
-    fn take_front(&mut self, bytes: &[u8]) -> Result<(usize, Option<Edge>), CaptureFault> {
+    fn take_front(&mut self, bytes: &[u8]) -> Result<(usize, Option<Edge>), CaptureFault>
+        requires few { lines_read self.old + 1 < 2 ^ 64 }
+        requires some { 0 < length bytes.now }
+        ensures some { IfOk result (λ r. 0 < r.0) }
+        ensures within { IfOk result (λ r. r.0 ≤ length bytes.now) }
+        ensures lines { IfOk result (λ r. lines_read self.new ≤ lines_read self.old + 1) }
+    {
         match self {
             SampleReader::Dump(reader) => reader.take_front(bytes),
             SampleReader::Table(reader) => reader.take_front(bytes),
@@ -41,7 +52,9 @@ impl<'a> SampleReader<'a> {
     }
 
     /// Ends the recording, and gives the sample that this ends, if it ends one.
-    fn finish(self) -> Result<Option<Edge>, CaptureFault> {
+    fn finish(self) -> Result<Option<Edge>, CaptureFault>
+        requires few { lines_read self + 1 < 2 ^ 64 }
+    {
         match self {
             SampleReader::Dump(reader) => reader.finish(),
             SampleReader::Table(reader) => reader.finish(),
