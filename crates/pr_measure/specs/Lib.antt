@@ -1,0 +1,4 @@
+pub mod Intervals
+pub mod ReadingText
+pub mod Summary
+pub mod Taking
