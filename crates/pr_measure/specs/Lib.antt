@@ -1,4 +1,5 @@
 pub mod Intervals
 pub mod ReadingText
 pub mod Summary
+pub mod Steps
 pub mod Taking

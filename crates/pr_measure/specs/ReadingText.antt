@@ -1,5 +1,5 @@
 -- Trusted: what readings say as text: a line for each, and below it a line for each interval outside the profile's bounds.
-use Rattle.std.specs.Prelude.{ℕ, ◌==◌, Bool, true, false, List, [], ◌∷◌, ◌++◌, Option, Some, None, codes, decimal, if◌then◌else◌}
+use Rattle.std.specs.Prelude.{ℕ, ◌==◌, Bool, true, false, List, [], ◌∷◌, ◌++◌, Option, Some, None, is_some, codes, decimal, if◌then◌else◌}
 use Rattle.pr_commands.specs.Bytes as command
 use Rattle.pr_wire.specs.declared.place.Sending.{Sending}
 use Rattle.pr_wire.specs.declared.place.Sending.TheVariants.{First, Second, Data}
@@ -12,7 +12,6 @@ use Rattle.pr_decode.specs.declared.reading.GlitchEnd.{GlitchEnd}
 use Rattle.pr_decode.specs.declared.reading.GlitchEnd.TheVariants as glitch
 use Rattle.pr_decode.specs.declared.reading.Reading.{Reading}
 use Rattle.pr_decode.specs.declared.reading.Reading.TheVariants.{Frame, Glitch}
-use Rattle.pr_decode.specs.PieceReadings.{is_answered}
 use Rattle.pr_measure.specs.declared.interval.Interval.{Interval}
 use Rattle.pr_measure.specs.declared.line.Behind.{Behind}
 use Rattle.pr_measure.specs.declared.line.Behind.TheVariants as behind
@@ -38,7 +37,7 @@ timed_frame b t k = record {
   acknowledged = k;
   sending = sending_of b t.opening.command t.byte;
   byte = t.byte;
-  eoi = is_answered t.opening.pulse;
+  eoi = is_some t.opening.pulse;
 }
 
 -- a byte that is not acknowledged: what it is, and its look

@@ -1,6 +1,6 @@
 -- Trusted: the summary of readings: how many there are, and of each interval how many, the least, the middle, the greatest, and how many
 -- lie outside the profile's bounds.
-use Rattle.std.specs.Prelude.{ℕ, ◌*◌, nat_le, nat_lt, not, Bool, true, false, List, [], ◌∷◌, ◌++◌, length, codes, decimal, if◌then◌else◌}
+use Rattle.std.specs.Prelude.{ℕ, ◌*◌, nat_le, nat_lt, not, Bool, true, false, List, [], ◌∷◌, ◌++◌, length, Option, Some, None, codes, decimal, if◌then◌else◌}
 use Rattle.std.specs.List.{count_by, filter}
 use Rattle.std.specs.Option.{option_to_list}
 use Rattle.pr_decode.specs.declared.reading.FrameEnd.{FrameEnd}
@@ -59,39 +59,48 @@ middle ns = least_of (filter (is_half ns) ns)
 unfoldable pub told_exactly : ℕ
 told_exactly = 16384
 
-abbrev pub middle_text : ℕ → List ℕ
-middle_text n = if nat_lt n told_exactly then codes ", middle " ++ decimal n else codes ", middle over 16383"
+abbrev pub told_middle : ℕ → Option ℕ
+told_middle n = if nat_lt n told_exactly then Some n else None
+
+abbrev pub middle_text : Option ℕ → List ℕ
+middle_text (Some n) = codes ", middle " ++ decimal n
+middle_text None = codes ", middle over 16383"
+
+-- how many of some lengths lie outside the profile's bounds
+abbrev pub outside_text : Interval → (outside : ℕ) → List ℕ
+outside_text i outside =
+    codes ", outside " ++ decimal (lowest_of i) ++ codes " to " ++ decimal (highest_of i) ++ codes ": " ++ decimal outside
+
+-- what is told of lengths: how many they are, the least, the middle, the greatest, and how many lie outside
+abbrev pub figures_text : Interval → (count low : ℕ) → (mid : Option ℕ) → (high outside : ℕ) → List ℕ
+figures_text i count low mid high outside =
+    codes ": " ++ decimal count ++ codes ", least " ++ decimal low ++ middle_text mid ++ codes ", greatest " ++ decimal high
+    ++ outside_text i outside
+
+abbrev pub lengths_text : Interval → List ℕ → List ℕ
+lengths_text i [] = codes ": none"
+lengths_text i (n ∷ ns) =
+    figures_text i (length (n ∷ ns)) (least n ns) (told_middle (middle (n ∷ ns))) (greatest n ns) (count_by (is_outside i) (n ∷ ns))
 
 -- the line of an interval
-abbrev pub bounds_text : Interval → List ℕ
-bounds_text i = codes ", outside " ++ decimal (lowest_of i) ++ codes " to " ++ decimal (highest_of i)
-
-abbrev pub lengths_text : Interval → (n : ℕ) → List ℕ → List ℕ
-lengths_text i n ns =
-    codes ": " ++ decimal (length (n ∷ ns)) ++ codes ", least " ++ decimal (least n ns) ++ middle_text (middle (n ∷ ns))
-    ++ codes ", greatest " ++ decimal (greatest n ns) ++ bounds_text i ++ codes ": " ++ decimal (count_by (is_outside i) (n ∷ ns))
-
-abbrev pub interval_text : Interval → List ℕ → List ℕ
-interval_text i [] = codes ": none"
-interval_text i (n ∷ ns) = lengths_text i n ns
-
 abbrev pub interval_line : Interval → List Reading → List ℕ
-interval_line i rs = name_of i ++ interval_text i (lengths i rs) ++ codes "\n"
+interval_line i rs = name_of i ++ lengths_text i (lengths i rs) ++ codes "\n"
 
 abbrev pub interval_lines : List Interval → List Reading → List ℕ
 interval_lines [] rs = []
 interval_lines (i ∷ is) rs = interval_line i rs ++ interval_lines is rs
 
--- the line of a count
-abbrev pub count_line : List ℕ → (Reading → Bool) → List Reading → List ℕ
-count_line word test rs = word ++ decimal (count_by test rs) ++ codes "\n"
+-- the line of a count, and those of all counts
+abbrev pub count_line : List ℕ → ℕ → List ℕ
+count_line word count = word ++ decimal count ++ codes "\n"
+
+abbrev pub counts_text : (frames commands data_bytes unacknowledged glitches : ℕ) → List ℕ
+counts_text frames commands data_bytes unacknowledged glitches =
+    count_line (codes "frames: ") frames ++ count_line (codes "commands: ") commands ++ count_line (codes "data bytes: ") data_bytes
+    ++ count_line (codes "not acknowledged: ") unacknowledged ++ count_line (codes "glitches: ") glitches
 
 -- the summary of readings
-abbrev pub count_lines : List Reading → List ℕ
-count_lines rs =
-    count_line (codes "frames: ") is_frame rs ++ count_line (codes "commands: ") is_command rs
-    ++ count_line (codes "data bytes: ") is_data rs ++ count_line (codes "not acknowledged: ") is_unacknowledged rs
-    ++ count_line (codes "glitches: ") is_glitch rs
-
 unfoldable pub summary : List Reading → List ℕ
-summary rs = count_lines rs ++ interval_lines intervals rs
+summary rs =
+    counts_text (count_by is_frame rs) (count_by is_command rs) (count_by is_data rs) (count_by is_unacknowledged rs) (count_by is_glitch rs)
+    ++ interval_lines intervals rs

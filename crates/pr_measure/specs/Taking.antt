@@ -6,7 +6,7 @@ use Rattle.pr_decode.specs.declared.reading.Reading.{Reading}
 use Rattle.pr_decode.specs.Readings.{greatest}
 use Rattle.pr_measure.specs.declared.interval.Interval.{Interval}
 use Rattle.pr_measure.specs.declared.interval.Interval.TheVariants.{Ready, FirstPull, Answer, AnswerLength, PullAfterAnswer, ShortestLow, LongestLow, ShortestHigh, LongestHigh, Acknowledgement}
-use Rattle.pr_measure.specs.declared.survey.Counts.{Counts}
+use Rattle.pr_measure.specs.declared.counts.Counts.{Counts}
 use Rattle.pr_measure.specs.declared.survey.Survey.{Survey}
 use Rattle.pr_measure.specs.declared.tally.Tally.{Tally}
 use Rattle.pr_measure.specs.Intervals.{is_outside}

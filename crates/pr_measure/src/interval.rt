@@ -1,8 +1,8 @@
 //! The intervals of a byte on the bus, each with its name and with the delay of the profile that bounds
 //! it (the Programmer's Reference Guide's timing of the serial bus). All are in microseconds.
 
-ghost use Rattle.std.specs.Prelude.{◌≡◌};
-ghost use Rattle.pr_measure.specs.Intervals.{intervals, is_outside, kind_of, length_of, name_of, transfer_of};
+ghost use Rattle.std.specs.Prelude.{◌≡◌, ◌-◌};
+ghost use Rattle.pr_measure.specs.Intervals.{acknowledgement_in, if_answered, if_bits, is_outside, kind_of, length_of, name_of, transfer_of, unless_answered};
 
 use pr_decode::{FrameEnd, Reading, Transfer};
 use pr_wire::{Kind, bounds};
@@ -56,11 +56,62 @@ pub(crate) fn transfer_of(reading: &Reading) -> Transfer
     }
 }
 
-/// The moment of a reading's acknowledgement, if it has one.
-fn acknowledged_at(reading: &Reading) -> Option<u64> {
+/// CLOCK's last pull to the acknowledgement, where a reading has one.
+fn acknowledgement(reading: &Reading) -> Option<u64>
+    ensures { result ≡ acknowledgement_in reading.now }
+{
     match reading {
-        Reading::Frame(_, FrameEnd::Acknowledged(time)) => Some(*time),
+        Reading::Frame(transfer, FrameEnd::Acknowledged(time)) => {
+            Some(time.saturating_sub(transfer.last_pull))
+        }
         _ => None,
+    }
+}
+
+/// A half of a byte's bits, once a bit has come.
+fn if_bits(bits: u8, half: u64) -> Option<u64>
+    ensures { result ≡ if_bits bits half }
+{
+    if bits == 0 { None } else { Some(half) }
+}
+
+/// Ready to CLOCK's first pull, without end-or-identify.
+fn first_pull(byte: Transfer) -> Option<u64>
+    ensures { result ≡ unless_answered byte.opening.pulse (byte.pull - byte.opening.ready) }
+{
+    match byte.opening.pulse {
+        None => Some(byte.pull.saturating_sub(byte.opening.ready)),
+        Some(_) => None,
+    }
+}
+
+/// Ready to DATA's pull, with end-or-identify.
+fn answer(byte: Transfer) -> Option<u64>
+    ensures { result ≡ if_answered byte.opening.pulse (λ p. p.pulled - byte.opening.ready) }
+{
+    match byte.opening.pulse {
+        None => None,
+        Some(pulse) => Some(pulse.pulled.saturating_sub(byte.opening.ready)),
+    }
+}
+
+/// How long DATA is pulled, with end-or-identify.
+fn answer_length(byte: Transfer) -> Option<u64>
+    ensures { result ≡ if_answered byte.opening.pulse (λ p. p.released - p.pulled) }
+{
+    match byte.opening.pulse {
+        None => None,
+        Some(pulse) => Some(pulse.released.saturating_sub(pulse.pulled)),
+    }
+}
+
+/// DATA's release to CLOCK's first pull, with end-or-identify.
+fn pull_after_answer(byte: Transfer) -> Option<u64>
+    ensures { result ≡ if_answered byte.opening.pulse (λ p. byte.pull - p.released) }
+{
+    match byte.opening.pulse {
+        None => None,
+        Some(pulse) => Some(byte.pull.saturating_sub(pulse.released)),
     }
 }
 
@@ -113,26 +164,17 @@ impl Interval {
         ensures { result ≡ length_of self reading.now }
     {
         let byte = transfer_of(reading);
-        let opening = byte.opening;
-        match (self, opening.pulse) {
-            (Interval::Ready, _) => Some(opening.ready.saturating_sub(opening.look)),
-            (Interval::FirstPull, None) => Some(byte.pull.saturating_sub(opening.ready)),
-            (Interval::Answer, Some(pulse)) => Some(pulse.pulled.saturating_sub(opening.ready)),
-            (Interval::AnswerLength, Some(pulse)) => Some(
-                pulse.released.saturating_sub(pulse.pulled),
-            ),
-            (Interval::PullAfterAnswer, Some(pulse)) => Some(
-                byte.pull.saturating_sub(pulse.released),
-            ),
-            (Interval::ShortestLow, _) if byte.bits > 0 => Some(byte.low.shortest),
-            (Interval::LongestLow, _) if byte.bits > 0 => Some(byte.low.longest),
-            (Interval::ShortestHigh, _) if byte.bits > 0 => Some(byte.high.shortest),
-            (Interval::LongestHigh, _) if byte.bits > 0 => Some(byte.high.longest),
-            (Interval::Acknowledgement, _) => match acknowledged_at(reading) {
-                Some(time) => Some(time.saturating_sub(byte.last_pull)),
-                None => None,
-            },
-            _ => None,
+        match self {
+            Interval::Ready => Some(byte.opening.ready.saturating_sub(byte.opening.look)),
+            Interval::FirstPull => first_pull(byte),
+            Interval::Answer => answer(byte),
+            Interval::AnswerLength => answer_length(byte),
+            Interval::PullAfterAnswer => pull_after_answer(byte),
+            Interval::ShortestLow => if_bits(byte.bits, byte.low.shortest),
+            Interval::LongestLow => if_bits(byte.bits, byte.low.longest),
+            Interval::ShortestHigh => if_bits(byte.bits, byte.high.shortest),
+            Interval::LongestHigh => if_bits(byte.bits, byte.high.longest),
+            Interval::Acknowledgement => acknowledgement(reading),
         }
     }
 }

@@ -7,6 +7,7 @@
 #![tactic(auto)]
 
 mod adding;
+mod counts;
 mod interval;
 mod line;
 mod survey;

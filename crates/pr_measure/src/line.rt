@@ -3,8 +3,7 @@
 
 ghost use Rattle.std.specs.Prelude.{◌≡◌, ◌++◌, OnOk};
 ghost use Rattle.pr_measure.specs.Intervals.{length_of};
-ghost use Rattle.pr_measure.specs.ReadingText.{after_frame, after_reading, byte_place, cut_end, frame_text, glitch_end_text, glitch_place, line_of, moment_end, outside_line, outside_lines, outside_text, reading_lines, sending_of, timed_frame};
-ghost use Rattle.pr_measure.specs.Intervals.{intervals};
+ghost use Rattle.pr_measure.specs.ReadingText.{after_reading, byte_place, byte_word, cut_end, frame_text, glitch_end_text, glitch_place, is_behind_data, line_of, moment_end, outside_line, outside_lines, outside_text, reading_lines, sending_of, timed_frame};
 
 use crate::adding::push_numbered;
 use crate::interval::{INTERVALS, Interval};
@@ -49,10 +48,28 @@ impl Behind {
     fn sending(self, command: bool, byte: u8) -> Sending
         ensures { result ≡ sending_of self command byte }
     {
+        if !command {
+            return Sending::Data;
+        }
         match self {
-            _ if !command => Sending::Data,
-            Behind::Command if byte != UNLISTEN => Sending::Second,
-            _ => Sending::First,
+            Behind::Nothing | Behind::Data => Sending::First,
+            Behind::Command => {
+                if byte == UNLISTEN {
+                    Sending::First
+                } else {
+                    Sending::Second
+                }
+            }
+        }
+    }
+
+    /// Whether a data byte stands before.
+    fn is_data(self) -> bool
+        ensures { result ≡ is_behind_data self }
+    {
+        match self {
+            Behind::Nothing | Behind::Command => false,
+            Behind::Data => true,
         }
     }
 
@@ -70,15 +87,18 @@ impl Behind {
     }
 }
 
+/// The word for a command or a data byte.
+fn byte_word(command: bool) -> &'static [u8]
+    ensures { result.now ≡ byte_word command }
+{
+    if command { b"command " } else { b"byte " }
+}
+
 /// Adds what a byte is that is not acknowledged, and its look.
 fn push_byte_place(text: &mut Vec<u8>, transfer: Transfer) -> Result<(), NoMemory>
     ensures { OnOk result (text.new.items ≡ text.old.items ++ byte_place transfer) }
 {
-    let word: &[u8] = if transfer.opening.command {
-        b"command "
-    } else {
-        b"byte "
-    };
+    let word = byte_word(transfer.opening.command);
     push_numbered(text, word, transfer.byte as u64)?;
     push_numbered(text, b" at ", transfer.opening.look)
 }
@@ -118,7 +138,7 @@ fn push_frame(
     match end {
         FrameEnd::Acknowledged(time) => push_story_line(
             text,
-            behind == Behind::Data,
+            behind.is_data(),
             behind.frame(transfer, time),
         ),
         FrameEnd::Unacknowledged(time) => {
@@ -177,17 +197,25 @@ fn push_if_outside(
 ) -> Result<(), NoMemory>
     ensures { OnOk result (text.new.items ≡ text.old.items ++ outside_line interval (length_of interval reading.now)) }
 {
-    match interval.length(reading) {
-        Some(length) if interval.is_outside(length) => push_outside(text, interval, length),
-        _ => Ok(()),
+    let Some(length) = interval.length(reading) else {
+        return Ok(());
+    };
+    if interval.is_outside(length) {
+        push_outside(text, interval, length)
+    } else {
+        Ok(())
     }
 }
 
-/// Adds the lines of all intervals of a reading that lie outside the profile's bounds.
-fn push_all_outside(text: &mut Vec<u8>, reading: &Reading) -> Result<(), NoMemory>
-    ensures { OnOk result (text.new.items ≡ text.old.items ++ outside_lines intervals reading.now) }
+/// Adds the lines of those of some intervals of a reading that lie outside the profile's bounds.
+fn push_all_outside(
+    text: &mut Vec<u8>,
+    intervals: &[Interval],
+    reading: &Reading,
+) -> Result<(), NoMemory>
+    ensures { OnOk result (text.new.items ≡ text.old.items ++ outside_lines intervals.now reading.now) }
 {
-    for interval in &INTERVALS {
+    for interval in intervals {
         push_if_outside(text, *interval, reading)?;
     }
     Ok(())
@@ -207,7 +235,7 @@ pub fn push_reading(text: &mut Vec<u8>, behind: Behind, reading: &Reading) -> Re
     ensures { OnOk result (text.new.items ≡ text.old.items ++ reading_lines behind reading.now) }
 {
     push_line(text, behind, reading)?;
-    push_all_outside(text, reading)
+    push_all_outside(text, &INTERVALS, reading)
 }
 
 #[cfg(test)]

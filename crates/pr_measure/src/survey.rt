@@ -3,80 +3,16 @@
 
 ghost use Rattle.std.specs.Prelude.{◌≡◌, ◌+◌, ◌^◌, ◌<◌, ◌++◌, ◌∷◌, [], List, length, IfOk, OnOk};
 ghost use Rattle.pr_decode.specs.declared.reading.Reading.{Reading};
-ghost use Rattle.pr_measure.specs.Summary.{count_lines, interval_lines, summary};
 ghost use Rattle.pr_measure.specs.Intervals.{intervals};
-ghost use Rattle.pr_measure.specs.Taking.{HasCounted, HasTaken, number_taken};
+ghost use Rattle.pr_measure.specs.Summary.{interval_lines, summary};
+ghost use Rattle.pr_measure.specs.Taking.{HasTaken, number_taken};
 
-use crate::adding::push_numbered;
+use crate::counts::Counts;
 use crate::interval::Interval;
 use crate::tally::Tally;
-use pr_decode::{FrameEnd, Reading};
+use pr_decode::Reading;
 use pr_wire::NoMemory;
 use std::alloc::Global;
-
-/// How many readings of each kind there are.
-#[derive(Clone, Copy)]
-struct Counts {
-    frames: u64,
-    commands: u64,
-    data_bytes: u64,
-    unacknowledged: u64,
-    glitches: u64,
-}
-
-impl Counts {
-    /// No reading.
-    fn new() -> Counts
-        ensures { HasCounted [] result }
-    {
-        Counts {
-            frames: 0,
-            commands: 0,
-            data_bytes: 0,
-            unacknowledged: 0,
-            glitches: 0,
-        }
-    }
-
-    /// Counts one reading more.
-    fn take(&mut self, reading: &Reading)
-        ensures { (readings : List Reading) → length readings + 1 < 2 ^ 64 → HasCounted readings self.old →
-            HasCounted (readings ++ reading.now ∷ []) self.new }
-    {
-        let (transfer, end) = match reading {
-            Reading::Frame(transfer, end) => (transfer, end),
-            Reading::Glitch(_, _) => {
-                self.glitches = self.glitches.saturating_add(1);
-                return;
-            }
-        };
-        self.frames = self.frames.saturating_add(1);
-        if transfer.opening.command {
-            self.commands = self.commands.saturating_add(1);
-        } else {
-            self.data_bytes = self.data_bytes.saturating_add(1);
-        }
-        match end {
-            FrameEnd::Acknowledged(_) => {}
-            FrameEnd::Unacknowledged(_) | FrameEnd::Cut => {
-                self.unacknowledged = self.unacknowledged.saturating_add(1);
-            }
-        }
-    }
-
-    /// Adds the lines of the counts.
-    fn push_lines(self, text: &mut Vec<u8>) -> Result<(), NoMemory>
-        ensures { OnOk result ((readings : List Reading) → HasCounted readings self →
-            text.new.items ≡ text.old.items ++ count_lines readings) }
-    {
-        push_numbered(text, b"frames: ", self.frames)?;
-        push_numbered(text, b"\ncommands: ", self.commands)?;
-        push_numbered(text, b"\ndata bytes: ", self.data_bytes)?;
-        push_numbered(text, b"\nnot acknowledged: ", self.unacknowledged)?;
-        push_numbered(text, b"\nglitches: ", self.glitches)?;
-        text.extend_from_slice(b"\n")
-    }
-}
 
 /// A survey of the readings of a recording. It keeps none of them: what it needs, 1.3 megabytes, it takes
 /// at first, however long the recording is.
@@ -133,7 +69,7 @@ impl Survey {
         ensures count { number_taken self.new ≡ number_taken self.old + 1 }
     {
         self.taken += 1;
-        self.counts.take(reading);
+        self.counts = self.counts.with(reading);
         self.ready.take(reading);
         self.first_pull.take(reading);
         self.answer.take(reading);
@@ -160,7 +96,8 @@ impl Survey {
         self.longest_low.push_line(text)?;
         self.shortest_high.push_line(text)?;
         self.longest_high.push_line(text)?;
-        self.acknowledgement.push_line(text)
+        self.acknowledgement.push_line(text)?;
+        Ok(())
     }
 
     /// Adds the summary of the readings taken: a line for each count, and one for each interval with how
@@ -175,7 +112,8 @@ impl Survey {
         ensures { OnOk result ((readings : List Reading) → HasTaken readings self.now → text.new.items ≡ text.old.items ++ summary readings) }
     {
         self.counts.push_lines(text)?;
-        self.push_intervals(text)
+        self.push_intervals(text)?;
+        Ok(())
     }
 }
 

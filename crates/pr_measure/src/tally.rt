@@ -1,13 +1,15 @@
 //! A tally of one interval: how many lengths of it were taken, the least, the middle and the greatest of
 //! them, and how many lie outside the profile's bounds. All lengths are in microseconds.
 
-ghost use Rattle.std.specs.Prelude.{◌≡◌, ◌+◌, ◌^◌, ◌<◌, ◌≤◌, ◌++◌, ◌∷◌, [], ℕ, List, length, nat_lt, Some, None, IfOk, OnOk, if◌then◌else◌};
+ghost use Rattle.std.specs.Prelude.{◌≡◌, ◌+◌, ◌^◌, ◌<◌, ◌==◌, ◌++◌, ◌∷◌, [], ℕ, List, codes, decimal, get_or, length, min, IfOk, OnOk, if◌then◌else◌};
 ghost use Rattle.pr_decode.specs.declared.reading.Reading.{Reading};
-ghost use Rattle.pr_measure.specs.Intervals.{length_of};
-ghost use Rattle.pr_measure.specs.Summary.{bounds_text, interval_line, interval_text, lengths_text, middle, middle_text, told_exactly};
-ghost use Rattle.pr_measure.specs.Taking.{HasTallied, Tallies};
+ghost use Rattle.pr_measure.specs.declared.interval.Interval.{Interval};
+ghost use Rattle.pr_measure.specs.Steps.{Adds, counter_with, first_half, known_text, least_with};
+ghost use Rattle.pr_measure.specs.Summary.{interval_line, middle_text, outside_text};
+ghost use Rattle.pr_measure.specs.Taking.{Tallies};
 
 use crate::adding::push_numbered;
+use crate::counts::counted;
 use crate::interval::Interval;
 use pr_decode::Reading;
 use pr_wire::{NoMemory, bounds};
@@ -31,48 +33,103 @@ pub(crate) struct Tally {
     counters: Vec<u64>,
 }
 
+/// So many counters at 0.
+fn zeros(alloc: Global, count: usize) -> Result<Vec<u64>, NoMemory>
+    ensures room { IfOk result (λ counters. length counters.items ≡ count) }
+    ensures zero { IfOk result (λ counters. (n : ℕ) → n < count → get_or counters.items n 0 ≡ 0) }
+{
+    let counters = vec![in alloc; 0u64; count]?;
+    Ok(counters)
+}
+
+/// Counts a length among those that are equal to it, where it has a counter.
+fn count_up(counters: &mut Vec<u64>, length: u64)
+    ensures room { length counters.new.items ≡ length counters.old.items }
+    ensures counters { (n : ℕ) → n < length counters.old.items →
+        get_or counters.new.items n 0 ≡ counter_with length n (get_or counters.old.items n 0) }
+{
+    let index = length as usize;
+    if index < counters.len() {
+        counters[index] = counters[index].saturating_add(1);
+    }
+}
+
+/// The least of some lengths and one more, by how many they are and the least of them.
+fn least_with(count: u64, least: u64, length: u64) -> u64
+    ensures { result ≡ least_with count least length }
+{
+    if count == 0 {
+        length
+    } else {
+        least.min(length)
+    }
+}
+
+/// The middle of so many lengths, by their counters: the least that at least half of them do not exceed.
+/// None where it has no counter.
+fn middle(count: u64, counters: &[u64]) -> Option<u64>
+    ensures { result ≡ first_half count 0 0 counters.now }
+{
+    let mut so_far: u64 = 0;
+    for (length, counter) in counters.iter().enumerate() {
+        so_far = so_far.saturating_add(*counter);
+        if count.saturating_sub(so_far) <= so_far {
+            return Some(length as u64);
+        }
+    }
+    None
+}
+
+/// Adds a middle.
+fn push_middle(text: &mut Vec<u8>, middle: Option<u64>) -> Result<(), NoMemory>
+    ensures { OnOk result (text.new.items ≡ text.old.items ++ middle_text middle) }
+{
+    match middle {
+        Some(middle) => push_numbered(text, b", middle ", middle),
+        None => text.extend_from_slice(b", middle over 16383"),
+    }
+}
+
+/// Adds the profile's bounds, and how many lengths lie outside.
+fn push_outside(text: &mut Vec<u8>, interval: Interval, outside: u64) -> Result<(), NoMemory>
+    ensures { OnOk result (text.new.items ≡ text.old.items ++ outside_text interval outside) }
+{
+    let (least, _, greatest) = bounds(interval.kind());
+    push_numbered(text, b", outside ", least as u64)?;
+    push_numbered(text, b" to ", greatest as u64)?;
+    push_numbered(text, b": ", outside)
+}
+
 impl Tally {
     /// A tally of no length.
     ///
     /// # Errors
     ///
     /// [`NoMemory`] where the counters were refused.
+    #[tactic(auto, unfolding(crate::specs::Summary::told_exactly))]
     pub fn new(alloc: Global, interval: Interval) -> Result<Tally, NoMemory>
         ensures { IfOk result (λ tally. Tallies interval [] tally) }
     {
+        let counters = zeros(alloc, COUNTERS)?;
         Ok(Tally {
             interval,
             count: 0,
             least: 0,
             greatest: 0,
             outside: 0,
-            counters: vec![in alloc; 0u64; COUNTERS]?,
+            counters,
         })
-    }
-
-    /// Counts a length among those that are equal to it.
-    fn count_equal(&mut self, length: u64) {
-        let index = length as usize;
-        if index < self.counters.len() {
-            self.counters[index] = self.counters[index].saturating_add(1);
-        }
     }
 
     /// Takes one length more.
     fn add(&mut self, length: u64)
-        ensures { (lengths : List ℕ) → length lengths + 1 < 2 ^ 64 → HasTallied self.old.interval lengths self.old →
-            HasTallied self.old.interval (lengths ++ length ∷ []) self.new }
+        ensures { Adds length self.old self.new }
     {
-        if self.count == 0 {
-            self.least = length;
-        }
-        self.least = self.least.min(length);
+        self.least = least_with(self.count, self.least, length);
         self.greatest = self.greatest.max(length);
-        if self.interval.is_outside(length) {
-            self.outside = self.outside.saturating_add(1);
-        }
+        self.outside = counted(self.outside, self.interval.is_outside(length));
         self.count = self.count.saturating_add(1);
-        self.count_equal(length);
+        count_up(&mut self.counters, length);
     }
 
     /// Takes the interval of a reading, if the reading has it.
@@ -80,50 +137,24 @@ impl Tally {
         ensures { (interval : Interval) (readings : List Reading) → length readings + 1 < 2 ^ 64 → Tallies interval readings self.old →
             Tallies interval (readings ++ reading.now ∷ []) self.new }
     {
-        if let Some(length) = self.interval.length(reading) {
-            self.add(length);
-        }
-    }
-
-    /// The middle: the least of the lengths that at least half of them do not exceed, where it is below
-    /// [`COUNTERS`].
-    fn middle(&self) -> Option<u64> {
-        let mut so_far: u64 = 0;
-        for (length, counter) in self.counters.iter().enumerate() {
-            so_far = so_far.saturating_add(*counter);
-            if self.count.saturating_sub(so_far) <= so_far {
-                return Some(length as u64);
-            }
-        }
-        None
-    }
-
-    /// Adds the middle.
-    fn push_middle(&self, text: &mut Vec<u8>) -> Result<(), NoMemory> {
-        match self.middle() {
-            Some(middle) => push_numbered(text, b", middle ", middle),
-            None => text.extend_from_slice(b", middle over 16383"),
-        }
-    }
-
-    /// Adds the profile's bounds, and how many lengths lie outside.
-    fn push_outside(&self, text: &mut Vec<u8>) -> Result<(), NoMemory> {
-        let (least, _, greatest) = bounds(self.interval.kind());
-        push_numbered(text, b", outside ", least as u64)?;
-        push_numbered(text, b" to ", greatest as u64)?;
-        push_numbered(text, b": ", self.outside)
+        let Some(length) = self.interval.length(reading) else {
+            return;
+        };
+        self.add(length);
     }
 
     /// Adds what is known of the lengths.
-    fn push_lengths(&self, text: &mut Vec<u8>) -> Result<(), NoMemory> {
+    fn push_known(&self, text: &mut Vec<u8>) -> Result<(), NoMemory>
+        ensures { OnOk result (text.new.items ≡ text.old.items ++ known_text self.now) }
+    {
         if self.count == 0 {
             return text.extend_from_slice(b": none");
         }
         push_numbered(text, b": ", self.count)?;
         push_numbered(text, b", least ", self.least)?;
-        self.push_middle(text)?;
+        push_middle(text, middle(self.count, self.counters.as_slice()))?;
         push_numbered(text, b", greatest ", self.greatest)?;
-        self.push_outside(text)
+        push_outside(text, self.interval, self.outside)
     }
 
     /// Adds the line of the interval.
@@ -132,7 +163,8 @@ impl Tally {
             text.new.items ≡ text.old.items ++ interval_line interval readings) }
     {
         text.extend_from_slice(self.interval.name())?;
-        self.push_lengths(text)?;
-        text.extend_from_slice(b"\n")
+        self.push_known(text)?;
+        text.extend_from_slice(b"\n")?;
+        Ok(())
     }
 }

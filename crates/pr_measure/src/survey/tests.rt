@@ -1,7 +1,7 @@
 //! Surveys, worked by hand.
 
 use super::*;
-use pr_decode::{GlitchEnd, Halves, Opening, Pulse, Transfer};
+use pr_decode::{FrameEnd, GlitchEnd, Halves, Opening, Pulse, Transfer};
 use std::env::FillError;
 use std::process::Abort;
 use std::rt::Env;

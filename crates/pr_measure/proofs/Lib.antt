@@ -1,0 +1,4 @@
+pub mod Sums
+pub mod Middle
+pub mod Tallied
+pub mod Surveyed
