@@ -1,4 +1,5 @@
 pub mod Sums
 pub mod Middle
 pub mod Tallied
+pub mod Parts
 pub mod Surveyed

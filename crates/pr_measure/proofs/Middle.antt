@@ -1,5 +1,5 @@
 -- The middle of lengths: the first number that at least half of them do not exceed.
-use Rattle.std.proofs.Common.{◌≡◌, ℕ, suc, ◌+◌, ◌-◌, ◌*◌, ◌<◌, ◌≤◌, Bool, true, false, cond, min, max, List, [], ◌∷◌, ◌++◌, length, get_or, Option, Some, None, if◌then◌else◌, refl, sym, ap, ◌∙◌, arith}
+use Rattle.std.proofs.Common.{◌≡◌, ℕ, suc, ◌+◌, ◌-◌, ◌*◌, ◌<◌, ◌≤◌, Bool, true, false, cond, min, max, List, [], ◌∷◌, ◌++◌, length, get_or, Option, Some, None, if◌then◌else◌, ◌⊎◌, inl, inr, refl, sym, ap, ◌∙◌, arith}
 use Rattle.std.specs.Prelude.{◌==◌, ◌^◌, nat_le, nat_lt}
 use Rattle.std.specs.List.{count_by, filter}
 use Rattle.std.proofs.lemmas.Bool.{le-leb, le-ltb, leb-false, leb-true, lt-ltb}
@@ -19,8 +19,8 @@ min-there : (v n m e : ℕ) → v ≤ n → v ≤ m → 0 < cond (n == v) 1 0 + 
 min-there v n m e at_n at_m some = grind (arith, nat_tests)
 
 -- a number that does not pass is not v
-not-there : (p : ℕ → Bool) (v m : ℕ) → p m ≡ false → p v ≡ true → cond (m == v) 1 0 ≡ 0
-not-there p v m no yes = grind (arith, nat_tests)
+not-there : (p : ℕ → Bool) (v m : ℕ) → p m ≡ false → p v ≡ true → ◌≡◌ {A = ℕ} (cond (m == v) 1 0) 0
+not-there p v m fails passes = grind (arith, nat_tests)
 
 -- the least of those that pass is v, where v is among them and nothing that passes is below it
 least-step : (p : ℕ → Bool) (v n m : ℕ) (ms : List ℕ) (b : Bool) → p m ≡ b → IsAbove p v → p v ≡ true → v ≤ n
@@ -32,7 +32,7 @@ least-step p v n m ms true e above passes low some rest =
     let at_min : v ≤ min n m = omega arith in
     rest (min n m) at_min (min-there v n m (equal_to v ms) low at_m some)
 least-step p v n m ms false e above passes low some rest =
-    let no : cond (m == v) 1 0 ≡ 0 = not-there p v m e passes in
+    let apart = not-there p v m e passes in
     rest n low (omega arith)
 
 last-there : (n v : ℕ) → 0 < cond (n == v) 1 0 + 0 → n ≡ v
@@ -51,7 +51,7 @@ least_of-step : (p : ℕ → Bool) (v m : ℕ) (ms : List ℕ) (b : Bool) → p 
     → least_of (cond b (m ∷ filter p ms) (filter p ms)) ≡ v
 least_of-step p v m ms true e above passes some rest = least-passing p v m ms above passes (above m e) some
 least_of-step p v m ms false e above passes some rest =
-    let no : cond (m == v) 1 0 ≡ 0 = not-there p v m e passes in
+    let apart = not-there p v m e passes in
     rest (omega arith)
 
 least_of-passing : (p : ℕ → Bool) (v : ℕ) (ns : List ℕ) → IsAbove p v → p v ≡ true → 0 < equal_to v ns → least_of (filter p ns) ≡ v
@@ -81,7 +81,7 @@ least_of-above-step : (p : ℕ → Bool) (v g m : ℕ) (ms : List ℕ) (b : Bool
     → v ≤ least_of (cond b (m ∷ filter p ms) (filter p ms))
 least_of-above-step p v g m ms true e above passes some rest = least-above p v m ms above (above m e)
 least_of-above-step p v g m ms false e above passes some rest =
-    let no : cond (m == g) 1 0 ≡ 0 = not-there p g m e passes in
+    let apart = not-there p g m e passes in
     rest (omega arith)
 
 least_of-above : (p : ℕ → Bool) (v g : ℕ) (ns : List ℕ) → IsAbove p v → p g ≡ true → 0 < equal_to g ns → v ≤ least_of (filter p ns)
@@ -99,7 +99,7 @@ greatest-above n (m ∷ ms) =
     let rest : max n m ≤ greatest (max n m) ms = greatest-above (max n m) ms in
     omega arith
 
-one-within : (m g : ℕ) → m ≤ g → cond (nat_le m g) 1 0 ≡ 1
+one-within : (m g : ℕ) → m ≤ g → ◌≡◌ {A = ℕ} (cond (nat_le m g) 1 0) 1
 one-within m g within = grind (arith, nat_tests)
 
 greatest-all : (n : ℕ) (ns : List ℕ) → at_most (greatest n ns) ns ≡ length ns
@@ -109,7 +109,7 @@ greatest-all n (m ∷ ms) =
     let rest : at_most g ms ≡ length ms = greatest-all (max n m) ms in
     let above : max n m ≤ g = greatest-above (max n m) ms in
     let within : m ≤ g = omega arith in
-    let here : cond (nat_le m g) 1 0 ≡ 1 = one-within m g within in
+    let here = one-within m g within in
     let parts : at_most g (m ∷ ms) ≡ cond (nat_le m g) 1 0 + at_most g ms = at_most-cons g m ms in
     omega arith
 
@@ -129,13 +129,16 @@ greatest-there n (m ∷ ms) =
     omega arith
 
 -- nothing below v is passed by half, where those below v are less than half
+half-less : (ns : List ℕ) (v k : ℕ) → 2 * below v ns < length ns → length ns ≤ 2 * at_most k ns → k < v → v ≤ k
+half-less ns v k few enough less =
+    let up : at_most k ns ≤ below v ns = at_most-below k v ns less in
+    omega arith
+
 half-above : (ns : List ℕ) (v : ℕ) → 2 * below v ns < length ns → IsAbove (is_half ns) v
 half-above ns v few k half =
     let enough : length ns ≤ 2 * at_most k ns = leb-true (length ns) (2 * at_most k ns) half in
-    let not_less : k < v → ⊥ = λ less.
-    let up : at_most k ns ≤ below v ns = at_most-below k v ns less in
-    absurd (omega arith) in
-    omega (arith, not_less)
+    let either : (v ≤ k) ⊎ (k < v) = grind arith in
+    elim either [ inl at_least ↦ at_least | inr less ↦ half-less ns v k few enough less ]
 
 -- so the middle is not below v
 middle-above : (ns : List ℕ) (v : ℕ) → 2 * below v ns < length ns → v ≤ middle ns
@@ -145,7 +148,7 @@ middle-above (n ∷ ns) v few =
     let g : ℕ = greatest n ns in
     let all : at_most g ns ≡ length ns = greatest-all n ns in
     let above : n ≤ g = greatest-above n ns in
-    let here : cond (nat_le n g) 1 0 ≡ 1 = one-within n g above in
+    let here = one-within n g above in
     let parts : at_most g (n ∷ ns) ≡ cond (nat_le n g) 1 0 + at_most g ns = at_most-cons g n ns in
     let passes : is_half (n ∷ ns) g ≡ true = le-leb (length (n ∷ ns)) (2 * at_most g (n ∷ ns)) (omega arith) in
     let there : 0 < cond (n == g) 1 0 + equal_to g ns = greatest-there n ns in

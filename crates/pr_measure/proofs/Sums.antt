@@ -3,6 +3,7 @@ use Rattle.std.proofs.Common.{◌≡◌, ℕ, ◌+◌, ◌<◌, ◌≤◌, Bool,
 use Rattle.std.specs.Prelude.{◌==◌, ◌^◌, nat_le, nat_lt}
 use Rattle.std.specs.List.{count_by, sum_by}
 use Rattle.std.proofs.lemmas.Bool.Decides.{nat_tests}
+use Rattle.std.proofs.lemmas.List.{length-append}
 use Rattle.std.proofs.lemmas.List.Sums.{count_by-le-length, sum_by-cons, sum_by-le-sum_by, sum_by_push}
 use Rattle.pr_measure.specs.Steps.{counted}
 use Rattle.pr_measure.specs.Summary.{at_most}
@@ -20,6 +21,9 @@ counted-more p xs x n new few e now =
     let small : n + 1 < 2 ^ 64 = omega arith in
     let push : count_by p (xs ++ x ∷ []) ≡ count_by p xs + cond (p x) 1 0 = sum_by_push (λ y. cond (p y) 1 0) xs x in
     now ∙ (counted-small (p x) n small ∙ (ap (λ m. m + cond (p x) 1 0) e ∙ sym push))
+
+pub one-longer : {X : Type 0} (xs : List X) (x : X) → length (xs ++ x ∷ []) ≡ length xs + 1
+one-longer xs x = length-append xs (x ∷ [])
 
 -- how many are below n
 abbrev pub below : ℕ → List ℕ → ℕ
@@ -45,7 +49,7 @@ one-next n m = grind (arith, nat_tests)
 one-less : (a b : ℕ) → a < b → (m : ℕ) → cond (nat_le m a) 1 0 ≤ cond (nat_lt m b) 1 0
 one-less a b less m = grind (arith, nat_tests)
 
-none-less : (m : ℕ) → cond (nat_lt m 0) 1 0 ≡ 0
+none-less : (m : ℕ) → ◌≡◌ {A = ℕ} (cond (nat_lt m 0) 1 0) 0
 none-less m = grind (arith, nat_tests)
 
 -- those at most n are those below it and those equal to it
@@ -66,7 +70,7 @@ pub none-below : (ns : List ℕ) → below 0 ns ≡ 0
 none-below [] = refl
 none-below (m ∷ ms) =
     let rest : below 0 ms ≡ 0 = none-below ms in
-    let here : cond (nat_lt m 0) 1 0 ≡ 0 = none-less m in
+    let here = none-less m in
     let first : below 0 (m ∷ ms) ≡ cond (nat_lt m 0) 1 0 + below 0 ms = sum_by-cons (λ k. cond (nat_lt k 0) 1 0) m ms in
     omega arith
 

@@ -4,17 +4,17 @@ use Rattle.std.specs.Prelude.{◌==◌, ◌^◌, codes, nat_le, nat_lt}
 use Rattle.std.specs.List.{count_by}
 use Rattle.std.specs.Option.{option_to_list}
 use Rattle.std.proofs.lemmas.Bool.Decides.{nat_tests}
-use Rattle.std.proofs.lemmas.List.{append_assoc, length-append}
+use Rattle.std.proofs.lemmas.List.{append_assoc}
 use Rattle.pr_decode.specs.declared.reading.Reading.{Reading}
 use Rattle.pr_decode.specs.Readings.{greatest, least}
 use Rattle.pr_measure.specs.declared.interval.Interval.{Interval}
 use Rattle.pr_measure.specs.declared.tally.Tally.{Tally}
-use Rattle.pr_measure.specs.Intervals.{is_outside, length_of}
+use Rattle.pr_measure.specs.Intervals.{is_outside, length_of, name_of}
 use Rattle.pr_measure.specs.Steps.{Adds, counted, counter_with, first_half, known_text, least_with}
-use Rattle.pr_measure.specs.Summary.{figures_text, least_of, lengths, lengths_text, middle, told_exactly, told_middle}
+use Rattle.pr_measure.specs.Summary.{figures_text, interval_line, least_of, lengths, lengths_text, middle, told_exactly, told_middle}
 use Rattle.pr_measure.specs.Taking.{HasTallied, Tallies, equal_to, greatest_of}
 use Rattle.pr_measure.proofs.Middle.{half-found, told_below}
-use Rattle.pr_measure.proofs.Sums.{below, counted-more, equal_to-few, equal_to-push, none-below}
+use Rattle.pr_measure.proofs.Sums.{below, counted-more, equal_to-few, equal_to-push, none-below, one-longer}
 
 -- the least and the greatest with one length more
 least-push : (n : ℕ) (ns : List ℕ) (m : ℕ) → least n (ns ++ m ∷ []) ≡ min (least n ns) m
@@ -44,9 +44,6 @@ counters-more : (ns : List ℕ) (n k : ℕ) → length ns + 1 < 2 ^ 64 → count
 counters-more ns n k few =
     let le : equal_to k ns ≤ length ns = equal_to-few k ns in
     counter-more n k (equal_to k ns) (omega arith) ∙ sym (equal_to-push k ns n)
-
-one-longer : (ns : List ℕ) (n : ℕ) → length (ns ++ n ∷ []) ≡ length ns + 1
-one-longer ns n = length-append ns (n ∷ [])
 
 pub more-tallied : (i : Interval) (ns : List ℕ) (n : ℕ) (old new : Tally) → length ns + 1 < 2 ^ 64 → HasTallied i ns old → Adds n old new
     → HasTallied i (ns ++ n ∷ []) new
@@ -129,7 +126,7 @@ figures-same i j a b c d o p e f g h at_i at_a at_c at_o at_e at_g =
 abbrev text_of : (count : ℕ) → List ℕ → List ℕ
 text_of count told = if count == 0 then codes ": none" else told
 
-pub known-told : (i : Interval) (ns : List ℕ) (t : Tally) → length ns < 2 ^ 64 → HasTallied i ns t → known_text t ≡ lengths_text i ns
+known-told : (i : Interval) (ns : List ℕ) (t : Tally) → length ns < 2 ^ 64 → HasTallied i ns t → known_text t ≡ lengths_text i ns
 known-told i [] t small h =
     ap (λ c. text_of c (figures_text t.interval t.count t.least (first_half t.count 0 0 t.counters.items) t.greatest t.outside)) h.count
 known-told i (n ∷ ns) t small h =
@@ -139,3 +136,17 @@ known-told i (n ∷ ns) t small h =
     ∙ figures-same t.interval i t.count (length (n ∷ ns)) t.least (least n ns) (first_half t.count 0 0 t.counters.items)
     (told_middle (middle (n ∷ ns))) t.greatest (greatest n ns) t.outside (count_by (is_outside i) (n ∷ ns)) h.interval h.count h.least
     (middle-told i (n ∷ ns) t small (omega arith) h) h.greatest h.outside
+
+-- the line of a tally: its name, what it tells, and the end
+pub line-told : (i : Interval) (rs : List Reading) (t : Tally) (t0 t1 t2 t3 name : List ℕ) → length rs < 2 ^ 64 → Tallies i rs t
+    → name ≡ name_of t.interval → t1 ≡ t0 ++ name → t2 ≡ t1 ++ known_text t → t3 ≡ t2 ++ codes "\n" → t3 ≡ t0 ++ interval_line i rs
+line-told i rs t t0 t1 t2 t3 name small h named e1 e2 e3 =
+    let le : length (lengths i rs) ≤ length rs = lengths-few i rs in
+    let told : List ℕ = lengths_text i (lengths i rs) in
+    let known : known_text t ≡ told = known-told i (lengths i rs) t (omega arith) h in
+    let is_name : name ≡ name_of i = named ∙ ap name_of h.interval in
+    let first : t1 ≡ t0 ++ name_of i = e1 ∙ ap (λ (z : List ℕ). t0 ++ z) is_name in
+    let second : t2 ≡ t0 ++ (name_of i ++ told) =
+    e2 ∙ (ap (λ (z : List ℕ). z ++ known_text t) first
+    ∙ (ap (λ (z : List ℕ). t0 ++ name_of i ++ z) known ∙ append_assoc t0 (name_of i) told)) in
+    e3 ∙ (ap (λ (z : List ℕ). z ++ codes "\n") second ∙ append_assoc t0 (name_of i ++ told) (codes "\n"))

@@ -76,11 +76,15 @@ abbrev pub line_of : Behind → Reading → List ℕ
 line_of b (Frame t end) = frame_text b t end
 line_of b (Glitch t end) = glitch_place t ++ glitch_end_text end
 
+-- a word, and a number in decimal behind it
+abbrev pub numbered : List ℕ → ℕ → List ℕ
+numbered word n = word ++ decimal n
+
 -- the line of an interval, where it lies outside the profile's bounds
 abbrev pub outside_text : Interval → ℕ → List ℕ
 outside_text i n =
-    codes "    " ++ name_of i ++ codes " " ++ decimal n ++ codes " us, the profile has " ++ decimal (lowest_of i)
-    ++ codes " to " ++ decimal (highest_of i) ++ codes "\n"
+    codes "    " ++ name_of i ++ numbered (codes " ") n ++ numbered (codes " us, the profile has ") (lowest_of i)
+    ++ numbered (codes " to ") (highest_of i) ++ codes "\n"
 
 abbrev pub outside_line : Interval → Option ℕ → List ℕ
 outside_line i None = []

@@ -1,6 +1,6 @@
 -- Linking words: which readings a survey has taken. The clauses of `Survey` say all that a caller needs of them. No reader needs to
 -- believe them.
-use Rattle.std.specs.Prelude.{◌≡◌, ℕ, ◌==◌, ◌<◌, List, [], ◌∷◌, length, get_or}
+use Rattle.std.specs.Prelude.{◌≡◌, ℕ, ◌==◌, ◌<◌, ◌^◌, List, [], ◌∷◌, length, get_or}
 use Rattle.std.specs.List.{count_by}
 use Rattle.pr_decode.specs.declared.reading.Reading.{Reading}
 use Rattle.pr_decode.specs.Readings.{greatest}
@@ -49,6 +49,7 @@ number_taken s = s.taken
 -- these readings were taken
 pub record HasTaken (rs : List Reading) (s : Survey) : Type 0 where
   pub taken : s.taken ≡ length rs
+  pub few : length rs < 2 ^ 64
   pub counts : HasCounted rs s.counts
   pub ready : Tallies Ready rs s.ready
   pub first_pull : Tallies FirstPull rs s.first_pull

@@ -106,12 +106,17 @@ impl Counts {
         ensures { (readings : List Reading) → length readings + 1 < 2 ^ 64 → HasCounted readings self →
             HasCounted (readings ++ reading.now ∷ []) result }
     {
+        let frames = counted(self.frames, is_frame(reading));
+        let commands = counted(self.commands, is_command(reading));
+        let data_bytes = counted(self.data_bytes, is_data(reading));
+        let unacknowledged = counted(self.unacknowledged, is_unacknowledged(reading));
+        let glitches = counted(self.glitches, is_glitch(reading));
         Counts {
-            frames: counted(self.frames, is_frame(reading)),
-            commands: counted(self.commands, is_command(reading)),
-            data_bytes: counted(self.data_bytes, is_data(reading)),
-            unacknowledged: counted(self.unacknowledged, is_unacknowledged(reading)),
-            glitches: counted(self.glitches, is_glitch(reading)),
+            frames,
+            commands,
+            data_bytes,
+            unacknowledged,
+            glitches,
         }
     }
 
@@ -124,6 +129,7 @@ impl Counts {
         push_count(text, b"commands: ", self.commands)?;
         push_count(text, b"data bytes: ", self.data_bytes)?;
         push_count(text, b"not acknowledged: ", self.unacknowledged)?;
-        push_count(text, b"glitches: ", self.glitches)
+        push_count(text, b"glitches: ", self.glitches)?;
+        Ok(())
     }
 }

@@ -186,7 +186,8 @@ fn push_outside(text: &mut Vec<u8>, interval: Interval, length: u64) -> Result<(
     push_numbered(text, b" ", length)?;
     push_numbered(text, b" us, the profile has ", least as u64)?;
     push_numbered(text, b" to ", greatest as u64)?;
-    text.extend_from_slice(b"\n")
+    text.extend_from_slice(b"\n")?;
+    Ok(())
 }
 
 /// Adds the line of an interval, where a reading has it and it lies outside the profile's bounds.

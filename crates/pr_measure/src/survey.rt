@@ -1,7 +1,7 @@
 //! A survey of readings: how many there are, and of each interval how many, the least, the middle, the
 //! greatest, and how many lie outside the profile's bounds.
 
-ghost use Rattle.std.specs.Prelude.{◌≡◌, ◌+◌, ◌^◌, ◌<◌, ◌++◌, ◌∷◌, [], List, length, IfOk, OnOk};
+ghost use Rattle.std.specs.Prelude.{◌≡◌, ◌+◌, ◌^◌, ◌<◌, ◌++◌, ◌∷◌, [], List, IfOk, OnOk};
 ghost use Rattle.pr_decode.specs.declared.reading.Reading.{Reading};
 ghost use Rattle.pr_measure.specs.Intervals.{intervals};
 ghost use Rattle.pr_measure.specs.Summary.{interval_lines, summary};
@@ -84,7 +84,7 @@ impl Survey {
 
     /// Adds the lines of the intervals.
     fn push_intervals(&self, text: &mut Vec<u8>) -> Result<(), NoMemory>
-        ensures { OnOk result ((readings : List Reading) → length readings < 2 ^ 64 → HasTaken readings self.now →
+        ensures { OnOk result ((readings : List Reading) → HasTaken readings self.now →
             text.new.items ≡ text.old.items ++ interval_lines intervals readings) }
     {
         self.ready.push_line(text)?;

@@ -43,12 +43,12 @@ fn zeros(alloc: Global, count: usize) -> Result<Vec<u64>, NoMemory>
 }
 
 /// Counts a length among those that are equal to it, where it has a counter.
-fn count_up(counters: &mut Vec<u64>, length: u64)
+fn count_up(counters: &mut Vec<u64>, micros: u64)
     ensures room { length counters.new.items ≡ length counters.old.items }
     ensures counters { (n : ℕ) → n < length counters.old.items →
-        get_or counters.new.items n 0 ≡ counter_with length n (get_or counters.old.items n 0) }
+        get_or counters.new.items n 0 ≡ counter_with micros n (get_or counters.old.items n 0) }
 {
-    let index = length as usize;
+    let index = micros as usize;
     if index < counters.len() {
         counters[index] = counters[index].saturating_add(1);
     }
