@@ -3,3 +3,4 @@ pub mod Middle
 pub mod Tallied
 pub mod Parts
 pub mod Surveyed
+pub mod Lines

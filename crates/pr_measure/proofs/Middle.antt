@@ -1,10 +1,11 @@
 -- The middle of lengths: the first number that at least half of them do not exceed.
-use Rattle.std.proofs.Common.{◌≡◌, ℕ, suc, ◌+◌, ◌-◌, ◌*◌, ◌<◌, ◌≤◌, Bool, true, false, cond, min, max, List, [], ◌∷◌, ◌++◌, length, get_or, Option, Some, None, if◌then◌else◌, ◌⊎◌, inl, inr, refl, sym, ap, ◌∙◌, arith}
+use Rattle.std.proofs.Common.{◌≡◌, ℕ, zero, suc, ◌+◌, ◌-◌, ◌*◌, ◌<◌, ◌≤◌, Bool, true, false, cond, min, max, List, [], ◌∷◌, ◌++◌, length, get_or, Option, Some, None, if◌then◌else◌, ◌⊎◌, inl, inr, refl, sym, ap, ◌∙◌, arith}
 use Rattle.std.specs.Prelude.{◌==◌, ◌^◌, nat_le, nat_lt}
 use Rattle.std.specs.List.{count_by, filter}
 use Rattle.std.proofs.lemmas.Bool.{le-leb, le-ltb, leb-false, leb-true, lt-ltb}
 use Rattle.std.proofs.lemmas.Bool.Decides.{nat_tests}
 use Rattle.pr_decode.specs.Readings.{greatest, least}
+use Rattle.pr_measure.specs.Laws.{MiddlesAreLeast}
 use Rattle.pr_measure.specs.Steps.{first_half}
 use Rattle.pr_measure.specs.Summary.{at_most, is_half, least_of, middle}
 use Rattle.pr_measure.specs.Taking.{equal_to}
@@ -140,20 +141,25 @@ half-above ns v few k half =
     let either : (v ≤ k) ⊎ (k < v) = grind arith in
     elim either [ inl at_least ↦ at_least | inr less ↦ half-less ns v k few enough less ]
 
+-- all do not exceed the greatest
+greatest-half : (n : ℕ) (ns : List ℕ) → is_half (n ∷ ns) (greatest n ns) ≡ true
+greatest-half n ns =
+    let g : ℕ = greatest n ns in
+    let all : at_most g ns ≡ length ns = greatest-all n ns in
+    let above : n ≤ g = greatest-above n ns in
+    let here = one-within n g above in
+    let parts : at_most g (n ∷ ns) ≡ cond (nat_le n g) 1 0 + at_most g ns = at_most-cons g n ns in
+    le-leb (length (n ∷ ns)) (2 * at_most g (n ∷ ns)) (omega arith)
+
 -- so the middle is not below v
 middle-above : (ns : List ℕ) (v : ℕ) → 2 * below v ns < length ns → v ≤ middle ns
 unfolding middle
 middle-above [] v few = absurd (omega arith)
 middle-above (n ∷ ns) v few =
     let g : ℕ = greatest n ns in
-    let all : at_most g ns ≡ length ns = greatest-all n ns in
-    let above : n ≤ g = greatest-above n ns in
-    let here = one-within n g above in
-    let parts : at_most g (n ∷ ns) ≡ cond (nat_le n g) 1 0 + at_most g ns = at_most-cons g n ns in
-    let passes : is_half (n ∷ ns) g ≡ true = le-leb (length (n ∷ ns)) (2 * at_most g (n ∷ ns)) (omega arith) in
     let there : 0 < cond (n == g) 1 0 + equal_to g ns = greatest-there n ns in
     let some : equal_to g (n ∷ ns) ≡ cond (n == g) 1 0 + equal_to g ns = equal_to-cons g n ns in
-    least_of-above (is_half (n ∷ ns)) v g (n ∷ ns) (half-above (n ∷ ns) v few) passes (omega arith)
+    least_of-above (is_half (n ∷ ns)) v g (n ∷ ns) (half-above (n ∷ ns) v few) (greatest-half n ns) (omega arith)
 
 -- and it is v, where those at most v are half
 middle-is : (ns : List ℕ) (v : ℕ) → 2 * below v ns < length ns → length ns ≤ 2 * at_most v ns → middle ns ≡ v
@@ -207,3 +213,34 @@ half-found ns (c ∷ cs) s v small same few each =
     (λ more. half-found ns cs a (v + 1) small (sum ∙ sym next) (omega arith)
     (λ k less. each (suc k) (omega arith) ∙ ap (λ n. equal_to n ns) (shifted v k))
     ∙ ap (λ n. told_below n (middle ns)) shift)
+
+half-from-step : (n : ℕ) (ns : List ℕ) (k : ℕ) (b : Bool) → is_half (n ∷ ns) k ≡ b → is_half (n ∷ ns) (suc k) ≡ true
+    → (is_half (n ∷ ns) k ≡ true → (is_half (n ∷ ns) (middle (n ∷ ns)) ≡ true) × (middle (n ∷ ns) ≤ k))
+    → (is_half (n ∷ ns) (middle (n ∷ ns)) ≡ true) × (middle (n ∷ ns) ≤ suc k)
+half-from-step n ns k true e half rest =
+    let found = rest e in
+    let within : middle (n ∷ ns) ≤ k = found.1 in
+    (found.0, omega arith)
+half-from-step n ns k false e half rest =
+    let few : 2 * at_most k (n ∷ ns) < length (n ∷ ns) = leb-false (length (n ∷ ns)) (2 * at_most k (n ∷ ns)) e in
+    let next : below (k + 1) (n ∷ ns) ≡ at_most k (n ∷ ns) = below-next k (n ∷ ns) in
+    let one : k + 1 ≡ suc k = omega arith in
+    let same : below (suc k) (n ∷ ns) ≡ at_most k (n ∷ ns) = ap (λ m. below m (n ∷ ns)) (sym one) ∙ next in
+    let enough : length (n ∷ ns) ≤ 2 * at_most (suc k) (n ∷ ns) =
+    leb-true (length (n ∷ ns)) (2 * at_most (suc k) (n ∷ ns)) half in
+    let found : middle (n ∷ ns) ≡ suc k = middle-is (n ∷ ns) (suc k) (omega arith) enough in
+    (ap (is_half (n ∷ ns)) found ∙ half, omega arith)
+
+-- a number that at least half do not exceed is not below the middle, and the middle is one
+half-from : (n : ℕ) (ns : List ℕ) (k : ℕ) → is_half (n ∷ ns) k ≡ true
+    → (is_half (n ∷ ns) (middle (n ∷ ns)) ≡ true) × (middle (n ∷ ns) ≤ k)
+half-from n ns zero half =
+    let none : below 0 (n ∷ ns) ≡ 0 = none-below (n ∷ ns) in
+    let enough : length (n ∷ ns) ≤ 2 * at_most 0 (n ∷ ns) = leb-true (length (n ∷ ns)) (2 * at_most 0 (n ∷ ns)) half in
+    let found : middle (n ∷ ns) ≡ 0 = middle-is (n ∷ ns) 0 (omega arith) enough in
+    (ap (is_half (n ∷ ns)) found ∙ half, omega arith)
+half-from n ns (suc k) half = half-from-step n ns k (is_half (n ∷ ns) k) refl half (half-from n ns k)
+
+pub middle-least : MiddlesAreLeast
+middle-least n ns =
+    ((half-from n ns (greatest n ns) (greatest-half n ns)).0, λ k half. (half-from n ns k half).1)

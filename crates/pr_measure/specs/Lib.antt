@@ -3,3 +3,4 @@ pub mod ReadingText
 pub mod Summary
 pub mod Steps
 pub mod Taking
+pub mod Laws

@@ -112,3 +112,8 @@ after_reading b r = b
 abbrev pub all_lines : Behind → List Reading → List ℕ
 all_lines b [] = []
 all_lines b (r ∷ rs) = reading_lines b r ++ all_lines (after_reading b r) rs
+
+-- what stands behind readings
+abbrev pub behind_all : Behind → List Reading → Behind
+behind_all b [] = b
+behind_all b (r ∷ rs) = behind_all (after_reading b r) rs

@@ -16,7 +16,8 @@ pub enum Interval {
     FirstPull,
     /// Ready to DATA's pull, the answer to end-or-identify.
     Answer,
-    /// The length of the answer.
+    /// The length of the answer. Where two listeners answer their pulls join, so a lawful trace has up to
+    /// 250 microseconds here, which lie outside the bounds of one.
     AnswerLength,
     /// The end of the answer to CLOCK's first pull.
     PullAfterAnswer,

@@ -9,10 +9,12 @@
 mod adding;
 mod counts;
 mod interval;
+mod laws;
 mod line;
 mod survey;
 mod tally;
 
 pub use interval::{INTERVALS, Interval};
+pub use laws::{lines_add_up, middles_are_least};
 pub use line::{Behind, push_reading};
 pub use survey::Survey;

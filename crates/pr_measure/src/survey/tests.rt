@@ -2,6 +2,7 @@
 
 use super::*;
 use pr_decode::{FrameEnd, GlitchEnd, Halves, Opening, Pulse, Transfer};
+use pr_wire::Kind;
 use std::env::FillError;
 use std::process::Abort;
 use std::rt::Env;
@@ -163,6 +164,17 @@ fn long_middles(rt: HostRuntime) -> Result<(), Fail> {
         16384,
         "ready: 2, least 16384, middle over 16383, greatest 20000, outside 1 to 10000: 2\n",
     )
+}
+
+/// The laws, and what an interval is called and bounded by.
+#[test]
+fn names_and_laws(rt: HostRuntime) {
+    crate::lines_add_up();
+    crate::middles_are_least();
+    assert_eq!(rt; crate::INTERVALS[0].name(), b"ready");
+    assert_eq!(rt; crate::INTERVALS[9].kind(), Kind::F);
+    assert!(rt; Interval::Answer.is_outside(251));
+    assert_eq!(rt; Interval::Ready.length(&begun()), Some(60));
 }
 
 /// Whether a call is refused memory. If not, it gives what it gives with ample memory.
