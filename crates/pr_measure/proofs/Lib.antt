@@ -4,3 +4,4 @@ pub mod Tallied
 pub mod Parts
 pub mod Surveyed
 pub mod Lines
+pub mod Lawful

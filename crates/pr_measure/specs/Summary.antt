@@ -67,15 +67,15 @@ middle_text (Some n) = codes ", middle " ++ decimal n
 middle_text None = codes ", middle over 16383"
 
 -- how many of some lengths lie outside the profile's bounds
-abbrev pub outside_text : Interval → (outside : ℕ) → List ℕ
-outside_text i outside =
+abbrev pub outside_count : Interval → (outside : ℕ) → List ℕ
+outside_count i outside =
     codes ", outside " ++ decimal (lowest_of i) ++ codes " to " ++ decimal (highest_of i) ++ codes ": " ++ decimal outside
 
 -- what is told of lengths: how many they are, the least, the middle, the greatest, and how many lie outside
 abbrev pub figures_text : Interval → (count low : ℕ) → (mid : Option ℕ) → (high outside : ℕ) → List ℕ
 figures_text i count low mid high outside =
     codes ": " ++ decimal count ++ codes ", least " ++ decimal low ++ middle_text mid ++ codes ", greatest " ++ decimal high
-    ++ outside_text i outside
+    ++ outside_count i outside
 
 abbrev pub lengths_text : Interval → List ℕ → List ℕ
 lengths_text i [] = codes ": none"

@@ -5,7 +5,7 @@ ghost use Rattle.std.specs.Prelude.{◌≡◌, ◌+◌, ◌^◌, ◌<◌, ◌==�
 ghost use Rattle.pr_decode.specs.declared.reading.Reading.{Reading};
 ghost use Rattle.pr_measure.specs.declared.interval.Interval.{Interval};
 ghost use Rattle.pr_measure.specs.Steps.{Adds, counter_with, first_half, known_text, least_with};
-ghost use Rattle.pr_measure.specs.Summary.{interval_line, middle_text, outside_text};
+ghost use Rattle.pr_measure.specs.Summary.{interval_line, middle_text, outside_count};
 ghost use Rattle.pr_measure.specs.Taking.{Tallies};
 
 use crate::adding::push_numbered;
@@ -91,8 +91,8 @@ fn push_middle(text: &mut Vec<u8>, middle: Option<u64>) -> Result<(), NoMemory>
 }
 
 /// Adds the profile's bounds, and how many lengths lie outside.
-fn push_outside(text: &mut Vec<u8>, interval: Interval, outside: u64) -> Result<(), NoMemory>
-    ensures { OnOk result (text.new.items ≡ text.old.items ++ outside_text interval outside) }
+fn push_outside_count(text: &mut Vec<u8>, interval: Interval, outside: u64) -> Result<(), NoMemory>
+    ensures { OnOk result (text.new.items ≡ text.old.items ++ outside_count interval outside) }
 {
     let (least, _, greatest) = bounds(interval.kind());
     push_numbered(text, b", outside ", least as u64)?;
@@ -154,7 +154,7 @@ impl Tally {
         push_numbered(text, b", least ", self.least)?;
         push_middle(text, middle(self.count, self.counters.as_slice()))?;
         push_numbered(text, b", greatest ", self.greatest)?;
-        push_outside(text, self.interval, self.outside)
+        push_outside_count(text, self.interval, self.outside)
     }
 
     /// Adds the line of the interval.

@@ -169,6 +169,7 @@ fn long_middles(rt: HostRuntime) -> Result<(), Fail> {
 /// The laws, and what an interval is called and bounded by.
 #[test]
 fn names_and_laws(rt: HostRuntime) {
+    crate::lawful_traces_are_within();
     crate::lines_add_up();
     crate::middles_are_least();
     assert_eq!(rt; crate::INTERVALS[0].name(), b"ready");
