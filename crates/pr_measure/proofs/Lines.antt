@@ -1,8 +1,6 @@
 -- The lines of one reading more.
-use Rattle.std.proofs.Common.{◌≡◌, List, [], ◌∷◌, ◌++◌, sym, ap, ◌∙◌, append-nil, refl}
+use Rattle.std.proofs.Common.{[], ◌∷◌, ◌++◌, sym, ap, ◌∙◌, append-nil, refl}
 use Rattle.std.proofs.lemmas.List.{append_assoc}
-use Rattle.pr_decode.specs.declared.reading.Reading.{Reading}
-use Rattle.pr_measure.specs.declared.line.Behind.{Behind}
 use Rattle.pr_measure.specs.Laws.{LinesAddUp}
 use Rattle.pr_measure.specs.ReadingText.{after_reading, all_lines, behind_all, reading_lines}
 

@@ -3,7 +3,6 @@
 use Rattle.std.specs.Prelude.{ℕ, ◌*◌, nat_le, nat_lt, not, Bool, true, false, List, [], ◌∷◌, ◌++◌, length, Option, Some, None, codes, decimal, if◌then◌else◌}
 use Rattle.std.specs.List.{count_by, filter}
 use Rattle.std.specs.Option.{option_to_list}
-use Rattle.pr_decode.specs.declared.reading.FrameEnd.{FrameEnd}
 use Rattle.pr_decode.specs.declared.reading.FrameEnd.TheVariants.{Acknowledged}
 use Rattle.pr_decode.specs.declared.reading.Reading.{Reading}
 use Rattle.pr_decode.specs.declared.reading.Reading.TheVariants.{Frame, Glitch}
