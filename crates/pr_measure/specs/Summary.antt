@@ -101,5 +101,6 @@ counts_text frames commands data_bytes unacknowledged glitches =
 -- the summary of readings
 unfoldable pub summary : List Reading → List ℕ
 summary rs =
-    counts_text (count_by is_frame rs) (count_by is_command rs) (count_by is_data rs) (count_by is_unacknowledged rs) (count_by is_glitch rs)
+    counts_text (count_by is_frame rs) (count_by is_command rs) (count_by is_data rs) (count_by is_unacknowledged rs)
+    (count_by is_glitch rs)
     ++ interval_lines intervals rs

@@ -109,7 +109,8 @@ impl Survey {
     ///
     /// [`NoMemory`] where a growth of the text was refused. A part of the lines may have been added.
     pub fn push_summary(&self, text: &mut Vec<u8>) -> Result<(), NoMemory>
-        ensures { OnOk result ((readings : List Reading) → HasTaken readings self.now → text.new.items ≡ text.old.items ++ summary readings) }
+        ensures { OnOk result ((readings : List Reading) → HasTaken readings self.now →
+            text.new.items ≡ text.old.items ++ summary readings) }
     {
         self.counts.push_lines(text)?;
         self.push_intervals(text)?;

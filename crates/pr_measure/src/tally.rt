@@ -159,7 +159,8 @@ impl Tally {
 
     /// Adds the line of the interval.
     pub fn push_line(&self, text: &mut Vec<u8>) -> Result<(), NoMemory>
-        ensures { OnOk result ((interval : Interval) (readings : List Reading) → length readings < 2 ^ 64 → Tallies interval readings self.now →
+        ensures { OnOk result ((interval : Interval) (readings : List Reading) → length readings < 2 ^ 64 →
+            Tallies interval readings self.now →
             text.new.items ≡ text.old.items ++ interval_line interval readings) }
     {
         text.extend_from_slice(self.interval.name())?;
