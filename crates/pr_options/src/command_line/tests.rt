@@ -1,6 +1,7 @@
 //! Command lines, and what they ask for.
 
 use super::*;
+use pr_capture::Signals;
 use pr_wire::Kind;
 use std::process::Abort;
 use std::test::Fail;
@@ -24,13 +25,18 @@ const NONE: Present = Present {
 /// pull to the answer.
 type First = (u16, u16, u16);
 
+/// The names of ATN, CLOCK and DATA in a recording.
+type Names<'a> = (&'a str, &'a str, &'a str);
+
 /// What words ask for, or why they ask for nothing.
 #[derive(Clone, Copy, PartialEq, Eq)]
-enum Asked<'a> {
+enum Asked {
     Pages(Present, First, StatusMode, Format),
     Bus(Present, First, StatusMode, TraceFormat),
-    /// With the names of ATN, CLOCK and DATA, whether levels are inverted, and the start.
-    Check(Source, [&'a str; 3], bool, u64, Report),
+    /// By the names given, whether levels are inverted, and the start.
+    Check(Source, bool, u64, Report),
+    /// To check a trace by other names.
+    OtherNames,
     Raw(bool, Format),
     /// clap refuses the words, or answers a request for help, with this exit status.
     Line(i32),
@@ -40,7 +46,7 @@ enum Asked<'a> {
 }
 
 /// The names of no option.
-const NAMED: [&str; 3] = ["ATN", "CLOCK", "DATA"];
+const NAMED: Names<'static> = ("ATN", "CLOCK", "DATA");
 
 /// The first delays that are taken.
 fn first_delays(mut delays: Delays) -> First {
@@ -51,8 +57,15 @@ fn first_delays(mut delays: Delays) -> First {
     )
 }
 
-/// What a job asks for.
-fn asked_by(job: Job<'_>) -> Asked<'_> {
+/// Whether signals have these names.
+fn are_named(signals: Signals<'_>, names: Names<'_>) -> bool {
+    signals.atn == names.0.as_bytes()
+        && signals.clock == names.1.as_bytes()
+        && signals.line == names.2.as_bytes()
+}
+
+/// What a job asks for; of a trace to check, whether by these names.
+fn asked_by(job: Job<'_>, names: Names<'_>) -> Asked {
     match job {
         Job::Pages(present, delays, mode, format) => {
             Asked::Pages(present, first_delays(delays), mode, format)
@@ -61,26 +74,17 @@ fn asked_by(job: Job<'_>) -> Asked<'_> {
             Asked::Bus(present, first_delays(delays), mode, format)
         }
         Job::Check(input, report) => {
-            let signals = input.signals;
-            let names = [
-                str::from_utf8(signals.atn).unwrap_or("?"),
-                str::from_utf8(signals.clock).unwrap_or("?"),
-                str::from_utf8(signals.line).unwrap_or("?"),
-            ];
-            Asked::Check(
-                input.source,
-                names,
-                signals.is_inverted,
-                input.start,
-                report,
-            )
+            if !are_named(input.signals, names) {
+                return Asked::OtherNames;
+            }
+            Asked::Check(input.source, input.signals.is_inverted, input.start, report)
         }
         Job::Raw { lower, format } => Asked::Raw(lower, format),
     }
 }
 
 /// Why words ask for nothing.
-fn refused_by(fault: JobFault) -> Asked<'static> {
+fn refused_by(fault: JobFault) -> Asked {
     Asked::Bad(match fault {
         JobFault::Line(error) => return Asked::Line(error.exit_code()),
         JobFault::BadPresent => "bad --present",
@@ -98,8 +102,9 @@ fn refused_by(fault: JobFault) -> Asked<'static> {
     })
 }
 
-/// The words of a line, parted by blanks and behind the program's name, ask for this.
-fn asks(rt: &(impl Abort + AllocGlobal), line: &str, wanted: Asked<'_>) {
+/// The words of a line, parted by blanks and behind the program's name, ask for this, of a trace by
+/// these names.
+fn asks_by(rt: &(impl Abort + AllocGlobal), line: &str, names: Names<'_>, wanted: Asked) {
     let mut words = Vec::new(rt.alloc());
     assert!(rt; words.push("print1525").is_ok());
     for word in line.split(' ') {
@@ -108,10 +113,15 @@ fn asks(rt: &(impl Abort + AllocGlobal), line: &str, wanted: Asked<'_>) {
         }
     }
     let asked = match read_job(rt.alloc(), &words) {
-        Ok(job) => asked_by(job),
+        Ok(job) => asked_by(job, names),
         Err(fault) => refused_by(fault),
     };
     assert!(rt; asked == wanted, "{line}");
+}
+
+/// The same, of a trace by the names of no option.
+fn asks(rt: &(impl Abort + AllocGlobal), line: &str, wanted: Asked) {
+    asks_by(rt, line, NAMED, wanted);
 }
 
 #[test]
@@ -153,31 +163,23 @@ fn runs(rt: HostRuntime) {
 #[test]
 fn traces_to_check(rt: HostRuntime) {
     let frames = Report::Frames;
-    let plain = Asked::Check(Source::Text, NAMED, false, 0, frames);
+    let plain = Asked::Check(Source::Text, false, 0, frames);
     asks(&rt, "check", plain);
     asks(&rt, "check --from text --as=frames --explain", plain);
-    let story = Asked::Check(Source::Text, NAMED, false, 0, Report::Story);
+    let story = Asked::Check(Source::Text, false, 0, Report::Story);
     asks(&rt, "check --as story", story);
-    let recorded = Asked::Check(Source::Vcd, NAMED, false, 0, frames);
+    let recorded = Asked::Check(Source::Vcd, false, 0, frames);
     asks(&rt, "check --from=vcd", recorded);
     asks(
         &rt,
         "check --from vcd --names ATN,CLOCK,DATA --from-time 0",
         recorded,
     );
-    let whole = Asked::Check(Source::Csv, ["D0", "a", "="], true, 1500, Report::Story);
-    asks(
-        &rt,
-        "check --from-time=1500 --invert --from csv --names D0,a,= --as story",
-        whole,
-    );
-    let late = Asked::Check(
-        Source::Vcd,
-        NAMED,
-        false,
-        18_446_744_073_709_551_615,
-        frames,
-    );
+    let whole = Asked::Check(Source::Csv, true, 1500, Report::Story);
+    let line = "check --from-time=1500 --invert --from csv --names D0,a,= --as story";
+    asks_by(&rt, line, ("D0", "a", "="), whole);
+    asks(&rt, line, Asked::OtherNames);
+    let late = Asked::Check(Source::Vcd, false, 18_446_744_073_709_551_615, frames);
     asks(
         &rt,
         "check --from vcd --from-time 18446744073709551615",
@@ -389,9 +391,9 @@ fn values_of_other_subcommands_are_not_told(rt: HostRuntime) {
 fn blanks_around_names(rt: HostRuntime) {
     let words = ["print1525", "check", "--from=csv", "--names", " a b, c ,d"];
     let asked = match read_job(rt.alloc(), &words) {
-        Ok(job) => asked_by(job),
+        Ok(job) => asked_by(job, ("a b", "c", "d")),
         Err(fault) => refused_by(fault),
     };
-    let wanted = Asked::Check(Source::Csv, ["a b", "c", "d"], false, 0, Report::Frames);
+    let wanted = Asked::Check(Source::Csv, false, 0, Report::Frames);
     assert!(rt; asked == wanted);
 }

@@ -110,12 +110,12 @@ fn reports(rt: HostRuntime) {
 #[test]
 fn signals(rt: HostRuntime) {
     let texts = [
-        ("ATN,CLOCK,DATA", Some(["ATN", "CLOCK", "DATA"])),
-        ("D0,D1,D2", Some(["D0", "D1", "D2"])),
-        ("ATN, CLOCK, DATA", Some(["ATN", "CLOCK", "DATA"])),
-        (" \ta b\n,\"c\",  d ", Some(["a b", "\"c\"", "d"])),
-        ("a,aa,a b", Some(["a", "aa", "a b"])),
-        ("ä,Ä,ä ä", Some(["ä", "Ä", "ä ä"])),
+        ("ATN,CLOCK,DATA", Some(("ATN", "CLOCK", "DATA"))),
+        ("D0,D1,D2", Some(("D0", "D1", "D2"))),
+        ("ATN, CLOCK, DATA", Some(("ATN", "CLOCK", "DATA"))),
+        (" \ta b\n,\"c\",  d ", Some(("a b", "\"c\"", "d"))),
+        ("a,aa,a b", Some(("a", "aa", "a b"))),
+        ("ä,Ä,ä ä", Some(("ä", "Ä", "ä ä"))),
         ("", None),
         (",", None),
         (",,", None),
@@ -139,7 +139,7 @@ fn signals(rt: HostRuntime) {
     for (text, wanted) in texts {
         for is_inverted in [false, true] {
             match (read_signals(text, is_inverted), wanted) {
-                (Some(found), Some([atn, clock, line])) => {
+                (Some(found), Some((atn, clock, line))) => {
                     assert!(rt; found.atn == atn.as_bytes(), "{text}");
                     assert!(rt; found.clock == clock.as_bytes(), "{text}");
                     assert!(rt; found.line == line.as_bytes(), "{text}");
