@@ -2,8 +2,8 @@
 use Rattle.std.proofs.Common.{◌≡◌, ℕ, zero, suc, ◌-◌, ◌<◌, List, [], ◌∷◌, length, get_or, drop, refl, ap, subst, sym, ◌∙◌, arith, true, drop-cons}
 use Rattle.pr_basic.specs.declared.lexemes.Lexeme as code
 use Rattle.pr_basic.specs.declared.lexemes.Lexeme.TheVariants as the
-use Rattle.pr_basic.specs.Lexemes.{Lexeme, is_space}
-use Rattle.pr_basic.specs.Lexing.{Front, after_part, first_isnt_space, front, here, later, lexemes_after, lexemes_of, part_of}
+use Rattle.pr_basic.specs.Lexemes.{Lexeme, NoSpace, is_space}
+use Rattle.pr_basic.specs.Lexing.{Front, after_part, front, here, later, lexemes_after, lexemes_of, part_of}
 use Rattle.pr_basic.specs.Seen.{seen}
 
 -- what is left of a lexeme is passed over
@@ -14,7 +14,7 @@ after_skip (suc n) [] = refl
 after_skip (suc n) (b ∷ bs) = after_skip n bs
 
 -- the first lexeme, and those of the bytes after it
-pub first_lexeme : (bs : List ℕ) → 0 < length bs → first_isnt_space bs → 0 < (front bs).1 → lexemes_of bs ≡ (front bs).0 ∷ lexemes_of (drop (front bs).1 bs)
+pub first_lexeme : (bs : List ℕ) → 0 < length bs → NoSpace bs → 0 < (front bs).1 → lexemes_of bs ≡ (front bs).0 ∷ lexemes_of (drop (front bs).1 bs)
 unfolding lexemes_after
 first_lexeme [] h s some = absurd (omega arith)
 first_lexeme (b ∷ bs) h s some =
@@ -46,7 +46,7 @@ part_goes_on the.CloseParen ls no_colon = (refl, refl)
 part_goes_on the.Stray ls no_colon = (refl, refl)
 
 -- the next lexeme
-pub lexemes_next : (orig bs : List ℕ) (l : code.Lexeme) (n : ℕ) → lexemes_of bs ≡ lexemes_of orig → 0 < length bs → first_isnt_space bs → (seen l, n) ≡ front bs → 0 < n → lexemes_of orig ≡ seen l ∷ lexemes_of (drop n bs)
+pub lexemes_next : (orig bs : List ℕ) (l : code.Lexeme) (n : ℕ) → lexemes_of bs ≡ lexemes_of orig → 0 < length bs → NoSpace bs → (seen l, n) ≡ front bs → 0 < n → lexemes_of orig ≡ seen l ∷ lexemes_of (drop n bs)
 lexemes_next orig bs l n same h s e some =
     let some' : 0 < (front bs).1 = let P : Front → Type 0 = λ f. 0 < f.1 in subst P e some in
     sym same ∙ (first_lexeme bs h s some' ∙ ap (λ (f : Front). f.0 ∷ lexemes_of (drop f.1 bs)) (sym e))

@@ -22,12 +22,12 @@ stray_front bytes after h =
     rw h.1 (one, h.2, omega arith)
 
 -- a lexeme is the front
-lexeme_front : (l : Lexeme) (bytes after : List ℕ) → IsLexeme l bytes after → IsFront l bytes after
+pub lexeme_front : (l : Lexeme) (bytes after : List ℕ) → IsLexeme l bytes after → IsFront l bytes after
 lexeme_front l bytes after (inl h) = spelled_front l bytes after h
 lexeme_front l bytes after (inr h) = rw h.0 (stray_front bytes after h.1)
 
 -- spaces in front are passed
-spaces_read : (sp bs : List ℕ) → list_all is_space sp ≡ true → lexemes_of (sp ++ bs) ≡ lexemes_of bs
+pub spaces_read : (sp bs : List ℕ) → list_all is_space sp ≡ true → lexemes_of (sp ++ bs) ≡ lexemes_of bs
 unfolding lexemes_after
 spaces_read [] bs h = refl
 spaces_read (s ∷ sp) bs h =
@@ -61,7 +61,7 @@ none_spelled b bs h l bytes rest e s =
     subst P same s
 
 -- what is found at the front is a lexeme
-front_lexeme : (b : ℕ) (bs : List ℕ) → is_space b ≡ false → IsLexeme (front (b ∷ bs)).0 (take (front (b ∷ bs)).1 (b ∷ bs)) (drop (front (b ∷ bs)).1 (b ∷ bs))
+pub front_lexeme : (b : ℕ) (bs : List ℕ) → is_space b ≡ false → IsLexeme (front (b ∷ bs)).0 (take (front (b ∷ bs)).1 (b ∷ bs)) (drop (front (b ∷ bs)).1 (b ∷ bs))
 front_lexeme b bs h = elim (front_spelled b bs).0 [
   | inl e ↦ inr (ap (λ (x : Front). x.0) e, rw e (b, refl, h, λ l bytes rest k s. none_spelled b bs e l bytes rest k s))
   | inr s ↦ inl s

@@ -1,3 +1,4 @@
+pub mod Places
 pub mod LexemeLaws
 pub mod LineLaws
 pub mod ListLaws
@@ -6,6 +7,8 @@ pub mod ScriptLaws
 pub mod Spelling
 pub mod Fronts
 pub mod LexemesAgree
+pub mod PlacesFound
+pub mod Spots
 pub mod Prefixes
 pub mod ListsAgree
 pub mod ListFaults
@@ -15,6 +18,8 @@ pub mod StatementFaultsRead
 pub mod ScriptsAgree
 pub mod ScriptFaults
 pub mod ReadScript
+pub mod LinesAt
+pub mod FaultsAlone
 pub mod PrintingLemmas
 pub mod EffectLemmas
 pub mod KeptLaw

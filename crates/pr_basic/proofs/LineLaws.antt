@@ -1,5 +1,5 @@
 -- Laws of the lines of a text.
-use Rattle.std.proofs.Common.{◌≡◌, ℕ, zero, suc, ◌-◌, ◌<◌, List, [], ◌∷◌, length, get_or, take, drop, refl, arith}
+use Rattle.std.proofs.Common.{◌≡◌, ℕ, zero, suc, ◌-◌, ◌<◌, ◌≤◌, List, [], ◌∷◌, length, get_or, take, drop, refl, arith}
 use Rattle.std.proofs.lemmas.Grind.{common_steps}
 use Rattle.pr_basic.specs.Grammar.{without_return}
 use Rattle.pr_text.specs.Lines.{lines_of}
@@ -45,3 +45,9 @@ return_none (b ∷ []) none = let ne : b ≡ 13 → ⊥ = none (omega arith) in 
 return_none (b ∷ c ∷ bs) none =
     let rest : without_return (c ∷ bs) ≡ c ∷ bs = return_none (c ∷ bs) (λ h e. none (omega arith) (grind (arith, common_steps))) in
     grind (arith, common_steps)
+
+-- a line without a byte 13 at its end is no longer
+pub return_within : (bs : List ℕ) → length (without_return bs) ≤ length bs
+return_within [] = omega arith
+return_within (b ∷ []) = grind (arith, common_steps)
+return_within (b ∷ c ∷ bs) = omega (arith, return_within (c ∷ bs))

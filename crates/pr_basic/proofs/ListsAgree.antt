@@ -1,53 +1,53 @@
 -- The lists that are read are those of the grammar.
-use Rattle.std.proofs.Common.{◌≡◌, ℕ, ◌+◌, ◌<◌, ◌≤◌, List, [], ◌∷◌, ◌++◌, length, refl, ap, sym, ◌∙◌, arith, Bool, true, false, append_assoc, append-nil, Result, Ok, Err, length-append}
+use Rattle.std.proofs.Common.{◌≡◌, ℕ, ◌+◌, ◌-◌, ◌<◌, ◌≤◌, List, [], ◌∷◌, ◌++◌, length, refl, ap, sym, ◌∙◌, arith, Bool, true, false, append_assoc, append-nil, Result, Ok, Err, length-append}
 use Rattle.std.specs.Prelude.{nat_le, nat_lt}
 use Rattle.std.specs.List.{list_all, prefix_len}
 use Rattle.std.proofs.lemmas.Grind.{common_steps}
 use Rattle.pr_basic.specs.Text.{Text}
 use Rattle.pr_basic.specs.Lexemes.{Lexeme, Word, Digits, Quoted, Semicolon, OpenParen, CloseParen}
 use Rattle.pr_basic.specs.Grammar.{Item, Semi, Quote, Code, AreItems, IsItem, ends_after, is_printable, item_bytes, item_lexemes, items_bytes, items_lexemes}
+use Rattle.pr_basic.specs.FaultRules.{within}
 use Rattle.pr_text.specs.Digits.{number_of}
 use Rattle.pr_basic.specs.Reading.{byte_added, line_in, string_added, ◌>>=◌}
 use Rattle.pr_basic.specs.declared.lexemes.Keyword.TheVariants as word
-use Rattle.pr_basic.specs.declared.fault.LineFault.{LineFault}
 use Rattle.pr_basic.specs.declared.fault.LineFault.TheVariants.{BadByte, TooLong}
 use Rattle.pr_basic.proofs.Prefixes.{all_prefix, prefix_all}
 
 -- what was bound gave both
-pub bind_ok : {A B : Type 0} (r : Result A LineFault) (f : A → Result B LineFault) (y : B) → (r >>= f) ≡ Ok y → (x : A) × (r ≡ Ok x) × (f x ≡ Ok y)
+pub bind_ok : {A B E : Type 0} (r : Result A E) (f : A → Result B E) (y : B) → (r >>= f) ≡ Ok y → (x : A) × (r ≡ Ok x) × (f x ≡ Ok y)
 bind_ok (Ok x) f y h = (x, refl, h)
 bind_ok (Err e) f y h = absurd (cc)
 
 -- a byte that is taken
-pub byte_in : (bytes more : List ℕ) (b : ℕ) → byte_added bytes b ≡ Ok more → (more ≡ bytes ++ b ∷ []) × (length more ≤ 255)
+pub byte_in : (at : List Lexeme) (bytes more : List ℕ) (b : ℕ) → byte_added at bytes b ≡ Ok more → (more ≡ bytes ++ b ∷ []) × (length more ≤ 255)
 unfolding byte_added
-byte_in bytes more b h = grind (arith, common_steps, length-append bytes (b ∷ []))
+byte_in at bytes more b h = grind (arith, common_steps, length-append bytes (b ∷ []))
 
 -- a byte that fits is taken
-pub byte_fits : (bytes : List ℕ) (b : ℕ) → length bytes < 255 → byte_added bytes b ≡ Ok (bytes ++ b ∷ [])
+pub byte_fits : (at : List Lexeme) (bytes : List ℕ) (b : ℕ) → length bytes < 255 → byte_added at bytes b ≡ Ok (bytes ++ b ∷ [])
 unfolding byte_added
-byte_fits bytes b h = grind (arith, common_steps)
+byte_fits at bytes b h = grind (arith, common_steps)
 
 -- a string that is taken
-pub string_parts : (bytes more s : List ℕ) → string_added bytes s ≡ Ok more → (more ≡ bytes ++ s) × (list_all is_printable s ≡ true) × (length more ≤ 255)
+pub string_parts : (at : List Lexeme) (bytes more s : List ℕ) → string_added at bytes s ≡ Ok more → (more ≡ bytes ++ s) × (list_all is_printable s ≡ true) × (length more ≤ 255)
 unfolding string_added
-string_parts bytes more s h = cases (nat_lt 255 (length bytes + prefix_len is_printable s)) refl (nat_lt (prefix_len is_printable s) (length s)) refl
+string_parts at bytes more s h = cases (nat_lt 255 (length bytes + prefix_len is_printable s)) refl (nat_lt (prefix_len is_printable s) (length s)) refl
   where
     cases : (t : Bool) → nat_lt 255 (length bytes + prefix_len is_printable s) ≡ t → (u : Bool) → nat_lt (prefix_len is_printable s) (length s) ≡ u
         → (more ≡ bytes ++ s) × (list_all is_printable s ≡ true) × (length more ≤ 255)
-    cases true e u f = let k : Err TooLong ≡ Ok more = sym (rw e refl) ∙ h in absurd (cc)
-    cases false e true f = let k : Err BadByte ≡ Ok more = sym (rw (e, f) refl) ∙ h in absurd (cc)
+    cases true e u f = let j : string_added at bytes s ≡ Err (TooLong, within at (1 + (255 - length bytes))) = rw e refl in absurd (cc)
+    cases false e true f = let j : string_added at bytes s ≡ Err (BadByte, within at (1 + prefix_len is_printable s)) = rw (e, f) refl in absurd (cc)
     cases false e false f =
-        let is : Ok (bytes ++ s) ≡ Ok more = sym (rw (e, f) refl) ∙ h in
+        let is : string_added at bytes s ≡ Ok (bytes ++ s) = rw (e, f) refl in
         let same : bytes ++ s ≡ more = grind arith in
         let all : length s ≤ prefix_len is_printable s = grind (arith, common_steps) in
         let few : length bytes + prefix_len is_printable s ≤ 255 = grind (arith, common_steps) in
         (sym same, all_prefix is_printable s all, omega (arith, ap length same, length-append bytes s, all, few))
 
 -- a string that fits is taken
-pub string_fits : (bytes s : List ℕ) → list_all is_printable s ≡ true → length bytes + length s ≤ 255 → string_added bytes s ≡ Ok (bytes ++ s)
+pub string_fits : (at : List Lexeme) (bytes s : List ℕ) → list_all is_printable s ≡ true → length bytes + length s ≤ 255 → string_added at bytes s ≡ Ok (bytes ++ s)
 unfolding string_added
-string_fits bytes s good h =
+string_fits at bytes s good h =
     let all : prefix_len is_printable s ≡ length s = prefix_all is_printable s good in
     let few : nat_lt 255 (length bytes + length s) ≡ false = grind (arith, common_steps) in
     let none : nat_lt (length s) (length s) ≡ false = grind (arith, common_steps) in
@@ -84,14 +84,14 @@ list_sound bytes ends [] line few h =
 list_sound bytes ends (Semicolon ∷ ls) line few h =
     after_item bytes bytes ends false Semi ls line tt (sym (append-nil bytes)) refl (λ is. refl) (list_sound bytes false ls line few h)
 list_sound bytes ends (Quoted s ∷ ls) line few h =
-    let x = bind_ok (string_added bytes s) (λ more. line_in more true ls) line h in
-    let k = string_parts bytes x.0 s x.1 in
+    let x = bind_ok (string_added (Quoted s ∷ ls) bytes s) (λ more. line_in more true ls) line h in
+    let k = string_parts _ bytes x.0 s x.1 in
     after_item bytes x.0 ends true (Quote s) ls line k.1 k.0 refl (λ is. refl) (list_sound x.0 true ls line k.2 x.2)
 list_sound bytes ends (Word word.Chr ∷ OpenParen ∷ Digits ds ∷ CloseParen ∷ ls) line few h =
     let small : number_of ds ≤ 255 = grind (arith, common_steps) in
-    let said : (byte_added bytes (number_of ds) >>= λ more. line_in more true ls) ≡ Ok line = grind (arith, common_steps) in
-    let x = bind_ok (byte_added bytes (number_of ds)) (λ more. line_in more true ls) line said in
-    let k = byte_in bytes x.0 (number_of ds) x.1 in
+    let said : (byte_added (Word word.Chr ∷ OpenParen ∷ Digits ds ∷ CloseParen ∷ ls) bytes (number_of ds) >>= λ more. line_in more true ls) ≡ Ok line = grind (arith, common_steps) in
+    let x = bind_ok (byte_added (Word word.Chr ∷ OpenParen ∷ Digits ds ∷ CloseParen ∷ ls) bytes (number_of ds)) (λ more. line_in more true ls) line said in
+    let k = byte_in _ bytes x.0 (number_of ds) x.1 in
     after_item bytes x.0 ends true (Code ds) ls line small k.0 refl (λ is. refl) (list_sound x.0 true ls line k.1 x.2)
 list_sound bytes ends (Word word.Chr ∷ OpenParen ∷ Digits ds ∷ ls) line few h = absurd (grind (arith, common_steps))
 list_sound bytes ends (Word word.Chr ∷ OpenParen ∷ ls) line few h = absurd (cc)
@@ -104,9 +104,9 @@ unfolding line_in
 list_complete bytes ends [] good few = rw append-nil refl
 list_complete bytes ends (Semi ∷ is) good few = list_complete bytes false is good.1 few
 list_complete bytes ends (Quote s ∷ is) good few =
-    let first : string_added bytes s ≡ Ok (bytes ++ s) = string_fits bytes s good.0 (omega (arith, length-append s (items_bytes is))) in
+    let first : string_added (Quoted s ∷ items_lexemes is) bytes s ≡ Ok (bytes ++ s) = string_fits _ bytes s good.0 (omega (arith, length-append s (items_bytes is))) in
     rw first (list_complete (bytes ++ s) true is good.1 (omega (arith, length-append s (items_bytes is), length-append bytes s)) ∙ rw append_assoc refl)
 list_complete bytes ends (Code ds ∷ is) good few =
-    let first : byte_added bytes (number_of ds) ≡ Ok (bytes ++ number_of ds ∷ []) = byte_fits bytes (number_of ds) (omega arith) in
+    let first : byte_added (Word word.Chr ∷ OpenParen ∷ Digits ds ∷ CloseParen ∷ items_lexemes is) bytes (number_of ds) ≡ Ok (bytes ++ number_of ds ∷ []) = byte_fits _ bytes (number_of ds) (omega arith) in
     let small : nat_le (number_of ds) 255 ≡ true = grind (arith, common_steps, good.0) in
     rw (small, first) (list_complete (bytes ++ number_of ds ∷ []) true is good.1 (omega (arith, length-append bytes (number_of ds ∷ []))) ∙ rw append_assoc refl)

@@ -7,9 +7,9 @@ use Rattle.std.specs.Char.{to_ascii_lowercase}
 use Rattle.std.proofs.lemmas.Grind.{common_steps}
 use Rattle.std.proofs.lemmas.List.{map-append, take-map, length-map, take_all}
 use Rattle.std.proofs.Math.Seq.{take-append_seam}
-use Rattle.pr_basic.specs.Lexemes.{Lexeme, Word, Remark, Digits, Quoted, Comma, Semicolon, Colon, OpenParen, CloseParen, Stray, is_no_quote, Spells, IsWord, NoDigit, NoHash}
+use Rattle.pr_basic.specs.Lexemes.{Lexeme, Word, Remark, Digits, Quoted, Comma, Semicolon, Colon, OpenParen, CloseParen, Stray, is_no_quote, Spells, IsWord, NoDigit, NoHash, NoSpace}
 use Rattle.pr_text.specs.Digits.{is_digit}
-use Rattle.pr_basic.specs.Lexing.{begins, first_isnt_space, front, text_front, word_front}
+use Rattle.pr_basic.specs.Lexing.{begins, front, text_front, word_front}
 use Rattle.pr_basic.specs.declared.lexemes.Keyword.TheVariants as word
 
 -- how a test for a word computes where another word's letters stand
@@ -28,7 +28,7 @@ front_letter a bs h = grind (arith, common_steps)
 
 -- a token's front
 abbrev pub IsFront : Lexeme → List ℕ → List ℕ → Type 0
-IsFront t bytes after = (front (bytes ++ after) ≡ (t, length bytes)) × first_isnt_space (bytes ++ after) × (0 < length bytes)
+IsFront t bytes after = (front (bytes ++ after) ≡ (t, length bytes)) × NoSpace (bytes ++ after) × (0 < length bytes)
 
 -- a word that is found is the front
 word_token : (t : Lexeme) (bs rest : List ℕ) (w : ℕ) (ws : List ℕ) → map to_ascii_lowercase bs ≡ w ∷ ws → 97 ≤ w → word_front (bs ++ rest) ≡ (t, length (w ∷ ws)) → IsFront t bs rest

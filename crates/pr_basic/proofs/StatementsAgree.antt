@@ -5,7 +5,7 @@ use Rattle.pr_basic.specs.Text.{Text}
 use Rattle.pr_basic.specs.Lexemes.{Lexeme, Word, Remark, Digits, Comma}
 use Rattle.pr_basic.specs.Grammar.{IsList, IsNumber, IsPrinting, IsStatement}
 use Rattle.pr_text.specs.Digits.{number_of}
-use Rattle.pr_basic.specs.Faults.{Lacks}
+use Rattle.pr_basic.specs.FaultRules.{Lacks, Placed}
 use Rattle.pr_basic.specs.Reading.{close_in, cmd_in, comma_in, ended, line_in, number_in, open_in, optional_line_in, print_in, print_to_in, second_in, statement_in, ◌>>=◌}
 use Rattle.pr_basic.specs.declared.lexemes.Keyword.{Keyword}
 use Rattle.pr_basic.specs.declared.lexemes.Keyword.TheVariants as word
@@ -50,7 +50,7 @@ pub second_parts : (ls : List Lexeme) (o : Option ℕ) (rest : List Lexeme) → 
     → ((None ≡ o) × (ls ≡ rest) × Lacks Comma ls) ⊎ ((d : List ℕ) × (n : ℕ) × (ls ≡ Comma ∷ Digits d ∷ rest) × IsNumber 0 15 n d × (Some n ≡ o))
 unfolding second_in
 second_parts (Comma ∷ ls) o rest h =
-    let said : (second : ℕ × List Lexeme) → Result (Option ℕ × List Lexeme) LineFault = λ second. Ok (Some second.0, second.1) in
+    let said : (second : ℕ × List Lexeme) → Result (Option ℕ × List Lexeme) Placed = λ second. Ok (Some second.0, second.1) in
     let x = bind_ok (number_in 0 15 BadSecond BadSecond ls) said (o, rest) h in
     let n = number_parts 0 15 BadSecond BadSecond ls x.0.0 x.0.1 x.1 in
     let some : Some x.0.0 ≡ o = let j = x.2 in grind arith in
@@ -157,12 +157,12 @@ print_sound ls s h =
     subst P e (ls, refl, list_of ls x.0 x.1)
 
 -- a statement that was read
-some_of : (r : Result Statement LineFault) (s : Statement) → (r >>= λ t. Ok (Some t)) ≡ Ok (Some s) → r ≡ Ok s
+some_of : (r : Result Statement Placed) (s : Statement) → (r >>= λ t. Ok (Some t)) ≡ Ok (Some s) → r ≡ Ok s
 some_of (Ok t) s h = let e : t ≡ s = grind arith in ap Ok e
 some_of (Err f) s h = absurd (cc)
 
 -- a statement is not none
-none_of : (r : Result Statement LineFault) → (r >>= λ t. Ok (Some t)) ≡ Ok None → ⊥
+none_of : (r : Result Statement Placed) → (r >>= λ t. Ok (Some t)) ≡ Ok None → ⊥
 none_of (Ok t) h = absurd (cc)
 none_of (Err f) h = absurd (cc)
 

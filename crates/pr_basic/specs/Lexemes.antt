@@ -50,6 +50,11 @@ abbrev pub NoHash : List ℕ → Type 0
 NoHash [] = Unit {0}
 NoHash (b ∷ bs) = b ≡ 35 → ⊥
 
+-- no space stands at the front
+abbrev pub NoSpace : List ℕ → Type 0
+NoSpace [] = Unit {0}
+NoSpace (b ∷ bs) = is_space b ≡ false
+
 -- bytes spell a lexeme, with the line's bytes after them: PRINT has no `#` behind it, digits go on as far as they can, a string ends with its quote or with the line, a remark with the line
 abbrev pub Spells : Lexeme → List ℕ → List ℕ → Type 0
 Spells (Word Print) bytes after = IsWord (letters_of Print) bytes × NoHash after

@@ -1,5 +1,5 @@
 -- Linking words: the lexemes of a line, one after another as the reader takes them. The laws of the crate tie them to the grammar's own words. No reader needs to believe them.
-use Rattle.std.specs.Prelude.{◌≡◌, ℕ, zero, suc, ◌+◌, ◌-◌, ◌==◌, Bool, false, List, [], ◌∷◌, length, take, map, codes, nat_lt, if◌then◌else◌}
+use Rattle.std.specs.Prelude.{◌≡◌, ℕ, zero, suc, ◌+◌, ◌-◌, ◌==◌, Bool, List, [], ◌∷◌, ◌++◌, length, take, drop, map, codes, nat_lt, if◌then◌else◌}
 use Rattle.std.specs.List.{prefix_len}
 use Rattle.std.specs.Str.{bytes_eq}
 use Rattle.std.specs.Char.{to_ascii_lowercase}
@@ -76,7 +76,22 @@ here bs = part_of (lexemes_of bs)
 abbrev pub later : List ℕ → List Lexeme
 later bs = after_part (lexemes_of bs)
 
--- no space stands first
-abbrev pub first_isnt_space : List ℕ → Type 0
-first_isnt_space [] = Unit {0}
-first_isnt_space (b ∷ bs) = is_space b ≡ false
+-- the bytes from the first one on that is no space
+unfoldable pub unspaced : List ℕ → List ℕ
+unspaced [] = []
+unspaced (b ∷ bs) = if is_space b then unspaced bs else b ∷ bs
+
+-- the bytes after the first lexeme
+abbrev pub after_first : List ℕ → List ℕ
+after_first bs = drop (front (unspaced bs)).1 (unspaced bs)
+
+-- the bytes after so many lexemes
+unfoldable pub past : ℕ → List ℕ → List ℕ
+past zero bs = bs
+past (suc n) bs = past n (after_first bs)
+
+-- the bytes left after some lexemes of the part at the front, which they go on
+pub record IsRest (rest bytes : List ℕ) : Type 0 where
+  pub gone : List Lexeme
+  pub is : rest ≡ past (length gone) bytes
+  pub goes_on : here bytes ≡ gone ++ here rest

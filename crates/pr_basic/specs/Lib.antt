@@ -7,7 +7,12 @@ pub mod StatementLaws
 pub mod Performing
 pub mod Lexemes
 pub mod Grammar
+pub mod FaultRules
+pub mod FaultPlaces
 pub mod Faults
+pub mod FaultsAlone
+pub mod LineAt
+pub mod FaultLaws
 pub mod Lexing
 pub mod Reading
 pub mod ReadingScripts

@@ -1,9 +1,8 @@
 //! Why a script is refused.
 
 ghost use Rattle.std.specs.Prelude.{◌≡◌};
-ghost use Rattle.pr_basic.specs.Faults.{at_number};
+ghost use Rattle.pr_basic.specs.FaultPlaces.{at_number};
 
-use std::alloc::{AllocError, AllocFailed};
 use thiserror::Error;
 
 /// The first fault of a script from the left, with the number of its line, counted from 1; or
@@ -38,6 +37,16 @@ pub enum ScriptFault {
     NoMemory,
 }
 
+/// The first fault of a script, and where it stands.
+#[derive(Clone, Copy, Debug, PartialEq, Eq, Error)]
+#[error("{fault}")]
+pub struct FaultAt {
+    /// The fault, with the number of its line.
+    pub fault: ScriptFault,
+    /// How many bytes of the text stand before it; 0 where memory was refused.
+    pub place: usize,
+}
+
 /// The first fault of a line.
 #[derive(Clone, Copy, Debug, PartialEq, Eq)]
 pub enum LineFault {
@@ -49,6 +58,16 @@ pub enum LineFault {
     TooLong,
     TooMany,
     NoMemory,
+}
+
+/// The first fault of a line, and where it stands.
+#[derive(Clone, Copy, Debug)]
+pub struct Flaw<'a> {
+    pub fault: LineFault,
+    /// The bytes of the line that were left to read there, with the spaces before the place.
+    pub rest: &'a [u8],
+    /// How many bytes of the next lexeme stand before the place, inside a string.
+    pub inside: usize,
 }
 
 impl LineFault {
@@ -67,25 +86,23 @@ impl LineFault {
             LineFault::NoMemory => ScriptFault::NoMemory,
         }
     }
-}
 
-impl<T: Drop> From<AllocFailed<T>> for LineFault {
-    ghost use Rattle.pr_basic.specs.declared.fault.LineFault.TheVariants.{NoMemory};
-
-    ghost from_gives = { λ _ e. e ≡ NoMemory };
-
-    fn from(_e: AllocFailed<T>) -> LineFault {
-        LineFault::NoMemory
+    /// The fault behind so many bytes of the first lexeme of these bytes, which were left to read.
+    pub fn inside(self, rest: &[u8], inside: usize) -> Flaw<'_>
+        ensures { (result.fault ≡ self) × (result.rest.now ≡ rest.now) × (result.inside ≡ inside) }
+    {
+        Flaw {
+            fault: self,
+            rest,
+            inside,
+        }
     }
-}
 
-impl From<AllocError> for LineFault {
-    ghost use Rattle.pr_basic.specs.declared.fault.LineFault.TheVariants.{NoMemory};
-
-    ghost from_gives = { λ _ e. e ≡ NoMemory };
-
-    fn from(_e: AllocError) -> LineFault {
-        LineFault::NoMemory
+    /// The fault at the first of these bytes that is no space, which were left to read.
+    pub fn before(self, rest: &[u8]) -> Flaw<'_>
+        ensures { (result.fault ≡ self) × (result.rest.now ≡ rest.now) × (result.inside ≡ 0) }
+    {
+        self.inside(rest, 0)
     }
 }
 

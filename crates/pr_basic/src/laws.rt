@@ -1,6 +1,7 @@
 //! Laws of the definitions, with nothing to run. A caller whose proof needs one calls the function.
 
 ghost use Rattle.pr_basic.specs.StatementLaws.{StopsExactly, StatusExactly, StatusFoundNext, SentAfterEarlier};
+ghost use Rattle.pr_basic.specs.FaultLaws.{PlacesChangeNoFault};
 
 use pr_serial::laws::{answers_add_up, elements_send_items};
 
@@ -32,3 +33,9 @@ pub fn statements_send_their_items()
 {
     elements_send_items();
 }
+
+/// A law: the table of faults with their places is the table without them: a text has a first fault
+/// at some place exactly where it has it by the same rules, of which none speaks of places.
+pub fn places_change_no_fault()
+    ensures { PlacesChangeNoFault }
+{}

@@ -1,10 +1,10 @@
 //! The lexemes of a line.
 
-ghost use Rattle.std.specs.Prelude.{◌≡◌, ◌∷◌, [], ◌<◌, ◌≤◌, ◌+◌, length, map, MatchOption, IsTrue};
+ghost use Rattle.std.specs.Prelude.{◌≡◌, ◌∷◌, [], ◌<◌, ◌≤◌, ◌+◌, length, map, suc, IfSome, MatchOption, IsTrue};
 ghost use Rattle.std.specs.List.{prefix_len};
-ghost use Rattle.pr_basic.specs.Lexemes.{is_no_quote, is_space};
+ghost use Rattle.pr_basic.specs.Lexemes.{NoSpace, is_no_quote, is_space};
 ghost use Rattle.pr_text.specs.Digits.{is_digit};
-ghost use Rattle.pr_basic.specs.Lexing.{begins, first_isnt_space, front, here, later, lexemes_of, text_front, word_front};
+ghost use Rattle.pr_basic.specs.Lexing.{IsRest, after_first, begins, front, here, later, lexemes_of, past, text_front, unspaced, word_front};
 ghost use Rattle.std.specs.Char.{to_ascii_lowercase};
 ghost use Rattle.pr_basic.specs.Seen.{seen};
 
@@ -37,7 +37,7 @@ pub enum Lexeme<'a> {
 }
 
 /// A space or a tab.
-fn is_space(b: u8) -> bool
+pub fn is_space(b: u8) -> bool
     ensures { result ≡ is_space b }
 {
     b == b' ' || b == b'\t'
@@ -112,7 +112,7 @@ fn word_front(bytes: &[u8]) -> (Lexeme<'_>, usize)
 
 /// The lexeme in front of some bytes, and how many bytes it has.
 #[tactic(auto, unfolding(crate::specs::Lexing::front))]
-fn front(bytes: &[u8]) -> (Lexeme<'_>, usize)
+pub fn front(bytes: &[u8]) -> (Lexeme<'_>, usize)
     requires { 0 < length bytes.now }
     ensures lexeme { (seen result.0, result.1) ≡ front bytes.now }
     ensures within { result.1 ≤ length bytes.now }
@@ -136,8 +136,9 @@ fn front(bytes: &[u8]) -> (Lexeme<'_>, usize)
 
 /// The next lexeme, and the bytes after it. None where only spaces are left.
 pub fn next_lexeme(bytes: &[u8]) -> Option<(Lexeme<'_>, &[u8])>
-    ensures { MatchOption result (lexemes_of bytes.now ≡ [])
+    ensures next { MatchOption result (lexemes_of bytes.now ≡ [])
         (λ r. (lexemes_of bytes.now ≡ seen r.0 ∷ lexemes_of r.1.now) × (length r.1.now < length bytes.now)) }
+    ensures rest { IfSome result (λ r. r.1.now ≡ after_first bytes.now) }
 {
     let bytes = after_spaces(bytes);
     if bytes.is_empty() {
@@ -149,8 +150,9 @@ pub fn next_lexeme(bytes: &[u8]) -> Option<(Lexeme<'_>, &[u8])>
 
 /// The next lexeme of the statement at the front, and the bytes after it. None at its end.
 pub fn next_in_part(bytes: &[u8]) -> Option<(Lexeme<'_>, &[u8])>
-    ensures { MatchOption result (here bytes.now ≡ [])
+    ensures next { MatchOption result (here bytes.now ≡ [])
         (λ r. (here bytes.now ≡ seen r.0 ∷ here r.1.now) × (later bytes.now ≡ later r.1.now) × (length r.1.now < length bytes.now)) }
+    ensures rest { IfSome result (λ r. IsRest r.1.now bytes.now) }
 {
     let Some((lexeme, rest)) = next_lexeme(bytes) else {
         return None;
@@ -163,8 +165,9 @@ pub fn next_in_part(bytes: &[u8]) -> Option<(Lexeme<'_>, &[u8])>
 
 /// The bytes after the colon that ends the statement at the front, if one does.
 pub fn after_colon(bytes: &[u8]) -> Option<&[u8]>
-    ensures { MatchOption result (later bytes.now ≡ [])
+    ensures later { MatchOption result (later bytes.now ≡ [])
         (λ rest. (later bytes.now ≡ lexemes_of rest.now) × (length rest.now < length bytes.now)) }
+    ensures rest { IfSome result (λ rest. rest.now ≡ past (suc (length (here bytes.now))) bytes.now) }
 {
     let mut rest = bytes;
     while let Some((lexeme, more)) = next_lexeme(rest) {
@@ -177,9 +180,10 @@ pub fn after_colon(bytes: &[u8]) -> Option<&[u8]>
 }
 
 /// The bytes from the first one on that is not a space.
-fn after_spaces(bytes: &[u8]) -> &[u8]
+pub fn after_spaces(bytes: &[u8]) -> &[u8]
     ensures lexemes { lexemes_of result.now ≡ lexemes_of bytes.now }
-    ensures first { first_isnt_space result.now }
+    ensures first { NoSpace result.now }
+    ensures passed { result.now ≡ unspaced bytes.now }
     ensures within { length result.now ≤ length bytes.now }
 {
     for (i, b) in bytes.iter().enumerate() {

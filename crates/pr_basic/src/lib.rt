@@ -14,13 +14,17 @@ mod lexemes;
 mod lists;
 mod numbers;
 mod performing;
+mod place;
 mod reader;
 mod script;
 mod session;
 mod statement;
 
-pub use fault::ScriptFault;
+pub use fault::{FaultAt, ScriptFault};
 pub use performing::perform;
-pub use script::{STATEMENT_LIMIT, each_text_is_a_script_or_has_one_fault, read_script};
+pub use place::{LineAt, basic_number, faults_tell_their_line, lexeme_at, line_at};
+pub use script::{
+    STATEMENT_LIMIT, each_text_is_a_script_or_has_one_fault, read_script, read_script_at,
+};
 pub use session::{Session, StatusMode};
 pub use statement::{Device, Line, Second, Statement, number_of_second};

@@ -1,12 +1,12 @@
 //! Numbers and commas of a statement.
 
-ghost use Rattle.std.specs.Prelude.{◌≡◌, ◌<◌, ◌≤◌, min, length, IfOk};
+ghost use Rattle.std.specs.Prelude.{◌≡◌, ◌<◌, ◌≤◌, min, length, IfOk, MatchResult};
 ghost use Rattle.pr_text.specs.Digits.{number_of};
-ghost use Rattle.pr_basic.specs.Lexing.{here, later};
+ghost use Rattle.pr_basic.specs.Lexing.{IsRest, here, later};
 ghost use Rattle.pr_basic.specs.Reading.{comma_in, number_in};
-ghost use Rattle.pr_basic.specs.Reads.{Passes, Reads};
+ghost use Rattle.pr_basic.specs.Reads.{Passes, Reads, ReadsOn};
 
-use crate::fault::LineFault;
+use crate::fault::{Flaw, LineFault};
 use crate::lexemes::{Lexeme, next_in_part};
 
 /// Larger numbers count as this one, which is above every bound.
@@ -25,38 +25,40 @@ pub fn value_of(digits: &[u8]) -> u32
 
 /// A number within bounds at the front, and the bytes after it; the faults of a missing number
 /// and of one outside the bounds are the caller's.
-#[tactic(auto, unfolding(crate::specs::Reading::number_in))]
+#[tactic(auto, using(crate::proofs::Places::rest_same), unfolding(crate::specs::Reading::number_in))]
 pub fn number(
     bytes: &[u8],
     low: u32,
     high: u32,
     missing: LineFault,
     outside: LineFault,
-) -> Result<(u32, &[u8]), LineFault>
+) -> Result<(u32, &[u8]), Flaw<'_>>
     requires { high < 100000 }
     ensures reads { Reads result (number_in low high missing outside (here bytes.now)) (later bytes.now) }
     ensures low { IfOk result (λ p. low ≤ p.0) }
     ensures high { IfOk result (λ p. p.0 ≤ high) }
     ensures shorter { IfOk result (λ p. length p.1.now ≤ length bytes.now) }
+    ensures on { ReadsOn result bytes.now }
 {
     let Some((Lexeme::Digits(digits), rest)) = next_in_part(bytes) else {
-        return Err(missing);
+        return Err(missing.before(bytes));
     };
     let n = value_of(digits);
     if n < low || n > high {
-        return Err(outside);
+        return Err(outside.before(bytes));
     }
     Ok((n, rest))
 }
 
 /// The bytes after a comma at the front.
-#[tactic(auto, unfolding(crate::specs::Reading::comma_in))]
-pub fn comma(bytes: &[u8], missing: LineFault) -> Result<&[u8], LineFault>
+#[tactic(auto, using(crate::proofs::Places::rest_same), unfolding(crate::specs::Reading::comma_in))]
+pub fn comma(bytes: &[u8], missing: LineFault) -> Result<&[u8], Flaw<'_>>
     ensures reads { Passes result (comma_in missing (here bytes.now)) (later bytes.now) }
     ensures shorter { IfOk result (λ rest. length rest.now ≤ length bytes.now) }
+    ensures on { MatchResult result (λ rest. IsRest rest.now bytes.now) (λ e. IsRest e.rest.now bytes.now) }
 {
     match next_in_part(bytes) {
         Some((Lexeme::Comma, rest)) => Ok(rest),
-        _ => Err(missing),
+        _ => Err(missing.before(bytes)),
     }
 }

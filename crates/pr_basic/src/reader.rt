@@ -3,9 +3,9 @@
 ghost use Rattle.std.specs.Prelude.{◌≡◌, ◌<◌, ◌≤◌, length, IfOk, IfSome, Some};
 ghost use Rattle.pr_basic.specs.Lexing.{here, later};
 ghost use Rattle.pr_basic.specs.Reading.{close_in, cmd_in, ended, number_in, open_in, optional_line_in, print_in, print_to_in, second_in, statement_in};
-ghost use Rattle.pr_basic.specs.Reads.{Reads, ReadsAll, ReadsLine, ReadsStatement};
+ghost use Rattle.pr_basic.specs.Reads.{Reads, ReadsAll, ReadsLine, ReadsOn, ReadsStatement};
 
-use crate::fault::LineFault;
+use crate::fault::{Flaw, LineFault};
 use crate::lexemes::{Keyword, Lexeme, next_in_part};
 use crate::lists::{list, no_line};
 use crate::numbers::{comma, number};
@@ -13,32 +13,35 @@ use crate::statement::{Device, Line, Second, Statement};
 use std::alloc::Global;
 
 /// A file number at the front, and the bytes after it.
-fn file_number(bytes: &[u8]) -> Result<(u8, &[u8]), LineFault>
+fn file_number(bytes: &[u8]) -> Result<(u8, &[u8]), Flaw<'_>>
     ensures reads { Reads result (number_in 0 255 LineFault.BadNumber LineFault.BadNumber (here bytes.now)) (later bytes.now) }
     ensures shorter { IfOk result (λ p. length p.1.now ≤ length bytes.now) }
+    ensures on { ReadsOn result bytes.now }
 {
     let (file, rest) = number(bytes, 0, 255, LineFault::BadNumber, LineFault::BadNumber)?;
     Ok((file as u8, rest))
 }
 
 /// The statement, if nothing more stands in its part.
-#[tactic(auto, unfolding(crate::specs::Reading::ended))]
-fn at_end(statement: Statement, bytes: &[u8]) -> Result<(Statement, &[u8]), LineFault>
+#[tactic(auto, using(crate::proofs::Places::rest_on, crate::proofs::Places::rest_same), unfolding(crate::specs::Reading::ended))]
+fn at_end(statement: Statement, bytes: &[u8]) -> Result<(Statement, &[u8]), Flaw<'_>>
     ensures reads { ReadsAll result (ended statement (here bytes.now)) (later bytes.now) }
     ensures shorter { IfOk result (λ p. length p.1.now ≤ length bytes.now) }
+    ensures on { ReadsOn result bytes.now }
 {
     match next_in_part(bytes) {
         None => Ok((statement, bytes)),
-        Some(_) => Err(LineFault::UnknownWord),
+        Some(_) => Err(LineFault::UnknownWord.before(bytes)),
     }
 }
 
 /// What follows the device of an OPEN: perhaps a comma and a secondary address.
-#[tactic(auto, unfolding(crate::specs::Reading::second_in))]
-fn optional_second(bytes: &[u8]) -> Result<(Option<u8>, &[u8]), LineFault>
+#[tactic(auto, using(crate::proofs::Places::rest_on, crate::proofs::Places::rest_same), unfolding(crate::specs::Reading::second_in))]
+fn optional_second(bytes: &[u8]) -> Result<(Option<u8>, &[u8]), Flaw<'_>>
     ensures reads { Reads result (second_in (here bytes.now)) (later bytes.now) }
     ensures small { IfOk result (λ p. IfSome p.0 (λ second. second ≤ 15)) }
     ensures shorter { IfOk result (λ p. length p.1.now ≤ length bytes.now) }
+    ensures on { ReadsOn result bytes.now }
 {
     match next_in_part(bytes) {
         Some((Lexeme::Comma, rest)) => {
@@ -69,10 +72,11 @@ fn opened(file: u8, device: u8, second: Option<u8>) -> Option<Statement>
 }
 
 /// What follows OPEN.
-#[tactic(auto, unfolding(crate::specs::Reading::open_in))]
-fn open(bytes: &[u8]) -> Result<(Statement, &[u8]), LineFault>
+#[tactic(auto, using(crate::proofs::Places::reads_on, crate::proofs::Places::rest_on, crate::proofs::Places::rest_same), unfolding(crate::specs::Reading::open_in))]
+fn open(bytes: &[u8]) -> Result<(Statement, &[u8]), Flaw<'_>>
     ensures reads { ReadsAll result (open_in (here bytes.now)) (later bytes.now) }
     ensures shorter { IfOk result (λ p. length p.1.now ≤ length bytes.now) }
+    ensures on { ReadsOn result bytes.now }
 {
     let (file, rest) = file_number(bytes)?;
     let rest = comma(rest, LineFault::BadDevice)?;
@@ -80,43 +84,46 @@ fn open(bytes: &[u8]) -> Result<(Statement, &[u8]), LineFault>
     let (second, rest) = optional_second(rest)?;
     match opened(file, device as u8, second) {
         Some(statement) => at_end(statement, rest),
-        None => Err(LineFault::BadDevice),
+        None => Err(LineFault::BadDevice.before(rest)),
     }
 }
 
 /// What follows CLOSE.
-#[tactic(auto, unfolding(crate::specs::Reading::close_in))]
-fn close(bytes: &[u8]) -> Result<(Statement, &[u8]), LineFault>
+#[tactic(auto, using(crate::proofs::Places::rest_on, crate::proofs::Places::rest_same), unfolding(crate::specs::Reading::close_in))]
+fn close(bytes: &[u8]) -> Result<(Statement, &[u8]), Flaw<'_>>
     ensures reads { ReadsAll result (close_in (here bytes.now)) (later bytes.now) }
     ensures shorter { IfOk result (λ p. length p.1.now ≤ length bytes.now) }
+    ensures on { ReadsOn result bytes.now }
 {
     let (file, rest) = file_number(bytes)?;
     at_end(Statement::CloseFile { file }, rest)
 }
 
 /// What follows the file of a CMD or a PRINT#: perhaps a comma and a list that is not empty.
-#[tactic(auto, unfolding(crate::specs::Reading::optional_line_in))]
-fn optional_line(alloc: Global, bytes: &[u8]) -> Result<(Line, &[u8]), LineFault>
+#[tactic(auto, using(crate::proofs::Places::rest_on, crate::proofs::Places::rest_same), unfolding(crate::specs::Reading::optional_line_in))]
+fn optional_line(alloc: Global, bytes: &[u8]) -> Result<(Line, &[u8]), Flaw<'_>>
     ensures reads { ReadsLine result (optional_line_in (here bytes.now)) (later bytes.now) }
     ensures shorter { IfOk result (λ p. length p.1.now ≤ length bytes.now) }
+    ensures on { ReadsOn result bytes.now }
 {
     match next_in_part(bytes) {
         None => Ok((no_line(alloc), bytes)),
         Some((Lexeme::Comma, rest)) => {
             if next_in_part(rest).is_none() {
-                return Err(LineFault::UnknownWord);
+                return Err(LineFault::UnknownWord.before(rest));
             }
             list(no_line(alloc), rest)
         }
-        _ => Err(LineFault::UnknownWord),
+        _ => Err(LineFault::UnknownWord.before(bytes)),
     }
 }
 
 /// What follows CMD.
-#[tactic(auto, unfolding(crate::specs::Reading::cmd_in))]
-fn cmd(alloc: Global, bytes: &[u8]) -> Result<(Statement, &[u8]), LineFault>
+#[tactic(auto, using(crate::proofs::Places::rest_on, crate::proofs::Places::rest_same), unfolding(crate::specs::Reading::cmd_in))]
+fn cmd(alloc: Global, bytes: &[u8]) -> Result<(Statement, &[u8]), Flaw<'_>>
     ensures reads { ReadsStatement result (cmd_in (here bytes.now)) (later bytes.now) }
     ensures shorter { IfOk result (λ p. length p.1.now ≤ length bytes.now) }
+    ensures on { ReadsOn result bytes.now }
 {
     let (file, rest) = file_number(bytes)?;
     let (line, rest) = optional_line(alloc, rest)?;
@@ -124,10 +131,11 @@ fn cmd(alloc: Global, bytes: &[u8]) -> Result<(Statement, &[u8]), LineFault>
 }
 
 /// What follows PRINT#.
-#[tactic(auto, unfolding(crate::specs::Reading::print_to_in))]
-fn print_to(alloc: Global, bytes: &[u8]) -> Result<(Statement, &[u8]), LineFault>
+#[tactic(auto, using(crate::proofs::Places::rest_on, crate::proofs::Places::rest_same), unfolding(crate::specs::Reading::print_to_in))]
+fn print_to(alloc: Global, bytes: &[u8]) -> Result<(Statement, &[u8]), Flaw<'_>>
     ensures reads { ReadsStatement result (print_to_in (here bytes.now)) (later bytes.now) }
     ensures shorter { IfOk result (λ p. length p.1.now ≤ length bytes.now) }
+    ensures on { ReadsOn result bytes.now }
 {
     let (file, rest) = file_number(bytes)?;
     let (line, rest) = optional_line(alloc, rest)?;
@@ -135,20 +143,22 @@ fn print_to(alloc: Global, bytes: &[u8]) -> Result<(Statement, &[u8]), LineFault
 }
 
 /// What follows PRINT.
-#[tactic(auto, unfolding(crate::specs::Reading::print_in))]
-fn print(alloc: Global, bytes: &[u8]) -> Result<(Statement, &[u8]), LineFault>
+#[tactic(auto, using(crate::proofs::Places::rest_on, crate::proofs::Places::rest_same), unfolding(crate::specs::Reading::print_in))]
+fn print(alloc: Global, bytes: &[u8]) -> Result<(Statement, &[u8]), Flaw<'_>>
     ensures reads { ReadsStatement result (print_in (here bytes.now)) (later bytes.now) }
     ensures shorter { IfOk result (λ p. length p.1.now ≤ length bytes.now) }
+    ensures on { ReadsOn result bytes.now }
 {
     let (line, rest) = list(no_line(alloc), bytes)?;
     Ok((Statement::Print { line }, rest))
 }
 
 /// The statement of the part in front, if it has one, and the bytes that are left of the part.
-#[tactic(auto, unfolding(crate::specs::Reading::statement_in))]
-pub fn read_statement(alloc: Global, bytes: &[u8]) -> Result<(Option<Statement>, &[u8]), LineFault>
+#[tactic(auto, using(crate::proofs::Places::rest_on, crate::proofs::Places::rest_same), unfolding(crate::specs::Reading::statement_in))]
+pub fn read_statement(alloc: Global, bytes: &[u8]) -> Result<(Option<Statement>, &[u8]), Flaw<'_>>
     ensures reads { ReadsStatement result (statement_in (here bytes.now)) (later bytes.now) }
     ensures shorter { IfOk result (λ p. length p.1.now ≤ length bytes.now) }
+    ensures on { ReadsOn result bytes.now }
 {
     let Some((lexeme, rest)) = next_in_part(bytes) else {
         return Ok((None, bytes));
@@ -160,7 +170,7 @@ pub fn read_statement(alloc: Global, bytes: &[u8]) -> Result<(Option<Statement>,
         Lexeme::Word(Keyword::Cmd) => cmd(alloc, rest)?,
         Lexeme::Word(Keyword::PrintTo) => print_to(alloc, rest)?,
         Lexeme::Word(Keyword::Print) => print(alloc, rest)?,
-        _ => return Err(LineFault::UnknownWord),
+        _ => return Err(LineFault::UnknownWord.before(bytes)),
     };
     Ok((Some(statement), rest))
 }

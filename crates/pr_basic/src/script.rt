@@ -1,16 +1,18 @@
 //! Whole scripts.
 
-ghost use Rattle.std.specs.Prelude.{◌≡◌, ℕ, List, ◌∷◌, ◌++◌, [], ◌-◌, ◌<◌, ◌≤◌, ◌⊎◌, length, Ok, Err, IfErr, IfOk, IfSome, MatchResult, OnOk};
+ghost use Rattle.std.specs.Prelude.{◌≡◌, ℕ, suc, List, ◌∷◌, ◌++◌, [], ◌+◌, ◌-◌, ◌<◌, ◌≤◌, ◌⊎◌, length, Ok, Err, IfErr, IfOk, IfSome, MatchResult, OnOk};
 ghost use Rattle.pr_basic.specs.Limits.{statement_limit};
 ghost use Rattle.pr_basic.specs.Grammar.{IsScript, parts, without_return};
 ghost use Rattle.pr_text.specs.Lines.{lines_of};
 ghost use Rattle.pr_basic.specs.Faults.{IsFirstFault};
-ghost use Rattle.pr_basic.specs.Lexing.{here, later, lexemes_of};
-ghost use Rattle.pr_basic.specs.ReadingScripts.{and_more, counted, is_begun, line_statements, numbered, statements_in};
-ghost use Rattle.pr_basic.specs.Reads.{Fails, ReadsStatement, still, with_front};
+ghost use Rattle.pr_basic.specs.FaultPlaces.{IsFirstFaultAt};
+ghost use Rattle.pr_basic.specs.Lexing.{here, later, lexemes_of, past, unspaced};
+ghost use Rattle.pr_basic.specs.ReadingScripts.{and_more, behind, counted, first_digits, is_begun, line_statements, numbered, statements_in, statements_of};
+ghost use Rattle.pr_basic.specs.Reads.{FailsIn, ReadsOn, ReadsStatement, UnlessMemory, still, with_front};
+ghost use Rattle.pr_basic.specs.Lexemes.{Colon};
 
-use crate::fault::{LineFault, ScriptFault};
-use crate::lexemes::{Keyword, Lexeme, after_colon, next_in_part, next_lexeme};
+use crate::fault::{FaultAt, Flaw, LineFault, ScriptFault};
+use crate::lexemes::{Keyword, Lexeme, after_colon, after_spaces, next_in_part, next_lexeme};
 use crate::numbers::value_of;
 use crate::reader::read_statement;
 use crate::statement::Statement;
@@ -20,7 +22,7 @@ use std::alloc::Global;
 pub const STATEMENT_LIMIT: usize = 1_000_000;
 
 /// The largest line number (profile, after the KERNAL's BASIC).
-const LINE_NUMBER_LIMIT: u32 = 63_999;
+pub const LINE_NUMBER_LIMIT: u32 = 63_999;
 
 /// The statements of a script, in order, at most [`STATEMENT_LIMIT`].
 ///
@@ -35,30 +37,89 @@ pub fn read_script(alloc: Global, bytes: &[u8]) -> Result<Vec<Statement>, Script
     ensures complete { (ss : List Statement) → IsScript bytes.now ss → MatchResult result (λ statements. statements.items ≡ ss)
         (λ fault. fault ≡ ScriptFault.NoMemory) }
 {
+    match read_script_at(alloc, bytes) {
+        Ok(statements) => Ok(statements),
+        Err(refused) => Err(refused.fault),
+    }
+}
+
+/// The statements of a script, as [`read_script`] gives them, or its first fault with the place
+/// where it stands: how many bytes of the text stand before the place.
+///
+/// The place is the lexeme that is wrong, or the one that stands where another is missing. Where
+/// none stands there, it is the colon that ends the statement, or the end of the line (its byte 13
+/// or 10, or the text's end). In a string it is the byte that may not stand there, or the 256th of
+/// the list; for a CHR$ that would be the 256th, the CHR$. Spaces and tabs before a lexeme do not
+/// belong to the place. If memory was refused, the place is where the reading had come.
+pub fn read_script_at(alloc: Global, bytes: &[u8]) -> Result<Vec<Statement>, FaultAt>
+    ensures read { IfOk result (λ statements. IsScript bytes.now statements.items) }
+    ensures few { IfOk result (λ statements. length statements.items ≤ statement_limit) }
+    ensures refused { IfErr result (λ e. (e.fault ≡ ScriptFault.NoMemory) ⊎ IsFirstFaultAt bytes.now e.fault e.place) }
+    ensures within { IfErr result (λ e. e.place ≤ length bytes.now) }
+    ensures complete { (ss : List Statement) → IsScript bytes.now ss → MatchResult result (λ statements. statements.items ≡ ss)
+        (λ e. e.fault ≡ ScriptFault.NoMemory) }
+{
     let mut statements = Vec::new(alloc);
     let mut rest = bytes;
     let mut number = 0;
     while !rest.is_empty() {
         let (line, more) = cut_line(rest);
         number += 1;
-        if let Err(fault) = read_line(alloc, &mut statements, line) {
-            return Err(fault.at(number));
+        if let Err((fault, column)) = read_line(alloc, &mut statements, line) {
+            return Err(FaultAt {
+                fault: fault.at(number),
+                place: bytes.len() - rest.len() + column,
+            });
         }
         rest = more;
     }
     Ok(statements)
 }
 
-/// Takes the statements of a line.
-fn read_line(alloc: Global, statements: &mut Vec<Statement>, line: &[u8]) -> Result<(), LineFault>
+/// Takes the statements of a line, or tells its first fault and how many of its bytes stand before.
+fn read_line(
+    alloc: Global,
+    statements: &mut Vec<Statement>,
+    line: &[u8],
+) -> Result<(), (LineFault, usize)>
     requires { length statements.old.items ≤ statement_limit }
     ensures reads { MatchResult result
-        (λ _. with_front statements.old.items (line_statements (statement_limit - length statements.old.items) line.now)
+        (λ _. with_front statements.old.items (line_statements (statement_limit - length statements.old.items) line.entry.now)
         ≡ Ok statements.new.items)
-        (λ e. Fails e (line_statements (statement_limit - length statements.old.items) line.now)) }
+        (λ e. UnlessMemory e.0 (line_statements (statement_limit - length statements.old.items) line.entry.now ≡ Err (e.0, e.1))) }
+    ensures few { OnOk result (length statements.new.items ≤ statement_limit) }
+    ensures within { IfErr result (λ e. e.1 ≤ length line.entry.now) }
+{
+    let line = without_return(line);
+    match read_parts(alloc, statements, line) {
+        Ok(()) => Ok(()),
+        Err(flaw) => Err((flaw.fault, column(line, flaw.rest, flaw.inside))),
+    }
+}
+
+/// How many bytes of a line stand before a fault in it: `rest` was left to read there, and the
+/// fault stands behind so many bytes of the next lexeme.
+fn column(line: &[u8], rest: &[u8], inside: usize) -> usize
+    ensures { result ≡ length line.now - (length (unspaced rest.now) - inside) }
+{
+    let left = after_spaces(rest).len();
+    line.len().saturating_sub(left.saturating_sub(inside))
+}
+
+/// Takes the statements of a line without its end.
+fn read_parts<'a>(
+    alloc: Global,
+    statements: &mut Vec<Statement>,
+    line: &'a [u8],
+) -> Result<(), Flaw<'a>>
+    requires { length statements.old.items ≤ statement_limit }
+    ensures reads { MatchResult result
+        (λ _. with_front statements.old.items (statements_of (statement_limit - length statements.old.items) (lexemes_of line.entry.now))
+        ≡ Ok statements.new.items)
+        (λ e. FailsIn e line.entry.now (statements_of (statement_limit - length statements.old.items) (lexemes_of line.entry.now))) }
     ensures few { OnOk result (length statements.new.items ≤ statement_limit) }
 {
-    let mut rest = Some(after_number(without_return(line))?);
+    let mut rest = Some(after_number(line)?);
     while let Some(bytes) = rest {
         rest = read_part(alloc, statements, bytes)?;
     }
@@ -70,34 +131,40 @@ fn read_part<'a>(
     alloc: Global,
     statements: &mut Vec<Statement>,
     bytes: &'a [u8],
-) -> Result<Option<&'a [u8]>, LineFault>
+) -> Result<Option<&'a [u8]>, Flaw<'a>>
     requires { length statements.old.items ≤ statement_limit }
     ensures reads { MatchResult result
         (λ rest. with_front statements.old.items
         (statements_in (statement_limit - length statements.old.items) (parts (lexemes_of bytes.entry.now)))
-        ≡ with_front statements.new.items (still (statement_limit - length statements.new.items) rest))
-        (λ e. Fails e (statements_in (statement_limit - length statements.old.items) (parts (lexemes_of bytes.entry.now)))) }
+        ≡ with_front statements.new.items
+        (behind (here bytes.entry.now ++ Colon ∷ []) (still (statement_limit - length statements.new.items) rest)))
+        (λ e. FailsIn e bytes.entry.now
+        (statements_in (statement_limit - length statements.old.items) (parts (lexemes_of bytes.entry.now)))) }
     ensures few { OnOk result (length statements.new.items ≤ statement_limit) }
     ensures less { IfOk result (λ rest. IfSome rest (λ r. length r.now < length bytes.entry.now)) }
+    ensures left { IfOk result (λ rest. IfSome rest (λ r. r.now ≡ past (suc (length (here bytes.entry.now))) bytes.entry.now)) }
 {
     let (statement, rest) = next_statement(alloc, statements.len(), bytes)?;
-    keep(statements, statement)?;
+    if let Err(fault) = keep(statements, statement) {
+        return Err(fault.before(bytes));
+    }
     Ok(after_colon(rest))
 }
 
 /// The statement at the front, after so many others.
-#[tactic(auto, using(crate::proofs::ListLaws::fails_of))]
+#[tactic(auto, using(crate::proofs::ListLaws::fails_of, crate::proofs::Places::rest_same))]
 fn next_statement(
     alloc: Global,
     count: usize,
     bytes: &[u8],
-) -> Result<(Option<Statement>, &[u8]), LineFault>
+) -> Result<(Option<Statement>, &[u8]), Flaw<'_>>
     requires { count ≤ statement_limit }
     ensures reads { ReadsStatement result (counted (statement_limit - count) (here bytes.now)) (later bytes.now) }
     ensures shorter { IfOk result (λ p. length p.1.now ≤ length bytes.now) }
+    ensures on { ReadsOn result bytes.now }
 {
     if count == STATEMENT_LIMIT && begins_statement(bytes) {
-        return Err(LineFault::TooMany);
+        return Err(LineFault::TooMany.before(bytes));
     }
     read_statement(alloc, bytes)
 }
@@ -129,17 +196,20 @@ fn begins_statement(bytes: &[u8]) -> bool
 }
 
 /// What follows the line's number, if it has one.
-#[tactic(auto, unfolding(crate::specs::ReadingScripts::numbered))]
-fn after_number(bytes: &[u8]) -> Result<&[u8], LineFault>
-    ensures { MatchResult result (λ rest. numbered (lexemes_of bytes.now) ≡ Ok (lexemes_of rest.now))
-        (λ e. numbered (lexemes_of bytes.now) ≡ Err e) }
+#[tactic(auto, unfolding(crate::specs::ReadingScripts::numbered, crate::specs::ReadingScripts::first_digits, crate::specs::Lexing::past))]
+fn after_number(bytes: &[u8]) -> Result<&[u8], Flaw<'_>>
+    ensures number { MatchResult result
+        (λ rest. numbered (lexemes_of bytes.now) ≡ Ok (first_digits (lexemes_of bytes.now), lexemes_of rest.now))
+        (λ e. numbered (lexemes_of bytes.now) ≡ Err (e.fault, record { done = []; inside = e.inside })) }
+    ensures left { MatchResult result (λ rest. rest.now ≡ past (length (first_digits (lexemes_of bytes.now))) bytes.now)
+        (λ e. e.rest.now ≡ bytes.now) }
 {
     match next_lexeme(bytes) {
         Some((Lexeme::Digits(digits), rest)) => {
             if value_of(digits) <= LINE_NUMBER_LIMIT {
                 Ok(rest)
             } else {
-                Err(LineFault::BadNumber)
+                Err(LineFault::BadNumber.before(bytes))
             }
         }
         _ => Ok(bytes),
@@ -147,10 +217,12 @@ fn after_number(bytes: &[u8]) -> Result<&[u8], LineFault>
 }
 
 /// The first line, and what follows its end.
-fn cut_line(bytes: &[u8]) -> (&[u8], &[u8])
+pub fn cut_line(bytes: &[u8]) -> (&[u8], &[u8])
     requires { 0 < length bytes.now }
     ensures lines { lines_of bytes.now ≡ result.0.now ∷ lines_of result.1.now }
     ensures less { length result.1.now < length bytes.now }
+    ensures within { length result.0.now ≤ length bytes.now }
+    ensures size { (length result.1.now ≡ 0) ⊎ (length bytes.now ≡ suc (length result.0.now) + length result.1.now) }
 {
     for (i, b) in bytes.iter().enumerate() {
         if *b == b'\n' {
@@ -173,14 +245,18 @@ fn without_return(line: &[u8]) -> &[u8]
 }
 
 /// A law, with nothing to run: each text is a script of one list of statements, or it has one
-/// first fault, and never both.
+/// first fault, which stands at one place, and never both.
 pub fn each_text_is_a_script_or_has_one_fault()
     ensures one_list { (bytes : List ℕ) (ss others : List Statement) → IsScript bytes ss → IsScript bytes others → ss ≡ others }
     ensures one_fault { (bytes : List ℕ) (fault other : ScriptFault) → IsFirstFault bytes fault → IsFirstFault bytes other → fault ≡ other }
+    ensures one_place { (bytes : List ℕ) (fault other : ScriptFault) (place elsewhere : ℕ)
+        → IsFirstFaultAt bytes fault place → IsFirstFaultAt bytes other elsewhere → (fault ≡ other) × (place ≡ elsewhere) }
     ensures one_of_both { (bytes : List ℕ) → ((ss : List Statement) × IsScript bytes ss)
         ⊎ ((fault : ScriptFault) × IsFirstFault bytes fault) }
     ensures not_both { (bytes : List ℕ) (ss : List Statement) (fault : ScriptFault) → IsScript bytes ss → IsFirstFault bytes fault → ⊥ }
 {}
 
+#[cfg(test)]
+mod places;
 #[cfg(test)]
 mod tests;

@@ -1,13 +1,16 @@
 -- Words of calls: what a fault of a part is to the program; want of memory is its own. Who uses these `From` by themselves believes them; no claim rests on them.
 use Rattle.pr_wire.specs.declared.checker.CheckFault.{CheckFault}
 use Rattle.pr_wire.specs.declared.checker.CheckFault.TheVariants.{BadLine, Unlawful}
+use Rattle.pr_wire.specs.declared.text.TraceFault.{TraceFault}
 use Rattle.pr_wire.specs.declared.text.TraceFault.TheVariants as trace
 use Rattle.pr_basic.specs.declared.fault.ScriptFault.{ScriptFault}
 use Rattle.pr_basic.specs.declared.fault.ScriptFault.TheVariants as script
+use Rattle.pr_capture.specs.declared.fault.CaptureFault.{CaptureFault}
+use Rattle.pr_capture.specs.declared.fault.CaptureFault.TheVariants as capture
 use Rattle.pr_cli.specs.declared.read_write.ReadFault.{ReadFault}
 use Rattle.pr_cli.specs.declared.read_write.ReadFault.TheVariants as read
 use Rattle.pr_cli.specs.declared.fault.CliFault.{CliFault}
-use Rattle.pr_cli.specs.declared.fault.CliFault.TheVariants.{Script, Trace, Wave, TooLarge, NoMemory, ReadFailed}
+use Rattle.pr_cli.specs.declared.fault.CliFault.TheVariants.{Script, Trace, Wave, Capture, TooLarge, NoMemory, ReadFailed}
 
 -- a fault of reading
 abbrev pub fault_of_read : ReadFault → CliFault
@@ -30,3 +33,13 @@ fault_of_script script.NoMemory = NoMemory
 abbrev pub fault_of_check : CheckFault → CliFault
 fault_of_check (BadLine n) = Trace (trace.BadLine n)
 fault_of_check (Unlawful fault) = Wave fault
+
+-- a fault of a recording
+abbrev pub fault_of_capture : CaptureFault → CliFault
+fault_of_capture capture.NoMemory = NoMemory
+fault_of_capture f = Capture f
+
+-- a fault of a trace text
+abbrev pub fault_of_trace : TraceFault → CliFault
+fault_of_trace (trace.BadLine n) = Trace (trace.BadLine n)
+fault_of_trace trace.NoMemory = NoMemory

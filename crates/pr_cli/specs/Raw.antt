@@ -12,7 +12,7 @@ use Rattle.pr_cli.specs.Formats.{text_in}
 use Rattle.pr_cli.specs.PartlyWritten.{AppendsFront}
 use Rattle.pr_options.specs.declared.format.Format.{Format}
 use Rattle.pr_cli.specs.declared.fault.CliFault.{CliFault}
-use Rattle.pr_cli.specs.declared.fault.CliFault.TheVariants.{Script, Trace, Wave, TooLarge, NoMemory, ReadFailed, WriteFailed}
+use Rattle.pr_cli.specs.declared.fault.CliFault.TheVariants.{Script, Trace, Wave, Capture, TooLarge, NoMemory, ReadFailed, WriteFailed}
 
 -- the most bytes: a printer takes at most 2^32 inputs, and the selection is one of them
 abbrev pub raw_limit : ℕ
@@ -43,6 +43,7 @@ AnswersRaw lower format bytes old new (Ok _) =
 AnswersRaw lower format bytes old new (Err (Script fault)) = ⊥
 AnswersRaw lower format bytes old new (Err (Trace fault)) = ⊥
 AnswersRaw lower format bytes old new (Err (Wave fault)) = ⊥
+AnswersRaw lower format bytes old new (Err (Capture fault)) = ⊥
 AnswersRaw lower format bytes old new (Err TooLarge) = (raw_limit < length bytes) × Keeps old new
 AnswersRaw lower format bytes old new (Err NoMemory) = Keeps old new
 AnswersRaw lower format bytes old new (Err ReadFailed) = Keeps old new
@@ -54,4 +55,5 @@ abbrev pub IsRawFault : CliFault → Type 0
 IsRawFault (Script fault) = ⊥
 IsRawFault (Trace fault) = ⊥
 IsRawFault (Wave fault) = ⊥
+IsRawFault (Capture fault) = ⊥
 IsRawFault _ = Unit {0}

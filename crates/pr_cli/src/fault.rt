@@ -4,6 +4,7 @@ ghost use Rattle.std.specs.Prelude.{◌≡◌};
 
 use crate::read_write::ReadFault;
 use pr_basic::ScriptFault;
+use pr_capture::CaptureFault;
 use pr_wire::{CheckFault, TraceFault, WaveFault};
 use std::alloc::AllocError;
 use thiserror::Error;
@@ -21,6 +22,9 @@ pub enum CliFault {
     /// The edges are no lawful trace.
     #[error(transparent)]
     Wave(WaveFault),
+    /// The recording can not be read, with the line where. It is never want of memory.
+    #[error(transparent)]
+    Capture(CaptureFault),
     /// The input is larger than the limit.
     #[error("input too large")]
     TooLarge,
@@ -57,6 +61,32 @@ impl From<CheckFault> for CliFault {
         match e {
             CheckFault::BadLine(line) => CliFault::Trace(TraceFault::BadLine(line)),
             CheckFault::Unlawful(fault) => CliFault::Wave(fault),
+        }
+    }
+}
+
+impl From<TraceFault> for CliFault {
+    ghost use Rattle.pr_cli.specs.Faults.{fault_of_trace};
+
+    ghost from_gives = { λ e f. f ≡ fault_of_trace e };
+
+    fn from(e: TraceFault) -> CliFault {
+        match e {
+            TraceFault::NoMemory => CliFault::NoMemory,
+            refusal => CliFault::Trace(refusal),
+        }
+    }
+}
+
+impl From<CaptureFault> for CliFault {
+    ghost use Rattle.pr_cli.specs.Faults.{fault_of_capture};
+
+    ghost from_gives = { λ e f. f ≡ fault_of_capture e };
+
+    fn from(e: CaptureFault) -> CliFault {
+        match e {
+            CaptureFault::NoMemory => CliFault::NoMemory,
+            refusal => CliFault::Capture(refusal),
         }
     }
 }

@@ -10,12 +10,9 @@ ghost use Rattle.pr_cli.specs.Tables.{HasNumbers};
 use crate::short_text::{ShortText, numbers_between};
 use crate::text::Text;
 use pr_channels::Stop;
-use pr_page::{Mark, NoMemory, Paper, Placed, Row};
+use pr_page::{LINE_DOTS, Mark, NoMemory, Paper, Placed, Row};
 use pr_system::Outcome;
 use std::alloc::{AllocError, Global};
-
-/// The dot columns of a line.
-const LINE_DOTS: usize = 480;
 
 /// The values of a byte.
 const BYTES: usize = 256;
@@ -96,7 +93,7 @@ fn push_mark(text: &mut Text, placed: Placed) -> Result<(), AllocError>
 impl Texts {
     fn new(alloc: Global) -> Result<Texts, AllocError> {
         Ok(Texts {
-            numbers: numbers_between(alloc, b" ", LINE_DOTS, b"")?,
+            numbers: numbers_between(alloc, b" ", usize::from(LINE_DOTS), b"")?,
             cells: numbers_between(alloc, b" cell ", BYTES, b"\n")?,
             lower_cells: numbers_between(alloc, b" cell ", BYTES, b" lower\n")?,
             dots: numbers_between(alloc, b" dots ", BYTES, b"\n")?,

@@ -1,8 +1,9 @@
 -- The bits of a byte that has begun, among the stretches.
-use Rattle.std.proofs.Common.{◌≡◌, ℕ, suc, Bool, true, false, not, ◌&&◌, List, [], ◌∷◌, ◌++◌, Option, Some, None, if◌then◌else◌, refl, sym, ap, ◌∙◌}
+use Rattle.std.proofs.Common.{◌≡◌, ℕ, suc, Bool, true, false, not, ◌&&◌, ◌||◌, List, [], ◌∷◌, ◌++◌, Option, Some, None, if◌then◌else◌, refl, sym, ap, ◌∙◌}
 use Rattle.pr_wire.specs.declared.Edge.{Edge}
 use Rattle.pr_decode.specs.declared.reading.Opening.{Opening}
-use Rattle.pr_decode.specs.Readings.{Bit, Bits, begins, begun_by, bits_from, ends_bit, first_late, is_none, number_of, opening, opening_of, put_bit, reading, readings, said, turns_of}
+use Rattle.pr_decode.specs.declared.reading.Reading.{Reading}
+use Rattle.pr_decode.specs.Readings.{Bit, Bits, begins, begun_by, bits_from, ends_bit, first_late, is_called, is_none, number_of, opening, opening_of, put_bit, reading, readings, said, turns_of}
 use Rattle.pr_decode.specs.Stretches.{Stretch}
 use Rattle.pr_decode.specs.Taking.{AreBits, HasBegun, first_low, stretched, with_more}
 
@@ -44,22 +45,44 @@ behind-bits : (bs : List Bit) (ss : List Stretch) → readings (number_of bs) (s
 behind-bits [] ss = refl
 behind-bits (b ∷ bs) ss = behind-bits bs ss
 
+-- behind the first pull of CLOCK comes no call, where bits have come, or where none comes behind them
+abbrev pub goes_uncalled : List Bit → List Stretch → Bool
+goes_uncalled [] ss = is_called ss
+goes_uncalled (b ∷ bs) ss = false
+
+pub uncalled-behind : (bs : List Bit) (ss : List Stretch) → is_called ss ≡ false → goes_uncalled bs ss ≡ false
+uncalled-behind [] ss h = h
+uncalled-behind (b ∷ bs) ss h = refl
+
+bit-uncalled : (h x : Stretch) → ends_bit h x ≡ true → h.called ≡ false
+bit-uncalled h x e = by h.called e
+  where
+    by : (v : Bool) → (not v && not x.called && is_none (first_late h.first.time (h.rest ++ x.first ∷ []))) ≡ true → v ≡ false
+    by false k = refl
+    by true k = absurd (cc)
+
+tail-uncalled : (bs : List Bit) (l : Stretch) (ss : List Stretch) → AreBits bs l → goes_uncalled bs ss ≡ false → is_called (tail_of bs l ss) ≡ false
+tail-uncalled [] l ss h k = k
+tail-uncalled (b ∷ bs) l ss (e, d, h) k = bit-uncalled b.high (first_low bs l) e
+
 -- a byte that has begun is read with its bits, where no more come
 pub byte-read : (s : Stretch) (o : Opening) (bs : List Bit) (n : ℕ) (l : Stretch) (ss : List Stretch) → HasBegun s o bs n l
-    → bits_from n l ss ≡ none_come l ss
+    → goes_uncalled bs ss ≡ false → bits_from n l ss ≡ none_come l ss
     → readings 0 (s ∷ (stretched bs ++ l ∷ ss))
     ≡ reading o (first_low bs l).first.time (record { bits = bs; last = l; behind = ss }) ∷ readings 0 (l ∷ ss)
-byte-read s o bs n l ss h k =
+byte-read s o bs n l ss h u k =
     let all : Bits = record { bits = bs; last = l; behind = ss } in
     let first : Stretch = first_low bs l in
     let tail : List Stretch = tail_of bs l ss in
+    let some : Option (Reading × ℕ) = Some (reading o first.first.time (bits_from 8 first tail), number_of (bits_from 8 first tail).bits) in
     let read : bits_from 8 first tail ≡ all =
     ap (λ m. bits_from m first tail) (sym h.eight) ∙ (bits-come bs l ss n h.bits ∙ (ap (onto bs) k ∙ onto-none bs l ss))
     in
     let starts : begins s (first ∷ tail) ≡ Some (reading o first.first.time all, number_of bs) =
     ap (λ v. begun_by v first tail) h.opens
-    ∙ (ap (λ v. if v then None else Some (reading o first.first.time (bits_from 8 first tail), number_of (bits_from 8 first tail).bits)) h.uncalled
-    ∙ ap (λ y. Some (reading o first.first.time y, number_of y.bits)) read)
+    ∙ (ap (λ v. if v || is_called tail then None else some) h.uncalled
+    ∙ (ap (λ v. if v then None else some) (tail-uncalled bs l ss h.bits u)
+    ∙ ap (λ y. Some (reading o first.first.time y, number_of y.bits)) read))
     in
     ap (λ x. readings 0 (s ∷ x)) (stretched-first bs l ss)
     ∙ (ap (λ v. said v (λ m. readings m (first ∷ tail))) starts
@@ -87,7 +110,22 @@ call-begins s l ss h = by (opening_of s)
     by None = refl
     by (Some o) =
         let y : Bits = bits_from 8 l ss in
-        ap (λ v. said (if v then None else Some (reading o l.first.time y, number_of y.bits)) (λ m. readings m (l ∷ ss))) h
+        ap (λ v. said (if v || is_called ss then None else Some (reading o l.first.time y, number_of y.bits)) (λ m. readings m (l ∷ ss))) h
+
+-- or one in front of CLOCK's first pull and a call
+pub called-off : (s l x : Stretch) (ss : List Stretch) → x.called ≡ true → readings 0 (s ∷ l ∷ x ∷ ss) ≡ readings 0 (l ∷ x ∷ ss)
+called-off s l x ss h = by (opening_of s)
+  where
+    or-true : (a : Bool) → (a || true) ≡ true
+    or-true true = refl
+    or-true false = refl
+
+    by : (v : Option Opening) → said (begun_by v l (x ∷ ss)) (λ m. readings m (l ∷ x ∷ ss)) ≡ readings 0 (l ∷ x ∷ ss)
+    by None = refl
+    by (Some o) =
+        let y : Bits = bits_from 8 l (x ∷ ss) in
+        ap (λ v. said (if v then None else Some (reading o l.first.time y, number_of y.bits)) (λ m. readings m (l ∷ x ∷ ss)))
+        (ap (λ v. l.called || v) h ∙ or-true l.called)
 
 -- an opening has CLOCK released
 pub opening-released : (s : Stretch) (o : Opening) → opening_of s ≡ Some o → s.first.levels.clock ≡ true

@@ -50,7 +50,7 @@ calls-off s last e h = by (same e.levels.clock s.first.levels.clock) (calls last
     by x false k = absurd (cc)
 
 -- where no call ends a stretch, CLOCK does
-clock-turns : (s : Stretch) (last e : Edge) → goes_on s.first last e ≡ false → calls last e ≡ false
+pub clock-turns : (s : Stretch) (last e : Edge) → goes_on s.first last e ≡ false → calls last e ≡ false
     → same e.levels.clock s.first.levels.clock ≡ false
 clock-turns s last e h k = by (same e.levels.clock s.first.levels.clock) (calls last e) h k
   where

@@ -1,5 +1,6 @@
 -- What one edge more changes where a byte has begun: it goes on, or it is given.
-use Rattle.std.proofs.Common.{◌≡◌, ℕ, suc, zero, ◌==◌, Bool, true, false, not, List, [], ◌∷◌, ◌++◌, Option, Some, None, if◌then◌else◌, refl, sym, ap, ◌∙◌}
+use Rattle.std.proofs.Common.{◌≡◌, ℕ, suc, zero, ◌==◌, Bool, true, false, not, List, [], ◌∷◌, ◌++◌, length, Option, Some, None, if◌then◌else◌, refl, sym, ap, ◌∙◌}
+use Rattle.std.proofs.Math.Dec.{eqb-suc-zero}
 use Rattle.pr_wire.specs.declared.Edge.{Edge}
 use Rattle.pr_decode.specs.declared.reading.FrameEnd.TheVariants as frame
 use Rattle.pr_decode.specs.declared.reading.GlitchEnd.{GlitchEnd}
@@ -8,12 +9,12 @@ use Rattle.pr_decode.specs.declared.reading.Opening.{Opening}
 use Rattle.pr_decode.specs.declared.reading.Reading.{Reading}
 use Rattle.pr_decode.specs.declared.reading.Reading.TheVariants.{Frame, Glitch}
 use Rattle.pr_decode.specs.declared.reading.Transfer.{Transfer}
-use Rattle.pr_decode.specs.Readings.{Bit, acknowledgement, bits_from, ends_bit, first_late, frame_end, glitch_end, high_end, is_late, readings, silence_or, transfer, turns_of, waiting_end}
-use Rattle.pr_decode.specs.Steps.{acknowledged_at, acknowledged_in, called_at, ended_by, frame_ended, high_ended, low_ended, turned, with_bit}
+use Rattle.pr_decode.specs.Readings.{Bit, acknowledgement, bits_from, ends_bit, first_late, frame_end, glitch_end, high_end, is_called, is_late, readings, silence_or, transfer, turns_of, waiting_end}
+use Rattle.pr_decode.specs.Steps.{acknowledged_at, acknowledged_in, advanced, bits_ended, called_at, ended_by, frame_ended, high_ended, low_ended, turned, with_bit}
 use Rattle.pr_decode.specs.Stretches.{Stretch, begun, calls, goes_on, longer, stretches_from}
 use Rattle.pr_decode.specs.Taking.{HasBegun, IsRight, Past, first_low, noted, stretch_in, stretched, to_come}
 use Rattle.pr_decode.specs.Taking.Past.{High, Low, Waiting}
-use Rattle.pr_decode.proofs.Adding.{begun-further, begun-more, call-ends-none, called-ends-none, ends-bit, first-further, late-ends-none, low-opens-nothing, more-first, more-stretched, none-comes, none_come, nothing-begins}
+use Rattle.pr_decode.proofs.Adding.{begun-further, begun-more, call-ends-none, called-ends-none, called-off, ends-bit, first-further, late-ends-none, low-opens-nothing, more-first, more-stretched, none-comes, none_come, nothing-begins, uncalled-behind}
 use Rattle.pr_decode.proofs.Bytes.{transfer-more}
 use Rattle.pr_decode.proofs.Cutting.{calls-off, clock-falls, clock-rises, head-of, late-none, late-one, late-stays, stretches-off, stretches-on}
 use Rattle.pr_decode.proofs.Stepping.{Next, few-bits, frame-comes, glitch-comes, keeps-off, keeps-on, off-called, sent}
@@ -28,16 +29,22 @@ pub ended-high : (t : Transfer) (s : Stretch) (last e : Edge) → s.first.levels
     → ended_by (Some t) (stretch_in s last) e ≡ high_ended t (stretch_in s last) e
 ended-high t s last e h = ap (λ v. if v then high_ended t (stretch_in s last) e else low_ended t (stretch_in s last) e) h
 
--- of one that has all bits, and of one that has fewer
+-- of one that has all bits, of one that has fewer, and of one that has some
 pub ended-frame : (t : Transfer) (s : Stretch) (last e : Edge) → s.first.levels.clock ≡ false → (t.bits == 8) ≡ true
     → ended_by (Some t) (stretch_in s last) e ≡ frame_ended t (stretch_in s last) e
 ended-frame t s last e h k =
-    ended-low t s last e h ∙ ap (λ v. if v then frame_ended t (stretch_in s last) e else called_at t (stretch_in s last) e) k
+    ended-low t s last e h ∙ ap (λ v. if v then frame_ended t (stretch_in s last) e else bits_ended t (stretch_in s last) e) k
 
 pub ended-bits : (t : Transfer) (s : Stretch) (last e : Edge) → s.first.levels.clock ≡ false → (t.bits == 8) ≡ false
-    → ended_by (Some t) (stretch_in s last) e ≡ called_at t (stretch_in s last) e
+    → ended_by (Some t) (stretch_in s last) e ≡ bits_ended t (stretch_in s last) e
 ended-bits t s last e h k =
-    ended-low t s last e h ∙ ap (λ v. if v then frame_ended t (stretch_in s last) e else called_at t (stretch_in s last) e) k
+    ended-low t s last e h ∙ ap (λ v. if v then frame_ended t (stretch_in s last) e else bits_ended t (stretch_in s last) e) k
+
+pub ended-some : (o : Opening) (b : Bit) (bs : List Bit) (s : Stretch) (last e : Edge) → s.first.levels.clock ≡ false → (length (b ∷ bs) == 8) ≡ false
+    → ended_by (Some (sent o (b ∷ bs) s)) (stretch_in s last) e ≡ called_at (sent o (b ∷ bs) s) (stretch_in s last) e
+ended-some o b bs s last e h k =
+    let t : Transfer = sent o (b ∷ bs) s in
+    ended-bits t s last e h k ∙ ap (λ v. if v then None else called_at t (stretch_in s last) e) (eqb-suc-zero (length bs))
 
 -- the acknowledgement with one edge more
 acknowledged-now : (s : Stretch) (e : Edge) → acknowledged_in (turned (not s.first.levels.clock) (noted (turns_of s)) e) ≡ acknowledgement (turns_of (longer s e))
@@ -90,7 +97,8 @@ low-moves p o bs n s last e h k = by (goes_on s.first last e) refl
       past = High p o bs n s;
       current = begun false e;
       keeps = keeps-off (Low p o bs (suc n)) (High p o bs n s) s last e false m k
-          (sym (ap (λ v. Some (if v then with_bit (sent o bs s) s.first e else sent o bs s)) h.pulled));
+          (sym (ap (λ v. if v then None else advanced (Some (sent o bs s)) (stretch_in s last) e) k
+          ∙ ap (λ v. Some (if v then with_bit (sent o bs s) s.first e else sent o bs s)) h.pulled));
       right = (h, record { released = clock-rises s last e m k h.pulled; uncalled = refl; in_time = refl });
       comes = λ es. ap (λ x. readings 0 (p ∷ (stretched bs ++ x))) (off-called s last e es false m k);
     }
@@ -122,7 +130,8 @@ high-moves p o bs n l s last e (h, b) k c = by (goes_on s.first last e) refl
           (ap (λ t. Some t)
           (ap (λ (x : Stretch). transfer o x.first.time (bs ++ bit ∷ []) e.time) (more-first bs bit (begun false e))
           ∙ (transfer-more o (first_low bs l).first.time bs bit (few-bits bs n h.eight)
-          ∙ sym (ap (λ v. if v then with_bit (sent o bs l) s.first e else sent o bs l) b.released))));
+          ∙ sym (ap (λ v. if v then with_bit (sent o bs l) s.first e else sent o bs l) b.released)))
+          ∙ sym (ap (λ v. if v then None else advanced (Some (sent o bs l)) (stretch_in s last) e) c));
       right = right-more n
           (begun-more p o bs n bit (begun false e) h
           (ends-bit s (begun false e) b.uncalled refl (late-none s.first.time s.rest e b.in_time k)) refl (clock-falls s last e m c b.released));
@@ -184,16 +193,16 @@ frame-gives p o bs s last e r (h, a) m = by (goes_on s.first last e) refl m
         let given : Frame (sent o bs s) (frame.Unacknowledged e.time) ≡ r = cc in
         rw (← given) (unacknowledged-gives p o bs s last e (h, a) k)
 
--- a call ends a byte with CLOCK pulled
-pub called-low-gives : (p : Stretch) (o : Opening) (bs : List Bit) (n : ℕ) (s : Stretch) (last e : Edge) → HasBegun p o bs (suc n) s
-    → calls last e ≡ true → Gives (Low p o bs (suc n)) s last e (Glitch (sent o bs s) (glitch.Attention e.time))
-called-low-gives p o bs n s last e h k es =
+-- a call ends a byte with CLOCK pulled that has a bit
+pub called-low-gives : (p : Stretch) (o : Opening) (b : Bit) (bs : List Bit) (n : ℕ) (s : Stretch) (last e : Edge) → HasBegun p o (b ∷ bs) (suc n) s
+    → calls last e ≡ true → Gives (Low p o (b ∷ bs) (suc n)) s last e (Glitch (sent o (b ∷ bs) s) (glitch.Attention e.time))
+called-low-gives p o b bs n s last e h k es =
     let i = head-of (begun true e) e es in
     let l : Stretch = record { called = true; first = e; rest = [] ++ i.more } in
     let is : stretches_from s last (e ∷ es) ≡ s ∷ l ∷ i.behind = off-called s last e es true (calls-off s last e k) k ∙ ap (λ x. s ∷ x) i.is in
-    ap (λ x. readings 0 (p ∷ (stretched bs ++ x))) is
-    ∙ (glitch-comes p o bs n s (l ∷ i.behind) (glitch.Attention e.time) h (none i.behind) refl
-    ∙ ap (λ x. Glitch (sent o bs s) (glitch.Attention e.time) ∷ readings 0 x) (sym is))
+    ap (λ x. readings 0 (p ∷ (stretched (b ∷ bs) ++ x))) is
+    ∙ (glitch-comes p o (b ∷ bs) n s (l ∷ i.behind) (glitch.Attention e.time) h refl (none i.behind) refl
+    ∙ ap (λ x. Glitch (sent o (b ∷ bs) s) (glitch.Attention e.time) ∷ readings 0 x) (sym is))
   where
     none : (ss : List Stretch) → (let l : Stretch = record { called = true; first = e; rest = [] ++ (head-of (begun true e) e es).more } in
         bits_from (suc n) s (l ∷ ss) ≡ none_come s (l ∷ ss))
@@ -202,14 +211,33 @@ called-low-gives p o bs n s last e h k es =
         let l : Stretch = record { called = true; first = e; rest = [] ++ (head-of (begun true e) e es).more } in
         none-comes n s l x ss (called-ends-none l x refl)
 
+-- of one that has none nothing is left
+pub called-moves : (p : Stretch) (o : Opening) (n : ℕ) (s : Stretch) (last e : Edge) → HasBegun p o [] (suc n) s
+    → calls last e ≡ true → Next (Low p o [] (suc n)) s last e
+called-moves p o n s last e h k = record {
+  past = Waiting;
+  current = begun true e;
+  keeps = keeps-off (Low p o [] (suc n)) Waiting s last e true (calls-off s last e k) k
+      (sym (ap (λ v. if v then None else advanced (Some (sent o [] s)) (stretch_in s last) e) k));
+  right = tt;
+  comes = λ es.
+      let i = head-of (begun true e) e es in
+      let l : Stretch = record { called = true; first = e; rest = [] ++ i.more } in
+      ap (λ x. readings 0 (p ∷ x)) (off-called s last e es true (calls-off s last e k) k)
+      ∙ (ap (λ x. readings 0 (p ∷ s ∷ x)) i.is
+      ∙ (called-off p s l i.behind refl
+      ∙ (ap (λ x. readings 0 (s ∷ x)) (sym i.is) ∙ nothing-begins s (stretches_from (begun true e) e es) (low-opens-nothing s h.pulled))));
+}
+
 -- a byte with CLOCK released ends: no bit comes, and the stretch is read anew
 high-gives : (p : Stretch) (o : Opening) (bs : List Bit) (n : ℕ) (l s : Stretch) (last e : Edge) (end : GlitchEnd) → HasBegun p o bs (suc n) l
+    → s.called ≡ false
     → ((es : List Edge) → bits_from (suc n) l (stretches_from s last (e ∷ es)) ≡ none_come l (stretches_from s last (e ∷ es)))
     → ((es : List Edge) → glitch_end (stretches_from s last (e ∷ es)) ≡ end)
     → Gives (High p o bs n l) s last e (Glitch (sent o bs l) end)
-high-gives p o bs n l s last e end h c k es =
+high-gives p o bs n l s last e end h u c k es =
     let next : List Stretch = stretches_from s last (e ∷ es) in
-    glitch-comes p o bs n l next end h (c es) (k es)
+    glitch-comes p o bs n l next end h (uncalled-behind bs next (ap is_called (head-of s last (e ∷ es)).is ∙ u)) (c es) (k es)
     ∙ ap (λ x. Glitch (sent o bs l) end ∷ x) (nothing-begins l next (low-opens-nothing l h.pulled))
 
 -- what comes behind a low stretch, where the first stretch of it ends no bit
@@ -241,7 +269,7 @@ late-gives p o bs n l s last e (h, b) k = by (goes_on s.first last e) refl
     late = late-one s.first.time s.rest e b.in_time k
 
     by : (v : Bool) → goes_on s.first last e ≡ v → Gives (High p o bs n l) s last e (Glitch (sent o bs l) (glitch.Silence e.time))
-    by true m = high-gives p o bs n l s last e (glitch.Silence e.time) h (λ es. (both es).0) (λ es. (both es).1)
+    by true m = high-gives p o bs n l s last e (glitch.Silence e.time) h b.uncalled (λ es. (both es).0) (λ es. (both es).1)
       where
         both : (es : List Edge)
             → (bits_from (suc n) l (stretches_from s last (e ∷ es)) ≡ none_come l (stretches_from s last (e ∷ es)))
@@ -251,7 +279,7 @@ late-gives p o bs n l s last e (h, b) k = by (goes_on s.first last e) refl
             let x : Stretch = record s { rest = (s.rest ++ e ∷ []) ++ i.more } in
             let is : stretches_from s last (e ∷ es) ≡ x ∷ i.behind = stretches-on s last e es m ∙ i.is in
             rw is (late-stretch n l x i.behind e.time b.uncalled (late-stays s.first.time (s.rest ++ e ∷ []) i.more e.time late))
-    by false m = high-gives p o bs n l s last e (glitch.Silence e.time) h (λ es. (both es).0) (λ es. (both es).1)
+    by false m = high-gives p o bs n l s last e (glitch.Silence e.time) h b.uncalled (λ es. (both es).0) (λ es. (both es).1)
       where
         both : (es : List Edge)
             → (bits_from (suc n) l (stretches_from s last (e ∷ es)) ≡ none_come l (stretches_from s last (e ∷ es)))
@@ -270,7 +298,7 @@ late-gives p o bs n l s last e (h, b) k = by (goes_on s.first last e) refl
 pub called-high-gives : (p : Stretch) (o : Opening) (bs : List Bit) (n : ℕ) (l s : Stretch) (last e : Edge) → IsRight (High p o bs n l) s
     → is_late s.first.time e ≡ false → calls last e ≡ true → Gives (High p o bs n l) s last e (Glitch (sent o bs l) (glitch.Attention e.time))
 called-high-gives p o bs n l s last e (h, b) k c =
-    high-gives p o bs n l s last e (glitch.Attention e.time) h (λ es. (both es).0) (λ es. (both es).1)
+    high-gives p o bs n l s last e (glitch.Attention e.time) h b.uncalled (λ es. (both es).0) (λ es. (both es).1)
   where
     both : (es : List Edge)
         → (bits_from (suc n) l (stretches_from s last (e ∷ es)) ≡ none_come l (stretches_from s last (e ∷ es)))

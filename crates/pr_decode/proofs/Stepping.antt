@@ -1,5 +1,5 @@
 -- What one edge more changes of what a decoder keeps, and of the readings that come yet.
-use Rattle.std.proofs.Common.{◌≡◌, ℕ, suc, ◌+◌, ◌<◌, ◌==◌, Bool, true, false, List, [], ◌∷◌, ◌++◌, length, Option, Some, None, if◌then◌else◌, refl, sym, ap, ◌∙◌, arith}
+use Rattle.std.proofs.Common.{◌≡◌, ℕ, suc, ◌<◌, ◌==◌, Bool, true, false, List, [], ◌∷◌, ◌++◌, length, Option, Some, None, if◌then◌else◌, refl, sym, ap, ◌∙◌, arith}
 use Rattle.std.proofs.lemmas.Bool.{ne_eqb}
 use Rattle.pr_wire.specs.declared.Edge.{Edge}
 use Rattle.pr_decode.specs.declared.decoder.Decoder.{Decoder}
@@ -11,11 +11,11 @@ use Rattle.pr_decode.specs.declared.reading.Transfer.{Transfer}
 use Rattle.pr_decode.specs.declared.stretch.Stretch as declared
 use Rattle.pr_decode.specs.declared.stretch.Turns.{Turns}
 use Rattle.pr_decode.specs.Readings.{Bit, acknowledgement, bits_from, frame_end, glitch_end, opening_of, reading, readings, transfer, turns_of}
-use Rattle.pr_decode.specs.Steps.{after, began, begun_behind, moved, opening_in, with_edge}
+use Rattle.pr_decode.specs.Steps.{advanced, after, began, begun_behind, moved, opening_in, with_edge}
 use Rattle.pr_decode.specs.Stretches.{Stretch, begun, calls, goes_on, longer, stretches_from}
 use Rattle.pr_decode.specs.Taking.{HasBegun, IsRight, Past, first_low, kept, stretch_in, stretched, to_come, transfer_in, with_more}
 use Rattle.pr_decode.specs.Taking.Past.{Low, Waiting}
-use Rattle.pr_decode.proofs.Adding.{byte-read, call-begins, none_come, nothing-begins, opening-released}
+use Rattle.pr_decode.proofs.Adding.{byte-read, call-begins, goes_uncalled, none_come, nothing-begins, opening-released}
 use Rattle.pr_decode.proofs.Cutting.{clock-falls, head-of, stretches-off, stretches-on}
 use Rattle.pr_decode.proofs.Turning.{opened-noted, turns-begun, turns-longer}
 
@@ -51,19 +51,24 @@ glitch-read : (o : Opening) (bs : List Bit) (l : Stretch) (ss : List Stretch) �
 glitch-read o bs l ss h =
     ap (λ v. if v then Frame (sent o bs l) (frame_end (acknowledgement (turns_of l)) ss) else Glitch (sent o bs l) (glitch_end ss)) h
 
+-- one with all bits has some
+whole-uncalled : (bs : List Bit) (ss : List Stretch) → with_more bs 0 ≡ 8 → goes_uncalled bs ss ≡ false
+whole-uncalled [] ss h = absurd (cc)
+whole-uncalled (b ∷ bs) ss h = refl
+
 -- a byte that has begun, read with its end
 pub frame-comes : (p : Stretch) (o : Opening) (bs : List Bit) (l : Stretch) (ss : List Stretch) (end : FrameEnd) → HasBegun p o bs 0 l
     → frame_end (acknowledgement (turns_of l)) ss ≡ end
     → readings 0 (p ∷ (stretched bs ++ l ∷ ss)) ≡ Frame (sent o bs l) end ∷ readings 0 (l ∷ ss)
 frame-comes p o bs l ss end h k =
-    byte-read p o bs 0 l ss h refl
+    byte-read p o bs 0 l ss h (whole-uncalled bs ss h.eight) refl
     ∙ ap (λ r. r ∷ readings 0 (l ∷ ss)) (frame-read o bs l ss (eight-bits bs h.eight) ∙ ap (Frame (sent o bs l)) k)
 
 pub glitch-comes : (p : Stretch) (o : Opening) (bs : List Bit) (n : ℕ) (l : Stretch) (ss : List Stretch) (end : GlitchEnd) → HasBegun p o bs (suc n) l
-    → bits_from (suc n) l ss ≡ none_come l ss → glitch_end ss ≡ end
+    → goes_uncalled bs ss ≡ false → bits_from (suc n) l ss ≡ none_come l ss → glitch_end ss ≡ end
     → readings 0 (p ∷ (stretched bs ++ l ∷ ss)) ≡ Glitch (sent o bs l) end ∷ readings 0 (l ∷ ss)
-glitch-comes p o bs n l ss end h c k =
-    byte-read p o bs (suc n) l ss h c
+glitch-comes p o bs n l ss end h u c k =
+    byte-read p o bs (suc n) l ss h u c
     ∙ ap (λ r. r ∷ readings 0 (l ∷ ss)) (glitch-read o bs l ss (not-eight bs n h.eight) ∙ ap (Glitch (sent o bs l)) k)
 
 -- the turns and the opening of what is kept of a stretch
@@ -152,7 +157,7 @@ waits-off s last e h = by (calls last e) refl (opening_of s) refl
       past = Waiting;
       current = begun true e;
       keeps = keeps-off Waiting Waiting s last e true h k
-          (sym (ap (λ x. if x then None else begun_behind (opening_in (stretch_in s last)) e) k));
+          (sym (ap (λ x. if x then None else advanced None (stretch_in s last) e) k));
       right = tt;
       comes = λ es. ap (readings 0) (off-called s last e es true h k) ∙ skips-call s e es;
     }
@@ -160,7 +165,7 @@ waits-off s last e h = by (calls last e) refl (opening_of s) refl
       past = Waiting;
       current = begun false e;
       keeps = keeps-off Waiting Waiting s last e false h k
-          (sym (ap (λ x. if x then None else begun_behind (opening_in (stretch_in s last)) e) k
+          (sym (ap (λ x. if x then None else advanced None (stretch_in s last) e) k
           ∙ ap (λ x. begun_behind x e) (kept-opening s last ∙ m)));
       right = tt;
       comes = λ es. ap (readings 0) (off-called s last e es false h k) ∙ nothing-begins s (stretches_from (begun false e) e es) m;
@@ -169,7 +174,7 @@ waits-off s last e h = by (calls last e) refl (opening_of s) refl
       past = Low s o [] 8;
       current = begun false e;
       keeps = keeps-off Waiting (Low s o [] 8) s last e false h k
-          (sym (ap (λ x. if x then None else begun_behind (opening_in (stretch_in s last)) e) k
+          (sym (ap (λ x. if x then None else advanced None (stretch_in s last) e) k
           ∙ ap (λ x. begun_behind x e) (kept-opening s last ∙ m)));
       right = record { opens = m; uncalled = refl; bits = tt; eight = refl; pulled = clock-falls s last e h k (opening-released s o m) };
       comes = λ es. ap (readings 0) (off-called s last e es false h k);

@@ -18,8 +18,8 @@ use Rattle.pr_decode.specs.Steps.{acknowledged_at, acknowledged_in, after, after
 use Rattle.pr_decode.specs.Stretches.{Stretch, begun, calls, goes_on}
 use Rattle.pr_decode.specs.Taking.{HasRead, IsRight, IsRightSeen, Past, Seen, kept, stretch_in, to_come, to_come_behind, transfer_in}
 use Rattle.pr_decode.specs.Taking.Past.{High, Low, Waiting}
-use Rattle.pr_decode.proofs.Adding.{low-opens-nothing, nothing-begins}
-use Rattle.pr_decode.proofs.Moving.{Gives, called-high-gives, called-low-gives, ended-bits, ended-frame, ended-high, frame-gives, frame-waits, high-ends, high-moves, late-gives, low-moves}
+use Rattle.pr_decode.proofs.Adding.{low-opens-nothing, nothing-begins, uncalled-behind}
+use Rattle.pr_decode.proofs.Moving.{Gives, called-high-gives, called-low-gives, called-moves, ended-bits, ended-frame, ended-high, ended-some, frame-gives, frame-waits, high-ends, high-moves, late-gives, low-moves}
 use Rattle.pr_decode.proofs.Stepping.{Next, eight-bits, frame-comes, glitch-comes, kept-begun, not-eight, sent, waits}
 
 -- what an edge ends of a byte with CLOCK released, by its tests
@@ -31,12 +31,18 @@ moves : (p : Past) (s : Stretch) (last e : Edge) → IsRight p s → ended_by (t
 moves Waiting s last e h k = waits s last e
 moves (Low p o bs zero) s last e (h, a) k =
     frame-waits p o bs s last e (h, a) (sym (ended-frame (sent o bs s) s last e h.pulled (eight-bits bs h.eight)) ∙ k)
-moves (Low p o bs (suc n)) s last e h k =
-    by (calls last e) refl (sym (ended-bits (sent o bs s) s last e h.pulled (not-eight bs n h.eight)) ∙ k)
+moves (Low p o [] (suc n)) s last e h k = by (calls last e) refl
   where
-    by : (v : Bool) → calls last e ≡ v → (if v then Some (Glitch (sent o bs s) (glitch.Attention e.time)) else None) ≡ None → Next (Low p o bs (suc n)) s last e
+    by : (v : Bool) → calls last e ≡ v → Next (Low p o [] (suc n)) s last e
+    by true c = called-moves p o n s last e h c
+    by false c = low-moves p o [] n s last e h c
+moves (Low p o (b ∷ bs) (suc n)) s last e h k =
+    by (calls last e) refl (sym (ended-some o b bs s last e h.pulled (not-eight (b ∷ bs) n h.eight)) ∙ k)
+  where
+    by : (v : Bool) → calls last e ≡ v → (if v then Some (Glitch (sent o (b ∷ bs) s) (glitch.Attention e.time)) else None) ≡ None
+        → Next (Low p o (b ∷ bs) (suc n)) s last e
     by true c q = absurd (cc)
-    by false c q = low-moves p o bs n s last e h c
+    by false c q = low-moves p o (b ∷ bs) n s last e h c
 moves (High p o bs n l) s last e (h, b) k =
     by (is_late s.first.time e) refl (calls last e) refl (sym (ended-high (sent o bs l) s last e b.released) ∙ k)
   where
@@ -51,15 +57,18 @@ gives : (p : Past) (s : Stretch) (last e : Edge) (r : Reading) → IsRight p s �
 gives Waiting s last e r h k = absurd (cc)
 gives (Low p o bs zero) s last e r (h, a) k =
     frame-gives p o bs s last e r (h, a) (sym (ended-frame (sent o bs s) s last e h.pulled (eight-bits bs h.eight)) ∙ k)
-gives (Low p o bs (suc n)) s last e r h k =
-    by (calls last e) refl (sym (ended-bits (sent o bs s) s last e h.pulled (not-eight bs n h.eight)) ∙ k)
+gives (Low p o [] (suc n)) s last e r h k =
+    let q : None ≡ Some r = sym (ended-bits (sent o [] s) s last e h.pulled (not-eight [] n h.eight)) ∙ k in
+    absurd (cc)
+gives (Low p o (b ∷ bs) (suc n)) s last e r h k =
+    by (calls last e) refl (sym (ended-some o b bs s last e h.pulled (not-eight (b ∷ bs) n h.eight)) ∙ k)
   where
-    by : (v : Bool) → calls last e ≡ v → (if v then Some (Glitch (sent o bs s) (glitch.Attention e.time)) else None) ≡ Some r
-        → Gives (Low p o bs (suc n)) s last e r
+    by : (v : Bool) → calls last e ≡ v → (if v then Some (Glitch (sent o (b ∷ bs) s) (glitch.Attention e.time)) else None) ≡ Some r
+        → Gives (Low p o (b ∷ bs) (suc n)) s last e r
     by false c q = absurd (cc)
     by true c q =
-        let given : Glitch (sent o bs s) (glitch.Attention e.time) ≡ r = cc in
-        rw (← given) (called-low-gives p o bs n s last e h c)
+        let given : Glitch (sent o (b ∷ bs) s) (glitch.Attention e.time) ≡ r = cc in
+        rw (← given) (called-low-gives p o b bs n s last e h c)
 gives (High p o bs n l) s last e r (h, b) k =
     by (is_late s.first.time e) refl (calls last e) refl (sym (ended-high (sent o bs l) s last e b.released) ∙ k)
   where
@@ -77,22 +86,23 @@ gives (High p o bs n l) s last e r (h, b) k =
 settles : (t : Option Transfer) (s : declared.Stretch) (e : Edge) (r : Reading) → ended_by t s e ≡ Some r → is_settled r ≡ true
 settles None s e r h = absurd (cc)
 settles (Some t) s e r h =
-    by s.first.levels.clock (t.bits == 8) (is_late s.first.time e) (calls s.last e) (goes_on s.first s.last e)
+    by s.first.levels.clock (t.bits == 8) (t.bits == 0) (is_late s.first.time e) (calls s.last e) (goes_on s.first s.last e)
     (acknowledged_in (turned (not s.first.levels.clock) s.turns e)) h
   where
-    by : (a b c d g : Bool) (v : Option ℕ)
+    by : (a b z c d g : Bool) (v : Option ℕ)
         → (if a then high_by c d t e
         else (if b then (if g then acknowledged_at t v else Some (Frame t (frame.Unacknowledged e.time)))
-        else (if d then Some (Glitch t (glitch.Attention e.time)) else None))) ≡ Some r
+        else (if z then None else (if d then Some (Glitch t (glitch.Attention e.time)) else None)))) ≡ Some r
         → is_settled r ≡ true
-    by true b true d g v k = let q : Glitch t (glitch.Silence e.time) ≡ r = cc in rw (← q) refl
-    by true b false true g v k = let q : Glitch t (glitch.Attention e.time) ≡ r = cc in rw (← q) refl
-    by true b false false g v k = absurd (cc)
-    by false true c d true (Some u) k = let q : Frame t (frame.Acknowledged u) ≡ r = cc in rw (← q) refl
-    by false true c d true None k = absurd (cc)
-    by false true c d false v k = let q : Frame t (frame.Unacknowledged e.time) ≡ r = cc in rw (← q) refl
-    by false false c true g v k = let q : Glitch t (glitch.Attention e.time) ≡ r = cc in rw (← q) refl
-    by false false c false g v k = absurd (cc)
+    by true b z true d g v k = let q : Glitch t (glitch.Silence e.time) ≡ r = cc in rw (← q) refl
+    by true b z false true g v k = let q : Glitch t (glitch.Attention e.time) ≡ r = cc in rw (← q) refl
+    by true b z false false g v k = absurd (cc)
+    by false true z c d true (Some u) k = let q : Frame t (frame.Acknowledged u) ≡ r = cc in rw (← q) refl
+    by false true z c d true None k = absurd (cc)
+    by false true z c d false v k = let q : Frame t (frame.Unacknowledged e.time) ≡ r = cc in rw (← q) refl
+    by false false true c d g v k = absurd (cc)
+    by false false false c true g v k = let q : Glitch t (glitch.Attention e.time) ≡ r = cc in rw (← q) refl
+    by false false false c false g v k = absurd (cc)
 
 -- what the end of a recording leaves
 ends : (p : Past) (s : Stretch) (last : Edge) → IsRight p s → to_come p s last [] ≡ option_to_list (cut_in (transfer_in p s))
@@ -101,10 +111,10 @@ ends (Low p o bs zero) s last (h, a) =
     frame-comes p o bs s [] frame.Cut h (ap (λ v. frame_end v []) a)
     ∙ ap (λ v. (if v then Frame (sent o bs s) frame.Cut else Glitch (sent o bs s) glitch.Cut) ∷ []) (sym (eight-bits bs h.eight))
 ends (Low p o bs (suc n)) s last h =
-    glitch-comes p o bs n s [] glitch.Cut h refl refl
+    glitch-comes p o bs n s [] glitch.Cut h (uncalled-behind bs [] refl) refl refl
     ∙ ap (λ v. (if v then Frame (sent o bs s) frame.Cut else Glitch (sent o bs s) glitch.Cut) ∷ []) (sym (not-eight bs n h.eight))
 ends (High p o bs n l) s last (h, b) =
-    glitch-comes p o bs n l (s ∷ []) glitch.Cut h refl
+    glitch-comes p o bs n l (s ∷ []) glitch.Cut h (uncalled-behind bs (s ∷ []) b.uncalled) refl
     (high-ends s [] b.uncalled ∙ ap (λ v. silence_or v glitch.Cut) b.in_time)
     ∙ (ap (λ x. Glitch (sent o bs l) glitch.Cut ∷ x) (nothing-begins l (s ∷ []) (low-opens-nothing l h.pulled))
     ∙ ap (λ v. (if v then Frame (sent o bs l) frame.Cut else Glitch (sent o bs l) glitch.Cut) ∷ []) (sym (not-eight bs n h.eight)))

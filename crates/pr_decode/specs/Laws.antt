@@ -5,7 +5,7 @@ use Rattle.pr_wire.specs.declared.Edge.{Edge}
 use Rattle.pr_wire.specs.declared.Frame.{Frame}
 use Rattle.pr_wire.specs.Pieces.{IsCut, Piece, Spells}
 use Rattle.pr_decode.specs.declared.reading.Reading.{Reading}
-use Rattle.pr_decode.specs.Outlines.{outline}
+use Rattle.pr_decode.specs.Outlines.{openings, outline}
 use Rattle.pr_decode.specs.PieceReadings.{frames_in, pieces_read}
 use Rattle.pr_decode.specs.Readings.{readings_of, settled_of}
 use Rattle.pr_decode.specs.Stretches.{stretches}
@@ -18,9 +18,12 @@ MoreEdgesAddReadings = (edges more : List Edge) → (later : List Reading) × (s
 abbrev pub OnlyTheLastIsCut : Type 0
 OnlyTheLastIsCut = (edges : List Edge) → (cut : Option Reading) × (readings_of edges ≡ settled_of edges ++ option_to_list cut)
 
--- of a stretch nothing counts but its outline: recordings with the same outlines say the same
+-- nothing counts but outlines and openings: recordings with the same ones say the same. So in the bits of a byte DATA counts only
+-- where CLOCK is released for them
 abbrev pub OutlinesDecide : Type 0
-OutlinesDecide = (a b : List Edge) → map outline (stretches a) ≡ map outline (stretches b) → readings_of a ≡ readings_of b
+OutlinesDecide =
+    (a b : List Edge) → map outline (stretches a) ≡ map outline (stretches b) → openings 0 (stretches a) ≡ openings 0 (stretches b)
+    → readings_of a ≡ readings_of b
 
 -- a lawful trace says the frames of its pieces, with the moments of these, and nothing else
 abbrev pub TracesSayTheirPieces : Type 0

@@ -1,6 +1,6 @@
 -- Trusted: what a recording says: the bytes that stand among its stretches. A byte is an opening, in which CLOCK is released and
 -- DATA is pulled and then released, and behind it eight bits, each CLOCK pulled and then released; CLOCK's next pull ends it.
-use Rattle.std.specs.Prelude.{ℕ, zero, suc, ◌-◌, ◌==◌, nat_lt, min, max, Bool, true, false, not, ◌&&◌, List, [], ◌∷◌, ◌++◌, length, map, Option, Some, None, if◌then◌else◌}
+use Rattle.std.specs.Prelude.{ℕ, zero, suc, ◌-◌, ◌==◌, nat_lt, min, max, Bool, true, false, not, ◌&&◌, ◌||◌, List, [], ◌∷◌, ◌++◌, length, map, Option, Some, None, if◌then◌else◌}
 use Rattle.std.specs.List.{filter}
 use Rattle.pr_wire.specs.declared.Edge.{Edge}
 use Rattle.pr_wire.specs.Levels.{byte_of}
@@ -161,11 +161,18 @@ abbrev pub number_of : List Bit → ℕ
 number_of [] = 0
 number_of (b ∷ bs) = suc (suc (number_of bs))
 
--- what an opening begins with the stretch behind it, in which ATN is not pulled: a byte, and how many stretches its bits are
+-- ATN's pull begins the first of some stretches
+abbrev pub is_called : List Stretch → Bool
+is_called [] = false
+is_called (s ∷ ss) = s.called
+
+-- what an opening begins with the stretch behind it: a byte, and how many stretches its bits are. Nothing where ATN is pulled with
+-- CLOCK's first pull, or before CLOCK is released for a first bit: no bit has come then, and it was the computer that pulled CLOCK,
+-- to call. (Behind a talker's last byte CLOCK is let go, and then DATA, as if one more were to come.)
 abbrev pub begun_by : Option Opening → Stretch → List Stretch → Option (Reading × ℕ)
 begun_by None low ss = None
 begun_by (Some o) low ss =
-    if low.called then None else (let b = bits_from 8 low ss in Some (reading o low.first.time b, number_of b.bits))
+    if low.called || is_called ss then None else (let b = bits_from 8 low ss in Some (reading o low.first.time b, number_of b.bits))
 
 abbrev pub begins : Stretch → List Stretch → Option (Reading × ℕ)
 begins s [] = None

@@ -109,8 +109,11 @@ frame_ended t s e =
 abbrev pub called_at : Transfer → Stretch → Edge → Option Reading
 called_at t s e = if calls s.last e then Some (Glitch t (glitch.Attention e.time)) else None
 
+abbrev pub bits_ended : Transfer → Stretch → Edge → Option Reading
+bits_ended t s e = if t.bits == 0 then None else called_at t s e
+
 abbrev pub low_ended : Transfer → Stretch → Edge → Option Reading
-low_ended t s e = if t.bits == 8 then frame_ended t s e else called_at t s e
+low_ended t s e = if t.bits == 8 then frame_ended t s e else bits_ended t s e
 
 abbrev pub high_ended : Transfer → Stretch → Edge → Option Reading
 high_ended t s e = if is_late s.first.time e then Some (Glitch t (glitch.Silence e.time)) else called_at t s e
@@ -124,9 +127,12 @@ abbrev pub begun_behind : Option Opening → Edge → Option Transfer
 begun_behind None e = None
 begun_behind (Some o) e = Some (begun_transfer o e)
 
+abbrev pub advanced : Option Transfer → Stretch → Edge → Option Transfer
+advanced None s e = begun_behind (opening_in s) e
+advanced (Some t) s e = Some (if s.first.levels.clock then with_bit t s.first e else t)
+
 abbrev pub moved : Option Transfer → Stretch → Edge → Option Transfer
-moved None s e = if calls s.last e then None else begun_behind (opening_in s) e
-moved (Some t) s e = Some (if s.first.levels.clock then with_bit t s.first e else t)
+moved t s e = if calls s.last e then None else advanced t s e
 
 -- a decoder behind an edge that goes on with a stretch, or ends it
 abbrev pub after : Option Transfer → Stretch → Edge → Decoder

@@ -5,7 +5,7 @@ ghost use Rattle.std.specs.Option.{option_to_list};
 ghost use Rattle.pr_wire.specs.declared.Edge.{Edge};
 ghost use Rattle.pr_decode.specs.declared.reading.Reading.{Reading};
 ghost use Rattle.pr_decode.specs.Readings.{readings_of, settled_of};
-ghost use Rattle.pr_decode.specs.Steps.{after, after_edge, ended_by, high_ended, low_ended, moved};
+ghost use Rattle.pr_decode.specs.Steps.{after, after_edge, ended_by, frame_ended, high_ended, low_ended, moved};
 ghost use Rattle.pr_decode.specs.Taking.{HasRead, IsBefore};
 
 use crate::reading::{FrameEnd, GlitchEnd, Reading, Transfer};
@@ -29,22 +29,30 @@ pub struct Decoder {
     transfer: Option<Transfer>,
 }
 
-/// What an edge ends of a byte that has begun, behind a stretch with CLOCK pulled.
+/// What an edge ends of a byte that has its eight bits, while CLOCK is pulled.
+fn frame_ended(transfer: Transfer, stretch: Stretch, edge: Edge) -> Option<Reading>
+    ensures { result ≡ frame_ended transfer stretch edge }
+{
+    if !stretch.goes_on(edge) {
+        return Some(Reading::Frame(transfer, FrameEnd::Unacknowledged(edge.time)));
+    }
+    let time = stretch.with(edge).acknowledgement()?;
+    Some(Reading::Frame(transfer, FrameEnd::Acknowledged(time)))
+}
+
+/// What an edge ends of a byte that has begun, behind a stretch with CLOCK pulled. Where ATN is pulled
+/// before the first bit, that is nothing.
 fn low_ended(transfer: Transfer, stretch: Stretch, edge: Edge) -> Option<Reading>
     ensures { result ≡ low_ended transfer stretch edge }
 {
-    if transfer.bits == 8 {
-        if !stretch.goes_on(edge) {
-            return Some(Reading::Frame(transfer, FrameEnd::Unacknowledged(edge.time)));
-        }
-        match stretch.with(edge).acknowledgement() {
-            Some(time) => Some(Reading::Frame(transfer, FrameEnd::Acknowledged(time))),
-            None => None,
-        }
-    } else if calls(stretch.last, edge) {
-        Some(Reading::Glitch(transfer, GlitchEnd::Attention(edge.time)))
-    } else {
-        None
+    match transfer.bits {
+        0 => None,
+        8 => frame_ended(transfer, stretch, edge),
+        _ if calls(stretch.last, edge) => Some(Reading::Glitch(
+            transfer,
+            GlitchEnd::Attention(edge.time),
+        )),
+        _ => None,
     }
 }
 
@@ -73,24 +81,21 @@ fn ended(transfer: Option<Transfer>, stretch: Stretch, edge: Edge) -> Option<Rea
     }
 }
 
-/// The byte that has begun, once an edge has ended a stretch.
+/// The byte that has begun, once an edge has ended a stretch: none behind ATN's pull.
 fn moved(transfer: Option<Transfer>, stretch: Stretch, edge: Edge) -> Option<Transfer>
     ensures { result ≡ moved transfer stretch edge }
 {
+    if calls(stretch.last, edge) {
+        return None;
+    }
     match transfer {
-        Some(transfer) => Some(if stretch.first.levels.clock {
-            transfer.with_bit(stretch.first, edge)
-        } else {
-            transfer
-        }),
+        Some(transfer) if stretch.first.levels.clock => {
+            Some(transfer.with_bit(stretch.first, edge))
+        }
+        Some(transfer) => Some(transfer),
         None => {
-            if calls(stretch.last, edge) {
-                return None;
-            }
-            match stretch.opening() {
-                Some(opening) => Some(Transfer::begun(opening, edge)),
-                None => None,
-            }
+            let opening = stretch.opening()?;
+            Some(Transfer::begun(opening, edge))
         }
     }
 }

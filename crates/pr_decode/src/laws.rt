@@ -16,9 +16,10 @@ pub fn traces_are_read()
     ensures spelled { TracesSayWhatTheySpell }
 {}
 
-/// A law: recordings whose stretches, in which CLOCK stays as it is, have the same outlines say the same:
-/// of a stretch nothing counts but its first edge, the edges at which DATA turns, and when an edge first
-/// came too late for a bit.
+/// A law: recordings whose stretches, in which CLOCK stays as it is, have the same outlines and openings say
+/// the same. So in the bits of a byte nothing counts but when CLOCK turns and DATA's level where CLOCK is
+/// released, when an edge first came too late for a bit, and ATN's pulls; behind eight bits the
+/// acknowledgement.
 pub fn moments_decide()
     ensures { OutlinesDecide }
 {}

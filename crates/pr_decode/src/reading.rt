@@ -67,7 +67,7 @@ pub enum FrameEnd {
 /// What ends a byte before its eight bits.
 #[derive(Clone, Copy, Debug, PartialEq, Eq)]
 pub enum GlitchEnd {
-    /// ATN is pulled.
+    /// ATN is pulled, and CLOCK was released for a first bit: before that nothing is said.
     Attention(u64),
     /// CLOCK is released for more than 1000 microseconds (profile); this is the first edge after that.
     Silence(u64),

@@ -1,12 +1,21 @@
 -- From what clap says of its matches to the subcommand met.
-use Rattle.std.proofs.Common.{◌≡◌, List, [], ◌∷◌, refl, ap, ◌∙◌, Option, Some, None, Bor, Bool, true, false, inl, inr}
-use Rattle.std.specs.Prelude.{option_map, unwrap_or, IfSome, find, if◌then◌else◌}
-use Rattle.clap.specs.Words.{Text, built, first_of, first_value, is_simple, rows_of, subcommand_of}
-use Rattle.clap.proofs.WalkLemmas.{first_value-rows}
+use Rattle.std.proofs.Common.{◌≡◌, List, [], ◌∷◌, refl, ap, ◌∙◌, sym, Option, Some, None, Bor, Bool, true, false, inl, inr}
+use Rattle.std.specs.Prelude.{option_and_then, option_map, unwrap_or, IfSome, find, if◌then◌else◌}
+use Rattle.std.specs.Option.{option_map_or}
+use Rattle.std.specs.Str.{bytes_eq}
+use Rattle.clap.specs.Words.{App, HasMatchesOf, Text, built, first_of, first_value, is_simple, rows_of, subcommand_of, subcommand_rows_of}
+use Rattle.clap.specs.declared.parser.matches.ArgMatches.{ArgMatches}
+use Rattle.clap.proofs.WalkLemmas.{find_row, first_value-rows}
 use Rattle.clap.specs.Simple.{Shape, argument_words, entered, names_of, rows_at, label_of}
 use Rattle.clap.specs.Walk.{answers_to, stop_after}
 use Rattle.clap.proofs.OnLiterals.{clap_on_literals}
+use Rattle.clap.specs.Matches.{matched_of}
+use Rattle.clap.specs.Walk.{row_of}
+use Rattle.clap.specs.declared.parser.matches.Found.{Found}
+use Rattle.clap.specs.declared.parser.matches.MatchedArg.{MatchedArg}
+use Rattle.clap.specs.declared.parser.matches.ValueSource.{ValueSource}
 use Rattle.pr_options.specs.CommandLine.{print1525}
+use Rattle.pr_options.specs.Given.{is_given, is_of_words}
 use Rattle.pr_options.specs.Subcommands.{IsOurs}
 
 -- each of these subcommands is the program's
@@ -39,6 +48,10 @@ pub program_simple : is_simple print1525 ≡ true
 unfolding clap_on_literals
 program_simple = refl
 
+-- the subcommand that was met is that of the words
+pub met_is : (a : App) (words : List Text) (m : ArgMatches) → a ≡ print1525 → HasMatchesOf a words m → subcommand_rows_of m ≡ subcommand_of print1525 words
+met_is a words m e h = (h (ap is_simple e ∙ program_simple)).1 ∙ ap (λ (b : App). subcommand_of b words) e
+
 -- the value that is read is that of the rows
 pub text_is : (o : Option (Bor Text)) (d : Bor Text) (f : _) (id : Text) (r : Bor Text)
     → r ≡ unwrap_or o d → option_map (λ (s : Bor Text). s.now) o ≡ first_value f id → r.now ≡ unwrap_or (first_of id (rows_of f)) d.now
@@ -47,3 +60,12 @@ text_is o d f id r e h = rw e (text_of o d ∙ ap (λ t. unwrap_or t d.now) (h �
     text_of : (o : Option (Bor Text)) (d : Bor Text) → (unwrap_or o d).now ≡ unwrap_or (option_map (λ (s : Bor Text). s.now) o) d.now
     text_of None d = refl
     text_of (Some s) d = refl
+
+-- where a value comes from is told of the rows too
+pub given_is : (f : Found) (id : Text) (r : Option ValueSource) → r ≡ option_and_then (λ a. a.source) (matched_of f id) → is_of_words r ≡ is_given id (rows_of f)
+given_is f id r e =
+    ap is_of_words e ∙ (by (find (λ e. bytes_eq e.0.now id) f.entries.items) ∙ ap (λ o. option_map_or (λ row. is_of_words row.source) o false) (sym (find_row f.entries.items id)))
+  where
+    by : (o : Option (Bor Text × MatchedArg)) → is_of_words (option_and_then (λ a. a.source) (option_map (λ e. e.1) o)) ≡ option_map_or (λ row. is_of_words row.source) (option_map row_of o) false
+    by None = refl
+    by (Some e) = refl

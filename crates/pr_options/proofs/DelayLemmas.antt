@@ -1,22 +1,19 @@
 -- The numbers of a list, its words, and the lists of a value of --delays.
-use Rattle.std.proofs.Common.{◌≡◌, ◌<◌, ◌≤◌, ◌^◌, ◌+◌, ℕ, suc, add-one, drop-cons, List, [], ◌∷◌, ◌++◌, Bool, true, false, ◌&&◌, Option, Some, None, Result, Ok, Err, length, map, drop, get_or, ◌⊎◌, inl, inr, arith, rules, refl, sym, ap, ◌∙◌, append_assoc, append-nil, lit<}
-use Rattle.std.specs.Prelude.{◌==◌, MatchBool, MatchOption, nat_le}
+use Rattle.std.proofs.Common.{◌≡◌, ◌<◌, ◌≤◌, ◌^◌, ◌+◌, ℕ, suc, add-one, drop-cons, List, [], ◌∷◌, ◌++◌, Bool, true, false, ◌&&◌, Option, Some, None, Result, Ok, Err, length, map, drop, get_or, ◌⊎◌, inl, inr, arith, rules, refl, sym, ap, ◌∙◌, append_assoc, append-nil}
+use Rattle.std.specs.Prelude.{◌==◌, MatchOption, if◌then◌else◌, nat_le, nat_lt}
 use Rattle.std.specs.List.{after_first, before_first, list_all, position_or_len, slice_split}
 use Rattle.std.specs.Result.{IsErrAnd, IsErrOf, result_ok}
 use Rattle.std.specs.Str.Parse.{ParsesUnsigned}
-use Rattle.std.specs.Str.Pattern.{FindsChar}
-use Rattle.std.proofs.lemmas.Bool.{cases_lt, eqb-true}
+use Rattle.std.proofs.lemmas.Bool.{lt-ltb, ltb-true}
 use Rattle.std.proofs.lemmas.Bool.Decides.{leb_tells}
-use Rattle.std.proofs.lemmas.List.{drop_all, take_all}
-use Rattle.std.proofs.lemmas.List.Splits.{length-slice_split, slice_split_first, slice_split_none}
-use Rattle.std.proofs.lemmas.List.Sums.{fails_before_first, passes_at_first, prefix_len-le-length}
+use Rattle.std.proofs.lemmas.List.{drop_all}
+use Rattle.std.proofs.lemmas.List.Splits.{length-slice_split, slice_split_first}
 use Rattle.std.proofs.lemmas.Str.Parse.{IsNumeralModel, numerals_by_fold, parse_digits}
-use Rattle.std.proofs.lemmas.Str.Pattern.{contains_char}
 use Rattle.pr_text.specs.Digits.{is_digit, number_after, number_of}
 use Rattle.pr_serial.specs.Bus.{DelayNumbers}
+use Rattle.pr_options.proofs.PartLemmas.{empty_rest, is_mark, one_part, place}
 use Rattle.pr_options.specs.DelayLists.{delays_of, is_number_list, is_raw_number, numbers_in, three_lists, up_to_three, words_of}
-use Rattle.pr_options.specs.declared.delays.DelayFault.{DelayFault}
-use Rattle.pr_options.specs.declared.delays.DelayFault.TheVariants.{BadDelays}
+use Rattle.pr_options.specs.Options.{start_of}
 
 -- std's digits and their number are these
 own : IsNumeralModel (λ ds. list_all is_digit ds ≡ true) number_of
@@ -89,53 +86,30 @@ none_read (b ∷ bs) items h e = absurd (omega arith)
 
 -- a slash
 abbrev slash : ℕ → Bool
-slash x = x == 47
-
--- a text has none, or one at a first place
-place : (text : List ℕ) → (position_or_len slash text ≡ length text) ⊎ (position_or_len slash text < length text)
-place text =
-    let most : position_or_len slash text ≤ length text = prefix_len-le-length _ text in
-    elim (cases_lt (position_or_len slash text) (length text)) [ inl h ↦ inr h | inr h ↦ inl (omega arith) ]
-
--- a text without one is one list
-record IsOneList (text : List ℕ) : Type 0 where
-  parts : slice_split slash text ≡ text ∷ []
-  before : before_first slash text ≡ text
-  behind : after_first slash text ≡ []
-
-one_list : (text : List ℕ) → position_or_len slash text ≡ length text → IsOneList text
-one_list text none = record {
-  parts = slice_split_none slash text (λ k d within. fails_before_first slash text k d (omega arith));
-  before = take_all _ text (omega arith);
-  behind = drop_all _ text (omega arith);
-}
+slash = is_mark 47
 
 -- the parts of three texts, one after another
 same_lists : (a b d x y z : List ℕ) → a ≡ x → b ≡ y → d ≡ z → three_lists a b d ≡ three_lists x y z
 same_lists a b d x y z h k l = rw (h, k, l) refl
 
--- nothing stands before or behind a slash of an empty text
-empty_rest : (t : List ℕ) → t ≡ [] → (before_first slash t ≡ []) × (after_first slash t ≡ [])
-empty_rest t e = rw e (refl, refl)
-
 -- the lists of a text of at most three
 lists_are : (text : List ℕ) → position_or_len slash (after_first slash (after_first slash text)) ≡ length (after_first slash (after_first slash text))
     → delays_of text ≡ three_lists (before_first slash text) (before_first slash (after_first slash text)) (after_first slash (after_first slash text))
-lists_are text third = by (place text) (place (after_first slash text))
+lists_are text third = by (place 47 text) (place 47 (after_first slash text))
   where
     by : (position_or_len slash text ≡ length text) ⊎ (position_or_len slash text < length text)
         → (position_or_len slash (after_first slash text) ≡ length (after_first slash text)) ⊎ (position_or_len slash (after_first slash text) < length (after_first slash text))
         → delays_of text ≡ three_lists (before_first slash text) (before_first slash (after_first slash text)) (after_first slash (after_first slash text))
     by (inl none) k =
-        let one = one_list text none in
-        let rest = empty_rest (after_first slash text) one.behind in
+        let one = one_part 47 text none in
+        let rest = empty_rest 47 (after_first slash text) one.behind in
         ap up_to_three one.parts ∙ same_lists text [] [] (before_first slash text) (before_first slash (after_first slash text)) (after_first slash (after_first slash text)) (sym one.before) (sym rest.0) (sym rest.1)
     by (inr some) (inl none) =
-        let one = one_list (after_first slash text) none in
+        let one = one_part 47 (after_first slash text) none in
         ap up_to_three (slice_split_first slash text 0 some ∙ ap (λ ls. before_first slash text ∷ ls) one.parts)
         ∙ same_lists (before_first slash text) (after_first slash text) [] (before_first slash text) (before_first slash (after_first slash text)) (after_first slash (after_first slash text)) refl (sym one.before) (sym one.behind)
     by (inr some) (inr more) =
-        let one = one_list (after_first slash (after_first slash text)) third in
+        let one = one_part 47 (after_first slash (after_first slash text)) third in
         ap up_to_three (slice_split_first slash text 0 some
         ∙ ap (λ ls. before_first slash text ∷ ls) (slice_split_first slash (after_first slash text) 0 more ∙ ap (λ ls. before_first slash (after_first slash text) ∷ ls) one.parts))
 
@@ -154,17 +128,17 @@ four_lists a b d (l ∷ ls) h = refl
 
 -- a slash behind two
 more_lists : (text : List ℕ) → position_or_len slash (after_first slash (after_first slash text)) < length (after_first slash (after_first slash text)) → delays_of text ≡ None
-more_lists text third = by (place text) (place (after_first slash text))
+more_lists text third = by (place 47 text) (place 47 (after_first slash text))
   where
     by : (position_or_len slash text ≡ length text) ⊎ (position_or_len slash text < length text)
         → (position_or_len slash (after_first slash text) ≡ length (after_first slash text)) ⊎ (position_or_len slash (after_first slash text) < length (after_first slash text))
         → delays_of text ≡ None
     by (inl none) k =
-        let rest = empty_rest (after_first slash text) (one_list text none).behind in
+        let rest = empty_rest 47 (after_first slash text) (one_part 47 text none).behind in
         let short : length (after_first slash (after_first slash text)) ≡ 0 = ap length rest.1 in
         absurd (omega arith)
     by (inr some) (inl none) =
-        let short : length (after_first slash (after_first slash text)) ≡ 0 = ap length (one_list (after_first slash text) none).behind in
+        let short : length (after_first slash (after_first slash text)) ≡ 0 = ap length (one_part 47 (after_first slash text) none).behind in
         absurd (omega arith)
     by (inr some) (inr more) =
         let last = after_first slash (after_first slash (after_first slash text)) in
@@ -179,28 +153,6 @@ too_many text rest d y w third =
     let e = ap (after_first slash) y in
     let end : position_or_len slash (after_first slash (after_first slash text)) < length (after_first slash (after_first slash text)) = rw (w, e) at third in
     more_lists text end
-
--- what `contains` says of a slash
-pub slash_told : (text : List ℕ) (r : Bool) → MatchBool r ((i : ℕ) × (j : ℕ) × FindsChar 47 text (Some (i, j)) × (i ≤ j) × (j ≤ length text)) (FindsChar 47 text None)
-    → MatchBool r (position_or_len slash text < length text) (position_or_len slash text ≡ length text)
-slash_told text true h =
-    let found = (contains_char 47 text true h (lit< tt)).0 refl in
-    by found.0 found.1 found.2 (place text)
-  where
-    by : (k : ℕ) → k < length text → get_or text k 0 ≡ 47 → (position_or_len slash text ≡ length text) ⊎ (position_or_len slash text < length text) → position_or_len slash text < length text
-    by k within is (inr some) = some
-    by k within is (inl none) =
-        let fails : slash (get_or text k 0) ≡ false = fails_before_first slash text k 0 (omega arith) in
-        let passes : slash (get_or text k 0) ≡ true = ap slash is in
-        absurd (cc (sym passes ∙ fails))
-slash_told text false h = by (place text)
-  where
-    by : (position_or_len slash text ≡ length text) ⊎ (position_or_len slash text < length text) → position_or_len slash text ≡ length text
-    by (inl none) = none
-    by (inr some) =
-        let passes : slash (get_or text (position_or_len slash text) 0) ≡ true = passes_at_first slash text 0 some in
-        let found : false ≡ true = (contains_char 47 text false h (lit< tt)).1 (position_or_len slash text) some (eqb-true (get_or text (position_or_len slash text) 0) 47 passes) in
-        absurd (cc found)
 
 -- a bad list of three
 pub bad_first : (a b d : List ℕ) → is_number_list a ≡ false → three_lists a b d ≡ None
@@ -217,7 +169,21 @@ pub all_good : (a b d : List ℕ) (numbers : DelayNumbers) → is_number_list a 
     → numbers.computer ≡ numbers_in a → numbers.four ≡ numbers_in b → numbers.five ≡ numbers_in d → three_lists a b d ≡ Some numbers
 all_good a b d numbers g h k x y z = rw (g, h, k, ← x, ← y, ← z) refl
 
+-- a start that was read
+pub start_given : {E : Type 0} (bs : List ℕ) (r : Result ℕ E) (o : Option ℕ) → o ≡ result_ok r → list_all is_digit bs ≡ true → ParsesUnsigned 64 10 bs r → o ≡ start_of bs
+start_given {E} bs (Ok n) o e digits h =
+    let k : ((0 < length bs) × (number_of bs < 2 ^ 64)) × (n ≡ number_of bs) = parse_digits own {E = E} 64 bs (Ok n) h digits in
+    rw (e, digits, lt-ltb 0 (length bs) k.0.0, lt-ltb (number_of bs) (2 ^ 64) k.0.1) (ap Some k.1)
+start_given {E} bs (Err x) o e digits h =
+    let k : ¬ ((0 < length bs) × (number_of bs < 2 ^ 64)) = parse_digits own {E = E} 64 bs (Err x) h digits in
+    rw (e, digits) (by k (nat_lt 0 (length bs)) (nat_lt (number_of bs) (2 ^ 64)) refl refl)
+  where
+    by : ¬ ((0 < length bs) × (number_of bs < 2 ^ 64)) → (a b : Bool) → a ≡ nat_lt 0 (length bs) → b ≡ nat_lt (number_of bs) (2 ^ 64) → None ≡ (if a && (true && b) then Some (number_of bs) else None)
+    by k false b e f = refl
+    by k true false e f = refl
+    by k true true e f = absurd (k (ltb-true 0 (length bs) (sym e), ltb-true (number_of bs) (2 ^ 64) (sym f)))
+
 -- the fault that a `?` hands on
-pub same_fault : {T : Type 0} (r : Result T DelayFault) (f : DelayFault) → IsErrAnd r (λ g. g ≡ f) → IsErrOf r BadDelays → f ≡ BadDelays
-same_fault (Ok x) f e h = absurd e
-same_fault (Err g) f e h = cc
+pub same_fault : {T E : Type 0} (r : Result T E) (f g : E) → IsErrAnd r (λ x. x ≡ f) → IsErrOf r g → f ≡ g
+same_fault (Ok x) f g e h = absurd e
+same_fault (Err x) f g e h = cc

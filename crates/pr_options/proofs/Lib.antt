@@ -1,2 +1,4 @@
 pub mod CommandLemmas
+pub mod PartLemmas
 pub mod DelayLemmas
+pub mod NameLemmas

@@ -2,42 +2,48 @@
 use Rattle.std.specs.Prelude.{[], ◌∷◌, Some, codes, true}
 use Rattle.clap.specs.Words.{App, Rule, Text, new_app, new_rule, with_rule, with_subcommand}
 use Rattle.clap.specs.Simple.{on_top}
+use Rattle.clap.specs.declared.builder.action.ArgAction.TheVariants.{SetTrue}
+use Rattle.pr_options.specs.OptionNames.{Valued}
+use Rattle.pr_options.specs.OptionNames as option
 
--- an option with a value, and the value where it is not given
+-- an option of this name with a value, and the value where it is not given
 abbrev pub value_rule : Text → Text → Rule
-value_rule id default = record (new_rule id) { long = Some id; defaults = default ∷ [] }
+value_rule name default = record (new_rule name) { long = Some name; defaults = default ∷ [] }
 
--- which printers are present
-abbrev pub present_rule : Rule
-present_rule = value_rule (codes "present") (codes "both")
+-- an option without a value
+abbrev pub flag_rule : Text → Rule
+flag_rule name = record (new_rule name) { long = Some name; action = Some SetTrue }
 
--- how the status goes from statement to statement
-abbrev pub status_rule : Rule
-status_rule = value_rule (codes "status") (codes "each")
+-- a command with one option more
+abbrev pub with_option : App → Valued → App
+with_option a o = with_rule a (value_rule o.name o.default)
 
--- the delays of the wires
-abbrev pub delays_rule : Rule
-delays_rule = value_rule (codes "delays") []
-
--- a subcommand that runs a script
-abbrev pub run_app : Text → App
-run_app name = with_rule (with_rule (with_rule (new_app name) present_rule) delays_rule) status_rule
-
--- the character set that is selected
-abbrev pub set_rule : Rule
-set_rule = value_rule (codes "set") (codes "upper")
-
--- the format of the page
-abbrev pub as_rule : Rule
-as_rule = value_rule (codes "as") (codes "list")
+-- a subcommand that runs a script, and what it writes
+abbrev pub run_app : Text → Valued → App
+run_app name form =
+    with_rule (with_option (with_option (with_option (with_option (new_app name) option.present) option.delays) option.status) form)
+    (flag_rule option.explain)
 
 -- the subcommand that writes the pages of a script
 abbrev pub pages_app : App
-pages_app = with_rule (run_app (codes "pages")) as_rule
+pages_app = run_app (codes "pages") option.page_as
+
+-- the subcommand that writes the trace of a script
+abbrev pub bus_app : App
+bus_app = run_app (codes "bus") option.trace_as
+
+-- what is read of a trace, by the subcommand that checks it
+abbrev pub input_app : App
+input_app =
+    with_option (with_rule (with_option (with_option (new_app (codes "check")) option.from) option.names) (flag_rule option.invert)) option.from_time
+
+-- the subcommand that checks a trace
+abbrev pub check_app : App
+check_app = with_rule (with_option input_app option.report_as) (flag_rule option.explain)
 
 -- the subcommand that writes the page of a printer's bytes
 abbrev pub raw_app : App
-raw_app = with_rule (with_rule (new_app (codes "raw")) set_rule) as_rule
+raw_app = with_rule (with_option (with_option (new_app (codes "raw")) option.set) option.page_as) (flag_rule option.explain)
 
 -- the program without its subcommands, of which it wants one; it has a version to tell
 abbrev pub program_app : App
@@ -46,5 +52,4 @@ program_app = on_top (λ s. record s { has_version = true; subcommand_required =
 -- the program
 abbrev pub print1525 : App
 print1525 =
-    with_subcommand (with_subcommand (with_subcommand (with_subcommand program_app pages_app.top) (run_app (codes "bus")).top)
-    (new_app (codes "check")).top) raw_app.top
+    with_subcommand (with_subcommand (with_subcommand (with_subcommand program_app pages_app.top) bus_app.top) check_app.top) raw_app.top

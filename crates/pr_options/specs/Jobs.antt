@@ -1,38 +1,24 @@
 -- Trusted: what a command line asks for, by clap's meaning of the command.
-use Rattle.std.specs.Prelude.{◌≡◌, Bool, List, [], Option, Some, None, codes, unwrap_or}
-use Rattle.clap.specs.Words.{Row, Text, first_of}
+use Rattle.std.specs.Prelude.{◌≡◌, ◌⊎◌, Bool, List, Option, Some, None, codes}
+use Rattle.clap.specs.Words.{Row, Text}
 use Rattle.pr_serial.specs.declared.Present.{Present}
 use Rattle.pr_serial.specs.Bus.{DelayNumbers}
 use Rattle.pr_bus.specs.declared.wires.Delays.{Delays}
 use Rattle.pr_bus.specs.DelaysLeft.{numbers_left}
 use Rattle.pr_basic.specs.declared.session.StatusMode.{StatusMode}
 use Rattle.pr_options.specs.DelayLists.{delays_of}
-use Rattle.pr_options.specs.Options.{format_of, mode_of, present_of, set_of}
+use Rattle.pr_options.specs.Options.{format_of, mode_of, present_of, report_of, set_of, trace_format_of}
+use Rattle.pr_options.specs.OptionNames as option
+use Rattle.pr_options.specs.Given.{value_in}
+use Rattle.pr_options.specs.Inputs.{AsksToRead, IsBadFrom, IsBadNames, IsBadStart, IsUnfit}
 use Rattle.pr_options.specs.declared.format.Format.{Format}
+use Rattle.pr_options.specs.declared.format.TraceFormat.{TraceFormat}
+use Rattle.pr_options.specs.declared.format.Report.{Report}
+use Rattle.pr_options.specs.declared.format.TraceInput.{TraceInput}
 use Rattle.pr_options.specs.declared.command_line.Job.{Job}
 use Rattle.pr_options.specs.declared.command_line.Job.TheVariants.{Pages, Bus, Check, Raw}
 use Rattle.pr_options.specs.declared.command_line.JobFault.{JobFault}
 use Rattle.pr_options.specs.declared.command_line.JobFault.TheVariants as fault
-
--- the value of --present, `both` where it is not given
-abbrev pub present_text : List Row → Text
-present_text rows = unwrap_or (first_of (codes "present") rows) (codes "both")
-
--- the value of --delays, empty where it is not given
-abbrev pub delays_text : List Row → Text
-delays_text rows = unwrap_or (first_of (codes "delays") rows) []
-
--- the value of --status, `each` where it is not given
-abbrev pub status_text : List Row → Text
-status_text rows = unwrap_or (first_of (codes "status") rows) (codes "each")
-
--- the value of --set, `upper` where it is not given
-abbrev pub set_text : List Row → Text
-set_text rows = unwrap_or (first_of (codes "set") rows) (codes "upper")
-
--- the value of --as, `list` where it is not given
-abbrev pub as_text : List Row → Text
-as_text rows = unwrap_or (first_of (codes "as") rows) (codes "list")
 
 -- the subcommand met, with the rows of its options
 abbrev pub Met : Type 0
@@ -42,27 +28,40 @@ Met = Option (Text × List Row)
 pub record AsksToRun (met : Met) (name : Text) (present : Present) (delays : Delays) (mode : StatusMode) : Type 0 where
   pub rows : List Row
   pub is_met : met ≡ Some (name, rows)
-  pub is_present : present_of (present_text rows) ≡ Some present
-  pub are_delays : delays_of (delays_text rows) ≡ Some (numbers_left delays)
-  pub is_mode : mode_of (status_text rows) ≡ Some mode
+  pub is_present : present_of (value_in option.present rows) ≡ Some present
+  pub are_delays : delays_of (value_in option.delays rows) ≡ Some (numbers_left delays)
+  pub is_mode : mode_of (value_in option.status rows) ≡ Some mode
 
 -- the subcommand of this name was met, and its page is to have this format
 pub record AsksAs (met : Met) (name : Text) (format : Format) : Type 0 where
   pub rows : List Row
   pub is_met : met ≡ Some (name, rows)
-  pub is_format : format_of (as_text rows) ≡ Some format
+  pub is_format : format_of (value_in option.page_as rows) ≡ Some format
+
+-- the subcommand `bus` was met, and the trace is to have this format
+pub record AsksForTrace (met : Met) (format : TraceFormat) : Type 0 where
+  pub rows : List Row
+  pub is_met : met ≡ Some (codes "bus", rows)
+  pub is_format : trace_format_of (value_in option.trace_as rows) ≡ Some format
+
+-- the subcommand `check` was met, with this trace, of which this is to be written
+pub record AsksToCheck (met : Met) (input : TraceInput) (report : Report) : Type 0 where
+  pub rows : List Row
+  pub is_met : met ≡ Some (codes "check", rows)
+  pub is_input : AsksToRead rows input
+  pub is_report : report_of (value_in option.report_as rows) ≡ Some report
 
 -- the subcommand `raw` was met, and this set is to be selected, lower/upper case or not
 pub record AsksToSelect (met : Met) (lower : Bool) : Type 0 where
   pub rows : List Row
   pub is_met : met ≡ Some (codes "raw", rows)
-  pub is_set : set_of (set_text rows) ≡ Some lower
+  pub is_set : set_of (value_in option.set rows) ≡ Some lower
 
 -- the subcommand met asks for the job
 abbrev pub AsksFor : Met → Job → Type 0
 AsksFor met (Pages present delays mode format) = AsksToRun met (codes "pages") present delays mode × AsksAs met (codes "pages") format
-AsksFor met (Bus present delays mode) = AsksToRun met (codes "bus") present delays mode
-AsksFor met Check = (rows : List Row) × (met ≡ Some (codes "check", rows))
+AsksFor met (Bus present delays mode format) = AsksToRun met (codes "bus") present delays mode × AsksForTrace met format
+AsksFor met (Check input report) = AsksToCheck met input report
 AsksFor met (Raw lower format) = AsksToSelect met lower × AsksAs met (codes "raw") format
 
 -- a value of --present that is none
@@ -70,7 +69,7 @@ pub record HasBadPresent (met : Met) : Type 0 where
   pub name : Text
   pub rows : List Row
   pub is_met : met ≡ Some (name, rows)
-  pub is_bad : present_of (present_text rows) ≡ None
+  pub is_bad : present_of (value_in option.present rows) ≡ None
 
 -- a good --present, and a value of --delays that is none
 pub record HasBadDelays (met : Met) : Type 0 where
@@ -78,8 +77,8 @@ pub record HasBadDelays (met : Met) : Type 0 where
   pub rows : List Row
   pub present : Present
   pub is_met : met ≡ Some (name, rows)
-  pub is_present : present_of (present_text rows) ≡ Some present
-  pub is_bad : delays_of (delays_text rows) ≡ None
+  pub is_present : present_of (value_in option.present rows) ≡ Some present
+  pub is_bad : delays_of (value_in option.delays rows) ≡ None
 
 -- a good --present, good --delays, and a value of --status that is none
 pub record HasBadStatus (met : Met) : Type 0 where
@@ -88,18 +87,18 @@ pub record HasBadStatus (met : Met) : Type 0 where
   pub present : Present
   pub delays : DelayNumbers
   pub is_met : met ≡ Some (name, rows)
-  pub is_present : present_of (present_text rows) ≡ Some present
-  pub are_delays : delays_of (delays_text rows) ≡ Some delays
-  pub is_bad : mode_of (status_text rows) ≡ None
+  pub is_present : present_of (value_in option.present rows) ≡ Some present
+  pub are_delays : delays_of (value_in option.delays rows) ≡ Some delays
+  pub is_bad : mode_of (value_in option.status rows) ≡ None
 
 -- good values of --present, --delays and --status
 pub record IsGoodRun (rows : List Row) : Type 0 where
   pub present : Present
   pub delays : DelayNumbers
   pub mode : StatusMode
-  pub is_present : present_of (present_text rows) ≡ Some present
-  pub are_delays : delays_of (delays_text rows) ≡ Some delays
-  pub is_mode : mode_of (status_text rows) ≡ Some mode
+  pub is_present : present_of (value_in option.present rows) ≡ Some present
+  pub are_delays : delays_of (value_in option.delays rows) ≡ Some delays
+  pub is_mode : mode_of (value_in option.status rows) ≡ Some mode
 
 -- a good --present, good --delays, a good --status, and a value of --set that is none
 pub record HasBadSet (met : Met) : Type 0 where
@@ -107,17 +106,58 @@ pub record HasBadSet (met : Met) : Type 0 where
   pub rows : List Row
   pub is_met : met ≡ Some (name, rows)
   pub is_run : IsGoodRun rows
-  pub is_bad : set_of (set_text rows) ≡ None
+  pub is_bad : set_of (value_in option.set rows) ≡ None
 
--- good values of all other options, and a value of --as that is none
-pub record HasBadAs (met : Met) : Type 0 where
+-- good values of these four, and a value of an option of `check` that is none
+pub record HasBadInput (met : Met) (IsBad : List Row → Type 0) : Type 0 where
   pub name : Text
   pub rows : List Row
   pub lower : Bool
   pub is_met : met ≡ Some (name, rows)
   pub is_run : IsGoodRun rows
-  pub is_set : set_of (set_text rows) ≡ Some lower
-  pub is_bad : format_of (as_text rows) ≡ None
+  pub is_set : set_of (value_in option.set rows) ≡ Some lower
+  pub is_bad : IsBad rows
+
+-- a value of --from that is none
+abbrev pub HasBadFrom : Met → Type 0
+HasBadFrom met = HasBadInput met IsBadFrom
+
+-- a good --from, and a value of --names that is none
+abbrev pub HasBadNames : Met → Type 0
+HasBadNames met = HasBadInput met IsBadNames
+
+-- good values of --from and --names, and one of --from-time that is none
+abbrev pub HasBadStart : Met → Type 0
+HasBadStart met = HasBadInput met IsBadStart
+
+-- good values of all three, and one is given that goes with a recording, where the trace is a text
+abbrev pub IsNoRecording : Met → Type 0
+IsNoRecording met = HasBadInput met IsUnfit
+
+-- good values of all other options, and a bad value of --as, by the name of the subcommand
+pub record HasBadAs (met : Met) (IsBad : Text → List Row → Type 0) : Type 0 where
+  pub name : Text
+  pub rows : List Row
+  pub lower : Bool
+  pub input : TraceInput
+  pub is_met : met ≡ Some (name, rows)
+  pub is_run : IsGoodRun rows
+  pub is_set : set_of (value_in option.set rows) ≡ Some lower
+  pub is_input : AsksToRead rows input
+  pub is_bad : IsBad name rows
+
+-- `pages` or `raw`, and a value of --as that is no format of a page
+abbrev pub HasBadPageAs : Met → Type 0
+HasBadPageAs met =
+    HasBadAs met (λ name rows. ((name ≡ codes "pages") ⊎ (name ≡ codes "raw")) × (format_of (value_in option.page_as rows) ≡ None))
+
+-- `bus`, and a value of --as that is no format of a trace
+abbrev pub HasBadTraceAs : Met → Type 0
+HasBadTraceAs met = HasBadAs met (λ name rows. (name ≡ codes "bus") × (trace_format_of (value_in option.trace_as rows) ≡ None))
+
+-- `check`, and a value of --as that is no report
+abbrev pub HasBadReportAs : Met → Type 0
+HasBadReportAs met = HasBadAs met (λ name rows. (name ≡ codes "check") × (report_of (value_in option.report_as rows) ≡ None))
 
 -- the command line is refused as clap refuses it
 abbrev pub IsLine : JobFault → Type 0
@@ -126,5 +166,11 @@ IsLine fault.BadPresent = ⊥
 IsLine fault.BadDelays = ⊥
 IsLine fault.BadStatus = ⊥
 IsLine fault.BadSet = ⊥
-IsLine fault.BadAs = ⊥
+IsLine fault.BadFrom = ⊥
+IsLine fault.BadNames = ⊥
+IsLine fault.BadStart = ⊥
+IsLine fault.NoRecording = ⊥
+IsLine fault.BadPageAs = ⊥
+IsLine fault.BadTraceAs = ⊥
+IsLine fault.BadReportAs = ⊥
 IsLine fault.NoMemory = ⊥

@@ -1,6 +1,11 @@
 pub mod DelayLists
 pub mod Options
+pub mod OptionNames
+pub mod SignalNames
+pub mod Given
+pub mod Inputs
 pub mod CommandLine
 pub mod Subcommands
 pub mod Jobs
 pub mod Faults
+pub mod Parts

@@ -1,11 +1,19 @@
 -- Trusted: the values of the program's options.
-use Rattle.std.specs.Prelude.{ℕ, Bool, List, Option, Some, None, true, false, codes, if◌then◌else◌}
+use Rattle.std.specs.Prelude.{ℕ, ◌^◌, ◌&&◌, Bool, List, length, nat_lt, Option, Some, None, true, false, codes, if◌then◌else◌}
+use Rattle.std.specs.List.{list_all}
 use Rattle.std.specs.Str.{bytes_eq}
+use Rattle.pr_text.specs.Digits.{is_digit, number_of}
 use Rattle.pr_serial.specs.declared.Present.{Present}
 use Rattle.pr_basic.specs.declared.session.StatusMode.{StatusMode}
 use Rattle.pr_basic.specs.declared.session.StatusMode.TheVariants.{Each, Kept}
 use Rattle.pr_options.specs.declared.format.Format.{Format}
 use Rattle.pr_options.specs.declared.format.Format.TheVariants as format
+use Rattle.pr_options.specs.declared.format.TraceFormat.{TraceFormat}
+use Rattle.pr_options.specs.declared.format.TraceFormat.TheVariants as trace
+use Rattle.pr_options.specs.declared.format.Source.{Source}
+use Rattle.pr_options.specs.declared.format.Source.TheVariants as source
+use Rattle.pr_options.specs.declared.format.Report.{Report}
+use Rattle.pr_options.specs.declared.format.Report.TheVariants as report
 
 -- which printers are present: none, 4, 5 or both
 abbrev pub present_of : List ℕ → Option Present
@@ -37,3 +45,30 @@ format_of text =
     else (if bytes_eq text (codes "text") then Some format.Lines
     else (if bytes_eq text (codes "svg") then Some format.Picture
     else None))
+
+-- the format of a run's trace: text or vcd
+abbrev pub trace_format_of : List ℕ → Option TraceFormat
+trace_format_of text =
+    if bytes_eq text (codes "text") then Some trace.Text
+    else (if bytes_eq text (codes "vcd") then Some trace.Vcd
+    else None)
+
+-- the format of a trace that is checked: text, vcd or csv
+abbrev pub source_of : List ℕ → Option Source
+source_of text =
+    if bytes_eq text (codes "text") then Some source.Text
+    else (if bytes_eq text (codes "vcd") then Some source.Vcd
+    else (if bytes_eq text (codes "csv") then Some source.Csv
+    else None))
+
+-- what is written of a trace that is checked: frames or story
+abbrev pub report_of : List ℕ → Option Report
+report_of text =
+    if bytes_eq text (codes "frames") then Some report.Frames
+    else (if bytes_eq text (codes "story") then Some report.Story
+    else None)
+
+-- the moment at which a trace starts, in microseconds: decimal digits that spell a number below 2^64
+abbrev pub start_of : List ℕ → Option ℕ
+start_of text =
+    if nat_lt 0 (length text) && (list_all is_digit text && nat_lt (number_of text) (2 ^ 64)) then Some (number_of text) else None

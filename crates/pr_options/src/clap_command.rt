@@ -2,75 +2,43 @@
 
 ghost use Rattle.std.specs.Prelude.{◌≡◌, IfOk, false};
 ghost use Rattle.clap.specs.Words.{app_of, new_app, rule_of};
-ghost use Rattle.pr_options.specs.CommandLine.{as_rule, delays_rule, pages_app, present_rule, print1525, raw_app, run_app};
-ghost use Rattle.pr_options.specs.CommandLine.{set_rule, status_rule, value_rule};
+ghost use Rattle.pr_options.specs.CommandLine.{check_app, flag_rule, print1525, raw_app, run_app, value_rule};
 ghost use Rattle.pr_options.specs.Subcommands.{IsLocal};
 
 use crate::help;
 use crate::help::Told;
-use clap::{Arg, Command};
+use crate::options::{
+    DELAYS, EXPLAIN, FROM, FROM_TIME, Flag, INVERT, NAMES, PAGE_AS, PRESENT, REPORT_AS, SET,
+    STATUS, TRACE_AS, Valued,
+};
+use clap::{Arg, ArgAction, Command};
 use std::alloc::{AllocError, Global};
 
 /// The version of the program.
 const VERSION: &str = "0.1.0";
 
-/// An option with a value, and the value where it is not given.
-fn value_option<'a>(alloc: Global, id: &'a str, default: &'a str) -> Arg<'a>
-    ensures rule { rule_of result ≡ value_rule id.entry.now default.entry.now }
+/// An option with a value. Where the value that stands for none is empty, the help says in words
+/// what it means.
+fn value_option<'a>(alloc: Global, option: Valued) -> Arg<'a>
+    ensures rule { rule_of result ≡ value_rule option.name.now option.default.now }
     ensures local { result.global ≡ false }
 {
-    Arg::new(alloc, id).long(id).default_value(default)
+    Arg::new(alloc, option.name)
+        .long(option.name)
+        .default_value(option.default)
+        .help(option.help)
+        .hide_default_value(option.default.is_empty())
 }
 
-/// The option `--present`.
-fn present_option<'a>(alloc: Global) -> Arg<'a>
-    ensures rule { rule_of result ≡ present_rule }
+/// An option without a value.
+fn flag_option<'a>(alloc: Global, flag: Flag) -> Arg<'a>
+    ensures rule { rule_of result ≡ flag_rule flag.name.now }
     ensures local { result.global ≡ false }
 {
-    value_option(alloc, "present", "both").help("The printers present: none, 4, 5 or both")
-}
-
-/// The option `--status`.
-fn status_option<'a>(alloc: Global) -> Arg<'a>
-    ensures rule { rule_of result ≡ status_rule }
-    ensures local { result.global ≡ false }
-{
-    value_option(alloc, "status", "each").help(
-        "The status: each (cleared before each statement) or kept",
-    )
-}
-
-/// The option `--delays`.
-fn delays_option<'a>(alloc: Global) -> Arg<'a>
-    ensures rule { rule_of result ≡ delays_rule }
-    ensures local { result.global ≡ false }
-{
-    value_option(alloc, "delays", "")
-        .help(
-            "The raw delay numbers: lists for the computer, printer 4 and printer 5, as in 900,999/9 \
-             [default: every delay is the typical one]",
-        )
-        .hide_default_value(true)
-}
-
-/// The option `--set`.
-fn set_option<'a>(alloc: Global) -> Arg<'a>
-    ensures rule { rule_of result ≡ set_rule }
-    ensures local { result.global ≡ false }
-{
-    value_option(alloc, "set", "upper").help(
-        "The character set selected first: upper (graphic/upper case) or lower (lower/upper case)",
-    )
-}
-
-/// The option `--as`.
-fn as_option<'a>(alloc: Global) -> Arg<'a>
-    ensures rule { rule_of result ≡ as_rule }
-    ensures local { result.global ≡ false }
-{
-    value_option(alloc, "as", "list").help(
-        "The format: list (rows and marks), text (lines, 80 columns behind a margin) or svg (a picture)",
-    )
+    Arg::new(alloc, flag.name)
+        .long(flag.name)
+        .action(ArgAction::SetTrue)
+        .help(flag.help)
 }
 
 /// A command with what its help says, and no option yet.
@@ -84,29 +52,37 @@ fn new_command<'a>(alloc: Global, name: &'a str, told: Told) -> Command<'a>
         .after_help(told.more)
 }
 
-/// A subcommand that runs a script.
-fn run_command<'a>(alloc: Global, name: &'a str, told: Told) -> Result<Command<'a>, AllocError>
-    ensures app { IfOk result (λ c. app_of c ≡ run_app name.entry.now) }
+/// A subcommand that runs a script, and the formats of what it writes.
+fn run_command<'a>(
+    alloc: Global,
+    name: &'a str,
+    told: Told,
+    formats: Valued,
+) -> Result<Command<'a>, AllocError>
+    ensures app { IfOk result (λ c. app_of c ≡ run_app name.entry.now (record { name = formats.name.now; default = formats.default.now })) }
     ensures local { IfOk result IsLocal }
 {
-    let present = present_option(alloc);
-    let delays = delays_option(alloc);
-    let status = status_option(alloc);
     let command = new_command(alloc, name, told);
-    let one = command.arg(present)?;
-    let two = one.arg(delays)?;
-    let whole = two.arg(status)?;
+    let one = command.arg(value_option(alloc, PRESENT))?;
+    let two = one.arg(value_option(alloc, DELAYS))?;
+    let three = two.arg(value_option(alloc, STATUS))?;
+    let four = three.arg(value_option(alloc, formats))?;
+    let whole = four.arg(flag_option(alloc, EXPLAIN))?;
     Ok(whole)
 }
 
-/// The subcommand `pages`.
-fn pages_command<'a>(alloc: Global) -> Result<Command<'a>, AllocError>
-    ensures app { IfOk result (λ c. app_of c ≡ pages_app) }
+/// The subcommand `check`.
+fn check_command<'a>(alloc: Global) -> Result<Command<'a>, AllocError>
+    ensures app { IfOk result (λ c. app_of c ≡ check_app) }
     ensures local { IfOk result IsLocal }
 {
-    let format = as_option(alloc);
-    let command = run_command(alloc, "pages", help::PAGES)?;
-    let whole = command.arg(format)?;
+    let command = new_command(alloc, "check", help::CHECK);
+    let one = command.arg(value_option(alloc, FROM))?;
+    let two = one.arg(value_option(alloc, NAMES))?;
+    let three = two.arg(flag_option(alloc, INVERT))?;
+    let four = three.arg(value_option(alloc, FROM_TIME))?;
+    let five = four.arg(value_option(alloc, REPORT_AS))?;
+    let whole = five.arg(flag_option(alloc, EXPLAIN))?;
     Ok(whole)
 }
 
@@ -115,11 +91,10 @@ fn raw_command<'a>(alloc: Global) -> Result<Command<'a>, AllocError>
     ensures app { IfOk result (λ c. app_of c ≡ raw_app) }
     ensures local { IfOk result IsLocal }
 {
-    let set = set_option(alloc);
-    let format = as_option(alloc);
     let command = new_command(alloc, "raw", help::RAW);
-    let one = command.arg(set)?;
-    let whole = one.arg(format)?;
+    let one = command.arg(value_option(alloc, SET))?;
+    let two = one.arg(value_option(alloc, PAGE_AS))?;
+    let whole = two.arg(flag_option(alloc, EXPLAIN))?;
     Ok(whole)
 }
 
@@ -128,9 +103,9 @@ pub fn make_command<'a>(alloc: Global) -> Result<Command<'a>, AllocError>
     ensures app { IfOk result (λ c. app_of c ≡ print1525) }
     ensures local { IfOk result IsLocal }
 {
-    let pages = pages_command(alloc)?;
-    let bus = run_command(alloc, "bus", help::BUS)?;
-    let check = new_command(alloc, "check", help::CHECK);
+    let pages = run_command(alloc, "pages", help::PAGES, PAGE_AS)?;
+    let bus = run_command(alloc, "bus", help::BUS, TRACE_AS)?;
+    let check = check_command(alloc)?;
     let raw = raw_command(alloc)?;
     let program = new_command(alloc, "print1525", help::PROGRAM)
         .version(VERSION)

@@ -1,14 +1,13 @@
 //! The value of `--delays`.
 
-ghost use Rattle.std.specs.Prelude.{◌≡◌, ◌==◌, Some, None, false, true, IfOk, MatchOption, IsErrOf};
-ghost use Rattle.std.specs.List.{after_first, before_first, list_all};
-ghost use Rattle.pr_text.specs.Digits.{is_digit, number_of};
+ghost use Rattle.std.specs.Prelude.{◌≡◌, Some, None, false, true, IfOk, MatchOption, IsErrOf};
+ghost use Rattle.pr_text.specs.Digits.{number_of};
 ghost use Rattle.pr_wire.specs.Choices.{left};
 ghost use Rattle.pr_bus.specs.DelaysLeft.{numbers_left};
 ghost use Rattle.pr_options.specs.DelayLists.{IsFresh, delays_of, is_number_list, is_raw_number, numbers_in};
 
+use crate::parts::{all_digits, cut};
 use pr_bus::Delays;
-use pr_text::is_digit;
 use pr_wire::Choices;
 use std::alloc::{AllocFailed, Global};
 use thiserror::Error;
@@ -50,8 +49,8 @@ pub fn read_delays(alloc: Global, text: &str) -> Result<Delays, DelayFault>
     ensures fresh { IfOk result IsFresh }
     ensures bad { IsErrOf result DelayFault.BadDelays → delays_of text.now ≡ None }
 {
-    let (computer, others) = cut(text);
-    let (four, five) = cut(others);
+    let (computer, others) = cut(text, '/');
+    let (four, five) = cut(others, '/');
     if five.contains('/') {
         return Err(DelayFault::BadDelays);
     }
@@ -60,14 +59,6 @@ pub fn read_delays(alloc: Global, text: &str) -> Result<Delays, DelayFault>
         four: read_list(alloc, four)?,
         five: read_list(alloc, five)?,
     })
-}
-
-/// What stands before the first slash and behind it; behind it nothing, where there is none.
-fn cut(text: &str) -> (&str, &str)
-    ensures before { result.0.now ≡ before_first (λ b. b == 47) text.now }
-    ensures behind { result.1.now ≡ after_first (λ b. b == 47) text.now }
-{
-    text.split_once('/').unwrap_or((text, ""))
 }
 
 /// The numbers of a list, of which none has been taken.
@@ -98,13 +89,6 @@ fn read_number(word: &str) -> Option<u16>
         return None;
     }
     word.parse().ok()
-}
-
-/// Whether each byte is a digit.
-fn all_digits(bytes: &[u8]) -> bool
-    ensures { result ≡ list_all is_digit bytes.now }
-{
-    bytes.iter().all(|b| is_digit(*b))
 }
 
 #[cfg(test)]

@@ -24,6 +24,7 @@ Exit status:
   1  a BASIC error ended the run; what was printed until then is written
   2  the command line or the input is refused, in a line on standard error
   3  memory ran out, or a read or a write failed
+With --explain further lines on standard error tell more of 1 and 2.
 
 Example:
   print1525 pages --as text < listing.bas",
@@ -44,14 +45,19 @@ Input: a script, statements on lines or parted by `:`, with or without line numb
 A list has strings, CHR$(n) and `;`. No variable, no loop and no `+` is read.
 
 Output: the marks on the paper of printers 4 and 5, the status of each statement, the bytes on
-the screen, and the BASIC error that stopped the run, if one did.
+the screen, and the BASIC error that stopped the run, if one did. With --as text or svg the pages of
+the printers that are present, as lines or as a picture, and the rest below them.
+
+With --explain a refused script is shown with the place of its first fault and what can stand there,
+and a BASIC error with its line. A bad value of an option is told with the good ones.
 
 Exit status: 0 done, 1 stopped by a BASIC error, 2 a refused command line or script, 3 want of
 memory or a failed read or write.
 
 Examples:
   print1525 pages --as text < listing.bas
-  print1525 pages --present 4 --as svg < listing.bas > page.svg",
+  print1525 pages --present 4 --as svg < listing.bas > page.svg
+  print1525 pages --explain < listing.bas",
 };
 
 /// The subcommand `bus`.
@@ -62,34 +68,54 @@ pub const BUS: Told = Told {
 Input: a script, as `print1525 pages --help` tells.
 
 Output: a line for each edge, a moment in microseconds and the levels of ATN, CLOCK and DATA
-(1 released, 0 pulled), as in `100 001`.
+(1 released, 0 pulled), as in `100 001`. With --as vcd a Value Change Dump of the same edges, in
+microseconds, with the wires ATN, CLOCK and DATA, for GTKWave, PulseView and sigrok-cli.
 
 A delay number is what a delay has above its least, in microseconds; past the greatest delay the
 numbers begin again at the least. Past a list's end each delay is the typical one.
+
+With --explain a refused script is shown with the place of its first fault and what can stand there,
+and a BASIC error with its line. A bad value of an option is told with the good ones.
 
 Exit status: 0 done, 1 stopped by a BASIC error, 2 a refused command line or script, 3 want of
 memory or a failed read or write.
 
 Examples:
   print1525 bus < listing.bas > trace.txt
+  print1525 bus --as vcd < listing.bas > trace.vcd
   print1525 bus --present 4 --delays 900/9 < listing.bas | print1525 check",
 };
 
 /// The subcommand `check`.
 pub const CHECK: Told = Told {
     about: "Reads a trace on standard input and writes the frames that it spells, if it is lawful",
-    usage: "print1525 check < TRACE",
+    usage: "print1525 check [OPTIONS] < TRACE",
     more: "\
 Input: a trace, as `print1525 bus` writes it. Only the timing of this project is lawful.
+With --from vcd a Value Change Dump, with --from csv a table: a row of names and a row for each
+sample, its time in seconds first, as logic analysers export them.
+
+--names, --invert and --from-time say how such a recording is read; they do not go with a trace text.
+Three names stand in the order of ATN, CLOCK and DATA, parted by commas, and no two are the same.
+Capitals do not count, nor do blanks around a name. Without --names the signals are ATN, CLOCK (or
+CLK) and DATA.
 
 Output: a line for each frame, `command 36`, `data 72` or `data 13 eoi`, and then `lawful`. A trace
-that is not lawful is refused with its first fault; edges count from 0.
+that is not lawful is refused with its first fault; edges count from 0, lines from 1. With --as story
+a line for each frame has the moments of its look and of its acknowledgement, in microseconds, its
+byte and what it says; the lines `attention` and `data` stand above.
+
+With --explain a refused trace text is shown with the place of its first fault, the edges that could
+follow there and by how much they were missed; of a recording nothing more is told. A bad value of an
+option is told with the good ones.
 
 Exit status: 0 a lawful trace, 2 a refused command line or trace, 3 want of memory or a failed
 read or write.
 
-Example:
-  print1525 check < trace.txt",
+Examples:
+  print1525 check < trace.txt
+  print1525 check --explain --as story < trace.txt
+  print1525 check --from csv --names D0,D1,D2 --invert --from-time 1500000 < analyser.csv",
 };
 
 /// The subcommand `raw`.
@@ -100,6 +126,8 @@ pub const RAW: Told = Told {
 Input: bytes as a printer gets them, such as an emulator's raw printer output.
 
 Output: the page that they print, as that of printer 4.
+
+With --explain a bad value of an option is told with the good ones.
 
 Exit status: 0 done, 2 a refused command line or input, 3 want of memory or a failed read or
 write.

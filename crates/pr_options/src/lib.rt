@@ -1,9 +1,11 @@
 //! What a command line of the program `print1525` asks for.
 //!
 //! [`read_job`] reads the words of a command line and says which [`Job`] they ask for, or why they
-//! ask for none. The command with its subcommands, options and help is one of clap's; the value of
-//! an option is read by [`read_present`], [`read_delays`], [`read_status`], [`read_set`] and
-//! [`read_format`]. Nothing here reads an input, runs a script or writes a text.
+//! ask for none; [`explains`] says whether more is to be told of a refusal. The command with its
+//! subcommands, options and help is one of clap's; the value of an option is read by
+//! [`read_present`], [`read_delays`], [`read_status`], [`read_set`], [`read_source`],
+//! [`read_signals`], [`read_start`], [`read_format`], [`read_trace_format`] and [`read_report`].
+//! Nothing here reads an input, runs a script or writes a text.
 #![tactic(auto)]
 
 mod clap_command;
@@ -12,8 +14,13 @@ mod delays;
 mod format;
 mod help;
 mod option_values;
+mod options;
+mod parts;
 
-pub use command_line::{Job, JobFault, read_job};
+pub use command_line::{Job, JobFault, explains, read_job};
 pub use delays::{DelayFault, read_delays};
-pub use format::Format;
-pub use option_values::{read_format, read_present, read_set, read_status};
+pub use format::{Format, Report, Source, TraceFormat, TraceInput};
+pub use option_values::{
+    read_format, read_present, read_report, read_set, read_signals, read_source, read_start,
+    read_status, read_trace_format,
+};

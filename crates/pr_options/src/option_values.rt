@@ -1,10 +1,13 @@
 //! The values of the program's options.
 
-ghost use Rattle.std.specs.Prelude.{◌≡◌};
-ghost use Rattle.pr_options.specs.Options.{format_of, mode_of, present_of, set_of};
+ghost use Rattle.std.specs.Prelude.{◌≡◌, ◌∷◌, [], option_map, IfSome};
+ghost use Rattle.pr_options.specs.Options.{format_of, mode_of, present_of, report_of, set_of, source_of, start_of, trace_format_of};
+ghost use Rattle.pr_options.specs.SignalNames.{are_names, differ, names_of, names_told, three_names};
 
-use crate::format::Format;
+use crate::format::{Format, Report, Source, TraceFormat};
+use crate::parts::{all_digits, cut};
 use pr_basic::StatusMode;
+use pr_capture::Signals;
 use pr_serial::Present;
 
 /// Which printers are present: `none`, `4`, `5` or `both` (profile). None for any other text.
@@ -55,6 +58,108 @@ pub fn read_format(text: &str) -> Option<Format>
         "svg" => Some(Format::Picture),
         _ => None,
     }
+}
+
+/// The format of a run's trace: `text` or `vcd` (profile). None for any other text.
+pub fn read_trace_format(text: &str) -> Option<TraceFormat>
+    ensures { result ≡ trace_format_of text.now }
+{
+    match text {
+        "text" => Some(TraceFormat::Text),
+        "vcd" => Some(TraceFormat::Vcd),
+        _ => None,
+    }
+}
+
+/// The format of a trace that is checked: `text`, `vcd` or `csv` (profile). None for any other text.
+pub fn read_source(text: &str) -> Option<Source>
+    ensures { result ≡ source_of text.now }
+{
+    match text {
+        "text" => Some(Source::Text),
+        "vcd" => Some(Source::Vcd),
+        "csv" => Some(Source::Csv),
+        _ => None,
+    }
+}
+
+/// What is written of a trace that is checked: `frames` or `story` (profile). None for any other
+/// text.
+pub fn read_report(text: &str) -> Option<Report>
+    ensures { result ≡ report_of text.now }
+{
+    match text {
+        "frames" => Some(Report::Frames),
+        "story" => Some(Report::Story),
+        _ => None,
+    }
+}
+
+/// The signals of a recording by the names of ATN, CLOCK and DATA, which stand in this order, parted
+/// by commas. White space around a name does not count; no name is empty, and no two are the same,
+/// capitals or not (profile). None for any other text.
+pub fn read_signals(text: &str, is_inverted: bool) -> Option<Signals<'_>>
+    ensures names { option_map names_told result ≡ names_of text.now }
+    ensures levels { IfSome result (λ s. s.is_inverted ≡ is_inverted) }
+{
+    let (atn, others) = cut(text, ',');
+    let (clock, line) = cut(others, ',');
+    if line.contains(',') {
+        return None;
+    }
+    signals_named(
+        atn.trim_ascii(),
+        clock.trim_ascii(),
+        line.trim_ascii(),
+        is_inverted,
+    )
+}
+
+/// The signals of these names, if they are names of three signals.
+fn signals_named<'a>(
+    atn: &'a str,
+    clock: &'a str,
+    line: &'a str,
+    is_inverted: bool,
+) -> Option<Signals<'a>>
+    ensures names { option_map names_told result ≡ three_names (atn.now ∷ clock.now ∷ line.now ∷ []) }
+    ensures levels { IfSome result (λ s. s.is_inverted ≡ is_inverted) }
+{
+    if !are_names(atn, clock, line) {
+        return None;
+    }
+    Some(Signals {
+        atn: atn.as_bytes(),
+        clock: clock.as_bytes(),
+        line: line.as_bytes(),
+        is_inverted,
+    })
+}
+
+/// Whether these are names of three signals: none is empty, and no two are the same.
+fn are_names(atn: &str, clock: &str, line: &str) -> bool
+    ensures { result ≡ are_names atn.now clock.now line.now }
+{
+    let are_filled = !atn.is_empty() && !clock.is_empty() && !line.is_empty();
+    are_filled && differ(atn, clock) && differ(atn, line) && differ(clock, line)
+}
+
+/// Whether two names are not the same, capitals or not.
+fn differ(a: &str, b: &str) -> bool
+    ensures { result ≡ differ a.now b.now }
+{
+    !a.eq_ignore_ascii_case(b)
+}
+
+/// The moment at which a trace starts, in microseconds: decimal digits that spell a number below
+/// 2^64 (profile). None for any other text.
+pub fn read_start(text: &str) -> Option<u64>
+    ensures { result ≡ start_of text.now }
+{
+    if !all_digits(text.as_bytes()) {
+        return None;
+    }
+    text.parse().ok()
 }
 
 #[cfg(test)]

@@ -20,7 +20,7 @@ use Rattle.pr_wire.specs.Checking.{with_frame}
 use Rattle.pr_wire.specs.TextSteps.{ended_line_in}
 use Rattle.pr_wire.specs.TraceText.{AreEdgeLines}
 use Rattle.pr_text.specs.Lines.{lines_of}
-use Rattle.pr_wire.proofs.CheckLaws.{nothing_is}
+use Rattle.pr_wire.proofs.ScanLaws.{nothing_is}
 use Rattle.pr_wire.proofs.LineLaws.{ended_line-is}
 use Rattle.pr_wire.proofs.PartLaws.{nothing_empty}
 use Rattle.pr_wire.proofs.Reached.{with_frame-reverse}

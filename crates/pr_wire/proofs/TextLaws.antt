@@ -8,7 +8,7 @@ use Rattle.std.proofs.lemmas.Fmt.{decimal_step, digits_decimal, digits_value-dec
 use Rattle.std.proofs.lemmas.Str.Parse.{IsNumeralModel, numerals_by_fold}
 use Rattle.pr_wire.specs.declared.Edge.{Edge}
 use Rattle.pr_wire.specs.declared.line.EdgeLine.{EdgeLine}
-use Rattle.pr_wire.specs.TraceText.{levels_text, edge_text, trace_text, IsEdgeLine, AreEdgeLines, IsTraceText, IsFirstBad}
+use Rattle.pr_wire.specs.TraceText.{levels_text, edge_text, trace_text, IsEdgeLine, AreEdgeLines, IsTraceText, IsFirstBad, SaysEdges}
 use Rattle.pr_text.specs.Digits.{is_digit, number_after}
 use Rattle.pr_text.specs.Lines.{lines_of}
 use Rattle.pr_wire.specs.TraceText.Return.{Without}
@@ -46,6 +46,35 @@ none_with_bad (l ∷ ls) bad more (e ∷ es) none h = none_with_bad ls bad more 
 -- a text with a bad line spells no edges
 pub bad_none : (text : List ℕ) (n : ℕ) (es : List Edge) → IsFirstBad n text → IsTraceText text es → ⊥
 bad_none text n es b h = none_with_bad b.good b.bad b.more es b.is_bad (subst (λ ls. AreEdgeLines ls es) b.lines h)
+
+-- lines up to the first bad one are the same ones
+first_once : (g h : List (List ℕ)) (es fs : List Edge) (b c : List ℕ) (m n : List (List ℕ)) → AreEdgeLines g es → AreEdgeLines h fs
+    → ((e : Edge) → IsEdgeLine b e → ⊥) → ((e : Edge) → IsEdgeLine c e → ⊥) → g ++ b ∷ m ≡ h ++ c ∷ n → (es ≡ fs) × (length g ≡ length h)
+first_once [] [] [] [] b c m n ge he bad worse is = (refl, refl)
+first_once [] [] [] (f ∷ fs) b c m n ge he bad worse is = absurd he
+first_once [] [] (e ∷ es) fs b c m n ge he bad worse is = absurd ge
+first_once [] (l ∷ h) es [] b c m n ge he bad worse is = absurd he
+first_once [] (l ∷ h) es (f ∷ fs) b c m n ge he bad worse is = absurd (bad f (subst (λ x. IsEdgeLine x f) (let t : l ≡ b = cc in t) he.0))
+first_once (k ∷ g) [] [] fs b c m n ge he bad worse is = absurd ge
+first_once (k ∷ g) [] (e ∷ es) fs b c m n ge he bad worse is = absurd (worse e (subst (λ x. IsEdgeLine x e) (let t : k ≡ c = cc in t) ge.0))
+first_once (k ∷ g) (l ∷ h) [] fs b c m n ge he bad worse is = absurd ge
+first_once (k ∷ g) (l ∷ h) (e ∷ es) [] b c m n ge he bad worse is = absurd he
+first_once (k ∷ g) (l ∷ h) (e ∷ es) (f ∷ fs) b c m n ge he bad worse is =
+    let same : l ≡ k = cc in
+    let rest : g ++ b ∷ m ≡ h ++ c ∷ n = cc in
+    let more = first_once g h es fs b c m n ge.1 he.1 bad worse rest in
+    (rw (line_once k e f ge.0 (subst (λ x. IsEdgeLine x f) same he.0), more.0) refl, ap suc more.1)
+
+-- a text says one thing
+pub says_once : (text : List ℕ) (es fs : List Edge) (m n : Option ℕ) → SaysEdges text es m → SaysEdges text fs n → (es ≡ fs) × (m ≡ n)
+says_once text es fs None None h k = (text_once text es fs h k, refl)
+says_once text es fs None (Some n) h k = absurd (bad_none text n es k.0 h)
+says_once text es fs (Some m) None h k = absurd (bad_none text m fs h.0 k)
+says_once text es fs (Some m) (Some n) h k =
+    let a = h.0 in
+    let b = k.0 in
+    let both = first_once a.good b.good a.edges b.edges a.bad b.bad a.more b.more a.are_edges b.are_edges a.is_bad b.is_bad (sym a.lines ∙ b.lines) in
+    (sym h.1 ∙ (both.0 ∙ k.1), ap (λ (i : ℕ). Some i) (a.number ∙ (ap (λ i. i + 1) both.1 ∙ sym b.number)))
 
 -- what was read of a text: so many good lines, and what is left
 pub record HasRead (text rest : List ℕ) (edges : List Edge) : Type 0 where

@@ -1,5 +1,5 @@
 -- Trusted: traces as text: which texts spell which edges, which line is the first bad one, and the text that is written.
-use Rattle.std.specs.Prelude.{◌≡◌, ℕ, ◌+◌, ◌^◌, ◌<◌, Bool, true, false, List, [], ◌∷◌, ◌++◌, length, flat_map, decimal}
+use Rattle.std.specs.Prelude.{◌≡◌, ℕ, ◌+◌, ◌^◌, ◌<◌, Bool, true, false, List, [], ◌∷◌, ◌++◌, length, flat_map, decimal, Option, Some, None}
 use Rattle.std.specs.List.{list_all}
 use Rattle.pr_text.specs.Digits.{is_digit, number_after}
 use Rattle.pr_text.specs.Lines.{lines_of}
@@ -61,3 +61,8 @@ pub record IsFirstBad (n : ℕ) (text : List ℕ) : Type 0 where
   pub are_edges : AreEdgeLines good edges
   pub is_bad : (e : Edge) → IsEdgeLine bad e → ⊥
   pub number : n ≡ length good + 1
+
+-- a text says these edges: those that it spells, or where a line is bad those of the lines before the first such line
+abbrev pub SaysEdges : (text : List ℕ) → (edges : List Edge) → (bad : Option ℕ) → Type 0
+SaysEdges text edges None = IsTraceText text edges
+SaysEdges text edges (Some n) = (first : IsFirstBad n text) × (first.edges ≡ edges)

@@ -74,8 +74,8 @@ pub fn write_trace(alloc: Global, edges: &[Edge]) -> Result<Vec<u8>, NoMemory>
     Ok(text)
 }
 
-/// Laws, with nothing to run: the text of edges is read back as these edges, and a text spells at
-/// most one list of edges.
+/// Laws, with nothing to run: the text of edges is read back as these edges, a text spells at most
+/// one list of edges, and says one list up to its first bad line.
 pub fn trace_texts()
     ensures read_back { TextIsReadBack }
     ensures once { TextSpellsOnce }

@@ -58,7 +58,7 @@ fn prints(rt: &impl Abort, alloc: Global, script: &[u8], bytes: &[u8], ends: boo
 }
 
 /// Bytes so many times.
-fn repeated(alloc: Global, bytes: &[u8], times: usize) -> Result<Vec<u8>, AllocError> {
+pub fn repeated(alloc: Global, bytes: &[u8], times: usize) -> Result<Vec<u8>, AllocError> {
     let mut all = Vec::new(alloc);
     for _ in 0..times {
         all.extend_from_slice(bytes)?;
@@ -67,7 +67,7 @@ fn repeated(alloc: Global, bytes: &[u8], times: usize) -> Result<Vec<u8>, AllocE
 }
 
 /// A PRINT of 255 letters, and then these bytes.
-fn after_255(alloc: Global, more: &[u8]) -> Result<Vec<u8>, AllocError> {
+pub fn after_255(alloc: Global, more: &[u8]) -> Result<Vec<u8>, AllocError> {
     let mut script = b"PRINT \"".to_vec(alloc)?;
     script.extend_from_slice(&[b'A'; 255])?;
     script.extend_from_slice(more)?;
@@ -301,7 +301,7 @@ fn printed_count(statements: &[Statement]) -> usize {
 }
 
 /// How many calls may be refused: one where `tests/faults.c` refuses an allocation, else none.
-fn most_refusals(rt: &impl Env) -> usize {
+pub fn most_refusals(rt: &impl Env) -> usize {
     match rt.var("FAULT_ALLOC", &mut [0; 8]) {
         Err(FillError::NotPresent) => 0,
         _ => 1,

@@ -2,7 +2,8 @@
 
 use super::*;
 use crate::tests::{
-    BOTH, BUS, Call, EXAMPLE_LINES, FOUR, HI, NONE, ONE_ATTENTION, ONE_COMMAND, writes,
+    BOTH, BUS, Call, DUMP, EXAMPLE_LINES, FOUR, HI, NONE, ONE_ATTENTION, ONE_ATTENTION_DUMP,
+    ONE_COMMAND, writes,
 };
 use pr_options::read_delays;
 use pr_wire::example::TRACE_TEXT;
@@ -19,6 +20,32 @@ const ANSWER_AT_THE_LOOK: &str = "\
     1890 010\n1910 001\n1930 000\n2030 100\n\
 ";
 
+/// The trace of a script in a format that runs with these delays to this ending.
+fn traced_as(
+    rt: &(impl Abort + AllocGlobal),
+    script: &[u8],
+    present: Present,
+    delays: &str,
+    format: TraceFormat,
+    ending: Ending,
+) -> Vec<u8> {
+    let mut input = Watched::new(script);
+    let mut output = Watched::new(Vec::new(rt.alloc()));
+    let delays = read_delays(rt.alloc(), delays).expect(rt, "delays");
+    let each = StatusMode::Each;
+    let answer = bus_over(
+        rt.alloc(),
+        &mut input,
+        &mut output,
+        present,
+        delays,
+        each,
+        format,
+    );
+    assert_eq!(rt; answer, Ok(ending));
+    output.into_inner()
+}
+
 /// The trace text of a script that runs with these delays to this ending.
 fn traced(
     rt: &(impl Abort + AllocGlobal),
@@ -27,13 +54,7 @@ fn traced(
     delays: &str,
     ending: Ending,
 ) -> Vec<u8> {
-    let mut input = Watched::new(script);
-    let mut output = Watched::new(Vec::new(rt.alloc()));
-    let delays = read_delays(rt.alloc(), delays).expect(rt, "delays");
-    let each = StatusMode::Each;
-    let answer = bus_over(rt.alloc(), &mut input, &mut output, present, delays, each);
-    assert_eq!(rt; answer, Ok(ending));
-    output.into_inner()
+    traced_as(rt, script, present, delays, TraceFormat::Text, ending)
 }
 
 /// With printer 4 alone and these delays `bus` writes this trace, in which `check` finds one frame.
@@ -53,6 +74,36 @@ fn one_attention_with_chosen_delays(rt: HostRuntime) {
 fn trace_of_two_letters(rt: HostRuntime) {
     writes(&rt, BUS, HI, Ending::Done, TRACE_TEXT);
 }
+
+/// A dump has the head, the first edge, the edges of each statement, and its end behind the last; also
+/// where a statement stops the run, and where nothing was sent.
+#[test]
+fn dumps(rt: HostRuntime) {
+    let script = b"OPEN 4,4\nCMD 4,\"\";\n";
+    let dump = traced_as(
+        &rt,
+        script,
+        FOUR,
+        "900,999/9",
+        TraceFormat::Vcd,
+        Ending::Done,
+    );
+    assert_eq!(&rt; dump.as_slice(), ONE_ATTENTION_DUMP.as_bytes());
+    let stopped = traced_as(
+        &rt,
+        b"PRINT#9,\"A\"",
+        BOTH,
+        "",
+        TraceFormat::Vcd,
+        Ending::Stopped,
+    );
+    assert_eq!(&rt; stopped.as_slice(), EMPTY_DUMP.as_bytes());
+    writes(&rt, DUMP, b"", Ending::Done, EMPTY_DUMP);
+}
+
+/// The dump of a run in which nothing was sent.
+const EMPTY_DUMP: &str =
+    "$timescale 1 us $end\n$scope module bus $end\n$var wire 1 A ATN $end\n$var wire 1 C CLOCK $end\n$var wire 1 D DATA $end\n$upscope $end\n$enddefinitions $end\n#0\n1A\n1C\n1D\n#1000\n";
 
 /// The run of the script ends so, and `check` finds these frames in its trace, be the delays
 /// typical or others.

@@ -2,9 +2,11 @@
 
 use super::*;
 use pr_basic::read_script;
+use pr_capture::write_vcd;
 use pr_page::Sequence;
 use pr_system::{Outcome, run};
 use pr_wire::example::TRACE_TEXT;
+use pr_wire::read_trace;
 
 /// With this read failing the call says so and has written nothing; where no read fails, it has
 /// written its text. There is one read for each byte, and one that finds the end.
@@ -38,10 +40,11 @@ fn reads_fail(rt: &(impl Abort + AllocGlobal), call: Call, input: &[u8], text: &
 }
 
 /// How often a call flushes while it writes its text: `bus` for the first edge and for each of two
-/// statements, the others at the end.
+/// statements, and of a dump for its head and its end too, the others at the end.
 pub fn flushes_of(call: Call) -> usize {
     match call {
-        Call::Bus(_, _) => 3,
+        Call::Bus(_, _, TraceFormat::Text) => 3,
+        Call::Bus(_, _, TraceFormat::Vcd) => 5,
         _ => 1,
     }
 }
@@ -154,6 +157,35 @@ fn traces(rt: HostRuntime) {
     all_fail(&rt, BUS, HI, TRACE_TEXT.as_bytes());
     let trace = ONE_ATTENTION.as_bytes();
     all_fail(&rt, Call::Check, trace, ONE_COMMAND.as_bytes());
+}
+
+/// A dump that is written, and reports on a trace in each format.
+#[test]
+fn recordings(rt: HostRuntime) {
+    let dump = example_dump(rt.alloc()).expect(&rt, "memory");
+    all_fail(&rt, DUMP, HI, &dump);
+    let story = Call::CheckAs(Source::Text, Report::Story);
+    all_fail(&rt, story, ONE_ATTENTION.as_bytes(), ONE_STORY.as_bytes());
+    let table = Call::CheckAs(Source::Csv, Report::Frames);
+    all_fail(
+        &rt,
+        table,
+        ONE_ATTENTION_TABLE.as_bytes(),
+        ONE_COMMAND.as_bytes(),
+    );
+    let dump = Call::CheckAs(Source::Vcd, Report::Story);
+    all_fail(
+        &rt,
+        dump,
+        ONE_ATTENTION_DUMP.as_bytes(),
+        ONE_STORY.as_bytes(),
+    );
+}
+
+/// The example trace as a Value Change Dump, as `pr_capture` writes it. None where memory is refused.
+pub fn example_dump(alloc: Global) -> Option<Vec<u8>> {
+    let edges = read_trace(alloc, TRACE_TEXT.as_bytes()).ok()?;
+    write_vcd(alloc, &edges).ok()
 }
 
 /// A failed read is told before a bad line that came earlier.

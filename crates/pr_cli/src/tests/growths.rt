@@ -1,6 +1,6 @@
 //! Each growth of memory refused in turn.
 
-use super::failing::{flushes_of, picture};
+use super::failing::{example_dump, flushes_of, picture};
 use super::*;
 use pr_wire::example::TRACE_TEXT;
 use std::env::FillError;
@@ -51,6 +51,14 @@ fn picture_is_refused(
     }
 }
 
+/// Whether `bus` is refused memory while it writes a dump, or the dump to compare it with is.
+fn dump_is_refused(rt: &(impl Abort + AllocGlobal)) -> bool {
+    match example_dump(rt.alloc()) {
+        Some(whole) => is_refused(rt, DUMP, HI, &whole),
+        None => true,
+    }
+}
+
 /// How many calls are refused memory, each made once.
 fn refusals(rt: &(impl Abort + AllocGlobal)) -> usize {
     let lines = Call::Pages(BOTH, StatusMode::Each, Format::Lines);
@@ -58,13 +66,30 @@ fn refusals(rt: &(impl Abort + AllocGlobal)) -> usize {
     let raw = Call::Raw(false, Format::List);
     let raw_lines = Call::Raw(false, Format::Lines);
     let raw_drawn = Call::Raw(false, Format::Picture);
+    let story = Call::CheckAs(Source::Text, Report::Story);
+    let table = Call::CheckAs(Source::Csv, Report::Story);
+    let dump = Call::CheckAs(Source::Vcd, Report::Frames);
     let trace = TRACE_TEXT.as_bytes();
     let refused = [
         is_refused(rt, PAGES, HI, HI_TEXT.as_bytes()),
         is_refused(rt, lines, HI, HI_LINES.as_bytes()),
         picture_is_refused(rt, drawn, HI, false),
         is_refused(rt, BUS, HI, trace),
+        dump_is_refused(rt),
         is_refused(rt, Call::Check, trace, EXAMPLE_LINES.as_bytes()),
+        is_refused(rt, story, ONE_ATTENTION.as_bytes(), ONE_STORY.as_bytes()),
+        is_refused(
+            rt,
+            table,
+            ONE_ATTENTION_TABLE.as_bytes(),
+            ONE_STORY.as_bytes(),
+        ),
+        is_refused(
+            rt,
+            dump,
+            ONE_ATTENTION_DUMP.as_bytes(),
+            ONE_COMMAND.as_bytes(),
+        ),
         is_refused(rt, raw, HI_BYTES, HI_BYTES_TEXT.as_bytes()),
         is_refused(rt, raw_lines, HI_BYTES, b"Printer 4\n|HI\n"),
         picture_is_refused(rt, raw_drawn, HI_BYTES, true),

@@ -30,6 +30,11 @@ fn halves(shortest: u64, longest: u64) -> Halves {
     Halves { shortest, longest }
 }
 
+/// Halves that last the same.
+fn each(time: u64) -> Halves {
+    halves(time, time)
+}
+
 /// A byte without end-or-identify, by its look, its ready, CLOCK's first pull and its last.
 fn byte(
     command: bool,
@@ -78,7 +83,7 @@ fn with_pulse(transfer: Transfer, pulled: u64, released: u64) -> Transfer {
 /// The example trace: LISTEN 4, "HI" and a return with end-or-identify, UNLISTEN, each acknowledged.
 #[test]
 fn example_trace(rt: HostRuntime) -> Result<(), Fail> {
-    let (low, high) = (halves(70, 70), halves(20, 20));
+    let (low, high) = (each(70), each(20));
     let returned = byte(false, [3990, 4040, 4400, 5120], 8, 13, low, high);
     told(
         &rt,
@@ -117,37 +122,25 @@ const KERNAL: &str =
 
 #[test]
 fn kernal_recording(rt: HostRuntime) -> Result<(), Fail> {
-    let listen = byte(
-        true,
-        [2060, 22060, 22100, 23259],
-        8,
-        36,
-        halves(60, 90),
-        halves(60, 90),
-    );
+    let uneven = halves(60, 90);
+    let listen = byte(true, [2060, 22060, 22100, 23259], 8, 36, uneven, uneven);
     let letter = byte(
         false,
         [23679, 24129, 24174, 25374],
         8,
         65,
-        halves(61, 61),
-        halves(89, 89),
+        each(61),
+        each(89),
     );
-    let returned = byte(
-        false,
-        [25824, 45824, 46150, 47350],
-        8,
-        13,
-        halves(60, 90),
-        halves(60, 90),
-    );
+    let returned = byte(false, [25824, 45824, 46150, 47350], 8, 13, uneven, uneven);
+    let returned = with_pulse(returned, 46054, 46120);
     let unlisten = byte(
         true,
         [49760, 50560, 50600, 51720],
         8,
         63,
-        halves(70, 70),
-        halves(70, 70),
+        each(70),
+        each(70),
     );
     told(
         &rt,
@@ -155,11 +148,43 @@ fn kernal_recording(rt: HostRuntime) -> Result<(), Fail> {
         &[
             Reading::Frame(listen, FrameEnd::Acknowledged(23409)),
             Reading::Frame(letter, FrameEnd::Acknowledged(25524)),
-            Reading::Frame(
-                with_pulse(returned, 46054, 46120),
-                FrameEnd::Acknowledged(47500),
-            ),
+            Reading::Frame(returned, FrameEnd::Acknowledged(47500)),
             Reading::Frame(unlisten, FrameEnd::Acknowledged(51870)),
+        ],
+    )
+}
+
+/// TALK 4 and a secondary address; the turn, at which the computer holds DATA and lets go of CLOCK, and the
+/// device pulls it; "A" and a return with end-or-identify from the device, which lets go of CLOCK before the
+/// computer lets go of DATA; UNTALK, for which the KERNAL pulls CLOCK 15 microseconds before ATN; all let go,
+/// and ATN is pulled again. Nothing but the five bytes is told.
+const TALKER: &str =
+    "0 111\n1000 011\n1020 001\n1105 000\n2060 010\n2160 011\n2200 001\n2212 000\n2270 010\n2340 001\n2352 000\n2410 010\n2480 001\n2550 011\n2620 001\n2632 000\n2690 010\n2760 001\n2772 000\n2830 010\n2900 001\n2912 000\n2970 010\n3040 001\n3110 011\n3180 001\n3192 000\n3250 010\n3320 001\n3420 000\n3720 010\n3800 011\n3840 001\n3852 000\n3910 010\n3980 001\n3992 000\n4050 010\n4120 001\n4132 000\n4190 010\n4260 001\n4272 000\n4330 010\n4400 001\n4412 000\n4470 010\n4540 001\n4610 011\n4680 001\n4750 011\n4820 001\n4832 000\n4890 010\n4960 001\n5060 000\n5120 100\n5140 110\n5240 100\n5640 110\n5690 111\n5730 101\n5805 111\n5865 101\n5880 100\n5940 110\n6000 101\n6015 100\n6075 110\n6135 101\n6150 100\n6210 110\n6270 101\n6285 100\n6345 110\n6405 101\n6420 100\n6480 110\n6540 101\n6615 111\n6675 101\n6690 100\n6750 110\n6810 101\n6890 100\n7090 110\n7130 111\n7390 110\n7460 111\n7500 101\n7575 111\n7635 101\n7650 100\n7710 110\n7770 101\n7845 111\n7905 101\n7980 111\n8040 101\n8055 100\n8115 110\n8175 101\n8190 100\n8250 110\n8310 101\n8325 100\n8385 110\n8445 101\n8460 100\n8520 110\n8580 101\n8660 100\n8700 110\n8725 111\n9625 101\n9640 001\n9685 000\n10665 010\n10765 011\n10805 001\n10875 011\n10945 001\n11015 011\n11085 001\n11155 011\n11225 001\n11295 011\n11365 001\n11435 011\n11505 001\n11517 000\n11575 010\n11645 001\n11715 011\n11785 001\n11797 000\n11855 010\n11925 001\n12025 000\n12065 100\n12105 110\n12120 111\n13025 011\n13045 001\n";
+
+#[test]
+fn turn_of_a_talker(rt: HostRuntime) -> Result<(), Fail> {
+    let talk = byte(true, [2060, 2160, 2200, 3320], 8, 0x44, each(70), each(70));
+    let second = byte(true, [3720, 3800, 3840, 4960], 8, 0x60, each(70), each(70));
+    let letter = byte(false, [5640, 5690, 5730, 6810], 8, 65, each(75), each(60));
+    let returned = byte(false, [7090, 7130, 7500, 8580], 8, 13, each(75), each(60));
+    let returned = with_pulse(returned, 7390, 7460);
+    let untalk = byte(
+        true,
+        [10665, 10765, 10805, 11925],
+        8,
+        0x5F,
+        each(70),
+        each(70),
+    );
+    told(
+        &rt,
+        TALKER,
+        &[
+            Reading::Frame(talk, FrameEnd::Acknowledged(3420)),
+            Reading::Frame(second, FrameEnd::Acknowledged(5060)),
+            Reading::Frame(letter, FrameEnd::Acknowledged(6890)),
+            Reading::Frame(returned, FrameEnd::Acknowledged(8660)),
+            Reading::Frame(untalk, FrameEnd::Acknowledged(12025)),
         ],
     )
 }
@@ -168,14 +193,7 @@ fn kernal_recording(rt: HostRuntime) -> Result<(), Fail> {
 /// recording ends.
 #[test]
 fn aborted_bytes(rt: HostRuntime) -> Result<(), Fail> {
-    let begun = byte(
-        false,
-        [100, 150, 190, 580],
-        3,
-        5,
-        halves(70, 70),
-        halves(60, 60),
-    );
+    let begun = byte(false, [100, 150, 190, 580], 3, 5, each(70), each(60));
     told(
         &rt,
         "0 100\n100 110\n150 111\n190 101\n260 111\n320 101\n332 100\n390 110\n450 101\n520 111\n580 101\n613 001\n",
@@ -197,22 +215,8 @@ fn aborted_bytes(rt: HostRuntime) -> Result<(), Fail> {
 /// is ended, and that was the look of the next one.
 #[test]
 fn silence_is_the_next_look(rt: HostRuntime) -> Result<(), Fail> {
-    let begun = byte(
-        false,
-        [100, 150, 190, 580],
-        3,
-        5,
-        halves(70, 70),
-        halves(60, 60),
-    );
-    let next = byte(
-        false,
-        [650, 5650, 5690, 5820],
-        1,
-        1,
-        halves(70, 70),
-        halves(60, 60),
-    );
+    let begun = byte(false, [100, 150, 190, 580], 3, 5, each(70), each(60));
+    let next = byte(false, [650, 5650, 5690, 5820], 1, 1, each(70), each(60));
     told(
         &rt,
         "0 100\n100 110\n150 111\n190 101\n260 111\n320 101\n332 100\n390 110\n450 101\n520 111\n580 101\n585 100\n650 110\n5650 111\n5690 101\n5760 111\n5820 101\n",
@@ -223,43 +227,27 @@ fn silence_is_the_next_look(rt: HostRuntime) -> Result<(), Fail> {
     )
 }
 
-/// CLOCK may be released for 1000 microseconds in a bit, and not for 1001, whatever tells so.
+/// CLOCK may be released for 1000 microseconds in a bit.
 #[test]
 fn longest_bit(rt: HostRuntime) -> Result<(), Fail> {
-    let whole = byte(
-        false,
-        [100, 150, 190, 1260],
-        1,
-        1,
-        halves(70, 70),
-        halves(1000, 1000),
-    );
+    let whole = byte(false, [100, 150, 190, 1260], 1, 1, each(70), each(1000));
     told(
         &rt,
         "0 100\n100 110\n150 111\n190 101\n260 111\n1260 101\n1280 001\n",
         &[Reading::Glitch(whole, GlitchEnd::Attention(1280))],
-    )?;
-    let none = byte(
-        false,
-        [100, 150, 190, 190],
-        0,
-        0,
-        halves(0, 0),
-        halves(0, 0),
-    );
+    )
+}
+
+/// It may not be for 1001, whatever tells so.
+#[test]
+fn silence(rt: HostRuntime) -> Result<(), Fail> {
+    let none = byte(false, [100, 150, 190, 190], 0, 0, each(0), each(0));
     told(
         &rt,
         "0 100\n100 110\n150 111\n190 101\n260 111\n1261 101\n1281 001\n",
         &[Reading::Glitch(none, GlitchEnd::Silence(1261))],
     )?;
-    let one = byte(
-        false,
-        [100, 150, 190, 320],
-        1,
-        1,
-        halves(70, 70),
-        halves(60, 60),
-    );
+    let one = byte(false, [100, 150, 190, 320], 1, 1, each(70), each(60));
     told(
         &rt,
         "0 100\n100 110\n150 111\n190 101\n260 111\n320 101\n390 111\n1390 110\n1391 111\n",
@@ -271,20 +259,13 @@ fn longest_bit(rt: HostRuntime) -> Result<(), Fail> {
 /// that begins while the listener holds DATA has its look at its first edge.
 #[test]
 fn begun_in_the_middle(rt: HostRuntime) -> Result<(), Fail> {
-    let letter = byte(
-        false,
-        [470, 520, 560, 1600],
-        8,
-        65,
-        halves(70, 70),
-        halves(60, 60),
-    );
+    let letter = byte(false, [470, 520, 560, 1600], 8, 65, each(70), each(60));
     told(
         &rt,
         "0 110\n30 101\n100 111\n160 101\n230 111\n290 101\n370 100\n470 110\n520 111\n560 101\n630 111\n690 101\n702 100\n760 110\n820 101\n832 100\n890 110\n950 101\n962 100\n1020 110\n1080 101\n1092 100\n1150 110\n1210 101\n1222 100\n1280 110\n1340 101\n1410 111\n1470 101\n1482 100\n1540 110\n1600 101\n1750 100\n",
         &[Reading::Frame(letter, FrameEnd::Acknowledged(1750))],
     )?;
-    let begun = byte(false, [7, 100, 140, 140], 0, 0, halves(0, 0), halves(0, 0));
+    let begun = byte(false, [7, 100, 140, 140], 0, 0, each(0), each(0));
     told(
         &rt,
         "7 110\n100 111\n140 101\n",
@@ -298,14 +279,7 @@ fn begun_in_the_middle(rt: HostRuntime) -> Result<(), Fail> {
 /// ends.
 #[test]
 fn unacknowledged(rt: HostRuntime) -> Result<(), Fail> {
-    let letter = byte(
-        false,
-        [100, 150, 190, 1230],
-        8,
-        65,
-        halves(70, 70),
-        halves(60, 60),
-    );
+    let letter = byte(false, [100, 150, 190, 1230], 8, 65, each(70), each(60));
     told(
         &rt,
         "0 100\n100 110\n150 111\n190 101\n260 111\n320 101\n332 100\n390 110\n450 101\n462 100\n520 110\n580 101\n592 100\n650 110\n710 101\n722 100\n780 110\n840 101\n852 100\n910 110\n970 101\n1040 111\n1100 101\n1112 100\n1170 110\n1230 101\n2130 111\n",
@@ -326,14 +300,7 @@ fn unacknowledged(rt: HostRuntime) -> Result<(), Fail> {
 /// The talker lets go of DATA 9 microseconds behind the last pull of CLOCK: the next pull acknowledges.
 #[test]
 fn data_let_go_late(rt: HostRuntime) -> Result<(), Fail> {
-    let letter = byte(
-        false,
-        [100, 150, 190, 910],
-        8,
-        65,
-        halves(70, 70),
-        halves(20, 20),
-    );
+    let letter = byte(false, [100, 150, 190, 910], 8, 65, each(70), each(20));
     told(
         &rt,
         "0 100\n100 110\n150 111\n190 101\n260 111\n280 100\n350 110\n370 100\n440 110\n460 100\n530 110\n550 100\n620 110\n640 100\n710 110\n730 101\n800 111\n820 100\n890 110\n910 100\n919 101\n949 100\n",
@@ -345,27 +312,13 @@ fn data_let_go_late(rt: HostRuntime) -> Result<(), Fail> {
 /// pulled and not released before CLOCK's pull is none.
 #[test]
 fn pulses(rt: HostRuntime) -> Result<(), Fail> {
-    let begun = byte(
-        false,
-        [100, 150, 540, 540],
-        0,
-        0,
-        halves(0, 0),
-        halves(0, 0),
-    );
+    let begun = byte(false, [100, 150, 540, 540], 0, 0, each(0), each(0));
     told(
         &rt,
         "0 100\n100 110\n150 111\n360 110\n420 111\n450 110\n510 111\n540 101\n",
         &[Reading::Glitch(with_pulse(begun, 360, 420), GlitchEnd::Cut)],
     )?;
-    let begun = byte(
-        false,
-        [100, 150, 191, 191],
-        0,
-        0,
-        halves(0, 0),
-        halves(0, 0),
-    );
+    let begun = byte(false, [100, 150, 191, 191], 0, 0, each(0), each(0));
     told(
         &rt,
         "0 100\n100 110\n150 111\n190 110\n191 100\n",
@@ -380,24 +333,36 @@ fn attention_before_the_bits(rt: HostRuntime) -> Result<(), Fail> {
     told(&rt, "0 100\n100 110\n150 111\n190 001\n", &[])?;
     told(&rt, "0 100\n100 110\n150 011\n190 001\n", &[])?;
     told(&rt, "0 100\n100 010\n150 011\n190 001\n", &[])?;
-    let data = byte(
-        false,
-        [100, 150, 190, 190],
-        0,
-        0,
-        halves(0, 0),
-        halves(0, 0),
-    );
+    let data = byte(false, [100, 150, 190, 190], 0, 0, each(0), each(0));
     told(
         &rt,
         "0 000\n100 010\n150 111\n190 101\n",
         &[Reading::Glitch(data, GlitchEnd::Cut)],
     )?;
-    let command = byte(true, [100, 150, 190, 190], 0, 0, halves(0, 0), halves(0, 0));
+    let command = byte(true, [100, 150, 190, 190], 0, 0, each(0), each(0));
     told(
         &rt,
         "0 000\n100 010\n150 011\n170 111\n190 101\n",
         &[Reading::Glitch(command, GlitchEnd::Cut)],
+    )
+}
+
+/// Where ATN is pulled while CLOCK stays pulled for a first bit, or at its release, no bit has begun, and
+/// nothing is told. Where CLOCK is released for the bit, a glitch is.
+#[test]
+fn attention_before_the_first_bit(rt: HostRuntime) -> Result<(), Fail> {
+    told(&rt, "0 100\n100 110\n150 111\n190 101\n205 001\n", &[])?;
+    told(&rt, "0 100\n100 110\n150 111\n190 101\n205 011\n", &[])?;
+    told(
+        &rt,
+        "0 100\n100 110\n150 111\n190 101\n200 100\n205 000\n",
+        &[],
+    )?;
+    let begun = byte(false, [100, 150, 190, 190], 0, 0, each(0), each(0));
+    told(
+        &rt,
+        "0 100\n100 110\n150 111\n190 101\n260 111\n280 011\n",
+        &[Reading::Glitch(begun, GlitchEnd::Attention(280))],
     )
 }
 
@@ -421,7 +386,7 @@ fn times_that_go_back(rt: HostRuntime) -> Result<(), Fail> {
     assert_eq!(rt; decoder.take(edge(9, true, true, true)), Ok(None));
     assert_eq!(rt; decoder.take(edge(9, true, false, true)), Ok(None));
     assert_eq!(rt; decoder.take(edge(0, false, false, true)), Err(GoesBack));
-    let begun = byte(false, [9, 9, 9, 9], 0, 0, halves(0, 0), halves(0, 0));
+    let begun = byte(false, [9, 9, 9, 9], 0, 0, each(0), each(0));
     assert_eq!(rt;
         decoder.finish(),
         Some(Reading::Glitch(begun, GlitchEnd::Cut))

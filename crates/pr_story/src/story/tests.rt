@@ -61,13 +61,18 @@ fn traces_that_are_refused(rt: HostRuntime) -> Result<(), Fail> {
     told(&rt, "", "0 111\n", "", "lawful\n", None)
 }
 
-/// A frame has this line behind a data byte, and such a line behind another frame.
+/// The moments of the frames in the tables below.
+const MOMENTS: &str = "           7 1234567890123  ";
+
+/// A frame with these moments has this line, behind a data byte if that is told and else behind another
+/// frame: perhaps a heading, then the moments, and what it says.
 fn line(
     rt: &(impl Abort + AllocGlobal),
     sending: Sending,
     byte: u8,
     behind_data: bool,
-    wanted: &str,
+    heading: &str,
+    says: &str,
 ) -> Result<(), Fail> {
     let frame = TimedFrame {
         look: 7,
@@ -78,244 +83,82 @@ fn line(
     };
     let mut text = Vec::new(rt.alloc());
     push_story_line(&mut text, behind_data, frame)?;
+    let mut wanted = String::new(rt.alloc());
+    for part in [heading, MOMENTS, says, "\n"] {
+        wanted.push_str(part)?;
+    }
     assert_eq!(rt; text.as_slice(), wanted.as_bytes(), "{byte}");
     Ok(())
 }
 
+/// Command bytes, whether a data byte stands before them, and their lines.
+const COMMANDS: [(Sending, u8, bool, &str, &str); 11] = [
+    (Sending::Second, 32, true, "", "$20  LISTEN 0"),
+    (Sending::Second, 62, true, "", "$3E  LISTEN 30"),
+    (Sending::Second, 63, true, "", "$3F  UNLISTEN"),
+    (Sending::Second, 95, false, "", "$5F  command 95"),
+    (Sending::Second, 96, false, "", "$60  SECOND 0"),
+    (Sending::Second, 111, false, "", "$6F  SECOND 15"),
+    (Sending::Second, 112, false, "", "$70  command 112"),
+    (Sending::Second, 231, false, "", "$E7  CLOSE 7"),
+    (Sending::Second, 240, false, "", "$F0  command 240"),
+    (Sending::First, 31, true, "attention\n", "$1F  command 31"),
+    (Sending::First, 37, false, "attention\n", "$25  LISTEN 5"),
+];
+
 /// What commands say.
 #[test]
 fn commands(rt: HostRuntime) -> Result<(), Fail> {
-    let second = Sending::Second;
-    line(
-        &rt,
-        second,
-        32,
-        true,
-        "           7 1234567890123  $20  LISTEN 0\n",
-    )?;
-    line(
-        &rt,
-        second,
-        62,
-        true,
-        "           7 1234567890123  $3E  LISTEN 30\n",
-    )?;
-    line(
-        &rt,
-        second,
-        63,
-        true,
-        "           7 1234567890123  $3F  UNLISTEN\n",
-    )?;
-    line(
-        &rt,
-        second,
-        95,
-        false,
-        "           7 1234567890123  $5F  command 95\n",
-    )?;
-    line(
-        &rt,
-        second,
-        96,
-        false,
-        "           7 1234567890123  $60  SECOND 0\n",
-    )?;
-    line(
-        &rt,
-        second,
-        111,
-        false,
-        "           7 1234567890123  $6F  SECOND 15\n",
-    )?;
-    line(
-        &rt,
-        second,
-        112,
-        false,
-        "           7 1234567890123  $70  command 112\n",
-    )?;
-    line(
-        &rt,
-        second,
-        231,
-        false,
-        "           7 1234567890123  $E7  CLOSE 7\n",
-    )?;
-    line(
-        &rt,
-        second,
-        240,
-        false,
-        "           7 1234567890123  $F0  command 240\n",
-    )?;
-    let first = Sending::First;
-    line(
-        &rt,
-        first,
-        31,
-        true,
-        "attention\n           7 1234567890123  $1F  command 31\n",
-    )?;
-    line(
-        &rt,
-        first,
-        37,
-        false,
-        "attention\n           7 1234567890123  $25  LISTEN 5\n",
-    )
+    for (sending, byte, behind_data, heading, says) in COMMANDS {
+        line(&rt, sending, byte, behind_data, heading, says)?;
+    }
+    Ok(())
 }
+
+/// Data bytes, whether another stands before them, and their lines.
+const DATA: [(u8, bool, &str, &str); 8] = [
+    (65, false, "data\n", "$41  'A'"),
+    (32, true, "", "$20  ' '"),
+    (34, true, "", "$22  '\"'"),
+    (39, true, "", "$27  \"'\""),
+    (126, true, "", "$7E  '~'"),
+    (127, true, "", "$7F  byte 127"),
+    (0, true, "", "$00  byte 0"),
+    (193, true, "", "$C1  byte 193"),
+];
 
 /// What data bytes say.
 #[test]
 fn data_bytes(rt: HostRuntime) -> Result<(), Fail> {
-    let data = Sending::Data;
-    line(
-        &rt,
-        data,
-        65,
-        false,
-        "data\n           7 1234567890123  $41  'A'\n",
-    )?;
-    line(
-        &rt,
-        data,
-        32,
-        true,
-        "           7 1234567890123  $20  ' '\n",
-    )?;
-    line(
-        &rt,
-        data,
-        34,
-        true,
-        "           7 1234567890123  $22  '\"'\n",
-    )?;
-    line(
-        &rt,
-        data,
-        39,
-        true,
-        "           7 1234567890123  $27  \"'\"\n",
-    )?;
-    line(
-        &rt,
-        data,
-        126,
-        true,
-        "           7 1234567890123  $7E  '~'\n",
-    )?;
-    line(
-        &rt,
-        data,
-        127,
-        true,
-        "           7 1234567890123  $7F  byte 127\n",
-    )?;
-    line(
-        &rt,
-        data,
-        0,
-        true,
-        "           7 1234567890123  $00  byte 0\n",
-    )?;
-    line(
-        &rt,
-        data,
-        193,
-        true,
-        "           7 1234567890123  $C1  byte 193\n",
-    )
+    for (byte, behind_data, heading, says) in DATA {
+        line(&rt, Sending::Data, byte, behind_data, heading, says)?;
+    }
+    Ok(())
 }
+
+/// The printer's control codes behind a data byte, and their lines.
+const CONTROL_CODES: [(u8, &str); 12] = [
+    (8, "$08  graphic mode"),
+    (10, "$0A  line feed"),
+    (13, "$0D  return"),
+    (14, "$0E  double width"),
+    (15, "$0F  standard width"),
+    (16, "$10  column"),
+    (17, "$11  lower case"),
+    (18, "$12  reverse on"),
+    (26, "$1A  repeat"),
+    (27, "$1B  escape"),
+    (145, "$91  upper case"),
+    (146, "$92  reverse off"),
+];
 
 /// The names of the printer's control codes.
 #[test]
 fn control_codes(rt: HostRuntime) -> Result<(), Fail> {
-    let data = Sending::Data;
-    line(
-        &rt,
-        data,
-        8,
-        true,
-        "           7 1234567890123  $08  graphic mode\n",
-    )?;
-    line(
-        &rt,
-        data,
-        10,
-        true,
-        "           7 1234567890123  $0A  line feed\n",
-    )?;
-    line(
-        &rt,
-        data,
-        13,
-        true,
-        "           7 1234567890123  $0D  return\n",
-    )?;
-    line(
-        &rt,
-        data,
-        14,
-        true,
-        "           7 1234567890123  $0E  double width\n",
-    )?;
-    line(
-        &rt,
-        data,
-        15,
-        true,
-        "           7 1234567890123  $0F  standard width\n",
-    )?;
-    line(
-        &rt,
-        data,
-        16,
-        true,
-        "           7 1234567890123  $10  column\n",
-    )?;
-    line(
-        &rt,
-        data,
-        17,
-        true,
-        "           7 1234567890123  $11  lower case\n",
-    )?;
-    line(
-        &rt,
-        data,
-        18,
-        true,
-        "           7 1234567890123  $12  reverse on\n",
-    )?;
-    line(
-        &rt,
-        data,
-        26,
-        true,
-        "           7 1234567890123  $1A  repeat\n",
-    )?;
-    line(
-        &rt,
-        data,
-        27,
-        true,
-        "           7 1234567890123  $1B  escape\n",
-    )?;
-    line(
-        &rt,
-        data,
-        145,
-        true,
-        "           7 1234567890123  $91  upper case\n",
-    )?;
-    line(
-        &rt,
-        data,
-        146,
-        true,
-        "           7 1234567890123  $92  reverse off\n",
-    )
+    for (byte, says) in CONTROL_CODES {
+        line(&rt, Sending::Data, byte, true, "", says)?;
+    }
+    Ok(())
 }
 
 /// A frame without its moments, and the laws.

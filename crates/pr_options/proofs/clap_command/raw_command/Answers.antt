@@ -4,5 +4,7 @@ use Rattle.pr_options.proofs.clap_command.raw_command.Goals as goal
 
 pub returns-clause-app : goal.returns-clause-app
 returns-clause-app c =
-    c.in_ok-whole.ensures.shape c.as_option-format.ensures.local
-    ∙ ap₂ with_rule (c.in_ok-one.ensures.shape c.set_option-set.ensures.local ∙ ap₂ with_rule c.new_command-command.ensures.app c.set_option-set.ensures.rule) c.as_option-format.ensures.rule
+    c.in_ok-whole.ensures.shape c.flag_option.ensures.local
+    ∙ ap₂ with_rule (c.in_ok-two.ensures.shape c.value_option-2.ensures.local
+    ∙ ap₂ with_rule (c.in_ok-one.ensures.shape c.value_option.ensures.local ∙ ap₂ with_rule c.new_command-command.ensures.app c.value_option.ensures.rule)
+    c.value_option-2.ensures.rule) c.flag_option.ensures.rule

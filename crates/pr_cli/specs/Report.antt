@@ -1,0 +1,117 @@
+-- Trusted: what `check` answers for an input of any format and for a report of any kind, and what it leaves in the reader and in the writer.
+use Rattle.std.specs.Prelude.{◌≡◌, ℕ, ◌<◌, ◌≤◌, false, List, [], length, Option, Some, None, option_map, Result, Ok, Err}
+use Rattle.std.specs.Io.KnownBytes.{Appends, IsAtEnd, Keeps}
+use Rattle.pr_wire.specs.declared.Edge.{Edge}
+use Rattle.pr_wire.specs.declared.Frame.{Frame}
+use Rattle.pr_wire.specs.declared.WaveFault.{WaveFault}
+use Rattle.pr_wire.specs.declared.WaveFault.TheVariants as wave
+use Rattle.pr_wire.specs.declared.text.TraceFault.TheVariants as trace
+use Rattle.pr_wire.specs.Pieces.{Spells}
+use Rattle.pr_wire.specs.Table.{fault_of}
+use Rattle.pr_wire.specs.TraceText.{SaysEdges}
+use Rattle.pr_capture.specs.declared.fault.CaptureFault.TheVariants as capture
+use Rattle.pr_capture.specs.Csv.{csv_told}
+use Rattle.pr_capture.specs.Recording.{Told}
+use Rattle.pr_capture.specs.Samples.{edges_of}
+use Rattle.pr_capture.specs.VcdReading.{vcd_told}
+use Rattle.pr_story.specs.Moments.{timed_frames}
+use Rattle.pr_story.specs.StoryText.{story_lines, story_of}
+use Rattle.pr_options.specs.declared.format.Report.{Report}
+use Rattle.pr_options.specs.declared.format.Report.TheVariants as report
+use Rattle.pr_options.specs.declared.format.Source.{Source}
+use Rattle.pr_options.specs.declared.format.Source.TheVariants as source
+use Rattle.pr_options.specs.declared.format.TraceInput.{TraceInput}
+use Rattle.pr_cli.specs.Check.{trace_limit}
+use Rattle.pr_cli.specs.FrameText.{frame_lines}
+use Rattle.pr_cli.specs.PartlyWritten.{AppendsFront}
+use Rattle.pr_cli.specs.declared.fault.CliFault.{CliFault}
+use Rattle.pr_cli.specs.declared.fault.CliFault.TheVariants.{Script, Trace, Wave, Capture, TooLarge, NoMemory, ReadFailed, WriteFailed}
+
+-- What an input says.
+
+-- a recording that tells this says these samples, up to its fault if it has one
+abbrev pub IsTold : Told → (samples : List Edge) → (fault : Option CliFault) → Type 0
+IsTold told samples fault = (told.samples ≡ samples) × (option_map (λ f. Capture f) told.fault ≡ fault)
+
+-- a text in a format says these samples, or edges, up to its fault if it has one
+abbrev pub SaysSamples : TraceInput → Source → (text : List ℕ) → (samples : List Edge) → (fault : Option CliFault) → Type 0
+SaysSamples input source.Text text samples fault =
+    (bad : Option ℕ) × SaysEdges text samples bad × (option_map (λ n. Trace (trace.BadLine n)) bad ≡ fault)
+SaysSamples input source.Csv text samples fault = IsTold (csv_told input.signals text) samples fault
+SaysSamples input source.Vcd text samples fault = IsTold (vcd_told input.signals text) samples fault
+
+-- the edges that the samples of a format make, from a start on; a trace text has edges
+abbrev pub edges_made : Source → (start : ℕ) → (samples : List Edge) → List Edge
+edges_made source.Text start samples = samples
+edges_made source.Csv start samples = edges_of start samples
+edges_made source.Vcd start samples = edges_of start samples
+
+-- an input says these edges, up to its fault if it has one
+pub record Says (input : TraceInput) (text : List ℕ) (edges : List Edge) (fault : Option CliFault) : Type 0 where
+  pub samples : List Edge
+  pub are_samples : SaysSamples input input.source text samples fault
+  pub are_edges : edges ≡ edges_made input.source input.start samples
+
+-- What is written.
+
+-- why a trace is refused: the fault of its input, or else that of its edges
+abbrev pub refusal : (own : Option CliFault) → (fault : Option WaveFault) → Option CliFault
+refusal (Some own) fault = Some own
+refusal None fault = option_map (λ w. Wave w) fault
+
+-- the report on edges that are refused so, or are not: of frames only where they are not, of a story as far as it goes
+abbrev pub IsReport : Report → List Edge → (refused : Option CliFault) → (text : List ℕ) → Type 0
+IsReport report.Frames edges None text = (frames : List Frame) × Spells edges frames × (text ≡ frame_lines frames)
+IsReport report.Frames edges (Some fault) text = text ≡ []
+IsReport report.Story edges None text = text ≡ story_of edges
+IsReport report.Story edges (Some fault) text = text ≡ story_lines false (timed_frames edges)
+
+-- the report on what an input says, and why it is refused, if it is
+pub record Reports (input : TraceInput) (r : Report) (text : List ℕ) (refused : Option CliFault) (written : List ℕ) : Type 0 where
+  pub edges : List Edge
+  pub fault : Option CliFault
+  pub says : Says input text edges fault
+  pub is_refused : refused ≡ refusal fault (fault_of edges)
+  pub is_report : IsReport r edges refused written
+
+-- the report was written, and the trace is refused so, or is not
+abbrev pub WritesReport : TraceInput → Report → List ℕ → (refused : Option CliFault) → Option (List ℕ) → Option (List ℕ) → Type 0
+WritesReport input r text refused old new = (written : List ℕ) × Reports input r text refused written × Appends old new written
+
+-- the answer, by the text read and what the writer held before and after
+abbrev pub AnswersReport : TraceInput → Report → List ℕ → Option (List ℕ) → Option (List ℕ) → Result (Unit {0}) CliFault → Type 0
+AnswersReport input r text old new (Ok _) = (length text ≤ trace_limit) × WritesReport input r text None old new
+AnswersReport input r text old new (Err (Script fault)) = ⊥
+AnswersReport input r text old new (Err (Trace fault)) = WritesReport input r text (Some (Trace fault)) old new
+AnswersReport input r text old new (Err (Wave fault)) =
+    (length text ≤ trace_limit) × WritesReport input r text (Some (Wave fault)) old new
+AnswersReport input r text old new (Err (Capture fault)) = WritesReport input r text (Some (Capture fault)) old new
+AnswersReport input r text old new (Err TooLarge) = (trace_limit < length text) × Keeps old new
+AnswersReport input r text old new (Err NoMemory) = Keeps old new
+AnswersReport input r text old new (Err ReadFailed) = Keeps old new
+AnswersReport input r text old new (Err WriteFailed) =
+    (refused : Option CliFault) × (written : List ℕ) × Reports input r text refused written × AppendsFront old new written
+
+-- whatever the reader tells, nothing is written where the input was not read, or memory was refused; of frames also not where the trace is refused
+abbrev pub WritesNoReport : Report → Option (List ℕ) → Option (List ℕ) → Result (Unit {0}) CliFault → Type 0
+WritesNoReport r old new (Err TooLarge) = Keeps old new
+WritesNoReport r old new (Err NoMemory) = Keeps old new
+WritesNoReport r old new (Err ReadFailed) = Keeps old new
+WritesNoReport report.Frames old new (Err (Trace fault)) = Keeps old new
+WritesNoReport report.Frames old new (Err (Wave fault)) = Keeps old new
+WritesNoReport report.Frames old new (Err (Capture fault)) = Keeps old new
+WritesNoReport _ old new _ = Unit {0}
+
+-- the input has been read to its end where it is accepted, or its edges are refused
+abbrev pub ReadsAll : Option (List ℕ) → Result (Unit {0}) CliFault → Type 0
+ReadsAll left (Ok _) = IsAtEnd left
+ReadsAll left (Err (Wave fault)) = IsAtEnd left
+ReadsAll left (Err _) = Unit {0}
+
+-- a fault of an input: never one of a script, and want of memory always as itself
+abbrev pub IsReportFault : CliFault → Type 0
+IsReportFault (Script fault) = ⊥
+IsReportFault (Trace trace.NoMemory) = ⊥
+IsReportFault (Wave wave.NoMemory) = ⊥
+IsReportFault (Capture capture.NoMemory) = ⊥
+IsReportFault _ = Unit {0}

@@ -1,0 +1,205 @@
+//! A trace in any format in, a report on its frames out.
+
+ghost use Rattle.std.specs.Prelude.{◌≡◌, ◌≢◌, ◌+◌, ◌^◌, ◌<◌, ◌≤◌, ◌↔◌, length, false, true, None, Some, IfErr, IfOk, IfSome, IsErrOf, OnErr, OnOk};
+ghost use Rattle.std.specs.Option.{option_to_list};
+ghost use Rattle.pr_options.specs.declared.format.Report.{Report};
+ghost use Rattle.pr_cli.specs.Check.{trace_limit};
+ghost use Rattle.pr_cli.specs.Report.{AnswersReport, IsReportFault, ReadsAll, WritesNoReport};
+ghost use Rattle.pr_cli.specs.Reported.{EndsNoted, GivesReport, HasReadAll, HearsMore, IsNoReport, IsRefused, NotesBlock, WritesText, edges_heard, lines_read};
+ghost use Rattle.pr_cli.specs.Watched.{has_failed, wrapped};
+
+use crate::check::CHECK_LIMIT;
+use crate::fault::CliFault;
+use crate::read_write::{BLOCK, WriteFault, write_whole};
+use crate::reporter::{ReportText, TraceReporter};
+use crate::source_reader::SourceReader;
+use crate::watched::Watched;
+use pr_options::{Report, TraceInput};
+use pr_wire::Edge;
+use std::alloc::{AllocError, Global};
+use std::io::{Read, Write};
+
+/// Reads a trace in any format and writes a report on it: a line for each frame, as
+/// [`crate::check_over`] does, or its story, which tells the moments too; and then `lawful`.
+///
+/// A trace text says its edges. A recording, as a Value Change Dump or as a table of comma separated
+/// values, says samples of the signals with these names, from which the edges are made, counted from
+/// the start asked for (the first of them has to be at the start, with all lines released). A trace is
+/// lawful by this project's profile; recordings of real hardware differ from it. The input is read
+/// block by block and not kept, and the whole report is made before the first write.
+///
+/// # Errors
+///
+/// - [`CliFault::Trace`]: a trace text with its first bad line; [`CliFault::Capture`]: a recording with
+///   its first fault. Nothing behind it is read, and it is told before any fault of the edges.
+/// - [`CliFault::Wave`]: the edges are no lawful trace, with their first fault.
+/// - [`CliFault::TooLarge`]: only if the input has more than [`CHECK_LIMIT`] bytes.
+/// - [`CliFault::ReadFailed`] exactly if the input has failed, [`CliFault::WriteFailed`] exactly if the
+///   output has; after the latter a beginning of the text has been written.
+/// - [`CliFault::NoMemory`]: memory was refused.
+///
+/// With one of the first three the story up to there has been written, without `lawful`. After every
+/// other error but `WriteFailed`, and of [`Report::Frames`] also with these three, nothing has been
+/// written.
+pub fn check_as_over<R: Read, W: Write>(
+    alloc: Global,
+    input: &mut Watched<R>,
+    output: &mut Watched<W>,
+    trace: TraceInput<'_>,
+    report: Report,
+) -> Result<(), CliFault>
+    requires input { has_failed input.old ≡ false }
+    requires output { has_failed output.old ≡ false }
+    ensures check { IfSome (R.remaining (wrapped input.old)) (λ text.
+        AnswersReport trace.entry report text (W.contents (wrapped output.old)) (W.contents (wrapped output.new)) result) }
+    ensures at_end { ReadsAll (R.remaining (wrapped input.new)) result }
+    ensures nothing { WritesNoReport report (W.contents (wrapped output.old)) (W.contents (wrapped output.new)) result }
+    ensures own { IfErr result IsReportFault }
+    ensures read_failed { IsErrOf result CliFault.ReadFailed ↔ (has_failed input.new ≡ true) }
+    ensures write_failed { IsErrOf result CliFault.WriteFailed ↔ (has_failed output.new ≡ true) }
+{
+    let text = report_input(alloc, input, trace, report, CHECK_LIMIT)?;
+    let text = unless_withheld(report, text)?;
+    write_report(output, text)
+}
+
+/// The report, but of frames where the trace is refused: then nothing is written.
+fn unless_withheld(report: Report, text: ReportText) -> Result<ReportText, CliFault>
+    ensures same { IfOk result (λ t. t ≡ text) }
+    ensures told { OnOk result (report ≡ Report.Frames → text.refused ≡ None) }
+    ensures frames { OnErr result (report ≡ Report.Frames) }
+    ensures refused { IfErr result (λ fault. text.refused ≡ Some fault) }
+{
+    match (report, text.refused) {
+        (Report::Frames, Some(fault)) => Err(fault),
+        _ => Ok(text),
+    }
+}
+
+/// Writes the lines of a report, and answers why the trace is refused, if it is.
+fn write_report<W: Write>(output: &mut Watched<W>, text: ReportText) -> Result<(), CliFault>
+    requires fresh { has_failed output.old ≡ false }
+    requires refused { IsRefused text }
+    ensures written { WritesText text (W.contents (wrapped output.old)) (W.contents (wrapped output.new)) result }
+    ensures failed { IsErrOf result CliFault.WriteFailed ↔ (has_failed output.new ≡ true) }
+{
+    match write_whole(output, text.lines.as_slice()) {
+        Ok(()) => {}
+        Err(WriteFault) => return Err(CliFault::WriteFailed),
+    }
+    match text.refused {
+        None => Ok(()),
+        Some(fault) => Err(fault),
+    }
+}
+
+/// Reads an input of at most `limit` bytes to its end or to its fault, block by block, and makes the
+/// report on it.
+fn report_input<R: Read>(
+    alloc: Global,
+    input: &mut Watched<R>,
+    trace: TraceInput<'_>,
+    report: Report,
+    limit: usize,
+) -> Result<ReportText, CliFault>
+    requires fresh { has_failed input.old ≡ false }
+    requires few { limit ≤ trace_limit }
+    ensures report { IfSome (R.remaining (wrapped input.old)) (λ text. GivesReport limit trace.entry report result text) }
+    ensures at_end { HasReadAll (R.remaining (wrapped input.new)) result }
+    ensures refused { IfOk result IsRefused }
+    ensures own { IfErr result IsNoReport }
+    ensures failed { IsErrOf result CliFault.ReadFailed ↔ (has_failed input.new ≡ true) }
+{
+    let mut reader = SourceReader::new(alloc, trace);
+    let mut reporter = TraceReporter::new(alloc, trace, report);
+    let mut left = limit;
+    let mut block = [0u8; BLOCK];
+    'pieces: loop {
+        match input.read(&mut block) {
+            Err(_) => return Err(CliFault::ReadFailed),
+            Ok(0) => return last_report(reader, reporter),
+            Ok(n) => {
+                if n > left {
+                    return Err(CliFault::TooLarge);
+                }
+                left -= n;
+                if let Some(fault) = report_block(&mut reader, &mut reporter, &block[..n])? {
+                    return Ok(reporter.finish(Some(fault))?);
+                }
+            }
+        }
+    }
+}
+
+/// Reports on the bytes of a block. Gives the input's fault, where one stands there.
+fn report_block(
+    reader: &mut SourceReader<'_>,
+    reporter: &mut TraceReporter,
+    block: &[u8],
+) -> Result<Option<CliFault>, AllocError>
+    requires lines { lines_read reader.old + length block.now + 1 < 2 ^ 64 }
+    requires edges { edges_heard reporter.old + length block.now + 1 < 2 ^ 64 }
+    ensures noted { IfOk result (λ fault. NotesBlock block.now reader.old reporter.old fault reader.new reporter.new) }
+    ensures lines { IfOk result (λ fault. fault ≡ None → lines_read reader.new ≤ lines_read reader.old + length block.now) }
+    ensures edges { OnOk result (edges_heard reporter.new ≤ edges_heard reporter.old + length block.now) }
+{
+    let mut rest = block;
+    while !rest.is_empty() {
+        match reader.take_front(rest) {
+            Ok((len, sample)) => {
+                report_if_some(reporter, sample)?;
+                rest = &rest[len..];
+            }
+            Err(fault) => return Ok(Some(own_fault(fault)?)),
+        }
+    }
+    Ok(None)
+}
+
+/// A fault of an input, where it is no want of memory.
+fn own_fault(fault: CliFault) -> Result<CliFault, AllocError>
+    ensures same { IfOk result (λ own. own ≡ fault) }
+    ensures own { OnOk result (fault ≢ CliFault.NoMemory) }
+{
+    match fault {
+        CliFault::NoMemory => Err(AllocError),
+        own => Ok(own),
+    }
+}
+
+/// Reports on a sample, if there is one.
+fn report_if_some(reporter: &mut TraceReporter, sample: Option<Edge>) -> Result<(), AllocError>
+    requires few { edges_heard reporter.old + 1 < 2 ^ 64 }
+    ensures heard { OnOk result (HearsMore (option_to_list sample) reporter.old reporter.new) }
+    ensures count { OnOk result (edges_heard reporter.new ≤ edges_heard reporter.old + 1) }
+{
+    match sample {
+        Some(sample) => reporter.take(sample),
+        None => Ok(()),
+    }
+}
+
+/// Ends an input, and gives the report on it.
+fn last_report(
+    reader: SourceReader<'_>,
+    mut reporter: TraceReporter,
+) -> Result<ReportText, CliFault>
+    requires lines { lines_read reader + 1 < 2 ^ 64 }
+    requires edges { edges_heard reporter + 2 < 2 ^ 64 }
+    ensures report { EndsNoted reader.entry reporter result }
+    ensures own { IfErr result (λ fault. fault ≡ CliFault.NoMemory) }
+{
+    match reader.finish() {
+        Ok(sample) => {
+            report_if_some(&mut reporter, sample)?;
+            Ok(reporter.finish(None)?)
+        }
+        Err(fault) => {
+            let own = own_fault(fault)?;
+            Ok(reporter.finish(Some(own))?)
+        }
+    }
+}
+
+#[cfg(test)]
+mod tests;

@@ -1,0 +1,202 @@
+//! The lines of a report on edges or samples that come one by one.
+
+ghost use Rattle.std.specs.Prelude.{◌≡◌, ◌+◌, ◌^◌, ◌<◌, ◌≤◌, ◌∷◌, ◌++◌, [], List, IfOk, OnOk};
+ghost use Rattle.std.specs.Option.{option_to_list};
+ghost use Rattle.pr_wire.specs.declared.Edge.{Edge};
+ghost use Rattle.pr_options.specs.declared.format.Report.{Report};
+ghost use Rattle.pr_cli.specs.Report.{refusal};
+ghost use Rattle.pr_cli.specs.Reported.{AddsLines, EndsReport, EndsSamples, HasEnded, HasHeard, HasReported, HearsMore, MakesAll, MakesMore, ReportsMore, edges_heard, edges_taken, last_line};
+
+use crate::fault::CliFault;
+use crate::frame_text::push_frame;
+use pr_capture::Gatherer;
+use pr_options::{Report, Source, TraceInput};
+use pr_story::{Storyteller, TimedFrame, frames_are_told, is_data, push_story_line};
+use pr_wire::{Edge, WaveFault, lawful_traces};
+use std::alloc::{AllocError, Global};
+
+/// The lines of a report, and why the trace is refused, if it is.
+#[derive(Drop)]
+pub struct ReportText {
+    pub lines: Vec<u8>,
+    pub refused: Option<CliFault>,
+}
+
+/// The lines of the frames that edges end, and the first fault of the edges.
+#[derive(Drop)]
+pub struct FrameReporter {
+    report: Report,
+    teller: Storyteller,
+    /// Whether the last frame is a data byte.
+    behind_data: bool,
+    fault: Option<WaveFault>,
+    lines: Vec<u8>,
+}
+
+impl FrameReporter {
+    /// A reporter that has taken no edge. It takes no memory.
+    pub fn new(alloc: Global, report: Report) -> FrameReporter
+        ensures reported { HasReported report [] result }
+        ensures count { edges_taken result ≡ 0 }
+    {
+        FrameReporter {
+            report,
+            teller: Storyteller::new(),
+            behind_data: false,
+            fault: None,
+            lines: Vec::new(alloc),
+        }
+    }
+
+    /// Adds the lines of a frame.
+    fn push(&mut self, frame: TimedFrame) -> Result<(), AllocError>
+        ensures { OnOk result (AddsLines frame self.old self.new) }
+    {
+        match self.report {
+            Report::Frames => push_frame(&mut self.lines, frame.frame())?,
+            Report::Story => push_story_line(&mut self.lines, self.behind_data, frame)?,
+        }
+        self.behind_data = is_data(frame.sending);
+        Ok(())
+    }
+
+    /// Takes the next edge, and adds the lines of the frame that it ends. Behind a fault it takes no
+    /// edge.
+    pub fn take(&mut self, edge: Edge) -> Result<(), AllocError>
+        requires few { edges_taken self.old + 1 < 2 ^ 64 }
+        ensures reported { OnOk result (ReportsMore (edge ∷ []) self.old self.new) }
+        ensures count { OnOk result (edges_taken self.new ≤ edges_taken self.old + 1) }
+    {
+        if self.fault.is_some() {
+            return Ok(());
+        }
+        match self.teller.take(edge) {
+            Ok(Some(frame)) => self.push(frame),
+            Ok(None) => Ok(()),
+            Err(fault) => {
+                self.fault = Some(fault);
+                Ok(())
+            }
+        }
+    }
+
+    /// Takes the next edge, if there is one.
+    fn take_if(&mut self, edge: Option<Edge>) -> Result<(), AllocError>
+        requires few { edges_taken self.old + 1 < 2 ^ 64 }
+        ensures reported { OnOk result (ReportsMore (option_to_list edge) self.old self.new) }
+        ensures count { OnOk result (edges_taken self.new ≤ edges_taken self.old + 1) }
+    {
+        match edge {
+            Some(edge) => self.take(edge),
+            None => Ok(()),
+        }
+    }
+
+    /// Why the edges are no lawful trace, if they are none.
+    fn edge_fault(&self) -> Option<WaveFault>
+        ensures { HasEnded self.now result }
+    {
+        match self.fault {
+            Some(fault) => Some(fault),
+            None => self.teller.finish().err(),
+        }
+    }
+
+    /// Ends the edges of an input with this fault, if it has one: where nothing is refused, `lawful`
+    /// stands behind the lines of their frames.
+    fn finish(self, own: Option<CliFault>) -> Result<ReportText, AllocError>
+        ensures { IfOk result (λ text. (report : Report) (edges : List Edge) → HasReported report edges self → EndsReport report edges own text) }
+    {
+        frames_are_told();
+        lawful_traces();
+        let refused = refusal(own, self.edge_fault());
+        let lines = with_last_line(self.lines, refused)?;
+        Ok(ReportText { lines, refused })
+    }
+}
+
+/// Why a trace is refused: by its input's fault, or else by that of its edges.
+fn refusal(own: Option<CliFault>, fault: Option<WaveFault>) -> Option<CliFault>
+    ensures { result ≡ refusal own fault }
+{
+    match (own, fault) {
+        (Some(own), _) => Some(own),
+        (None, Some(fault)) => Some(CliFault::Wave(fault)),
+        (None, None) => None,
+    }
+}
+
+/// Lines, and behind them `lawful` where nothing is refused.
+fn with_last_line(mut lines: Vec<u8>, refused: Option<CliFault>) -> Result<Vec<u8>, AllocError>
+    ensures { IfOk result (λ v. v.items ≡ lines.items ++ last_line refused) }
+{
+    if refused.is_none() {
+        lines.extend_from_slice(b"lawful\n")?;
+    }
+    Ok(lines)
+}
+
+/// The edge that is made with the next sample, or is the next edge of an input that has edges.
+fn next_edge(gatherer: &mut Option<Gatherer>, sample: Edge) -> Option<Edge>
+    ensures { MakesMore sample gatherer.old result gatherer.new }
+{
+    match gatherer {
+        Some(gatherer) => gatherer.take(sample),
+        None => Some(sample),
+    }
+}
+
+/// The edge that is made at the end of the samples, if one is.
+fn last_edge(gatherer: Option<Gatherer>) -> Option<Edge>
+    ensures { MakesAll gatherer result }
+{
+    match gatherer {
+        Some(gatherer) => gatherer.finish(),
+        None => None,
+    }
+}
+
+/// A report on samples of an input: its edges are made of them, where the input has samples.
+#[derive(Drop)]
+pub struct TraceReporter {
+    /// Makes edges of samples; None where the input has edges.
+    gatherer: Option<Gatherer>,
+    frames: FrameReporter,
+}
+
+impl TraceReporter {
+    /// A reporter that has taken nothing of an input. It takes no memory.
+    pub fn new(alloc: Global, input: TraceInput<'_>, report: Report) -> TraceReporter
+        ensures heard { HasHeard input.entry report [] result }
+        ensures count { edges_heard result ≡ 0 }
+    {
+        let gatherer = match input.source {
+            Source::Text => None,
+            Source::Vcd | Source::Csv => Some(Gatherer::new(input.start)),
+        };
+        TraceReporter {
+            gatherer,
+            frames: FrameReporter::new(alloc, report),
+        }
+    }
+
+    /// Takes the next sample, or the next edge of an input that has edges.
+    pub fn take(&mut self, sample: Edge) -> Result<(), AllocError>
+        requires few { edges_heard self.old + 1 < 2 ^ 64 }
+        ensures heard { OnOk result (HearsMore (sample ∷ []) self.old self.new) }
+        ensures count { OnOk result (edges_heard self.new ≤ edges_heard self.old + 1) }
+    {
+        let edge = next_edge(&mut self.gatherer, sample);
+        self.frames.take_if(edge)
+    }
+
+    /// Ends the samples of an input with this fault, if it has one.
+    pub fn finish(mut self, own: Option<CliFault>) -> Result<ReportText, AllocError>
+        requires few { edges_heard self + 1 < 2 ^ 64 }
+        ensures { IfOk result (λ text. EndsSamples self own text) }
+    {
+        let last = last_edge(self.gatherer);
+        self.frames.take_if(last)?;
+        self.frames.finish(own)
+    }
+}

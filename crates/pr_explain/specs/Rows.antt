@@ -1,0 +1,38 @@
+-- Trusted: which edges a row of the table takes, and which a place takes.
+use Rattle.std.specs.Prelude.{◌≡◌, ℕ, ◌<◌, ◌^◌, List, Bool, true, false, not, ◌&&◌, Option, Some, None, Result, Ok, Err, nat_lt}
+use Rattle.std.specs.List.{list_any}
+use Rattle.pr_wire.specs.declared.Levels.{Levels}
+use Rattle.pr_wire.specs.declared.Edge.{Edge}
+use Rattle.pr_wire.specs.declared.place.Step.{Step}
+use Rattle.pr_wire.specs.declared.place.Flaw.{Flaw}
+use Rattle.pr_wire.specs.declared.place.Place.{Place}
+use Rattle.pr_wire.specs.Table.{by_row, is_late, same}
+use Rattle.pr_explain.specs.declared.rows.Row.{Row}
+
+-- an edge has these levels, and lies in this interval
+abbrev pub lies : Levels → ℕ → Option ℕ → Edge → Bool
+lies l low high e =
+    same l.atn e.levels.atn && (same l.clock e.levels.clock && (same l.line e.levels.line && (not (nat_lt e.time low) && not (is_late e.time high))))
+
+-- a row takes an edge; no row takes none
+abbrev pub takes : Option Row → Edge → Bool
+takes None e = false
+takes (Some r) e = lies r.levels r.earliest r.latest e
+
+-- a row has a moment: its earliest one is no later than its latest
+abbrev pub has_moment : Option Row → Bool
+has_moment None = true
+has_moment (Some r) = not (is_late r.earliest r.latest)
+
+-- it is taken
+abbrev pub is_step : Result Step Flaw → Bool
+is_step (Ok step) = true
+is_step (Err flaw) = false
+
+-- an edge is taken at a place, by the table
+abbrev pub is_taken : Place → Edge → Bool
+is_taken p e = is_step (by_row p e)
+
+-- these are the rows at a place: an edge is taken there exactly if one of them takes it
+abbrev pub AreRows : List (Option Row) → Place → Type 0
+AreRows rows p = (e : Edge) → e.time < 2 ^ 64 → list_any (λ row. takes row e) rows ≡ is_taken p e

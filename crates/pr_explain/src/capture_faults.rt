@@ -1,0 +1,119 @@
+//! The faults of recordings.
+
+use crate::names::push_names;
+use crate::recordings::Recording;
+use crate::texts::{line_at, push, push_cut, push_line};
+use pr_capture::{CaptureFault, Signals, Wire};
+use pr_wire::NoMemory;
+
+/// The line of a fault, from 1. Want of memory has none.
+fn line_of(fault: CaptureFault) -> Option<usize> {
+    match fault {
+        CaptureFault::NoSignal(line, _)
+        | CaptureFault::BadWord(line)
+        | CaptureFault::NoEnd(line)
+        | CaptureFault::NoDefinitions(line)
+        | CaptureFault::NoTimescale(line)
+        | CaptureFault::BadTime(line)
+        | CaptureFault::GoesBack(line)
+        | CaptureFault::NoLevel(line, _)
+        | CaptureFault::Unknown(line)
+        | CaptureFault::Floating(line)
+        | CaptureFault::BadLevel(line) => Some(line),
+        CaptureFault::NoMemory => None,
+    }
+}
+
+/// A line of the bus, and the name of the signal that is looked for.
+fn names_of<'a>(wire: Wire, signals: Signals<'a>) -> (&'static str, &'a [u8]) {
+    match wire {
+        Wire::Atn => ("ATN", signals.atn),
+        Wire::Clock => ("CLOCK", signals.clock),
+        Wire::Data => ("DATA", signals.line),
+    }
+}
+
+/// Adds which name no signal has.
+fn push_missing(text: &mut Vec<u8>, wire: Wire, signals: Signals<'_>) -> Result<(), NoMemory> {
+    let (line, name) = names_of(wire, signals);
+    push(text, "  ")?;
+    push(text, line)?;
+    push(text, " is looked for as ")?;
+    push_cut(text, name)?;
+    push(text, ", and no signal of one bit has that name\n")
+}
+
+/// What a dump has where it has this fault.
+fn rule_of_dumps(fault: CaptureFault) -> &'static str {
+    match fault {
+        CaptureFault::BadWord(_) => {
+            "behind its header a dump has times (#120), levels (0! or b0 !, with the signal's code) and \
+             sections up to $end"
+        }
+        CaptureFault::NoEnd(_) => "the section that begins here has no $end",
+        CaptureFault::NoDefinitions(_) => {
+            "the header of a dump ends with $enddefinitions $end; --from csv reads tables"
+        }
+        CaptureFault::NoTimescale(_) => {
+            "the header of a dump has $timescale 1 us $end, or 1, 10 or 100 of another unit from fs to s"
+        }
+        CaptureFault::BadTime(_) => "a time is # and a number of the dump's unit",
+        _ => rule_of_both(fault),
+    }
+}
+
+/// What a table has where it has this fault.
+fn rule_of_tables(fault: CaptureFault) -> &'static str {
+    match fault {
+        CaptureFault::BadTime(_) => "a row begins with its time in seconds, as in 0.000125",
+        _ => rule_of_both(fault),
+    }
+}
+
+/// What a recording of any kind has where it has this fault.
+fn rule_of_both(fault: CaptureFault) -> &'static str {
+    match fault {
+        CaptureFault::GoesBack(_) => "this time is before an earlier line's",
+        CaptureFault::NoLevel(_, _) => "each of the three lines needs a level",
+        CaptureFault::Unknown(_) => {
+            "x says that the level is not known; a level of the three lines is 0 or 1"
+        }
+        CaptureFault::Floating(_) => {
+            "z says that nobody drives the line; a level of the three lines is 0 or 1"
+        }
+        CaptureFault::BadLevel(_) => "a level of the three lines is 0 or 1",
+        _ => "this can not stand here",
+    }
+}
+
+/// Adds the line of a recording's fault, and what it should have.
+pub fn push_capture_fault(
+    text: &mut Vec<u8>,
+    recording: &[u8],
+    kind: Recording,
+    signals: Signals<'_>,
+    fault: CaptureFault,
+) -> Result<(), NoMemory> {
+    let Some(number) = line_of(fault) else {
+        return Ok(());
+    };
+    let (_, line) = line_at(recording, number);
+    push_line(text, number, line)?;
+    match fault {
+        CaptureFault::NoSignal(_, wire) => {
+            push_missing(text, wire, signals)?;
+            push_names(text, recording, line, kind)
+        }
+        _ => {
+            push(text, "  ")?;
+            push(
+                text,
+                match kind {
+                    Recording::Dump => rule_of_dumps(fault),
+                    Recording::Table => rule_of_tables(fault),
+                },
+            )?;
+            push(text, "\n")
+        }
+    }
+}

@@ -1,0 +1,164 @@
+//! What can stand at a place of a script.
+
+use crate::words::word_at;
+use pr_basic::ScriptFault;
+
+/// The statement around a place.
+#[derive(Clone, Copy, Debug, PartialEq, Eq)]
+enum Context {
+    /// The place is where a line or a statement begins.
+    Start,
+    Open,
+    Close,
+    /// Behind CMD or PRINT#, before the comma.
+    File,
+    /// In a list.
+    List,
+}
+
+/// That an OPEN has no name.
+const NO_NAME: &str = "a printer's OPEN takes no file name: OPEN file,device,secondary ends here";
+
+/// What can stand behind some bytes of a line, where this is the fault.
+pub fn expected_at(before: &[u8], rest: &[u8], fault: ScriptFault) -> &'static str {
+    let context = context_of(before);
+    match fault {
+        ScriptFault::UnknownWord(_) => expected_in(context, before, rest),
+        ScriptFault::BadNumber(_) => match context {
+            Context::Start => "a line number is at most 63999",
+            Context::Open | Context::Close | Context::File => {
+                "a file number of at most 255 stands here"
+            }
+            Context::List => "CHR$ has a number of at most 255",
+        },
+        ScriptFault::BadDevice(_) => "a comma and a device of 4 to 30 stand behind the file",
+        ScriptFault::BadSecond(_) => match rest {
+            [b'"', ..] => NO_NAME,
+            _ => "a secondary address of at most 15 stands here",
+        },
+        ScriptFault::BadByte(_) => match rest {
+            [b'0'..=b'9', ..] => "CHR$ has a number of at most 255",
+            _ => "a string has the bytes 32 to 126; CHR$(n) gives the others",
+        },
+        ScriptFault::TooLong(_) => "a list has at most 255 bytes",
+        ScriptFault::TooMany(_) => "a script has at most 1000000 statements",
+        ScriptFault::NoMemory => "memory was refused",
+    }
+}
+
+/// What can stand in a statement, where an unknown word does.
+fn expected_in(context: Context, before: &[u8], rest: &[u8]) -> &'static str {
+    if context == Context::Start {
+        return "OPEN, CMD, PRINT, PRINT#, CLOSE or REM can stand here";
+    }
+    if word_at(rest).begins_statement() && !wants_more(before) {
+        return "a : is missing before this statement";
+    }
+    match (context, rest) {
+        (Context::Open, [b',' | b'"', ..]) => NO_NAME,
+        (Context::Start | Context::Open, _) => {
+            "a comma, or the end of OPEN file,device,secondary can stand here"
+        }
+        (Context::Close, _) => "the end of the statement stands behind the file",
+        (Context::File, _) => "a comma and a list, or the end of the statement can stand here",
+        (Context::List, _) => expected_in_list(before, rest),
+    }
+}
+
+/// What can stand in a list, where an unknown word does.
+fn expected_in_list(before: &[u8], rest: &[u8]) -> &'static str {
+    match last_of(before) {
+        Some(b'$') => "( stands behind CHR$",
+        Some(b'(') => "a number stands here",
+        Some(b'0'..=b'9') => ") stands behind the number",
+        Some(b',') => "a list stands behind the comma",
+        _ => match rest {
+            [b',', ..] => "; and not , stands between the parts of a list here",
+            _ => "a string, CHR$(n) or ; can stand here",
+        },
+    }
+}
+
+/// Whether a statement can not end behind these bytes of it.
+fn wants_more(before: &[u8]) -> bool {
+    matches!(last_of(before), Some(b',' | b'(' | b'$'))
+}
+
+/// The last byte that is no space or tab.
+fn last_of(bytes: &[u8]) -> Option<u8> {
+    let mut last = None;
+    for byte in bytes {
+        if *byte != b' ' && *byte != b'\t' {
+            last = Some(*byte);
+        }
+    }
+    last
+}
+
+/// The statement behind these bytes of a line.
+fn context_of(before: &[u8]) -> Context {
+    let part = last_part(before);
+    let front = without_label(part);
+    if front.is_empty() {
+        Context::Start
+    } else if begins(front, b"open") {
+        Context::Open
+    } else if begins(front, b"close") {
+        Context::Close
+    } else if begins(front, b"cmd") || begins(front, b"print#") {
+        if has_comma(front) {
+            Context::List
+        } else {
+            Context::File
+        }
+    } else {
+        Context::List
+    }
+}
+
+/// What stands behind the last colon outside strings.
+fn last_part(before: &[u8]) -> &[u8] {
+    let mut start = 0;
+    let mut is_quoted = false;
+    for (i, byte) in before.iter().enumerate() {
+        if *byte == b'"' {
+            is_quoted = !is_quoted;
+        }
+        if *byte == b':' && !is_quoted {
+            start = i + 1;
+        }
+    }
+    &before[start.min(before.len())..]
+}
+
+/// Whether a comma stands outside strings.
+fn has_comma(bytes: &[u8]) -> bool {
+    let mut is_quoted = false;
+    for byte in bytes {
+        if *byte == b'"' {
+            is_quoted = !is_quoted;
+        }
+        if *byte == b',' && !is_quoted {
+            return true;
+        }
+    }
+    false
+}
+
+/// What stands behind spaces, tabs and digits.
+fn without_label(part: &[u8]) -> &[u8] {
+    for (i, byte) in part.iter().enumerate() {
+        if *byte != b' ' && *byte != b'\t' && !byte.is_ascii_digit() {
+            return &part[i..];
+        }
+    }
+    &[]
+}
+
+/// Whether bytes begin with a word, whichever of its letters are capitals.
+fn begins(bytes: &[u8], word: &[u8]) -> bool {
+    bytes.len() >= word.len() && bytes[..word.len()].eq_ignore_ascii_case(word)
+}
+
+#[cfg(test)]
+mod tests;

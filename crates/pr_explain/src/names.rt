@@ -1,0 +1,204 @@
+//! The names of a recording's signals.
+
+ghost use Rattle.std.specs.Prelude.{◌<◌, ◌≤◌, length};
+
+use crate::recordings::Recording;
+use crate::texts::{push, push_cut};
+use pr_wire::NoMemory;
+
+/// The most names that are told (profile).
+const NAMES: usize = 20;
+
+/// Adds the names of a recording's signals, those of a table by the line of its names, and how the three
+/// lines are called by them.
+pub fn push_names(
+    text: &mut Vec<u8>,
+    recording: &[u8],
+    line: &[u8],
+    kind: Recording,
+) -> Result<(), NoMemory> {
+    let mut names = NameList::new();
+    match kind {
+        Recording::Dump => push_dump_names(text, recording, &mut names)?,
+        Recording::Table => push_table_names(text, line, &mut names)?,
+    }
+    push(
+        text,
+        if names.count == 0 {
+            "  the recording names no signal of one bit"
+        } else if names.count > NAMES {
+            ", .."
+        } else {
+            ""
+        },
+    )?;
+    push(
+        text,
+        "\n  --names tells which signals are ATN, CLOCK and DATA, as in --names ATN,CLOCK,DATA\n",
+    )
+}
+
+/// How many names were told, and whether more of them came.
+#[derive(Clone, Copy)]
+struct NameList {
+    count: usize,
+}
+
+impl NameList {
+    /// No name was told.
+    fn new() -> NameList {
+        NameList { count: 0 }
+    }
+
+    /// Adds a name, unless enough were told.
+    fn push(&mut self, text: &mut Vec<u8>, name: &[u8]) -> Result<(), NoMemory> {
+        if self.count < NAMES {
+            push(
+                text,
+                if self.count == 0 {
+                    "  the recording has the signals "
+                } else {
+                    ", "
+                },
+            )?;
+            push_cut(text, name)?;
+        }
+        self.count = self.count.saturating_add(1);
+        Ok(())
+    }
+}
+
+/// Adds the names of a dump's signals of one bit.
+fn push_dump_names(text: &mut Vec<u8>, dump: &[u8], names: &mut NameList) -> Result<(), NoMemory> {
+    let mut rest = dump;
+    while !rest.is_empty() {
+        let (word, more) = split_word(rest);
+        rest = more;
+        if word == b"$enddefinitions".as_slice() {
+            return Ok(());
+        }
+        if word.starts_with(b"$") {
+            let (section, more) = split_section(more);
+            rest = more;
+            if word == b"$var".as_slice() {
+                push_signal(text, section, names)?;
+            }
+        }
+    }
+    Ok(())
+}
+
+/// Adds the name of a signal that has this section, if it has one bit.
+fn push_signal(text: &mut Vec<u8>, section: &[u8], names: &mut NameList) -> Result<(), NoMemory> {
+    let (_kind, rest) = split_word(section);
+    let (size, rest) = split_word(rest);
+    let (_code, rest) = split_word(rest);
+    let (name, _) = split_word(rest);
+    if size == b"1".as_slice() && !name.is_empty() {
+        names.push(text, name)
+    } else {
+        Ok(())
+    }
+}
+
+/// What stands before the `$end` in front, and what stands behind it.
+fn split_section(bytes: &[u8]) -> (&[u8], &[u8])
+    ensures { length result.1.now ≤ length bytes.now }
+{
+    let mut rest = bytes;
+    while !rest.is_empty() {
+        let (word, more) = split_word(rest);
+        if word == b"$end".as_slice() {
+            let len = bytes.len().saturating_sub(rest.len());
+            return (&bytes[..len], more);
+        }
+        rest = more;
+    }
+    (bytes, rest)
+}
+
+/// Whether a byte is white space.
+fn is_space(byte: u8) -> bool {
+    byte == b' ' || (byte >= 9 && byte <= 13)
+}
+
+/// The first word, and what stands behind it.
+fn split_word(bytes: &[u8]) -> (&[u8], &[u8])
+    ensures within { length result.1.now ≤ length bytes.now }
+    ensures less { 0 < length bytes.now → length result.1.now < length bytes.now }
+{
+    let rest = after_spaces(bytes);
+    for (i, byte) in rest.iter().enumerate() {
+        if is_space(*byte) {
+            return (&rest[..i], &rest[i + 1..]);
+        }
+    }
+    (rest, &[])
+}
+
+/// What stands behind the white space in front.
+fn after_spaces(bytes: &[u8]) -> &[u8]
+    ensures { length result.now ≤ length bytes.now }
+{
+    for (i, byte) in bytes.iter().enumerate() {
+        if !is_space(*byte) {
+            return &bytes[i..];
+        }
+    }
+    &[]
+}
+
+/// Adds the names of a table's columns, but for that of the time.
+fn push_table_names(text: &mut Vec<u8>, line: &[u8], names: &mut NameList) -> Result<(), NoMemory> {
+    let (_time, mut rest) = split_field(line);
+    while !rest.is_empty() {
+        let (field, more) = split_field(rest);
+        rest = more;
+        names.push(text, unframed(field))?;
+    }
+    Ok(())
+}
+
+/// The first field of a line, and what stands behind its comma; nothing, where it has none. A comma
+/// between quotation marks does not end it.
+fn split_field(line: &[u8]) -> (&[u8], &[u8])
+    ensures less { 0 < length line.now → length result.1.now < length line.now }
+{
+    let mut is_quoted = false;
+    for (i, byte) in line.iter().enumerate() {
+        if *byte == b',' && !is_quoted {
+            return (&line[..i], &line[i + 1..]);
+        }
+        if *byte == b'"' {
+            is_quoted = !is_quoted;
+        }
+    }
+    (line, &[])
+}
+
+/// Whether a byte stands around a field and does not belong to it.
+fn is_frame(byte: u8) -> bool {
+    is_space(byte) || byte == b'"'
+}
+
+/// What stands behind the white space and the quotation marks in front.
+fn after_frame(field: &[u8]) -> &[u8] {
+    for (i, byte) in field.iter().enumerate() {
+        if !is_frame(*byte) {
+            return &field[i..];
+        }
+    }
+    &[]
+}
+
+/// A field without the white space and the quotation marks around it.
+fn unframed(field: &[u8]) -> &[u8] {
+    let rest = after_frame(field);
+    let mut len = 0;
+    for (i, byte) in rest.iter().enumerate() {
+        if !is_frame(*byte) {
+            len = i + 1;
+        }
+    }
+    &rest[..len.min(rest.len())]
+}

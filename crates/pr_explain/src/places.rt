@@ -1,0 +1,169 @@
+//! The places of the table of lawful traces, in words.
+
+use crate::rows::rows_from;
+use crate::texts::{Origin, push, push_levels, push_moment, push_number};
+use pr_wire::{NoMemory, Place, Sending};
+
+/// What is sent.
+fn name_of(sending: Sending) -> &'static str {
+    match sending {
+        Sending::First => "a first command",
+        Sending::Second => "a second command",
+        Sending::Data => "a data byte",
+    }
+}
+
+/// Adds words, and a moment behind `since`.
+fn push_since(text: &mut Vec<u8>, words: &str, since: u64, origin: Origin) -> Result<(), NoMemory> {
+    push(text, words)?;
+    push(text, ", since ")?;
+    push_moment(text, since, origin)
+}
+
+/// Adds the same, of what is sent.
+fn push_sending(
+    text: &mut Vec<u8>,
+    words: &str,
+    sending: Sending,
+    since: u64,
+    origin: Origin,
+) -> Result<(), NoMemory> {
+    push(text, words)?;
+    push_since(text, name_of(sending), since, origin)
+}
+
+/// Adds the same, of a bit of what is sent.
+fn push_bit(
+    text: &mut Vec<u8>,
+    words: &str,
+    bit: usize,
+    sending: Sending,
+    since: u64,
+    origin: Origin,
+) -> Result<(), NoMemory> {
+    push(text, "bit ")?;
+    push_number(text, bit as u64)?;
+    push(text, " of ")?;
+    push(text, name_of(sending))?;
+    push_since(text, words, since, origin)
+}
+
+/// Adds a place in words.
+pub fn push_place(text: &mut Vec<u8>, place: &Place, origin: Origin) -> Result<(), NoMemory> {
+    match place {
+        Place::Idle(since) => push_since(text, "idle, all lines are released", *since, origin),
+        Place::Call(since, false) => push_since(
+            text,
+            "attention, no printer answers yet",
+            *since,
+            origin,
+        ),
+        Place::Call(since, true) => push_since(
+            text,
+            "attention, a printer answers",
+            *since,
+            origin,
+        ),
+        Place::Ready(since, sending) => {
+            push_sending(
+                text,
+                "the computer is ready to send ",
+                *sending,
+                *since,
+                origin,
+            )
+        }
+        Place::Free(since, sending) => {
+            push_sending(
+                text,
+                "the printers are ready for ",
+                *sending,
+                *since,
+                origin,
+            )
+        }
+        Place::Pulse(since, _) => push_since(text, "end-or-identify is answered", *since, origin),
+        Place::After(since) => push_since(
+            text,
+            "end-or-identify has been answered",
+            *since,
+            origin,
+        ),
+        Place::Bit {
+            since,
+            sending,
+            seen,
+            ..
+        } => push_bit(
+            text,
+            ", CLOCK is pulled",
+            seen.len(),
+            *sending,
+            *since,
+            origin,
+        ),
+        Place::High {
+            since,
+            sending,
+            seen,
+            ..
+        } => push_bit(
+            text,
+            ", CLOCK is released",
+            seen.len(),
+            *sending,
+            *since,
+            origin,
+        ),
+        Place::Last(since, sending, _, _) => {
+            push_sending(text, "all bits have come of ", *sending, *since, origin)
+        }
+        Place::Ack(since, sending, _) => {
+            push_sending(
+                text,
+                "a printer has acknowledged ",
+                *sending,
+                *since,
+                origin,
+            )
+        }
+        Place::Freed {
+            since,
+            unlistened: false,
+            ..
+        } => push_since(text, "attention has ended", *since, origin),
+        Place::Freed { since, .. } => {
+            push_since(text, "attention has ended with UNLISTEN", *since, origin)
+        }
+    }
+}
+
+/// Adds a line for each edge that may follow at a place.
+pub fn push_rows(text: &mut Vec<u8>, place: &Place, origin: Origin) -> Result<(), NoMemory> {
+    for row in rows_from(place) {
+        let Some(row) = row else {
+            continue;
+        };
+        push(text, "  could follow: ")?;
+        push_levels(text, row.levels)?;
+        match row.latest {
+            Some(latest) if latest == row.earliest => {
+                push(text, " at ")?;
+                push_moment(text, latest, origin)?;
+            }
+            Some(latest) => {
+                push(text, " from ")?;
+                push_moment(text, row.earliest, origin)?;
+                push(text, " to ")?;
+                push_moment(text, latest, origin)?;
+            }
+            None => {
+                push(text, " from ")?;
+                push_moment(text, row.earliest, origin)?;
+                push(text, " on")?;
+            }
+        }
+        push(text, "\n")?;
+    }
+    Ok(())
+}

@@ -1,0 +1,346 @@
+//! Explanations of recordings: the moments are those of the table of lawful traces.
+
+use super::*;
+use pr_wire::example::TRACE_TEXT;
+use pr_wire::read_trace;
+use std::env::FillError;
+use std::process::Abort;
+use std::rt::Env;
+use std::test::Fail;
+
+/// The signals that a recording has by the names of its lines.
+const SIGNALS: Signals<'_> = Signals {
+    atn: b"ATN",
+    clock: b"CLOCK",
+    line: b"DATA",
+    is_inverted: false,
+};
+
+/// A dump's header with the unit of microseconds and these signals, a, c and d by their codes.
+const HEADER: &str = "$timescale 1 us $end\n$var wire 1 a ATN $end\n$var wire 1 c CLK $end\n\
+                      $var wire 1 d DATA $end\n$enddefinitions $end\n";
+
+/// The recording is explained so.
+fn told(
+    rt: &(impl Abort + AllocGlobal),
+    recording: &[u8],
+    kind: Recording,
+    start: u64,
+    wanted: &str,
+) -> Result<(), Fail> {
+    let text = explain_recording(rt.alloc(), recording, kind, SIGNALS, start)?;
+    assert_eq!(rt; text.as_slice(), wanted.as_bytes());
+    Ok(())
+}
+
+/// The dump with the header is explained so.
+fn told_of_dump(
+    rt: &(impl Abort + AllocGlobal),
+    changes: &str,
+    start: u64,
+    wanted: &str,
+) -> Result<(), Fail> {
+    let dump = format!(in rt.alloc(); "{HEADER}{changes}")?;
+    told(rt, dump.as_bytes(), Recording::Dump, start, wanted)
+}
+
+/// The table with a row of names is explained so.
+fn told_of_table(
+    rt: &(impl Abort + AllocGlobal),
+    rows: &str,
+    start: u64,
+    wanted: &str,
+) -> Result<(), Fail> {
+    let table = format!(in rt.alloc(); "Time [s],ATN,CLOCK,DATA\n{rows}")?;
+    told(rt, table.as_bytes(), Recording::Table, start, wanted)
+}
+
+/// The example trace as a table, all of its moments later by so many seconds.
+fn example_table(rt: &impl AllocGlobal, seconds: u64) -> Result<String, Fail> {
+    let mut table = String::new(rt.alloc());
+    table.push_str("Time [s],ATN,CLOCK,DATA\n")?;
+    let edges = read_trace(rt.alloc(), TRACE_TEXT.as_bytes())?;
+    for edge in edges.as_slice() {
+        let whole = seconds.saturating_add(edge.time / 1_000_000);
+        let micros = edge.time % 1_000_000;
+        let (atn, clock, line) = (
+            u8::from(edge.levels.atn),
+            u8::from(edge.levels.clock),
+            u8::from(edge.levels.line),
+        );
+        let row = format!(in rt.alloc(); "{whole}.{micros:06},{atn},{clock},{line}\n")?;
+        table.push_str(row.as_str())?;
+    }
+    Ok(table)
+}
+
+#[test]
+fn lawful_recordings(rt: HostRuntime) -> Result<(), Fail> {
+    let table = example_table(&rt, 0)?;
+    told(&rt, table.as_bytes(), Recording::Table, 0, "")?;
+    let table = example_table(&rt, 3)?;
+    told(&rt, table.as_bytes(), Recording::Table, 3_000_000, "")?;
+    told_of_dump(&rt, "#0 1a 1c 1d\n", 0, "")
+}
+
+/// The edges of a recording have no lines, and their moments are told by the recording too.
+#[test]
+fn edges_of_recordings(rt: HostRuntime) -> Result<(), Fail> {
+    told_of_table(
+        &rt,
+        "0,1,1,1\n0.000099,0,0,1\n",
+        0,
+        "  edge 1: 99 001\n  the edge before it: 0 111\n  the place there: idle, all lines are released, \
+         since 0\n  could follow: 001 from 100 on\n  it comes 1 microsecond too early\n",
+    )?;
+    told_of_dump(
+        &rt,
+        "#5 1a 1c 1d\n#7 0c\n#1000 1c\n#1100 0a 0c\n#3101 1a 1c\n",
+        1000,
+        "  [in brackets: the recording's own microseconds]\n  edge 2: 2101 111 [3101]\n  the edge before \
+         it: 100 001 [1100]\n  the place there: attention, no printer answers yet, since 100 [1100]\n  \
+         could follow: 000 from 101 [1101] to 1100 [2100]\n  could follow: 010 at 1100 [2100]\n  could \
+         follow: 111 from 1100 [2100] to 2100 [3100]\n  it comes 1 microsecond too late\n",
+    )?;
+    told_of_dump(
+        &rt,
+        "#10 1a 1c 1d\n#110 0a 0c\n",
+        10,
+        "  [in brackets: the recording's own microseconds]\n  the last edge: 100 001 [110]\n  the place \
+         there: attention, no printer answers yet, since 100 [110]\n  could follow: 000 from 101 [111] to \
+         1100 [1110]\n  could follow: 010 at 1100 [1110]\n  could follow: 111 from 1100 [1110] to 2100 \
+         [2110]\n  a trace may end where all lines are released, behind a data byte, or behind an \
+         attention that did not end with UNLISTEN\n",
+    )
+}
+
+/// Where the first edge is no start, it is told where the trace may start.
+#[test]
+fn starts_of_recordings(rt: HostRuntime) -> Result<(), Fail> {
+    let front =
+        "  a trace begins with 0 111, all lines released at time 0\n  --from-time US says at \
+                 which microsecond of the recording the trace starts; ";
+    let rows = [
+        (
+            "#500 1a 1c 1d\n",
+            0,
+            "  edge 0: 500 111\n",
+            "all three lines are first released at 500\n",
+        ),
+        (
+            "#0 1a 0c 0d\n#30 1c\n#40 1d\n#70 0c\n#90 1c\n#400 0a 0c\n",
+            0,
+            "  edge 0: 0 100\n",
+            "all three lines are first released at 40, and an attention follows first behind 90\n",
+        ),
+        (
+            "#0 1a 0c 0d\n#30 1c\n#40 1d\n#70 0c\n",
+            20,
+            "  [in brackets: the recording's own microseconds]\n  edge 0: 0 100 [20]\n",
+            "all three lines are first released at 40\n",
+        ),
+        (
+            "#0 1a 0c 1d\n",
+            0,
+            "  edge 0: 0 101\n",
+            "in this one the three lines are never all released\n",
+        ),
+    ];
+    for (changes, start, edge, end) in rows {
+        let wanted = format!(in rt.alloc(); "{edge}{front}{end}")?;
+        told_of_dump(&rt, changes, start, wanted.as_str())?;
+    }
+    told_of_table(
+        &rt,
+        "",
+        0,
+        "  the recording has no sample of the three lines\n",
+    )
+}
+
+/// The signals of a recording are told where one is missing.
+#[test]
+fn names_of_signals(rt: HostRuntime) -> Result<(), Fail> {
+    let how =
+        "\n  --names tells which signals are ATN, CLOCK and DATA, as in --names ATN,CLOCK,DATA\n";
+    let rows: [(&[u8], Recording, &str, &str); 4] = [
+        (
+            b"; remark\nTime [s], \"D 0\" ,CLOCK,\"a,\x1b\"\r\n0,1,1,1\n",
+            Recording::Table,
+            "  line 2: Time [s], \"D 0\" ,CLOCK,\"a,\\x1B\"\n  ATN is looked for as ATN,",
+            "  the recording has the signals D 0, CLOCK, a,\\x1B",
+        ),
+        (
+            b"",
+            Recording::Table,
+            "  line 1: \n  ATN is looked for as ATN,",
+            "  the recording names no signal of one bit",
+        ),
+        (
+            b"$comment $var wire 1 x ATN $end $timescale 1 us $end\n$var wire 1 a atn $end $var wire 8 c CLOCK $end\n\
+              $var wire 1 ! D1 [3] $end\n$enddefinitions $end\n$var wire 1 z LATE $end\n",
+            Recording::Dump,
+            "  line 4: $enddefinitions $end\n  CLOCK is looked for as CLOCK,",
+            "  the recording has the signals atn, D1",
+        ),
+        (
+            b"t,1,2,3,4,5,6,7,8,9,10,11,12,13,14,15,16,17,18,19,20,21\n",
+            Recording::Table,
+            "  line 1: t,1,2,3,4,5,6,7,8,9,10,11,12,13,14,15,16,17,18,19,20,21\n  ATN is looked for as ATN,",
+            "  the recording has the signals 1, 2, 3, 4, 5, 6, 7, 8, 9, 10, 11, 12, 13, 14, 15, 16, 17, 18, 19, 20, ..",
+        ),
+    ];
+    for (recording, kind, front, names) in rows {
+        let wanted = format!(in rt.alloc();
+            "{front} and no signal of one bit has that name\n{names}{how}"
+        )?;
+        told(&rt, recording, kind, 0, wanted.as_str())?;
+    }
+    Ok(())
+}
+
+/// A row of a table with a fault, and what is said of it.
+#[test]
+fn faults_of_tables(rt: HostRuntime) -> Result<(), Fail> {
+    let rows = [
+        ("0,1,1\n", "each of the three lines needs a level"),
+        (
+            "0,1,x,1\n",
+            "x says that the level is not known; a level of the three lines is 0 or 1",
+        ),
+        (
+            "0,1,1,Z\n",
+            "z says that nobody drives the line; a level of the three lines is 0 or 1",
+        ),
+        ("0,1,1,2\n", "a level of the three lines is 0 or 1"),
+        (
+            "start,1,1,1\n",
+            "a row begins with its time in seconds, as in 0.000125",
+        ),
+    ];
+    for (row, rule) in rows {
+        let line = row.trim_end();
+        let wanted = format!(in rt.alloc(); "  line 2: {line}\n  {rule}\n")?;
+        told_of_table(&rt, row, 0, wanted.as_str())?;
+    }
+    told_of_table(
+        &rt,
+        "2,1,1,1\n2.000001,0,0,1\n2.000002,1,1,1\n1,1,1,1\n",
+        2_000_000,
+        "  line 5: 1,1,1,1\n  this time is before an earlier line's\n  [in brackets: the recording's own \
+         microseconds]\n  edge 1: 1 001 [2000001]\n  the edge before it: 0 111 [2000000]\n  the place \
+         there: idle, all lines are released, since 0 [2000000]\n  could follow: 001 from 100 [2000100] \
+         on\n  it comes 99 microseconds too early\n",
+    )
+}
+
+/// A dump with a fault, and what is said of it.
+#[test]
+fn faults_of_dumps(rt: HostRuntime) -> Result<(), Fail> {
+    let rows = [
+        (
+            "#0 1a 1c 1d\nquite\n",
+            "  line 7: quite\n  behind its header a dump has times (#120), levels (0! or b0 !, with the \
+             signal's code) and sections up to $end\n",
+        ),
+        (
+            "#0 1a 1c 1d\n$comment no\n",
+            "  line 7: $comment no\n  the section that begins here has no $end\n",
+        ),
+        (
+            "#x\n",
+            "  line 6: #x\n  a time is # and a number of the dump's unit\n",
+        ),
+        (
+            "#0 1a 1c\n",
+            "  line 7: \n  each of the three lines needs a level\n",
+        ),
+    ];
+    for (changes, wanted) in rows {
+        told_of_dump(&rt, changes, 0, wanted)?;
+    }
+    told(
+        &rt,
+        b"0,1,1,1\n",
+        Recording::Dump,
+        0,
+        "  line 2: \n  the header of a dump ends with $enddefinitions $end; --from csv reads tables\n",
+    )?;
+    told(
+        &rt,
+        b"$var wire 1 a ATN $end\n",
+        Recording::Dump,
+        0,
+        "  line 2: \n  the header of a dump ends with $enddefinitions $end; --from csv reads tables\n",
+    )?;
+    told(
+        &rt,
+        b"$enddefinitions $end\n",
+        Recording::Dump,
+        0,
+        "  line 1: $enddefinitions $end\n  the header of a dump has $timescale 1 us $end, or 1, 10 or \
+         100 of another unit from fs to s\n",
+    )
+}
+
+/// The names that are looked for are those of the signals.
+#[test]
+fn names_looked_for(rt: HostRuntime) -> Result<(), Fail> {
+    let signals = Signals {
+        atn: b"D0",
+        clock: b"D\xff",
+        line: b"D2",
+        is_inverted: false,
+    };
+    let text = explain_recording(rt.alloc(), b"t,D0,D1,D2\n", Recording::Table, signals, 0)?;
+    let wanted =
+        b"  line 1: t,D0,D1,D2\n  CLOCK is looked for as D\\xFF, and no signal of one bit has that \
+        name\n  the recording has the signals D0, D1, D2\n  --names tells which signals are ATN, CLOCK and \
+        DATA, as in --names ATN,CLOCK,DATA\n";
+    assert_eq!(rt; text.as_slice(), wanted.as_slice());
+    Ok(())
+}
+
+/// Whether an explanation is refused memory. If not, it is as with ample memory.
+fn is_refused(rt: &(impl Abort + AllocGlobal), recording: &[u8], kind: Recording) -> bool {
+    match explain_recording(rt.alloc(), recording, kind, SIGNALS, 1) {
+        Ok(text) => {
+            assert!(rt; text.as_slice().ends_with(b"too early\n"));
+            false
+        }
+        Err(_refused) => true,
+    }
+}
+
+/// Whether an allocation may be refused: `tests/faults.c` says so by this variable.
+fn may_be_refused(rt: &impl Env) -> bool {
+    match rt.var("FAULT_ALLOC", &mut [0; 8]) {
+        Err(FillError::NotPresent) => false,
+        _ => true,
+    }
+}
+
+/// A dump or a table with a fault and with an edge before it that comes too early.
+const RECORDINGS: [(&[u8], Recording); 2] = [
+    (
+        b"$timescale 1 us $end $var wire 1 a ATN $end $var wire 1 c CLK $end $var wire 1 d DATA $end\n\
+          $enddefinitions $end #1 1a 1c 1d #3 0a 0c #9 1a 0a q",
+        Recording::Dump,
+    ),
+    (
+        b"Time,ATN,CLOCK,DATA\n0.000001,1,1,1\n0.000003,0,0,1\n0.000009,1,0,0\n1,x,1,1",
+        Recording::Table,
+    ),
+];
+
+/// The script that refuses each allocation in turn refuses one call at most, and the same call again
+/// answers as ever. With no growth refused no call is.
+#[test]
+fn each_growth_refused(rt: HostRuntime) {
+    for (recording, kind) in RECORDINGS {
+        let first = is_refused(&rt, recording, kind);
+        let second = is_refused(&rt, recording, kind);
+        assert!(rt; !(first && second));
+        assert!(rt; may_be_refused(&rt) || !(first || second));
+    }
+}

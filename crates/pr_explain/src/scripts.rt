@@ -1,0 +1,155 @@
+//! Why a script is refused.
+
+use crate::context::expected_at;
+use crate::texts::{cut_line, push, push_cut, push_number, push_shown, without_end};
+use crate::words::{foreign_word, word_at};
+use pr_basic::{FaultAt, ScriptFault, basic_number, read_script_at};
+use pr_wire::NoMemory;
+use std::alloc::{AllocError, Global};
+
+/// The most bytes of a line that are shown before the place (profile).
+const BEFORE: usize = 60;
+
+/// Where a fault stands: its line with what stands before it there.
+#[derive(Clone, Copy)]
+struct Spot<'a> {
+    /// The line's number, from 1.
+    number: usize,
+    /// What stands before the place in the line.
+    before: &'a [u8],
+    /// What stands from the place on, without the line's end.
+    rest: &'a [u8],
+}
+
+/// Says why a script is refused: the line with a caret under the place of the first fault, its column,
+/// the number of the BASIC line if that has one, the word found there, and what can stand there.
+/// Nothing, where the script is not refused.
+///
+/// # Errors
+///
+/// [`NoMemory`] where memory was refused.
+pub fn explain_script(alloc: Global, script: &[u8]) -> Result<Vec<u8>, NoMemory> {
+    let mut text = Vec::new(alloc);
+    match read_script_at(alloc, script) {
+        Ok(_) => Ok(text),
+        Err(
+            FaultAt {
+                fault: ScriptFault::NoMemory,
+                ..
+            },
+        ) => Err(AllocError),
+        Err(refused) => {
+            push_fault(&mut text, spot_at(script, refused.place), refused.fault)?;
+            Ok(text)
+        }
+    }
+}
+
+/// The place behind so many bytes of a script.
+fn spot_at(script: &[u8], place: usize) -> Spot<'_> {
+    let mut number: usize = 1;
+    let mut rest = script;
+    let mut left = place;
+    for _ in 0..place {
+        let (line, more) = cut_line(rest);
+        if line.len() > left || more.is_empty() {
+            break;
+        }
+        left -= line.len();
+        number = number.saturating_add(1);
+        rest = more;
+    }
+    let (line, _) = cut_line(rest);
+    let (before, behind) = line.split_at(left.min(line.len()));
+    Spot {
+        number,
+        before,
+        rest: without_end(behind),
+    }
+}
+
+/// Adds what there is to say of a fault.
+fn push_fault(text: &mut Vec<u8>, spot: Spot<'_>, fault: ScriptFault) -> Result<(), NoMemory> {
+    push_caret(text, spot)?;
+    push(text, "  line ")?;
+    push_number(text, spot.number as u64)?;
+    push(text, ", column ")?;
+    push_number(text, (spot.before.len() as u64).saturating_add(1))?;
+    if let Some(label) = basic_number(spot.before) {
+        push(text, ", BASIC line ")?;
+        push_number(text, u64::from(label))?;
+    }
+    push(text, ": ")?;
+    push_word(text, &spot.rest[..word_at(spot.rest).len])?;
+    push(text, ": ")?;
+    push(text, expected_at(spot.before, spot.rest, fault))?;
+    push(text, "\n")?;
+    if is_unknown(fault) {
+        push_hints(text, spot.rest)?;
+    }
+    Ok(())
+}
+
+/// Adds what else there is to say of an unknown word: that spaces stand in it, that it is BASIC that this
+/// profile does not have.
+fn push_hints(text: &mut Vec<u8>, rest: &[u8]) -> Result<(), NoMemory> {
+    if let Some(word) = word_at(rest).unspaced() {
+        push(text, "  this is ")?;
+        push(text, word)?;
+        push(
+            text,
+            " with a space in it; no space stands in a word of BASIC here\n",
+        )?;
+    }
+    if let Some(name) = foreign_word(rest) {
+        push(text, "  ")?;
+        push(text, name)?;
+        push(
+            text,
+            " not among OPEN, CMD, PRINT, PRINT#, CLOSE, REM and CHR$\n",
+        )?;
+    }
+    Ok(())
+}
+
+/// Whether a word is not known.
+fn is_unknown(fault: ScriptFault) -> bool {
+    matches!(fault, ScriptFault::UnknownWord(_))
+}
+
+/// Adds the line around a place, and a caret under it.
+fn push_caret(text: &mut Vec<u8>, spot: Spot<'_>) -> Result<(), NoMemory> {
+    let start = spot.before.len().saturating_sub(BEFORE);
+    let before = &spot.before[start..];
+    push(text, "  ")?;
+    if start > 0 {
+        push(text, "..")?;
+    }
+    let front = text.len();
+    for byte in before {
+        push_shown(text, *byte)?;
+    }
+    let width = text.len().saturating_sub(front);
+    push_cut(text, spot.rest)?;
+    push(text, "\n  ")?;
+    if start > 0 {
+        push(text, "  ")?;
+    }
+    for _ in 0..width {
+        text.push(b' ')?;
+    }
+    push(text, "^\n")
+}
+
+/// Adds a word, or that the line ends.
+fn push_word(text: &mut Vec<u8>, word: &[u8]) -> Result<(), NoMemory> {
+    if word.is_empty() {
+        return push(text, "the end of the line");
+    }
+    push(text, "\"")?;
+    push_cut(text, word)?;
+    push(text, "\"")
+}
+
+#[cfg(test)]
+mod tests;

@@ -1,0 +1,147 @@
+//! Explanations of traces: the moments are those of the table of lawful traces.
+
+use super::*;
+use crate::texts::cut_line;
+use pr_wire::example::TRACE_TEXT;
+use std::env::FillError;
+use std::process::Abort;
+use std::rt::Env;
+use std::test::Fail;
+
+/// The trace text is explained so.
+fn told(rt: &(impl Abort + AllocGlobal), trace: &[u8], wanted: &str) -> Result<(), Fail> {
+    let text = explain_trace(rt.alloc(), trace)?;
+    assert_eq!(rt; text.as_slice(), wanted.as_bytes());
+    Ok(())
+}
+
+/// The first lines of the example, and more behind them.
+fn first_lines(rt: &impl AllocGlobal, count: usize, more: &str) -> Result<Vec<u8>, NoMemory> {
+    let mut text = Vec::new(rt.alloc());
+    let mut rest = TRACE_TEXT.as_bytes();
+    for _ in 0..count {
+        let (line, others) = cut_line(rest);
+        text.extend_from_slice(line)?;
+        rest = others;
+    }
+    text.extend_from_slice(more.as_bytes())?;
+    Ok(text)
+}
+
+#[test]
+fn lawful_traces(rt: HostRuntime) -> Result<(), Fail> {
+    told(&rt, TRACE_TEXT.as_bytes(), "")?;
+    told(&rt, b"0 111", "")
+}
+
+#[test]
+fn starts(rt: HostRuntime) -> Result<(), Fail> {
+    told(&rt, b"", "  there is no edge: a trace begins with 0 111\n")?;
+    told(
+        &rt,
+        b"1 111\n",
+        "  line 1, edge 0: 1 111\n  a trace begins with 0 111, all lines released at time 0\n",
+    )
+}
+
+#[test]
+fn refused_edges(rt: HostRuntime) -> Result<(), Fail> {
+    told(
+        &rt,
+        b"0 111\n99 001\n",
+        "  line 2, edge 1: 99 001\n  the edge before it: 0 111\n  the place there: idle, all lines are \
+         released, since 0\n  could follow: 001 from 100 on\n  it comes 1 microsecond too early\n",
+    )?;
+    told(
+        &rt,
+        b"0 111\n0 001\n",
+        "  line 2, edge 1: 0 001\n  the edge before it: 0 111\n  the place there: idle, all lines are \
+         released, since 0\n  could follow: 001 from 100 on\n  it is not later than the edge before it\n",
+    )?;
+    told(
+        &rt,
+        b"0 111\n7 111\n",
+        "  line 2, edge 1: 7 111\n  the edge before it: 0 111\n  the place there: idle, all lines are \
+         released, since 0\n  could follow: 001 from 100 on\n  it has the levels of the edge before it\n",
+    )?;
+    told(
+        &rt,
+        b"0 111\n100 001\n2101 111\n",
+        "  line 3, edge 2: 2101 111\n  the edge before it: 100 001\n  the place there: attention, no \
+         printer answers yet, since 100\n  could follow: 000 from 101 to 1100\n  could follow: 010 at \
+         1100\n  could follow: 111 from 1100 to 2100\n  it comes 1 microsecond too late\n",
+    )?;
+    told(
+        &rt,
+        first_lines(&rt, 12, "1530 110\n")?.as_slice(),
+        "  line 13, edge 12: 1530 110\n  the edge before it: 1460 000\n  the place there: bit 3 of a \
+         first command, CLOCK is pulled, since 1460\n  could follow: 010 from 1480 to 1660\n  no edge \
+         to its levels may follow\n",
+    )
+}
+
+#[test]
+fn traces_that_end_too_soon(rt: HostRuntime) -> Result<(), Fail> {
+    told(
+        &rt,
+        first_lines(&rt, 12, "")?.as_slice(),
+        "  the last edge: 1460 000\n  the place there: bit 3 of a first command, CLOCK is pulled, since \
+         1460\n  could follow: 010 from 1480 to 1660\n  a trace may end where all lines are released, \
+         behind a data byte, or behind an attention that did not end with UNLISTEN\n",
+    )
+}
+
+/// A bad line is told, and an edge before it that is refused.
+#[test]
+fn bad_lines(rt: HostRuntime) -> Result<(), Fail> {
+    let line_is =
+        "\n  a line is a time in microseconds, a space, and a digit each for ATN, CLOCK and DATA \
+                   (1 released, 0 pulled), as in 100 001\n";
+    let rows: [(&[u8], &str, &str); 3] = [
+        (b"0 121", "  line 1: 0 121", ""),
+        (b"0 111\n\r\nx", "  line 2: ", ""),
+        (
+            b"0 111\n0 001\n\x1b[2J\xff\n",
+            "  line 3: \\x1B[2J\\xFF",
+            "  line 2, edge 1: 0 001\n  the edge before it: 0 111\n  the place there: idle, all lines are \
+             released, since 0\n  could follow: 001 from 100 on\n  it is not later than the edge before it\n",
+        ),
+    ];
+    for (trace, front, more) in rows {
+        let wanted = format!(in rt.alloc(); "{front}{line_is}{more}")?;
+        told(&rt, trace, wanted.as_str())?;
+    }
+    Ok(())
+}
+
+/// Whether an explanation is refused memory. If not, it is as with ample memory.
+fn is_refused(rt: &(impl Abort + AllocGlobal)) -> bool {
+    match explain_trace(rt.alloc(), b"0 111\n0 001\n?\n") {
+        Ok(text) => {
+            assert!(rt;
+                text.as_slice()
+                    .ends_with(b"  it is not later than the edge before it\n")
+            );
+            false
+        }
+        Err(_refused) => true,
+    }
+}
+
+/// Whether an allocation may be refused: `tests/faults.c` says so by this variable.
+fn may_be_refused(rt: &impl Env) -> bool {
+    match rt.var("FAULT_ALLOC", &mut [0; 8]) {
+        Err(FillError::NotPresent) => false,
+        _ => true,
+    }
+}
+
+/// The script that refuses each allocation in turn refuses one call at most, and the same call again
+/// answers as ever. With no growth refused no call is.
+#[test]
+fn each_growth_refused(rt: HostRuntime) {
+    let first = is_refused(&rt);
+    let second = is_refused(&rt);
+    assert!(rt; !(first && second));
+    assert!(rt; may_be_refused(&rt) || !(first || second));
+}

@@ -1,0 +1,189 @@
+//! The word at a place of a script.
+
+ghost use Rattle.std.specs.Prelude.{◌≤◌, length, IfSome};
+
+use pr_text::digit_count;
+
+/// The most letters and digits of a word that is no word of BASIC (profile).
+const LETTERS: usize = 20;
+
+/// The words of this profile, the longer ones of like beginnings first.
+const KEYWORDS: [&str; 7] = ["OPEN", "CLOSE", "CMD", "PRINT#", "PRINT", "REM", "CHR$"];
+
+/// Words of BASIC that this profile does not have, the longer ones of like beginnings first.
+const WORDS: [&str; 58] = [
+    "GOSUB", "GOTO", "GO", "FOR", "NEXT", "IF", "THEN", "TO", "STEP", "LET", "DIM", "READ", "DATA",
+    "RESTORE", "INPUT#", "INPUT", "GET#", "GET", "RETURN", "END", "STOP", "CONT", "RUN", "LIST",
+    "NEW", "CLR", "POKE", "WAIT", "SYS", "LOAD", "SAVE", "VERIFY", "DEF", "ON", "TAB(", "SPC(",
+    "LEFT$", "RIGHT$", "MID$", "STR$", "VAL", "LEN", "ASC", "PEEK", "INT", "ABS", "RND", "SQR",
+    "SGN", "SIN", "COS", "TAN", "ATN", "EXP", "LOG", "FRE", "POS", "USR",
+];
+
+/// What a word is.
+#[derive(Clone, Copy, Debug, PartialEq, Eq)]
+pub enum WordKind {
+    /// A word of this profile, as BASIC writes it.
+    Keyword(&'static str),
+    /// A word of BASIC that this profile does not have, as BASIC writes it.
+    Foreign(&'static str),
+    /// A variable, by the mark behind its letters.
+    Variable,
+    /// A variable without a mark, or another word.
+    Letters,
+    /// A number.
+    Digits,
+    /// One byte, or nothing where the line ends.
+    Other,
+}
+
+/// A word of a line.
+#[derive(Clone, Copy, Debug, PartialEq, Eq)]
+pub struct Word {
+    pub kind: WordKind,
+    /// How many bytes it has.
+    pub len: usize,
+}
+
+impl Word {
+    /// The word as BASIC writes it, where spaces stand in it.
+    pub fn unspaced(self) -> Option<&'static str> {
+        match self.kind {
+            WordKind::Keyword(word) | WordKind::Foreign(word) if self.len > word.len() => Some(
+                word,
+            ),
+            _ => None,
+        }
+    }
+
+    /// Whether a statement begins with it.
+    pub fn begins_statement(self) -> bool {
+        matches!(self.kind, WordKind::Keyword(word) if word != "CHR$")
+    }
+}
+
+/// The word in front.
+pub fn word_at(rest: &[u8]) -> Word
+    ensures { result.len ≤ length rest.now }
+{
+    let [first, ..] = rest else {
+        return Word {
+            kind: WordKind::Other,
+            len: 0,
+        };
+    };
+    if first.is_ascii_digit() {
+        return Word {
+            kind: WordKind::Digits,
+            len: digit_count(rest),
+        };
+    }
+    if !first.is_ascii_alphabetic() {
+        return Word {
+            kind: WordKind::Other,
+            len: 1,
+        };
+    }
+    match entry_at(rest) {
+        Some(word) => word,
+        None => other_at(rest),
+    }
+}
+
+/// The word of BASIC in front, if one stands there.
+fn entry_at(rest: &[u8]) -> Option<Word>
+    ensures { IfSome result (λ word. word.len ≤ length rest.now) }
+{
+    for word in KEYWORDS {
+        if let Some(len) = spelled(rest, word.as_bytes()) {
+            let kind = WordKind::Keyword(word);
+            return Some(Word { kind, len });
+        }
+    }
+    for word in WORDS {
+        if let Some(len) = spelled(rest, word.as_bytes()) {
+            let kind = WordKind::Foreign(word);
+            return Some(Word { kind, len });
+        }
+    }
+    None
+}
+
+/// How many bytes a word has that is spelled in front, whichever of its letters are capitals, with or
+/// without spaces in it.
+fn spelled(rest: &[u8], word: &[u8]) -> Option<usize>
+    ensures { IfSome result (λ len. len ≤ length rest.now) }
+{
+    let mut left = rest;
+    for letter in word {
+        let [byte, more @ ..] = after_blanks(left) else {
+            return None;
+        };
+        if !letter.eq_ignore_ascii_case(byte) {
+            return None;
+        }
+        left = more;
+    }
+    Some(rest.len().saturating_sub(left.len()))
+}
+
+/// What stands behind the spaces and tabs in front.
+fn after_blanks(bytes: &[u8]) -> &[u8] {
+    for (i, byte) in bytes.iter().enumerate() {
+        if *byte != b' ' && *byte != b'\t' {
+            return &bytes[i..];
+        }
+    }
+    &[]
+}
+
+/// The letters and digits in front, at most [`LETTERS`], and a variable's mark behind them.
+fn other_at(rest: &[u8]) -> Word
+    ensures { result.len ≤ length rest.now }
+{
+    let count = letter_count(rest);
+    match &rest[count..] {
+        [b'$' | b'%', ..] => Word {
+            kind: WordKind::Variable,
+            len: count + 1,
+        },
+        _ => Word {
+            kind: WordKind::Letters,
+            len: count,
+        },
+    }
+}
+
+/// How many letters and digits stand in front, at most [`LETTERS`].
+fn letter_count(rest: &[u8]) -> usize
+    ensures { result ≤ length rest.now }
+{
+    for (i, byte) in rest.iter().enumerate() {
+        if i == LETTERS || !byte.is_ascii_alphanumeric() {
+            return i;
+        }
+    }
+    rest.len()
+}
+
+/// What stands in front, where it is common BASIC that this profile does not have: the beginning of a
+/// sentence.
+pub fn foreign_word(rest: &[u8]) -> Option<&'static str> {
+    match rest {
+        [b'?', ..] => return Some("? for PRINT is"),
+        [b'#', ..] => return Some("# with a space before it is"),
+        [b'+' | b'-' | b'*' | b'/' | b'^' | b'=' | b'<' | b'>', ..] => {
+            return Some("an operator is");
+        }
+        [b'%' | b'$', ..] => return Some("a variable is"),
+        _ => {}
+    }
+    match word_at(rest).kind {
+        WordKind::Foreign(_) => Some("this word of BASIC is"),
+        WordKind::Variable => Some("a variable is"),
+        WordKind::Letters => Some("a variable or another word is"),
+        WordKind::Keyword(_) | WordKind::Digits | WordKind::Other => None,
+    }
+}
+
+#[cfg(test)]
+mod tests;

@@ -1,0 +1,70 @@
+//! Words of BASIC, and how many bytes of a line they have.
+
+use super::*;
+
+#[test]
+fn words_of_basic(rt: HostRuntime) {
+    let rows: [(&[u8], Option<&str>); 13] = [
+        (b"FOR I=1", Some("this word of BASIC is")),
+        (b"goto10", Some("this word of BASIC is")),
+        (b"TAB(5)", Some("this word of BASIC is")),
+        (b"?\"A\"", Some("? for PRINT is")),
+        (b"#4", Some("# with a space before it is")),
+        (b"+\"B\"", Some("an operator is")),
+        (b"$", Some("a variable is")),
+        (b"A$", Some("a variable is")),
+        (b"AB%", Some("a variable is")),
+        (b"A1", Some("a variable or another word is")),
+        (b"chr $(65)", None),
+        (b"", None),
+        (b"\xff", None),
+    ];
+    for (rest, wanted) in rows {
+        assert_eq!(rt; foreign_word(rest), wanted);
+    }
+}
+
+/// The word of the table counts, and not the letters around it.
+#[test]
+fn lengths_of_words(rt: HostRuntime) {
+    let rows: [(&[u8], WordKind, usize); 18] = [
+        (b"TAB(5)", WordKind::Foreign("TAB("), 4),
+        (b"FORI=1", WordKind::Foreign("FOR"), 3),
+        (b"GOSUB10", WordKind::Foreign("GOSUB"), 5),
+        (b"GO TO 10", WordKind::Foreign("GOTO"), 5),
+        (b"GO 10", WordKind::Foreign("GO"), 2),
+        (b"input#1", WordKind::Foreign("INPUT#"), 6),
+        (b"PRI NT\"A\"", WordKind::Keyword("PRINT"), 6),
+        (b"O\t PEN 4", WordKind::Keyword("OPEN"), 6),
+        (b"PRINT #4", WordKind::Keyword("PRINT#"), 7),
+        (b"print 4", WordKind::Keyword("PRINT"), 5),
+        (b"CHR$ (65)", WordKind::Keyword("CHR$"), 4),
+        (b"A$=1", WordKind::Variable, 2),
+        (b"B2%", WordKind::Variable, 3),
+        (b"HELLO WORLD", WordKind::Letters, 5),
+        (b"HHHHHHHHHHHHHHHHHHHHHHHHH", WordKind::Letters, 20),
+        (b"0123456789012345678901A", WordKind::Digits, 22),
+        (b"\"A\"", WordKind::Other, 1),
+        (b"", WordKind::Other, 0),
+    ];
+    for (rest, kind, len) in rows {
+        let word = word_at(rest);
+        assert_eq!(rt; word, Word { kind, len });
+    }
+}
+
+/// Words with spaces in them are told as they are written without.
+#[test]
+fn words_with_spaces(rt: HostRuntime) {
+    let rows: [(&[u8], Option<&str>); 5] = [
+        (b"PRI NT", Some("PRINT")),
+        (b"O PEN", Some("OPEN")),
+        (b"go to", Some("GOTO")),
+        (b"PRINT ", None),
+        (b"A B", None),
+    ];
+    for (rest, wanted) in rows {
+        let found = word_at(rest).unspaced();
+        assert_eq!(rt; found, wanted);
+    }
+}

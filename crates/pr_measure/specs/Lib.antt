@@ -1,0 +1,6 @@
+pub mod Intervals
+pub mod ReadingText
+pub mod Summary
+pub mod Steps
+pub mod Taking
+pub mod Laws

@@ -1,0 +1,243 @@
+//! The lines of a reading. Their form is this project's own choice (profile); that of an acknowledged byte
+//! is the story's.
+
+ghost use Rattle.std.specs.Prelude.{◌≡◌, ◌++◌, OnOk};
+ghost use Rattle.pr_measure.specs.Intervals.{length_of};
+ghost use Rattle.pr_measure.specs.ReadingText.{after_reading, byte_place, byte_word, cut_end, frame_text, glitch_end_text, glitch_place, is_behind_data, line_of, moment_end, outside_line, outside_lines, outside_text, reading_lines, sending_of, timed_frame};
+
+use crate::adding::push_numbered;
+use crate::interval::{INTERVALS, Interval};
+use pr_commands::UNLISTEN;
+use pr_decode::{FrameEnd, GlitchEnd, Reading, Transfer};
+use pr_story::{TimedFrame, push_story_line};
+use pr_wire::{NoMemory, Sending, bounds};
+
+/// What stands before a reading, of the acknowledged bytes: it decides whether a command begins an
+/// attention, and whether a line of data bytes goes on.
+#[derive(Clone, Copy, Debug, PartialEq, Eq)]
+pub enum Behind {
+    /// Nothing, or UNLISTEN: the next command begins an attention.
+    Nothing,
+    /// Another command.
+    Command,
+    /// A data byte.
+    Data,
+}
+
+impl Behind {
+    /// What stands behind a reading that has this before it. A byte that is not acknowledged changes
+    /// nothing.
+    pub fn after(self, reading: &Reading) -> Behind
+        ensures { result ≡ after_reading self reading.now }
+    {
+        match reading {
+            Reading::Frame(transfer, FrameEnd::Acknowledged(_)) => {
+                if !transfer.opening.command {
+                    Behind::Data
+                } else if transfer.byte == UNLISTEN {
+                    Behind::Nothing
+                } else {
+                    Behind::Command
+                }
+            }
+            _ => self,
+        }
+    }
+
+    /// Which byte of the bus a frame is.
+    fn sending(self, command: bool, byte: u8) -> Sending
+        ensures { result ≡ sending_of self command byte }
+    {
+        if !command {
+            return Sending::Data;
+        }
+        match self {
+            Behind::Nothing | Behind::Data => Sending::First,
+            Behind::Command => {
+                if byte == UNLISTEN {
+                    Sending::First
+                } else {
+                    Sending::Second
+                }
+            }
+        }
+    }
+
+    /// Whether a data byte stands before.
+    fn is_data(self) -> bool
+        ensures { result ≡ is_behind_data self }
+    {
+        match self {
+            Behind::Nothing | Behind::Command => false,
+            Behind::Data => true,
+        }
+    }
+
+    /// An acknowledged byte as a frame of the story.
+    fn frame(self, transfer: Transfer, acknowledged: u64) -> TimedFrame
+        ensures { result ≡ timed_frame self transfer acknowledged }
+    {
+        TimedFrame {
+            look: transfer.opening.look,
+            acknowledged,
+            sending: self.sending(transfer.opening.command, transfer.byte),
+            byte: transfer.byte,
+            eoi: transfer.opening.pulse.is_some(),
+        }
+    }
+}
+
+/// The word for a command or a data byte.
+fn byte_word(command: bool) -> &'static [u8]
+    ensures { result.now ≡ byte_word command }
+{
+    if command { b"command " } else { b"byte " }
+}
+
+/// Adds what a byte is that is not acknowledged, and its look.
+fn push_byte_place(text: &mut Vec<u8>, transfer: Transfer) -> Result<(), NoMemory>
+    ensures { OnOk result (text.new.items ≡ text.old.items ++ byte_place transfer) }
+{
+    let word = byte_word(transfer.opening.command);
+    push_numbered(text, word, transfer.byte as u64)?;
+    push_numbered(text, b" at ", transfer.opening.look)
+}
+
+/// Adds where a byte was begun and not ended, and how many bits came.
+fn push_glitch_place(text: &mut Vec<u8>, transfer: Transfer) -> Result<(), NoMemory>
+    ensures { OnOk result (text.new.items ≡ text.old.items ++ glitch_place transfer) }
+{
+    push_numbered(text, b"glitch at ", transfer.opening.look)?;
+    push_numbered(text, b", bits ", transfer.bits as u64)
+}
+
+/// Ends a line by a word and a moment.
+fn push_moment_end(text: &mut Vec<u8>, word: &[u8], time: u64) -> Result<(), NoMemory>
+    ensures { OnOk result (text.new.items ≡ text.old.items ++ moment_end word.now time) }
+{
+    push_numbered(text, word, time)?;
+    text.extend_from_slice(b"\n")
+}
+
+/// Ends a line that the end of the recording cuts.
+fn push_cut_end(text: &mut Vec<u8>) -> Result<(), NoMemory>
+    ensures { OnOk result (text.new.items ≡ text.old.items ++ cut_end) }
+{
+    text.extend_from_slice(b", cut by the recording's end\n")
+}
+
+/// Adds the line of a frame.
+fn push_frame(
+    text: &mut Vec<u8>,
+    behind: Behind,
+    transfer: Transfer,
+    end: FrameEnd,
+) -> Result<(), NoMemory>
+    ensures { OnOk result (text.new.items ≡ text.old.items ++ frame_text behind transfer end) }
+{
+    match end {
+        FrameEnd::Acknowledged(time) => push_story_line(
+            text,
+            behind.is_data(),
+            behind.frame(transfer, time),
+        ),
+        FrameEnd::Unacknowledged(time) => {
+            push_byte_place(text, transfer)?;
+            push_moment_end(text, b", not acknowledged by ", time)
+        }
+        FrameEnd::Cut => {
+            push_byte_place(text, transfer)?;
+            push_cut_end(text)
+        }
+    }
+}
+
+/// Adds what ended a byte too soon.
+fn push_glitch_end(text: &mut Vec<u8>, end: GlitchEnd) -> Result<(), NoMemory>
+    ensures { OnOk result (text.new.items ≡ text.old.items ++ glitch_end_text end) }
+{
+    match end {
+        GlitchEnd::Attention(time) => push_moment_end(text, b", ended by ATN at ", time),
+        GlitchEnd::Silence(time) => push_moment_end(text, b", CLOCK released too long at ", time),
+        GlitchEnd::Cut => push_cut_end(text),
+    }
+}
+
+/// Adds the line of a reading.
+fn push_line(text: &mut Vec<u8>, behind: Behind, reading: &Reading) -> Result<(), NoMemory>
+    ensures { OnOk result (text.new.items ≡ text.old.items ++ line_of behind reading.now) }
+{
+    match reading {
+        Reading::Frame(transfer, end) => push_frame(text, behind, *transfer, *end),
+        Reading::Glitch(transfer, end) => {
+            push_glitch_place(text, *transfer)?;
+            push_glitch_end(text, *end)
+        }
+    }
+}
+
+/// Adds the line of an interval that lies outside the profile's bounds.
+fn push_outside(text: &mut Vec<u8>, interval: Interval, length: u64) -> Result<(), NoMemory>
+    ensures { OnOk result (text.new.items ≡ text.old.items ++ outside_text interval length) }
+{
+    let (least, _, greatest) = bounds(interval.kind());
+    text.extend_from_slice(b"    ")?;
+    text.extend_from_slice(interval.name())?;
+    push_numbered(text, b" ", length)?;
+    push_numbered(text, b" us, the profile has ", least as u64)?;
+    push_numbered(text, b" to ", greatest as u64)?;
+    text.extend_from_slice(b"\n")?;
+    Ok(())
+}
+
+/// Adds the line of an interval, where a reading has it and it lies outside the profile's bounds.
+fn push_if_outside(
+    text: &mut Vec<u8>,
+    interval: Interval,
+    reading: &Reading,
+) -> Result<(), NoMemory>
+    ensures { OnOk result (text.new.items ≡ text.old.items ++ outside_line interval (length_of interval reading.now)) }
+{
+    let Some(length) = interval.length(reading) else {
+        return Ok(());
+    };
+    if interval.is_outside(length) {
+        push_outside(text, interval, length)
+    } else {
+        Ok(())
+    }
+}
+
+/// Adds the lines of those of some intervals of a reading that lie outside the profile's bounds.
+fn push_all_outside(
+    text: &mut Vec<u8>,
+    intervals: &[Interval],
+    reading: &Reading,
+) -> Result<(), NoMemory>
+    ensures { OnOk result (text.new.items ≡ text.old.items ++ outside_lines intervals.now reading.now) }
+{
+    for interval in intervals {
+        push_if_outside(text, *interval, reading)?;
+    }
+    Ok(())
+}
+
+/// Adds the lines of a reading. An acknowledged byte has the story's line: the moments of its look and of
+/// its acknowledgement in microseconds, the byte in hexadecimal and what it says. A byte that is not
+/// acknowledged, and a byte begun and not ended, have lines of their own, which tell the look and what
+/// ended them. Below stands a line for each interval that lies outside the profile's bounds, with its
+/// length and these bounds. `behind` tells what stands before; [`Behind::after`] tells it of the next.
+///
+/// # Errors
+///
+/// [`NoMemory`] where a growth of the text was refused. A part of the lines may have been added.
+#[tactic(auto, unfolding(crate::specs::ReadingText::reading_lines))]
+pub fn push_reading(text: &mut Vec<u8>, behind: Behind, reading: &Reading) -> Result<(), NoMemory>
+    ensures { OnOk result (text.new.items ≡ text.old.items ++ reading_lines behind reading.now) }
+{
+    push_line(text, behind, reading)?;
+    push_all_outside(text, &INTERVALS, reading)
+}
+
+#[cfg(test)]
+mod tests;

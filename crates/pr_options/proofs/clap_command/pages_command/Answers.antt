@@ -1,6 +1,0 @@
-use Rattle.std.proofs.Common.{ap₂, ◌∙◌}
-use Rattle.clap.specs.Words.{with_rule}
-use Rattle.pr_options.proofs.clap_command.pages_command.Goals as goal
-
-pub returns-clause-app : goal.returns-clause-app
-returns-clause-app c = c.in_ok-whole.ensures.shape c.as_option-format.ensures.local ∙ ap₂ with_rule c.in_ok-command.ensures.app c.as_option-format.ensures.rule

@@ -1,0 +1,107 @@
+//! Reading trace texts that come in blocks, edge by edge.
+
+ghost use Rattle.std.specs.Prelude.{◌≡◌, ◌≢◌, ◌+◌, ◌^◌, ◌<◌, ◌≤◌, ◌∷◌, [], true, length, take, Some, IfErr, IfOk, OnOk};
+ghost use Rattle.pr_wire.specs.LineParts.{is_nothing};
+ghost use Rattle.pr_wire.specs.TraceReading.{EndsText, FaultsIn, HasRead, ReadsMore, edge_count};
+
+use crate::Edge;
+use crate::line::read_ended_line;
+use crate::part::LinePart;
+use crate::text::TraceFault;
+
+/// Reads a trace text that comes in blocks, and gives its edges one by one. It keeps neither the text
+/// nor its edges, so it needs no memory however long the text is.
+#[derive(Drop)]
+pub struct TraceReader {
+    part: LinePart,
+    /// How many lines have spelled an edge.
+    count: usize,
+}
+
+impl TraceReader {
+    /// Nothing of a text has come. It takes no memory.
+    pub fn new() -> TraceReader
+        ensures read { HasRead [] [] result }
+        ensures count { edge_count result ≡ 0 }
+    {
+        TraceReader {
+            part: LinePart::Nothing,
+            count: 0,
+        }
+    }
+
+    /// Ends the line that has begun, and gives its edge.
+    fn end_line(&mut self) -> Result<Edge, TraceFault>
+        requires few { edge_count self.old + 1 < 2 ^ 64 }
+        ensures read { IfOk result (λ edge. ReadsMore (10 ∷ []) (Some edge) self.old self.new) }
+        ensures refused { IfErr result (λ fault. FaultsIn (10 ∷ []) self.old fault) }
+        ensures memory { IfErr result (λ fault. fault ≢ TraceFault.NoMemory) }
+        ensures count { OnOk result (edge_count self.new ≡ edge_count self.old + 1) }
+        ensures part { OnOk result (is_nothing self.new.part ≡ true) }
+    {
+        let Some(edge) = self.part.edge() else {
+            return Err(TraceFault::BadLine(self.count + 1));
+        };
+        self.part = LinePart::Nothing;
+        self.count += 1;
+        Ok(edge)
+    }
+
+    /// Takes bytes from the front of a block: a whole line, where one stands there that spells an
+    /// edge, or else one byte. Gives how many, at least one, and the edge of the line that they end.
+    /// It takes no memory.
+    ///
+    /// # Errors
+    ///
+    /// [`TraceFault::BadLine`] with the number of the line that these bytes end, counted from 1, where
+    /// it spells no edge: it is the first such line of the text. Nothing is promised of the reader
+    /// afterwards. It is never [`TraceFault::NoMemory`].
+    #[inline(always)]
+    pub fn take_front(&mut self, block: &[u8]) -> Result<(usize, Option<Edge>), TraceFault>
+        requires few { edge_count self.old + 1 < 2 ^ 64 }
+        requires some { 0 < length block.now }
+        // what it gives
+        ensures read { IfOk result (λ r. ReadsMore (take r.0 block.now) r.1 self.old self.new) }
+        ensures some { IfOk result (λ r. 0 < r.0) }
+        ensures within { IfOk result (λ r. r.0 ≤ length block.now) }
+        ensures count { OnOk result (edge_count self.new ≤ edge_count self.old + 1) }
+        // when it refuses
+        ensures refused { IfErr result (λ fault. FaultsIn block.now self.old fault) }
+        ensures memory { IfErr result (λ fault. fault ≢ TraceFault.NoMemory) }
+    {
+        if self.part.is_nothing() {
+            if let Some(line) = read_ended_line(block) {
+                self.count += 1;
+                return Ok((line.len, Some(line.edge)));
+            }
+        }
+        if block[0] == b'\n' {
+            let edge = self.end_line()?;
+            return Ok((1, Some(edge)));
+        }
+        self.part = self.part.after(block[0]);
+        Ok((1, None))
+    }
+
+    /// Ends the text, whose last line may lack its end, and gives the edge of that line. It takes no
+    /// memory.
+    ///
+    /// # Errors
+    ///
+    /// [`TraceFault::BadLine`] with the number of the last line, where it spells no edge; never
+    /// [`TraceFault::NoMemory`].
+    pub fn finish(mut self) -> Result<Option<Edge>, TraceFault>
+        requires few { edge_count self + 1 < 2 ^ 64 }
+        ensures ends { EndsText self result }
+        ensures memory { IfErr result (λ fault. fault ≢ TraceFault.NoMemory) }
+    {
+        if self.part.is_nothing() {
+            return Ok(None);
+        }
+        let edge = self.end_line()?;
+        Ok(Some(edge))
+    }
+}
+
+#[cfg(test)]
+mod tests;
