@@ -103,11 +103,12 @@ CLK) and DATA.
 Output: a line for each frame, `command 36`, `data 72` or `data 13 eoi`, and then `lawful`. A trace
 that is not lawful is refused with its first fault; edges count from 0, lines from 1. With --as story
 a line for each frame has the moments of its look and of its acknowledgement, in microseconds, its
-byte and what it says; the lines `attention` and `data` stand above.
+byte and what it says; the lines `attention` and `data` stand above. The story of a refused trace is
+written as far as it goes, without `lawful`.
 
 With --explain a refused trace text is shown with the place of its first fault, the edges that could
-follow there and by how much they were missed; of a recording nothing more is told. A bad value of an
-option is told with the good ones.
+follow there and by how much they were missed; so is a recording, with its signals where one is
+missing. A bad value of an option is told with the good ones.
 
 Exit status: 0 a lawful trace, 2 a refused command line or trace, 3 want of memory or a failed
 read or write.
