@@ -1,5 +1,5 @@
 -- Trusted: the value of --names: the names of the signals of ATN, CLOCK and DATA, parted by commas.
-use Rattle.std.specs.Prelude.{ℕ, ◌==◌, ◌-◌, ◌&&◌, Bool, List, [], ◌∷◌, length, map, not, nat_lt, Option, Some, None, if◌then◌else◌, take, drop}
+use Rattle.std.specs.Prelude.{ℕ, ◌==◌, ◌-◌, ◌&&◌, Bool, List, [], ◌∷◌, codes, length, map, not, nat_lt, Option, Some, None, if◌then◌else◌, take, drop}
 use Rattle.std.specs.Char.{is_ascii_whitespace}
 use Rattle.std.specs.List.{prefix_len, slice_split, suffix_len}
 use Rattle.std.specs.Str.{str_eq_ignore_ascii_case}
@@ -31,10 +31,15 @@ is_name text = nat_lt 0 (length text)
 abbrev pub differ : List ℕ → List ℕ → Bool
 differ a b = not (str_eq_ignore_ascii_case a b)
 
--- three names, no two of them the same
+-- a name is CLK where CLOCK is looked for, which may be called so
+abbrev pub is_second : (clock name : List ℕ) → Bool
+is_second clock name = str_eq_ignore_ascii_case clock (codes "clock") && str_eq_ignore_ascii_case name (codes "clk")
+
+-- names of three signals: no two are the same, and none is the second name of another
 abbrev pub are_names : (atn clock line : List ℕ) → Bool
 are_names atn clock line =
-    (is_name atn && (is_name clock && is_name line)) && (differ atn clock && (differ atn line && differ clock line))
+    (is_name atn && (is_name clock && is_name line)) && ((differ atn clock && (differ atn line && differ clock line))
+    && (not (is_second clock atn) && not (is_second clock line)))
 
 -- the names of three texts
 abbrev pub three_names : List (List ℕ) → Option Names

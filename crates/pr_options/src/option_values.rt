@@ -2,7 +2,7 @@
 
 ghost use Rattle.std.specs.Prelude.{◌≡◌, ◌∷◌, [], option_map, IfSome};
 ghost use Rattle.pr_options.specs.Options.{format_of, mode_of, present_of, report_of, set_of, source_of, start_of, trace_format_of};
-ghost use Rattle.pr_options.specs.SignalNames.{are_names, differ, names_of, names_told, three_names};
+ghost use Rattle.pr_options.specs.SignalNames.{are_names, differ, is_second, names_of, names_told, three_names};
 
 use crate::format::{Format, Report, Source, TraceFormat};
 use crate::parts::{all_digits, cut};
@@ -97,7 +97,8 @@ pub fn read_report(text: &str) -> Option<Report>
 
 /// The signals of a recording by the names of ATN, CLOCK and DATA, which stand in this order, parted
 /// by commas. White space around a name does not count; no name is empty, and no two are the same,
-/// capitals or not (profile). None for any other text.
+/// capitals or not; nor stands CLK beside CLOCK, which may be called so (profile). None for any other
+/// text.
 pub fn read_signals(text: &str, is_inverted: bool) -> Option<Signals<'_>>
     ensures names { option_map names_told result ≡ names_of text.now }
     ensures levels { IfSome result (λ s. s.is_inverted ≡ is_inverted) }
@@ -136,12 +137,21 @@ fn signals_named<'a>(
     })
 }
 
-/// Whether these are names of three signals: none is empty, and no two are the same.
+/// Whether these are names of three signals: none is empty, no two are the same, and none is the second
+/// name of another.
 fn are_names(atn: &str, clock: &str, line: &str) -> bool
     ensures { result ≡ are_names atn.now clock.now line.now }
 {
     let are_filled = !atn.is_empty() && !clock.is_empty() && !line.is_empty();
-    are_filled && differ(atn, clock) && differ(atn, line) && differ(clock, line)
+    let are_apart = differ(atn, clock) && differ(atn, line) && differ(clock, line);
+    are_filled && are_apart && !is_second(clock, atn) && !is_second(clock, line)
+}
+
+/// Whether a name is CLK where CLOCK is looked for, capitals or not.
+fn is_second(clock: &str, name: &str) -> bool
+    ensures { result ≡ is_second clock.now name.now }
+{
+    clock.eq_ignore_ascii_case("clock") && name.eq_ignore_ascii_case("clk")
 }
 
 /// Whether two names are not the same, capitals or not.
