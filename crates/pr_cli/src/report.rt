@@ -52,7 +52,7 @@ pub fn check_as_over<R: Read, W: Write>(
     requires output { has_failed output.old ≡ false }
     ensures check { IfSome (R.remaining (wrapped input.old)) (λ text.
         AnswersReport trace.entry report text (W.contents (wrapped output.old)) (W.contents (wrapped output.new)) result) }
-    ensures at_end { ReadsAll (R.remaining (wrapped input.new)) result }
+    ensures at_end { ReadsAll report (R.remaining (wrapped input.new)) result }
     ensures nothing { WritesNoReport report (W.contents (wrapped output.old)) (W.contents (wrapped output.new)) result }
     ensures own { IfErr result IsReportFault }
     ensures read_failed { IsErrOf result CliFault.ReadFailed ↔ (has_failed input.new ≡ true) }
