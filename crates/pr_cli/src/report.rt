@@ -31,7 +31,7 @@ use std::io::{Read, Write};
 /// # Errors
 ///
 /// - [`CliFault::Trace`]: a trace text with its first bad line; [`CliFault::Capture`]: a recording with
-///   its first fault. Nothing behind it is read, and it is told before any fault of the edges.
+///   its first fault. No further block is read, and it is told before any fault of the edges.
 /// - [`CliFault::Wave`]: the edges are no lawful trace, with their first fault.
 /// - [`CliFault::TooLarge`]: only if the input has more than [`CHECK_LIMIT`] bytes.
 /// - [`CliFault::ReadFailed`] exactly if the input has failed, [`CliFault::WriteFailed`] exactly if the
