@@ -132,18 +132,18 @@ impl Serial for Direct {
     fn forget(&mut self) {
         self.four.forget();
         self.five.forget();
-        self.mark = None;
+        self.mark = Some(self.items.len() as u64);
     }
 
-    fn mark(&self) -> Option<u64> { if self.items.is_empty() { return None; }
+    fn mark(&self) -> Option<u64> {
         self.mark
     }
 
     fn items(&self) -> u64 {
-        (self.items.len() as u64).saturating_sub(self.mark.unwrap_or(0))
+        self.items.len() as u64
     }
 
-    fn failed(&self) -> bool { if self.mark.is_some() { return false; }
+    fn failed(&self) -> bool {
         self.failed
     }
 }

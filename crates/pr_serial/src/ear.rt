@@ -71,7 +71,7 @@ impl Ear {
         ensures inputs { (items : List Item) → self.new.inputs.items ≡ self.old.inputs.items ++
             (if self.old.there then inputs_at self.old.device items (Attention first second) else []) }
     {
-        if first <= UNLISTEN {
+        if first == UNLISTEN {
             self.listens = false;
         }
         if first == LISTEN + self.device {
