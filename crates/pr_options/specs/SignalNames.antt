@@ -27,19 +27,18 @@ trimmed text = without_end (without_front text)
 abbrev pub is_name : List ℕ → Bool
 is_name text = nat_lt 0 (length text)
 
--- two names are not the same, capitals or not
+-- the one name is CLOCK and the other CLK, by which CLOCK may be found too, capitals or not
+abbrev pub is_clock_twice : List ℕ → List ℕ → Bool
+is_clock_twice a b = str_eq_ignore_ascii_case a (codes "CLOCK") && str_eq_ignore_ascii_case b (codes "CLK")
+
+-- no signal can be found by both names: they are not the same, capitals or not, nor are they CLOCK and CLK
 abbrev pub differ : List ℕ → List ℕ → Bool
-differ a b = not (str_eq_ignore_ascii_case a b)
+differ a b = not (str_eq_ignore_ascii_case a b) && (not (is_clock_twice a b) && not (is_clock_twice b a))
 
--- a name is CLK where CLOCK is looked for, which may be called so
-abbrev pub is_second : (clock name : List ℕ) → Bool
-is_second clock name = str_eq_ignore_ascii_case clock (codes "clock") && str_eq_ignore_ascii_case name (codes "clk")
-
--- names of three signals: no two are the same, and none is the second name of another
+-- three names, no two of which can be those of one signal
 abbrev pub are_names : (atn clock line : List ℕ) → Bool
 are_names atn clock line =
-    (is_name atn && (is_name clock && is_name line)) && ((differ atn clock && (differ atn line && differ clock line))
-    && (not (is_second clock atn) && not (is_second clock line)))
+    (is_name atn && (is_name clock && is_name line)) && (differ atn clock && (differ atn line && differ clock line))
 
 -- the names of three texts
 abbrev pub three_names : List (List ℕ) → Option Names
