@@ -2,6 +2,7 @@
 # make try          prints that page within a minute or two, by a build of which nothing is proved
 # make test         the gate: every proof, test and must-fail edit, then the tests outside the prover
 # make cases        makes the inputs and answers of cases/ anew; make test says if the program's answers differ from them
+# make edits        tells of each wrong idea of the must-fail edits whether the prover refuses it: hours; tests/edits CRATE of one crate
 # make bench        speed and peak memory beside `wc -l`, with the aim of each
 # make peer         traces and pictures of runs, read by others: sigrok's decoder of the bus (sigrok-cli and libsigrokdecode4),
 #                   xmllint and rsvg-convert (libxml2-utils, librsvg2-bin and netpbm)
@@ -19,7 +20,7 @@ TESTS := $(foreach crate,$(GROWTHS),crates/$(crate)/out/$(crate)_tests)
 # What the program and the tests are built from.
 SOURCES := crates.txt $(shell find crates -path '*/out' -prune -o \( -name '*.rt' -o -name '*.antt' \) -print)
 
-.PHONY: run try build test outside cases bench peer install
+.PHONY: run try build test outside cases edits bench peer install
 
 run: build
 	@$(PROGRAM) pages < examples/hello.bas
@@ -56,6 +57,10 @@ cases: build
 	@cases/made
 	@cases/run --make $(PROGRAM)
 	@cases/reach --write
+
+# Not a part of the gate, which tries the ideas of a file together.
+edits:
+	@tests/edits
 
 bench: build $(TESTS)
 	@tests/bench $(PROGRAM)

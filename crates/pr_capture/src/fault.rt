@@ -41,7 +41,7 @@ pub enum CaptureFault {
     /// A time before that of an earlier line; times are compared in whole microseconds.
     #[error("line {0}: time goes back")]
     GoesBack(usize),
-    /// The row has no level of the wire, or the dump that ends on the line never gave one.
+    /// The row has no level of the wire, or the dump that ends on the line has told none that is still known.
     #[error("line {0}: no level of {1}")]
     NoLevel(usize, Wire),
     /// The wire's level is not known.

@@ -128,7 +128,7 @@ impl VcdWriter {
     ///
     /// # Errors
     ///
-    /// [`NoMemory`] where a growth of the text was refused. A part of the edges may have been added.
+    /// [`NoMemory`] where a growth of the text was refused. Nothing is promised of the text then.
     pub fn push_edges(&mut self, text: &mut Vec<u8>, edges: &[Edge]) -> Result<(), NoMemory>
         ensures text { OnOk result (text.new.items ≡ text.old.items ++ vcd_changes (last_written self.old) edges.now) }
         ensures last { OnOk result (last_written self.new ≡ last_edge (last_written self.old) edges.now) }

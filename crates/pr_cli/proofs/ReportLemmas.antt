@@ -11,8 +11,8 @@ use Rattle.pr_options.specs.declared.format.Report.{Report}
 use Rattle.pr_options.specs.declared.format.Report.TheVariants as report
 use Rattle.pr_options.specs.declared.format.TraceInput.{TraceInput}
 use Rattle.pr_cli.specs.Check.{trace_limit}
-use Rattle.pr_cli.specs.Report.{edges_made, refusal, AnswersReport, IsReport, Reports, SaysSamples, WritesReport}
-use Rattle.pr_cli.specs.Reported.{AreLines, EndsInput, EndsNoted, EndsSamples, GivesMore, GivesReport, HasGiven, HasHeard, HasNoted, HearsMore, IsOwnFault, IsRefused, IsReportOf, IsTraceFault, IsWhole, NotesBlock, RefusesInput, WritesText}
+use Rattle.pr_cli.specs.Report.{edges_made, refusal, AnswersReport, IsReport, IsWhole, MayBeWritten, Reports, SaysSamples, WritesReport}
+use Rattle.pr_cli.specs.Reported.{AreLines, EndsInput, EndsNoted, EndsSamples, GivesMore, GivesReport, HasGiven, HasHeard, HasNoted, HearsMore, IsOwnFault, IsRefused, IsReportOf, IsTraceFault, NotesBlock, RefusesInput, WritesText}
 use Rattle.pr_cli.specs.declared.reporter.ReportText.{ReportText}
 use Rattle.pr_cli.specs.declared.reporter.TraceReporter.{TraceReporter}
 use Rattle.pr_cli.specs.declared.source_reader.SourceReader.{SourceReader}
@@ -270,6 +270,10 @@ report_written input r text t a b v told refused h w = by v w
     short : (u : Option CliFault) → t.refused ≡ u → IsWhole u → length text ≤ trace_limit
     short u e i = short_is trace_limit input r text t h (rw e i)
 
+    to_write : (r : Report) → (r ≡ report.Frames → t.refused ≡ None) → MayBeWritten r t.refused
+    to_write report.Frames told = told refl
+    to_write report.Story told = tt
+
     by : (v : Result (Unit {0}) CliFault) → WritesText t a b v → AnswersReport input r text a b v
     by (Ok x) w = (short None w.0 tt, (t.lines.items, refused_as None w.0, w.1))
     by (Err (Script x)) w = absurd (own (Script x) w.0)
@@ -279,7 +283,14 @@ report_written input r text t a b v told refused h w = by v w
     by (Err TooLarge) w = absurd (own TooLarge w.0)
     by (Err NoMemory) w = absurd (own NoMemory w.0)
     by (Err ReadFailed) w = absurd (own ReadFailed w.0)
-    by (Err WriteFailed) w = (t.refused, t.lines.items, whole, w)
+    by (Err WriteFailed) w = record {
+      refused = t.refused;
+      written = t.lines.items;
+      reports = whole;
+      to_write = to_write r told;
+      short = short t.refused refl;
+      front = w;
+    }
 
 -- the answer that a `?` hands on
 pub frames_refused_on : (input : TraceInput) (r : Report) (text : List ℕ) (t : ReportText) (f : CliFault) (v : Result (Unit {0}) CliFault) (a : Option (List ℕ)) → IsErrAnd v (λ x. x ≡ f)

@@ -78,6 +78,26 @@ pub record Reports (input : TraceInput) (r : Report) (text : List ℕ) (refused 
 abbrev pub WritesReport : TraceInput → Report → List ℕ → (refused : Option CliFault) → Option (List ℕ) → Option (List ℕ) → Type 0
 WritesReport input r text refused old new = (written : List ℕ) × Reports input r text refused written × Appends old new written
 
+-- an input is whole where nothing is refused, or its edges are
+abbrev pub IsWhole : (refused : Option CliFault) → Type 0
+IsWhole None = Unit {0}
+IsWhole (Some (Wave fault)) = Unit {0}
+IsWhole (Some _) = ⊥
+
+-- a report of frames is written only where nothing is refused
+abbrev pub MayBeWritten : Report → (refused : Option CliFault) → Type 0
+MayBeWritten report.Frames refused = refused ≡ None
+MayBeWritten report.Story refused = Unit {0}
+
+-- the report was to be written, and a write failed
+pub record WritesFront (input : TraceInput) (r : Report) (text : List ℕ) (old new : Option (List ℕ)) : Type 0 where
+  pub refused : Option CliFault
+  pub written : List ℕ
+  pub reports : Reports input r text refused written
+  pub to_write : MayBeWritten r refused
+  pub short : IsWhole refused → length text ≤ trace_limit
+  pub front : AppendsFront old new written
+
 -- the answer, by the text read and what the writer held before and after
 abbrev pub AnswersReport : TraceInput → Report → List ℕ → Option (List ℕ) → Option (List ℕ) → Result (Unit {0}) CliFault → Type 0
 AnswersReport input r text old new (Ok _) = (length text ≤ trace_limit) × WritesReport input r text None old new
@@ -89,8 +109,7 @@ AnswersReport input r text old new (Err (Capture fault)) = WritesReport input r 
 AnswersReport input r text old new (Err TooLarge) = (trace_limit < length text) × Keeps old new
 AnswersReport input r text old new (Err NoMemory) = Keeps old new
 AnswersReport input r text old new (Err ReadFailed) = Keeps old new
-AnswersReport input r text old new (Err WriteFailed) =
-    (refused : Option CliFault) × (written : List ℕ) × Reports input r text refused written × AppendsFront old new written
+AnswersReport input r text old new (Err WriteFailed) = WritesFront input r text old new
 
 -- whatever the reader tells, nothing is written where the input was not read, or memory was refused; of frames also not where the trace is refused
 abbrev pub WritesNoReport : Report → Option (List ℕ) → Option (List ℕ) → Result (Unit {0}) CliFault → Type 0
@@ -102,11 +121,12 @@ WritesNoReport report.Frames old new (Err (Wave fault)) = Keeps old new
 WritesNoReport report.Frames old new (Err (Capture fault)) = Keeps old new
 WritesNoReport _ old new _ = Unit {0}
 
--- the input has been read to its end where it is accepted, or its edges are refused
-abbrev pub ReadsAll : Option (List ℕ) → Result (Unit {0}) CliFault → Type 0
-ReadsAll left (Ok _) = IsAtEnd left
-ReadsAll left (Err (Wave fault)) = IsAtEnd left
-ReadsAll left (Err _) = Unit {0}
+-- the input has been read to its end where it is accepted, or its edges are refused; and where a write of frames failed
+abbrev pub ReadsAll : Report → Option (List ℕ) → Result (Unit {0}) CliFault → Type 0
+ReadsAll r left (Ok _) = IsAtEnd left
+ReadsAll r left (Err (Wave fault)) = IsAtEnd left
+ReadsAll report.Frames left (Err WriteFailed) = IsAtEnd left
+ReadsAll r left (Err _) = Unit {0}
 
 -- a fault of an input: never one of a script, and want of memory always as itself
 abbrev pub IsReportFault : CliFault → Type 0

@@ -24,7 +24,7 @@ use Rattle.pr_options.specs.declared.format.Report.TheVariants as report
 use Rattle.pr_options.specs.declared.format.Source.TheVariants as source
 use Rattle.pr_options.specs.declared.format.TraceInput.{TraceInput}
 use Rattle.pr_cli.specs.FrameText.{frame_line}
-use Rattle.pr_cli.specs.Report.{edges_made, refusal, IsReport, SaysSamples}
+use Rattle.pr_cli.specs.Report.{edges_made, refusal, IsReport, IsWhole, SaysSamples}
 use Rattle.pr_cli.specs.PartlyWritten.{AppendsFront}
 use Rattle.pr_cli.specs.declared.reporter.FrameReporter.{FrameReporter}
 use Rattle.pr_cli.specs.declared.reporter.ReportText.{ReportText}
@@ -65,12 +65,6 @@ abbrev pub IsTraceFault : CliFault → Type 0
 IsTraceFault (Wave wave.NoMemory) = ⊥
 IsTraceFault (Wave fault) = Unit {0}
 IsTraceFault fault = IsOwnFault fault
-
--- an input is whole where nothing is refused, or its edges are
-abbrev pub IsWhole : Option CliFault → Type 0
-IsWhole None = Unit {0}
-IsWhole (Some (Wave fault)) = Unit {0}
-IsWhole (Some _) = ⊥
 
 -- a fault is want of memory, or that of every input that goes on so
 abbrev pub RefusesInput : (bytes : List ℕ) → (old : SourceReader) → CliFault → Type 0

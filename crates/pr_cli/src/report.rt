@@ -31,7 +31,7 @@ use std::io::{Read, Write};
 /// # Errors
 ///
 /// - [`CliFault::Trace`]: a trace text with its first bad line; [`CliFault::Capture`]: a recording with
-///   its first fault. Nothing behind it is read, and it is told before any fault of the edges.
+///   its first fault. No further block is read, and it is told before any fault of the edges.
 /// - [`CliFault::Wave`]: the edges are no lawful trace, with their first fault.
 /// - [`CliFault::TooLarge`]: only if the input has more than [`CHECK_LIMIT`] bytes.
 /// - [`CliFault::ReadFailed`] exactly if the input has failed, [`CliFault::WriteFailed`] exactly if the
@@ -52,7 +52,7 @@ pub fn check_as_over<R: Read, W: Write>(
     requires output { has_failed output.old ≡ false }
     ensures check { IfSome (R.remaining (wrapped input.old)) (λ text.
         AnswersReport trace.entry report text (W.contents (wrapped output.old)) (W.contents (wrapped output.new)) result) }
-    ensures at_end { ReadsAll (R.remaining (wrapped input.new)) result }
+    ensures at_end { ReadsAll report (R.remaining (wrapped input.new)) result }
     ensures nothing { WritesNoReport report (W.contents (wrapped output.old)) (W.contents (wrapped output.new)) result }
     ensures own { IfErr result IsReportFault }
     ensures read_failed { IsErrOf result CliFault.ReadFailed ↔ (has_failed input.new ≡ true) }

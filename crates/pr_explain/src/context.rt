@@ -51,11 +51,14 @@ fn expected_in(context: Context, before: &[u8], rest: &[u8]) -> &'static str {
     if context == Context::Start {
         return "OPEN, CMD, PRINT, PRINT#, CLOSE or REM can stand here";
     }
-    if word_at(rest).begins_statement() && !wants_more(before) {
+    if word_at(rest).begins_statement() && !wants_more(context, before) {
         return "a : is missing before this statement";
     }
     match (context, rest) {
         (Context::Open, [b',' | b'"', ..]) => NO_NAME,
+        (Context::Open, _) if comma_count(last_part(before)) > 1 => {
+            "the end of OPEN file,device,secondary stands here"
+        }
         (Context::Start | Context::Open, _) => {
             "a comma, or the end of OPEN file,device,secondary can stand here"
         }
@@ -79,9 +82,14 @@ fn expected_in_list(before: &[u8], rest: &[u8]) -> &'static str {
     }
 }
 
-/// Whether a statement can not end behind these bytes of it.
-fn wants_more(before: &[u8]) -> bool {
-    matches!(last_of(before), Some(b',' | b'(' | b'$'))
+/// Whether a statement can not end behind these bytes of it. In a list a digit belongs to a CHR$ that has
+/// begun.
+fn wants_more(context: Context, before: &[u8]) -> bool {
+    match last_of(before) {
+        Some(b',' | b'(' | b'$') => true,
+        Some(b'0'..=b'9') => context == Context::List,
+        _ => false,
+    }
 }
 
 /// The last byte that is no space or tab.
@@ -106,7 +114,7 @@ fn context_of(before: &[u8]) -> Context {
     } else if begins(front, b"close") {
         Context::Close
     } else if begins(front, b"cmd") || begins(front, b"print#") {
-        if has_comma(front) {
+        if comma_count(front) > 0 {
             Context::List
         } else {
             Context::File
@@ -131,18 +139,19 @@ fn last_part(before: &[u8]) -> &[u8] {
     &before[start.min(before.len())..]
 }
 
-/// Whether a comma stands outside strings.
-fn has_comma(bytes: &[u8]) -> bool {
+/// How many commas stand outside strings.
+fn comma_count(bytes: &[u8]) -> usize {
+    let mut count: usize = 0;
     let mut is_quoted = false;
     for byte in bytes {
         if *byte == b'"' {
             is_quoted = !is_quoted;
         }
         if *byte == b',' && !is_quoted {
-            return true;
+            count = count.saturating_add(1);
         }
     }
-    false
+    count
 }
 
 /// What stands behind spaces, tabs and digits.

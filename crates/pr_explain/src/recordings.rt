@@ -115,7 +115,7 @@ fn read_recording(
                 take_sample(&mut gatherer, &mut edges, sample)?;
                 rest = &rest[len..];
             }
-            Err(fault) => return refused(edges, fault),
+            Err(fault) => return refused(gatherer, edges, fault),
         }
     }
     match reader.finish() {
@@ -124,15 +124,20 @@ fn read_recording(
             keep(&mut edges, gatherer.finish())?;
             Ok(Recorded { edges, fault: None })
         }
-        Err(fault) => refused(edges, fault),
+        Err(fault) => refused(gatherer, edges, fault),
     }
 }
 
-/// The edges before a fault; want of memory is no fault of the recording.
-fn refused(edges: Vec<Edge>, fault: CaptureFault) -> Result<Recorded, NoMemory> {
+/// The edges of the samples before a fault; want of memory is no fault of the recording.
+fn refused(
+    gatherer: Gatherer,
+    mut edges: Vec<Edge>,
+    fault: CaptureFault,
+) -> Result<Recorded, NoMemory> {
     if fault == CaptureFault::NoMemory {
         return Err(AllocError);
     }
+    keep(&mut edges, gatherer.finish())?;
     Ok(Recorded {
         edges,
         fault: Some(fault),

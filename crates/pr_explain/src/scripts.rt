@@ -84,16 +84,16 @@ fn push_fault(text: &mut Vec<u8>, spot: Spot<'_>, fault: ScriptFault) -> Result<
     push(text, ": ")?;
     push(text, expected_at(spot.before, spot.rest, fault))?;
     push(text, "\n")?;
-    if is_unknown(fault) {
-        push_hints(text, spot.rest)?;
+    if asks_for_a_word(fault) {
+        push_hints(text, spot)?;
     }
     Ok(())
 }
 
-/// Adds what else there is to say of an unknown word: that spaces stand in it, that it is BASIC that this
-/// profile does not have.
-fn push_hints(text: &mut Vec<u8>, rest: &[u8]) -> Result<(), NoMemory> {
-    if let Some(word) = word_at(rest).unspaced() {
+/// Adds what else there is to say of a word: that spaces stand in it, that it is BASIC that this profile
+/// does not have.
+fn push_hints(text: &mut Vec<u8>, spot: Spot<'_>) -> Result<(), NoMemory> {
+    if let Some(word) = word_at(spot.rest).unspaced() {
         push(text, "  this is ")?;
         push(text, word)?;
         push(
@@ -101,7 +101,7 @@ fn push_hints(text: &mut Vec<u8>, rest: &[u8]) -> Result<(), NoMemory> {
             " with a space in it; no space stands in a word of BASIC here\n",
         )?;
     }
-    if let Some(name) = foreign_word(rest) {
+    if let Some(name) = foreign_word(spot.before, spot.rest) {
         push(text, "  ")?;
         push(text, name)?;
         push(
@@ -112,9 +112,15 @@ fn push_hints(text: &mut Vec<u8>, rest: &[u8]) -> Result<(), NoMemory> {
     Ok(())
 }
 
-/// Whether a word is not known.
-fn is_unknown(fault: ScriptFault) -> bool {
-    matches!(fault, ScriptFault::UnknownWord(_))
+/// Whether a word or a number of this profile was wanted.
+fn asks_for_a_word(fault: ScriptFault) -> bool {
+    matches!(
+        fault,
+        ScriptFault::UnknownWord(_)
+            | ScriptFault::BadNumber(_)
+            | ScriptFault::BadDevice(_)
+            | ScriptFault::BadSecond(_)
+    )
 }
 
 /// Adds the line around a place, and a caret under it.

@@ -94,18 +94,29 @@ fn entry_at(rest: &[u8]) -> Option<Word>
     ensures { IfSome result (λ word. word.len ≤ length rest.now) }
 {
     for word in KEYWORDS {
-        if let Some(len) = spelled(rest, word.as_bytes()) {
+        if let Some(len) = spelled_whole(rest, word.as_bytes()) {
             let kind = WordKind::Keyword(word);
             return Some(Word { kind, len });
         }
     }
     for word in WORDS {
-        if let Some(len) = spelled(rest, word.as_bytes()) {
+        if let Some(len) = spelled_whole(rest, word.as_bytes()) {
             let kind = WordKind::Foreign(word);
             return Some(Word { kind, len });
         }
     }
     None
+}
+
+/// As [`spelled`]; but a word with spaces in it ends where its last letters do: `T OR` is not TO.
+fn spelled_whole(rest: &[u8], word: &[u8]) -> Option<usize>
+    ensures { IfSome result (λ len. len ≤ length rest.now) }
+{
+    let len = spelled(rest, word)?;
+    match &rest[len..] {
+        [next, ..] if len > word.len() && next.is_ascii_alphabetic() => None,
+        _ => Some(len),
+    }
 }
 
 /// How many bytes a word has that is spelled in front, whichever of its letters are capitals, with or
@@ -165,12 +176,12 @@ fn letter_count(rest: &[u8]) -> usize
     rest.len()
 }
 
-/// What stands in front, where it is common BASIC that this profile does not have: the beginning of a
-/// sentence.
-pub fn foreign_word(rest: &[u8]) -> Option<&'static str> {
+/// What stands in front, behind the bytes `before` of its line, where it is common BASIC that this profile
+/// does not have: the beginning of a sentence.
+pub fn foreign_word(before: &[u8], rest: &[u8]) -> Option<&'static str> {
     match rest {
         [b'?', ..] => return Some("? for PRINT is"),
-        [b'#', ..] => return Some("# with a space before it is"),
+        [b'#', ..] if parts_print(before) => return Some("# with a space before it is"),
         [b'+' | b'-' | b'*' | b'/' | b'^' | b'=' | b'<' | b'>', ..] => {
             return Some("an operator is");
         }
@@ -183,6 +194,33 @@ pub fn foreign_word(rest: &[u8]) -> Option<&'static str> {
         WordKind::Letters => Some("a variable or another word is"),
         WordKind::Keyword(_) | WordKind::Digits | WordKind::Other => None,
     }
+}
+
+/// Whether these bytes end in PRINT and spaces behind it.
+fn parts_print(before: &[u8]) -> bool {
+    let Some(len) = before.len().checked_sub(blanks_behind(before)) else {
+        return false;
+    };
+    let word = &before[..len];
+    match word.len().checked_sub(5) {
+        Some(start) => len < before.len() && word[start..].eq_ignore_ascii_case(b"print"),
+        None => false,
+    }
+}
+
+/// How many spaces and tabs stand at the end.
+fn blanks_behind(bytes: &[u8]) -> usize
+    ensures { result ≤ length bytes.now }
+{
+    let mut count: usize = 0;
+    for byte in bytes {
+        if *byte == b' ' || *byte == b'\t' {
+            count = count.saturating_add(1);
+        } else {
+            count = 0;
+        }
+    }
+    count.min(bytes.len())
 }
 
 #[cfg(test)]

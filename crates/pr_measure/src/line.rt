@@ -230,7 +230,7 @@ fn push_all_outside(
 ///
 /// # Errors
 ///
-/// [`NoMemory`] where a growth of the text was refused. A part of the lines may have been added.
+/// [`NoMemory`] where a growth of the text was refused. Nothing is promised of the text then.
 #[tactic(auto, unfolding(crate::specs::ReadingText::reading_lines))]
 pub fn push_reading(text: &mut Vec<u8>, behind: Behind, reading: &Reading) -> Result<(), NoMemory>
     ensures { OnOk result (text.new.items ≡ text.old.items ++ reading_lines behind reading.now) }

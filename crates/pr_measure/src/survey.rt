@@ -107,7 +107,7 @@ impl Survey {
     ///
     /// # Errors
     ///
-    /// [`NoMemory`] where a growth of the text was refused. A part of the lines may have been added.
+    /// [`NoMemory`] where a growth of the text was refused. Nothing is promised of the text then.
     pub fn push_summary(&self, text: &mut Vec<u8>) -> Result<(), NoMemory>
         ensures { OnOk result ((readings : List Reading) → HasTaken readings self.now →
             text.new.items ≡ text.old.items ++ summary readings) }

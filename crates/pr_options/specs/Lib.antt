@@ -8,4 +8,5 @@ pub mod CommandLine
 pub mod Subcommands
 pub mod Jobs
 pub mod Faults
+pub mod Values
 pub mod Parts

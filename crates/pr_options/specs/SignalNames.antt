@@ -1,5 +1,5 @@
 -- Trusted: the value of --names: the names of the signals of ATN, CLOCK and DATA, parted by commas.
-use Rattle.std.specs.Prelude.{ℕ, ◌==◌, ◌-◌, ◌&&◌, Bool, List, [], ◌∷◌, length, map, not, nat_lt, Option, Some, None, if◌then◌else◌, take, drop}
+use Rattle.std.specs.Prelude.{ℕ, ◌==◌, ◌-◌, ◌&&◌, Bool, List, [], ◌∷◌, codes, length, map, not, nat_lt, Option, Some, None, if◌then◌else◌, take, drop}
 use Rattle.std.specs.Char.{is_ascii_whitespace}
 use Rattle.std.specs.List.{prefix_len, slice_split, suffix_len}
 use Rattle.std.specs.Str.{str_eq_ignore_ascii_case}
@@ -27,11 +27,15 @@ trimmed text = without_end (without_front text)
 abbrev pub is_name : List ℕ → Bool
 is_name text = nat_lt 0 (length text)
 
--- two names are not the same, capitals or not
-abbrev pub differ : List ℕ → List ℕ → Bool
-differ a b = not (str_eq_ignore_ascii_case a b)
+-- the one name is CLOCK and the other CLK, by which CLOCK may be found too, capitals or not
+abbrev pub is_clock_twice : List ℕ → List ℕ → Bool
+is_clock_twice a b = str_eq_ignore_ascii_case a (codes "CLOCK") && str_eq_ignore_ascii_case b (codes "CLK")
 
--- three names, no two of them the same
+-- no signal can be found by both names: they are not the same, capitals or not, nor are they CLOCK and CLK
+abbrev pub differ : List ℕ → List ℕ → Bool
+differ a b = not (str_eq_ignore_ascii_case a b) && (not (is_clock_twice a b) && not (is_clock_twice b a))
+
+-- three names, no two of which can be those of one signal
 abbrev pub are_names : (atn clock line : List ℕ) → Bool
 are_names atn clock line =
     (is_name atn && (is_name clock && is_name line)) && (differ atn clock && (differ atn line && differ clock line))

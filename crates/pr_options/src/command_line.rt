@@ -1,6 +1,6 @@
 //! What a command line asks for: the program's job.
 
-ghost use Rattle.std.specs.Prelude.{◌≡◌, codes, map, true, unwrap_or, IfOk, IfErr, IfSome, IsErrOf, IsSome};
+ghost use Rattle.std.specs.Prelude.{◌≡◌, codes, map, option_map, true, unwrap_or, IfOk, IfErr, IfSome, IsErrOf, IsSome};
 ghost use Rattle.std.specs.List.{list_any};
 ghost use Rattle.std.specs.Str.{bytes_eq};
 ghost use Rattle.clap.specs.Words.{first_of, found_of, kind_of, rows_of, subcommand_of, subcommand_rows_of, takes};
@@ -10,6 +10,7 @@ ghost use Rattle.pr_options.specs.Inputs.{AsksToRead, IsBadFrom, IsBadNames, IsB
 ghost use Rattle.pr_options.specs.Jobs.{AsksFor, HasBadDelays, HasBadFrom, HasBadNames, HasBadPageAs, HasBadPresent, HasBadReportAs, HasBadSet, HasBadStart, HasBadStatus, HasBadTraceAs, IsLine, IsNoRecording};
 ghost use Rattle.pr_options.specs.Parts.{IsOfClap, IsOfInput};
 ghost use Rattle.pr_options.specs.Subcommands.{IsOurs};
+ghost use Rattle.pr_options.specs.Values.{values_of};
 
 use crate::clap_command::make_command;
 use crate::delays::{DelayFault, read_delays};
@@ -98,7 +99,9 @@ pub enum JobFault {
 impl JobFault {
     /// What values the option has of which this is a bad one, as the help says it. None of other
     /// faults.
-    pub fn values(&self) -> Option<&'static str> {
+    pub fn values(&self) -> Option<&'static str>
+        ensures { option_map (λ text. text.now) result ≡ values_of self.now }
+    {
         match self {
             JobFault::BadPresent => Some(PRESENT.help),
             JobFault::BadDelays => Some(DELAYS.help),

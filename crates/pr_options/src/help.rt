@@ -97,17 +97,18 @@ sample, its time in seconds first, as logic analysers export them.
 
 --names, --invert and --from-time say how such a recording is read; they do not go with a trace text.
 Three names stand in the order of ATN, CLOCK and DATA, parted by commas, and no two are the same.
-Capitals do not count, nor do blanks around a name. Without --names the signals are ATN, CLOCK (or
-CLK) and DATA.
+Capitals do not count, nor do blanks around a name. Without --names they are ATN, CLOCK and DATA. A
+signal whose name is CLOCK, given or not, may be called CLK in the recording: so CLOCK and CLK are no
+two of the names.
 
 Output: a line for each frame, `command 36`, `data 72` or `data 13 eoi`, and then `lawful`. A trace
 that is not lawful is refused with its first fault; edges count from 0, lines from 1. With --as story
 a line for each frame has the moments of its look and of its acknowledgement, in microseconds, its
 byte and what it says; the lines `attention` and `data` stand above.
 
-With --explain a refused trace text is shown with the place of its first fault, the edges that could
-follow there and by how much they were missed; of a recording nothing more is told. A bad value of an
-option is told with the good ones.
+With --explain a refused trace is shown with the place of its first fault, the edges that could follow
+there and by how much they were missed; of a recording the line of the fault, or the levels of its
+signals about it. A bad value of an option is told with the good ones.
 
 Exit status: 0 a lawful trace, 2 a refused command line or trace, 3 want of memory or a failed
 read or write.

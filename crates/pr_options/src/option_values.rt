@@ -2,7 +2,7 @@
 
 ghost use Rattle.std.specs.Prelude.{◌≡◌, ◌∷◌, [], option_map, IfSome};
 ghost use Rattle.pr_options.specs.Options.{format_of, mode_of, present_of, report_of, set_of, source_of, start_of, trace_format_of};
-ghost use Rattle.pr_options.specs.SignalNames.{are_names, differ, names_of, names_told, three_names};
+ghost use Rattle.pr_options.specs.SignalNames.{are_names, differ, is_clock_twice, names_of, names_told, three_names};
 
 use crate::format::{Format, Report, Source, TraceFormat};
 use crate::parts::{all_digits, cut};
@@ -96,8 +96,8 @@ pub fn read_report(text: &str) -> Option<Report>
 }
 
 /// The signals of a recording by the names of ATN, CLOCK and DATA, which stand in this order, parted
-/// by commas. White space around a name does not count; no name is empty, and no two are the same,
-/// capitals or not (profile). None for any other text.
+/// by commas. White space around a name does not count; no name is empty, and no two are the same or
+/// CLOCK and CLK, capitals or not (profile). None for any other text.
 pub fn read_signals(text: &str, is_inverted: bool) -> Option<Signals<'_>>
     ensures names { option_map names_told result ≡ names_of text.now }
     ensures levels { IfSome result (λ s. s.is_inverted ≡ is_inverted) }
@@ -136,7 +136,7 @@ fn signals_named<'a>(
     })
 }
 
-/// Whether these are names of three signals: none is empty, and no two are the same.
+/// Whether these are names of three signals: none is empty, and no two can be those of one signal.
 fn are_names(atn: &str, clock: &str, line: &str) -> bool
     ensures { result ≡ are_names atn.now clock.now line.now }
 {
@@ -144,11 +144,19 @@ fn are_names(atn: &str, clock: &str, line: &str) -> bool
     are_filled && differ(atn, clock) && differ(atn, line) && differ(clock, line)
 }
 
-/// Whether two names are not the same, capitals or not.
+/// Whether no signal can be found by both names: they are not the same, capitals or not, nor are they
+/// CLOCK and CLK.
 fn differ(a: &str, b: &str) -> bool
     ensures { result ≡ differ a.now b.now }
 {
-    !a.eq_ignore_ascii_case(b)
+    !a.eq_ignore_ascii_case(b) && !is_clock_twice(a, b) && !is_clock_twice(b, a)
+}
+
+/// Whether the one name is CLOCK and the other CLK, by which CLOCK may be found too, capitals or not.
+fn is_clock_twice(a: &str, b: &str) -> bool
+    ensures { result ≡ is_clock_twice a.now b.now }
+{
+    a.eq_ignore_ascii_case("CLOCK") && b.eq_ignore_ascii_case("CLK")
 }
 
 /// The moment at which a trace starts, in microseconds: decimal digits that spell a number below

@@ -30,8 +30,8 @@ pub const PRESENT: Valued = Valued {
 pub const DELAYS: Valued = Valued {
     name: "delays",
     default: "",
-    help: "The raw delay numbers: lists for the computer, printer 4 and printer 5, as in 900,999/9 \
-           [default: every delay is the typical one]",
+    help: "The raw delay numbers, 0 to 65535 in at most five digits: at most three lists, for the \
+           computer, printer 4 and printer 5, as in 900,999/9 [default: every delay is the typical one]",
 };
 
 pub const STATUS: Valued = Valued {
@@ -78,13 +78,14 @@ pub const NAMES: Valued = Valued {
     name: "names",
     default: "ATN,CLOCK,DATA",
     help: "The names of ATN, CLOCK and DATA in a recording, as in D0,D1,D2, no two the same, capitals or \
-           not; CLK is CLOCK too",
+           not; for a name that is CLOCK the recording may have CLK, so not both are names",
 };
 
 pub const FROM_TIME: Valued = Valued {
     name: "from-time",
     default: "0",
-    help: "The moment of the recording at which the trace starts, in microseconds",
+    help: "The moment of the recording at which the trace starts, in microseconds: a whole number below \
+           2^64",
 };
 
 pub const INVERT: Flag = Flag {

@@ -170,7 +170,7 @@ fn push_frame(text: &mut Vec<u8>, frame: TimedFrame) -> Result<(), NoMemory>
 ///
 /// # Errors
 ///
-/// [`NoMemory`] where a growth of the text was refused. A part of the line may have been added.
+/// [`NoMemory`] where a growth of the text was refused. Nothing is promised of the text then.
 #[tactic(auto, unfolding(crate::specs::StoryText::story_line))]
 pub fn push_story_line(
     text: &mut Vec<u8>,

@@ -36,7 +36,7 @@ fn push_if_some(
 ///
 /// # Errors
 ///
-/// [`NoMemory`] where a growth of the text was refused: a beginning of the story may have been added.
+/// [`NoMemory`] where a growth of the text was refused. Nothing is promised of the text then.
 pub fn push_story(text: &mut Vec<u8>, edges: &[Edge]) -> Result<Option<WaveFault>, NoMemory>
     ensures story { OnOk result (text.new.items ≡ text.old.items ++ story_of edges.now) }
     ensures fault { IfOk result (λ fault. fault ≡ fault_of edges.now) }

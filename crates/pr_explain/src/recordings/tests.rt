@@ -223,6 +223,15 @@ fn faults_of_tables(rt: HostRuntime) -> Result<(), Fail> {
         let wanted = format!(in rt.alloc(); "  line 2: {line}\n  {rule}\n")?;
         told_of_table(&rt, row, 0, wanted.as_str())?;
     }
+    // The edge that the last good row makes is looked at, too.
+    told_of_table(
+        &rt,
+        "0,1,1,1\n0.000099,0,0,1\n0.0002,x,1,1\n",
+        0,
+        "  line 4: 0.0002,x,1,1\n  x says that the level is not known; a level of the three lines is 0 or 1\n  \
+         edge 1: 99 001\n  the edge before it: 0 111\n  the place there: idle, all lines are released, since \
+         0\n  could follow: 001 from 100 on\n  it comes 1 microsecond too early\n",
+    )?;
     told_of_table(
         &rt,
         "2,1,1,1\n2.000001,0,0,1\n2.000002,1,1,1\n1,1,1,1\n",

@@ -81,6 +81,18 @@ fn common_slips(rt: HostRuntime) -> Result<(), Fail> {
             "column 10: \"7\": a comma, or the end of OPEN file,device,secondary can stand here\n",
         ),
         (
+            "OPEN 1,4,7 8",
+            "column 12: \"8\": the end of OPEN file,device,secondary stands here\n",
+        ),
+        (
+            "PRINT CHR$(65 PRINT \"B\"",
+            "column 15: \"PRINT\": ) stands behind the number\n",
+        ),
+        (
+            "#4,\"A\"",
+            "column 1: \"#\": OPEN, CMD, PRINT, PRINT#, CLOSE or REM can stand here\n",
+        ),
+        (
             "PRINT \"A\",\"B\"",
             "column 10: \",\": ; and not , stands between the parts of a list here\n",
         ),
@@ -134,6 +146,34 @@ fn whole_words(rt: HostRuntime) -> Result<(), Fail> {
         ),
         ("PRINT A$", "\"A$\": ", list, "  a variable is ", foreign),
         ("PRINT X1%", "\"X1%\": ", list, "  a variable is ", foreign),
+        (
+            "PRINT T OR S",
+            "\"T\": ",
+            list,
+            "  a variable or another word is ",
+            foreign,
+        ),
+        (
+            "PRINT #4,\"A\"",
+            "\"#\": ",
+            list,
+            "  # with a space before it is ",
+            foreign,
+        ),
+        (
+            "PRINT CHR$(A$)",
+            "\"A$\": ",
+            "CHR$ has a number of at most 255\n",
+            "  a variable is ",
+            foreign,
+        ),
+        (
+            "OPEN -1,4",
+            "\"-\": ",
+            "a file number of at most 255 stands here\n",
+            "  an operator is ",
+            foreign,
+        ),
     ];
     for (script, word, expected, front, end) in rows {
         let wanted = format!(in rt.alloc(); "{word}{expected}{front}{end}")?;

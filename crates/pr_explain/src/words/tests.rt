@@ -20,7 +20,7 @@ fn words_of_basic(rt: HostRuntime) {
         (b"\xff", None),
     ];
     for (rest, wanted) in rows {
-        assert_eq!(rt; foreign_word(rest), wanted);
+        assert_eq!(rt; foreign_word(b"PRINT ", rest), wanted);
     }
 }
 

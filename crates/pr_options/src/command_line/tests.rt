@@ -266,6 +266,8 @@ fn bad_values(rt: HostRuntime) {
         ("check --from vcd --names x,,z", "bad --names"),
         ("check --from vcd --names=", "bad --names"),
         ("check --from vcd --names ATN,atn,DATA", "bad --names"),
+        ("check --from csv --names ATN,CLOCK,CLK", "bad --names"),
+        ("check --from csv --names clk,Clock,DATA", "bad --names"),
         (
             "check --from csv --as x --names D0,D1,d1 --from-time x",
             "bad --names",
