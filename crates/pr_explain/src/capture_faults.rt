@@ -2,7 +2,7 @@
 
 use crate::names::push_names;
 use crate::recordings::Recording;
-use crate::texts::{line_at, push, push_cut, push_line};
+use crate::texts::{line_with, push, push_cut, push_line};
 use pr_capture::{CaptureFault, Signals, Wire};
 use pr_wire::NoMemory;
 
@@ -97,7 +97,7 @@ pub fn push_capture_fault(
     let Some(number) = line_of(fault) else {
         return Ok(());
     };
-    let (_, line) = line_at(recording, number);
+    let (_, line) = line_with(recording, number);
     push_line(text, number, line)?;
     match fault {
         CaptureFault::NoSignal(_, wire) => {

@@ -119,7 +119,7 @@ pub fn without_end(line: &[u8]) -> &[u8] {
 }
 
 /// What stands before a line with this number, from 1, and the line with its end.
-pub fn line_at(text: &[u8], number: usize) -> (&[u8], &[u8]) {
+pub fn line_with(text: &[u8], number: usize) -> (&[u8], &[u8]) {
     let mut rest = text;
     for _ in 1..number {
         let (_, more) = cut_line(rest);

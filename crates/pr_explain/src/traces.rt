@@ -1,7 +1,7 @@
 //! Why a trace text is refused.
 
 use crate::edges::push_edges;
-use crate::texts::{Origin, line_at, push, push_line};
+use crate::texts::{Origin, line_with, push, push_line};
 use pr_wire::{NoMemory, TraceFault, read_trace};
 use std::alloc::{AllocError, Global};
 
@@ -31,7 +31,7 @@ fn push_bad_line(
     trace: &[u8],
     number: usize,
 ) -> Result<(), NoMemory> {
-    let (before, line) = line_at(trace, number);
+    let (before, line) = line_with(trace, number);
     push_line(text, number, line)?;
     push(
         text,

@@ -109,8 +109,8 @@ fn edges_of_recordings(rt: HostRuntime) -> Result<(), Fail> {
         "  [in brackets: the recording's own microseconds]\n  the last edge: 100 001 [110]\n  the place \
          there: attention, no printer answers yet, since 100 [110]\n  could follow: 000 from 101 [111] to \
          1100 [1110]\n  could follow: 010 at 1100 [1110]\n  could follow: 111 from 1100 [1110] to 2100 \
-         [2110]\n  a trace may end where all lines are released, behind a data byte, or behind an \
-         attention that did not end with UNLISTEN\n",
+         [2110]\n  a trace may end at rest (all lines released, and no byte under way), behind a data byte \
+         that a printer has acknowledged, or behind an attention that did not end with UNLISTEN\n",
     )
 }
 
@@ -137,18 +137,45 @@ fn starts_of_recordings(rt: HostRuntime) -> Result<(), Fail> {
             "#0 1a 0c 0d\n#30 1c\n#40 1d\n#70 0c\n",
             20,
             "  [in brackets: the recording's own microseconds]\n  edge 0: 0 100 [20]\n",
-            "all three lines are first released at 40\n",
+            "from 20 on, all three lines are first released at 40\n",
         ),
         (
             "#0 1a 0c 1d\n",
             0,
             "  edge 0: 0 101\n",
-            "in this one the three lines are never all released\n",
+            "the three lines are never all released\n",
+        ),
+        (
+            "#0 1a 1c 1d\n#9 0a 0c\n",
+            10,
+            "  [in brackets: the recording's own microseconds]\n  edge 0: 0 001 [10]\n",
+            "from 10 on, the three lines are never all released\n",
         ),
     ];
     for (changes, start, edge, end) in rows {
         let wanted = format!(in rt.alloc(); "{edge}{front}{end}")?;
         told_of_dump(&rt, changes, start, wanted.as_str())?;
+    }
+    let unknown = "x says that the level is not known; a level of the three lines is 0 or 1\n";
+    let rows = [
+        (0, "  edge 0: 0 101\n", ""),
+        (
+            1,
+            "  [in brackets: the recording's own microseconds]\n  edge 0: 0 101 [1]\n",
+            "from 1 on, ",
+        ),
+    ];
+    for (start, edge, front_end) in rows {
+        let wanted = format!(in rt.alloc();
+            "  line 3: 0.000005,x,1,1\n  {unknown}{edge}{front}{front_end}as far as the recording can be read, \
+             the three lines are never all released\n"
+        )?;
+        told_of_table(
+            &rt,
+            "0,1,0,1\n0.000005,x,1,1\n0.000009,1,1,1\n",
+            start,
+            wanted.as_str(),
+        )?;
     }
     told_of_table(
         &rt,
@@ -178,7 +205,7 @@ fn names_of_signals(rt: HostRuntime) -> Result<(), Fail> {
         ),
         (
             b"$comment $var wire 1 x ATN $end $timescale 1 us $end\n$var wire 1 a atn $end $var wire 8 c CLOCK $end\n\
-              $var wire 1 ! D1 [3] $end\n$enddefinitions $end\n$var wire 1 z LATE $end\n",
+              $var wire 1 ! D1 [3] $end $var real 1 r R $end $var realtime 1 t RT $end $var string 1 s S $end $var event 1 e E $end\n$enddefinitions $end\n$var wire 1 z LATE $end\n",
             Recording::Dump,
             "  line 4: $enddefinitions $end\n  CLOCK is looked for as CLOCK,",
             "  the recording has the signals atn, D1",
