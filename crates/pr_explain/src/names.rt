@@ -157,6 +157,14 @@ fn after_spaces(bytes: &[u8]) -> &[u8]
     &[]
 }
 
+/// Adds which column of a table is that of the time, by the line of their names.
+pub fn push_time_column(text: &mut Vec<u8>, line: &[u8]) -> Result<(), NoMemory> {
+    let (time, _) = split_field(line);
+    push(text, "  the first column, called ")?;
+    push_cut(text, unframed(time))?;
+    push(text, ", is the time in seconds\n")
+}
+
 /// Adds the names of a table's columns, but for that of the time.
 fn push_table_names(text: &mut Vec<u8>, line: &[u8], names: &mut NameList) -> Result<(), NoMemory> {
     let (_time, mut rest) = split_field(line);

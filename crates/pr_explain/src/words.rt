@@ -192,7 +192,11 @@ pub fn foreign_word(before: &[u8], rest: &[u8], wants_number: bool) -> Option<&'
         [b'+' | b'-' | b'*' | b'/' | b'^' | b'=' | b'<' | b'>', ..] => {
             return Some("an operator is");
         }
+        [b'$', b'0'..=b'9' | b'A'..=b'F', ..] => return Some("a hexadecimal number is"),
         [b'%' | b'$', ..] => return Some("a variable is"),
+        [b'\r', ..] => return Some("byte 13 alone for the end of a line is"),
+        [0xef, 0xbb, 0xbf, ..] => return Some("a byte order mark is"),
+        [1, 8, ..] if before.is_empty() => return Some("a saved program is"),
         _ => {}
     }
     match word_at(rest).kind {

@@ -36,7 +36,8 @@ fn unknown_words(rt: HostRuntime) -> Result<(), Fail> {
     told(
         &rt,
         b"\n\nPRINT#4,\r\n",
-        "  PRINT#4,\n          ^\n  line 3, column 9: the end of the line: a list stands behind the comma\n",
+        "  PRINT#4,\n          ^\n  line 3, column 9: the end of the line: a list stands behind the comma: strings between \
+         quotation marks, CHR$(n) and ;\n",
     )
 }
 
@@ -66,7 +67,8 @@ fn common_slips(rt: HostRuntime) -> Result<(), Fail> {
         ),
         (
             "PRINT#4,PRINT",
-            "column 9: \"PRINT\": a list stands behind the comma\n",
+            "column 9: \"PRINT\": a list stands behind the comma: strings between \
+         quotation marks, CHR$(n) and ;\n",
         ),
         (
             "OPEN 1,4,7,\"NAME\"",
@@ -122,7 +124,8 @@ fn numbers_and_variables(rt: HostRuntime) -> Result<(), Fail> {
         (
             "PRINT#4,12",
             "column 9: \"12\": ",
-            "a list stands behind the comma\n",
+            "a list stands behind the comma: strings between \
+         quotation marks, CHR$(n) and ;\n",
             number,
             "",
         ),

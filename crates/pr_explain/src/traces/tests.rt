@@ -167,8 +167,18 @@ fn bad_lines(rt: HostRuntime) -> Result<(), Fail> {
     let line_is =
         "\n  a line is a time in microseconds, a space, and a digit each for ATN, CLOCK and DATA \
                    (1 released, 0 pulled), as in 100 001\n";
-    let rows: [(&[u8], &str, &str); 3] = [
+    let rows: [(&[u8], &str, &str); 5] = [
         (b"0 121", "  line 1: 0 121", ""),
+        (
+            b"$date today $end\n",
+            "  line 1: $date today $end",
+            "  --from vcd reads Value Change Dumps, which have such lines\n",
+        ),
+        (
+            b"Time,ATN\n",
+            "  line 1: Time,ATN",
+            "  --from csv reads tables, which have such lines\n",
+        ),
         (b"0 111\n\r\nx", "  line 2: ", ""),
         (
             b"0 111\n0 001\n\x1b[2J\xff\n",

@@ -4,7 +4,7 @@ use super::*;
 
 #[test]
 fn words_of_basic(rt: HostRuntime) {
-    let rows: [(&[u8], Option<&str>); 13] = [
+    let rows: [(&[u8], Option<&str>); 17] = [
         (b"FOR I=1", Some("this word of BASIC is")),
         (b"goto10", Some("this word of BASIC is")),
         (b"TAB(5)", Some("this word of BASIC is")),
@@ -12,6 +12,10 @@ fn words_of_basic(rt: HostRuntime) {
         (b"#4", Some("# with a space before it is")),
         (b"+\"B\"", Some("an operator is")),
         (b"$", Some("a variable is")),
+        (b"$41", Some("a hexadecimal number is")),
+        (b"\r", Some("byte 13 alone for the end of a line is")),
+        (b"\xef\xbb\xbf10", Some("a byte order mark is")),
+        (b"\x01\x08", None),
         (b"A$", Some("a variable is")),
         (b"AB%", Some("a variable is")),
         (b"A1", Some("a variable or another word is")),
@@ -22,6 +26,15 @@ fn words_of_basic(rt: HostRuntime) {
     for (rest, wanted) in rows {
         assert_eq!(rt; foreign_word(b"PRINT ", rest, false), wanted);
     }
+}
+
+/// A file as the computer saves programs begins so.
+#[test]
+fn saved_programs(rt: HostRuntime) {
+    assert_eq!(rt;
+        foreign_word(b"", b"\x01\x08\x0c\x08", false),
+        Some("a saved program is")
+    );
 }
 
 /// Where a number is wanted, letters are a variable.
