@@ -1,12 +1,18 @@
 -- The row of a bit that stands, against the table.
-use Rattle.std.proofs.Common.{◌≡◌, ◌+◌, ◌++◌, ◌∷◌, [], length, ℕ, Bool, true, false, not, ◌&&◌, ◌||◌, List, Some, None, Ok, Err, refl, ap, ◌∙◌}
+use Rattle.std.proofs.Common.{◌≡◌, ◌+◌, ◌++◌, ◌∷◌, [], length, ℕ, Bool, true, false, not, ◌&&◌, ◌||◌, List, Option, Some, None, IfSome, Result, Ok, Err, refl, ap, ◌∙◌, arith, get_or}
 use Rattle.std.specs.Prelude.{if◌then◌else◌, nat_lt}
 use Rattle.pr_wire.specs.declared.place.Sending.{Sending}
 use Rattle.pr_wire.specs.declared.place.Place.{Place}
 use Rattle.pr_wire.specs.declared.place.Place.TheVariants.{Bit, High}
-use Rattle.pr_wire.specs.declared.place.Flaw.TheVariants.{TooEarly, TooLate}
-use Rattle.pr_wire.specs.Table.{atn_of, is_late, same, timed, where_true, within}
-use Rattle.pr_explain.specs.Rows.{is_step, is_taken, lies}
+use Rattle.pr_wire.specs.declared.Levels.{Levels}
+use Rattle.pr_wire.specs.declared.place.Step.{Step}
+use Rattle.pr_wire.specs.declared.place.Flaw.{Flaw}
+use Rattle.pr_wire.specs.declared.place.Flaw.TheVariants.{Order, TooEarly, TooLate}
+use Rattle.pr_wire.specs.Table.{atn_of, differ, is_late, same, timed, where_true, within}
+use Rattle.pr_explain.specs.declared.rows.Row.{Row}
+use Rattle.std.specs.List.{list_any}
+use Rattle.pr_wire.specs.declared.Edge.{Edge}
+use Rattle.pr_explain.specs.Rows.{is_step, is_taken, lead_apart, lies, takes}
 
 -- an edge lies in an interval
 abbrev inside : ℕ → ℕ → ℕ → Bool
@@ -69,3 +75,43 @@ high_rows u t s eoi seen b x true l few = neither (same (atn_of s) x)
 high_rows u t s eoi seen b x false l few =
     rw few (ap (λ p. (p && (same false l && inside (u + 20) (u + 200) t)) || ((p && (same true l && inside (u + 20) (u + 200) t)) || false)) (same_comm (atn_of s) x)
     ∙ (either (same x (atn_of s)) (inside (u + 20) (u + 200) t) l ∙ in_row t (u + 20) (u + 200) (Bit t s eoi (seen ++ b ∷ []) l) (same x (atn_of s))))
+
+-- rows to levels that differ lead apart
+pub to_others : (a b : Option Row) (l m : Levels) → IfSome a (λ r. r.levels ≡ l) → IfSome b (λ s. s.levels ≡ m) → differ l m ≡ true → lead_apart a b ≡ true
+to_others a None l m x y h = refl
+to_others None (Some s) l m x y h = refl
+to_others (Some r) (Some s) l m x y h = rw (x, y) h
+
+-- a test that each of three is under is a test of them together
+distribute : (p q r f : Bool) → (p && f) || ((q && f) || ((r && f) || false)) ≡ f && (p || (q || (r || false)))
+distribute true q r true = refl
+distribute false true r true = refl
+distribute false false true true = refl
+distribute false false false true = refl
+distribute true true true false = refl
+distribute true true false false = refl
+distribute true false true false = refl
+distribute true false false false = refl
+distribute false true true false = refl
+distribute false true false false = refl
+distribute false false true false = refl
+distribute false false false false = refl
+
+-- an edge out of order is not taken
+in_order : (f : Bool) (s : Result Step Flaw) → f && is_step s ≡ is_step (if f then s else Err Order)
+in_order true s = refl
+in_order false s = refl
+
+-- three rows behind the last edge take what the rows do, where the order is kept
+pub behind_rows : (a b c p q r f : Bool) (s : Result Step Flaw) → a ≡ p && f → b ≡ q && f → c ≡ r && f → p || (q || (r || false)) ≡ is_step s
+    → a || (b || (c || false)) ≡ is_step (if f then s else Err Order)
+behind_rows a b c p q r f s x y z h = rw (x, y, z) (distribute p q r f ∙ (ap (λ t. f && t) h ∙ in_order f s))
+
+-- an edge is taken by one of three rows as by one of their list
+pub any_of_three : (rows : List (Option Row)) (e : Edge) → length rows ≡ 3
+    → takes (get_or rows 0 None) e || (takes (get_or rows 1 None) e || (takes (get_or rows 2 None) e || false)) ≡ list_any (λ row. takes row e) rows
+any_of_three [] e h = absurd (omega arith)
+any_of_three (a ∷ []) e h = absurd (omega arith)
+any_of_three (a ∷ b ∷ []) e h = absurd (omega arith)
+any_of_three (a ∷ b ∷ c ∷ []) e h = refl
+any_of_three (a ∷ b ∷ c ∷ d ∷ more) e h = absurd (omega arith)

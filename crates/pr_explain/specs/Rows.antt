@@ -1,12 +1,12 @@
 -- Trusted: which edges a row of the table takes, and which a place takes.
-use Rattle.std.specs.Prelude.{◌≡◌, ℕ, ◌<◌, ◌^◌, List, Bool, true, false, not, ◌&&◌, Option, Some, None, Result, Ok, Err, nat_lt}
-use Rattle.std.specs.List.{list_any}
+use Rattle.std.specs.Prelude.{◌≡◌, ℕ, ◌<◌, ◌^◌, List, [], ◌∷◌, Bool, true, false, not, ◌&&◌, Option, Some, None, Result, Ok, Err, nat_lt}
+use Rattle.std.specs.List.{list_all, list_any}
 use Rattle.pr_wire.specs.declared.Levels.{Levels}
 use Rattle.pr_wire.specs.declared.Edge.{Edge}
 use Rattle.pr_wire.specs.declared.place.Step.{Step}
 use Rattle.pr_wire.specs.declared.place.Flaw.{Flaw}
 use Rattle.pr_wire.specs.declared.place.Place.{Place}
-use Rattle.pr_wire.specs.Table.{by_row, is_late, same}
+use Rattle.pr_wire.specs.Table.{by_row, differ, is_late, same, verdict}
 use Rattle.pr_explain.specs.declared.rows.Row.{Row}
 
 -- an edge has these levels, and lies in this interval
@@ -24,6 +24,17 @@ abbrev pub has_moment : Option Row → Bool
 has_moment None = true
 has_moment (Some r) = not (is_late r.earliest r.latest)
 
+-- two rows lead to other levels, if there are two
+abbrev pub lead_apart : Option Row → Option Row → Bool
+lead_apart r None = true
+lead_apart None (Some s) = true
+lead_apart (Some r) (Some s) = differ r.levels s.levels
+
+-- no two rows lead to the same levels
+abbrev pub all_lead_apart : List (Option Row) → Bool
+all_lead_apart [] = true
+all_lead_apart (r ∷ rs) = list_all (lead_apart r) rs && all_lead_apart rs
+
 -- it is taken
 abbrev pub is_step : Result Step Flaw → Bool
 is_step (Ok step) = true
@@ -36,3 +47,11 @@ is_taken p e = is_step (by_row p e)
 -- these are the rows at a place: an edge is taken there exactly if one of them takes it
 abbrev pub AreRows : List (Option Row) → Place → Type 0
 AreRows rows p = (e : Edge) → e.time < 2 ^ 64 → list_any (λ row. takes row e) rows ≡ is_taken p e
+
+-- an edge is later than the last one, and has other levels
+abbrev pub comes_after : Edge → Edge → Bool
+comes_after last e = nat_lt last.time e.time && differ last.levels e.levels
+
+-- these are the rows at a place behind the last edge: an edge may follow it there exactly if one of them takes it
+abbrev pub AreRowsBehind : List (Option Row) → Edge → Place → Type 0
+AreRowsBehind rows last p = (e : Edge) → e.time < 2 ^ 64 → list_any (λ row. takes row e) rows ≡ is_step (verdict last p e)

@@ -1,8 +1,8 @@
 //! The faults of recordings.
 
-use crate::names::push_names;
+use crate::names::{push_names, push_time_column};
 use crate::recordings::Recording;
-use crate::texts::{line_at, push, push_cut, push_line};
+use crate::texts::{has_comma, line_with, push, push_cut, push_line, without_end};
 use pr_capture::{CaptureFault, Signals, Wire};
 use pr_wire::NoMemory;
 
@@ -43,6 +43,34 @@ fn push_missing(text: &mut Vec<u8>, wire: Wire, signals: Signals<'_>) -> Result<
     push(text, ", and no signal of one bit has that name\n")
 }
 
+/// Why a line can not name the columns of a table.
+fn no_names(line: &[u8]) -> Option<&'static str> {
+    if without_end(line).is_empty() {
+        Some("  the table has no line that names its columns\n")
+    } else if line.starts_with(b"$") {
+        Some("  --from vcd reads Value Change Dumps, which have such lines\n")
+    } else if !has_comma(line) {
+        Some("  commas part the fields of a table, and the line of its names has none\n")
+    } else {
+        None
+    }
+}
+
+/// Adds which name no column of a table has, and the names that this line gives.
+fn push_columns(
+    text: &mut Vec<u8>,
+    line: &[u8],
+    wire: Wire,
+    signals: Signals<'_>,
+) -> Result<(), NoMemory> {
+    if let Some(words) = no_names(line) {
+        return push(text, words);
+    }
+    push_missing(text, wire, signals)?;
+    push_time_column(text, line)?;
+    push_names(text, &[], line, Recording::Table)
+}
+
 /// What a dump has where it has this fault.
 fn rule_of_dumps(fault: CaptureFault) -> &'static str {
     match fault {
@@ -52,7 +80,8 @@ fn rule_of_dumps(fault: CaptureFault) -> &'static str {
         }
         CaptureFault::NoEnd(_) => "the section that begins here has no $end",
         CaptureFault::NoDefinitions(_) => {
-            "the header of a dump ends with $enddefinitions $end; --from csv reads tables"
+            "the header of a dump ends with $enddefinitions $end; --from csv reads tables, and without --from \
+             a trace text is read"
         }
         CaptureFault::NoTimescale(_) => {
             "the header of a dump has $timescale 1 us $end, or 1, 10 or 100 of another unit from fs to s"
@@ -65,7 +94,9 @@ fn rule_of_dumps(fault: CaptureFault) -> &'static str {
 /// What a table has where it has this fault.
 fn rule_of_tables(fault: CaptureFault) -> &'static str {
     match fault {
-        CaptureFault::BadTime(_) => "a row begins with its time in seconds, as in 0.000125",
+        CaptureFault::BadTime(_) => {
+            "a row begins with its time in seconds, digits with or without decimals, as in 0.000125"
+        },
         _ => rule_of_both(fault),
     }
 }
@@ -79,7 +110,7 @@ fn rule_of_both(fault: CaptureFault) -> &'static str {
             "x says that the level is not known; a level of the three lines is 0 or 1"
         }
         CaptureFault::Floating(_) => {
-            "z says that nobody drives the line; a level of the three lines is 0 or 1"
+            "z says that nobody drives the line; a level of the three lines is 0 or 1, and a pull-up makes it 1"
         }
         CaptureFault::BadLevel(_) => "a level of the three lines is 0 or 1",
         _ => "this can not stand here",
@@ -97,13 +128,16 @@ pub fn push_capture_fault(
     let Some(number) = line_of(fault) else {
         return Ok(());
     };
-    let (_, line) = line_at(recording, number);
+    let (_, line) = line_with(recording, number);
     push_line(text, number, line)?;
     match fault {
-        CaptureFault::NoSignal(_, wire) => {
-            push_missing(text, wire, signals)?;
-            push_names(text, recording, line, kind)
-        }
+        CaptureFault::NoSignal(_, wire) => match kind {
+            Recording::Dump => {
+                push_missing(text, wire, signals)?;
+                push_names(text, recording, line, kind)
+            }
+            Recording::Table => push_columns(text, line, wire, signals),
+        },
         _ => {
             push(text, "  ")?;
             push(

@@ -19,6 +19,9 @@ enum Context {
 /// That an OPEN has no name.
 const NO_NAME: &str = "a printer's OPEN takes no file name: OPEN file,device,secondary ends here";
 
+/// That CHR$ has another number.
+const CODE: &str = "CHR$ has a number from 0 to 255";
+
 /// What can stand behind some bytes of a line, where this is the fault.
 pub fn expected_at(before: &[u8], rest: &[u8], fault: ScriptFault) -> &'static str {
     let context = context_of(before);
@@ -27,17 +30,20 @@ pub fn expected_at(before: &[u8], rest: &[u8], fault: ScriptFault) -> &'static s
         ScriptFault::BadNumber(_) => match context {
             Context::Start => "a line number is at most 63999",
             Context::Open | Context::Close | Context::File => {
-                "a file number of at most 255 stands here"
+                "a file number from 0 to 255 stands here"
             }
-            Context::List => "CHR$ has a number of at most 255",
+            Context::List => CODE,
         },
-        ScriptFault::BadDevice(_) => "a comma and a device of 4 to 30 stand behind the file",
+        ScriptFault::BadDevice(_) => match last_of(before) {
+            Some(b',') => "a device from 4 to 30 stands here",
+            _ => "a comma and a device from 4 to 30 stand behind the file",
+        },
         ScriptFault::BadSecond(_) => match rest {
             [b'"', ..] => NO_NAME,
-            _ => "a secondary address of at most 15 stands here",
+            _ => "a secondary address from 0 to 15 stands here",
         },
         ScriptFault::BadByte(_) => match rest {
-            [b'0'..=b'9', ..] => "CHR$ has a number of at most 255",
+            [b'0'..=b'9', ..] if !is_in_string(before) => CODE,
             _ => "a string has the bytes 32 to 126; CHR$(n) gives the others",
         },
         ScriptFault::TooLong(_) => "a list has at most 255 bytes",
@@ -74,12 +80,18 @@ fn expected_in_list(before: &[u8], rest: &[u8]) -> &'static str {
         Some(b'$') => "( stands behind CHR$",
         Some(b'(') => "a number stands here",
         Some(b'0'..=b'9') => ") stands behind the number",
-        Some(b',') => "a list stands behind the comma",
+        Some(b',') => "a list stands behind the comma: strings between quotation marks, CHR$(n) and ;",
         _ => match rest {
             [b',', ..] => "; and not , stands between the parts of a list here",
             _ => "a string, CHR$(n) or ; can stand here",
         },
     }
+}
+
+/// Whether an item of a list can stand behind these bytes of a line.
+pub fn takes_item(before: &[u8]) -> bool {
+    context_of(before) == Context::List
+        && !matches!(last_of(before), Some(b'$' | b'(' | b'0'..=b'9'))
 }
 
 /// Whether a statement can not end behind these bytes of it. In a list a digit belongs to a CHR$ that has
@@ -122,6 +134,17 @@ fn context_of(before: &[u8]) -> Context {
     } else {
         Context::List
     }
+}
+
+/// Whether a string has begun in these bytes of a line, and not ended.
+pub fn is_in_string(before: &[u8]) -> bool {
+    let mut is_quoted = false;
+    for byte in before {
+        if *byte == b'"' {
+            is_quoted = !is_quoted;
+        }
+    }
+    is_quoted
 }
 
 /// What stands behind the last colon outside strings.

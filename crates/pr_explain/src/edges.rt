@@ -1,7 +1,7 @@
 //! Why edges are no lawful trace.
 
-use crate::places::{push_place, push_rows};
-use crate::rows::rows_from;
+use crate::places::{LAST_MOMENT, push_place, push_rows};
+use crate::rows::{Row, rows_behind};
 use crate::texts::{Origin, push, push_edge, push_number};
 use pr_wire::{Edge, Flaw, Levels, NoMemory, Place};
 
@@ -57,7 +57,15 @@ pub fn push_edges(
         };
     };
     if !first.is_start() {
-        return push_start(text, edges, *first, origin);
+        push_indexed(text, 0, *first, origin)?;
+        push(
+            text,
+            "  a trace begins with 0 111, all lines released at time 0\n",
+        )?;
+        return match origin {
+            Origin::Text => Ok(()),
+            Origin::Recording(start) => push_start(text, edges, start, is_whole),
+        };
     }
     match follow(*first, others) {
         Err(refused) => push_refused(text, &refused, origin),
@@ -82,31 +90,34 @@ fn push_no_edge(text: &mut Vec<u8>, origin: Origin) -> Result<(), NoMemory> {
     )
 }
 
-/// Adds that the first edge is no start, and of a recording where its trace may start.
+/// Adds where a recording may have the start of its trace, by its edges from a moment on, all of them or
+/// those before its fault.
 fn push_start(
     text: &mut Vec<u8>,
     edges: &[Edge],
-    first: Edge,
-    origin: Origin,
+    start: u64,
+    is_whole: bool,
 ) -> Result<(), NoMemory> {
-    push_indexed(text, 0, first, origin)?;
     push(
         text,
-        "  a trace begins with 0 111, all lines released at time 0\n",
+        "  --from-time US says at which microsecond of the recording the trace starts; ",
     )?;
-    let Origin::Recording(start) = origin else {
-        return Ok(());
-    };
-    push(
-        text,
-        "  --from-time US says at which microsecond of the recording the trace starts",
-    )?;
+    if start > 0 {
+        push(text, "from ")?;
+        push_number(text, start)?;
+        push(text, " on, ")?;
+    }
     match first_released(edges) {
         Some(edge) => {
-            push(text, "; all three lines are first released at ")?;
+            push(text, "all three lines are first released at ")?;
             push_number(text, start.saturating_add(edge.time))?;
         }
-        None => push(text, "; in this one the three lines are never all released")?,
+        None => {
+            if !is_whole {
+                push(text, "as far as the recording can be read, ")?;
+            }
+            push(text, "the three lines are never all released")?;
+        }
     }
     if let Some(edge) = first_idle(edges) {
         push(text, ", and an attention follows first behind ")?;
@@ -195,7 +206,7 @@ fn push_behind(
     push(text, "\n  the place there: ")?;
     push_place(text, place, origin)?;
     push(text, "\n")?;
-    push_rows(text, place, origin)
+    push_rows(text, place, last, origin)
 }
 
 /// Adds the first edge that is not lawful, and what is wrong with it.
@@ -209,34 +220,36 @@ fn push_refused(text: &mut Vec<u8>, refused: &Refused, origin: Origin) -> Result
         }
         Flaw::Order => push(text, "  it has the levels of the edge before it\n"),
         Flaw::Shape => push(text, "  no edge to its levels may follow\n"),
-        Flaw::TooEarly | Flaw::TooLate => push_miss(text, edge, &refused.place),
+        Flaw::TooEarly | Flaw::TooLate => push_miss(text, last, edge, &refused.place),
     }
 }
 
-/// Whether two levels are the same.
-fn are_same(one: Levels, other: Levels) -> bool {
-    one.atn == other.atn && one.clock == other.clock && one.line == other.line
+/// The row to these levels behind the last edge at a place.
+fn row_to(levels: Levels, place: &Place, last: Edge) -> Option<Row> {
+    for row in rows_behind(place, last) {
+        if row.is_some_and(|row| row.levels == levels) {
+            return row;
+        }
+    }
+    None
 }
 
 /// Adds by how much an edge missed the interval of its levels.
-fn push_miss(text: &mut Vec<u8>, edge: Edge, place: &Place) -> Result<(), NoMemory> {
-    for row in rows_from(place) {
-        let Some(row) = row else {
-            continue;
-        };
-        if !are_same(row.levels, edge.levels) {
-            continue;
-        }
-        if edge.time < row.earliest {
-            push_by(text, row.earliest - edge.time, "early")?;
-        }
-        if let Some(latest) = row.latest {
-            if edge.time > latest {
-                push_by(text, edge.time - latest, "late")?;
-            }
-        }
+fn push_miss(text: &mut Vec<u8>, last: Edge, edge: Edge, place: &Place) -> Result<(), NoMemory> {
+    let Some(row) = row_to(edge.levels, place, last) else {
+        push(
+            text,
+            "  an edge to its levels would have to come later than ",
+        )?;
+        return push(text, LAST_MOMENT);
+    };
+    if edge.time < row.earliest {
+        return push_by(text, row.earliest - edge.time, "early");
     }
-    Ok(())
+    match row.latest {
+        Some(latest) if edge.time > latest => push_by(text, edge.time - latest, "late"),
+        _ => Ok(()),
+    }
 }
 
 /// Adds by how many microseconds an edge comes too early or too late.
@@ -259,9 +272,15 @@ fn push_by(text: &mut Vec<u8>, missed: u64, when: &str) -> Result<(), NoMemory> 
 fn push_end(text: &mut Vec<u8>, led: &Led, origin: Origin) -> Result<(), NoMemory> {
     push_brackets(text, origin)?;
     push_behind(text, "  the last edge: ", led.last, &led.place, origin)?;
+    if are_released(led.last.levels) {
+        push(
+            text,
+            "  all lines are released here, but a data byte is under way\n",
+        )?;
+    }
     push(
         text,
-        "  a trace may end where all lines are released, behind a data byte, or behind an attention \
-         that did not end with UNLISTEN\n",
+        "  a trace may end at rest (all lines released, and no byte under way), behind a data byte that \
+         a printer has acknowledged, or behind an attention that did not end with UNLISTEN\n",
     )
 }

@@ -88,13 +88,22 @@ fn push_dump_names(text: &mut Vec<u8>, dump: &[u8], names: &mut NameList) -> Res
     Ok(())
 }
 
-/// Adds the name of a signal that has this section, if it has one bit.
+/// Whether signals of a kind have levels: not numbers, texts and events.
+fn has_levels(kind: &[u8]) -> bool {
+    kind != b"real".as_slice()
+        && kind != b"realtime".as_slice()
+        && kind != b"string".as_slice()
+        && kind != b"event".as_slice()
+}
+
+/// Adds the name of a signal that has this section, if it can be a line of the bus: it has levels, and
+/// one bit.
 fn push_signal(text: &mut Vec<u8>, section: &[u8], names: &mut NameList) -> Result<(), NoMemory> {
-    let (_kind, rest) = split_word(section);
+    let (kind, rest) = split_word(section);
     let (size, rest) = split_word(rest);
     let (_code, rest) = split_word(rest);
     let (name, _) = split_word(rest);
-    if size == b"1".as_slice() && !name.is_empty() {
+    if has_levels(kind) && size == b"1".as_slice() && !name.is_empty() {
         names.push(text, name)
     } else {
         Ok(())
@@ -146,6 +155,14 @@ fn after_spaces(bytes: &[u8]) -> &[u8]
         }
     }
     &[]
+}
+
+/// Adds which column of a table is that of the time, by the line of their names.
+pub fn push_time_column(text: &mut Vec<u8>, line: &[u8]) -> Result<(), NoMemory> {
+    let (time, _) = split_field(line);
+    push(text, "  the first column, called ")?;
+    push_cut(text, unframed(time))?;
+    push(text, ", is the time in seconds\n")
 }
 
 /// Adds the names of a table's columns, but for that of the time.

@@ -1,8 +1,11 @@
 //! The places of the table of lawful traces, in words.
 
-use crate::rows::rows_from;
+use crate::rows::{Row, rows_behind};
 use crate::texts::{Origin, push, push_levels, push_moment, push_number};
-use pr_wire::{NoMemory, Place, Sending};
+use pr_wire::{Edge, NoMemory, Place, Sending};
+
+/// The greatest moment, in microseconds, and the end of a line about it.
+pub const LAST_MOMENT: &str = "18446744073709551615, the last moment that an edge can have\n";
 
 /// What is sent.
 fn name_of(sending: Sending) -> &'static str {
@@ -138,32 +141,50 @@ pub fn push_place(text: &mut Vec<u8>, place: &Place, origin: Origin) -> Result<(
     }
 }
 
-/// Adds a line for each edge that may follow at a place.
-pub fn push_rows(text: &mut Vec<u8>, place: &Place, origin: Origin) -> Result<(), NoMemory> {
-    for row in rows_from(place) {
-        let Some(row) = row else {
-            continue;
-        };
-        push(text, "  could follow: ")?;
-        push_levels(text, row.levels)?;
-        match row.latest {
-            Some(latest) if latest == row.earliest => {
-                push(text, " at ")?;
-                push_moment(text, latest, origin)?;
-            }
-            Some(latest) => {
-                push(text, " from ")?;
-                push_moment(text, row.earliest, origin)?;
-                push(text, " to ")?;
-                push_moment(text, latest, origin)?;
-            }
-            None => {
-                push(text, " from ")?;
-                push_moment(text, row.earliest, origin)?;
-                push(text, " on")?;
-            }
+/// Adds a line for each edge that may follow at a place behind the last one.
+pub fn push_rows(
+    text: &mut Vec<u8>,
+    place: &Place,
+    last: Edge,
+    origin: Origin,
+) -> Result<(), NoMemory> {
+    let mut may_follow = false;
+    for row in rows_behind(place, last) {
+        if let Some(row) = row {
+            may_follow = true;
+            push_row(text, row, origin)?;
         }
-        push(text, "\n")?;
     }
-    Ok(())
+    if may_follow {
+        return Ok(());
+    }
+    push(
+        text,
+        "  no edge could follow: it would have to come later than ",
+    )?;
+    push(text, LAST_MOMENT)
+}
+
+/// Adds a line for an edge that may follow.
+fn push_row(text: &mut Vec<u8>, row: Row, origin: Origin) -> Result<(), NoMemory> {
+    push(text, "  could follow: ")?;
+    push_levels(text, row.levels)?;
+    match row.latest {
+        Some(latest) if latest == row.earliest => {
+            push(text, " at ")?;
+            push_moment(text, latest, origin)?;
+        }
+        Some(latest) => {
+            push(text, " from ")?;
+            push_moment(text, row.earliest, origin)?;
+            push(text, " to ")?;
+            push_moment(text, latest, origin)?;
+        }
+        None => {
+            push(text, " from ")?;
+            push_moment(text, row.earliest, origin)?;
+            push(text, " on")?;
+        }
+    }
+    push(text, "\n")
 }

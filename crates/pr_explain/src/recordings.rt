@@ -5,7 +5,7 @@ ghost use Rattle.pr_explain.specs.Lines.{lines_read};
 
 use crate::capture_faults::push_capture_fault;
 use crate::edges::push_edges;
-use crate::texts::Origin;
+use crate::texts::{Origin, push};
 use pr_capture::{CaptureFault, CsvReader, Gatherer, Signals, VcdReader};
 use pr_wire::{Edge, NoMemory};
 use std::alloc::{AllocError, Global};
@@ -94,7 +94,31 @@ pub fn explain_recording(
     let edges = recorded.edges.as_slice();
     let is_whole = recorded.fault.is_none();
     push_edges(&mut text, edges, Origin::Recording(start), is_whole)?;
+    push_inverted(&mut text, edges, signals)?;
     Ok(text)
+}
+
+/// Adds how a recording is read that begins with all lines pulled, since its probes may stand behind
+/// inverters.
+fn push_inverted(
+    text: &mut Vec<u8>,
+    edges: &[Edge],
+    signals: Signals<'_>,
+) -> Result<(), NoMemory> {
+    let Some(first) = edges.first() else {
+        return Ok(());
+    };
+    if first.levels.atn || first.levels.clock || first.levels.line {
+        return Ok(());
+    }
+    push(
+        text,
+        if signals.is_inverted {
+            "  if nothing is sent there, the levels are not inverted: --invert is not wanted\n"
+        } else {
+            "  if nothing is sent there, the probes stand behind inverters: --invert reads 0 as released\n"
+        },
+    )
 }
 
 /// Reads a recording to its end, or to its first fault.

@@ -1,19 +1,20 @@
 //! The rows of the table of lawful traces at a place.
 
-ghost use Rattle.std.specs.Prelude.{◌≡◌, ◌+◌, ◌^◌, ◌<◌, Some, false, true, length, List, Bool, ℕ};
+ghost use Rattle.std.specs.Prelude.{◌≡◌, ◌+◌, ◌^◌, ◌<◌, ◌&&◌, IfSome, Some, false, true, length, List, Bool, ℕ};
 ghost use Rattle.pr_wire.specs.declared.Edge.{Edge};
 ghost use Rattle.pr_wire.specs.declared.place.Sending.{Sending};
 ghost use Rattle.pr_wire.specs.Delays.{bounds_of};
 ghost use Rattle.std.specs.List.{list_all};
-ghost use Rattle.pr_explain.specs.Rows.{AreRows, has_moment, lies, takes};
+ghost use Rattle.pr_explain.specs.Rows.{AreRows, AreRowsBehind, all_lead_apart, comes_after, has_moment, lies, takes};
 
-use pr_wire::{Kind, Levels, Place, Sending, bounds};
+use pr_wire::{Edge, Kind, Levels, Place, Sending, bounds};
 
 /// The index of a byte's last bit, the highest.
 const LAST_BIT: usize = 7;
 
 /// An edge that may come next: its levels and its interval, both ends included. A moment of 2^64
-/// microseconds or more is left out: no edge has one.
+/// microseconds or more is left out, since no edge has one: near the last moment a row ends there, or is
+/// none.
 #[derive(Clone, Copy, Debug, PartialEq, Eq)]
 pub struct Row {
     /// The levels behind the edge.
@@ -29,6 +30,7 @@ pub struct Row {
 fn between(levels: Levels, since: u64, least: u64, other: u64, greatest: u64) -> Option<Row>
     ensures takes { (e : Edge) → e.time < 2 ^ 64 → takes result e ≡ lies levels (since + least) (Some (other + greatest)) e }
     ensures moments { has_moment result ≡ true }
+    ensures levels { IfSome result (λ row. row.levels ≡ levels) }
 {
     let earliest = since.checked_add(least)?;
     let latest = other.saturating_add(greatest);
@@ -48,6 +50,7 @@ fn by_kind(atn: bool, clock: bool, line: bool, since: u64, kind: Kind) -> Option
     ensures takes { (e : Edge) → e.time < 2 ^ 64 →
         takes result e ≡ lies (record { atn = atn; clock = clock; line = line }) (since + (bounds_of kind).0) (Some (since + (bounds_of kind).2)) e }
     ensures moments { has_moment result ≡ true }
+    ensures levels { IfSome result (λ row. row.levels ≡ record { atn = atn; clock = clock; line = line }) }
 {
     let (least, _, greatest) = bounds(kind);
     let levels = Levels { atn, clock, line };
@@ -58,6 +61,8 @@ fn by_kind(atn: bool, clock: bool, line: bool, since: u64, kind: Kind) -> Option
 fn after_idle(since: u64) -> [Option<Row>; 3]
     ensures rows { AreRows result (Place.Idle since) }
     ensures moments { list_all has_moment result ≡ true }
+    ensures levels { all_lead_apart result ≡ true }
+    ensures three { length result ≡ 3 }
 {
     let (least, _, _) = bounds(Kind::Bb);
     let levels = Levels {
@@ -79,6 +84,8 @@ fn after_idle(since: u64) -> [Option<Row>; 3]
 fn after_call(since: u64) -> [Option<Row>; 3]
     ensures rows { AreRows result (Place.Call since false) }
     ensures moments { list_all has_moment result ≡ true }
+    ensures levels { all_lead_apart result ≡ true }
+    ensures three { length result ≡ 3 }
 {
     let (look, _, _) = bounds(Kind::Aw);
     let levels = Levels {
@@ -98,6 +105,8 @@ fn after_call(since: u64) -> [Option<Row>; 3]
 fn after_answered_call(since: u64) -> [Option<Row>; 3]
     ensures rows { AreRows result (Place.Call since true) }
     ensures moments { list_all has_moment result ≡ true }
+    ensures levels { all_lead_apart result ≡ true }
+    ensures three { length result ≡ 3 }
 {
     let row = by_kind(false, true, false, since, Kind::Aw);
     [row, None, None]
@@ -107,6 +116,8 @@ fn after_answered_call(since: u64) -> [Option<Row>; 3]
 fn after_ready(since: u64, sending: Sending) -> [Option<Row>; 3]
     ensures rows { AreRows result (Place.Ready since sending) }
     ensures moments { list_all has_moment result ≡ true }
+    ensures levels { all_lead_apart result ≡ true }
+    ensures three { length result ≡ 3 }
 {
     let row = by_kind(sending.atn(), true, true, since, Kind::H);
     [row, None, None]
@@ -117,6 +128,8 @@ fn after_ready(since: u64, sending: Sending) -> [Option<Row>; 3]
 fn after_free(since: u64, sending: Sending) -> [Option<Row>; 3]
     ensures rows { AreRows result (Place.Free since sending) }
     ensures moments { list_all has_moment result ≡ true }
+    ensures levels { all_lead_apart result ≡ true }
+    ensures three { length result ≡ 3 }
 {
     let atn = sending.atn();
     let low = by_kind(atn, false, false, since, Kind::Ne);
@@ -133,6 +146,8 @@ fn after_free(since: u64, sending: Sending) -> [Option<Row>; 3]
 fn after_pulse(since: u64, free: u64) -> [Option<Row>; 3]
     ensures rows { AreRows result (Place.Pulse since free) }
     ensures moments { list_all has_moment result ≡ true }
+    ensures levels { all_lead_apart result ≡ true }
+    ensures three { length result ≡ 3 }
 {
     let (least, _, greatest) = bounds(Kind::Ei);
     let (_, _, wait) = bounds(Kind::Ye);
@@ -150,6 +165,8 @@ fn after_pulse(since: u64, free: u64) -> [Option<Row>; 3]
 fn after_answer(since: u64) -> [Option<Row>; 3]
     ensures rows { AreRows result (Place.After since) }
     ensures moments { list_all has_moment result ≡ true }
+    ensures levels { all_lead_apart result ≡ true }
+    ensures three { length result ≡ 3 }
 {
     let low = by_kind(true, false, false, since, Kind::Ry);
     let high = by_kind(true, false, true, since, Kind::Ry);
@@ -160,6 +177,8 @@ fn after_answer(since: u64) -> [Option<Row>; 3]
 fn after_bit(since: u64, sending: Sending, bit: bool) -> [Option<Row>; 3]
     ensures rows { (eoi : Bool) (seen : List Bool) → AreRows result (Place.Bit since sending eoi seen bit) }
     ensures moments { list_all has_moment result ≡ true }
+    ensures levels { all_lead_apart result ≡ true }
+    ensures three { length result ≡ 3 }
 {
     let row = by_kind(sending.atn(), true, bit, since, Kind::S);
     [row, None, None]
@@ -169,6 +188,8 @@ fn after_bit(since: u64, sending: Sending, bit: bool) -> [Option<Row>; 3]
 fn after_high(since: u64, sending: Sending) -> [Option<Row>; 3]
     ensures rows { (eoi : Bool) (seen : List Bool) (bit : Bool) → length seen < 7 → AreRows result (Place.High since sending eoi seen bit) }
     ensures moments { list_all has_moment result ≡ true }
+    ensures levels { all_lead_apart result ≡ true }
+    ensures three { length result ≡ 3 }
 {
     let low = by_kind(sending.atn(), false, false, since, Kind::V);
     let high = by_kind(sending.atn(), false, true, since, Kind::V);
@@ -179,6 +200,8 @@ fn after_high(since: u64, sending: Sending) -> [Option<Row>; 3]
 fn after_last_bit(since: u64, sending: Sending) -> [Option<Row>; 3]
     ensures rows { (eoi : Bool) (seen : List Bool) (bit : Bool) → length seen ≡ 7 → AreRows result (Place.High since sending eoi seen bit) }
     ensures moments { list_all has_moment result ≡ true }
+    ensures levels { all_lead_apart result ≡ true }
+    ensures three { length result ≡ 3 }
 {
     let row = by_kind(sending.atn(), false, true, since, Kind::V);
     [row, None, None]
@@ -189,6 +212,8 @@ fn after_too_many() -> [Option<Row>; 3]
     ensures rows { (since : ℕ) (sending : Sending) (eoi : Bool) (seen : List Bool) (bit : Bool) → 7 < length seen →
         AreRows result (Place.High since sending eoi seen bit) }
     ensures moments { list_all has_moment result ≡ true }
+    ensures levels { all_lead_apart result ≡ true }
+    ensures three { length result ≡ 3 }
 {
     [None, None, None]
 }
@@ -197,6 +222,8 @@ fn after_too_many() -> [Option<Row>; 3]
 fn after_last(since: u64, sending: Sending) -> [Option<Row>; 3]
     ensures rows { (eoi : Bool) (seen : List Bool) → AreRows result (Place.Last since sending eoi seen) }
     ensures moments { list_all has_moment result ≡ true }
+    ensures levels { all_lead_apart result ≡ true }
+    ensures three { length result ≡ 3 }
 {
     let row = by_kind(sending.atn(), false, false, since, Kind::F);
     [row, None, None]
@@ -206,6 +233,8 @@ fn after_last(since: u64, sending: Sending) -> [Option<Row>; 3]
 fn after_ack(since: u64, sending: Sending) -> [Option<Row>; 3]
     ensures rows { (byte : ℕ) → AreRows result (Place.Ack since sending byte) }
     ensures moments { list_all has_moment result ≡ true }
+    ensures levels { all_lead_apart result ≡ true }
+    ensures three { length result ≡ 3 }
 {
     let (next, other) = match sending {
         Sending::First => (
@@ -225,6 +254,8 @@ fn after_ack(since: u64, sending: Sending) -> [Option<Row>; 3]
 fn after_freed(since: u64, unlistened: bool) -> [Option<Row>; 3]
     ensures rows { AreRows result (Place.Freed since unlistened false) }
     ensures moments { list_all has_moment result ≡ true }
+    ensures levels { all_lead_apart result ≡ true }
+    ensures three { length result ≡ 3 }
 {
     let release = by_kind(true, false, true, since, Kind::Dr);
     if unlistened {
@@ -239,6 +270,8 @@ fn after_freed(since: u64, unlistened: bool) -> [Option<Row>; 3]
 fn after_released(since: u64, unlistened: bool) -> [Option<Row>; 3]
     ensures rows { AreRows result (Place.Freed since unlistened true) }
     ensures moments { list_all has_moment result ≡ true }
+    ensures levels { all_lead_apart result ≡ true }
+    ensures three { length result ≡ 3 }
 {
     if unlistened {
         let row = by_kind(true, true, true, since, Kind::Cr);
@@ -251,10 +284,12 @@ fn after_released(since: u64, unlistened: bool) -> [Option<Row>; 3]
 
 /// The rows of the table of lawful traces at a place: at most three edges may follow there. An edge is
 /// taken at the place exactly if one of the rows has its levels and its moment lies within. Each row has
-/// a moment: its earliest is no later than its latest.
+/// a moment: its earliest is no later than its latest. No two rows have the same levels.
 pub fn rows_from(place: &Place) -> [Option<Row>; 3]
     ensures rows { AreRows result place.now }
     ensures moments { list_all has_moment result ≡ true }
+    ensures levels { all_lead_apart result ≡ true }
+    ensures three { length result ≡ 3 }
 {
     match place {
         Place::Idle(since) => after_idle(*since),
@@ -297,6 +332,38 @@ pub fn rows_from(place: &Place) -> [Option<Row>; 3]
             data_released: true,
         } => after_released(*since, *unlistened),
     }
+}
+
+/// A row without the moments that are not later than the last edge; None, where that leaves no moment, or
+/// the last edge has its levels.
+fn behind(row: Option<Row>, last: Edge) -> Option<Row>
+    ensures takes { (e : Edge) → e.time < 2 ^ 64 → takes result e ≡ (takes row e && comes_after last e) }
+    ensures moments { has_moment result ≡ true }
+{
+    let row = row?;
+    if row.levels == last.levels {
+        return None;
+    }
+    let earliest = row.earliest.max(last.time.checked_add(1)?);
+    if row.latest.is_some_and(|latest| latest < earliest) {
+        return None;
+    }
+    Some(Row { earliest, ..row })
+}
+
+/// The rows of the table of lawful traces at a place behind the edge that came last: [`rows_from`], but for
+/// the moments that are not later than that edge, and for a row with its levels. An edge may follow there
+/// exactly if one of the rows has its levels and its moment lies within. Each row has a moment.
+pub fn rows_behind(place: &Place, last: Edge) -> [Option<Row>; 3]
+    ensures rows { AreRowsBehind result last place.now }
+    ensures moments { list_all has_moment result ≡ true }
+{
+    let [first, second, third] = rows_from(place);
+    [
+        behind(first, last),
+        behind(second, last),
+        behind(third, last),
+    ]
 }
 
 #[cfg(test)]

@@ -1,9 +1,9 @@
 //! Why a script is refused.
 
-use crate::context::expected_at;
-use crate::texts::{cut_line, push, push_cut, push_number, push_shown, without_end};
-use crate::words::{foreign_word, word_at};
-use pr_basic::{FaultAt, ScriptFault, basic_number, read_script_at};
+use crate::context::{expected_at, is_in_string, takes_item};
+use crate::texts::{push, push_cut, push_number, push_shown, without_end};
+use crate::words::{foreign_word, is_number, word_at};
+use pr_basic::{FaultAt, LineAt, ScriptFault, basic_number, line_at, read_script_at};
 use pr_wire::NoMemory;
 use std::alloc::{AllocError, Global};
 
@@ -39,30 +39,20 @@ pub fn explain_script(alloc: Global, script: &[u8]) -> Result<Vec<u8>, NoMemory>
             },
         ) => Err(AllocError),
         Err(refused) => {
-            push_fault(&mut text, spot_at(script, refused.place), refused.fault)?;
+            if let Some(line) = line_at(script, refused.place) {
+                push_fault(&mut text, spot_in(line, refused.place), refused.fault)?;
+            }
             Ok(text)
         }
     }
 }
 
-/// The place behind so many bytes of a script.
-fn spot_at(script: &[u8], place: usize) -> Spot<'_> {
-    let mut number: usize = 1;
-    let mut rest = script;
-    let mut left = place;
-    for _ in 0..place {
-        let (line, more) = cut_line(rest);
-        if line.len() > left || more.is_empty() {
-            break;
-        }
-        left -= line.len();
-        number = number.saturating_add(1);
-        rest = more;
-    }
-    let (line, _) = cut_line(rest);
-    let (before, behind) = line.split_at(left.min(line.len()));
+/// The place behind so many bytes of a script, in its line.
+fn spot_in(line: LineAt<'_>, place: usize) -> Spot<'_> {
+    let column = place.saturating_sub(line.start).min(line.bytes.len());
+    let (before, behind) = line.bytes.split_at(column);
     Spot {
-        number,
+        number: line.number,
         before,
         rest: without_end(behind),
     }
@@ -80,19 +70,29 @@ fn push_fault(text: &mut Vec<u8>, spot: Spot<'_>, fault: ScriptFault) -> Result<
         push_number(text, u64::from(label))?;
     }
     push(text, ": ")?;
-    push_word(text, &spot.rest[..word_at(spot.rest).len])?;
+    push_word(text, word_in(spot))?;
     push(text, ": ")?;
     push(text, expected_at(spot.before, spot.rest, fault))?;
     push(text, "\n")?;
     if asks_for_a_word(fault) {
-        push_hints(text, spot)?;
+        push_hints(text, spot, fault)?;
     }
     Ok(())
 }
 
-/// Adds what else there is to say of a word: that spaces stand in it, that it is BASIC that this profile
-/// does not have.
-fn push_hints(text: &mut Vec<u8>, spot: Spot<'_>) -> Result<(), NoMemory> {
+/// The word at a place; inside a string, the byte.
+fn word_in(spot: Spot<'_>) -> &[u8] {
+    let len = if is_in_string(spot.before) {
+        spot.rest.len().min(1)
+    } else {
+        word_at(spot.rest).len
+    };
+    &spot.rest[..len]
+}
+
+/// Adds what else there is to say of a word: that spaces stand in it, that it is a number to print, that it
+/// is BASIC that this profile does not have.
+fn push_hints(text: &mut Vec<u8>, spot: Spot<'_>, fault: ScriptFault) -> Result<(), NoMemory> {
     if let Some(word) = word_at(spot.rest).unspaced() {
         push(text, "  this is ")?;
         push(text, word)?;
@@ -101,7 +101,13 @@ fn push_hints(text: &mut Vec<u8>, spot: Spot<'_>) -> Result<(), NoMemory> {
             " with a space in it; no space stands in a word of BASIC here\n",
         )?;
     }
-    if let Some(name) = foreign_word(spot.before, spot.rest) {
+    if is_number(spot.rest) && takes_item(spot.before) {
+        push(
+            text,
+            "  this is a number; in a list here a number stands in a string, as \"5\", or in CHR$( )\n",
+        )?;
+    }
+    if let Some(name) = foreign_word(spot.before, spot.rest, wants_number(fault)) {
         push(text, "  ")?;
         push(text, name)?;
         push(
@@ -121,6 +127,11 @@ fn asks_for_a_word(fault: ScriptFault) -> bool {
             | ScriptFault::BadDevice(_)
             | ScriptFault::BadSecond(_)
     )
+}
+
+/// Whether a number of this profile was wanted.
+fn wants_number(fault: ScriptFault) -> bool {
+    asks_for_a_word(fault) && !matches!(fault, ScriptFault::UnknownWord(_))
 }
 
 /// Adds the line around a place, and a caret under it.

@@ -106,6 +106,16 @@ pub fn push_cut(text: &mut Vec<u8>, line: &[u8]) -> Result<(), NoMemory> {
     Ok(())
 }
 
+/// Whether a comma stands in a line.
+pub fn has_comma(line: &[u8]) -> bool {
+    for byte in line {
+        if *byte == b',' {
+            return true;
+        }
+    }
+    false
+}
+
 /// A line without its end: byte 10, and byte 13 directly before it or before the text's end.
 pub fn without_end(line: &[u8]) -> &[u8] {
     let line = match line {
@@ -119,7 +129,7 @@ pub fn without_end(line: &[u8]) -> &[u8] {
 }
 
 /// What stands before a line with this number, from 1, and the line with its end.
-pub fn line_at(text: &[u8], number: usize) -> (&[u8], &[u8]) {
+pub fn line_with(text: &[u8], number: usize) -> (&[u8], &[u8]) {
     let mut rest = text;
     for _ in 1..number {
         let (_, more) = cut_line(rest);

@@ -1,7 +1,7 @@
 //! Why a trace text is refused.
 
 use crate::edges::push_edges;
-use crate::texts::{Origin, line_at, push, push_line};
+use crate::texts::{Origin, has_comma, line_with, push, push_line};
 use pr_wire::{NoMemory, TraceFault, read_trace};
 use std::alloc::{AllocError, Global};
 
@@ -23,6 +23,17 @@ pub fn explain_trace(alloc: Global, trace: &[u8]) -> Result<Vec<u8>, NoMemory> {
     Ok(text)
 }
 
+/// How a line is read that begins as one of another format does.
+fn other_format(line: &[u8]) -> &'static str {
+    if line.starts_with(b"$") {
+        "  --from vcd reads Value Change Dumps, which have such lines\n"
+    } else if has_comma(line) {
+        "  --from csv reads tables, which have such lines\n"
+    } else {
+        ""
+    }
+}
+
 /// Adds the line with this number, which spells no edge, and what a line is. Then why the edges before
 /// it are not lawful, if they are not.
 fn push_bad_line(
@@ -31,13 +42,14 @@ fn push_bad_line(
     trace: &[u8],
     number: usize,
 ) -> Result<(), NoMemory> {
-    let (before, line) = line_at(trace, number);
+    let (before, line) = line_with(trace, number);
     push_line(text, number, line)?;
     push(
         text,
         "  a line is a time in microseconds, a space, and a digit each for ATN, CLOCK and DATA (1 \
          released, 0 pulled), as in 100 001\n",
     )?;
+    push(text, other_format(line))?;
     match read_trace(alloc, before) {
         Ok(edges) => push_edges(text, edges.as_slice(), Origin::Text, false),
         Err(TraceFault::BadLine(_)) => Ok(()),

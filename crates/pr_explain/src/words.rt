@@ -2,7 +2,7 @@
 
 ghost use Rattle.std.specs.Prelude.{◌≤◌, length, IfSome};
 
-use pr_text::digit_count;
+use pr_basic::lexeme_at;
 
 /// The most letters and digits of a word that is no word of BASIC (profile).
 const LETTERS: usize = 20;
@@ -32,7 +32,7 @@ pub enum WordKind {
     Letters,
     /// A number.
     Digits,
-    /// One byte, or nothing where the line ends.
+    /// A string, or one other byte, or nothing where the line ends.
     Other,
 }
 
@@ -65,28 +65,35 @@ impl Word {
 pub fn word_at(rest: &[u8]) -> Word
     ensures { result.len ≤ length rest.now }
 {
-    let [first, ..] = rest else {
-        return Word {
-            kind: WordKind::Other,
-            len: 0,
-        };
-    };
-    if first.is_ascii_digit() {
-        return Word {
+    match rest {
+        [first, ..] if first.is_ascii_alphabetic() => match entry_at(rest) {
+            Some(word) => word,
+            None => other_at(rest),
+        },
+        [b'0'..=b'9', ..] => Word {
             kind: WordKind::Digits,
-            len: digit_count(rest),
-        };
-    }
-    if !first.is_ascii_alphabetic() {
-        return Word {
+            len: lexeme_len(rest),
+        },
+        _ => Word {
             kind: WordKind::Other,
-            len: 1,
-        };
+            len: lexeme_len(rest),
+        },
     }
-    match entry_at(rest) {
-        Some(word) => word,
-        None => other_at(rest),
+}
+
+/// How many bytes the lexeme in front has.
+fn lexeme_len(rest: &[u8]) -> usize
+    ensures { result ≤ length rest.now }
+{
+    match lexeme_at(rest) {
+        Some(lexeme) => lexeme.len(),
+        None => 0,
     }
+}
+
+/// Whether a number stands in front.
+pub fn is_number(rest: &[u8]) -> bool {
+    matches!(rest, [b'0'..=b'9', ..] | [b'.', b'0'..=b'9', ..])
 }
 
 /// The word of BASIC in front, if one stands there.
@@ -177,20 +184,25 @@ fn letter_count(rest: &[u8]) -> usize
 }
 
 /// What stands in front, behind the bytes `before` of its line, where it is common BASIC that this profile
-/// does not have: the beginning of a sentence.
-pub fn foreign_word(before: &[u8], rest: &[u8]) -> Option<&'static str> {
+/// does not have: the beginning of a sentence. Where a number is wanted, letters are a variable.
+pub fn foreign_word(before: &[u8], rest: &[u8], wants_number: bool) -> Option<&'static str> {
     match rest {
         [b'?', ..] => return Some("? for PRINT is"),
         [b'#', ..] if parts_print(before) => return Some("# with a space before it is"),
         [b'+' | b'-' | b'*' | b'/' | b'^' | b'=' | b'<' | b'>', ..] => {
             return Some("an operator is");
         }
+        [b'$', b'0'..=b'9' | b'A'..=b'F', ..] => return Some("a hexadecimal number is"),
         [b'%' | b'$', ..] => return Some("a variable is"),
+        [b'\r', ..] => return Some("byte 13 alone for the end of a line is"),
+        [0xef, 0xbb, 0xbf, ..] => return Some("a byte order mark is"),
+        [1, 8, ..] if before.is_empty() => return Some("a saved program is"),
         _ => {}
     }
     match word_at(rest).kind {
         WordKind::Foreign(_) => Some("this word of BASIC is"),
         WordKind::Variable => Some("a variable is"),
+        WordKind::Letters if wants_number => Some("a variable is"),
         WordKind::Letters => Some("a variable or another word is"),
         WordKind::Keyword(_) | WordKind::Digits | WordKind::Other => None,
     }

@@ -109,8 +109,8 @@ fn edges_of_recordings(rt: HostRuntime) -> Result<(), Fail> {
         "  [in brackets: the recording's own microseconds]\n  the last edge: 100 001 [110]\n  the place \
          there: attention, no printer answers yet, since 100 [110]\n  could follow: 000 from 101 [111] to \
          1100 [1110]\n  could follow: 010 at 1100 [1110]\n  could follow: 111 from 1100 [1110] to 2100 \
-         [2110]\n  a trace may end where all lines are released, behind a data byte, or behind an \
-         attention that did not end with UNLISTEN\n",
+         [2110]\n  a trace may end at rest (all lines released, and no byte under way), behind a data byte \
+         that a printer has acknowledged, or behind an attention that did not end with UNLISTEN\n",
     )
 }
 
@@ -137,18 +137,45 @@ fn starts_of_recordings(rt: HostRuntime) -> Result<(), Fail> {
             "#0 1a 0c 0d\n#30 1c\n#40 1d\n#70 0c\n",
             20,
             "  [in brackets: the recording's own microseconds]\n  edge 0: 0 100 [20]\n",
-            "all three lines are first released at 40\n",
+            "from 20 on, all three lines are first released at 40\n",
         ),
         (
             "#0 1a 0c 1d\n",
             0,
             "  edge 0: 0 101\n",
-            "in this one the three lines are never all released\n",
+            "the three lines are never all released\n",
+        ),
+        (
+            "#0 1a 1c 1d\n#9 0a 0c\n",
+            10,
+            "  [in brackets: the recording's own microseconds]\n  edge 0: 0 001 [10]\n",
+            "from 10 on, the three lines are never all released\n",
         ),
     ];
     for (changes, start, edge, end) in rows {
         let wanted = format!(in rt.alloc(); "{edge}{front}{end}")?;
         told_of_dump(&rt, changes, start, wanted.as_str())?;
+    }
+    let unknown = "x says that the level is not known; a level of the three lines is 0 or 1\n";
+    let rows = [
+        (0, "  edge 0: 0 101\n", ""),
+        (
+            1,
+            "  [in brackets: the recording's own microseconds]\n  edge 0: 0 101 [1]\n",
+            "from 1 on, ",
+        ),
+    ];
+    for (start, edge, front_end) in rows {
+        let wanted = format!(in rt.alloc();
+            "  line 3: 0.000005,x,1,1\n  {unknown}{edge}{front}{front_end}as far as the recording can be read, \
+             the three lines are never all released\n"
+        )?;
+        told_of_table(
+            &rt,
+            "0,1,0,1\n0.000005,x,1,1\n0.000009,1,1,1\n",
+            start,
+            wanted.as_str(),
+        )?;
     }
     told_of_table(
         &rt,
@@ -163,22 +190,17 @@ fn starts_of_recordings(rt: HostRuntime) -> Result<(), Fail> {
 fn names_of_signals(rt: HostRuntime) -> Result<(), Fail> {
     let how =
         "\n  --names tells which signals are ATN, CLOCK and DATA, as in --names ATN,CLOCK,DATA\n";
-    let rows: [(&[u8], Recording, &str, &str); 4] = [
+    let rows: [(&[u8], Recording, &str, &str); 3] = [
         (
             b"; remark\nTime [s], \"D 0\" ,CLOCK,\"a,\x1b\"\r\n0,1,1,1\n",
             Recording::Table,
             "  line 2: Time [s], \"D 0\" ,CLOCK,\"a,\\x1B\"\n  ATN is looked for as ATN,",
-            "  the recording has the signals D 0, CLOCK, a,\\x1B",
-        ),
-        (
-            b"",
-            Recording::Table,
-            "  line 1: \n  ATN is looked for as ATN,",
-            "  the recording names no signal of one bit",
+            "  the first column, called Time [s], is the time in seconds\n  the recording has the signals D 0, \
+             CLOCK, a,\\x1B",
         ),
         (
             b"$comment $var wire 1 x ATN $end $timescale 1 us $end\n$var wire 1 a atn $end $var wire 8 c CLOCK $end\n\
-              $var wire 1 ! D1 [3] $end\n$enddefinitions $end\n$var wire 1 z LATE $end\n",
+              $var wire 1 ! D1 [3] $end $var real 1 r R $end $var realtime 1 t RT $end $var string 1 s S $end $var event 1 e E $end\n$enddefinitions $end\n$var wire 1 z LATE $end\n",
             Recording::Dump,
             "  line 4: $enddefinitions $end\n  CLOCK is looked for as CLOCK,",
             "  the recording has the signals atn, D1",
@@ -187,7 +209,7 @@ fn names_of_signals(rt: HostRuntime) -> Result<(), Fail> {
             b"t,1,2,3,4,5,6,7,8,9,10,11,12,13,14,15,16,17,18,19,20,21\n",
             Recording::Table,
             "  line 1: t,1,2,3,4,5,6,7,8,9,10,11,12,13,14,15,16,17,18,19,20,21\n  ATN is looked for as ATN,",
-            "  the recording has the signals 1, 2, 3, 4, 5, 6, 7, 8, 9, 10, 11, 12, 13, 14, 15, 16, 17, 18, 19, 20, ..",
+            "  the first column, called t, is the time in seconds\n  the recording has the signals 1, 2, 3, 4, 5, 6, 7, 8, 9, 10, 11, 12, 13, 14, 15, 16, 17, 18, 19, 20, ..",
         ),
     ];
     for (recording, kind, front, names) in rows {
@@ -196,6 +218,56 @@ fn names_of_signals(rt: HostRuntime) -> Result<(), Fail> {
         )?;
         told(&rt, recording, kind, 0, wanted.as_str())?;
     }
+    Ok(())
+}
+
+/// Of a line that can not name the columns of a table no names are told.
+#[test]
+fn tables_without_names(rt: HostRuntime) -> Result<(), Fail> {
+    let rows: [(&[u8], &str); 4] = [
+        (
+            b"",
+            "  line 1: \n  the table has no line that names its columns\n",
+        ),
+        (
+            b"; remark\n\r\n",
+            "  line 3: \n  the table has no line that names its columns\n",
+        ),
+        (
+            b"\nTime;ATN;CLK;DATA\n0;1;1;1\n",
+            "  line 2: Time;ATN;CLK;DATA\n  commas part the fields of a table, and the line of its names has none\n",
+        ),
+        (
+            b"$date, today $end\n",
+            "  line 1: $date, today $end\n  --from vcd reads Value Change Dumps, which have such lines\n",
+        ),
+    ];
+    for (table, wanted) in rows {
+        told(&rt, table, Recording::Table, 0, wanted)?;
+    }
+    Ok(())
+}
+
+/// Levels that are all pulled at first may be those of inverters.
+#[test]
+fn inverted_recordings(rt: HostRuntime) -> Result<(), Fail> {
+    let table = b"t,ATN,CLK,DATA\n0,0,0,0\n0.001,1,1,0\n0.002,0,0,0\n";
+    let dump = b"$timescale 1 us $end $var wire 1 a ATN $end $var wire 1 c CLK $end $var wire 1 d DATA $end \
+                 $enddefinitions $end #0 1a 1c 1d";
+    let front = "  edge 0: 0 000\n  a trace begins with 0 111, all lines released at time 0\n  --from-time US says \
+                 at which microsecond of the recording the trace starts; the three lines are never all \
+                 released\n  if nothing is sent there, the ";
+    let plain = format!(in rt.alloc();
+        "{front}probes stand behind inverters: --invert reads 0 as released\n"
+    )?;
+    told(&rt, table, Recording::Table, 0, plain.as_str())?;
+    let inverted = format!(in rt.alloc(); "{front}levels are not inverted: --invert is not wanted\n")?;
+    let signals = Signals {
+        is_inverted: true,
+        ..SIGNALS
+    };
+    let text = explain_recording(rt.alloc(), dump, Recording::Dump, signals, 0)?;
+    assert_eq!(rt; text.as_slice(), inverted.as_bytes());
     Ok(())
 }
 
@@ -210,12 +282,12 @@ fn faults_of_tables(rt: HostRuntime) -> Result<(), Fail> {
         ),
         (
             "0,1,1,Z\n",
-            "z says that nobody drives the line; a level of the three lines is 0 or 1",
+            "z says that nobody drives the line; a level of the three lines is 0 or 1, and a pull-up makes it 1",
         ),
         ("0,1,1,2\n", "a level of the three lines is 0 or 1"),
         (
             "start,1,1,1\n",
-            "a row begins with its time in seconds, as in 0.000125",
+            "a row begins with its time in seconds, digits with or without decimals, as in 0.000125",
         ),
     ];
     for (row, rule) in rows {
@@ -273,14 +345,16 @@ fn faults_of_dumps(rt: HostRuntime) -> Result<(), Fail> {
         b"0,1,1,1\n",
         Recording::Dump,
         0,
-        "  line 2: \n  the header of a dump ends with $enddefinitions $end; --from csv reads tables\n",
+        "  line 2: \n  the header of a dump ends with $enddefinitions $end; --from csv reads tables, and without \
+         --from a trace text is read\n",
     )?;
     told(
         &rt,
         b"$var wire 1 a ATN $end\n",
         Recording::Dump,
         0,
-        "  line 2: \n  the header of a dump ends with $enddefinitions $end; --from csv reads tables\n",
+        "  line 2: \n  the header of a dump ends with $enddefinitions $end; --from csv reads tables, and without \
+         --from a trace text is read\n",
     )?;
     told(
         &rt,
@@ -304,7 +378,7 @@ fn names_looked_for(rt: HostRuntime) -> Result<(), Fail> {
     let text = explain_recording(rt.alloc(), b"t,D0,D1,D2\n", Recording::Table, signals, 0)?;
     let wanted =
         b"  line 1: t,D0,D1,D2\n  CLOCK is looked for as D\\xFF, and no signal of one bit has that \
-        name\n  the recording has the signals D0, D1, D2\n  --names tells which signals are ATN, CLOCK and \
+        name\n  the first column, called t, is the time in seconds\n  the recording has the signals D0, D1, D2\n  --names tells which signals are ATN, CLOCK and \
         DATA, as in --names ATN,CLOCK,DATA\n";
     assert_eq!(rt; text.as_slice(), wanted.as_slice());
     Ok(())

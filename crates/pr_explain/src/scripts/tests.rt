@@ -36,7 +36,8 @@ fn unknown_words(rt: HostRuntime) -> Result<(), Fail> {
     told(
         &rt,
         b"\n\nPRINT#4,\r\n",
-        "  PRINT#4,\n          ^\n  line 3, column 9: the end of the line: a list stands behind the comma\n",
+        "  PRINT#4,\n          ^\n  line 3, column 9: the end of the line: a list stands behind the comma: strings between \
+         quotation marks, CHR$(n) and ;\n",
     )
 }
 
@@ -66,7 +67,8 @@ fn common_slips(rt: HostRuntime) -> Result<(), Fail> {
         ),
         (
             "PRINT#4,PRINT",
-            "column 9: \"PRINT\": a list stands behind the comma\n",
+            "column 9: \"PRINT\": a list stands behind the comma: strings between \
+         quotation marks, CHR$(n) and ;\n",
         ),
         (
             "OPEN 1,4,7,\"NAME\"",
@@ -74,7 +76,7 @@ fn common_slips(rt: HostRuntime) -> Result<(), Fail> {
         ),
         (
             "OPEN 1,4,\"NAME\"",
-            "column 10: \"\"\": a printer's OPEN takes no file name: OPEN file,device,secondary ends here\n",
+            "column 10: \"\"NAME\"\": a printer's OPEN takes no file name: OPEN file,device,secondary ends here\n",
         ),
         (
             "OPEN 1,4 7",
@@ -104,6 +106,113 @@ fn common_slips(rt: HostRuntime) -> Result<(), Fail> {
     for (script, wanted) in rows {
         said(&rt, script, wanted)?;
     }
+    Ok(())
+}
+
+/// Numbers and variables where this profile has none, and numbers out of bounds.
+#[test]
+fn numbers_and_variables(rt: HostRuntime) -> Result<(), Fail> {
+    let item = "a string, CHR$(n) or ; can stand here\n";
+    let number =
+        "  this is a number; in a list here a number stands in a string, as \"5\", or in CHR$( )\n";
+    let file = "a file number from 0 to 255 stands here\n";
+    let code = "CHR$ has a number from 0 to 255\n";
+    let foreign = "not among OPEN, CMD, PRINT, PRINT#, CLOSE, REM and CHR$\n";
+    let rows = [
+        ("PRINT 5", "column 7: \"5\": ", item, number, ""),
+        ("PRINT\"A\";.5", "column 10: \".\": ", item, number, ""),
+        (
+            "PRINT#4,12",
+            "column 9: \"12\": ",
+            "a list stands behind the comma: strings between \
+         quotation marks, CHR$(n) and ;\n",
+            number,
+            "",
+        ),
+        (
+            "PRINT CHR$(65 66)",
+            "column 15: \"66\": ",
+            ") stands behind the number\n",
+            "",
+            "",
+        ),
+        (
+            "OPEN 1,4,7X",
+            "column 11: \"X\": ",
+            "the end of OPEN file,device,secondary stands here\n",
+            "  a variable or another word is ",
+            foreign,
+        ),
+        (
+            "PRINT CHR$(A)",
+            "column 12: \"A\": ",
+            code,
+            "  a variable is ",
+            foreign,
+        ),
+        (
+            "OPEN F,4",
+            "column 6: \"F\": ",
+            file,
+            "  a variable is ",
+            foreign,
+        ),
+        (
+            "PRINT#F,\"X\"",
+            "column 7: \"F\": ",
+            file,
+            "  a variable is ",
+            foreign,
+        ),
+        (
+            "PRINT CHR$(-1)",
+            "column 12: \"-\": ",
+            code,
+            "  an operator is ",
+            foreign,
+        ),
+        (
+            "CHR$(-1)",
+            "column 1: \"CHR$\": ",
+            "OPEN, CMD, PRINT, PRINT#, CLOSE or REM can stand here\n",
+            "",
+            "",
+        ),
+        ("PRINT CHR$()", "column 12: \")\": ", code, "", ""),
+        (
+            "OPEN 1",
+            "column 7: the end of the line: ",
+            "a comma and a device from 4 to 30 stand behind the file\n",
+            "",
+            "",
+        ),
+        (
+            "OPEN 1,X",
+            "column 8: \"X\": ",
+            "a device from 4 to 30 stands here\n",
+            "  a variable is ",
+            foreign,
+        ),
+    ];
+    for (script, word, expected, front, end) in rows {
+        let wanted = format!(in rt.alloc(); "{word}{expected}{front}{end}")?;
+        said(&rt, script, wanted.as_str())?;
+    }
+    Ok(())
+}
+
+/// In a string the byte is told, also where a word or a digit begins there.
+#[test]
+fn bytes_in_strings(rt: HostRuntime) -> Result<(), Fail> {
+    let mut script = Vec::new(rt.alloc());
+    script.extend_from_slice(b"PRINT \"")?;
+    for _ in 0..255 {
+        script.push(b'.')?;
+    }
+    script.extend_from_slice(b"PRINT\"\n")?;
+    let text = explain_script(rt.alloc(), script.as_slice())?;
+    let wanted = b"  line 1, column 263: \"P\": a list has at most 255 bytes\n";
+    assert!(rt; text.as_slice().ends_with(wanted));
     Ok(())
 }
 
@@ -163,14 +272,14 @@ fn whole_words(rt: HostRuntime) -> Result<(), Fail> {
         (
             "PRINT CHR$(A$)",
             "\"A$\": ",
-            "CHR$ has a number of at most 255\n",
+            "CHR$ has a number from 0 to 255\n",
             "  a variable is ",
             foreign,
         ),
         (
             "OPEN -1,4",
             "\"-\": ",
-            "a file number of at most 255 stands here\n",
+            "a file number from 0 to 255 stands here\n",
             "  an operator is ",
             foreign,
         ),
@@ -195,18 +304,17 @@ fn other_faults(rt: HostRuntime) -> Result<(), Fail> {
     told(
         &rt,
         b"OPEN 256,4",
-        "  OPEN 256,4\n       ^\n  line 1, column 6: \"256\": a file number of at most 255 stands here\n",
+        "  OPEN 256,4\n       ^\n  line 1, column 6: \"256\": a file number from 0 to 255 stands here\n",
     )?;
     told(
         &rt,
         b"OPEN 4,3",
-        "  OPEN 4,3\n         ^\n  line 1, column 8: \"3\": a comma and a device of 4 to 30 stand behind the \
-         file\n",
+        "  OPEN 4,3\n         ^\n  line 1, column 8: \"3\": a device from 4 to 30 stands here\n",
     )?;
     told(
         &rt,
         b"OPEN 4,4,16",
-        "  OPEN 4,4,16\n           ^\n  line 1, column 10: \"16\": a secondary address of at most 15 stands \
+        "  OPEN 4,4,16\n           ^\n  line 1, column 10: \"16\": a secondary address from 0 to 15 stands \
          here\n",
     )?;
     told(
@@ -217,7 +325,7 @@ fn other_faults(rt: HostRuntime) -> Result<(), Fail> {
     told(
         &rt,
         b"PRINT CHR$(256)",
-        "  PRINT CHR$(256)\n             ^\n  line 1, column 12: \"256\": CHR$ has a number of at most 255\n",
+        "  PRINT CHR$(256)\n             ^\n  line 1, column 12: \"256\": CHR$ has a number from 0 to 255\n",
     )?;
     told(
         &rt,

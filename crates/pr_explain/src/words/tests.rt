@@ -4,7 +4,7 @@ use super::*;
 
 #[test]
 fn words_of_basic(rt: HostRuntime) {
-    let rows: [(&[u8], Option<&str>); 13] = [
+    let rows: [(&[u8], Option<&str>); 17] = [
         (b"FOR I=1", Some("this word of BASIC is")),
         (b"goto10", Some("this word of BASIC is")),
         (b"TAB(5)", Some("this word of BASIC is")),
@@ -12,6 +12,10 @@ fn words_of_basic(rt: HostRuntime) {
         (b"#4", Some("# with a space before it is")),
         (b"+\"B\"", Some("an operator is")),
         (b"$", Some("a variable is")),
+        (b"$41", Some("a hexadecimal number is")),
+        (b"\r", Some("byte 13 alone for the end of a line is")),
+        (b"\xef\xbb\xbf10", Some("a byte order mark is")),
+        (b"\x01\x08", None),
         (b"A$", Some("a variable is")),
         (b"AB%", Some("a variable is")),
         (b"A1", Some("a variable or another word is")),
@@ -20,14 +24,34 @@ fn words_of_basic(rt: HostRuntime) {
         (b"\xff", None),
     ];
     for (rest, wanted) in rows {
-        assert_eq!(rt; foreign_word(b"PRINT ", rest), wanted);
+        assert_eq!(rt; foreign_word(b"PRINT ", rest, false), wanted);
     }
+}
+
+/// A file as the computer saves programs begins so.
+#[test]
+fn saved_programs(rt: HostRuntime) {
+    assert_eq!(rt;
+        foreign_word(b"", b"\x01\x08\x0c\x08", false),
+        Some("a saved program is")
+    );
+}
+
+/// Where a number is wanted, letters are a variable.
+#[test]
+fn variables_in_place_of_numbers(rt: HostRuntime) {
+    assert_eq!(rt; foreign_word(b"OPEN ", b"F,4", true), Some("a variable is"));
+    assert_eq!(rt;
+        foreign_word(b"OPEN ", b"GO", true),
+        Some("this word of BASIC is")
+    );
+    assert!(rt; is_number(b"5") && is_number(b".5") && !is_number(b".") && !is_number(b"-5"));
 }
 
 /// The word of the table counts, and not the letters around it.
 #[test]
 fn lengths_of_words(rt: HostRuntime) {
-    let rows: [(&[u8], WordKind, usize); 18] = [
+    let rows: [(&[u8], WordKind, usize); 19] = [
         (b"TAB(5)", WordKind::Foreign("TAB("), 4),
         (b"FORI=1", WordKind::Foreign("FOR"), 3),
         (b"GOSUB10", WordKind::Foreign("GOSUB"), 5),
@@ -44,7 +68,8 @@ fn lengths_of_words(rt: HostRuntime) {
         (b"HELLO WORLD", WordKind::Letters, 5),
         (b"HHHHHHHHHHHHHHHHHHHHHHHHH", WordKind::Letters, 20),
         (b"0123456789012345678901A", WordKind::Digits, 22),
-        (b"\"A\"", WordKind::Other, 1),
+        (b"\"A\"B", WordKind::Other, 3),
+        (b"+1", WordKind::Other, 1),
         (b"", WordKind::Other, 0),
     ];
     for (rest, kind, len) in rows {
