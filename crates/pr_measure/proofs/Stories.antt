@@ -217,10 +217,10 @@ same-frames before b (Attention a answer look first (Some m) end ∷ ps) h =
     let s : Sending = sending_of b true (byte_sent first) in
     let b' : Behind = after_frame s (byte_sent first) in
     let s' : Sending = sending_of b' true (byte_sent m.sent) in
-    let second : s' ≡ sending.Second = second-told b (byte_sent first) (byte_sent m.sent) h.0 h.1.0 h.1.1 in
+    let second : s' ≡ sending.Second = second-told b (byte_sent first) (byte_sent m.sent) h.0 h.1.0.0 h.1.0.1 in
     cons-frame _ _ _ _ (same-frame s sending.First look first (is-first b (byte_sent first) h.0))
     (cons-frame _ _ _ _ (same-frame s' sending.Second m.look m.sent second)
-    (same-frames (byte_sent m.sent) (after_frame s' (byte_sent m.sent)) ps h.2))
+    (same-frames (byte_sent m.sent) (after_frame s' (byte_sent m.sent)) ps h.1.1))
 same-frames before b (DataByte look sent ∷ ps) h =
     cons-frame _ _ _ _ (same-frame sending.Data sending.Data look sent refl) (same-frames (byte_sent sent) behind.Data ps h.1)
 same-frames before b (Dropped look ∷ ps) h = same-frames before b ps h
