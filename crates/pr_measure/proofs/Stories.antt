@@ -4,7 +4,6 @@ use Rattle.std.specs.Prelude.{◌≢◌, ◌==◌, ◌||◌, nat_lt, is_some, ma
 use Rattle.std.specs.Option.{option_to_list}
 use Rattle.std.proofs.lemmas.Bool.{le-ltb, lt-ltb}
 use Rattle.std.proofs.lemmas.Bool.Decides.{nat_tests}
-use Rattle.std.proofs.lemmas.List.{append_assoc}
 use Rattle.pr_commands.specs.Bytes as command
 use Rattle.pr_wire.specs.declared.place.Sending.{Sending}
 use Rattle.pr_wire.specs.declared.place.Sending.TheVariants as sending
@@ -13,7 +12,7 @@ use Rattle.pr_wire.specs.Pieces.Between.{Resting}
 use Rattle.pr_wire.specs.Pieces.Piece.{Attention, DataByte, Dropped, Unanswered}
 use Rattle.pr_story.specs.declared.timed_frame.TimedFrame.{TimedFrame}
 use Rattle.pr_story.specs.Laws.{TracesTellTheirMoments}
-use Rattle.pr_story.specs.PieceMoments.{frame_timed, piece_timed, pieces_timed, second_timed}
+use Rattle.pr_story.specs.PieceMoments.{frame_timed, pieces_timed}
 use Rattle.pr_story.specs.Moments.{timed_frames}
 use Rattle.pr_story.specs.StoryText.{command_text, frame_line, hex_column, is_data, line_end, moment, saying, story_line, story_lines}
 use Rattle.pr_decode.specs.declared.reading.FrameEnd.TheVariants.{Acknowledged, Cut, Unacknowledged}
@@ -25,9 +24,9 @@ use Rattle.pr_decode.specs.Readings.{readings_of}
 use Rattle.pr_measure.specs.declared.interval.Interval.{Interval}
 use Rattle.pr_measure.specs.declared.line.Behind.{Behind}
 use Rattle.pr_measure.specs.declared.line.Behind.TheVariants as behind
-use Rattle.pr_measure.specs.Intervals.{highest_of, intervals, is_outside, length_of, lowest_of}
+use Rattle.pr_measure.specs.Intervals.{highest_of, intervals, length_of, lowest_of}
 use Rattle.pr_measure.specs.Laws.{AreUsual, AreWithin, LawfulTracesAreTold, UsualTracesAreStories}
-use Rattle.pr_measure.specs.ReadingText.{after_frame, after_reading, all_lines, is_behind_data, line_of, outside_line, outside_lines, outside_text, reading_lines, sending_of, timed_frame}
+use Rattle.pr_measure.specs.ReadingText.{after_frame, after_reading, all_lines, is_behind_data, outside_line, outside_lines, outside_text, reading_lines, sending_of, timed_frame}
 use Rattle.pr_measure.proofs.Lawful.{frame-within}
 
 -- an interval within its bounds has no line
