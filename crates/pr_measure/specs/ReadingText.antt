@@ -63,7 +63,7 @@ cut_end = codes ", cut by the recording's end\n"
 -- the line of a frame
 abbrev pub frame_text : Behind → Transfer → FrameEnd → List ℕ
 frame_text b t (frame.Acknowledged k) = story_line (is_behind_data b) (timed_frame b t k)
-frame_text b t (frame.Unacknowledged k) = byte_place t ++ moment_end (codes ", not acknowledged until ") k
+frame_text b t (frame.Unacknowledged k) = byte_place t ++ moment_end (codes ", not acknowledged, given up at ") k
 frame_text b t frame.Cut = byte_place t ++ cut_end
 
 -- what ended a byte too soon

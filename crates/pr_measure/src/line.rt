@@ -156,7 +156,7 @@ fn push_frame(
         ),
         FrameEnd::Unacknowledged(time) => {
             push_byte_place(text, transfer)?;
-            push_moment_end(text, b", not acknowledged until ", time)
+            push_moment_end(text, b", not acknowledged, given up at ", time)
         }
         FrameEnd::Cut => {
             push_byte_place(text, transfer)?;

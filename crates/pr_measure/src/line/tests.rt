@@ -184,11 +184,11 @@ fn other_bytes(rt: HostRuntime) -> Result<(), Fail> {
     for (reading, wanted) in [
         (
             Reading::Frame(command, FrameEnd::Unacknowledged(2500)),
-            "command 36 at 1100 us, not acknowledged until 2500 us\n",
+            "command 36 at 1100 us, not acknowledged, given up at 2500 us\n",
         ),
         (
             Reading::Frame(letter, FrameEnd::Unacknowledged(2500)),
-            "byte 72 at 1100 us, not acknowledged until 2500 us\n",
+            "byte 72 at 1100 us, not acknowledged, given up at 2500 us\n",
         ),
         (
             Reading::Frame(letter, FrameEnd::Cut),
