@@ -1,4 +1,4 @@
--- The intervals of a lawful trace lie within the profile's bounds, but for joined answers.
+-- The intervals of a lawful trace lie within the profile's bounds.
 use Rattle.std.proofs.Common.{◌≡◌, ℕ, ◌+◌, ◌-◌, Bool, true, false, min, max, List, [], ◌∷◌, ◌++◌, length, Option, Some, None, refl, sym, ap, ◌∙◌, subst, arith}
 use Rattle.std.specs.Option.{option_to_list}
 use Rattle.std.proofs.lemmas.List.{append_assoc}
@@ -11,8 +11,8 @@ use Rattle.pr_decode.specs.PieceReadings.{frame_read, high_times, low_times, pie
 use Rattle.pr_decode.specs.Readings.{greatest, halves, least}
 use Rattle.pr_measure.specs.declared.interval.Interval.{Interval}
 use Rattle.pr_measure.specs.declared.interval.Interval.TheVariants.{Ready, FirstPull, Answer, AnswerLength, PullAfterAnswer, ShortestLow, LongestLow, ShortestHigh, LongestHigh, Acknowledgement}
-use Rattle.pr_measure.specs.Intervals.{if_answered, length_of, lowest_of, unless_answered}
-use Rattle.pr_measure.specs.Laws.{AreWithin, LawfulTracesAreWithin, greatest_lawful}
+use Rattle.pr_measure.specs.Intervals.{highest_of, if_answered, length_of, lowest_of, unless_answered}
+use Rattle.pr_measure.specs.Laws.{AreWithin, LawfulTracesAreWithin}
 use Rattle.pr_measure.specs.Summary.{lengths}
 
 within-more : (low high : ℕ) (ms ns : List ℕ) → AreWithin low high ms → AreWithin low high ns → AreWithin low high (ms ++ ns)
@@ -98,8 +98,8 @@ behind-within x free pull None h = tt
 behind-within x free pull (Some p) h = (after-within p.released pull 1 60 h.3, tt)
 
 -- the intervals of a frame
-frame-within : (i : Interval) (x : Bool) (look : ℕ) (f : FrameTimes) → IsFrame x look f
-    → AreWithin (lowest_of i) (greatest_lawful i) (option_to_list (length_of i (frame_read x look f)))
+pub frame-within : (i : Interval) (x : Bool) (look : ℕ) (f : FrameTimes) → IsFrame x look f
+    → AreWithin (lowest_of i) (highest_of i) (option_to_list (length_of i (frame_read x look f)))
 frame-within Ready x look f h = (after-within look f.free 1 10000 h.free, tt)
 frame-within FirstPull x look f h = first-within x f.free f.pull f.pulse h.opened
 frame-within Answer x look f h = answer-within x f.free f.pull f.pulse h.opened
@@ -113,20 +113,20 @@ frame-within Acknowledgement x look f h = (after-within _ f.ack 1 80 h.ack, tt)
 
 -- those of one frame, those of a piece, and those of pieces
 one-within : (i : Interval) (x : Bool) (look : ℕ) (f : FrameTimes) → IsFrame x look f
-    → AreWithin (lowest_of i) (greatest_lawful i) (lengths i (frame_read x look f ∷ []))
+    → AreWithin (lowest_of i) (highest_of i) (lengths i (frame_read x look f ∷ []))
 one-within i x look f h =
-    within-more (lowest_of i) (greatest_lawful i) (option_to_list (length_of i (frame_read x look f))) [] (frame-within i x look f h) tt
+    within-more (lowest_of i) (highest_of i) (option_to_list (length_of i (frame_read x look f))) [] (frame-within i x look f h) tt
 
 second-within : (i : Interval) (k : ℕ) (m : Option SecondFrame) → IsSecond k m
-    → AreWithin (lowest_of i) (greatest_lawful i) (lengths i (second_read m))
+    → AreWithin (lowest_of i) (highest_of i) (lengths i (second_read m))
 second-within i k None h = tt
 second-within i k (Some m) h = one-within i false m.look m.sent h.1
 
 piece-within : (i : Interval) (b : Between) (p : Piece) → IsPiece b p
-    → AreWithin (lowest_of i) (greatest_lawful i) (lengths i (piece_read p))
+    → AreWithin (lowest_of i) (highest_of i) (lengths i (piece_read p))
 piece-within i b (Unanswered a release) h = tt
 piece-within i b (Attention a answer look first second end) h =
-    within-more (lowest_of i) (greatest_lawful i) (option_to_list (length_of i (frame_read false look first))) (lengths i (second_read second))
+    within-more (lowest_of i) (highest_of i) (option_to_list (length_of i (frame_read false look first))) (lengths i (second_read second))
     (frame-within i false look first h.2) (second-within i first.ack second h.3)
 piece-within i b (DataByte look sent) h = one-within i true look sent h.1
 piece-within i b (Dropped look) h = tt
@@ -138,14 +138,14 @@ lengths-both i (r ∷ rs) ss =
     ∙ sym (append_assoc (option_to_list (length_of i r)) (lengths i rs) (lengths i ss))
 
 pieces-within : (i : Interval) (b : Between) (ps : List Piece) → AreLawful b ps
-    → AreWithin (lowest_of i) (greatest_lawful i) (lengths i (pieces_read ps))
+    → AreWithin (lowest_of i) (highest_of i) (lengths i (pieces_read ps))
 pieces-within i b [] h = tt
 pieces-within i b (p ∷ ps) h =
-    subst (AreWithin (lowest_of i) (greatest_lawful i)) (sym (lengths-both i (piece_read p) (pieces_read ps)))
-    (within-more (lowest_of i) (greatest_lawful i) (lengths i (piece_read p)) (lengths i (pieces_read ps)) (piece-within i b p h.0)
+    subst (AreWithin (lowest_of i) (highest_of i)) (sym (lengths-both i (piece_read p) (pieces_read ps)))
+    (within-more (lowest_of i) (highest_of i) (lengths i (piece_read p)) (lengths i (pieces_read ps)) (piece-within i b p h.0)
     (pieces-within i (after_piece p) ps h.1))
 
 pub lawful-within : TracesSayTheirPieces → LawfulTracesAreWithin
 lawful-within law edges i (pieces, cut) =
-    subst (λ rs. AreWithin (lowest_of i) (greatest_lawful i) (lengths i rs)) (sym (law edges pieces cut))
+    subst (λ rs. AreWithin (lowest_of i) (highest_of i) (lengths i rs)) (sym (law edges pieces cut))
     (pieces-within i (Resting 0) pieces cut.lawful)

@@ -5,3 +5,4 @@ pub mod Parts
 pub mod Surveyed
 pub mod Lines
 pub mod Lawful
+pub mod Stories

@@ -1,5 +1,5 @@
 -- Trusted: the intervals of a reading, in microseconds, each with its name and with the delay of the profile that bounds it.
-use Rattle.std.specs.Prelude.{ℕ, ◌-◌, ◌==◌, nat_lt, Bool, ◌||◌, List, [], ◌∷◌, Option, Some, None, codes, if◌then◌else◌}
+use Rattle.std.specs.Prelude.{ℕ, ◌+◌, ◌-◌, ◌==◌, nat_lt, Bool, ◌||◌, List, [], ◌∷◌, Option, Some, None, codes, if◌then◌else◌}
 use Rattle.pr_wire.specs.declared.delay.Kind.{Kind}
 use Rattle.pr_wire.specs.declared.delay.Kind.TheVariants.{H, Ne, Ye, Ei, Ry, S, V, F}
 use Rattle.pr_wire.specs.Delays.{bounds_of}
@@ -44,11 +44,17 @@ kind_of ShortestHigh = V
 kind_of LongestHigh = V
 kind_of Acknowledgement = F
 
+-- how long DATA is pulled at most in answer to end-or-identify: a reading does not tell how many listeners answer, and the pulls of two
+-- join, of which one begins as early and the other ends as late as the profile has it
+abbrev pub longest_answer : ℕ
+longest_answer = (bounds_of Ye).2 + (bounds_of Ei).2 - (bounds_of Ye).0
+
 -- its least and its greatest length by the profile
 abbrev pub lowest_of : Interval → ℕ
 lowest_of i = (bounds_of (kind_of i)).0
 
 abbrev pub highest_of : Interval → ℕ
+highest_of AnswerLength = longest_answer
 highest_of i = (bounds_of (kind_of i)).2
 
 -- a length lies outside these

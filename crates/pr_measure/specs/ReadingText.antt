@@ -1,5 +1,5 @@
 -- Trusted: what readings say as text: a line for each, and below it a line for each interval outside the profile's bounds.
-use Rattle.std.specs.Prelude.{ℕ, ◌==◌, Bool, true, false, List, [], ◌∷◌, ◌++◌, Option, Some, None, is_some, codes, decimal, if◌then◌else◌}
+use Rattle.std.specs.Prelude.{ℕ, ◌==◌, nat_lt, Bool, true, false, List, [], ◌∷◌, ◌++◌, Option, Some, None, is_some, codes, decimal, if◌then◌else◌}
 use Rattle.pr_commands.specs.Bytes as command
 use Rattle.pr_wire.specs.declared.place.Sending.{Sending}
 use Rattle.pr_wire.specs.declared.place.Sending.TheVariants.{First, Second, Data}
@@ -17,11 +17,12 @@ use Rattle.pr_measure.specs.declared.line.Behind.{Behind}
 use Rattle.pr_measure.specs.declared.line.Behind.TheVariants as behind
 use Rattle.pr_measure.specs.Intervals.{highest_of, intervals, is_outside, length_of, lowest_of, name_of}
 
--- which byte of the bus a frame is: a command is an attention's first, but behind another command, where it is not UNLISTEN, its second
+-- which byte of the bus a frame is: behind a command that began an attention a secondary address, or another command above it, is this
+-- attention's second; every other command, as LISTEN or UNLISTEN, begins one
 abbrev pub sending_of : Behind → (command : Bool) → (byte : ℕ) → Sending
 sending_of b false byte = Data
 sending_of behind.Nothing true byte = First
-sending_of behind.Command true byte = if byte == command.unlisten then First else Second
+sending_of behind.Command true byte = if nat_lt byte command.secondary then First else Second
 sending_of behind.Data true byte = First
 
 -- a data byte stands before
@@ -46,15 +47,15 @@ byte_word true = codes "command "
 byte_word false = codes "byte "
 
 abbrev pub byte_place : Transfer → List ℕ
-byte_place t = byte_word t.opening.command ++ decimal t.byte ++ codes " at " ++ decimal t.opening.look
+byte_place t = byte_word t.opening.command ++ decimal t.byte ++ codes " at " ++ decimal t.opening.look ++ codes " us"
 
 -- a byte begun and not ended: its look, and how many bits came
 abbrev pub glitch_place : Transfer → List ℕ
-glitch_place t = codes "glitch at " ++ decimal t.opening.look ++ codes ", bits " ++ decimal t.bits
+glitch_place t = codes "glitch at " ++ decimal t.opening.look ++ codes " us, bits " ++ decimal t.bits
 
 -- the end of a line with a moment, and that of a line that the end of the recording cuts
 abbrev pub moment_end : List ℕ → (time : ℕ) → List ℕ
-moment_end word time = word ++ decimal time ++ codes "\n"
+moment_end word time = word ++ decimal time ++ codes " us\n"
 
 abbrev pub cut_end : List ℕ
 cut_end = codes ", cut by the recording's end\n"
@@ -62,7 +63,7 @@ cut_end = codes ", cut by the recording's end\n"
 -- the line of a frame
 abbrev pub frame_text : Behind → Transfer → FrameEnd → List ℕ
 frame_text b t (frame.Acknowledged k) = story_line (is_behind_data b) (timed_frame b t k)
-frame_text b t (frame.Unacknowledged k) = byte_place t ++ moment_end (codes ", not acknowledged by ") k
+frame_text b t (frame.Unacknowledged k) = byte_place t ++ moment_end (codes ", not acknowledged, given up at ") k
 frame_text b t frame.Cut = byte_place t ++ cut_end
 
 -- what ended a byte too soon
@@ -98,14 +99,15 @@ outside_lines (i ∷ is) r = outside_line i (length_of i r) ++ outside_lines is 
 unfoldable pub reading_lines : Behind → Reading → List ℕ
 reading_lines b r = line_of b r ++ outside_lines intervals r
 
--- what stands behind an acknowledged byte: behind UNLISTEN the next command begins an attention
-abbrev pub after_frame : (command : Bool) → (byte : ℕ) → Behind
-after_frame false byte = behind.Data
-after_frame true byte = if byte == command.unlisten then behind.Nothing else behind.Command
+-- what stands behind an acknowledged byte: an attention has two commands at most, and UNLISTEN is its last
+abbrev pub after_frame : Sending → (byte : ℕ) → Behind
+after_frame First byte = if byte == command.unlisten then behind.Nothing else behind.Command
+after_frame Second byte = behind.Nothing
+after_frame Data byte = behind.Data
 
 -- what stands behind a reading: only acknowledged bytes count
 abbrev pub after_reading : Behind → Reading → Behind
-after_reading b (Frame t (frame.Acknowledged k)) = after_frame t.opening.command t.byte
+after_reading b (Frame t (frame.Acknowledged k)) = after_frame (sending_of b t.opening.command t.byte) t.byte
 after_reading b r = b
 
 -- the lines of readings

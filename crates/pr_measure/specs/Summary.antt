@@ -3,14 +3,15 @@
 use Rattle.std.specs.Prelude.{ℕ, ◌*◌, nat_le, nat_lt, not, Bool, true, false, List, [], ◌∷◌, ◌++◌, length, Option, Some, None, codes, decimal, if◌then◌else◌}
 use Rattle.std.specs.List.{count_by, filter}
 use Rattle.std.specs.Option.{option_to_list}
-use Rattle.pr_decode.specs.declared.reading.FrameEnd.TheVariants.{Acknowledged}
+use Rattle.pr_decode.specs.declared.reading.FrameEnd.TheVariants.{Unacknowledged}
 use Rattle.pr_decode.specs.declared.reading.Reading.{Reading}
 use Rattle.pr_decode.specs.declared.reading.Reading.TheVariants.{Frame, Glitch}
-use Rattle.pr_decode.specs.Readings.{greatest, least}
+use Rattle.pr_decode.specs.Readings.{greatest, is_settled, least}
 use Rattle.pr_measure.specs.declared.interval.Interval.{Interval}
 use Rattle.pr_measure.specs.Intervals.{highest_of, intervals, is_outside, length_of, lowest_of, name_of}
 
--- a reading is a whole byte; a command; a data byte; a whole byte that is not acknowledged; a byte begun and not ended
+-- a reading is a whole byte; a command; a data byte; a whole byte that is not acknowledged; a byte begun and not ended; a byte, whole or
+-- not, that the end of the recording cuts
 abbrev pub is_frame : Reading → Bool
 is_frame (Frame t end) = true
 is_frame (Glitch t end) = false
@@ -24,13 +25,15 @@ is_data (Frame t end) = not t.opening.command
 is_data (Glitch t end) = false
 
 abbrev pub is_unacknowledged : Reading → Bool
-is_unacknowledged (Frame t (Acknowledged k)) = false
-is_unacknowledged (Frame t end) = true
-is_unacknowledged (Glitch t end) = false
+is_unacknowledged (Frame t (Unacknowledged k)) = true
+is_unacknowledged r = false
 
 abbrev pub is_glitch : Reading → Bool
 is_glitch (Frame t end) = false
 is_glitch (Glitch t end) = true
+
+abbrev pub is_cut : Reading → Bool
+is_cut r = not (is_settled r)
 
 -- how long an interval is in each reading that has it
 abbrev pub lengths : Interval → List Reading → List ℕ
@@ -93,14 +96,15 @@ interval_lines (i ∷ is) rs = interval_line i rs ++ interval_lines is rs
 abbrev pub count_line : List ℕ → ℕ → List ℕ
 count_line word count = word ++ decimal count ++ codes "\n"
 
-abbrev pub counts_text : (frames commands data_bytes unacknowledged glitches : ℕ) → List ℕ
-counts_text frames commands data_bytes unacknowledged glitches =
+abbrev pub counts_text : (frames commands data_bytes unacknowledged glitches cut : ℕ) → List ℕ
+counts_text frames commands data_bytes unacknowledged glitches cut =
     count_line (codes "frames: ") frames ++ count_line (codes "commands: ") commands ++ count_line (codes "data bytes: ") data_bytes
     ++ count_line (codes "not acknowledged: ") unacknowledged ++ count_line (codes "glitches: ") glitches
+    ++ count_line (codes "cut by the recording's end: ") cut
 
 -- the summary of readings
 unfoldable pub summary : List Reading → List ℕ
 summary rs =
     counts_text (count_by is_frame rs) (count_by is_command rs) (count_by is_data rs) (count_by is_unacknowledged rs)
-    (count_by is_glitch rs)
+    (count_by is_glitch rs) (count_by is_cut rs)
     ++ interval_lines intervals rs

@@ -10,7 +10,7 @@ use Rattle.pr_measure.specs.declared.counts.Counts.{Counts}
 use Rattle.pr_measure.specs.declared.survey.Survey.{Survey}
 use Rattle.pr_measure.specs.declared.tally.Tally.{Tally}
 use Rattle.pr_measure.specs.Intervals.{is_outside}
-use Rattle.pr_measure.specs.Summary.{is_command, is_data, is_frame, is_glitch, is_unacknowledged, least_of, lengths, told_exactly}
+use Rattle.pr_measure.specs.Summary.{is_command, is_cut, is_data, is_frame, is_glitch, is_unacknowledged, least_of, lengths, told_exactly}
 
 -- the greatest of some lengths, 0 of none
 abbrev pub greatest_of : List ℕ → ℕ
@@ -41,6 +41,7 @@ pub record HasCounted (rs : List Reading) (c : Counts) : Type 0 where
   pub data_bytes : c.data_bytes ≡ count_by is_data rs
   pub unacknowledged : c.unacknowledged ≡ count_by is_unacknowledged rs
   pub glitches : c.glitches ≡ count_by is_glitch rs
+  pub cut : c.cut ≡ count_by is_cut rs
 
 -- how many readings a survey has taken
 abbrev pub number_taken : Survey → ℕ

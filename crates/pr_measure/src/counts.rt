@@ -3,11 +3,11 @@
 ghost use Rattle.std.specs.Prelude.{◌≡◌, ◌+◌, ◌^◌, ◌<◌, ◌++◌, ◌∷◌, [], List, length, OnOk};
 ghost use Rattle.pr_decode.specs.declared.reading.Reading.{Reading};
 ghost use Rattle.pr_measure.specs.Steps.{counted};
-ghost use Rattle.pr_measure.specs.Summary.{count_line, counts_text, is_command, is_data, is_frame, is_glitch, is_unacknowledged};
+ghost use Rattle.pr_measure.specs.Summary.{count_line, counts_text, is_command, is_cut, is_data, is_frame, is_glitch, is_unacknowledged};
 ghost use Rattle.pr_measure.specs.Taking.{HasCounted};
 
 use crate::adding::push_numbered;
-use pr_decode::{FrameEnd, Reading};
+use pr_decode::{FrameEnd, GlitchEnd, Reading};
 use pr_wire::NoMemory;
 
 /// A count, with one more where a test holds. It stays at its greatest.
@@ -54,7 +54,7 @@ fn is_unacknowledged(reading: &Reading) -> bool
     match reading {
         Reading::Frame(_, FrameEnd::Acknowledged(_)) => false,
         Reading::Frame(_, FrameEnd::Unacknowledged(_)) => true,
-        Reading::Frame(_, FrameEnd::Cut) => true,
+        Reading::Frame(_, FrameEnd::Cut) => false,
         Reading::Glitch(_, _) => false,
     }
 }
@@ -66,6 +66,16 @@ fn is_glitch(reading: &Reading) -> bool
     match reading {
         Reading::Frame(_, _) => false,
         Reading::Glitch(_, _) => true,
+    }
+}
+
+/// Whether a reading is a byte, whole or not, that the end of the recording cuts.
+fn is_cut(reading: &Reading) -> bool
+    ensures { result ≡ is_cut reading.now }
+{
+    match reading {
+        Reading::Frame(_, FrameEnd::Cut) | Reading::Glitch(_, GlitchEnd::Cut) => true,
+        _ => false,
     }
 }
 
@@ -85,6 +95,7 @@ pub(crate) struct Counts {
     data_bytes: u64,
     unacknowledged: u64,
     glitches: u64,
+    cut: u64,
 }
 
 impl Counts {
@@ -98,6 +109,7 @@ impl Counts {
             data_bytes: 0,
             unacknowledged: 0,
             glitches: 0,
+            cut: 0,
         }
     }
 
@@ -111,25 +123,28 @@ impl Counts {
         let data_bytes = counted(self.data_bytes, is_data(reading));
         let unacknowledged = counted(self.unacknowledged, is_unacknowledged(reading));
         let glitches = counted(self.glitches, is_glitch(reading));
+        let cut = counted(self.cut, is_cut(reading));
         Counts {
             frames,
             commands,
             data_bytes,
             unacknowledged,
             glitches,
+            cut,
         }
     }
 
     /// Adds the lines of the counts.
     pub fn push_lines(self, text: &mut Vec<u8>) -> Result<(), NoMemory>
         ensures { OnOk result (text.new.items ≡ text.old.items
-            ++ counts_text self.frames self.commands self.data_bytes self.unacknowledged self.glitches) }
+            ++ counts_text self.frames self.commands self.data_bytes self.unacknowledged self.glitches self.cut) }
     {
         push_count(text, b"frames: ", self.frames)?;
         push_count(text, b"commands: ", self.commands)?;
         push_count(text, b"data bytes: ", self.data_bytes)?;
         push_count(text, b"not acknowledged: ", self.unacknowledged)?;
         push_count(text, b"glitches: ", self.glitches)?;
+        push_count(text, b"cut by the recording's end: ", self.cut)?;
         Ok(())
     }
 }

@@ -2,7 +2,7 @@
 //! it (the Programmer's Reference Guide's timing of the serial bus). All are in microseconds.
 
 ghost use Rattle.std.specs.Prelude.{◌≡◌, ◌-◌};
-ghost use Rattle.pr_measure.specs.Intervals.{acknowledgement_in, if_answered, if_bits, is_outside, kind_of, length_of, name_of, transfer_of, unless_answered};
+ghost use Rattle.pr_measure.specs.Intervals.{acknowledgement_in, highest_of, if_answered, if_bits, is_outside, kind_of, length_of, lowest_of, name_of, transfer_of, unless_answered};
 
 use pr_decode::{FrameEnd, Reading, Transfer};
 use pr_wire::{Kind, bounds};
@@ -16,8 +16,8 @@ pub enum Interval {
     FirstPull,
     /// Ready to DATA's pull, the answer to end-or-identify.
     Answer,
-    /// The length of the answer. Where two listeners answer their pulls join, so a lawful trace has up to
-    /// 250 microseconds here, which lie outside the bounds of one.
+    /// The length of the answer. A reading does not tell how many listeners answer, and the pulls of two
+    /// join: so it may last [`LONGEST_ANSWER`].
     AnswerLength,
     /// The end of the answer to CLOCK's first pull.
     PullAfterAnswer,
@@ -46,6 +46,11 @@ pub const INTERVALS: [Interval; 10] = [
     Interval::LongestHigh,
     Interval::Acknowledgement,
 ];
+
+/// How long DATA is pulled at most in answer to end-or-identify: two listeners pull it as one, of which the
+/// first begins 200 microseconds behind ready at the earliest, and the second 250 at the latest and pulls
+/// for 200 at most.
+const LONGEST_ANSWER: u64 = 250;
 
 /// The byte that a reading tells, as far as it came.
 pub(crate) fn transfer_of(reading: &Reading) -> Transfer
@@ -135,7 +140,7 @@ impl Interval {
         }
     }
 
-    /// The delay of the profile that bounds it.
+    /// The delay of the profile that bounds it; [`Interval::lowest`] and [`Interval::highest`] say how.
     pub fn kind(self) -> Kind
         ensures { result ≡ kind_of self }
     {
@@ -151,12 +156,31 @@ impl Interval {
         }
     }
 
+    /// Its least length by the profile, in microseconds.
+    pub fn lowest(self) -> u64
+        ensures { result ≡ lowest_of self }
+    {
+        let (least, _, _) = bounds(self.kind());
+        least as u64
+    }
+
+    /// Its greatest length by the profile, in microseconds: that of the delay that bounds it, but 250 for
+    /// the length of an answer, since those of two listeners join.
+    pub fn highest(self) -> u64
+        ensures { result ≡ highest_of self }
+    {
+        let (_, _, greatest) = bounds(self.kind());
+        match self {
+            Interval::AnswerLength => LONGEST_ANSWER,
+            _ => greatest as u64,
+        }
+    }
+
     /// Whether a length in microseconds lies outside the profile's bounds.
     pub fn is_outside(self, length: u64) -> bool
         ensures { result ≡ is_outside self length }
     {
-        let (least, _, greatest) = bounds(self.kind());
-        length < least as u64 || length > greatest as u64
+        length < self.lowest() || length > self.highest()
     }
 
     /// How long it is in a reading, in microseconds, where the reading has it. Halves are there once a

@@ -1,8 +1,9 @@
 //! Laws of the definitions, with nothing to run. A caller whose proof needs one calls the function.
 
-ghost use Rattle.pr_measure.specs.Laws.{LawfulTracesAreWithin, LinesAddUp, MiddlesAreLeast};
+ghost use Rattle.pr_measure.specs.Laws.{LawfulTracesAreTold, LawfulTracesAreWithin, LinesAddUp, MiddlesAreLeast, UsualTracesAreStories};
 
 use pr_decode::traces_are_read;
+use pr_story::frames_are_told;
 
 /// A law: with one reading more, its lines stand behind those of the others, by what stands behind these.
 pub fn lines_add_up()
@@ -14,10 +15,21 @@ pub fn middles_are_least()
     ensures { MiddlesAreLeast }
 {}
 
-/// A law: in a lawful trace each interval lies within the profile's bounds, but for the length of an answer
-/// to end-or-identify: those of two listeners join, and may then take up to 250 microseconds.
+/// A law: in a lawful trace each interval lies within the profile's bounds.
 pub fn lawful_traces_are_within()
     ensures { LawfulTracesAreWithin }
 {
     traces_are_read();
+}
+
+/// A law: in a lawful trace each byte has its line of the story, and no other line stands there. Readings do
+/// not tell where ATN is released, so the line `attention` may stand elsewhere, but not where commands are
+/// as computers send them: where each attention begins with LISTEN, UNLISTEN or another command below the
+/// secondary addresses, and has a second one from these on or none, the lines are the story's.
+pub fn lawful_traces_are_told()
+    ensures told { LawfulTracesAreTold }
+    ensures usual { UsualTracesAreStories }
+{
+    traces_are_read();
+    frames_are_told();
 }

@@ -3,22 +3,22 @@
 
 ghost use Rattle.std.specs.Prelude.{◌≡◌, ◌++◌, OnOk};
 ghost use Rattle.pr_measure.specs.Intervals.{length_of};
-ghost use Rattle.pr_measure.specs.ReadingText.{after_reading, byte_place, byte_word, cut_end, frame_text, glitch_end_text, glitch_place, is_behind_data, line_of, moment_end, outside_line, outside_lines, outside_text, reading_lines, sending_of, timed_frame};
+ghost use Rattle.pr_measure.specs.ReadingText.{after_frame, after_reading, byte_place, byte_word, cut_end, frame_text, glitch_end_text, glitch_place, is_behind_data, line_of, moment_end, outside_line, outside_lines, outside_text, reading_lines, sending_of, timed_frame};
 
 use crate::adding::push_numbered;
 use crate::interval::{INTERVALS, Interval};
-use pr_commands::UNLISTEN;
+use pr_commands::{SECONDARY, UNLISTEN};
 use pr_decode::{FrameEnd, GlitchEnd, Reading, Transfer};
 use pr_story::{TimedFrame, push_story_line};
-use pr_wire::{NoMemory, Sending, bounds};
+use pr_wire::{NoMemory, Sending};
 
 /// What stands before a reading, of the acknowledged bytes: it decides whether a command begins an
 /// attention, and whether a line of data bytes goes on.
 #[derive(Clone, Copy, Debug, PartialEq, Eq)]
 pub enum Behind {
-    /// Nothing, or UNLISTEN: the next command begins an attention.
+    /// Nothing, UNLISTEN, or an attention's second command: the next command begins an attention.
     Nothing,
-    /// Another command.
+    /// Another command that began an attention: this one's second may follow.
     Command,
     /// A data byte.
     Data,
@@ -32,13 +32,8 @@ impl Behind {
     {
         match reading {
             Reading::Frame(transfer, FrameEnd::Acknowledged(_)) => {
-                if !transfer.opening.command {
-                    Behind::Data
-                } else if transfer.byte == UNLISTEN {
-                    Behind::Nothing
-                } else {
-                    Behind::Command
-                }
+                let sending = self.sending(transfer.opening.command, transfer.byte);
+                after_frame(sending, transfer.byte)
             }
             _ => self,
         }
@@ -54,7 +49,7 @@ impl Behind {
         match self {
             Behind::Nothing | Behind::Data => Sending::First,
             Behind::Command => {
-                if byte == UNLISTEN {
+                if byte < SECONDARY {
                     Sending::First
                 } else {
                     Sending::Second
@@ -87,6 +82,23 @@ impl Behind {
     }
 }
 
+/// What stands behind an acknowledged byte.
+fn after_frame(sending: Sending, byte: u8) -> Behind
+    ensures { result ≡ after_frame sending byte }
+{
+    match sending {
+        Sending::First => {
+            if byte == UNLISTEN {
+                Behind::Nothing
+            } else {
+                Behind::Command
+            }
+        }
+        Sending::Second => Behind::Nothing,
+        Sending::Data => Behind::Data,
+    }
+}
+
 /// The word for a command or a data byte.
 fn byte_word(command: bool) -> &'static [u8]
     ensures { result.now ≡ byte_word command }
@@ -100,7 +112,8 @@ fn push_byte_place(text: &mut Vec<u8>, transfer: Transfer) -> Result<(), NoMemor
 {
     let word = byte_word(transfer.opening.command);
     push_numbered(text, word, transfer.byte as u64)?;
-    push_numbered(text, b" at ", transfer.opening.look)
+    push_numbered(text, b" at ", transfer.opening.look)?;
+    text.extend_from_slice(b" us")
 }
 
 /// Adds where a byte was begun and not ended, and how many bits came.
@@ -108,15 +121,15 @@ fn push_glitch_place(text: &mut Vec<u8>, transfer: Transfer) -> Result<(), NoMem
     ensures { OnOk result (text.new.items ≡ text.old.items ++ glitch_place transfer) }
 {
     push_numbered(text, b"glitch at ", transfer.opening.look)?;
-    push_numbered(text, b", bits ", transfer.bits as u64)
+    push_numbered(text, b" us, bits ", transfer.bits as u64)
 }
 
-/// Ends a line by a word and a moment.
+/// Ends a line by a word and a moment in microseconds.
 fn push_moment_end(text: &mut Vec<u8>, word: &[u8], time: u64) -> Result<(), NoMemory>
     ensures { OnOk result (text.new.items ≡ text.old.items ++ moment_end word.now time) }
 {
     push_numbered(text, word, time)?;
-    text.extend_from_slice(b"\n")
+    text.extend_from_slice(b" us\n")
 }
 
 /// Ends a line that the end of the recording cuts.
@@ -143,7 +156,7 @@ fn push_frame(
         ),
         FrameEnd::Unacknowledged(time) => {
             push_byte_place(text, transfer)?;
-            push_moment_end(text, b", not acknowledged by ", time)
+            push_moment_end(text, b", not acknowledged, given up at ", time)
         }
         FrameEnd::Cut => {
             push_byte_place(text, transfer)?;
@@ -180,12 +193,11 @@ fn push_line(text: &mut Vec<u8>, behind: Behind, reading: &Reading) -> Result<()
 fn push_outside(text: &mut Vec<u8>, interval: Interval, length: u64) -> Result<(), NoMemory>
     ensures { OnOk result (text.new.items ≡ text.old.items ++ outside_text interval length) }
 {
-    let (least, _, greatest) = bounds(interval.kind());
     text.extend_from_slice(b"    ")?;
     text.extend_from_slice(interval.name())?;
     push_numbered(text, b" ", length)?;
-    push_numbered(text, b" us, the profile has ", least as u64)?;
-    push_numbered(text, b" to ", greatest as u64)?;
+    push_numbered(text, b" us, the profile has ", interval.lowest())?;
+    push_numbered(text, b" to ", interval.highest())?;
     text.extend_from_slice(b"\n")?;
     Ok(())
 }
@@ -225,7 +237,7 @@ fn push_all_outside(
 /// Adds the lines of a reading. An acknowledged byte has the story's line: the moments of its look and of
 /// its acknowledgement in microseconds, the byte in hexadecimal and what it says. A byte that is not
 /// acknowledged, and a byte begun and not ended, have lines of their own, which tell the look and what
-/// ended them. Below stands a line for each interval that lies outside the profile's bounds, with its
+/// ended them, and when. Below stands a line for each interval that lies outside the profile's bounds, with its
 /// length and these bounds. `behind` tells what stands before; [`Behind::after`] tells it of the next.
 ///
 /// # Errors

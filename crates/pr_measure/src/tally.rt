@@ -12,7 +12,7 @@ use crate::adding::push_numbered;
 use crate::counts::counted;
 use crate::interval::Interval;
 use pr_decode::Reading;
-use pr_wire::{NoMemory, bounds};
+use pr_wire::NoMemory;
 use std::alloc::Global;
 
 /// How many counters a tally has: one for each length below this.
@@ -94,9 +94,8 @@ fn push_middle(text: &mut Vec<u8>, middle: Option<u64>) -> Result<(), NoMemory>
 fn push_outside_count(text: &mut Vec<u8>, interval: Interval, outside: u64) -> Result<(), NoMemory>
     ensures { OnOk result (text.new.items ≡ text.old.items ++ outside_count interval outside) }
 {
-    let (least, _, greatest) = bounds(interval.kind());
-    push_numbered(text, b", outside ", least as u64)?;
-    push_numbered(text, b" to ", greatest as u64)?;
+    push_numbered(text, b", outside ", interval.lowest())?;
+    push_numbered(text, b" to ", interval.highest())?;
     push_numbered(text, b": ", outside)
 }
 

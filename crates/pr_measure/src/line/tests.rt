@@ -74,6 +74,42 @@ fn acknowledged_bytes(rt: HostRuntime) -> Result<(), Fail> {
             "attention\n        1100         1930  $24  LISTEN 4\n",
         ),
         (
+            Behind::Command,
+            true,
+            32,
+            "attention\n        1100         1930  $20  LISTEN 0\n",
+        ),
+        (
+            Behind::Command,
+            true,
+            62,
+            "attention\n        1100         1930  $3E  LISTEN 30\n",
+        ),
+        (
+            Behind::Command,
+            true,
+            95,
+            "attention\n        1100         1930  $5F  command 95\n",
+        ),
+        (
+            Behind::Command,
+            true,
+            96,
+            "        1100         1930  $60  SECOND 0\n",
+        ),
+        (
+            Behind::Command,
+            true,
+            228,
+            "        1100         1930  $E4  CLOSE 4\n",
+        ),
+        (
+            Behind::Nothing,
+            true,
+            103,
+            "attention\n        1100         1930  $67  SECOND 7\n",
+        ),
+        (
             Behind::Nothing,
             false,
             72,
@@ -123,19 +159,21 @@ fn end_or_identify(rt: HostRuntime) -> Result<(), Fail> {
     let end = FrameEnd::Acknowledged(1930);
     let lawful = with_pulse(byte(false, 13), 1400, 1480, 1510);
     told(&rt, Behind::Data, Reading::Frame(lawful, end), line)?;
-    let slow = with_pulse(byte(false, 13), 1401, 1602, 1663);
+    let joined = with_pulse(byte(false, 13), 1350, 1600, 1660);
+    told(&rt, Behind::Data, Reading::Frame(joined, end), line)?;
+    let slow = with_pulse(byte(false, 13), 1401, 1652, 1713);
     told(
         &rt,
         Behind::Data,
         Reading::Frame(slow, end),
-        "        1100         1930  $0D  return, end-or-identify\n    answer 251 us, the profile has 200 to 250\n    answer length 201 us, the profile has 80 to 200\n    pull after answer 61 us, the profile has 1 to 60\n",
+        "        1100         1930  $0D  return, end-or-identify\n    answer 251 us, the profile has 200 to 250\n    answer length 251 us, the profile has 80 to 250\n    pull after answer 61 us, the profile has 1 to 60\n",
     )?;
     let quick = with_pulse(byte(false, 13), 1349, 1428, 1428);
     told(
         &rt,
         Behind::Data,
         Reading::Frame(quick, end),
-        "        1100         1930  $0D  return, end-or-identify\n    answer 199 us, the profile has 200 to 250\n    answer length 79 us, the profile has 80 to 200\n    pull after answer 0 us, the profile has 1 to 60\n",
+        "        1100         1930  $0D  return, end-or-identify\n    answer 199 us, the profile has 200 to 250\n    answer length 79 us, the profile has 80 to 250\n    pull after answer 0 us, the profile has 1 to 60\n",
     )
 }
 
@@ -146,27 +184,27 @@ fn other_bytes(rt: HostRuntime) -> Result<(), Fail> {
     for (reading, wanted) in [
         (
             Reading::Frame(command, FrameEnd::Unacknowledged(2500)),
-            "command 36 at 1100, not acknowledged by 2500\n",
+            "command 36 at 1100 us, not acknowledged, given up at 2500 us\n",
         ),
         (
             Reading::Frame(letter, FrameEnd::Unacknowledged(2500)),
-            "byte 72 at 1100, not acknowledged by 2500\n",
+            "byte 72 at 1100 us, not acknowledged, given up at 2500 us\n",
         ),
         (
             Reading::Frame(letter, FrameEnd::Cut),
-            "byte 72 at 1100, cut by the recording's end\n",
+            "byte 72 at 1100 us, cut by the recording's end\n",
         ),
         (
             Reading::Glitch(letter, GlitchEnd::Attention(1950)),
-            "glitch at 1100, bits 8, ended by ATN at 1950\n",
+            "glitch at 1100 us, bits 8, ended by ATN at 1950 us\n",
         ),
         (
             Reading::Glitch(letter, GlitchEnd::Silence(2950)),
-            "glitch at 1100, bits 8, CLOCK released too long at 2950\n",
+            "glitch at 1100 us, bits 8, CLOCK released too long at 2950 us\n",
         ),
         (
             Reading::Glitch(letter, GlitchEnd::Cut),
-            "glitch at 1100, bits 8, cut by the recording's end\n",
+            "glitch at 1100 us, bits 8, cut by the recording's end\n",
         ),
     ] {
         told(&rt, Behind::Nothing, reading, wanted)?;
@@ -219,7 +257,7 @@ fn intervals_outside(rt: HostRuntime) -> Result<(), Fail> {
         &rt,
         Behind::Data,
         Reading::Glitch(begun, GlitchEnd::Attention(1260)),
-        "glitch at 1100, bits 0, ended by ATN at 1260\n",
+        "glitch at 1100 us, bits 0, ended by ATN at 1260 us\n",
     )
 }
 
@@ -275,6 +313,31 @@ fn slow_listeners(rt: HostRuntime) -> Result<(), Fail> {
     )
 }
 
+/// A call that several printers hear, each in an attention of its own, and an attention of a second
+/// command: the headings are the story's.
+#[test]
+fn attentions_one_after_another(rt: HostRuntime) -> Result<(), Fail> {
+    let mut text = Vec::new(rt.alloc());
+    let mut behind = Behind::Nothing;
+    for (command, code) in [
+        (true, 36),
+        (true, 37),
+        (true, 103),
+        (true, 96),
+        (false, 65),
+        (true, 63),
+        (true, 103),
+    ] {
+        let reading = Reading::Frame(byte(command, code), FrameEnd::Acknowledged(1930));
+        push_reading(&mut text, behind, &reading)?;
+        behind = behind.after(&reading);
+    }
+    let wanted =
+        "attention\n        1100         1930  $24  LISTEN 4\nattention\n        1100         1930  $25  LISTEN 5\n        1100         1930  $67  SECOND 7\nattention\n        1100         1930  $60  SECOND 0\ndata\n        1100         1930  $41  'A'\nattention\n        1100         1930  $3F  UNLISTEN\nattention\n        1100         1930  $67  SECOND 7\n";
+    assert_eq!(rt; text.as_slice(), wanted.as_bytes());
+    Ok(())
+}
+
 /// What stands behind readings.
 #[test]
 fn what_stands_behind(rt: HostRuntime) {
@@ -292,6 +355,16 @@ fn what_stands_behind(rt: HostRuntime) {
             Behind::Nothing,
         ),
         (Behind::Command, Reading::Frame(letter, end), Behind::Data),
+        (
+            Behind::Command,
+            Reading::Frame(listen, end),
+            Behind::Command,
+        ),
+        (
+            Behind::Command,
+            Reading::Frame(byte(true, 103), end),
+            Behind::Nothing,
+        ),
         (
             Behind::Command,
             Reading::Frame(letter, FrameEnd::Cut),

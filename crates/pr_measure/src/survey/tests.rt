@@ -107,7 +107,7 @@ fn no_reading(rt: HostRuntime) -> Result<(), Fail> {
     surveyed(
         &rt,
         &[],
-        "frames: 0\ncommands: 0\ndata bytes: 0\nnot acknowledged: 0\nglitches: 0\nready: none\nfirst pull: none\nanswer: none\nanswer length: none\npull after answer: none\nshortest low half: none\nlongest low half: none\nshortest high half: none\nlongest high half: none\nacknowledgement: none\n",
+        "frames: 0\ncommands: 0\ndata bytes: 0\nnot acknowledged: 0\nglitches: 0\ncut by the recording's end: 0\nready: none\nfirst pull: none\nanswer: none\nanswer length: none\npull after answer: none\nshortest low half: none\nlongest low half: none\nshortest high half: none\nlongest high half: none\nacknowledgement: none\n",
     )
 }
 
@@ -127,8 +127,36 @@ fn five_readings(rt: HostRuntime) -> Result<(), Fail> {
             Reading::Frame(last_byte(199), FrameEnd::Acknowledged(40001)),
             begun(),
         ],
-        "frames: 4\ncommands: 1\ndata bytes: 3\nnot acknowledged: 1\nglitches: 1\nready: 5, least 0, middle 60, greatest 24310, outside 1 to 10000: 3\nfirst pull: 4, least 40, middle 40, greatest 40, outside 1 to 199: 0\nanswer: 1, least 199, middle 199, greatest 199, outside 200 to 250: 1\nanswer length: 1, least 80, middle 80, greatest 80, outside 80 to 200: 0\npull after answer: 1, least 30, middle 30, greatest 30, outside 1 to 60: 0\nshortest low half: 4, least 19, middle 20, greatest 70, outside 20 to 200: 1\nlongest low half: 4, least 70, middle 71, greatest 201, outside 20 to 200: 1\nshortest high half: 4, least 10, middle 20, greatest 70, outside 20 to 200: 1\nlongest high half: 4, least 20, middle 21, greatest 200, outside 20 to 200: 0\nacknowledgement: 3, least 1, middle 20, greatest 81, outside 1 to 80: 1\n",
+        "frames: 4\ncommands: 1\ndata bytes: 3\nnot acknowledged: 1\nglitches: 1\ncut by the recording's end: 1\nready: 5, least 0, middle 60, greatest 24310, outside 1 to 10000: 3\nfirst pull: 4, least 40, middle 40, greatest 40, outside 1 to 199: 0\nanswer: 1, least 199, middle 199, greatest 199, outside 200 to 250: 1\nanswer length: 1, least 80, middle 80, greatest 80, outside 80 to 250: 0\npull after answer: 1, least 30, middle 30, greatest 30, outside 1 to 60: 0\nshortest low half: 4, least 19, middle 20, greatest 70, outside 20 to 200: 1\nlongest low half: 4, least 70, middle 71, greatest 201, outside 20 to 200: 1\nshortest high half: 4, least 10, middle 20, greatest 70, outside 20 to 200: 1\nlongest high half: 4, least 20, middle 21, greatest 200, outside 20 to 200: 0\nacknowledgement: 3, least 1, middle 20, greatest 81, outside 1 to 80: 1\n",
     )
+}
+
+/// Whole bytes, of which one waits for its acknowledgement in vain and one until the recording's end, and
+/// glitches: the last is counted apart from those that were given up.
+#[test]
+fn cut_readings(rt: HostRuntime) -> Result<(), Fail> {
+    let waits = Reading::Frame(last_byte(200), FrameEnd::Unacknowledged(40500));
+    let cut = Reading::Frame(last_byte(200), FrameEnd::Cut);
+    for (reading, wanted) in [
+        (
+            waits,
+            "data bytes: 1\nnot acknowledged: 1\nglitches: 0\ncut by the recording's end: 0\n",
+        ),
+        (
+            cut,
+            "data bytes: 1\nnot acknowledged: 0\nglitches: 0\ncut by the recording's end: 1\n",
+        ),
+        (
+            begun(),
+            "data bytes: 0\nnot acknowledged: 0\nglitches: 1\ncut by the recording's end: 1\n",
+        ),
+    ] {
+        let counts = Counts::new().with(&reading);
+        let mut text = Vec::new(rt.alloc());
+        counts.push_lines(&mut text)?;
+        assert!(rt; text.as_slice().ends_with(wanted.as_bytes()), "{wanted}");
+    }
+    Ok(())
 }
 
 /// The line of `ready` in a survey of two bytes that are ready so long behind their looks.
@@ -169,12 +197,26 @@ fn long_middles(rt: HostRuntime) -> Result<(), Fail> {
 /// The laws, and what an interval is called and bounded by.
 #[test]
 fn names_and_laws(rt: HostRuntime) {
+    crate::lawful_traces_are_told();
     crate::lawful_traces_are_within();
     crate::lines_add_up();
     crate::middles_are_least();
     assert_eq!(rt; crate::INTERVALS[0].name(), b"ready".as_slice());
     assert_eq!(rt; crate::INTERVALS[9].kind(), Kind::F);
     assert!(rt; Interval::Answer.is_outside(251));
+    assert!(rt; !Interval::AnswerLength.is_outside(250));
+    assert!(rt; Interval::AnswerLength.is_outside(251));
+    assert_eq!(rt;
+        (
+            Interval::AnswerLength.lowest(),
+            Interval::AnswerLength.highest()
+        ),
+        (80, 250)
+    );
+    assert_eq!(rt;
+        (Interval::Ready.lowest(), Interval::Ready.highest()),
+        (1, 10000)
+    );
     assert_eq!(rt; Interval::Ready.length(&begun()), Some(60));
 }
 

@@ -1,6 +1,6 @@
 use Rattle.std.proofs.Common.{ap, ◌∙◌}
 use Rattle.pr_measure.specs.Steps.{counted}
-use Rattle.pr_measure.specs.Summary.{is_command, is_data, is_frame, is_glitch, is_unacknowledged}
+use Rattle.pr_measure.specs.Summary.{is_command, is_cut, is_data, is_frame, is_glitch, is_unacknowledged}
 use Rattle.pr_measure.proofs.Sums.{counted-more}
 use Rattle.pr_measure.proofs.counts.Counts.with.Goals as goal
 
@@ -14,4 +14,5 @@ returns c = λ rs few h.
       data_bytes = counted-more is_data rs r old.data_bytes c.counted-data_bytes.result few h.data_bytes (c.counted-data_bytes.ensures ∙ ap (λ b. counted b old.data_bytes) c.is_data.ensures);
       unacknowledged = counted-more is_unacknowledged rs r old.unacknowledged c.counted-unacknowledged.result few h.unacknowledged (c.counted-unacknowledged.ensures ∙ ap (λ b. counted b old.unacknowledged) c.is_unacknowledged.ensures);
       glitches = counted-more is_glitch rs r old.glitches c.counted-glitches.result few h.glitches (c.counted-glitches.ensures ∙ ap (λ b. counted b old.glitches) c.is_glitch.ensures);
+      cut = counted-more is_cut rs r old.cut c.counted-cut.result few h.cut (c.counted-cut.ensures ∙ ap (λ b. counted b old.cut) c.is_cut.ensures);
     }
