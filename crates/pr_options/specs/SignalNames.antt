@@ -1,5 +1,5 @@
 -- Trusted: the value of --names: the names of the signals of ATN, CLOCK and DATA, parted by commas.
-use Rattle.std.specs.Prelude.{ℕ, ◌==◌, ◌-◌, ◌&&◌, Bool, List, [], ◌∷◌, codes, length, map, not, nat_lt, Option, Some, None, if◌then◌else◌, take, drop}
+use Rattle.std.specs.Prelude.{ℕ, ◌==◌, ◌-◌, ◌&&◌, Bool, false, List, [], ◌∷◌, codes, length, map, not, Option, Some, None, if◌then◌else◌, take, drop}
 use Rattle.std.specs.Char.{is_ascii_whitespace}
 use Rattle.std.specs.List.{prefix_len, slice_split, suffix_len}
 use Rattle.std.specs.Str.{str_eq_ignore_ascii_case}
@@ -23,9 +23,10 @@ without_end text = take (length text - suffix_len is_ascii_whitespace text) text
 abbrev pub trimmed : List ℕ → List ℕ
 trimmed text = without_end (without_front text)
 
--- a name is not empty
+-- a name is not empty, and does not stand in quotation marks, without which the names of a recording are read
 abbrev pub is_name : List ℕ → Bool
-is_name text = nat_lt 0 (length text)
+is_name [] = false
+is_name (b ∷ bs) = not (b == 34)
 
 -- the one name is CLOCK and the other CLK, by which CLOCK may be found too, capitals or not
 abbrev pub is_clock_twice : List ℕ → List ℕ → Bool

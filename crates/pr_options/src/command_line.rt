@@ -1,9 +1,9 @@
 //! What a command line asks for: the program's job.
 
-ghost use Rattle.std.specs.Prelude.{◌≡◌, codes, map, option_map, true, unwrap_or, IfOk, IfErr, IfSome, IsErrOf, IsSome};
+ghost use Rattle.std.specs.Prelude.{◌≡◌, [], codes, map, option_map, true, unwrap_or, IfOk, IfErr, IfSome, IsErrOf, IsSome, OnOk};
 ghost use Rattle.std.specs.List.{list_any};
 ghost use Rattle.std.specs.Str.{bytes_eq};
-ghost use Rattle.clap.specs.Words.{first_of, found_of, kind_of, rows_of, subcommand_of, subcommand_rows_of, takes};
+ghost use Rattle.clap.specs.Words.{fault_of, first_of, found_of, kind_of, rows_of, subcommand_of, subcommand_rows_of, takes};
 ghost use Rattle.pr_options.specs.CommandLine.{print1525};
 ghost use Rattle.pr_options.specs.Given.{is_given, is_of_words};
 ghost use Rattle.pr_options.specs.Inputs.{AsksToRead, IsBadFrom, IsBadNames, IsBadStart, IsUnfit, fits, wants_recording};
@@ -137,6 +137,7 @@ impl From<DelayFault> for JobFault {
 ///
 /// [`JobFault::Line`] only for words that clap's meaning of the command does not take (a request
 /// for help or the version is one), and [`JobFault::NoMemory`] where memory was refused, by clap too.
+/// A job comes only for words in which that meaning finds no fault.
 /// The others tell the first bad value in this order: [`JobFault::BadPresent`],
 /// [`JobFault::BadDelays`], [`JobFault::BadStatus`], [`JobFault::BadSet`], [`JobFault::BadFrom`],
 /// [`JobFault::BadNames`], [`JobFault::BadStart`]; then [`JobFault::NoRecording`], where these are
@@ -157,6 +158,7 @@ pub fn read_job<'a>(alloc: Global, words: &'a [&'a str]) -> Result<Job<'a>, JobF
     ensures trace { IsErrOf result JobFault.BadTraceAs → HasBadTraceAs (subcommand_of print1525 (map (λ s. s.now) words.entry.now)) }
     ensures report { IsErrOf result JobFault.BadReportAs → HasBadReportAs (subcommand_of print1525 (map (λ s. s.now) words.entry.now)) }
     // what clap refuses
+    ensures taken { OnOk result (fault_of print1525 (map (λ s. s.now) words.entry.now) ≡ []) }
     ensures line { takes print1525 (map (λ s. s.now) words.entry.now) ≡ true → IfErr result (λ e. ¬ IsLine e) }
 {
     let Ok(command) = make_command(alloc) else {

@@ -2,7 +2,7 @@
 
 ghost use Rattle.std.specs.Prelude.{◌≡◌, ◌∷◌, [], option_map, IfSome};
 ghost use Rattle.pr_options.specs.Options.{format_of, mode_of, present_of, report_of, set_of, source_of, start_of, trace_format_of};
-ghost use Rattle.pr_options.specs.SignalNames.{are_names, differ, is_clock_twice, names_of, names_told, three_names};
+ghost use Rattle.pr_options.specs.SignalNames.{are_names, differ, is_clock_twice, is_name, names_of, names_told, three_names};
 
 use crate::format::{Format, Report, Source, TraceFormat};
 use crate::parts::{all_digits, cut};
@@ -96,8 +96,8 @@ pub fn read_report(text: &str) -> Option<Report>
 }
 
 /// The signals of a recording by the names of ATN, CLOCK and DATA, which stand in this order, parted
-/// by commas. White space around a name does not count; no name is empty, and no two are the same or
-/// CLOCK and CLK, capitals or not (profile). None for any other text.
+/// by commas. White space around a name does not count; no name is empty or begins with a quotation
+/// mark, and no two are the same or CLOCK and CLK, capitals or not (profile). None for any other text.
 pub fn read_signals(text: &str, is_inverted: bool) -> Option<Signals<'_>>
     ensures names { option_map names_told result ≡ names_of text.now }
     ensures levels { IfSome result (λ s. s.is_inverted ≡ is_inverted) }
@@ -136,12 +136,23 @@ fn signals_named<'a>(
     })
 }
 
-/// Whether these are names of three signals: none is empty, and no two can be those of one signal.
+/// Whether these are names of three signals: each can be one, and no two can be those of one signal.
 fn are_names(atn: &str, clock: &str, line: &str) -> bool
     ensures { result ≡ are_names atn.now clock.now line.now }
 {
-    let are_filled = !atn.is_empty() && !clock.is_empty() && !line.is_empty();
+    let are_filled = is_name(atn) && is_name(clock) && is_name(line);
     are_filled && differ(atn, clock) && differ(atn, line) && differ(clock, line)
+}
+
+/// Whether a text can be a signal's name: it is not empty and does not begin with a quotation mark, as
+/// the names of a recording are read without those around them.
+fn is_name(text: &str) -> bool
+    ensures { result ≡ is_name text.now }
+{
+    match text.as_bytes() {
+        [] => false,
+        [first, ..] => *first != b'"',
+    }
 }
 
 /// Whether no signal can be found by both names: they are not the same, capitals or not, nor are they

@@ -77,8 +77,9 @@ pub const FROM: Valued = Valued {
 pub const NAMES: Valued = Valued {
     name: "names",
     default: "ATN,CLOCK,DATA",
-    help: "The names of ATN, CLOCK and DATA in a recording, as in D0,D1,D2, no two the same, capitals or \
-           not; for a name that is CLOCK the recording may have CLK, so not both are names",
+    help: "The names of ATN, CLOCK and DATA in a recording, as in D0,D1,D2, without quotation marks, no \
+           two the same, capitals or not; for a name that is CLOCK the recording may have CLK, so not \
+           both are names",
 };
 
 pub const FROM_TIME: Valued = Valued {

@@ -113,7 +113,8 @@ fn signals(rt: HostRuntime) {
         ("ATN,CLOCK,DATA", Some(("ATN", "CLOCK", "DATA"))),
         ("D0,D1,D2", Some(("D0", "D1", "D2"))),
         ("ATN, CLOCK, DATA", Some(("ATN", "CLOCK", "DATA"))),
-        (" \ta b\n,\"c\",  d ", Some(("a b", "\"c\"", "d"))),
+        (" \ta b\n,c,  d ", Some(("a b", "c", "d"))),
+        ("a\"b,c\",'d'", Some(("a\"b", "c\"", "'d'"))),
         ("a,aa,a b", Some(("a", "aa", "a b"))),
         ("ä,Ä,ä ä", Some(("ä", "Ä", "ä ä"))),
         ("", None),
@@ -135,6 +136,10 @@ fn signals(rt: HostRuntime) {
         ("Clock, CLOCK,DATA", None),
         ("ATN,data,DATA ", None),
         ("a,a,a", None),
+        (" \ta b\n,\"c\",  d ", None),
+        ("\"ATN\",CLOCK,DATA", None),
+        ("ATN,CLOCK, \"DATA\"", None),
+        ("\"ATN,CLOCK,DATA\"", None),
     ];
     for (text, wanted) in texts {
         for is_inverted in [false, true] {
