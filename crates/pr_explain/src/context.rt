@@ -80,7 +80,8 @@ fn expected_in_list(before: &[u8], rest: &[u8]) -> &'static str {
         Some(b'$') => "( stands behind CHR$",
         Some(b'(') => "a number stands here",
         Some(b'0'..=b'9') => ") stands behind the number",
-        Some(b',') => "a list stands behind the comma: strings between quotation marks, CHR$(n) and ;",
+        Some(b',') =>
+            "a list stands behind the comma: strings between quotation marks, CHR$(n) and ;",
         _ => match rest {
             [b',', ..] => "; and not , stands between the parts of a list here",
             _ => "a string, CHR$(n) or ; can stand here",

@@ -100,11 +100,7 @@ pub fn explain_recording(
 
 /// Adds how a recording is read that begins with all lines pulled, since its probes may stand behind
 /// inverters.
-fn push_inverted(
-    text: &mut Vec<u8>,
-    edges: &[Edge],
-    signals: Signals<'_>,
-) -> Result<(), NoMemory> {
+fn push_inverted(text: &mut Vec<u8>, edges: &[Edge], signals: Signals<'_>) -> Result<(), NoMemory> {
     let Some(first) = edges.first() else {
         return Ok(());
     };

@@ -252,16 +252,20 @@ fn tables_without_names(rt: HostRuntime) -> Result<(), Fail> {
 #[test]
 fn inverted_recordings(rt: HostRuntime) -> Result<(), Fail> {
     let table = b"t,ATN,CLK,DATA\n0,0,0,0\n0.001,1,1,0\n0.002,0,0,0\n";
-    let dump = b"$timescale 1 us $end $var wire 1 a ATN $end $var wire 1 c CLK $end $var wire 1 d DATA $end \
+    let dump =
+        b"$timescale 1 us $end $var wire 1 a ATN $end $var wire 1 c CLK $end $var wire 1 d DATA $end \
                  $enddefinitions $end #0 1a 1c 1d";
-    let front = "  edge 0: 0 000\n  a trace begins with 0 111, all lines released at time 0\n  --from-time US says \
+    let front =
+        "  edge 0: 0 000\n  a trace begins with 0 111, all lines released at time 0\n  --from-time US says \
                  at which microsecond of the recording the trace starts; the three lines are never all \
                  released\n  if nothing is sent there, the ";
     let plain = format!(in rt.alloc();
         "{front}probes stand behind inverters: --invert reads 0 as released\n"
     )?;
     told(&rt, table, Recording::Table, 0, plain.as_str())?;
-    let inverted = format!(in rt.alloc(); "{front}levels are not inverted: --invert is not wanted\n")?;
+    let inverted = format!(in rt.alloc();
+        "{front}levels are not inverted: --invert is not wanted\n"
+    )?;
     let signals = Signals {
         is_inverted: true,
         ..SIGNALS
