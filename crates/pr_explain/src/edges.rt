@@ -1,9 +1,14 @@
 //! Why edges are no lawful trace.
 
+ghost use Rattle.std.specs.Prelude.{◌≡◌, ◌+◌, ◌++◌, ◌^◌, ◌<◌, ◌≤◌, codes, length, true, IfErr, IfOk, OnOk};
+ghost use Rattle.pr_explain.specs.Places.{Follows, words_for};
+ghost use Rattle.pr_explain.specs.Told.{AreEdgesTold, Has};
+
 use crate::places::{LAST_MOMENT, push_place, push_rows};
 use crate::rows::{Row, rows_behind};
 use crate::texts::{Origin, push, push_edge, push_number};
 use pr_wire::{Edge, Flaw, Levels, NoMemory, Place};
+use std::alloc::Global;
 
 /// Where edges lead that are all lawful.
 #[derive(Drop)]
@@ -23,13 +28,18 @@ struct Refused {
 }
 
 /// Follows the edges behind the first one of a trace.
-fn follow(first: Edge, others: &[Edge]) -> Result<Led, Refused> {
+fn follow(first: Edge, others: &[Edge]) -> Result<Led, Refused>
+    ensures follows { Follows first others.now result }
+    ensures within { IfErr result (λ refused. refused.index ≤ length others.now) }
+{
     let mut last = first;
     let mut place = Place::Idle(0);
-    for (i, edge) in others.iter().enumerate() {
+    let mut index: usize = 1;
+    let mut rest = others;
+    while let [edge, more @ ..] = rest {
         if let Err(flaw) = place.advance(last, *edge) {
             return Err(Refused {
-                index: i + 1,
+                index,
                 last,
                 edge: *edge,
                 flaw,
@@ -37,57 +47,80 @@ fn follow(first: Edge, others: &[Edge]) -> Result<Led, Refused> {
             });
         }
         last = *edge;
+        index += 1;
+        rest = more;
     }
     Ok(Led { last, place })
 }
 
-/// Adds why edges are no lawful trace, if they are none. That they end too soon is told only where
+/// Why edges are no lawful trace; nothing, if they are one. That they end too soon is told only where
 /// they are whole.
-pub fn push_edges(
-    text: &mut Vec<u8>,
+pub fn edges_told(
+    alloc: Global,
     edges: &[Edge],
     origin: Origin,
     is_whole: bool,
-) -> Result<(), NoMemory> {
+) -> Result<Vec<u8>, NoMemory>
+    ensures { is_whole ≡ true → IfOk result (λ text. AreEdgesTold (words_for origin) edges.now text.items) }
+{
     let [first, others @ ..] = edges else {
-        return if is_whole {
-            push_no_edge(text, origin)
-        } else {
-            Ok(())
-        };
+        return no_edge_told(alloc, origin, is_whole);
     };
     if !first.is_start() {
-        push_indexed(text, 0, *first, origin)?;
-        push(
-            text,
-            "  a trace begins with 0 111, all lines released at time 0\n",
-        )?;
-        return match origin {
-            Origin::Text => Ok(()),
-            Origin::Recording(start) => push_start(text, edges, start, is_whole),
-        };
+        let rest = start_told(alloc, edges, *first, origin, is_whole)?;
+        return with_index(alloc, 0, origin, rest);
     }
-    match follow(*first, others) {
-        Err(refused) => push_refused(text, &refused, origin),
-        Ok(led) => {
-            if is_whole && !led.place.may_end() {
-                push_end(text, &led, origin)
-            } else {
-                Ok(())
-            }
+    let led = match follow(*first, others) {
+        Ok(led) => led,
+        Err(refused) => {
+            let rest = refused_told(alloc, &refused, origin)?;
+            return with_index(alloc, refused.index, origin, rest);
         }
+    };
+    if is_whole && !led.place.may_end() {
+        return end_told(alloc, &led, origin);
     }
+    Ok(Vec::new(alloc))
 }
 
-/// Adds that there is no edge.
-fn push_no_edge(text: &mut Vec<u8>, origin: Origin) -> Result<(), NoMemory> {
-    push(
-        text,
+/// That there is no edge, where edges are whole.
+fn no_edge_told(alloc: Global, origin: Origin, is_whole: bool) -> Result<Vec<u8>, NoMemory>
+    ensures { is_whole ≡ true → IfOk result (λ text. 0 < length text.items) }
+{
+    let mut text = Vec::new(alloc);
+    if is_whole {
         match origin {
-            Origin::Text => "  there is no edge: a trace begins with 0 111\n",
-            Origin::Recording(_) => "  the recording has no sample of the three lines\n",
-        },
-    )
+            Origin::Text => push(
+                &mut text,
+                "  there is no edge: a trace begins with 0 111\n",
+            )?,
+            Origin::Recording(_) => push(
+                &mut text,
+                "  the recording has no sample of the three lines\n",
+            )?,
+        }
+    }
+    Ok(text)
+}
+
+/// A first edge that is not the start of a trace, and where the start may be.
+fn start_told(
+    alloc: Global,
+    edges: &[Edge],
+    first: Edge,
+    origin: Origin,
+    is_whole: bool,
+) -> Result<Vec<u8>, NoMemory> {
+    let mut text = Vec::new(alloc);
+    push_edge(&mut text, first, origin)?;
+    push(
+        &mut text,
+        "\n  a trace begins with 0 111, all lines released at time 0\n",
+    )?;
+    if let Origin::Recording(start) = origin {
+        push_start(&mut text, edges, start, is_whole)?;
+    }
+    Ok(text)
 }
 
 /// Adds where a recording may have the start of its trace, by its edges from a moment on, all of them or
@@ -172,36 +205,47 @@ fn push_brackets(text: &mut Vec<u8>, origin: Origin) -> Result<(), NoMemory> {
     }
 }
 
-/// Adds an edge with its index, and its line where it has one.
-fn push_indexed(
-    text: &mut Vec<u8>,
-    index: usize,
-    edge: Edge,
-    origin: Origin,
-) -> Result<(), NoMemory> {
-    push_brackets(text, origin)?;
-    if origin == Origin::Text {
-        push(text, "  line ")?;
-        push_number(text, (index as u64).saturating_add(1))?;
-        push(text, ", edge ")?;
-    } else {
-        push(text, "  edge ")?;
+/// Adds the index of an edge, and its line where it has one.
+fn push_index(text: &mut Vec<u8>, index: usize, origin: Origin) -> Result<(), NoMemory>
+    requires { index + 1 < 2 ^ 64 }
+    ensures { OnOk result (text.new.items ≡ text.old.items ++ words_for origin index) }
+{
+    match origin {
+        Origin::Text => {
+            push(text, "  line ")?;
+            push_number(text, index as u64 + 1)?;
+            push(text, ", edge ")?;
+        }
+        Origin::Recording(_) => push(text, "  edge ")?,
     }
     push_number(text, index as u64)?;
-    push(text, ": ")?;
-    push_edge(text, edge, origin)?;
-    push(text, "\n")
+    push(text, ": ")
+}
+
+/// What is told of the edge at an index, and what more there is, behind the index.
+fn with_index(
+    alloc: Global,
+    index: usize,
+    origin: Origin,
+    rest: Vec<u8>,
+) -> Result<Vec<u8>, NoMemory>
+    requires { index + 1 < 2 ^ 64 }
+    ensures { IfOk result (λ text. Has (words_for origin index) text.items) }
+{
+    let mut text = Vec::new(alloc);
+    push_brackets(&mut text, origin)?;
+    push_index(&mut text, index, origin)?;
+    text.extend_from_slice(rest.as_slice())?;
+    Ok(text)
 }
 
 /// Adds an edge, and the place and the rows behind it.
 fn push_behind(
     text: &mut Vec<u8>,
-    words: &str,
     last: Edge,
     place: &Place,
     origin: Origin,
 ) -> Result<(), NoMemory> {
-    push(text, words)?;
     push_edge(text, last, origin)?;
     push(text, "\n  the place there: ")?;
     push_place(text, place, origin)?;
@@ -209,19 +253,28 @@ fn push_behind(
     push_rows(text, place, last, origin)
 }
 
-/// Adds the first edge that is not lawful, and what is wrong with it.
-fn push_refused(text: &mut Vec<u8>, refused: &Refused, origin: Origin) -> Result<(), NoMemory> {
+/// The first edge that is not lawful, and what is wrong with it.
+fn refused_told(alloc: Global, refused: &Refused, origin: Origin) -> Result<Vec<u8>, NoMemory> {
     let (last, edge) = (refused.last, refused.edge);
-    push_indexed(text, refused.index, edge, origin)?;
-    push_behind(text, "  the edge before it: ", last, &refused.place, origin)?;
+    let mut text = Vec::new(alloc);
+    push_edge(&mut text, edge, origin)?;
+    push(&mut text, "\n  the edge before it: ")?;
+    push_behind(&mut text, last, &refused.place, origin)?;
     match refused.flaw {
         Flaw::Order if edge.time <= last.time => {
-            push(text, "  it is not later than the edge before it\n")
+            push(
+                &mut text,
+                "  it is not later than the edge before it\n",
+            )?;
         }
-        Flaw::Order => push(text, "  it has the levels of the edge before it\n"),
-        Flaw::Shape => push(text, "  no edge to its levels may follow\n"),
-        Flaw::TooEarly | Flaw::TooLate => push_miss(text, last, edge, &refused.place),
+        Flaw::Order => push(
+            &mut text,
+            "  it has the levels of the edge before it\n",
+        )?,
+        Flaw::Shape => push(&mut text, "  no edge to its levels may follow\n")?,
+        Flaw::TooEarly | Flaw::TooLate => push_miss(&mut text, last, edge, &refused.place)?,
     }
+    Ok(text)
 }
 
 /// The row to these levels behind the last edge at a place.
@@ -268,19 +321,32 @@ fn push_by(text: &mut Vec<u8>, missed: u64, when: &str) -> Result<(), NoMemory> 
     push(text, "\n")
 }
 
-/// Adds that edges end too soon.
-fn push_end(text: &mut Vec<u8>, led: &Led, origin: Origin) -> Result<(), NoMemory> {
-    push_brackets(text, origin)?;
-    push_behind(text, "  the last edge: ", led.last, &led.place, origin)?;
+/// That edges end too soon.
+fn end_told(alloc: Global, led: &Led, origin: Origin) -> Result<Vec<u8>, NoMemory>
+    ensures { IfOk result (λ text. Has (codes "  the last edge: ") text.items) }
+{
+    let rest = end_rest(alloc, led, origin)?;
+    let mut text = Vec::new(alloc);
+    push_brackets(&mut text, origin)?;
+    push(&mut text, "  the last edge: ")?;
+    text.extend_from_slice(rest.as_slice())?;
+    Ok(text)
+}
+
+/// The last edge, what could have followed, and where a trace may end.
+fn end_rest(alloc: Global, led: &Led, origin: Origin) -> Result<Vec<u8>, NoMemory> {
+    let mut text = Vec::new(alloc);
+    push_behind(&mut text, led.last, &led.place, origin)?;
     if are_released(led.last.levels) {
         push(
-            text,
+            &mut text,
             "  all lines are released here, but a data byte is under way\n",
         )?;
     }
     push(
-        text,
+        &mut text,
         "  a trace may end at rest (all lines released, and no byte under way), behind a data byte that \
          a printer has acknowledged, or behind an attention that did not end with UNLISTEN\n",
-    )
+    )?;
+    Ok(text)
 }

@@ -4,7 +4,7 @@ ghost use Rattle.std.specs.Prelude.{◌+◌, ◌^◌, ◌<◌, ◌≤◌, length
 ghost use Rattle.pr_explain.specs.Lines.{lines_read};
 
 use crate::capture_faults::push_capture_fault;
-use crate::edges::push_edges;
+use crate::edges::edges_told;
 use crate::texts::{Origin, push};
 use pr_capture::{CaptureFault, CsvReader, Gatherer, Signals, VcdReader};
 use pr_wire::{Edge, NoMemory};
@@ -93,7 +93,8 @@ pub fn explain_recording(
     }
     let edges = recorded.edges.as_slice();
     let is_whole = recorded.fault.is_none();
-    push_edges(&mut text, edges, Origin::Recording(start), is_whole)?;
+    let told = edges_told(alloc, edges, Origin::Recording(start), is_whole)?;
+    text.extend_from_slice(told.as_slice())?;
     push_inverted(&mut text, edges, signals)?;
     Ok(text)
 }

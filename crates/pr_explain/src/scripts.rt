@@ -1,9 +1,15 @@
 //! Why a script is refused.
 
+ghost use Rattle.std.specs.Prelude.{◌≡◌, ◌+◌, ◌-◌, ◌≤◌, length, IfOk};
+ghost use Rattle.pr_basic.specs.FaultPlaces.{IsFirstFaultAt};
+ghost use Rattle.pr_explain.specs.Told.{Has, IsScriptTold, TellsFault, spot_words};
+
 use crate::context::{expected_at, is_in_string, takes_item};
 use crate::texts::{push, push_cut, push_number, push_shown, without_end};
 use crate::words::{foreign_word, is_number, word_at};
-use pr_basic::{FaultAt, LineAt, ScriptFault, basic_number, line_at, read_script_at};
+use pr_basic::{
+    LineAt, ScriptFault, basic_number, faults_tell_their_line, line_at, read_script_at,
+};
 use pr_wire::NoMemory;
 use std::alloc::{AllocError, Global};
 
@@ -28,29 +34,44 @@ struct Spot<'a> {
 /// # Errors
 ///
 /// [`NoMemory`] where memory was refused.
-pub fn explain_script(alloc: Global, script: &[u8]) -> Result<Vec<u8>, NoMemory> {
-    let mut text = Vec::new(alloc);
-    match read_script_at(alloc, script) {
-        Ok(_) => Ok(text),
-        Err(
-            FaultAt {
-                fault: ScriptFault::NoMemory,
-                ..
-            },
-        ) => Err(AllocError),
-        Err(refused) => {
-            if let Some(line) = line_at(script, refused.place) {
-                push_fault(&mut text, spot_in(line, refused.place), refused.fault)?;
-            }
-            Ok(text)
-        }
+pub fn explain_script(alloc: Global, script: &[u8]) -> Result<Vec<u8>, NoMemory>
+    ensures { IfOk result (λ text. IsScriptTold script.now text.items) }
+{
+    let refused = match read_script_at(alloc, script) {
+        Ok(_) => return Ok(Vec::new(alloc)),
+        Err(refused) => refused,
+    };
+    match refused.fault {
+        ScriptFault::NoMemory => Err(AllocError),
+        fault => place_told(alloc, script, refused.place, fault),
+    }
+}
+
+/// What there is to say of the first fault of a script, which stands at this place.
+fn place_told(
+    alloc: Global,
+    script: &[u8],
+    place: usize,
+    fault: ScriptFault,
+) -> Result<Vec<u8>, NoMemory>
+    requires { IsFirstFaultAt script.now fault place }
+    ensures { IfOk result (λ text. TellsFault script.now text.items) }
+{
+    faults_tell_their_line();
+    match line_at(script, place) {
+        Some(line) => fault_told(alloc, spot_in(line, place), fault),
+        None => unreachable!(),
     }
 }
 
 /// The place behind so many bytes of a script, in its line.
-fn spot_in(line: LineAt<'_>, place: usize) -> Spot<'_> {
-    let column = place.saturating_sub(line.start).min(line.bytes.len());
-    let (before, behind) = line.bytes.split_at(column);
+fn spot_in(line: LineAt<'_>, place: usize) -> Spot<'_>
+    requires from { line.start ≤ place }
+    requires to { place ≤ line.start + length line.bytes.now }
+    ensures number { result.number ≡ line.entry.number }
+    ensures column { length result.before.now ≡ place - line.entry.start }
+{
+    let (before, behind) = line.bytes.split_at(place - line.start);
     Spot {
         number: line.number,
         before,
@@ -58,26 +79,37 @@ fn spot_in(line: LineAt<'_>, place: usize) -> Spot<'_> {
     }
 }
 
-/// Adds what there is to say of a fault.
-fn push_fault(text: &mut Vec<u8>, spot: Spot<'_>, fault: ScriptFault) -> Result<(), NoMemory> {
-    push_caret(text, spot)?;
-    push(text, "  line ")?;
-    push_number(text, spot.number as u64)?;
-    push(text, ", column ")?;
-    push_number(text, (spot.before.len() as u64).saturating_add(1))?;
+/// What there is to say of a fault.
+fn fault_told(alloc: Global, spot: Spot<'_>, fault: ScriptFault) -> Result<Vec<u8>, NoMemory>
+    ensures { IfOk result (λ text. Has (spot_words spot.entry.number (length spot.entry.before.now + 1)) text.items) }
+{
+    let rest = fault_rest(alloc, spot, fault)?;
+    let mut text = Vec::new(alloc);
+    push_caret(&mut text, spot)?;
+    push(&mut text, "  line ")?;
+    push_number(&mut text, spot.number as u64)?;
+    push(&mut text, ", column ")?;
+    push_number(&mut text, spot.before.len() as u64 + 1)?;
+    text.extend_from_slice(rest.as_slice())?;
+    Ok(text)
+}
+
+/// What is told behind the place of a fault.
+fn fault_rest(alloc: Global, spot: Spot<'_>, fault: ScriptFault) -> Result<Vec<u8>, NoMemory> {
+    let mut text = Vec::new(alloc);
     if let Some(label) = basic_number(spot.before) {
-        push(text, ", BASIC line ")?;
-        push_number(text, u64::from(label))?;
+        push(&mut text, ", BASIC line ")?;
+        push_number(&mut text, u64::from(label))?;
     }
-    push(text, ": ")?;
-    push_word(text, word_in(spot))?;
-    push(text, ": ")?;
-    push(text, expected_at(spot.before, spot.rest, fault))?;
-    push(text, "\n")?;
+    push(&mut text, ": ")?;
+    push_word(&mut text, word_in(spot))?;
+    push(&mut text, ": ")?;
+    push(&mut text, expected_at(spot.before, spot.rest, fault))?;
+    push(&mut text, "\n")?;
     if asks_for_a_word(fault) {
-        push_hints(text, spot, fault)?;
+        push_hints(&mut text, spot, fault)?;
     }
-    Ok(())
+    Ok(text)
 }
 
 /// The word at a place; inside a string, the byte.

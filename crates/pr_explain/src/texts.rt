@@ -1,6 +1,6 @@
 //! Pieces of the texts.
 
-ghost use Rattle.std.specs.Prelude.{◌≡◌, ◌+◌, ◌<◌, length};
+ghost use Rattle.std.specs.Prelude.{◌≡◌, ◌+◌, ◌++◌, ◌<◌, decimal, length, OnOk};
 
 use itoa::Buffer;
 use pr_wire::{Edge, Levels, NoMemory};
@@ -18,12 +18,16 @@ pub enum Origin {
 pub const SHOWN: usize = 100;
 
 /// Adds words.
-pub fn push(text: &mut Vec<u8>, words: &str) -> Result<(), NoMemory> {
+pub fn push(text: &mut Vec<u8>, words: &str) -> Result<(), NoMemory>
+    ensures { OnOk result (text.new.items ≡ text.old.items ++ words.now) }
+{
     text.extend_from_slice(words.as_bytes())
 }
 
 /// Adds a number in decimal.
-pub fn push_number(text: &mut Vec<u8>, number: u64) -> Result<(), NoMemory> {
+pub fn push_number(text: &mut Vec<u8>, number: u64) -> Result<(), NoMemory>
+    ensures { OnOk result (text.new.items ≡ text.old.items ++ decimal number) }
+{
     let mut buffer = Buffer::new();
     text.extend_from_slice(buffer.format(number).as_bytes())
 }

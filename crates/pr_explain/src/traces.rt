@@ -1,7 +1,10 @@
 //! Why a trace text is refused.
 
-use crate::edges::push_edges;
-use crate::texts::{Origin, has_comma, line_with, push, push_line};
+ghost use Rattle.std.specs.Prelude.{IfOk};
+ghost use Rattle.pr_explain.specs.Told.{Has, IsTraceTold, line_words};
+
+use crate::edges::edges_told;
+use crate::texts::{Origin, has_comma, line_with, push, push_cut, push_number, without_end};
 use pr_wire::{NoMemory, TraceFault, read_trace};
 use std::alloc::{AllocError, Global};
 
@@ -13,14 +16,15 @@ use std::alloc::{AllocError, Global};
 /// # Errors
 ///
 /// [`NoMemory`] where memory was refused.
-pub fn explain_trace(alloc: Global, trace: &[u8]) -> Result<Vec<u8>, NoMemory> {
-    let mut text = Vec::new(alloc);
-    match read_trace(alloc, trace) {
-        Ok(edges) => push_edges(&mut text, edges.as_slice(), Origin::Text, true)?,
-        Err(TraceFault::BadLine(number)) => push_bad_line(alloc, &mut text, trace, number)?,
+pub fn explain_trace(alloc: Global, trace: &[u8]) -> Result<Vec<u8>, NoMemory>
+    ensures { IfOk result (λ text. IsTraceTold trace.now text.items) }
+{
+    let edges = match read_trace(alloc, trace) {
+        Ok(edges) => edges,
+        Err(TraceFault::BadLine(number)) => return bad_line_told(alloc, trace, number),
         Err(TraceFault::NoMemory) => return Err(AllocError),
-    }
-    Ok(text)
+    };
+    edges_told(alloc, edges.as_slice(), Origin::Text, true)
 }
 
 /// How a line is read that begins as one of another format does.
@@ -34,27 +38,40 @@ fn other_format(line: &[u8]) -> &'static str {
     }
 }
 
-/// Adds the line with this number, which spells no edge, and what a line is. Then why the edges before
-/// it are not lawful, if they are not.
-fn push_bad_line(
-    alloc: Global,
-    text: &mut Vec<u8>,
-    trace: &[u8],
-    number: usize,
-) -> Result<(), NoMemory> {
+/// The line with this number, which spells no edge, and what a line is. Then why the edges before it are
+/// not lawful, if they are not.
+fn bad_line_told(alloc: Global, trace: &[u8], number: usize) -> Result<Vec<u8>, NoMemory>
+    ensures { IfOk result (λ text. Has (line_words number) text.items) }
+{
+    let rest = bad_line_rest(alloc, trace, number)?;
+    let mut text = Vec::new(alloc);
+    push(&mut text, "  line ")?;
+    push_number(&mut text, number as u64)?;
+    push(&mut text, ": ")?;
+    text.extend_from_slice(rest.as_slice())?;
+    Ok(text)
+}
+
+/// The line, and what is told of it.
+fn bad_line_rest(alloc: Global, trace: &[u8], number: usize) -> Result<Vec<u8>, NoMemory> {
     let (before, line) = line_with(trace, number);
-    push_line(text, number, line)?;
+    let mut text = Vec::new(alloc);
+    push_cut(&mut text, without_end(line))?;
     push(
-        text,
-        "  a line is a time in microseconds, a space, and a digit each for ATN, CLOCK and DATA (1 \
+        &mut text,
+        "\n  a line is a time in microseconds, a space, and a digit each for ATN, CLOCK and DATA (1 \
          released, 0 pulled), as in 100 001\n",
     )?;
-    push(text, other_format(line))?;
+    push(&mut text, other_format(line))?;
     match read_trace(alloc, before) {
-        Ok(edges) => push_edges(text, edges.as_slice(), Origin::Text, false),
-        Err(TraceFault::BadLine(_)) => Ok(()),
-        Err(TraceFault::NoMemory) => Err(AllocError),
+        Ok(edges) => {
+            let told = edges_told(alloc, edges.as_slice(), Origin::Text, false)?;
+            text.extend_from_slice(told.as_slice())?;
+        }
+        Err(TraceFault::BadLine(_)) => {}
+        Err(TraceFault::NoMemory) => return Err(AllocError),
     }
+    Ok(text)
 }
 
 #[cfg(test)]

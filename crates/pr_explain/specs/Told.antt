@@ -1,0 +1,77 @@
+-- Trusted: which places explanations name: where the first fault stands.
+use Rattle.std.specs.Prelude.{◌≡◌, ◌⊎◌, ℕ, ◌+◌, ◌-◌, ◌<◌, List, [], ◌∷◌, ◌++◌, length, Option, Some, None, codes, decimal}
+use Rattle.pr_wire.specs.declared.Edge.{Edge}
+use Rattle.pr_wire.specs.declared.WaveFault.{WaveFault}
+use Rattle.pr_wire.specs.declared.WaveFault.TheVariants as wave
+use Rattle.pr_wire.specs.Table.{fault_of}
+use Rattle.pr_wire.specs.TraceText.{SaysEdges}
+use Rattle.pr_basic.specs.declared.fault.ScriptFault.{ScriptFault}
+use Rattle.pr_basic.specs.declared.statement.Statement.{Statement}
+use Rattle.pr_basic.specs.FaultPlaces.{IsFirstFaultAt}
+use Rattle.pr_basic.specs.Grammar.{IsScript}
+use Rattle.pr_basic.specs.LineAt.{IsLineAt}
+
+-- these words stand in a text
+abbrev pub Has : (words text : List ℕ) → Type 0
+Has words text = (before : List ℕ) × (behind : List ℕ) × (text ≡ before ++ (words ++ behind))
+
+-- the words for a place of a script: its line, and its column in it, both from 1
+abbrev pub spot_words : (line column : ℕ) → List ℕ
+spot_words line column = codes "  line " ++ (decimal line ++ (codes ", column " ++ decimal column))
+
+-- of a text with a first fault its line and column are told
+pub record TellsFault (script text : List ℕ) : Type 0 where
+  pub fault : ScriptFault
+  pub place : ℕ
+  pub start : ℕ
+  pub line : List ℕ
+  pub number : ℕ
+  pub is_first : IsFirstFaultAt script fault place
+  pub is_line : IsLineAt script place start line number
+  pub told : Has (spot_words number (place - start + 1)) text
+
+-- of a script nothing is told
+pub record IsGood (script text : List ℕ) : Type 0 where
+  pub statements : List Statement
+  pub is_script : IsScript script statements
+  pub nothing : text ≡ []
+
+-- what is told of a script
+abbrev pub IsScriptTold : (script text : List ℕ) → Type 0
+IsScriptTold script text = IsGood script text ⊎ TellsFault script text
+
+-- the words for an edge of a trace text: its line, from 1, and its index, from 0
+abbrev pub edge_words : (index : ℕ) → List ℕ
+edge_words n = codes "  line " ++ (decimal (n + 1) ++ (codes ", edge " ++ (decimal n ++ codes ": ")))
+
+-- what is told of edges with this first fault, if they have one, by the words for an edge: nothing of a lawful trace; the edge that is
+-- not allowed; or that they end too soon
+abbrev pub IsFaultTold : (words : ℕ → List ℕ) → Option WaveFault → (text : List ℕ) → Type 0
+IsFaultTold words None text = text ≡ []
+IsFaultTold words (Some (wave.Start n)) text = Has (words n) text
+IsFaultTold words (Some (wave.Order n)) text = Has (words n) text
+IsFaultTold words (Some (wave.TooEarly n)) text = Has (words n) text
+IsFaultTold words (Some (wave.TooLate n)) text = Has (words n) text
+IsFaultTold words (Some (wave.Shape n)) text = Has (words n) text
+IsFaultTold words (Some (wave.Truncated n)) text = Has (codes "  the last edge: ") text
+IsFaultTold words (Some wave.NoMemory) text = ⊥
+
+-- what is told of edges, of which there may be none
+abbrev pub AreEdgesTold : (words : ℕ → List ℕ) → List Edge → (text : List ℕ) → Type 0
+AreEdgesTold words [] text = 0 < length text
+AreEdgesTold words (e ∷ es) text = IsFaultTold words (fault_of (e ∷ es)) text
+
+-- the words for a line that spells no edge: its number, from 1
+abbrev pub line_words : (number : ℕ) → List ℕ
+line_words n = codes "  line " ++ (decimal n ++ codes ": ")
+
+-- what is told of a trace text: the first line that spells no edge, or what is told of its edges
+abbrev pub IsTextTold : (edges : List Edge) → (bad : Option ℕ) → (text : List ℕ) → Type 0
+IsTextTold edges None text = AreEdgesTold edge_words edges text
+IsTextTold edges (Some n) text = Has (line_words n) text
+
+pub record IsTraceTold (trace text : List ℕ) : Type 0 where
+  pub edges : List Edge
+  pub bad : Option ℕ
+  pub says : SaysEdges trace edges bad
+  pub told : IsTextTold edges bad text
