@@ -43,7 +43,8 @@ pub enum ScriptFault {
 pub struct FaultAt {
     /// The fault, with the number of its line.
     pub fault: ScriptFault,
-    /// How many bytes of the text stand before it; 0 where memory was refused.
+    /// How many bytes of the text stand before it; where memory was refused, before where the reading had
+    /// come.
     pub place: usize,
 }
 

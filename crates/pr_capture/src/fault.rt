@@ -38,7 +38,7 @@ pub enum CaptureFault {
     /// A time that is no number of its unit, or not below 2^64 microseconds or 2^64 of a dump's own unit.
     #[error("line {0}: bad time")]
     BadTime(usize),
-    /// A time before that of an earlier line; times are compared in whole microseconds.
+    /// A time before an earlier one; times are compared in whole microseconds.
     #[error("line {0}: time goes back")]
     GoesBack(usize),
     /// The row has no level of the wire, or the dump that ends on the line has told none that is still known.

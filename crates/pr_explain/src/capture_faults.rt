@@ -1,6 +1,6 @@
 //! The faults of recordings.
 
-use crate::names::{push_names, push_time_column};
+use crate::names::{begins_with_number, no_signal, push_names, push_time_column};
 use crate::recordings::Recording;
 use crate::texts::{has_comma, line_with, push, push_cut, push_line, without_end};
 use pr_capture::{CaptureFault, Signals, Wire};
@@ -34,13 +34,20 @@ fn names_of<'a>(wire: Wire, signals: Signals<'a>) -> (&'static str, &'a [u8]) {
 }
 
 /// Adds which name no signal has.
-fn push_missing(text: &mut Vec<u8>, wire: Wire, signals: Signals<'_>) -> Result<(), NoMemory> {
+fn push_missing(
+    text: &mut Vec<u8>,
+    kind: Recording,
+    wire: Wire,
+    signals: Signals<'_>,
+) -> Result<(), NoMemory> {
     let (line, name) = names_of(wire, signals);
     push(text, "  ")?;
     push(text, line)?;
     push(text, " is looked for as ")?;
     push_cut(text, name)?;
-    push(text, ", and no signal of one bit has that name\n")
+    push(text, ", and ")?;
+    push(text, no_signal(kind))?;
+    push(text, " has that name\n")
 }
 
 /// Why a line can not name the columns of a table.
@@ -51,6 +58,11 @@ fn no_names(line: &[u8]) -> Option<&'static str> {
         Some("  --from vcd reads Value Change Dumps, which have such lines\n")
     } else if !has_comma(line) {
         Some("  commas part the fields of a table, and the line of its names has none\n")
+    } else if begins_with_number(line) {
+        Some(
+            "  a line before the rows names the columns, as in Time,ATN,CLOCK,DATA, and this one begins with \
+             a number\n",
+        )
     } else {
         None
     }
@@ -66,7 +78,7 @@ fn push_columns(
     if let Some(words) = no_names(line) {
         return push(text, words);
     }
-    push_missing(text, wire, signals)?;
+    push_missing(text, Recording::Table, wire, signals)?;
     push_time_column(text, line)?;
     push_names(text, &[], line, Recording::Table)
 }
@@ -86,7 +98,9 @@ fn rule_of_dumps(fault: CaptureFault) -> &'static str {
         CaptureFault::NoTimescale(_) => {
             "the header of a dump has $timescale 1 us $end, or 1, 10 or 100 of another unit from fs to s"
         }
-        CaptureFault::BadTime(_) => "a time is # and a number of the dump's unit",
+        CaptureFault::BadTime(_) => {
+            "a time is # and a number of the dump's unit below 2^64, and lies below 2^64 microseconds"
+        }
         _ => rule_of_both(fault),
     }
 }
@@ -95,7 +109,8 @@ fn rule_of_dumps(fault: CaptureFault) -> &'static str {
 fn rule_of_tables(fault: CaptureFault) -> &'static str {
     match fault {
         CaptureFault::BadTime(_) => {
-            "a row begins with its time in seconds, digits with or without decimals, as in 0.000125"
+            "a row begins with its time in seconds, digits with or without decimals, as in 0.000125, and lies below \
+             2^64 microseconds"
         },
         _ => rule_of_both(fault),
     }
@@ -104,7 +119,7 @@ fn rule_of_tables(fault: CaptureFault) -> &'static str {
 /// What a recording of any kind has where it has this fault.
 fn rule_of_both(fault: CaptureFault) -> &'static str {
     match fault {
-        CaptureFault::GoesBack(_) => "this time is before an earlier line's",
+        CaptureFault::GoesBack(_) => "this time is before an earlier one",
         CaptureFault::NoLevel(_, _) => "each of the three lines needs a level",
         CaptureFault::Unknown(_) => {
             "x says that the level is not known; a level of the three lines is 0 or 1"
@@ -133,7 +148,7 @@ pub fn push_capture_fault(
     match fault {
         CaptureFault::NoSignal(_, wire) => match kind {
             Recording::Dump => {
-                push_missing(text, wire, signals)?;
+                push_missing(text, kind, wire, signals)?;
                 push_names(text, recording, line, kind)
             }
             Recording::Table => push_columns(text, line, wire, signals),

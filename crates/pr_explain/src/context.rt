@@ -16,8 +16,16 @@ enum Context {
     List,
 }
 
-/// That an OPEN has no name.
+/// That no name stands behind an OPEN's secondary address.
 const NO_NAME: &str = "a printer's OPEN takes no file name: OPEN file,device,secondary ends here";
+
+/// That no name stands in place of an OPEN's secondary address.
+const NO_NAME_FOR_SECOND: &str =
+    "a secondary address from 0 to 15 stands here; a printer's OPEN takes no file name";
+
+/// That no name stands behind an OPEN's device.
+const NO_NAME_BEHIND_DEVICE: &str =
+    "a comma and a secondary address, or the end of the OPEN can stand here; a printer's takes no file name";
 
 /// That CHR$ has another number.
 const CODE: &str = "CHR$ has a number from 0 to 255";
@@ -39,7 +47,7 @@ pub fn expected_at(before: &[u8], rest: &[u8], fault: ScriptFault) -> &'static s
             _ => "a comma and a device from 4 to 30 stand behind the file",
         },
         ScriptFault::BadSecond(_) => match rest {
-            [b'"', ..] => NO_NAME,
+            [b'"', ..] => NO_NAME_FOR_SECOND,
             _ => "a secondary address from 0 to 15 stands here",
         },
         ScriptFault::BadByte(_) => match rest {
@@ -60,17 +68,22 @@ fn expected_in(context: Context, before: &[u8], rest: &[u8]) -> &'static str {
     if word_at(rest).begins_statement() && !wants_more(context, before) {
         return "a : is missing before this statement";
     }
-    match (context, rest) {
-        (Context::Open, [b',' | b'"', ..]) => NO_NAME,
-        (Context::Open, _) if comma_count(last_part(before)) > 1 => {
-            "the end of OPEN file,device,secondary stands here"
-        }
-        (Context::Start | Context::Open, _) => {
-            "a comma, or the end of OPEN file,device,secondary can stand here"
-        }
-        (Context::Close, _) => "the end of the statement stands behind the file",
-        (Context::File, _) => "a comma and a list, or the end of the statement can stand here",
-        (Context::List, _) => expected_in_list(before, rest),
+    match context {
+        Context::Start | Context::Open => expected_in_open(before, rest),
+        Context::Close => "the end of the statement stands behind the file",
+        Context::File => "a comma and a list, or the end of the statement can stand here",
+        Context::List => expected_in_list(before, rest),
+    }
+}
+
+/// What can stand behind the device or the secondary address of an OPEN, where an unknown word does.
+fn expected_in_open(before: &[u8], rest: &[u8]) -> &'static str {
+    let has_second = comma_count(last_part(before)) > 1;
+    match (has_second, rest) {
+        (true, [b',' | b'"', ..]) => NO_NAME,
+        (true, _) => "the end of OPEN file,device,secondary stands here",
+        (false, [b'"', ..]) => NO_NAME_BEHIND_DEVICE,
+        (false, _) => "a comma, or the end of OPEN file,device,secondary can stand here",
     }
 }
 

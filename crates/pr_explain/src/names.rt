@@ -22,20 +22,24 @@ pub fn push_names(
         Recording::Dump => push_dump_names(text, recording, &mut names)?,
         Recording::Table => push_table_names(text, line, &mut names)?,
     }
-    push(
-        text,
-        if names.count == 0 {
-            "  the recording names no signal of one bit"
-        } else if names.count > NAMES {
-            ", .."
-        } else {
-            ""
-        },
-    )?;
+    if names.count == 0 {
+        push(text, "  the recording names ")?;
+        push(text, no_signal(kind))?;
+    } else if names.count > NAMES {
+        push(text, ", ..")?;
+    }
     push(
         text,
         "\n  --names tells which signals are ATN, CLOCK and DATA, as in --names ATN,CLOCK,DATA\n",
     )
+}
+
+/// The words for no signal of a recording that can be a line of the bus; each of a table's can.
+pub fn no_signal(kind: Recording) -> &'static str {
+    match kind {
+        Recording::Dump => "no signal with levels of one bit",
+        Recording::Table => "no signal",
+    }
 }
 
 /// How many names were told, and whether more of them came.
@@ -50,8 +54,11 @@ impl NameList {
         NameList { count: 0 }
     }
 
-    /// Adds a name, unless enough were told.
+    /// Adds a name, unless it is empty or enough were told.
     fn push(&mut self, text: &mut Vec<u8>, name: &[u8]) -> Result<(), NoMemory> {
+        if name.is_empty() {
+            return Ok(());
+        }
         if self.count < NAMES {
             push(
                 text,
@@ -77,7 +84,7 @@ fn push_dump_names(text: &mut Vec<u8>, dump: &[u8], names: &mut NameList) -> Res
         if word == b"$enddefinitions".as_slice() {
             return Ok(());
         }
-        if word.starts_with(b"$") {
+        if word.starts_with(b"$") && !stands_alone(word) {
             let (section, more) = split_section(more);
             rest = more;
             if word == b"$var".as_slice() {
@@ -86,6 +93,15 @@ fn push_dump_names(text: &mut Vec<u8>, dump: &[u8], names: &mut NameList) -> Res
         }
     }
     Ok(())
+}
+
+/// Whether a word begins no section up to the next `$end`: changes stand in these as elsewhere.
+fn stands_alone(word: &[u8]) -> bool {
+    word == b"$end".as_slice()
+        || word == b"$dumpvars".as_slice()
+        || word == b"$dumpall".as_slice()
+        || word == b"$dumpon".as_slice()
+        || word == b"$dumpoff".as_slice()
 }
 
 /// Whether signals of a kind have levels: not numbers, texts and events.
@@ -103,7 +119,7 @@ fn push_signal(text: &mut Vec<u8>, section: &[u8], names: &mut NameList) -> Resu
     let (size, rest) = split_word(rest);
     let (_code, rest) = split_word(rest);
     let (name, _) = split_word(rest);
-    if has_levels(kind) && size == b"1".as_slice() && !name.is_empty() {
+    if has_levels(kind) && size == b"1".as_slice() {
         names.push(text, name)
     } else {
         Ok(())
@@ -155,6 +171,20 @@ fn after_spaces(bytes: &[u8]) -> &[u8]
         }
     }
     &[]
+}
+
+/// Whether the first field of a line is a number.
+pub fn begins_with_number(line: &[u8]) -> bool {
+    let (field, _) = split_field(line);
+    let mut has_digit = false;
+    for byte in unframed(field) {
+        if byte.is_ascii_digit() {
+            has_digit = true;
+        } else if *byte != b'.' && *byte != b'-' && *byte != b'+' {
+            return false;
+        }
+    }
+    has_digit
 }
 
 /// Adds which column of a table is that of the time, by the line of their names.

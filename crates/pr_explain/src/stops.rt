@@ -3,8 +3,13 @@
 use crate::texts::{cut_line, push, push_cut, push_number, without_end};
 use pr_basic::{ScriptFault, Statement, StatusMode, basic_number, read_script};
 use pr_channels::Stop;
+use pr_serial::Present;
 use pr_wire::NoMemory;
 use std::alloc::{AllocError, Global};
+
+/// That the byte that was held back found no listener.
+const UNHEARD: &str =
+    "no printer was listening to the byte printed last before this statement, which goes out only here";
 
 /// The error's name, as BASIC writes it.
 fn name_of(stop: Stop) -> &'static str {
@@ -31,7 +36,9 @@ fn reason_of(stop: Stop) -> &'static str {
 
 /// Says which error stopped the run of a script at a statement, counted from 1, as BASIC says it, with
 /// the number of its BASIC line if that has one, and the line. Where the status goes on from statement
-/// to statement, a device that did not answer may be that of a statement before.
+/// to statement, a device that did not answer may be that of a statement before. Where each statement
+/// begins with status 0 and a printer is there, it is the byte printed last before it that no printer
+/// took.
 ///
 /// # Errors
 ///
@@ -42,7 +49,9 @@ pub fn explain_stop(
     mode: StatusMode,
     stop: Stop,
     statement: usize,
+    present: Present,
 ) -> Result<Vec<u8>, NoMemory> {
+    let device = device_at(alloc, script, statement)?;
     let (number, line) = line_of(alloc, script, statement)?;
     let mut text = Vec::new(alloc);
     push(&mut text, "?")?;
@@ -59,34 +68,57 @@ pub fn explain_stop(
     push(&mut text, ": ")?;
     push_cut(&mut text, without_end(line))?;
     push(&mut text, "\n  ")?;
-    push_reason(alloc, &mut text, script, mode, stop, statement)?;
+    push_reason(&mut text, mode, stop, device, present)?;
     push(&mut text, "\n")?;
     Ok(text)
 }
 
-/// Adds what the error means here, with the device that does not answer, where that is the
-/// statement's.
+/// Adds what the error means here, at a statement with this device, if it has one.
 fn push_reason(
-    alloc: Global,
     text: &mut Vec<u8>,
-    script: &[u8],
     mode: StatusMode,
     stop: Stop,
-    statement: usize,
+    device: Option<u8>,
+    present: Present,
 ) -> Result<(), NoMemory> {
     match (stop, mode) {
-        (Stop::DeviceNotPresent, StatusMode::Each) => {
-            match device_at(alloc, script, statement)? {
-                Some(device) => push_silent(text, device),
-                None => push(text, reason_of(stop)),
-            }
-        }
+        (Stop::DeviceNotPresent, StatusMode::Each) => push_unanswered(text, device, present),
         (Stop::DeviceNotPresent, StatusMode::Kept) => push(
             text,
             "no printer has answered, here or at a statement before (--status kept); --present says \
              which printers there are",
         ),
         _ => push(text, reason_of(stop)),
+    }
+}
+
+/// Adds what was not answered where the statement began with status 0. Any printer answers a LISTEN,
+/// to whichever device: where one is there, it was the byte that the computer held back until then.
+fn push_unanswered(
+    text: &mut Vec<u8>,
+    device: Option<u8>,
+    present: Present,
+) -> Result<(), NoMemory> {
+    let is_nobody_there = !present.four && !present.five;
+    match device {
+        Some(device) if is_nobody_there => push_silent(text, device),
+        None if is_nobody_there => push(text, reason_of(Stop::DeviceNotPresent)),
+        Some(device) if !is_there(present, device) => {
+            push(text, UNHEARD)?;
+            push(text, "; nor is device ")?;
+            push_number(text, u64::from(device))?;
+            push(text, " there: --present says which printers there are")
+        }
+        _ => push(text, UNHEARD),
+    }
+}
+
+/// Whether a device is a printer that is there.
+fn is_there(present: Present, device: u8) -> bool {
+    match device {
+        4 => present.four,
+        5 => present.five,
+        _ => false,
     }
 }
 

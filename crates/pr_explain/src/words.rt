@@ -184,7 +184,8 @@ fn letter_count(rest: &[u8]) -> usize
 }
 
 /// What stands in front, behind the bytes `before` of its line, where it is common BASIC that this profile
-/// does not have: the beginning of a sentence. Where a number is wanted, letters are a variable.
+/// does not have: the beginning of a sentence. Where a number is wanted, letters are a variable. `rest`
+/// is without the line's end: byte 10, and byte 13 directly before it or before the text's end.
 pub fn foreign_word(before: &[u8], rest: &[u8], wants_number: bool) -> Option<&'static str> {
     match rest {
         [b'?', ..] => return Some("? for PRINT is"),
@@ -192,9 +193,8 @@ pub fn foreign_word(before: &[u8], rest: &[u8], wants_number: bool) -> Option<&'
         [b'+' | b'-' | b'*' | b'/' | b'^' | b'=' | b'<' | b'>', ..] => {
             return Some("an operator is");
         }
-        [b'$', b'0'..=b'9' | b'A'..=b'F', ..] => return Some("a hexadecimal number is"),
-        [b'%' | b'$', ..] => return Some("a variable is"),
-        [b'\r', ..] => return Some("byte 13 alone for the end of a line is"),
+        [b'$', digits @ ..] if is_hexadecimal(digits) => return Some("a hexadecimal number is"),
+        [b'\r', ..] => return Some("a byte 13 that no byte 10 follows is"),
         [0xef, 0xbb, 0xbf, ..] => return Some("a byte order mark is"),
         [1, 8, ..] if before.is_empty() => return Some("a saved program is"),
         _ => {}
@@ -206,6 +206,17 @@ pub fn foreign_word(before: &[u8], rest: &[u8], wants_number: bool) -> Option<&'
         WordKind::Letters => Some("a variable or another word is"),
         WordKind::Keyword(_) | WordKind::Digits | WordKind::Other => None,
     }
+}
+
+/// Whether letters and digits stand in front that are all hexadecimal digits.
+fn is_hexadecimal(rest: &[u8]) -> bool {
+    let digits = &rest[..letter_count(rest)];
+    for byte in digits {
+        if !byte.is_ascii_hexdigit() {
+            return false;
+        }
+    }
+    !digits.is_empty()
 }
 
 /// Whether these bytes end in PRINT and spaces behind it.

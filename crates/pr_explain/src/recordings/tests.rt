@@ -190,11 +190,13 @@ fn starts_of_recordings(rt: HostRuntime) -> Result<(), Fail> {
 fn names_of_signals(rt: HostRuntime) -> Result<(), Fail> {
     let how =
         "\n  --names tells which signals are ATN, CLOCK and DATA, as in --names ATN,CLOCK,DATA\n";
-    let rows: [(&[u8], Recording, &str, &str); 3] = [
+    let (signal, column) = ("no signal with levels of one bit", "no signal");
+    let rows: [(&[u8], Recording, &str, &str, &str); 6] = [
         (
             b"; remark\nTime [s], \"D 0\" ,CLOCK,\"a,\x1b\"\r\n0,1,1,1\n",
             Recording::Table,
             "  line 2: Time [s], \"D 0\" ,CLOCK,\"a,\\x1B\"\n  ATN is looked for as ATN,",
+            column,
             "  the first column, called Time [s], is the time in seconds\n  the recording has the signals D 0, \
              CLOCK, a,\\x1B",
         ),
@@ -203,18 +205,43 @@ fn names_of_signals(rt: HostRuntime) -> Result<(), Fail> {
               $var wire 1 ! D1 [3] $end $var real 1 r R $end $var realtime 1 t RT $end $var string 1 s S $end $var event 1 e E $end\n$enddefinitions $end\n$var wire 1 z LATE $end\n",
             Recording::Dump,
             "  line 4: $enddefinitions $end\n  CLOCK is looked for as CLOCK,",
+            signal,
             "  the recording has the signals atn, D1",
+        ),
+        (
+            b"$timescale 1 us $end $end $dumpvars $var wire 1 a D0 $end $dumpall $var wire 1 b D1 $end\n\
+              $dumpon $var wire 1 c D2 $end $dumpoff $var wire 1 d D3 $end\n$enddefinitions $end\n",
+            Recording::Dump,
+            "  line 3: $enddefinitions $end\n  ATN is looked for as ATN,",
+            signal,
+            "  the recording has the signals D0, D1, D2, D3",
+        ),
+        (
+            b"$timescale 1 us $end $var event 1 ! ATN $end $var real 1 r CLOCK $end $enddefinitions $end\n",
+            Recording::Dump,
+            "  line 1: $timescale 1 us $end $var event 1 ! ATN $end $var real 1 r CLOCK $end $enddefinitions $end\n  \
+             ATN is looked for as ATN,",
+            signal,
+            "  the recording names no signal with levels of one bit",
+        ),
+        (
+            b"Time, \"\" ,\n0,1\n",
+            Recording::Table,
+            "  line 1: Time, \"\" ,\n  ATN is looked for as ATN,",
+            column,
+            "  the first column, called Time, is the time in seconds\n  the recording names no signal",
         ),
         (
             b"t,1,2,3,4,5,6,7,8,9,10,11,12,13,14,15,16,17,18,19,20,21\n",
             Recording::Table,
             "  line 1: t,1,2,3,4,5,6,7,8,9,10,11,12,13,14,15,16,17,18,19,20,21\n  ATN is looked for as ATN,",
+            column,
             "  the first column, called t, is the time in seconds\n  the recording has the signals 1, 2, 3, 4, 5, 6, 7, 8, 9, 10, 11, 12, 13, 14, 15, 16, 17, 18, 19, 20, ..",
         ),
     ];
-    for (recording, kind, front, names) in rows {
+    for (recording, kind, front, missing, names) in rows {
         let wanted = format!(in rt.alloc();
-            "{front} and no signal of one bit has that name\n{names}{how}"
+            "{front} and {missing} has that name\n{names}{how}"
         )?;
         told(&rt, recording, kind, 0, wanted.as_str())?;
     }
@@ -224,7 +251,16 @@ fn names_of_signals(rt: HostRuntime) -> Result<(), Fail> {
 /// Of a line that can not name the columns of a table no names are told.
 #[test]
 fn tables_without_names(rt: HostRuntime) -> Result<(), Fail> {
-    let rows: [(&[u8], &str); 4] = [
+    let numbers =
+        "  line 1: 0.0,1,1,1\n  a line before the rows names the columns, as in Time,ATN,CLOCK,DATA, and this one \
+         begins with a number\n";
+    let rows: [(&[u8], &str); 6] = [
+        (b"0.0,1,1,1\n0.0001,0,0,1\n", numbers),
+        (
+            b"; remark\n \"-1.5\" ,ATN\n",
+            "  line 2:  \"-1.5\" ,ATN\n  a line before the rows names the columns, as in Time,ATN,CLOCK,DATA, and \
+             this one begins with a number\n",
+        ),
         (
             b"",
             "  line 1: \n  the table has no line that names its columns\n",
@@ -291,7 +327,13 @@ fn faults_of_tables(rt: HostRuntime) -> Result<(), Fail> {
         ("0,1,1,2\n", "a level of the three lines is 0 or 1"),
         (
             "start,1,1,1\n",
-            "a row begins with its time in seconds, digits with or without decimals, as in 0.000125",
+            "a row begins with its time in seconds, digits with or without decimals, as in 0.000125, and lies \
+             below 2^64 microseconds",
+        ),
+        (
+            "18446744073709.551616,1,1,1\n",
+            "a row begins with its time in seconds, digits with or without decimals, as in 0.000125, and lies \
+             below 2^64 microseconds",
         ),
     ];
     for (row, rule) in rows {
@@ -312,7 +354,7 @@ fn faults_of_tables(rt: HostRuntime) -> Result<(), Fail> {
         &rt,
         "2,1,1,1\n2.000001,0,0,1\n2.000002,1,1,1\n1,1,1,1\n",
         2_000_000,
-        "  line 5: 1,1,1,1\n  this time is before an earlier line's\n  [in brackets: the recording's own \
+        "  line 5: 1,1,1,1\n  this time is before an earlier one\n  [in brackets: the recording's own \
          microseconds]\n  edge 1: 1 001 [2000001]\n  the edge before it: 0 111 [2000000]\n  the place \
          there: idle, all lines are released, since 0 [2000000]\n  could follow: 001 from 100 [2000100] \
          on\n  it comes 99 microseconds too early\n",
@@ -334,7 +376,17 @@ fn faults_of_dumps(rt: HostRuntime) -> Result<(), Fail> {
         ),
         (
             "#x\n",
-            "  line 6: #x\n  a time is # and a number of the dump's unit\n",
+            "  line 6: #x\n  a time is # and a number of the dump's unit below 2^64, and lies below 2^64 \
+             microseconds\n",
+        ),
+        (
+            "#18446744073709551616\n",
+            "  line 6: #18446744073709551616\n  a time is # and a number of the dump's unit below 2^64, and lies \
+             below 2^64 microseconds\n",
+        ),
+        (
+            "#9 #5\n",
+            "  line 6: #9 #5\n  this time is before an earlier one\n",
         ),
         (
             "#0 1a 1c\n",
@@ -381,9 +433,9 @@ fn names_looked_for(rt: HostRuntime) -> Result<(), Fail> {
     };
     let text = explain_recording(rt.alloc(), b"t,D0,D1,D2\n", Recording::Table, signals, 0)?;
     let wanted =
-        b"  line 1: t,D0,D1,D2\n  CLOCK is looked for as D\\xFF, and no signal of one bit has that \
-        name\n  the first column, called t, is the time in seconds\n  the recording has the signals D0, D1, D2\n  --names tells which signals are ATN, CLOCK and \
-        DATA, as in --names ATN,CLOCK,DATA\n";
+        b"  line 1: t,D0,D1,D2\n  CLOCK is looked for as D\\xFF, and no signal has that name\n  \
+        the first column, called t, is the time in seconds\n  the recording has the signals D0, D1, D2\n  \
+        --names tells which signals are ATN, CLOCK and DATA, as in --names ATN,CLOCK,DATA\n";
     assert_eq!(rt; text.as_slice(), wanted.as_slice());
     Ok(())
 }

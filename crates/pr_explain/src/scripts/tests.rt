@@ -76,7 +76,17 @@ fn common_slips(rt: HostRuntime) -> Result<(), Fail> {
         ),
         (
             "OPEN 1,4,\"NAME\"",
-            "column 10: \"\"NAME\"\": a printer's OPEN takes no file name: OPEN file,device,secondary ends here\n",
+            "column 10: \"\"NAME\"\": a secondary address from 0 to 15 stands here; a printer's OPEN takes no file \
+             name\n",
+        ),
+        (
+            "OPEN 1,4 \"NAME\"",
+            "column 10: \"\"NAME\"\": a comma and a secondary address, or the end of the OPEN can stand here; a \
+             printer's takes no file name\n",
+        ),
+        (
+            "OPEN 1,4,7 \"NAME\"",
+            "column 12: \"\"NAME\"\": a printer's OPEN takes no file name: OPEN file,device,secondary ends here\n",
         ),
         (
             "OPEN 1,4 7",
@@ -179,6 +189,44 @@ fn numbers_and_variables(rt: HostRuntime) -> Result<(), Fail> {
             "",
         ),
         ("PRINT CHR$()", "column 12: \")\": ", code, "", ""),
+        ("PRINT %1010", "column 7: \"%\": ", item, "", ""),
+        ("PRINT \"A\"%", "column 10: \"%\": ", item, "", ""),
+        ("PRINT $", "column 7: \"$\": ", item, "", ""),
+        (
+            "PRINT $41",
+            "column 7: \"$\": ",
+            item,
+            "  a hexadecimal number is ",
+            foreign,
+        ),
+        (
+            "PRINT CHR$(65%)",
+            "column 14: \"%\": ",
+            ") stands behind the number\n",
+            "",
+            "",
+        ),
+        (
+            "OPEN 4%,4",
+            "column 7: \"%\": ",
+            "a comma and a device from 4 to 30 stand behind the file\n",
+            "",
+            "",
+        ),
+        (
+            "PRINT \"A\"\r\r\n",
+            "column 10: \"\\x0D\": ",
+            item,
+            "  a byte 13 that no byte 10 follows is ",
+            foreign,
+        ),
+        (
+            "PRINT \"A\"\rPRINT \"B\"\n",
+            "column 10: \"\\x0D\": ",
+            item,
+            "  a byte 13 that no byte 10 follows is ",
+            foreign,
+        ),
         (
             "OPEN 1",
             "column 7: the end of the line: ",

@@ -6,7 +6,13 @@ use std::process::Abort;
 use std::rt::Env;
 use std::test::Fail;
 
-/// The error of a statement of the script is told so.
+/// No printer is there.
+const NONE: Present = Present {
+    four: false,
+    five: false,
+};
+
+/// The error of a statement of the script is told so, with no printer there.
 fn told(
     rt: &(impl Abort + AllocGlobal),
     script: &str,
@@ -15,7 +21,7 @@ fn told(
     wanted: &str,
 ) -> Result<(), Fail> {
     let mode = StatusMode::Each;
-    let text = explain_stop(rt.alloc(), script.as_bytes(), mode, stop, statement)?;
+    let text = explain_stop(rt.alloc(), script.as_bytes(), mode, stop, statement, NONE)?;
     assert_eq!(rt; text.as_slice(), wanted.as_bytes(), "{script}");
     Ok(())
 }
@@ -52,7 +58,7 @@ fn errors_in_lines(rt: HostRuntime) -> Result<(), Fail> {
 fn kept_status(rt: HostRuntime) -> Result<(), Fail> {
     let script = "OPEN 4,4\nOPEN 5,5\nPRINT#5,\"A\"\nPRINT#4,\"B\"\n";
     let (mode, stop) = (StatusMode::Kept, Stop::DeviceNotPresent);
-    let text = explain_stop(rt.alloc(), script.as_bytes(), mode, stop, 4)?;
+    let text = explain_stop(rt.alloc(), script.as_bytes(), mode, stop, 4, NONE)?;
     let wanted = "?DEVICE NOT PRESENT  ERROR (statement 4)\n  line 4: PRINT#4,\"B\"\n  \
          no printer has answered, here or at a statement before (--status kept); --present says which \
          printers there are\n";
@@ -130,6 +136,39 @@ fn devices_that_do_not_answer(rt: HostRuntime) -> Result<(), Fail> {
     Ok(())
 }
 
+/// Where a printer is there, it answers each LISTEN: what was not answered is the byte that was held back.
+#[test]
+fn bytes_that_no_printer_takes(rt: HostRuntime) -> Result<(), Fail> {
+    let script =
+        "OPEN 4,4,7:OPEN 5,5:OPEN 9,9\nCMD 4:CLOSE 4:PRINT \"X\"\nPRINT#5,\"Y\"\nCMD 9\nPRINT#9\nPRINT#3\n";
+    let byte =
+        "no printer was listening to the byte printed last before this statement, which goes out only here";
+    let end = " there: --present says which printers there are";
+    let rows = [
+        (true, true, 7, 3, "PRINT#5,\"Y\"", "", ""),
+        (false, true, 7, 3, "PRINT#5,\"Y\"", "", ""),
+        (true, false, 7, 3, "PRINT#5,\"Y\"", "; nor is device 5", end),
+        (true, true, 9, 5, "PRINT#9", "; nor is device 9", end),
+        (true, true, 10, 6, "PRINT#3", "", ""),
+    ];
+    for (four, five, statement, number, line, front, back) in rows {
+        let present = Present { four, five };
+        let text = explain_stop(
+            rt.alloc(),
+            script.as_bytes(),
+            StatusMode::Each,
+            Stop::DeviceNotPresent,
+            statement,
+            present,
+        )?;
+        let wanted = format!(in rt.alloc();
+            "?DEVICE NOT PRESENT  ERROR (statement {statement})\n  line {number}: {line}\n  {byte}{front}{back}\n"
+        )?;
+        assert_eq!(rt; text.as_slice(), wanted.as_bytes());
+    }
+    Ok(())
+}
+
 #[test]
 fn names_of_errors(rt: HostRuntime) -> Result<(), Fail> {
     let rows = [
@@ -168,6 +207,7 @@ fn is_refused(rt: &(impl Abort + AllocGlobal)) -> bool {
         StatusMode::Each,
         Stop::DeviceNotPresent,
         2,
+        NONE,
     ) {
         Ok(text) => {
             assert!(rt; text.as_slice().ends_with(b"which printers there are\n"));

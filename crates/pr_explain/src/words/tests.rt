@@ -4,16 +4,20 @@ use super::*;
 
 #[test]
 fn words_of_basic(rt: HostRuntime) {
-    let rows: [(&[u8], Option<&str>); 17] = [
+    let rows: [(&[u8], Option<&str>); 21] = [
         (b"FOR I=1", Some("this word of BASIC is")),
         (b"goto10", Some("this word of BASIC is")),
         (b"TAB(5)", Some("this word of BASIC is")),
         (b"?\"A\"", Some("? for PRINT is")),
         (b"#4", Some("# with a space before it is")),
         (b"+\"B\"", Some("an operator is")),
-        (b"$", Some("a variable is")),
+        (b"$", None),
+        (b"%1010", None),
         (b"$41", Some("a hexadecimal number is")),
-        (b"\r", Some("byte 13 alone for the end of a line is")),
+        (b"$c0);", Some("a hexadecimal number is")),
+        (b"$END", None),
+        (b"$,41", None),
+        (b"\r", Some("a byte 13 that no byte 10 follows is")),
         (b"\xef\xbb\xbf10", Some("a byte order mark is")),
         (b"\x01\x08", None),
         (b"A$", Some("a variable is")),
