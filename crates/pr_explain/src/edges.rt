@@ -90,10 +90,7 @@ fn no_edge_told(alloc: Global, origin: Origin, is_whole: bool) -> Result<Vec<u8>
     let mut text = Vec::new(alloc);
     if is_whole {
         match origin {
-            Origin::Text => push(
-                &mut text,
-                "  there is no edge: a trace begins with 0 111\n",
-            )?,
+            Origin::Text => push(&mut text, "  there is no edge: a trace begins with 0 111\n")?,
             Origin::Recording(_) => push(
                 &mut text,
                 "  the recording has no sample of the three lines\n",
@@ -262,15 +259,9 @@ fn refused_told(alloc: Global, refused: &Refused, origin: Origin) -> Result<Vec<
     push_behind(&mut text, last, &refused.place, origin)?;
     match refused.flaw {
         Flaw::Order if edge.time <= last.time => {
-            push(
-                &mut text,
-                "  it is not later than the edge before it\n",
-            )?;
+            push(&mut text, "  it is not later than the edge before it\n")?;
         }
-        Flaw::Order => push(
-            &mut text,
-            "  it has the levels of the edge before it\n",
-        )?,
+        Flaw::Order => push(&mut text, "  it has the levels of the edge before it\n")?,
         Flaw::Shape => push(&mut text, "  no edge to its levels may follow\n")?,
         Flaw::TooEarly | Flaw::TooLate => push_miss(&mut text, last, edge, &refused.place)?,
     }

@@ -240,9 +240,7 @@ fn names_of_signals(rt: HostRuntime) -> Result<(), Fail> {
         ),
     ];
     for (recording, kind, front, missing, names) in rows {
-        let wanted = format!(in rt.alloc();
-            "{front} and {missing} has that name\n{names}{how}"
-        )?;
+        let wanted = format!(in rt.alloc(); "{front} and {missing} has that name\n{names}{how}")?;
         told(&rt, recording, kind, 0, wanted.as_str())?;
     }
     Ok(())
