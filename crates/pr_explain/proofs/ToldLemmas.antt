@@ -1,20 +1,35 @@
 -- Which places texts name.
-use Rattle.std.proofs.Common.{◌≡◌, ℕ, ◌+◌, ◌-◌, List, ◌++◌, refl, ap, subst, ◌∙◌, append_assoc, Some, Result, Ok, Err}
-use Rattle.std.specs.Prelude.{IfOk, Vec}
+use Rattle.std.proofs.Common.{◌≡◌, ℕ, ◌+◌, ◌-◌, List, [], ◌++◌, refl, ap, subst, ◌∙◌, append_assoc, Some, Result, Ok, Err}
+use Rattle.std.specs.Prelude.{IfOk, OnOk, Vec}
 use Rattle.std.specs.Global.{Global}
 use Rattle.pr_wire.specs.TraceText.{IsFirstBad}
 use Rattle.pr_basic.specs.declared.fault.ScriptFault.{ScriptFault}
 use Rattle.pr_basic.specs.FaultPlaces.{IsFirstFaultAt}
 use Rattle.pr_basic.specs.LineAt.{IsLineAt}
-use Rattle.pr_explain.specs.Told.{Has, IsTraceTold, TellsFault, line_words, spot_words}
+use Rattle.pr_explain.specs.Places.{IsSpotTold}
+use Rattle.pr_explain.specs.Told.{Begins, Has, IsTraceTold, TellsFault, line_words, spot_words}
 
 -- words behind others, and more behind them
 pub has_words : (front words text all rest : List ℕ) → text ≡ front ++ words → all ≡ text ++ rest → Has words all
 has_words front words text all rest e f = (front, rest, f ∙ (ap (λ z. z ++ rest) e ∙ append_assoc front words rest))
 
+-- words at the front, and more behind them
+pub begins_words : (front words text all rest : List ℕ) → front ≡ [] → text ≡ front ++ words → all ≡ text ++ rest → Begins words all
+begins_words front words text all rest n e f = (rest, f ∙ (ap (λ z. z ++ rest) e ∙ ap (λ z. (z ++ words) ++ rest) n))
+
+-- three pieces of text, one behind another
+pub three : (t0 t1 t2 t3 a b d : List ℕ) → t1 ≡ t0 ++ a → t2 ≡ t1 ++ b → t3 ≡ t2 ++ d → t3 ≡ t0 ++ (a ++ (b ++ d))
+three t0 t1 t2 t3 a b d e f g =
+    g ∙ (ap (λ z. z ++ d) (f ∙ ap (λ z. z ++ b) e) ∙ (append_assoc (t0 ++ a) b d ∙ append_assoc t0 a (b ++ d)))
+
+-- what holds where a call went well holds of what follows from it
+pub on_ok : {X E : Type 0} (r : Result X E) (P Q : Type 0) → OnOk r P → (P → Q) → OnOk r Q
+on_ok (Ok x) P Q p f = f p
+on_ok (Err e) P Q p f = tt
+
 -- the place of a script's fault
 pub fault_named : (script : List ℕ) (fault : ScriptFault) (place start number : ℕ) (line : List ℕ) (n m : ℕ) {E : Type 0} (v : Result (Vec ℕ Global) E) → IsFirstFaultAt script fault place
-    → IsLineAt script place start line number → n ≡ number → m ≡ place - start → IfOk v (λ text. Has (spot_words n (m + 1)) text.items) → IfOk v (λ text. TellsFault script text.items)
+    → IsLineAt script place start line number → n ≡ number → m ≡ place - start → IfOk v (λ text. IsSpotTold n (m + 1) text.items) → IfOk v (λ text. TellsFault script text.items)
 fault_named script fault place start number line n m (Err e) first at a b has = tt
 fault_named script fault place start number line n m (Ok text) first at a b has = record {
   fault = fault;
@@ -22,12 +37,15 @@ fault_named script fault place start number line n m (Ok text) first at a b has 
   start = start;
   line = line;
   number = number;
+  label = has.0;
   is_first = first;
   is_line = at;
-  told = let k : Has (spot_words n (m + 1)) text.items ≡ Has (spot_words number (place - start + 1)) text.items = rw (a, b) refl in subst (λ (t : Type 0). t) k has;
+  told =
+      let k : Has (spot_words n (m + 1) has.0) text.items ≡ Has (spot_words number (place - start + 1) has.0) text.items = rw (a, b) refl in
+      subst (λ (t : Type 0). t) k has.1;
 }
 
 -- a line that spells no edge
-pub bad_told : (trace : List ℕ) (n : ℕ) {E : Type 0} (v : Result (Vec ℕ Global) E) → IsFirstBad n trace → IfOk v (λ text. Has (line_words n) text.items) → IfOk v (λ text. IsTraceTold trace text.items)
+pub bad_told : (trace : List ℕ) (n : ℕ) {E : Type 0} (v : Result (Vec ℕ Global) E) → IsFirstBad n trace → IfOk v (λ text. Begins (line_words n) text.items) → IfOk v (λ text. IsTraceTold trace text.items)
 bad_told trace n (Err e) first has = tt
 bad_told trace n (Ok text) first has = record { edges = first.edges; bad = Some n; says = (first, refl); told = has }

@@ -11,13 +11,22 @@ use Rattle.pr_basic.specs.FaultPlaces.{IsFirstFaultAt}
 use Rattle.pr_basic.specs.Grammar.{IsScript}
 use Rattle.pr_basic.specs.LineAt.{IsLineAt}
 
--- these words stand in a text
+-- these words stand in a text; a text begins with them
 abbrev pub Has : (words text : List ℕ) → Type 0
 Has words text = (before : List ℕ) × (behind : List ℕ) × (text ≡ before ++ (words ++ behind))
 
--- the words for a place of a script: its line, and its column in it, both from 1
-abbrev pub spot_words : (line column : ℕ) → List ℕ
-spot_words line column = codes "  line " ++ (decimal line ++ (codes ", column " ++ decimal column))
+abbrev pub Begins : (words text : List ℕ) → Type 0
+Begins words text = (behind : List ℕ) × (text ≡ words ++ behind)
+
+-- what may stand behind a column: the number of the BASIC line
+abbrev pub label_words : Option ℕ → List ℕ
+label_words None = codes ": "
+label_words (Some n) = codes ", BASIC line " ++ (decimal n ++ codes ": ")
+
+-- the words for a place of a script, below the caret: its line, and its column in it, both from 1. No line of a script has a byte 10,
+-- so these words stand in no line that is shown
+abbrev pub spot_words : (line column : ℕ) → (label : Option ℕ) → List ℕ
+spot_words line column label = codes "^\n  line " ++ (decimal line ++ (codes ", column " ++ (decimal column ++ label_words label)))
 
 -- of a text with a first fault its line and column are told
 pub record TellsFault (script text : List ℕ) : Type 0 where
@@ -26,9 +35,10 @@ pub record TellsFault (script text : List ℕ) : Type 0 where
   pub start : ℕ
   pub line : List ℕ
   pub number : ℕ
+  pub label : Option ℕ
   pub is_first : IsFirstFaultAt script fault place
   pub is_line : IsLineAt script place start line number
-  pub told : Has (spot_words number (place - start + 1)) text
+  pub told : Has (spot_words number (place - start + 1) label) text
 
 -- of a script nothing is told
 pub record IsGood (script text : List ℕ) : Type 0 where
@@ -44,22 +54,22 @@ IsScriptTold script text = IsGood script text ⊎ TellsFault script text
 abbrev pub edge_words : (index : ℕ) → List ℕ
 edge_words n = codes "  line " ++ (decimal (n + 1) ++ (codes ", edge " ++ (decimal n ++ codes ": ")))
 
--- what is told of edges with this first fault, if they have one, by the words for an edge: nothing of a lawful trace; the edge that is
--- not allowed; or that they end too soon
-abbrev pub IsFaultTold : (words : ℕ → List ℕ) → Option WaveFault → (text : List ℕ) → Type 0
-IsFaultTold words None text = text ≡ []
-IsFaultTold words (Some (wave.Start n)) text = Has (words n) text
-IsFaultTold words (Some (wave.Order n)) text = Has (words n) text
-IsFaultTold words (Some (wave.TooEarly n)) text = Has (words n) text
-IsFaultTold words (Some (wave.TooLate n)) text = Has (words n) text
-IsFaultTold words (Some (wave.Shape n)) text = Has (words n) text
-IsFaultTold words (Some (wave.Truncated n)) text = Has (codes "  the last edge: ") text
-IsFaultTold words (Some wave.NoMemory) text = ⊥
+-- what is told of edges with this first fault, if they have one: nothing of a lawful trace; the edge that is not allowed; or that they
+-- end too soon
+abbrev pub IsFaultTold : Option WaveFault → (text : List ℕ) → Type 0
+IsFaultTold None text = text ≡ []
+IsFaultTold (Some (wave.Start n)) text = Begins (edge_words n) text
+IsFaultTold (Some (wave.Order n)) text = Begins (edge_words n) text
+IsFaultTold (Some (wave.TooEarly n)) text = Begins (edge_words n) text
+IsFaultTold (Some (wave.TooLate n)) text = Begins (edge_words n) text
+IsFaultTold (Some (wave.Shape n)) text = Begins (edge_words n) text
+IsFaultTold (Some (wave.Truncated n)) text = Begins (codes "  the last edge: ") text
+IsFaultTold (Some wave.NoMemory) text = ⊥
 
 -- what is told of edges, of which there may be none
-abbrev pub AreEdgesTold : (words : ℕ → List ℕ) → List Edge → (text : List ℕ) → Type 0
-AreEdgesTold words [] text = 0 < length text
-AreEdgesTold words (e ∷ es) text = IsFaultTold words (fault_of (e ∷ es)) text
+abbrev pub AreEdgesTold : List Edge → (text : List ℕ) → Type 0
+AreEdgesTold [] text = Begins (codes "  there is no edge: ") text
+AreEdgesTold (e ∷ es) text = IsFaultTold (fault_of (e ∷ es)) text
 
 -- the words for a line that spells no edge: its number, from 1
 abbrev pub line_words : (number : ℕ) → List ℕ
@@ -67,8 +77,8 @@ line_words n = codes "  line " ++ (decimal n ++ codes ": ")
 
 -- what is told of a trace text: the first line that spells no edge, or what is told of its edges
 abbrev pub IsTextTold : (edges : List Edge) → (bad : Option ℕ) → (text : List ℕ) → Type 0
-IsTextTold edges None text = AreEdgesTold edge_words edges text
-IsTextTold edges (Some n) text = Has (line_words n) text
+IsTextTold edges None text = AreEdgesTold edges text
+IsTextTold edges (Some n) text = Begins (line_words n) text
 
 pub record IsTraceTold (trace text : List ℕ) : Type 0 where
   pub edges : List Edge

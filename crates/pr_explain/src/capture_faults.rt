@@ -96,7 +96,7 @@ fn rule_of_dumps(fault: CaptureFault) -> &'static str {
              a trace text is read"
         }
         CaptureFault::NoTimescale(_) => {
-            "the header of a dump has $timescale 1 us $end, or 1, 10 or 100 of another unit from fs to s"
+            "the header of a dump has $timescale 1 us $end: 1, 10 or 100 of a unit from fs to s"
         }
         CaptureFault::BadTime(_) => {
             "a time is # and a number of the dump's unit below 2^64, and lies below 2^64 microseconds"
@@ -109,7 +109,7 @@ fn rule_of_dumps(fault: CaptureFault) -> &'static str {
 fn rule_of_tables(fault: CaptureFault) -> &'static str {
     match fault {
         CaptureFault::BadTime(_) => {
-            "a row begins with its time in seconds, digits with or without decimals, as in 0.000125, and lies below \
+            "a row begins with its time in seconds, digits with or without decimals, as in 0.000125; it is below \
              2^64 microseconds"
         },
         _ => rule_of_both(fault),

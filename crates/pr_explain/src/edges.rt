@@ -2,7 +2,7 @@
 
 ghost use Rattle.std.specs.Prelude.{◌≡◌, ◌+◌, ◌++◌, ◌^◌, ◌<◌, ◌≤◌, codes, length, true, IfErr, IfOk, OnOk};
 ghost use Rattle.pr_explain.specs.Places.{Follows, words_for};
-ghost use Rattle.pr_explain.specs.Told.{AreEdgesTold, Has};
+ghost use Rattle.pr_explain.specs.Told.{AreEdgesTold, Begins, edge_words};
 
 use crate::places::{LAST_MOMENT, push_place, push_rows};
 use crate::rows::{Row, rows_behind};
@@ -61,7 +61,7 @@ pub fn edges_told(
     origin: Origin,
     is_whole: bool,
 ) -> Result<Vec<u8>, NoMemory>
-    ensures { is_whole ≡ true → IfOk result (λ text. AreEdgesTold (words_for origin) edges.now text.items) }
+    ensures { origin ≡ Origin.Text → is_whole ≡ true → IfOk result (λ text. AreEdgesTold edges.now text.items) }
 {
     let [first, others @ ..] = edges else {
         return no_edge_told(alloc, origin, is_whole);
@@ -85,18 +85,21 @@ pub fn edges_told(
 
 /// That there is no edge, where edges are whole.
 fn no_edge_told(alloc: Global, origin: Origin, is_whole: bool) -> Result<Vec<u8>, NoMemory>
-    ensures { is_whole ≡ true → IfOk result (λ text. 0 < length text.items) }
+    ensures { origin ≡ Origin.Text → is_whole ≡ true → IfOk result (λ text. Begins (codes "  there is no edge: ") text.items) }
 {
     let mut text = Vec::new(alloc);
-    if is_whole {
-        match origin {
-            Origin::Text => push(&mut text, "  there is no edge: a trace begins with 0 111\n")?,
-            Origin::Recording(_) => push(
-                &mut text,
-                "  the recording has no sample of the three lines\n",
-            )?,
-        }
+    if !is_whole {
+        return Ok(text);
     }
+    if let Origin::Recording(_) = origin {
+        push(
+            &mut text,
+            "  the recording has no sample of the three lines\n",
+        )?;
+        return Ok(text);
+    }
+    push(&mut text, "  there is no edge: ")?;
+    push(&mut text, "a trace begins with 0 111\n")?;
     Ok(text)
 }
 
@@ -193,7 +196,9 @@ fn first_idle(edges: &[Edge]) -> Option<Edge> {
 }
 
 /// Adds that moments in brackets are the recording's own, where there will be some.
-fn push_brackets(text: &mut Vec<u8>, origin: Origin) -> Result<(), NoMemory> {
+fn push_brackets(text: &mut Vec<u8>, origin: Origin) -> Result<(), NoMemory>
+    ensures { origin ≡ Origin.Text → OnOk result (text.new.items ≡ text.old.items) }
+{
     match origin {
         Origin::Recording(start) if start > 0 => {
             push(text, "  [in brackets: the recording's own microseconds]\n")
@@ -219,7 +224,7 @@ fn push_index(text: &mut Vec<u8>, index: usize, origin: Origin) -> Result<(), No
     push(text, ": ")
 }
 
-/// What is told of the edge at an index, and what more there is, behind the index.
+/// The words for the edge at an index, and `rest` behind them.
 fn with_index(
     alloc: Global,
     index: usize,
@@ -227,7 +232,7 @@ fn with_index(
     rest: Vec<u8>,
 ) -> Result<Vec<u8>, NoMemory>
     requires { index + 1 < 2 ^ 64 }
-    ensures { IfOk result (λ text. Has (words_for origin index) text.items) }
+    ensures { origin ≡ Origin.Text → IfOk result (λ text. Begins (edge_words index) text.items) }
 {
     let mut text = Vec::new(alloc);
     push_brackets(&mut text, origin)?;
@@ -314,7 +319,7 @@ fn push_by(text: &mut Vec<u8>, missed: u64, when: &str) -> Result<(), NoMemory> 
 
 /// That edges end too soon.
 fn end_told(alloc: Global, led: &Led, origin: Origin) -> Result<Vec<u8>, NoMemory>
-    ensures { IfOk result (λ text. Has (codes "  the last edge: ") text.items) }
+    ensures { origin ≡ Origin.Text → IfOk result (λ text. Begins (codes "  the last edge: ") text.items) }
 {
     let rest = end_rest(alloc, led, origin)?;
     let mut text = Vec::new(alloc);

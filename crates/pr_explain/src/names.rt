@@ -173,25 +173,35 @@ fn after_spaces(bytes: &[u8]) -> &[u8]
     &[]
 }
 
-/// Whether the first field of a line is a number.
+/// Whether the first field of a line is digits, points, signs and, behind a digit, the letter of an
+/// exponent alone, with a digit among them.
 pub fn begins_with_number(line: &[u8]) -> bool {
     let (field, _) = split_field(line);
     let mut has_digit = false;
     for byte in unframed(field) {
         if byte.is_ascii_digit() {
             has_digit = true;
-        } else if *byte != b'.' && *byte != b'-' && *byte != b'+' {
+        } else if !is_mark_of_number(*byte, has_digit) {
             return false;
         }
     }
     has_digit
 }
 
+/// Whether a byte that is no digit stands in numbers, behind a digit or before any.
+fn is_mark_of_number(byte: u8, has_digit: bool) -> bool {
+    byte == b'.' || byte == b'-' || byte == b'+' || (has_digit && byte.eq_ignore_ascii_case(&b'e'))
+}
+
 /// Adds which column of a table is that of the time, by the line of their names.
 pub fn push_time_column(text: &mut Vec<u8>, line: &[u8]) -> Result<(), NoMemory> {
     let (time, _) = split_field(line);
+    let name = unframed(time);
+    if name.is_empty() {
+        return push(text, "  the first column is the time in seconds\n");
+    }
     push(text, "  the first column, called ")?;
-    push_cut(text, unframed(time))?;
+    push_cut(text, name)?;
     push(text, ", is the time in seconds\n")
 }
 

@@ -1,8 +1,9 @@
 //! Why a script is refused.
 
-ghost use Rattle.std.specs.Prelude.{◌≡◌, ◌+◌, ◌-◌, ◌≤◌, length, IfOk};
+ghost use Rattle.std.specs.Prelude.{◌≡◌, ◌+◌, ◌-◌, ◌++◌, ◌≤◌, length, IfOk, OnOk, Some};
 ghost use Rattle.pr_basic.specs.FaultPlaces.{IsFirstFaultAt};
-ghost use Rattle.pr_explain.specs.Told.{Has, IsScriptTold, TellsFault, spot_words};
+ghost use Rattle.pr_explain.specs.Told.{IsScriptTold, TellsFault, label_words};
+ghost use Rattle.pr_explain.specs.Places.{IsSpotTold};
 
 use crate::context::{expected_at, is_in_string, takes_item};
 use crate::texts::{push, push_cut, push_number, push_shown, without_end};
@@ -81,27 +82,42 @@ fn spot_in(line: LineAt<'_>, place: usize) -> Spot<'_>
 
 /// What there is to say of a fault.
 fn fault_told(alloc: Global, spot: Spot<'_>, fault: ScriptFault) -> Result<Vec<u8>, NoMemory>
-    ensures { IfOk result (λ text. Has (spot_words spot.entry.number (length spot.entry.before.now + 1)) text.items) }
+    ensures { IfOk result (λ text. IsSpotTold spot.entry.number (length spot.entry.before.now + 1) text.items) }
 {
     let rest = fault_rest(alloc, spot, fault)?;
     let mut text = Vec::new(alloc);
-    push_caret(&mut text, spot)?;
-    push(&mut text, "  line ")?;
+    push_shown_line(&mut text, spot)?;
+    push(&mut text, "^\n  line ")?;
     push_number(&mut text, spot.number as u64)?;
     push(&mut text, ", column ")?;
     push_number(&mut text, spot.before.len() as u64 + 1)?;
+    push_label(&mut text, basic_number(spot.before))?;
     text.extend_from_slice(rest.as_slice())?;
     Ok(text)
+}
+
+/// Adds the number of the BASIC line, if it has one, and a colon.
+fn push_label(text: &mut Vec<u8>, label: Option<u32>) -> Result<(), NoMemory>
+    ensures { OnOk result (text.new.items ≡ text.old.items ++ label_words label) }
+{
+    match label {
+        None => push(text, ": "),
+        Some(label) => push_basic_line(text, u64::from(label)),
+    }
+}
+
+/// Adds the number of a BASIC line and a colon.
+fn push_basic_line(text: &mut Vec<u8>, label: u64) -> Result<(), NoMemory>
+    ensures { OnOk result (text.new.items ≡ text.old.items ++ label_words (Some label)) }
+{
+    push(text, ", BASIC line ")?;
+    push_number(text, label)?;
+    push(text, ": ")
 }
 
 /// What is told behind the place of a fault.
 fn fault_rest(alloc: Global, spot: Spot<'_>, fault: ScriptFault) -> Result<Vec<u8>, NoMemory> {
     let mut text = Vec::new(alloc);
-    if let Some(label) = basic_number(spot.before) {
-        push(&mut text, ", BASIC line ")?;
-        push_number(&mut text, u64::from(label))?;
-    }
-    push(&mut text, ": ")?;
     push_word(&mut text, word_in(spot))?;
     push(&mut text, ": ")?;
     push(&mut text, expected_at(spot.before, spot.rest, fault))?;
@@ -166,8 +182,8 @@ fn wants_number(fault: ScriptFault) -> bool {
     asks_for_a_word(fault) && !matches!(fault, ScriptFault::UnknownWord(_))
 }
 
-/// Adds the line around a place, and a caret under it.
-fn push_caret(text: &mut Vec<u8>, spot: Spot<'_>) -> Result<(), NoMemory> {
+/// Adds the line around a place, and what stands before a caret under it.
+fn push_shown_line(text: &mut Vec<u8>, spot: Spot<'_>) -> Result<(), NoMemory> {
     let start = spot.before.len().saturating_sub(BEFORE);
     let before = &spot.before[start..];
     push(text, "  ")?;
@@ -187,7 +203,7 @@ fn push_caret(text: &mut Vec<u8>, spot: Spot<'_>) -> Result<(), NoMemory> {
     for _ in 0..width {
         text.push(b' ')?;
     }
-    push(text, "^\n")
+    Ok(())
 }
 
 /// Adds a word, or that the line ends.

@@ -83,12 +83,18 @@ fn push_reason(
 ) -> Result<(), NoMemory> {
     match (stop, mode) {
         (Stop::DeviceNotPresent, StatusMode::Each) => push_unanswered(text, device, present),
-        (Stop::DeviceNotPresent, StatusMode::Kept) => push(
-            text,
-            "no printer has answered, here or at a statement before (--status kept); --present says \
-             which printers there are",
-        ),
+        (Stop::DeviceNotPresent, StatusMode::Kept) => push(text, kept_reason(present)),
         _ => push(text, reason_of(stop)),
+    }
+}
+
+/// What was not answered where the status goes on from statement to statement.
+fn kept_reason(present: Present) -> &'static str {
+    if present.four || present.five {
+        "no printer was listening to a byte that went out here or at a statement before (--status kept)"
+    } else {
+        "no printer has answered, here or at a statement before (--status kept); --present says which \
+         printers there are"
     }
 }
 

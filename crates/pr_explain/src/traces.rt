@@ -1,7 +1,7 @@
 //! Why a trace text is refused.
 
 ghost use Rattle.std.specs.Prelude.{IfOk};
-ghost use Rattle.pr_explain.specs.Told.{Has, IsTraceTold, line_words};
+ghost use Rattle.pr_explain.specs.Told.{Begins, IsTraceTold, line_words};
 
 use crate::edges::edges_told;
 use crate::texts::{Origin, has_comma, line_with, push, push_cut, push_number, without_end};
@@ -41,7 +41,7 @@ fn other_format(line: &[u8]) -> &'static str {
 /// The line with this number, which spells no edge, and what a line is. Then why the edges before it are
 /// not lawful, if they are not.
 fn bad_line_told(alloc: Global, trace: &[u8], number: usize) -> Result<Vec<u8>, NoMemory>
-    ensures { IfOk result (λ text. Has (line_words number) text.items) }
+    ensures { IfOk result (λ text. Begins (line_words number) text.items) }
 {
     let rest = bad_line_rest(alloc, trace, number)?;
     let mut text = Vec::new(alloc);

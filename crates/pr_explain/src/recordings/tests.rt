@@ -325,12 +325,12 @@ fn faults_of_tables(rt: HostRuntime) -> Result<(), Fail> {
         ("0,1,1,2\n", "a level of the three lines is 0 or 1"),
         (
             "start,1,1,1\n",
-            "a row begins with its time in seconds, digits with or without decimals, as in 0.000125, and lies \
+            "a row begins with its time in seconds, digits with or without decimals, as in 0.000125; it is \
              below 2^64 microseconds",
         ),
         (
             "18446744073709.551616,1,1,1\n",
-            "a row begins with its time in seconds, digits with or without decimals, as in 0.000125, and lies \
+            "a row begins with its time in seconds, digits with or without decimals, as in 0.000125; it is \
              below 2^64 microseconds",
         ),
     ];
@@ -415,8 +415,8 @@ fn faults_of_dumps(rt: HostRuntime) -> Result<(), Fail> {
         b"$enddefinitions $end\n",
         Recording::Dump,
         0,
-        "  line 1: $enddefinitions $end\n  the header of a dump has $timescale 1 us $end, or 1, 10 or \
-         100 of another unit from fs to s\n",
+        "  line 1: $enddefinitions $end\n  the header of a dump has $timescale 1 us $end: 1, 10 or \
+         100 of a unit from fs to s\n",
     )
 }
 

@@ -6,6 +6,11 @@ use std::process::Abort;
 use std::rt::Env;
 use std::test::Fail;
 
+const BOTH: Present = Present {
+    four: true,
+    five: true,
+};
+
 /// No printer is there.
 const NONE: Present = Present {
     four: false,
@@ -62,6 +67,19 @@ fn kept_status(rt: HostRuntime) -> Result<(), Fail> {
     let wanted = "?DEVICE NOT PRESENT  ERROR (statement 4)\n  line 4: PRINT#4,\"B\"\n  \
          no printer has answered, here or at a statement before (--status kept); --present says which \
          printers there are\n";
+    assert_eq!(rt; text.as_slice(), wanted.as_bytes());
+    Ok(())
+}
+
+/// Where a printer is there it answers each LISTEN, and only a byte can have gone unheard.
+#[test]
+fn kept_status_of_a_byte(rt: HostRuntime) -> Result<(), Fail> {
+    let script = "OPEN 4,4,7:OPEN 5,5:CMD 4:CLOSE 4:PRINT \"X\":CMD 5\n";
+    let (mode, stop) = (StatusMode::Kept, Stop::DeviceNotPresent);
+    let text = explain_stop(rt.alloc(), script.as_bytes(), mode, stop, 6, BOTH)?;
+    let wanted = "?DEVICE NOT PRESENT  ERROR (statement 6)\n  line 1: OPEN 4,4,7:OPEN 5,5:CMD \
+         4:CLOSE 4:PRINT \"X\":CMD 5\n  no printer was listening to a byte that went out here or at a \
+         statement before (--status kept)\n";
     assert_eq!(rt; text.as_slice(), wanted.as_bytes());
     Ok(())
 }
