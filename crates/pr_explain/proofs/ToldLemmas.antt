@@ -9,10 +9,6 @@ use Rattle.pr_basic.specs.LineAt.{IsLineAt}
 use Rattle.pr_explain.specs.Places.{IsSpotTold}
 use Rattle.pr_explain.specs.Told.{Begins, Has, IsTraceTold, TellsFault, line_words, spot_words}
 
--- words behind others, and more behind them
-pub has_words : (front words text all rest : List ℕ) → text ≡ front ++ words → all ≡ text ++ rest → Has words all
-has_words front words text all rest e f = (front, rest, f ∙ (ap (λ z. z ++ rest) e ∙ append_assoc front words rest))
-
 -- words at the front, and more behind them
 pub begins_words : (front words text all rest : List ℕ) → front ≡ [] → text ≡ front ++ words → all ≡ text ++ rest → Begins words all
 begins_words front words text all rest n e f = (rest, f ∙ (ap (λ z. z ++ rest) e ∙ ap (λ z. (z ++ words) ++ rest) n))
