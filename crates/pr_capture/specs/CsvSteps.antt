@@ -95,3 +95,9 @@ onward (Some n) f = f n
 -- how many lines have ended, with the one that has begun
 abbrev pub line_number : CsvReader → ℕ
 line_number r = r.number
+
+-- whatever follows the text that a reader has taken, the samples that it has given come first
+abbrev pub GivenSamplesComeFirst : Type 0
+GivenSamplesComeFirst =
+    (s : Signals) (text more : List ℕ) (given : List Edge) (r : CsvReader) → HasRead s text given r
+    → (later : List Edge) × ((csv_told s (text ++ more)).samples ≡ given ++ later)

@@ -33,3 +33,9 @@ HasGathered start samples edges g = (more : List Edge) → edges_of start (sampl
 abbrev pub GathersMore : (samples edges : List Edge) (old new : Gatherer) → Type 0
 GathersMore samples edges old new =
     (start : ℕ) (before given : List Edge) → HasGathered start before given old → HasGathered start (before ++ samples) (given ++ edges) new
+
+-- whatever follows the samples that a gatherer has taken, the edges that it has given come first
+abbrev pub GivenEdgesComeFirst : Type 0
+GivenEdgesComeFirst =
+    (start : ℕ) (samples more given : List Edge) (g : Gatherer) → HasGathered start samples given g
+    → (later : List Edge) × (edges_of start (samples ++ more) ≡ given ++ later)

@@ -128,3 +128,9 @@ AnswersEnd end p (Err f) = (s : Signals) → words_told s end p [] ≡ refused f
 -- how many lines have ended, with the one that has begun
 abbrev pub line_number : VcdReader → ℕ
 line_number r = r.number
+
+-- whatever follows the text that a reader has taken, the samples that it has given come first
+abbrev pub GivenSamplesComeFirst : Type 0
+GivenSamplesComeFirst =
+    (s : Signals) (text more : List ℕ) (given : List Edge) (r : VcdReader) → HasRead s text given r
+    → (later : List Edge) × ((vcd_told s (text ++ more)).samples ≡ given ++ later)

@@ -11,9 +11,6 @@ use Rattle.pr_wire.specs.declared.text.TraceFault.TheVariants as trace
 use Rattle.pr_wire.specs.Laws.{LawfulIsFaultless}
 use Rattle.pr_wire.specs.Pieces.{frames_of, Spells}
 use Rattle.pr_wire.specs.Table.{fault_of}
-use Rattle.pr_capture.specs.declared.gatherer.Gatherer.{Gatherer}
-use Rattle.pr_capture.specs.Gathering.{GathersMore, HasGathered}
-use Rattle.pr_capture.specs.Samples.{edges_of, listed}
 use Rattle.pr_story.specs.declared.storyteller.Storyteller.{Storyteller}
 use Rattle.pr_story.specs.declared.timed_frame.TimedFrame.{TimedFrame}
 use Rattle.pr_story.specs.Laws.{TracesTellWhatTheySpell}
@@ -22,8 +19,6 @@ use Rattle.pr_story.specs.StoryText.{is_data, story_line, story_lines, story_of}
 use Rattle.pr_story.specs.Telling.{HasTold}
 use Rattle.pr_options.specs.declared.format.Report.{Report}
 use Rattle.pr_options.specs.declared.format.Report.TheVariants as report
-use Rattle.pr_options.specs.declared.format.Source.{Source}
-use Rattle.pr_options.specs.declared.format.Source.TheVariants as source
 use Rattle.pr_options.specs.declared.format.TraceInput.{TraceInput}
 use Rattle.pr_cli.specs.FrameText.{frame_line, frame_lines}
 use Rattle.pr_cli.specs.Report.{edges_made, refusal, IsReport}
@@ -243,35 +238,11 @@ report_ends lawful tell report edges r own fault t ends is lines h =
     by timed none (Some f) e = lines ∙ rw (h.lines, e) (append-nil (lines_of_frames report h.given) ∙ ap (lines_of_frames report) (sym timed))
 
 -- samples: none yet
-pub heard_none : (input : TraceInput) (report : Report) (r : TraceReporter) → HasMade input [] [] r.gatherer → HasReported report [] r.frames → HasHeard input report [] r
+pub heard_none : (input : TraceInput) (report : Report) (r : TraceReporter) → HasMade input [] [] r.maker → HasReported report [] r.frames → HasHeard input report [] r
 heard_none input report r m h = record { edges = []; made = m; reported = h }
 
-pub made_gathered : (input : TraceInput) (g : Gatherer) → (input.source ≡ source.Text → ⊥) → HasGathered input.start [] [] g → HasMade input [] [] (Some g)
-made_gathered input g n h = (by input.source refl, h)
-  where
-    by : (s : Source) → input.source ≡ s → (ss : List Edge) → edges_made input.source input.start ss ≡ edges_of input.start ss
-    by source.Text e ss = absurd (n e)
-    by source.Csv e ss = rw e refl
-    by source.Vcd e ss = rw e refl
-
--- one sample more, and the edge that is made by it, if any
-pub makes_gathered : (s : Edge) (e : Option Edge) (g h : Gatherer) → GathersMore (s ∷ []) (listed e) g h → MakesMore s (Some g) e (Some h)
-makes_gathered s None g h more = λ input samples edges m. (m.0, more input.start samples edges m.1)
-makes_gathered s (Some e) g h more = λ input samples edges m. (m.0, more input.start samples edges m.1)
-
-pub makes_kept : (s : Edge) → MakesMore s None (Some s) None
-makes_kept s = λ input samples edges m. (m.0, ap (λ l. l ++ s ∷ []) m.1)
-
--- all edges that were made
-pub makes_all : (g : Gatherer) (last : Option Edge) → ((start : ℕ) (ss es : List Edge) → HasGathered start ss es g → edges_of start ss ≡ es ++ listed last) → MakesAll (Some g) last
-makes_all g None ends = λ input samples edges m. sym (m.0 samples ∙ ends input.start samples edges m.1)
-makes_all g (Some e) ends = λ input samples edges m. sym (m.0 samples ∙ ends input.start samples edges m.1)
-
-pub makes_same : MakesAll None None
-makes_same = λ input samples edges m. append-nil edges ∙ (m.1 ∙ rw m.0 refl)
-
 -- the reporter takes a sample
-pub hears_more : (old new : TraceReporter) (s : Edge) (e : Option Edge) → MakesMore s old.gatherer e new.gatherer → ReportsMore (option_to_list e) old.frames new.frames
+pub hears_more : (old new : TraceReporter) (s : Edge) (e : Option Edge) → MakesMore s old.maker e new.maker → ReportsMore (option_to_list e) old.frames new.frames
     → (input : TraceInput) (report : Report) (samples : List Edge) → HasHeard input report samples old → HasHeard input report (samples ++ s ∷ []) new
 hears_more old new s e makes reports input report samples k = record {
   edges = k.edges ++ option_to_list e;
@@ -280,7 +251,7 @@ hears_more old new s e makes reports input report samples k = record {
 }
 
 -- the end of samples
-pub samples_end : (r : TraceReporter) (frames : FrameReporter) (e : Option Edge) (own : Option CliFault) (t : ReportText) → MakesAll r.gatherer e → ReportsMore (option_to_list e) r.frames frames
+pub samples_end : (r : TraceReporter) (frames : FrameReporter) (e : Option Edge) (own : Option CliFault) (t : ReportText) → MakesAll r.maker e → ReportsMore (option_to_list e) r.frames frames
     → ((report : Report) (edges : List Edge) → HasReported report edges frames → EndsReport report edges own t) → EndsSamples r own t
 samples_end r frames e own t makes reports ends = λ input report samples k.
     let P : List Edge → Type 0 = λ es. EndsReport report es own t in

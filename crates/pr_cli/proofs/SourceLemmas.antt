@@ -1,26 +1,29 @@
 -- A reader of a trace in any format, by the readers of each.
 use Rattle.std.proofs.Common.{◌≡◌, ◌⊎◌, inl, inr, ℕ, List, ◌++◌, refl, ap, sym, subst, ◌∙◌, append-nil, Option, Some, None, Result, Ok, Err}
-use Rattle.std.specs.Prelude.{IfErr, IsErrAnd}
+use Rattle.std.specs.Prelude.{IfErr, IsErrAnd, option_map}
 use Rattle.std.specs.Option.{option_to_list}
 use Rattle.pr_wire.specs.declared.Edge.{Edge}
 use Rattle.pr_wire.specs.declared.reader.TraceReader.{TraceReader}
 use Rattle.pr_wire.specs.declared.text.TraceFault.{TraceFault}
 use Rattle.pr_wire.specs.declared.text.TraceFault.TheVariants as trace
+use Rattle.pr_wire.specs.TextLaws.{TextSaysSomething}
 use Rattle.pr_wire.specs.TraceReading as text
 use Rattle.pr_capture.specs.declared.csv.CsvReader.{CsvReader}
 use Rattle.pr_capture.specs.declared.vcd_reader.VcdReader.{VcdReader}
 use Rattle.pr_capture.specs.declared.fault.CaptureFault.{CaptureFault}
 use Rattle.pr_capture.specs.declared.fault.CaptureFault.TheVariants as capture
 use Rattle.pr_capture.specs.CsvSteps as csv
+use Rattle.pr_capture.specs.Csv.{csv_told}
 use Rattle.pr_capture.specs.Recording.{ended, refused, told_behind, Told}
 use Rattle.pr_capture.specs.Samples.{listed}
+use Rattle.pr_capture.specs.VcdReading.{vcd_told}
 use Rattle.pr_capture.specs.VcdSteps as vcd
 use Rattle.pr_options.specs.declared.format.Source.{Source}
 use Rattle.pr_options.specs.declared.format.Source.TheVariants as source
 use Rattle.pr_options.specs.declared.format.TraceInput.{TraceInput}
 use Rattle.pr_cli.specs.Faults.{fault_of_capture, fault_of_trace}
 use Rattle.pr_cli.specs.Report.{IsTold, SaysSamples}
-use Rattle.pr_cli.specs.Reported.{EndsInput, GivesMore, IsOwnFault, RefusesInput}
+use Rattle.pr_cli.specs.Reported.{EachTextSaysSamples, EndsInput, GivenSamplesComeFirst, GivesMore, HasGiven, IsOwnFault, RefusesInput}
 use Rattle.pr_cli.specs.declared.source_reader.SourceReader.{SourceReader}
 use Rattle.pr_cli.specs.declared.source_reader.SourceReader.TheVariants as reader
 use Rattle.pr_cli.specs.declared.fault.CliFault.{CliFault}
@@ -159,3 +162,32 @@ handed_on (Err x) f P h p = rw h p
 pub ended_on : (r : SourceReader) (v : Result (Option Edge) CliFault) (f : CliFault) → IsErrAnd v (λ x. x ≡ f) → EndsInput r (Err f) → EndsInput r v
 ended_on r (Ok x) f h p = absurd h
 ended_on r (Err x) f h p = rw h p
+
+-- the samples given come first
+pub given_first : text.GivenEdgesComeFirst → vcd.GivenSamplesComeFirst → csv.GivenSamplesComeFirst → GivenSamplesComeFirst
+given_first texts dumps tables = λ input t more given samples fault r h says. by input t more given samples fault r h says
+  where
+    by : (input : TraceInput) (t more : List ℕ) (given samples : List Edge) (fault : Option CliFault) (r : SourceReader) → HasGiven input t given r
+        → SaysSamples input input.source (t ++ more) samples fault → (later : List Edge) × (samples ≡ given ++ later)
+    by input t more given samples fault (reader.Text r) h says =
+        let k : SaysSamples input source.Text (t ++ more) samples fault = rw h.0 at says in
+        texts t more given samples k.0 r h.1 k.1
+    by input t more given samples fault (reader.Vcd r) h says =
+        let k : SaysSamples input source.Vcd (t ++ more) samples fault = rw h.0 at says in
+        let f = dumps input.signals t more given r h.1 in
+        (f.0, sym k.0 ∙ f.1)
+    by input t more given samples fault (reader.Csv r) h says =
+        let k : SaysSamples input source.Csv (t ++ more) samples fault = rw h.0 at says in
+        let f = tables input.signals t more given r h.1 in
+        (f.0, sym k.0 ∙ f.1)
+
+-- each text says something
+pub each_says : TextSaysSomething → EachTextSaysSamples
+each_says some = λ input t. by input t input.source
+  where
+    by : (input : TraceInput) (t : List ℕ) (s : Source) → (samples : List Edge) × (fault : Option CliFault) × SaysSamples input s t samples fault
+    by input t source.Text =
+        let e = some t in
+        (e.0, option_map (λ n. Trace (trace.BadLine n)) e.1, (e.1, e.2, refl))
+    by input t source.Csv = let told = csv_told input.signals t in (told.samples, option_map (λ f. Capture f) told.fault, (refl, refl))
+    by input t source.Vcd = let told = vcd_told input.signals t in (told.samples, option_map (λ f. Capture f) told.fault, (refl, refl))

@@ -12,7 +12,7 @@ use Rattle.pr_capture.specs.declared.fault.CaptureFault.TheVariants as capture
 use Rattle.pr_capture.specs.declared.gatherer.Gatherer.{Gatherer}
 use Rattle.pr_capture.specs.CsvSteps as csv
 use Rattle.pr_capture.specs.VcdSteps as vcd
-use Rattle.pr_capture.specs.Gathering.{HasGathered}
+use Rattle.pr_capture.specs.Gathering as gathering
 use Rattle.pr_capture.specs.Samples.{edges_of}
 use Rattle.pr_story.specs.declared.storyteller.Storyteller.{Storyteller}
 use Rattle.pr_story.specs.declared.timed_frame.TimedFrame.{TimedFrame}
@@ -26,6 +26,7 @@ use Rattle.pr_options.specs.declared.format.TraceInput.{TraceInput}
 use Rattle.pr_cli.specs.FrameText.{frame_line}
 use Rattle.pr_cli.specs.Report.{edges_made, refusal, IsReport, IsWhole, SaysSamples}
 use Rattle.pr_cli.specs.PartlyWritten.{AppendsFront}
+use Rattle.pr_cli.specs.declared.edge_maker.EdgeMaker.{EdgeMaker}
 use Rattle.pr_cli.specs.declared.reporter.FrameReporter.{FrameReporter}
 use Rattle.pr_cli.specs.declared.reporter.ReportText.{ReportText}
 use Rattle.pr_cli.specs.declared.reporter.TraceReporter.{TraceReporter}
@@ -79,6 +80,17 @@ EndsInput r (Ok sample) = (input : TraceInput) (t : List ℕ) (samples : List Ed
 EndsInput r (Err f) = (f ≡ NoMemory) ⊎ (IsOwnFault f
     × ((input : TraceInput) (t : List ℕ) (samples : List Edge) → HasGiven input t samples r
     → SaysSamples input input.source t samples (Some f)))
+
+-- whatever follows the text that a reader has taken, the samples that it has given come first
+abbrev pub GivenSamplesComeFirst : Type 0
+GivenSamplesComeFirst =
+    (input : TraceInput) (t more : List ℕ) (given samples : List Edge) (fault : Option CliFault) (r : SourceReader) → HasGiven input t given r
+    → SaysSamples input input.source (t ++ more) samples fault → (later : List Edge) × (samples ≡ given ++ later)
+
+-- each text says something in each format
+abbrev pub EachTextSaysSamples : Type 0
+EachTextSaysSamples =
+    (input : TraceInput) (t : List ℕ) → (samples : List Edge) × (fault : Option CliFault) × SaysSamples input input.source t samples fault
 
 -- Lines of frames.
 
@@ -156,25 +168,34 @@ pub record EndsReport (report : Report) (edges : List Edge) (own : Option CliFau
 -- Reports on samples.
 
 -- these edges were made of these samples
-abbrev pub HasMade : TraceInput → (samples edges : List Edge) → Option Gatherer → Type 0
-HasMade input samples edges None = (input.source ≡ source.Text) × (edges ≡ samples)
-HasMade input samples edges (Some g) =
-    ((ss : List Edge) → edges_made input.source input.start ss ≡ edges_of input.start ss) × HasGathered input.start samples edges g
+abbrev pub HasGathered : TraceInput → (samples edges : List Edge) → Option Gatherer → Type 0
+HasGathered input samples edges None = (input.source ≡ source.Text) × (edges ≡ samples)
+HasGathered input samples edges (Some g) =
+    ((ss : List Edge) → edges_made input.source input.start ss ≡ edges_of input.start ss) × gathering.HasGathered input.start samples edges g
+
+abbrev pub HasMade : TraceInput → (samples edges : List Edge) → EdgeMaker → Type 0
+HasMade input samples edges m = HasGathered input samples edges m.gatherer
 
 -- with a sample more comes this edge, if any
-abbrev pub MakesMore : Edge → Option Gatherer → Option Edge → Option Gatherer → Type 0
+abbrev pub MakesMore : Edge → EdgeMaker → Option Edge → EdgeMaker → Type 0
 MakesMore sample old e new = (input : TraceInput) (samples edges : List Edge) → HasMade input samples edges old
     → HasMade input (samples ++ sample ∷ []) (edges ++ option_to_list e) new
 
 -- and at the end of the samples
-abbrev pub MakesAll : Option Gatherer → Option Edge → Type 0
-MakesAll g e = (input : TraceInput) (samples edges : List Edge) → HasMade input samples edges g
+abbrev pub MakesAll : EdgeMaker → Option Edge → Type 0
+MakesAll m e = (input : TraceInput) (samples edges : List Edge) → HasMade input samples edges m
     → edges ++ option_to_list e ≡ edges_made input.source input.start samples
+
+-- whatever samples follow those that a maker has taken, the edges that it has given come first
+abbrev pub MadeEdgesComeFirst : Type 0
+MadeEdgesComeFirst =
+    (input : TraceInput) (samples more edges : List Edge) (m : EdgeMaker) → HasMade input samples edges m
+    → (later : List Edge) × (edges_made input.source input.start (samples ++ more) ≡ edges ++ later)
 
 -- the reporter has taken these samples
 pub record HasHeard (input : TraceInput) (report : Report) (samples : List Edge) (r : TraceReporter) : Type 0 where
   pub edges : List Edge
-  pub made : HasMade input samples edges r.gatherer
+  pub made : HasMade input samples edges r.maker
   pub reported : HasReported report edges r.frames
 
 -- how many edges it has taken

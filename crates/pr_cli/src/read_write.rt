@@ -90,8 +90,13 @@ pub fn write_whole<W: Write>(output: &mut Watched<W>, text: &[u8]) -> Result<(),
     flush(output)
 }
 
-/// Writes all of a piece of text, and does not flush. Refused, it has written a beginning of it.
-pub(crate) fn write_piece<W: Write>(output: &mut Watched<W>, piece: &[u8]) -> Result<(), WriteFault>
+/// Writes all of a piece of text, and does not flush.
+///
+/// # Errors
+///
+/// [`WriteFault`] exactly if a write failed, or a write of bytes took none; a beginning of the piece has
+/// then been written.
+pub fn write_piece<W: Write>(output: &mut Watched<W>, piece: &[u8]) -> Result<(), WriteFault>
     requires fresh { has_failed output.old ≡ false }
     ensures ok { OnOk result (Appends (W.contents (wrapped output.old)) (W.contents (wrapped output.new)) piece.now) }
     ensures err { OnErr result (AppendsFront (W.contents (wrapped output.old)) (W.contents (wrapped output.new)) piece.now) }

@@ -5,12 +5,12 @@ ghost use Rattle.std.specs.Option.{option_to_list};
 ghost use Rattle.pr_wire.specs.declared.Edge.{Edge};
 ghost use Rattle.pr_options.specs.declared.format.Report.{Report};
 ghost use Rattle.pr_cli.specs.Report.{refusal};
-ghost use Rattle.pr_cli.specs.Reported.{AddsLines, EndsReport, EndsSamples, HasEnded, HasHeard, HasReported, HearsMore, MakesAll, MakesMore, ReportsMore, edges_heard, edges_taken, last_line};
+ghost use Rattle.pr_cli.specs.Reported.{AddsLines, EndsReport, EndsSamples, HasEnded, HasHeard, HasReported, HearsMore, ReportsMore, edges_heard, edges_taken, last_line};
 
+use crate::edge_maker::EdgeMaker;
 use crate::fault::CliFault;
 use crate::frame_text::push_frame;
-use pr_capture::Gatherer;
-use pr_options::{Report, Source, TraceInput};
+use pr_options::{Report, TraceInput};
 use pr_story::{Storyteller, TimedFrame, frames_are_told, is_data, push_story_line};
 use pr_wire::{Edge, WaveFault, lawful_traces};
 use std::alloc::{AllocError, Global};
@@ -136,31 +136,10 @@ fn with_last_line(mut lines: Vec<u8>, refused: Option<CliFault>) -> Result<Vec<u
     Ok(lines)
 }
 
-/// The edge that is made with the next sample, or is the next edge of an input that has edges.
-fn next_edge(gatherer: &mut Option<Gatherer>, sample: Edge) -> Option<Edge>
-    ensures { MakesMore sample gatherer.old result gatherer.new }
-{
-    match gatherer {
-        Some(gatherer) => gatherer.take(sample),
-        None => Some(sample),
-    }
-}
-
-/// The edge that is made at the end of the samples, if one is.
-fn last_edge(gatherer: Option<Gatherer>) -> Option<Edge>
-    ensures { MakesAll gatherer result }
-{
-    match gatherer {
-        Some(gatherer) => gatherer.finish(),
-        None => None,
-    }
-}
-
 /// A report on samples of an input: its edges are made of them, where the input has samples.
 #[derive(Drop)]
 pub struct TraceReporter {
-    /// Makes edges of samples; None where the input has edges.
-    gatherer: Option<Gatherer>,
+    maker: EdgeMaker,
     frames: FrameReporter,
 }
 
@@ -170,12 +149,8 @@ impl TraceReporter {
         ensures heard { HasHeard input.entry report [] result }
         ensures count { edges_heard result ≡ 0 }
     {
-        let gatherer = match input.source {
-            Source::Text => None,
-            Source::Vcd | Source::Csv => Some(Gatherer::new(input.start)),
-        };
         TraceReporter {
-            gatherer,
+            maker: EdgeMaker::new(input),
             frames: FrameReporter::new(alloc, report),
         }
     }
@@ -186,7 +161,7 @@ impl TraceReporter {
         ensures heard { OnOk result (HearsMore (sample ∷ []) self.old self.new) }
         ensures count { OnOk result (edges_heard self.new ≤ edges_heard self.old + 1) }
     {
-        let edge = next_edge(&mut self.gatherer, sample);
+        let edge = self.maker.take(sample);
         self.frames.take_if(edge)
     }
 
@@ -195,7 +170,7 @@ impl TraceReporter {
         requires few { edges_heard self + 1 < 2 ^ 64 }
         ensures { IfOk result (λ text. EndsSamples self own text) }
     {
-        let last = last_edge(self.gatherer);
+        let last = self.maker.finish();
         self.frames.take_if(last)?;
         self.frames.finish(own)
     }

@@ -1,12 +1,12 @@
 //! Reading a trace in any format.
 
 ghost use Rattle.std.specs.Prelude.{◌+◌, ◌^◌, ◌<◌, ◌≤◌, [], length, take, IfErr, IfOk, OnOk};
-ghost use Rattle.pr_cli.specs.Reported.{EndsInput, GivesMore, HasGiven, RefusesInput, lines_read};
+ghost use Rattle.pr_cli.specs.Reported.{EachTextSaysSamples, EndsInput, GivenSamplesComeFirst, GivesMore, HasGiven, RefusesInput, lines_read};
 
 use crate::fault::CliFault;
-use pr_capture::{CsvReader, VcdReader};
+use pr_capture::{CsvReader, VcdReader, given_samples_come_first};
 use pr_options::{Source, TraceInput};
-use pr_wire::{Edge, TraceReader};
+use pr_wire::{Edge, TraceReader, given_edges_come_first, trace_texts};
 use std::alloc::Global;
 
 /// Reads a trace that comes in blocks, in any format. A trace text gives edges, a recording samples.
@@ -67,4 +67,16 @@ impl<'a> SourceReader<'a> {
             SourceReader::Csv(reader) => Ok(reader.finish()?),
         }
     }
+}
+
+/// Laws, with nothing to run: whatever follows the bytes that a reader has taken, the samples that it has
+/// given are the first that the text says; and each text says samples in each format, up to its fault if
+/// it has one.
+pub fn texts_say_samples()
+    ensures first { GivenSamplesComeFirst }
+    ensures some { EachTextSaysSamples }
+{
+    given_edges_come_first();
+    given_samples_come_first();
+    trace_texts();
 }

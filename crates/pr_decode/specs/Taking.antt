@@ -10,7 +10,7 @@ use Rattle.pr_decode.specs.declared.reading.Reading.{Reading}
 use Rattle.pr_decode.specs.declared.stretch.Stretch as declared
 use Rattle.pr_decode.specs.declared.stretch.Turns.{Turns}
 use Rattle.pr_decode.specs.declared.stretch.Turns.TheVariants.{Still, Once, Twice, Thrice, Often}
-use Rattle.pr_decode.specs.Readings.{Bit, acknowledgement, ends_bit, first_late, is_settled, opening_of, readings, readings_of, transfer, turns_of}
+use Rattle.pr_decode.specs.Readings.{Bit, acknowledgement, ends_bit, first_late, is_settled, opening_of, readings, readings_of, settled_of, transfer, turns_of}
 use Rattle.pr_decode.specs.Stretches.{Stretch, stretches_from}
 
 -- the edges at which DATA has turned, the first four
@@ -114,10 +114,23 @@ pub record HasRead (edges : List Edge) (given : List Reading) (d : Decoder) : Ty
   pub told : (more : List Edge) → readings_of (edges ++ more) ≡ given ++ to_come_behind seen more
   pub settled : filter is_settled given ≡ given
 
--- an edge stands before the one taken last
-abbrev pub is_before : Edge → Option declared.Stretch → Type 0
-is_before e None = ⊥
-is_before e (Some s) = e.time < s.last.time
+-- the moment of the edge taken last, if one was
+abbrev pub time_in : Option declared.Stretch → Option ℕ
+time_in None = None
+time_in (Some s) = Some s.last.time
 
+abbrev pub last_time : Decoder → Option ℕ
+last_time d = time_in d.stretch
+
+-- a moment stands before another, if there is one
+abbrev pub StandsBefore : (time : ℕ) → (last : Option ℕ) → Type 0
+StandsBefore t None = ⊥
+StandsBefore t (Some last) = t < last
+
+-- an edge stands before the one taken last
 abbrev pub IsBefore : Edge → Decoder → Type 0
-IsBefore e d = is_before e d.stretch
+IsBefore e d = StandsBefore e.time (last_time d)
+
+-- the readings given are all that the edges taken settle
+abbrev pub GivenAreSettled : Type 0
+GivenAreSettled = (edges : List Edge) (given : List Reading) (d : Decoder) → HasRead edges given d → settled_of edges ≡ given

@@ -1,12 +1,12 @@
 //! The decoder: what a recording says, edge by edge.
 
-ghost use Rattle.std.specs.Prelude.{◌≡◌, ◌++◌, ◌∷◌, [], ◌<◌, ◌↔◌, List, OnErr, IfOk, IsErr, Some};
+ghost use Rattle.std.specs.Prelude.{◌≡◌, ◌++◌, ◌∷◌, [], ◌<◌, ◌↔◌, List, OnErr, OnOk, IfOk, IsErr, None, Some};
 ghost use Rattle.std.specs.Option.{option_to_list};
 ghost use Rattle.pr_wire.specs.declared.Edge.{Edge};
 ghost use Rattle.pr_decode.specs.declared.reading.Reading.{Reading};
 ghost use Rattle.pr_decode.specs.Readings.{readings_of, settled_of};
 ghost use Rattle.pr_decode.specs.Steps.{after, after_edge, ended_by, frame_ended, high_ended, low_ended, moved};
-ghost use Rattle.pr_decode.specs.Taking.{HasRead, IsBefore};
+ghost use Rattle.pr_decode.specs.Taking.{HasRead, IsBefore, last_time};
 
 use crate::reading::{FrameEnd, GlitchEnd, Reading, Transfer};
 use crate::stretch::{Stretch, calls, is_late};
@@ -103,7 +103,8 @@ fn moved(transfer: Option<Transfer>, stretch: Stretch, edge: Edge) -> Option<Tra
 impl Decoder {
     /// A decoder that has taken no edge. It takes no memory.
     pub fn new() -> Decoder
-        ensures { HasRead [] [] result }
+        ensures read { HasRead [] [] result }
+        ensures last { last_time result ≡ None }
     {
         Decoder {
             stretch: None,
@@ -146,6 +147,7 @@ impl Decoder {
     pub fn take(&mut self, edge: Edge) -> Result<Option<Reading>, GoesBack>
         ensures read { IfOk result (λ reading. (edges : List Edge) (given : List Reading) → HasRead edges given self.old →
             HasRead (edges ++ edge ∷ []) (given ++ option_to_list reading) self.new) }
+        ensures last { OnOk result (last_time self.new ≡ Some edge.time) }
         ensures back { IsErr result ↔ IsBefore edge self.old }
         ensures stays { OnErr result (self.new ≡ self.old) }
     {

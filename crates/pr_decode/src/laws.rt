@@ -1,12 +1,14 @@
 //! Laws of the definitions, with nothing to run. A caller whose proof needs one calls the function.
 
+ghost use Rattle.pr_decode.specs.Taking.{GivenAreSettled};
 ghost use Rattle.pr_decode.specs.Laws.{MoreEdgesAddReadings, OnlyTheLastIsCut, OutlinesDecide, TracesSayTheirPieces, TracesSayWhatTheySpell};
 
 /// A law: more edges only add readings behind those that there were, and the end of a recording cuts
-/// at most the last.
+/// at most the last. A decoder has given all that the edges taken settle.
 pub fn readings_add_up()
     ensures more { MoreEdgesAddReadings }
     ensures cut { OnlyTheLastIsCut }
+    ensures given { GivenAreSettled }
 {}
 
 /// A law: a lawful trace says the frames of its whole pieces with their moments, however it is cut, and

@@ -4,3 +4,4 @@ pub mod Summary
 pub mod Steps
 pub mod Taking
 pub mod Laws
+pub mod Verdict

@@ -38,7 +38,7 @@ found_ours p words (s ∷ ss) all =
 entered_ours : (stop : Option (Text × List Text)) → IfSome (entered (built print1525) stop) (λ met. IsOurs met.0)
 unfolding AllOurs
 entered_ours None = tt
-entered_ours (Some p) = found_ours (λ s. answers_to p.0 (label_of s)) p.1 (built print1525).subs (inl refl, (inr (inl refl), (inr (inr (inl refl)), (inr (inr (inr refl)), tt))))
+entered_ours (Some p) = found_ours (λ s. answers_to p.0 (label_of s)) p.1 (built print1525).subs (inl refl, (inr (inl refl), (inr (inr (inl refl)), (inr (inr (inr (inl refl))), (inr (inr (inr (inr refl))), tt)))))
 
 -- words name one of the program's subcommands or none
 pub subcommand_ours : (words : List Text) → IfSome (subcommand_of print1525 words) (λ met. IsOurs met.0)

@@ -32,14 +32,22 @@ pages_app = run_app (codes "pages") option.page_as
 abbrev pub bus_app : App
 bus_app = run_app (codes "bus") option.trace_as
 
--- what is read of a trace, by the subcommand that checks it
-abbrev pub input_app : App
-input_app =
-    with_option (with_rule (with_option (with_option (new_app (codes "check")) option.from) option.names) (flag_rule option.invert)) option.from_time
+-- a subcommand that reads a trace, and how it does
+abbrev pub input_app : Text → App
+input_app name =
+    with_option (with_rule (with_option (with_option (new_app name) option.from) option.names) (flag_rule option.invert)) option.from_time
+
+-- and what it writes
+abbrev pub trace_app : Text → Valued → App
+trace_app name form = with_rule (with_option (input_app name) form) (flag_rule option.explain)
 
 -- the subcommand that checks a trace
 abbrev pub check_app : App
-check_app = with_rule (with_option input_app option.report_as) (flag_rule option.explain)
+check_app = trace_app (codes "check") option.report_as
+
+-- the subcommand that tells what a recording says
+abbrev pub decode_app : App
+decode_app = trace_app (codes "decode") option.reading_as
 
 -- the subcommand that writes the page of a printer's bytes
 abbrev pub raw_app : App
@@ -52,4 +60,6 @@ program_app = on_top (λ s. record s { has_version = true; subcommand_required =
 -- the program
 abbrev pub print1525 : App
 print1525 =
-    with_subcommand (with_subcommand (with_subcommand (with_subcommand program_app pages_app.top) bus_app.top) check_app.top) raw_app.top
+    with_subcommand
+    (with_subcommand (with_subcommand (with_subcommand (with_subcommand program_app pages_app.top) bus_app.top) check_app.top) decode_app.top)
+    raw_app.top

@@ -16,7 +16,7 @@ use Rattle.pr_options.specs.declared.format.TraceFormat.{TraceFormat}
 use Rattle.pr_options.specs.declared.format.Report.{Report}
 use Rattle.pr_options.specs.declared.format.TraceInput.{TraceInput}
 use Rattle.pr_options.specs.declared.command_line.Job.{Job}
-use Rattle.pr_options.specs.declared.command_line.Job.TheVariants.{Pages, Bus, Check, Raw}
+use Rattle.pr_options.specs.declared.command_line.Job.TheVariants.{Pages, Bus, Check, Decode, Raw}
 use Rattle.pr_options.specs.declared.command_line.JobFault.{JobFault}
 use Rattle.pr_options.specs.declared.command_line.JobFault.TheVariants as fault
 
@@ -51,6 +51,13 @@ pub record AsksToCheck (met : Met) (input : TraceInput) (report : Report) : Type
   pub is_input : AsksToRead rows input
   pub is_report : report_of (value_in option.report_as rows) ≡ Some report
 
+-- the subcommand `decode` was met, with this recording, of which what it says is to have this format
+pub record AsksToDecode (met : Met) (input : TraceInput) (format : Format) : Type 0 where
+  pub rows : List Row
+  pub is_met : met ≡ Some (codes "decode", rows)
+  pub is_input : AsksToRead rows input
+  pub is_format : format_of (value_in option.reading_as rows) ≡ Some format
+
 -- the subcommand `raw` was met, and this set is to be selected, lower/upper case or not
 pub record AsksToSelect (met : Met) (lower : Bool) : Type 0 where
   pub rows : List Row
@@ -62,6 +69,7 @@ abbrev pub AsksFor : Met → Job → Type 0
 AsksFor met (Pages present delays mode format) = AsksToRun met (codes "pages") present delays mode × AsksAs met (codes "pages") format
 AsksFor met (Bus present delays mode format) = AsksToRun met (codes "bus") present delays mode × AsksForTrace met format
 AsksFor met (Check input report) = AsksToCheck met input report
+AsksFor met (Decode input format) = AsksToDecode met input format
 AsksFor met (Raw lower format) = AsksToSelect met lower × AsksAs met (codes "raw") format
 
 -- a value of --present that is none
@@ -108,7 +116,7 @@ pub record HasBadSet (met : Met) : Type 0 where
   pub is_run : IsGoodRun rows
   pub is_bad : set_of (value_in option.set rows) ≡ None
 
--- good values of these four, and a value of an option of `check` that is none
+-- good values of these four, and a value of an option of `check` and `decode` that is none
 pub record HasBadInput (met : Met) (IsBad : List Row → Type 0) : Type 0 where
   pub name : Text
   pub rows : List Row
@@ -159,6 +167,10 @@ HasBadTraceAs met = HasBadAs met (λ name rows. (name ≡ codes "bus") × (trace
 abbrev pub HasBadReportAs : Met → Type 0
 HasBadReportAs met = HasBadAs met (λ name rows. (name ≡ codes "check") × (report_of (value_in option.report_as rows) ≡ None))
 
+-- `decode`, and a value of --as that is no format of what is said
+abbrev pub HasBadReadingAs : Met → Type 0
+HasBadReadingAs met = HasBadAs met (λ name rows. (name ≡ codes "decode") × (format_of (value_in option.reading_as rows) ≡ None))
+
 -- the command line is refused as clap refuses it
 abbrev pub IsLine : JobFault → Type 0
 IsLine (fault.Line e) = Unit {0}
@@ -173,4 +185,5 @@ IsLine fault.NoRecording = ⊥
 IsLine fault.BadPageAs = ⊥
 IsLine fault.BadTraceAs = ⊥
 IsLine fault.BadReportAs = ⊥
+IsLine fault.BadReadingAs = ⊥
 IsLine fault.NoMemory = ⊥

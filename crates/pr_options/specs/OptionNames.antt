@@ -35,6 +35,10 @@ trace_as = record { name = codes "as"; default = codes "text" }
 abbrev pub report_as : Valued
 report_as = record { name = codes "as"; default = codes "frames" }
 
+-- what is written of a recording that is decoded
+abbrev pub reading_as : Valued
+reading_as = record { name = codes "as"; default = codes "list" }
+
 -- the format of a trace that is checked
 abbrev pub from : Valued
 from = record { name = codes "from"; default = codes "text" }

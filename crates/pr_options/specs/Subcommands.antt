@@ -6,7 +6,7 @@ use Rattle.clap.specs.Words.{Text}
 
 -- one of the subcommands
 abbrev pub IsOurs : Text → Type 0
-IsOurs name = (name ≡ codes "pages") ⊎ ((name ≡ codes "bus") ⊎ ((name ≡ codes "check") ⊎ (name ≡ codes "raw")))
+IsOurs name = (name ≡ codes "pages") ⊎ ((name ≡ codes "bus") ⊎ ((name ≡ codes "check") ⊎ ((name ≡ codes "decode") ⊎ (name ≡ codes "raw"))))
 
 -- no option of the command holds for its subcommands too
 abbrev pub IsLocal : Command → Type 0

@@ -15,4 +15,5 @@ values_of job.BadStart = Some (codes "The moment of the recording at which the t
 values_of job.BadPageAs = Some (codes "The format: list (rows and marks), text (lines, 80 columns behind a margin) or svg (a picture)")
 values_of job.BadTraceAs = Some (codes "The format: text (a line for each edge) or vcd (a Value Change Dump)")
 values_of job.BadReportAs = Some (codes "What is written: frames (a line for each) or story (with their moments, and what they say)")
+values_of job.BadReadingAs = Some (codes "What is written: list (what is said, byte by byte), text or svg (the pages that printers 4 and 5 print of it)")
 values_of _ = None

@@ -2,13 +2,13 @@
 
 ghost use Rattle.std.specs.Prelude.{◌≡◌, IfOk, false};
 ghost use Rattle.clap.specs.Words.{app_of, new_app, rule_of};
-ghost use Rattle.pr_options.specs.CommandLine.{check_app, flag_rule, print1525, raw_app, run_app, value_rule};
+ghost use Rattle.pr_options.specs.CommandLine.{flag_rule, print1525, raw_app, run_app, trace_app, value_rule};
 ghost use Rattle.pr_options.specs.Subcommands.{IsLocal};
 
 use crate::help;
 use crate::help::Told;
 use crate::options::{
-    DELAYS, EXPLAIN, FROM, FROM_TIME, Flag, INVERT, NAMES, PAGE_AS, PRESENT, REPORT_AS, SET,
+    DELAYS, EXPLAIN, FROM, FROM_TIME, Flag, INVERT, NAMES, PAGE_AS, PRESENT, READING_AS, REPORT_AS, SET,
     STATUS, TRACE_AS, Valued,
 };
 use clap::{Arg, ArgAction, Command};
@@ -71,17 +71,22 @@ fn run_command<'a>(
     Ok(whole)
 }
 
-/// The subcommand `check`.
-fn check_command<'a>(alloc: Global) -> Result<Command<'a>, AllocError>
-    ensures app { IfOk result (λ c. app_of c ≡ check_app) }
+/// A subcommand that reads a trace, and the formats of what it writes.
+fn trace_command<'a>(
+    alloc: Global,
+    name: &'a str,
+    told: Told,
+    formats: Valued,
+) -> Result<Command<'a>, AllocError>
+    ensures app { IfOk result (λ c. app_of c ≡ trace_app name.entry.now (record { name = formats.name.now; default = formats.default.now })) }
     ensures local { IfOk result IsLocal }
 {
-    let command = new_command(alloc, "check", help::CHECK);
+    let command = new_command(alloc, name, told);
     let one = command.arg(value_option(alloc, FROM))?;
     let two = one.arg(value_option(alloc, NAMES))?;
     let three = two.arg(flag_option(alloc, INVERT))?;
     let four = three.arg(value_option(alloc, FROM_TIME))?;
-    let five = four.arg(value_option(alloc, REPORT_AS))?;
+    let five = four.arg(value_option(alloc, formats))?;
     let whole = five.arg(flag_option(alloc, EXPLAIN))?;
     Ok(whole)
 }
@@ -105,7 +110,8 @@ pub fn make_command<'a>(alloc: Global) -> Result<Command<'a>, AllocError>
 {
     let pages = run_command(alloc, "pages", help::PAGES, PAGE_AS)?;
     let bus = run_command(alloc, "bus", help::BUS, TRACE_AS)?;
-    let check = check_command(alloc)?;
+    let check = trace_command(alloc, "check", help::CHECK, REPORT_AS)?;
+    let decode = trace_command(alloc, "decode", help::DECODE, READING_AS)?;
     let raw = raw_command(alloc)?;
     let program = new_command(alloc, "print1525", help::PROGRAM)
         .version(VERSION)
@@ -114,6 +120,7 @@ pub fn make_command<'a>(alloc: Global) -> Result<Command<'a>, AllocError>
     let one = program.subcommand(pages)?;
     let two = one.subcommand(bus)?;
     let three = two.subcommand(check)?;
-    let whole = three.subcommand(raw)?;
+    let four = three.subcommand(decode)?;
+    let whole = four.subcommand(raw)?;
     Ok(whole)
 }

@@ -7,7 +7,7 @@ ghost use Rattle.clap.specs.Words.{fault_of, first_of, found_of, kind_of, rows_o
 ghost use Rattle.pr_options.specs.CommandLine.{print1525};
 ghost use Rattle.pr_options.specs.Given.{is_given, is_of_words};
 ghost use Rattle.pr_options.specs.Inputs.{AsksToRead, IsBadFrom, IsBadNames, IsBadStart, IsUnfit, fits, wants_recording};
-ghost use Rattle.pr_options.specs.Jobs.{AsksFor, HasBadDelays, HasBadFrom, HasBadNames, HasBadPageAs, HasBadPresent, HasBadReportAs, HasBadSet, HasBadStart, HasBadStatus, HasBadTraceAs, IsLine, IsNoRecording};
+ghost use Rattle.pr_options.specs.Jobs.{AsksFor, HasBadDelays, HasBadFrom, HasBadNames, HasBadPageAs, HasBadPresent, HasBadReadingAs, HasBadReportAs, HasBadSet, HasBadStart, HasBadStatus, HasBadTraceAs, IsLine, IsNoRecording};
 ghost use Rattle.pr_options.specs.Parts.{IsOfClap, IsOfInput};
 ghost use Rattle.pr_options.specs.Subcommands.{IsOurs};
 ghost use Rattle.pr_options.specs.Values.{values_of};
@@ -20,7 +20,7 @@ use crate::option_values::{
     read_status, read_trace_format,
 };
 use crate::options::{
-    DELAYS, FROM, FROM_TIME, INVERT, NAMES, PAGE_AS, PRESENT, REPORT_AS, SET, STATUS, TRACE_AS,
+    DELAYS, FROM, FROM_TIME, INVERT, NAMES, PAGE_AS, PRESENT, READING_AS, REPORT_AS, SET, STATUS, TRACE_AS,
     Valued,
 };
 use clap::ArgMatches;
@@ -43,6 +43,9 @@ pub enum Job<'a> {
     Bus(Present, Delays, StatusMode, TraceFormat),
     /// Read a trace and write what it says.
     Check(TraceInput<'a>, Report),
+    /// Read any recording and write what it says: with [`Format::List`] byte by byte, else as the pages
+    /// that printers 4 and 5 print of it, in this format.
+    Decode(TraceInput<'a>, Format),
     /// Read the bytes of a printer and write its page.
     Raw {
         /// The lower/upper case set is selected first, else the graphic/upper case set.
@@ -91,6 +94,9 @@ pub enum JobFault {
     /// The value of `--as` of `check` is not `frames` or `story`.
     #[error("bad --as")]
     BadReportAs,
+    /// The value of `--as` of `decode` is not `list`, `text` or `svg`.
+    #[error("bad --as")]
+    BadReadingAs,
     /// Memory was refused.
     #[error("out of memory")]
     NoMemory,
@@ -113,6 +119,7 @@ impl JobFault {
             JobFault::BadPageAs => Some(PAGE_AS.help),
             JobFault::BadTraceAs => Some(TRACE_AS.help),
             JobFault::BadReportAs => Some(REPORT_AS.help),
+            JobFault::BadReadingAs => Some(READING_AS.help),
             JobFault::NoRecording | JobFault::Line(_) | JobFault::NoMemory => None,
         }
     }
@@ -142,7 +149,8 @@ impl From<DelayFault> for JobFault {
 /// [`JobFault::BadDelays`], [`JobFault::BadStatus`], [`JobFault::BadSet`], [`JobFault::BadFrom`],
 /// [`JobFault::BadNames`], [`JobFault::BadStart`]; then [`JobFault::NoRecording`], where these are
 /// good, and at last a bad `--as`: [`JobFault::BadPageAs`] of `pages` and `raw`,
-/// [`JobFault::BadTraceAs`] of `bus`, [`JobFault::BadReportAs`] of `check`.
+/// [`JobFault::BadTraceAs`] of `bus`, [`JobFault::BadReportAs`] of `check`,
+/// [`JobFault::BadReadingAs`] of `decode`.
 pub fn read_job<'a>(alloc: Global, words: &'a [&'a str]) -> Result<Job<'a>, JobFault>
     ensures ok { IfOk result (AsksFor (subcommand_of print1525 (map (λ s. s.now) words.entry.now))) }
     // the first bad value
@@ -157,6 +165,7 @@ pub fn read_job<'a>(alloc: Global, words: &'a [&'a str]) -> Result<Job<'a>, JobF
     ensures page { IsErrOf result JobFault.BadPageAs → HasBadPageAs (subcommand_of print1525 (map (λ s. s.now) words.entry.now)) }
     ensures trace { IsErrOf result JobFault.BadTraceAs → HasBadTraceAs (subcommand_of print1525 (map (λ s. s.now) words.entry.now)) }
     ensures report { IsErrOf result JobFault.BadReportAs → HasBadReportAs (subcommand_of print1525 (map (λ s. s.now) words.entry.now)) }
+    ensures reading { IsErrOf result JobFault.BadReadingAs → HasBadReadingAs (subcommand_of print1525 (map (λ s. s.now) words.entry.now)) }
     // what clap refuses
     ensures taken { OnOk result (fault_of print1525 (map (λ s. s.now) words.entry.now) ≡ []) }
     ensures line { takes print1525 (map (λ s. s.now) words.entry.now) ≡ true → IfErr result (λ e. ¬ IsLine e) }
@@ -195,6 +204,7 @@ fn job_of<'a>(alloc: Global, matches: &ArgMatches<'a>) -> Result<Job<'a>, JobFau
     ensures page { IsErrOf result JobFault.BadPageAs → HasBadPageAs (subcommand_rows_of matches.now) }
     ensures trace { IsErrOf result JobFault.BadTraceAs → HasBadTraceAs (subcommand_rows_of matches.now) }
     ensures report { IsErrOf result JobFault.BadReportAs → HasBadReportAs (subcommand_rows_of matches.now) }
+    ensures reading { IsErrOf result JobFault.BadReadingAs → HasBadReadingAs (subcommand_rows_of matches.now) }
     ensures line { IfErr result (λ e. ¬ IsLine e) }
 {
     let Some((name, options)) = matches.subcommand() else {
@@ -217,6 +227,12 @@ fn job_of<'a>(alloc: Global, matches: &ArgMatches<'a>) -> Result<Job<'a>, JobFau
         };
         return Ok(Job::Check(input, report));
     }
+    if name == "decode" {
+        let Some(format) = read_format(value_in(options, READING_AS)) else {
+            return Err(JobFault::BadReadingAs);
+        };
+        return Ok(Job::Decode(input, format));
+    }
     if name == "bus" {
         let Some(format) = read_trace_format(value_in(options, TRACE_AS)) else {
             return Err(JobFault::BadTraceAs);
@@ -232,7 +248,7 @@ fn job_of<'a>(alloc: Global, matches: &ArgMatches<'a>) -> Result<Job<'a>, JobFau
     Ok(Job::Pages(present, delays, mode, format))
 }
 
-/// The trace that is to be checked. What goes with a recording alone is judged when all these values
+/// The trace that is to be read. What goes with a recording alone is judged when all these values
 /// are good.
 fn input_of<'a>(options: &ArgMatches<'a>) -> Result<TraceInput<'a>, JobFault>
     ensures ok { IfOk result (AsksToRead (rows_of (found_of options.now))) }

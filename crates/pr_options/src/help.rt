@@ -119,6 +119,34 @@ Examples:
   print1525 check --from csv --names D0,D1,D2 --invert --from-time 1500000 < analyser.csv",
 };
 
+/// The subcommand `decode`.
+pub const DECODE: Told = Told {
+    about: "Reads any recording of the bus on standard input and writes what it says",
+    usage: "print1525 decode [OPTIONS] < RECORDING",
+    more: "\
+Input: a recording of the wires of a serial bus, whoever made it and wherever it begins: a trace, as
+`print1525 bus` writes it; with --from vcd a Value Change Dump, with --from csv a table, as
+`print1525 check --help` tells, which tells of --names, --invert and --from-time too.
+
+Output: a line for each byte, as `print1525 check --as story` writes it; below it a line for each
+interval outside the bounds of this project's profile, with its length and these bounds. A byte that
+is not acknowledged, and a glitch (a byte begun and not ended), have lines of their own. At the end
+stand how many there were, the least, middle and greatest length of each interval, and whether the
+recording is lawful. With --as text or svg the pages that printers 4 and 5 print of the bytes, as
+lines or as a picture.
+
+A recording that can not be read is refused with its first fault; what it says up to there is written.
+With --explain that fault's line is shown. A bad value of an option is told with the good ones.
+
+Exit status: 0 the recording was read, 2 a refused command line or recording, 3 want of memory or a
+failed read or write.
+
+Examples:
+  print1525 decode < trace.txt
+  print1525 decode --from vcd < session.vcd
+  print1525 decode --from csv --names D0,D1,D2 --as svg < analyser.csv > page.svg",
+};
+
 /// The subcommand `raw`.
 pub const RAW: Told = Told {
     about: "Reads the bytes that a printer gets on standard input and writes its page",

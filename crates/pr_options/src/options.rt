@@ -67,6 +67,14 @@ pub const REPORT_AS: Valued = Valued {
     help: "What is written: frames (a line for each) or story (with their moments, and what they say)",
 };
 
+/// What is written of a recording that is decoded.
+pub const READING_AS: Valued = Valued {
+    name: "as",
+    default: "list",
+    help: "What is written: list (what is said, byte by byte), text or svg (the pages that printers 4 and 5 \
+           print of it)",
+};
+
 pub const FROM: Valued = Valued {
     name: "from",
     default: "text",

@@ -14,6 +14,7 @@ use Rattle.pr_wire.specs.LineParts.{part_after, edge_of_part, is_nothing}
 use Rattle.pr_wire.specs.TextSteps.{ended_line_in}
 use Rattle.pr_wire.specs.TraceReading.{EndsText, FaultsIn, HasRead, ReadsMore}
 use Rattle.pr_wire.specs.TraceText.{AreEdgeLines, SaysEdges}
+use Rattle.pr_wire.proofs.TextLaws.{says_behind}
 use Rattle.pr_wire.proofs.ScanLaws.{scanned_none, scanned_byte, scanned_line, scanned_bad, scanned_whole, scanned_ends, scanned_same_lines, says_lines}
 
 -- nothing was read
@@ -96,3 +97,10 @@ first_byte (b ∷ bs) d some = refl
 -- the same bytes were read
 pub reads_same : (bytes same : List ℕ) (e : Option Edge) (old new : TraceReader) → bytes ≡ same → ReadsMore bytes e old new → ReadsMore same e old new
 reads_same bytes same e old new is h = λ text edges k. let P : List ℕ → Type 0 = λ v. HasRead (text ++ v) (edges ++ option_to_list e) new in subst P is (h text edges k)
+
+-- the edges given come first, whatever follows
+pub given_first : (text more : List ℕ) (given edges : List Edge) (bad : Option ℕ) (r : TraceReader) → HasRead text given r → SaysEdges (text ++ more) edges bad
+    → (later : List Edge) × (edges ≡ given ++ later)
+given_first text more given edges bad r h says =
+    let s = h.scanned in
+    says_behind (text ++ more) s.good (lines_of (s.line ++ more)) given edges bad (s.lines more) s.are_edges says

@@ -8,14 +8,17 @@ use Rattle.std.proofs.lemmas.Fmt.{decimal_step, digits_decimal, digits_value-dec
 use Rattle.std.proofs.lemmas.Str.Parse.{IsNumeralModel, numerals_by_fold}
 use Rattle.pr_wire.specs.declared.Edge.{Edge}
 use Rattle.pr_wire.specs.declared.line.EdgeLine.{EdgeLine}
+use Rattle.pr_wire.specs.declared.part.LinePart.TheVariants as Part
 use Rattle.pr_wire.specs.TraceText.{levels_text, edge_text, trace_text, IsEdgeLine, AreEdgeLines, IsTraceText, IsFirstBad, SaysEdges}
 use Rattle.pr_text.specs.Digits.{is_digit, number_after}
 use Rattle.pr_text.specs.Lines.{lines_of}
 use Rattle.pr_wire.specs.TraceText.Return.{Without}
+use Rattle.pr_wire.specs.LineParts.{edge_of_part, part_with}
 use Rattle.pr_wire.specs.TextSteps.{line_in}
 use Rattle.pr_wire.specs.Written.{three_digits, levels_line}
 use Rattle.pr_wire.proofs.LineLaws.{line_in-is, IsRead, line_read, split, digits_on_line, levels_on_line, level_at_end, no_line, some_line}
 use Rattle.pr_wire.proofs.LineLaws.Behind.{Nothing}
+use Rattle.pr_wire.proofs.PartLaws.{line_part, part_line}
 
 -- a line spells one edge
 line_once : (line : List ℕ) (e f : Edge) → IsEdgeLine line e → IsEdgeLine line f → e ≡ f
@@ -75,6 +78,67 @@ says_once text es fs (Some m) (Some n) h k =
     let b = k.0 in
     let both = first_once a.good b.good a.edges b.edges a.bad b.bad a.more b.more a.are_edges b.are_edges a.is_bad b.is_bad (sym a.lines ∙ b.lines) in
     (sym h.1 ∙ (both.0 ∙ k.1), ap (λ (i : ℕ). Some i) (a.number ∙ (ap (λ i. i + 1) both.1 ∙ sym b.number)))
+
+-- an edge more in front
+one_more : (e f : Edge) (fs es later : List Edge) → e ≡ f → fs ≡ es ++ later → f ∷ fs ≡ (e ∷ es) ++ later
+one_more e f fs es later a b = rw (a, b) refl
+
+-- behind good lines come edges behind theirs
+lines_behind : (good ls : List (List ℕ)) (given all : List Edge) → AreEdgeLines good given → AreEdgeLines (good ++ ls) all → (later : List Edge) × (all ≡ given ++ later)
+lines_behind [] ls [] all g h = (all, refl)
+lines_behind [] ls (e ∷ es) all g h = absurd g
+lines_behind (k ∷ ks) ls [] all g h = absurd g
+lines_behind (k ∷ ks) ls (e ∷ es) [] g h = absurd h
+lines_behind (k ∷ ks) ls (e ∷ es) (f ∷ fs) g h =
+    let more = lines_behind ks ls es fs g.1 h.1 in
+    (more.0, one_more e f fs es more.0 (line_once k e f g.0 h.0) more.1)
+
+-- behind good lines stands the first bad one
+bad_behind : (good ls h : List (List ℕ)) (b : List ℕ) (m : List (List ℕ)) (given all : List Edge) → AreEdgeLines good given → AreEdgeLines h all
+    → ((e : Edge) → IsEdgeLine b e → ⊥) → good ++ ls ≡ h ++ b ∷ m → (later : List Edge) × (all ≡ given ++ later)
+bad_behind [] ls h b m [] all ge he bad is = (all, refl)
+bad_behind [] ls h b m (e ∷ es) all ge he bad is = absurd ge
+bad_behind (k ∷ g) ls h b m [] all ge he bad is = absurd ge
+bad_behind (k ∷ g) ls [] b m (e ∷ es) all ge he bad is = absurd (bad e (subst (λ x. IsEdgeLine x e) (let t : k ≡ b = cc in t) ge.0))
+bad_behind (k ∷ g) ls (l ∷ h) b m (e ∷ es) [] ge he bad is = absurd he
+bad_behind (k ∷ g) ls (l ∷ h) b m (e ∷ es) (f ∷ fs) ge he bad is =
+    let same : l ≡ k = cc in
+    let rest : g ++ ls ≡ h ++ b ∷ m = cc in
+    let more = bad_behind g ls h b m es fs ge.1 he.1 bad rest in
+    (more.0, one_more e f fs es more.0 (line_once k e f ge.0 (subst (λ x. IsEdgeLine x f) same he.0)) more.1)
+
+-- what a text says begins with the edges of its first good lines
+pub says_behind : (text : List ℕ) (good ls : List (List ℕ)) (given all : List Edge) (bad : Option ℕ) → lines_of text ≡ good ++ ls → AreEdgeLines good given → SaysEdges text all bad
+    → (later : List Edge) × (all ≡ given ++ later)
+says_behind text good ls given all None is g h = lines_behind good ls given all g (subst (λ x. AreEdgeLines x all) is h)
+says_behind text good ls given all (Some n) is g h =
+    let b = h.0 in
+    let more = bad_behind good ls b.good b.bad b.more given b.edges g b.are_edges b.is_bad (sym is ∙ b.lines) in
+    (more.0, sym h.1 ∙ more.1)
+
+-- lines that spell edges, up to the first bad one if there is one
+data Said (ls : List (List ℕ)) : Type 0 where
+  AllGood : (edges : List Edge) → AreEdgeLines ls edges → Said ls
+  OneBad : (good : List (List ℕ)) (edges : List Edge) (bad : List ℕ) (more : List (List ℕ)) → ls ≡ good ++ bad ∷ more → AreEdgeLines good edges → ((e : Edge) → IsEdgeLine bad e → ⊥) → Said ls
+
+with_line : (l : List ℕ) (ls : List (List ℕ)) (v : Option Edge) → edge_of_part (part_with Part.Nothing l) ≡ v → Said ls → Said (l ∷ ls)
+with_line l ls None is s = OneBad [] [] l ls refl tt (λ e h. let k : Some e ≡ None = sym (line_part l e h) ∙ is in cc)
+with_line l ls (Some e) is (AllGood edges are) = AllGood (e ∷ edges) (part_line l e is, are)
+with_line l ls (Some e) is (OneBad good edges bad more lines are none) = OneBad (l ∷ good) (e ∷ edges) bad more (ap (λ x. l ∷ x) lines) (part_line l e is, are) none
+
+said : (ls : List (List ℕ)) → Said ls
+said [] = AllGood [] tt
+said (l ∷ ls) = with_line l ls (edge_of_part (part_with Part.Nothing l)) refl (said ls)
+
+-- each text says something
+pub says_some : (text : List ℕ) → (edges : List Edge) × (bad : Option ℕ) × SaysEdges text edges bad
+says_some text = by (said (lines_of text))
+  where
+    by : Said (lines_of text) → (edges : List Edge) × (bad : Option ℕ) × SaysEdges text edges bad
+    by (AllGood edges are) = (edges, None, are)
+    by (OneBad good edges bad more lines are none) =
+        let first : IsFirstBad (length good + 1) text = record { good = good; edges = edges; bad = bad; more = more; lines = lines; are_edges = are; is_bad = none; number = refl } in
+        (edges, Some (length good + 1), (first, refl))
 
 -- what was read of a text: so many good lines, and what is left
 pub record HasRead (text rest : List ℕ) (edges : List Edge) : Type 0 where

@@ -12,3 +12,7 @@ pub record TextSpellsOnce : Type 0 where
   pub edges : (text : List ℕ) (es fs : List Edge) → IsTraceText text es → IsTraceText text fs → es ≡ fs
   pub bad : (text : List ℕ) (n : ℕ) (es : List Edge) → IsFirstBad n text → IsTraceText text es → ⊥
   pub says : (text : List ℕ) (es fs : List Edge) (m n : Option ℕ) → SaysEdges text es m → SaysEdges text fs n → (es ≡ fs) × (m ≡ n)
+
+-- each text says something
+abbrev pub TextSaysSomething : Type 0
+TextSaysSomething = (text : List ℕ) → (edges : List Edge) × (bad : Option ℕ) × SaysEdges text edges bad

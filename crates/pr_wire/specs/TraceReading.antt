@@ -34,3 +34,9 @@ abbrev pub EndsText : TraceReader → Result (Option Edge) TraceFault → Type 0
 EndsText r (Ok edge) = (text : List ℕ) (edges : List Edge) → HasRead text edges r → SaysEdges text (edges ++ option_to_list edge) None
 EndsText r (Err (BadLine n)) = (text : List ℕ) (edges : List Edge) → HasRead text edges r → SaysEdges text edges (Some n)
 EndsText r (Err NoMemory) = ⊥
+
+-- whatever follows what a reader has taken, the edges that it has given come first
+abbrev pub GivenEdgesComeFirst : Type 0
+GivenEdgesComeFirst =
+    (text more : List ℕ) (given edges : List Edge) (bad : Option ℕ) (r : TraceReader) → HasRead text given r → SaysEdges (text ++ more) edges bad
+    → (later : List Edge) × (edges ≡ given ++ later)

@@ -2,7 +2,7 @@
 
 ghost use Rattle.std.specs.Prelude.{◌≡◌, ◌≢◌, ◌+◌, ◌^◌, ◌<◌, ◌≤◌, ◌∷◌, [], true, length, take, Some, IfErr, IfOk, OnOk};
 ghost use Rattle.pr_wire.specs.LineParts.{is_nothing};
-ghost use Rattle.pr_wire.specs.TraceReading.{EndsText, FaultsIn, HasRead, ReadsMore, edge_count};
+ghost use Rattle.pr_wire.specs.TraceReading.{EndsText, FaultsIn, GivenEdgesComeFirst, HasRead, ReadsMore, edge_count};
 
 use crate::Edge;
 use crate::line::read_ended_line;
@@ -102,6 +102,12 @@ impl TraceReader {
         Ok(Some(edge))
     }
 }
+
+/// A law, with nothing to run: whatever follows the bytes that a reader has taken, the edges that it has
+/// given are the first that the text says.
+pub fn given_edges_come_first()
+    ensures { GivenEdgesComeFirst }
+{}
 
 #[cfg(test)]
 mod tests;

@@ -4,7 +4,7 @@ ghost use Rattle.std.specs.Prelude.{◌≡◌, ◌≢◌, List, IfOk, IfErr};
 ghost use Rattle.pr_wire.specs.declared.Edge.{Edge};
 ghost use Rattle.pr_wire.specs.Checking.{IsTraceFault};
 ghost use Rattle.pr_wire.specs.TraceText.{trace_text, IsTraceText};
-ghost use Rattle.pr_wire.specs.TextLaws.{TextIsReadBack, TextSpellsOnce};
+ghost use Rattle.pr_wire.specs.TextLaws.{TextIsReadBack, TextSaysSomething, TextSpellsOnce};
 
 use crate::line::read_line;
 use crate::written::Writer;
@@ -75,10 +75,11 @@ pub fn write_trace(alloc: Global, edges: &[Edge]) -> Result<Vec<u8>, NoMemory>
 }
 
 /// Laws, with nothing to run: the text of edges is read back as these edges, a text spells at most
-/// one list of edges, and says one list up to its first bad line.
+/// one list of edges, and says exactly one list up to its first bad line.
 pub fn trace_texts()
     ensures read_back { TextIsReadBack }
     ensures once { TextSpellsOnce }
+    ensures some { TextSaysSomething }
 {}
 
 #[cfg(test)]

@@ -35,7 +35,9 @@ enum Asked {
     Bus(Present, First, StatusMode, TraceFormat),
     /// By the names given, whether levels are inverted, and the start.
     Check(Source, bool, u64, Report),
-    /// To check a trace by other names.
+    /// Likewise.
+    Decode(Source, bool, u64, Format),
+    /// To read a trace by other names.
     OtherNames,
     Raw(bool, Format),
     /// clap refuses the words, or answers a request for help, with this exit status.
@@ -64,7 +66,7 @@ fn are_named(signals: Signals<'_>, names: Names<'_>) -> bool {
         && signals.line == names.2.as_bytes()
 }
 
-/// What a job asks for; of a trace to check, whether by these names.
+/// What a job asks for; of a trace to read, whether by these names.
 fn asked_by(job: Job<'_>, names: Names<'_>) -> Asked {
     match job {
         Job::Pages(present, delays, mode, format) => {
@@ -78,6 +80,12 @@ fn asked_by(job: Job<'_>, names: Names<'_>) -> Asked {
                 return Asked::OtherNames;
             }
             Asked::Check(input.source, input.signals.is_inverted, input.start, report)
+        }
+        Job::Decode(input, format) => {
+            if !are_named(input.signals, names) {
+                return Asked::OtherNames;
+            }
+            Asked::Decode(input.source, input.signals.is_inverted, input.start, format)
         }
         Job::Raw { lower, format } => Asked::Raw(lower, format),
     }
@@ -98,6 +106,7 @@ fn refused_by(fault: JobFault) -> Asked {
         JobFault::BadPageAs => "bad --as of a page",
         JobFault::BadTraceAs => "bad --as of a trace",
         JobFault::BadReportAs => "bad --as of a report",
+        JobFault::BadReadingAs => "bad --as of what is said",
         JobFault::NoMemory => return Asked::NoMemory,
     })
 }
@@ -188,6 +197,19 @@ fn traces_to_check(rt: HostRuntime) {
 }
 
 #[test]
+fn recordings_to_decode(rt: HostRuntime) {
+    let plain = Asked::Decode(Source::Text, false, 0, Format::List);
+    asks(&rt, "decode", plain);
+    asks(&rt, "decode --as=list --explain --from text", plain);
+    let dumped = Asked::Decode(Source::Vcd, false, 0, Format::Lines);
+    asks(&rt, "decode --from vcd --as text", dumped);
+    let drawn = Asked::Decode(Source::Csv, true, 7, Format::Picture);
+    let line = "decode --from csv --names D0,D1,D2 --invert --from-time 7 --as svg";
+    asks_by(&rt, line, ("D0", "D1", "D2"), drawn);
+    asks(&rt, line, Asked::OtherNames);
+}
+
+#[test]
 fn bytes_of_a_printer(rt: HostRuntime) {
     asks(&rt, "raw", Asked::Raw(false, Format::List));
     asks(&rt, "raw --explain", Asked::Raw(false, Format::List));
@@ -215,6 +237,9 @@ fn refused_by_clap(rt: HostRuntime) {
         "--explain bus",
         "pages -- --explain",
         "check --delays 1",
+        "decode --delays 1",
+        "decode --set lower",
+        "decode recording.vcd",
         "check --names",
         "check --names --explain",
         "check --invert=0",
@@ -233,7 +258,14 @@ fn refused_by_clap(rt: HostRuntime) {
     for line in lines {
         asks(&rt, line, Asked::Line(2));
     }
-    for line in ["--help", "bus --help", "raw --help", "--version", "-V"] {
+    for line in [
+        "--help",
+        "bus --help",
+        "decode --help",
+        "raw --help",
+        "--version",
+        "-V",
+    ] {
         asks(&rt, line, Asked::Line(0));
     }
 }
@@ -293,6 +325,10 @@ fn bad_values(rt: HostRuntime) {
             "check --from vcd --invert --as list",
             "bad --as of a report",
         ),
+        ("decode --from x --as x", "bad --from"),
+        ("decode --from-time 0 --as x", "no recording"),
+        ("decode --as story", "bad --as of what is said"),
+        ("decode --from csv --as=", "bad --as of what is said"),
     ];
     for (line, wanted) in rows {
         asks(&rt, line, Asked::Bad(wanted));
@@ -333,6 +369,7 @@ fn fault_texts(rt: HostRuntime) -> Result<(), Fail> {
         (JobFault::BadPageAs, "bad --as"),
         (JobFault::BadTraceAs, "bad --as"),
         (JobFault::BadReportAs, "bad --as"),
+        (JobFault::BadReadingAs, "bad --as"),
         (JobFault::NoMemory, "out of memory"),
     ];
     for (fault, wanted) in texts {
@@ -357,6 +394,8 @@ fn values_are_told(rt: HostRuntime) {
         (JobFault::BadPageAs, "svg"),
         (JobFault::BadTraceAs, "vcd"),
         (JobFault::BadReportAs, "story"),
+        (JobFault::BadReadingAs, "list"),
+        (JobFault::BadReadingAs, "svg"),
     ];
     for (fault, wanted) in faults {
         assert!(rt;
@@ -379,6 +418,8 @@ fn values_of_other_subcommands_are_not_told(rt: HostRuntime) {
         (JobFault::BadTraceAs, "story"),
         (JobFault::BadReportAs, "text"),
         (JobFault::BadReportAs, "vcd"),
+        (JobFault::BadReadingAs, "frames"),
+        (JobFault::BadReadingAs, "vcd"),
     ];
     for (fault, other) in faults {
         assert!(rt;

@@ -18,7 +18,8 @@ returns-clause-app c =
     let program_is : app_of c.disable_help_subcommand-program.result ≡ on_top unhelped (on_top wanted (on_top versioned (new_app (codes "print1525")))) =
     ap app_of_fields c.disable_help_subcommand-program.ensures ∙ ap (on_top unhelped) (ap app_of_fields c.subcommand_required.ensures ∙ ap (on_top wanted) (ap app_of_fields c.version.ensures ∙ ap (on_top versioned) c.new_command.ensures.app)) in
     c.in_ok-whole.ensures.shape c.in_ok-raw.ensures.local
+    ∙ ap₂ with_subcommand (c.in_ok-four.ensures.shape c.in_ok-decode.ensures.local
     ∙ ap₂ with_subcommand (c.in_ok-three.ensures.shape c.in_ok-check.ensures.local
     ∙ ap₂ with_subcommand (c.in_ok-two.ensures.shape c.in_ok-bus.ensures.local
     ∙ ap₂ with_subcommand (c.in_ok-one.ensures.shape c.in_ok-pages.ensures.local ∙ ap₂ with_subcommand program_is (ap top c.in_ok-pages.ensures.app))
-    (ap top c.in_ok-bus.ensures.app)) (ap top c.in_ok-check.ensures.app)) (ap top c.in_ok-raw.ensures.app)
+    (ap top c.in_ok-bus.ensures.app)) (ap top c.in_ok-check.ensures.app)) (ap top c.in_ok-decode.ensures.app)) (ap top c.in_ok-raw.ensures.app)

@@ -125,6 +125,26 @@ returns-in_default-read_report-clause-report c = λ e. record {
   is_bad = search rules;
 }
 
+pub returns-in_default-read_format-clause-reading : goal.returns-in_default-read_format-clause-reading
+returns-in_default-read_format-clause-reading c = λ e. record {
+  name = c.in-Some.name.now;
+  rows = rows_of (found_of c.in-Some.options.now);
+  lower = c.in-Some-read_set.lower;
+  input = c.in_ok-input.input;
+  is_met = search rules;
+  is_run = record {
+    present = c.in-Some-read_present.present;
+    delays = numbers_left c.in_ok-delays.delays;
+    mode = c.in-Some-read_status.mode;
+    is_present = search rules;
+    are_delays = search rules;
+    is_mode = search rules;
+  };
+  is_set = search rules;
+  is_input = search rules;
+  is_bad = search rules;
+}
+
 pub returns-in_default-read_trace_format-clause-trace : goal.returns-in_default-read_trace_format-clause-trace
 returns-in_default-read_trace_format-clause-trace c = λ e. record {
   name = c.in-Some.name.now;
@@ -145,8 +165,8 @@ returns-in_default-read_trace_format-clause-trace c = λ e. record {
   is_bad = search rules;
 }
 
-pub returns-in_default-read_format-clause-page : goal.returns-in_default-read_format-clause-page
-returns-in_default-read_format-clause-page c = λ e. record {
+pub returns-in_default-read_format-2-clause-page : goal.returns-in_default-read_format-2-clause-page
+returns-in_default-read_format-2-clause-page c = λ e. record {
   name = c.in-Some.name.now;
   rows = rows_of (found_of c.in-Some.options.now);
   lower = c.in-Some-read_set.lower;

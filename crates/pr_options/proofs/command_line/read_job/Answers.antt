@@ -1,7 +1,7 @@
 use Rattle.std.proofs.Common.{ap, ◌∙◌, sym, map, subst, IfOk}
 use Rattle.std.specs.Prelude.{IfSome}
 use Rattle.clap.specs.Words.{App, takes}
-use Rattle.pr_options.specs.Jobs.{AsksFor, HasBadDelays, HasBadFrom, HasBadNames, HasBadPageAs, HasBadPresent, HasBadReportAs, HasBadSet, HasBadStart, HasBadStatus, HasBadTraceAs, IsNoRecording, Met}
+use Rattle.pr_options.specs.Jobs.{AsksFor, HasBadDelays, HasBadFrom, HasBadNames, HasBadPageAs, HasBadPresent, HasBadReadingAs, HasBadReportAs, HasBadSet, HasBadStart, HasBadStatus, HasBadTraceAs, IsNoRecording, Met}
 use Rattle.pr_options.specs.Subcommands.{IsOurs}
 use Rattle.pr_options.proofs.CommandLemmas.{met_is, no_fault, subcommand_ours}
 use Rattle.pr_options.proofs.command_line.read_job.Goals as goal
@@ -49,6 +49,9 @@ returns-in-Ok-try_get_matches_from-clause-trace c = λ e. subst HasBadTraceAs (m
 
 pub returns-in-Ok-try_get_matches_from-clause-report : goal.returns-in-Ok-try_get_matches_from-clause-report
 returns-in-Ok-try_get_matches_from-clause-report c = λ e. subst HasBadReportAs (met_is _ (map (λ s. s.now) c.args.words.now) c.in-Ok-try_get_matches_from.matches c.in-Ok.ensures.app c.in-Ok-try_get_matches_from.ensures.matches) (c.job_of.ensures.report e)
+
+pub returns-in-Ok-try_get_matches_from-clause-reading : goal.returns-in-Ok-try_get_matches_from-clause-reading
+returns-in-Ok-try_get_matches_from-clause-reading c = λ e. subst HasBadReadingAs (met_is _ (map (λ s. s.now) c.args.words.now) c.in-Ok-try_get_matches_from.matches c.in-Ok.ensures.app c.in-Ok-try_get_matches_from.ensures.matches) (c.job_of.ensures.reading e)
 
 pub returns-in-Ok-try_get_matches_from-clause-taken : goal.returns-in-Ok-try_get_matches_from-clause-taken
 returns-in-Ok-try_get_matches_from-clause-taken c =

@@ -1,6 +1,6 @@
 use Rattle.std.proofs.Common.{ap₂, ◌∙◌}
 use Rattle.clap.specs.Words.{with_rule}
-use Rattle.pr_options.proofs.clap_command.check_command.Goals as goal
+use Rattle.pr_options.proofs.clap_command.trace_command.Goals as goal
 
 pub returns-clause-app : goal.returns-clause-app
 returns-clause-app c =

@@ -1,0 +1,18 @@
+//! Laws of the readers, with nothing to run. A caller whose proof needs one calls the function.
+
+ghost use Rattle.pr_capture.specs.CsvSteps as csv;
+ghost use Rattle.pr_capture.specs.Gathering.{GivenEdgesComeFirst};
+ghost use Rattle.pr_capture.specs.VcdSteps as vcd;
+
+/// A law: whatever follows the bytes that a reader has taken, the samples that it has given are the
+/// first that the recording says.
+pub fn given_samples_come_first()
+    ensures dump { vcd.GivenSamplesComeFirst }
+    ensures table { csv.GivenSamplesComeFirst }
+{}
+
+/// A law: whatever follows the samples that a gatherer has taken, the edges that it has given are the
+/// first that the samples make.
+pub fn given_edges_come_first()
+    ensures { GivenEdgesComeFirst }
+{}

@@ -1,0 +1,86 @@
+-- What was told so far stands in front of what is told of the whole input, whatever follows.
+use Rattle.std.proofs.Common.{◌≡◌, ℕ, List, [], ◌∷◌, ◌++◌, refl, ap, sym, subst, ◌∙◌, append-nil, append_assoc, Option, Some, None}
+use Rattle.std.specs.Option.{option_to_list}
+use Rattle.pr_wire.specs.declared.Edge.{Edge}
+use Rattle.pr_wire.specs.Table.{fault_of}
+use Rattle.pr_decode.specs.declared.reading.Reading.{Reading}
+use Rattle.pr_decode.specs.Laws.{MoreEdgesAddReadings, OnlyTheLastIsCut}
+use Rattle.pr_decode.specs.Readings.{readings_of, settled_of}
+use Rattle.pr_decode.specs.Taking.{GivenAreSettled}
+use Rattle.pr_measure.specs.declared.line.Behind.TheVariants.{Nothing}
+use Rattle.pr_measure.specs.ReadingText.{all_lines, behind_all}
+use Rattle.pr_measure.specs.Summary.{summary}
+use Rattle.pr_measure.specs.Verdict.{verdict_text}
+use Rattle.pr_options.specs.declared.format.TraceInput.{TraceInput}
+use Rattle.pr_cli.specs.Report.{edges_made, Says}
+use Rattle.pr_cli.specs.Reported.{EachTextSaysSamples, GivenSamplesComeFirst, MadeEdgesComeFirst}
+use Rattle.pr_cli.specs.declared.fault.CliFault.{CliFault}
+use Rattle.pr_cli.specs.declared.source_reader.SourceReader.{SourceReader}
+use Rattle.pr_recording.specs.declared.teller.Teller.{Teller}
+use Rattle.pr_recording.specs.Decoded.{back_in, in_front, stop_at, told_of}
+use Rattle.pr_recording.specs.Narrated.{HasNoted, lines_in}
+use Rattle.pr_recording.proofs.Accounting.{lines_add}
+use Rattle.pr_recording.proofs.Backs.{front_more}
+
+-- the laws of what this is made of
+pub record Laws : Type 0 where
+  pub more : MoreEdgesAddReadings
+  pub cut : OnlyTheLastIsCut
+  pub given : GivenAreSettled
+  pub first : GivenSamplesComeFirst
+  pub some : EachTextSaysSamples
+  pub made : MadeEdgesComeFirst
+
+-- what an input says, and what is told of it, which begins so
+pub record ComesTo (input : TraceInput) (text front : List ℕ) : Type 0 where
+  pub edges : List Edge
+  pub own : Option CliFault
+  pub says : Says input text edges own
+  pub rest : List ℕ
+  pub told : told_of (stop_at (back_in edges) own) edges ≡ front ++ rest
+
+-- what is told of edges begins with the lines of what those in front settle
+told_begins : OnlyTheLastIsCut → (edges : List Edge) (own : Option CliFault) → (rest : List ℕ) × (told_of (stop_at (back_in edges) own) edges ≡ all_lines Nothing (settled_of (in_front (back_in edges) edges)) ++ rest)
+told_begins cut edges own = by (back_in edges) refl own
+  where
+    by : (v : Option ℕ) → back_in edges ≡ v → (own : Option CliFault) → (rest : List ℕ) × (told_of (stop_at v own) edges ≡ all_lines Nothing (settled_of (in_front (back_in edges) edges)) ++ rest)
+    by (Some n) is own = ([], sym (append-nil (all_lines Nothing (settled_of (in_front (back_in edges) edges)))))
+    by None is (Some f) = ([], sym (append-nil (all_lines Nothing (settled_of (in_front (back_in edges) edges)))))
+    by None is None =
+        let c = cut edges in
+        let settled = settled_of edges in
+        let end = summary (readings_of edges) ++ verdict_text (fault_of edges) in
+        let last = all_lines (behind_all Nothing settled) (option_to_list c.0) in
+        let lines : all_lines Nothing (readings_of edges) ≡ all_lines Nothing settled ++ last = ap (λ rs. all_lines Nothing rs) c.1 ∙ lines_add Nothing settled (option_to_list c.0) in
+        let all : told_of None edges ≡ all_lines Nothing settled ++ (last ++ end) = ap (λ t. t ++ end) lines ∙ append_assoc (all_lines Nothing settled) last end in
+        (last ++ end, all ∙ ap (λ v. all_lines Nothing (settled_of (in_front v edges)) ++ (last ++ end)) (sym is))
+
+-- the readings given stand in front of all
+given_begins : Laws → (before all : List Edge) (given : List Reading) (later : List Edge) → all ≡ before ++ later → settled_of (in_front (back_in before) before) ≡ given
+    → (more : List Reading) × (settled_of (in_front (back_in all) all) ≡ given ++ more)
+given_begins laws before all given later is has =
+    let f = front_more before later in
+    let m = laws.more (in_front (back_in before) before) f.0 in
+    (m.0, ap (λ l. settled_of (in_front (back_in l) l)) is ∙ (ap settled_of f.1 ∙ (m.1 ∙ ap (λ rs. rs ++ m.0) has)))
+
+-- what was told so far
+pub coming : Laws → (input : TraceInput) (text written : List ℕ) (r : SourceReader) (t : Teller) → HasNoted input text written r t → (more : List ℕ) → ComesTo input (text ++ more) (written ++ lines_in t)
+coming laws input text written r t h more =
+    let says = laws.some input (text ++ more) in
+    let first = laws.first input text more h.samples says.0 says.1 r h.given says.2 in
+    let made = laws.made input h.samples first.0 h.heard.edges t.maker h.heard.made in
+    let edges = edges_made input.source input.start says.0 in
+    let is : edges ≡ h.heard.edges ++ made.0 = ap (λ l. edges_made input.source input.start l) first.1 ∙ made.1 in
+    let k = h.heard.narrated.heeded in
+    let given = given_begins laws h.heard.edges edges k.given made.0 is (laws.given (in_front (back_in h.heard.edges) h.heard.edges) k.given t.narrator.decoder k.read) in
+    let begins = told_begins laws.cut edges says.1 in
+    let behind = all_lines (behind_all Nothing k.given) given.0 in
+    let lines : all_lines Nothing (settled_of (in_front (back_in edges) edges)) ≡ (written ++ lines_in t) ++ behind =
+        ap (λ rs. all_lines Nothing rs) given.1 ∙ (lines_add Nothing k.given given.0 ∙ ap (λ l. l ++ behind) (sym k.accounted.lines)) in
+    record {
+      edges = edges;
+      own = says.1;
+      says = record { samples = says.0; are_samples = says.2; are_edges = refl };
+      rest = behind ++ begins.0;
+      told = begins.1 ∙ (ap (λ l. l ++ begins.0) lines ∙ append_assoc (written ++ lines_in t) behind begins.0);
+    }

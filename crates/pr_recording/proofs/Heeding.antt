@@ -1,0 +1,151 @@
+-- A narrator, edge by edge.
+use Rattle.std.proofs.Common.{◌≡◌, ℕ, ◌+◌, ◌<◌, List, [], ◌∷◌, ◌++◌, length, refl, ap, sym, subst, ◌∙◌, arith, append-nil, append_assoc, length-append, Option, Some, None}
+use Rattle.std.specs.Option.{option_to_list}
+use Rattle.pr_wire.specs.declared.Edge.{Edge}
+use Rattle.pr_wire.specs.declared.WaveFault.{WaveFault}
+use Rattle.pr_wire.specs.Table.{fault_of}
+use Rattle.pr_decode.specs.declared.decoder.Decoder.{Decoder}
+use Rattle.pr_decode.specs.declared.reading.Reading.{Reading}
+use Rattle.pr_decode.specs.Readings.{readings_of, settled_of}
+use Rattle.pr_decode.specs.Taking.{GivenAreSettled, HasRead, IsBefore, StandsBefore, last_time}
+use Rattle.pr_measure.specs.declared.line.Behind.TheVariants.{Nothing}
+use Rattle.pr_measure.specs.ReadingText.{all_lines}
+use Rattle.pr_measure.specs.Summary.{summary}
+use Rattle.pr_measure.specs.Verdict.{verdict_text}
+use Rattle.pr_cli.specs.declared.fault.CliFault.{CliFault}
+use Rattle.pr_recording.specs.declared.account.Account.{Account}
+use Rattle.pr_recording.specs.declared.judge.Judge.{Judge}
+use Rattle.pr_recording.specs.declared.narrator.Ended.{Ended}
+use Rattle.pr_recording.specs.declared.narrator.Narrator.{Narrator}
+use Rattle.pr_recording.specs.Decoded.{back_in, in_front, stop_at, told_of}
+use Rattle.pr_recording.specs.Narrated.{AccountsMore, EndsEdges, HasAccounted, HasHeeded, HasJudged, HasNarrated, NarratesMore, time_of}
+use Rattle.pr_recording.proofs.Backs.{back_stays, front_back, front_on, front_stays, goes_back, goes_on, time_of_one}
+
+-- no edge
+pub narrated_none : (n : Narrator) → n.back ≡ None → HasRead [] [] n.decoder → last_time n.decoder ≡ None → HasJudged [] n.judge → HasAccounted [] [] n.account → n.taken ≡ 0 → HasNarrated [] [] n
+narrated_none n b r l j a t = record { back = b; heeded = record { given = []; read = r; last = l; judged = j; accounted = a; taken = t } }
+
+-- other parts alone are changed
+heeded_as : (edges : List Edge) (written : List ℕ) (old new : Narrator) → new.decoder ≡ old.decoder → new.judge ≡ old.judge → new.account ≡ old.account → new.taken ≡ old.taken
+    → HasHeeded edges written old → HasHeeded edges written new
+heeded_as edges written old new d j a t h = record {
+  given = h.given;
+  read = rw d h.read;
+  last = ap last_time d ∙ h.last;
+  judged = rw j h.judged;
+  accounted = rw a h.accounted;
+  taken = t ∙ h.taken;
+}
+
+-- behind an edge at which time goes back nothing is taken
+pub narrates_nothing : (n : Narrator) (m : ℕ) (more : List Edge) → n.back ≡ Some m → NarratesMore more n n
+narrates_nothing n m more is = λ edges written h.
+    let back : back_in edges ≡ Some m = sym h.back ∙ is in
+    let P : List Edge → Type 0 = λ l. HasHeeded l written n in
+    record {
+      back = is ∙ sym (back_stays edges more m back);
+      heeded = subst P (sym (front_stays edges more m back)) h.heeded;
+    }
+
+-- with no edge more
+pub narrates_none : (n : Narrator) → NarratesMore [] n n
+narrates_none n = λ edges written h. let P : List Edge → Type 0 = λ l. HasNarrated l written n in subst P (sym (append-nil edges)) h
+
+-- all edges are in front, where none goes back
+all_front : (edges : List Edge) → back_in edges ≡ None → in_front (back_in edges) edges ≡ edges
+all_front edges h = ap (λ v. in_front v edges) h
+
+-- what is known of edges in front, of all
+of_front : (edges : List Edge) (written : List ℕ) (n : Narrator) → back_in edges ≡ None → HasHeeded (in_front (back_in edges) edges) written n → HasHeeded edges written n
+of_front edges written n none h = let P : List Edge → Type 0 = λ l. HasHeeded l written n in subst P (all_front edges none) h
+
+-- time goes back at an edge
+pub narrates_back : (old new : Narrator) (e : Edge) → old.back ≡ None → IsBefore e old.decoder → new.back ≡ Some old.taken → new.decoder ≡ old.decoder → new.judge ≡ old.judge → new.account ≡ old.account
+    → new.taken ≡ old.taken → NarratesMore (e ∷ []) old new
+narrates_back old new e was before back d j a t = λ edges written h.
+    let none : back_in edges ≡ None = sym h.back ∙ was in
+    let k = of_front edges written old none h.heeded in
+    let stands : StandsBefore e.time (time_of edges) = rw (← k.last) before in
+    let P : List Edge → Type 0 = λ l. HasHeeded l written new in
+    record {
+      back = back ∙ (ap (λ (i : ℕ). Some i) k.taken ∙ sym (goes_back edges e none stands));
+      heeded = subst P (sym (front_back edges e none stands)) (heeded_as (in_front (back_in edges) edges) written old new d j a t h.heeded);
+    }
+
+-- an edge is taken
+pub narrates_one : (old new : Narrator) (e : Edge) (r : Option Reading) → old.back ≡ None → (IsBefore e old.decoder → ⊥) → new.back ≡ old.back
+    → ((edges : List Edge) (given : List Reading) → HasRead edges given old.decoder → HasRead (edges ++ e ∷ []) (given ++ option_to_list r) new.decoder) → last_time new.decoder ≡ Some e.time
+    → ((edges : List Edge) → HasJudged edges old.judge → HasJudged (edges ++ e ∷ []) new.judge) → AccountsMore (option_to_list r) old.account new.account → new.taken ≡ old.taken + 1
+    → NarratesMore (e ∷ []) old new
+narrates_one old new e r was later same reads last judges accounts taken = λ edges written h.
+    let none : back_in edges ≡ None = sym h.back ∙ was in
+    let k = of_front edges written old none h.heeded in
+    let on : StandsBefore e.time (time_of edges) → ⊥ = λ s. later (rw k.last s) in
+    let whole : in_front (back_in (edges ++ e ∷ [])) (edges ++ e ∷ []) ≡ edges ++ e ∷ [] = all_front (edges ++ e ∷ []) (goes_on edges e none on) in
+    let P : List Edge → Type 0 = λ l. HasHeeded l written new in
+    let heeds : HasHeeded (edges ++ e ∷ []) written new = record {
+      given = k.given ++ option_to_list r;
+      read = reads edges k.given k.read;
+      last = last ∙ sym (time_of_one edges e);
+      judged = judges edges k.judged;
+      accounted = accounts k.given written k.accounted;
+      taken = taken ∙ (ap (λ i. i + 1) k.taken ∙ sym (length-append edges (e ∷ [])));
+    } in
+    record {
+      back = same ∙ (was ∙ sym (goes_on edges e none on));
+      heeded = subst P (sym whole) heeds;
+    }
+
+-- lines are given up
+pub narrated_cleared : (old new : Narrator) → new.back ≡ old.back → new.decoder ≡ old.decoder → new.judge ≡ old.judge → new.taken ≡ old.taken
+    → ((given : List Reading) (written : List ℕ) → HasAccounted given written old.account → HasAccounted given (written ++ old.account.lines.items) new.account) → (edges : List Edge) (written : List ℕ)
+    → HasNarrated edges written old → HasNarrated edges (written ++ old.account.lines.items) new
+narrated_cleared old new b d j t clears = λ edges written h.
+    let k = h.heeded in
+    record {
+      back = b ∙ h.back;
+      heeded = record {
+        given = k.given;
+        read = rw d k.read;
+        last = ap last_time d ∙ k.last;
+        judged = rw j k.judged;
+        accounted = clears k.given written k.accounted;
+        taken = t ∙ k.taken;
+      };
+    }
+
+-- the end of edges that stop
+pub ends_stopped : GivenAreSettled → (n : Narrator) (own : Option CliFault) (f : CliFault) (e : Ended) → stop_at n.back own ≡ Some f → e.stop ≡ Some f → e.lines ≡ n.account.lines → (edges : List Edge) (written : List ℕ)
+    → HasNarrated edges written n → EndsEdges edges written own e
+ends_stopped settled n own f e is stop lines = λ edges written h.
+    let k = h.heeded in
+    record {
+      stop = stop ∙ (sym is ∙ ap (λ v. stop_at v own) h.back);
+      lines =
+          ap (λ v. written ++ v.items) lines
+          ∙ (k.accounted.lines
+          ∙ (ap (λ rs. all_lines Nothing rs) (sym (settled (in_front (back_in edges) edges) k.given n.decoder k.read)) ∙ sym (ap (λ s. told_of s edges) stop)));
+    }
+
+-- nothing stops them
+no_back : (v : Option ℕ) (own : Option CliFault) → stop_at v own ≡ None → v ≡ None
+no_back None own h = refl
+no_back (Some n) own h = absurd (cc)
+
+-- the end of whole edges
+pub ends_whole : (n : Narrator) (own : Option CliFault) (cut : Option Reading) (a : Account) (v : Option WaveFault) (e : Ended) → stop_at n.back own ≡ None → e.stop ≡ None
+    → ((edges : List Edge) (given : List Reading) → HasRead edges given n.decoder → readings_of edges ≡ given ++ option_to_list cut) → ((edges : List Edge) → HasJudged edges n.judge → v ≡ fault_of edges)
+    → AccountsMore (option_to_list cut) n.account a
+    → ((given : List Reading) (written : List ℕ) → HasAccounted given written a → written ++ e.lines.items ≡ all_lines Nothing given ++ (summary given ++ verdict_text v)) → (edges : List Edge) (written : List ℕ)
+    → HasNarrated edges written n → EndsEdges edges written own e
+ends_whole n own cut a v e is stop reads judges accounts ends = λ edges written h.
+    let none : back_in edges ≡ None = sym h.back ∙ no_back n.back own is in
+    let k = of_front edges written n none h.heeded in
+    let all = reads edges k.given k.read in
+    record {
+      stop = stop ∙ (sym is ∙ ap (λ v. stop_at v own) h.back);
+      lines =
+          ends (k.given ++ option_to_list cut) written (accounts k.given written k.accounted)
+          ∙ (ap (λ rs. all_lines Nothing rs ++ (summary rs ++ verdict_text v)) (sym all)
+          ∙ (ap (λ w. all_lines Nothing (readings_of edges) ++ (summary (readings_of edges) ++ verdict_text w)) (judges edges k.judged) ∙ sym (ap (λ s. told_of s edges) stop)));
+    }

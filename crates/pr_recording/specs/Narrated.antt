@@ -1,0 +1,162 @@
+-- Linking words, for proofs: which edges were taken, and which lines were made and written of them. No reader needs to believe them.
+use Rattle.std.specs.Prelude.{◌≡◌, ℕ, ◌+◌, ◌≤◌, List, [], ◌∷◌, ◌++◌, length, Option, Some, None, Result, Ok, Err, IfSome}
+use Rattle.std.specs.Option.{option_to_list}
+use Rattle.std.specs.Io.KnownBytes.{Appends, Keeps}
+use Rattle.pr_wire.specs.declared.Edge.{Edge}
+use Rattle.pr_wire.specs.declared.WaveFault.{WaveFault}
+use Rattle.pr_wire.specs.declared.WaveFault.TheVariants as wave
+use Rattle.pr_wire.specs.Table.{fault_of}
+use Rattle.pr_story.specs.declared.storyteller.Storyteller.{Storyteller}
+use Rattle.pr_story.specs.declared.timed_frame.TimedFrame.{TimedFrame}
+use Rattle.pr_story.specs.Telling as story
+use Rattle.pr_decode.specs.declared.reading.Reading.{Reading}
+use Rattle.pr_decode.specs.Taking.{HasRead, last_time}
+use Rattle.pr_measure.specs.declared.line.Behind.TheVariants.{Nothing}
+use Rattle.pr_measure.specs.ReadingText.{all_lines, behind_all}
+use Rattle.pr_measure.specs.Summary.{summary}
+use Rattle.pr_measure.specs.Taking as survey
+use Rattle.pr_measure.specs.Verdict.{verdict_text}
+use Rattle.pr_options.specs.declared.format.TraceInput.{TraceInput}
+use Rattle.pr_cli.specs.PartlyWritten.{AppendsFront}
+use Rattle.pr_cli.specs.Report.{edges_made, SaysSamples}
+use Rattle.pr_cli.specs.Reported.{HasGiven, HasMade, IsOwnFault}
+use Rattle.pr_cli.specs.declared.fault.CliFault.{CliFault}
+use Rattle.pr_cli.specs.declared.fault.CliFault.TheVariants.{Wave, WriteFailed}
+use Rattle.pr_cli.specs.declared.source_reader.SourceReader.{SourceReader}
+use Rattle.pr_recording.specs.declared.account.Account.{Account}
+use Rattle.pr_recording.specs.declared.judge.Judge.{Judge}
+use Rattle.pr_recording.specs.declared.narrator.Ended.{Ended}
+use Rattle.pr_recording.specs.declared.narrator.Narrator.{Narrator}
+use Rattle.pr_recording.specs.declared.teller.Teller.{Teller}
+use Rattle.pr_recording.specs.Decoded.{back_in, in_front, stop_at, told_of}
+
+-- Judges.
+
+-- these edges were taken: they have no fault yet, or this one whatever follows
+abbrev pub HasTaken : (edges : List Edge) → Storyteller → Option WaveFault → Type 0
+HasTaken edges t None = (given : List TimedFrame) × story.HasTold edges given t
+HasTaken edges t (Some w) = (more : List Edge) → fault_of (edges ++ more) ≡ Some w
+
+abbrev pub HasJudged : (edges : List Edge) → Judge → Type 0
+HasJudged edges j = HasTaken edges j.teller j.fault
+
+-- how many edges a judge has taken
+abbrev pub edges_judged : Judge → ℕ
+edges_judged j = story.number_taken j.teller
+
+-- Accounts.
+
+-- the lines of these readings were made, and this text of them was given up
+pub record HasAccounted (given : List Reading) (written : List ℕ) (a : Account) : Type 0 where
+  pub surveyed : survey.HasTaken given a.survey
+  pub behind : a.behind ≡ behind_all Nothing given
+  pub lines : written ++ a.lines.items ≡ all_lines Nothing given
+
+-- how many readings an account has
+abbrev pub readings_told : Account → ℕ
+readings_told a = survey.number_taken a.survey
+
+-- with more readings
+abbrev pub AccountsMore : List Reading → (old new : Account) → Type 0
+AccountsMore more old new = (given : List Reading) (written : List ℕ) → HasAccounted given written old → HasAccounted (given ++ more) written new
+
+-- Narrators.
+
+-- the moment of the last of edges, if there is one
+abbrev pub time_after : (last : ℕ) → List Edge → ℕ
+time_after last [] = last
+time_after last (e ∷ es) = time_after e.time es
+
+abbrev pub time_of : List Edge → Option ℕ
+time_of [] = None
+time_of (e ∷ es) = Some (time_after e.time es)
+
+-- edges in time order were taken, and their lines were made
+pub record HasHeeded (edges : List Edge) (written : List ℕ) (n : Narrator) : Type 0 where
+  pub given : List Reading
+  pub read : HasRead edges given n.decoder
+  pub last : last_time n.decoder ≡ time_of edges
+  pub judged : HasJudged edges n.judge
+  pub accounted : HasAccounted given written n.account
+  pub taken : n.taken ≡ length edges
+
+-- edges were taken, up to where time goes back
+pub record HasNarrated (edges : List Edge) (written : List ℕ) (n : Narrator) : Type 0 where
+  pub back : n.back ≡ back_in edges
+  pub heeded : HasHeeded (in_front (back_in edges) edges) written n
+
+-- how many edges and readings were taken, by all that count them
+abbrev pub load : Narrator → ℕ
+load n = n.taken + (edges_judged n.judge + readings_told n.account)
+
+-- with more edges
+abbrev pub NarratesMore : List Edge → (old new : Narrator) → Type 0
+NarratesMore more old new = (edges : List Edge) (written : List ℕ) → HasNarrated edges written old → HasNarrated (edges ++ more) written new
+
+-- the end of edges whose input has this fault, if it has one: why they stop, and the lines that were not given up before
+pub record EndsEdges (edges : List Edge) (written : List ℕ) (own : Option CliFault) (t : Ended) : Type 0 where
+  pub stop : t.stop ≡ stop_at (back_in edges) own
+  pub lines : written ++ t.lines.items ≡ told_of t.stop edges
+
+-- Tellers.
+
+-- these samples were taken
+pub record HasHeard (input : TraceInput) (samples : List Edge) (written : List ℕ) (t : Teller) : Type 0 where
+  pub edges : List Edge
+  pub made : HasMade input samples edges t.maker
+  pub narrated : HasNarrated edges written t.narrator
+
+abbrev pub edges_heard : Teller → ℕ
+edges_heard t = load t.narrator
+
+-- the lines that were not given up yet
+abbrev pub lines_in : Teller → List ℕ
+lines_in t = t.narrator.account.lines.items
+
+-- with more samples
+abbrev pub HearsMore : List Edge → (old new : Teller) → Type 0
+HearsMore more old new = (input : TraceInput) (samples : List Edge) (written : List ℕ) → HasHeard input samples written old
+    → HasHeard input (samples ++ more) written new
+
+-- the lines so far are given up
+abbrev pub GivesUp : (old new : Teller) → Type 0
+GivesUp old new = (input : TraceInput) (samples : List Edge) (written : List ℕ) → HasHeard input samples written old
+    → HasHeard input samples (written ++ lines_in old) new
+
+-- the end of samples
+abbrev pub EndsSamples : Teller → (own : Option CliFault) → Ended → Type 0
+EndsSamples t own e = (input : TraceInput) (samples : List Edge) (written : List ℕ) → HasHeard input samples written t
+    → EndsEdges (edges_made input.source input.start samples) written own e
+
+-- Blocks.
+
+-- a text was taken, and its samples were told
+pub record HasNoted (input : TraceInput) (text written : List ℕ) (r : SourceReader) (t : Teller) : Type 0 where
+  pub samples : List Edge
+  pub given : HasGiven input text samples r
+  pub heard : HasHeard input samples written t
+
+-- what a block comes to: its samples were told, or those before the input's fault
+abbrev pub NotesBlock : (block : List ℕ) → SourceReader → Teller → Option CliFault → SourceReader → Teller → Type 0
+NotesBlock block r t None s u = (input : TraceInput) (text written : List ℕ) → HasNoted input text written r t
+    → HasNoted input (text ++ block) written s u
+NotesBlock block r t (Some f) s u = IsOwnFault f × ((input : TraceInput) (text written : List ℕ) → HasNoted input text written r t
+    → (more : List ℕ) → (samples : List Edge) × SaysSamples input input.source ((text ++ block) ++ more) samples (Some f)
+    × HasHeard input samples written u)
+
+-- what an input comes to that ends here, or has this fault here
+abbrev pub EndsNoted : SourceReader → Teller → Ended → Type 0
+EndsNoted r t e = (input : TraceInput) (text written : List ℕ) → HasNoted input text written r t
+    → (samples : List Edge) × (own : Option CliFault) × SaysSamples input input.source text samples own × IfSome own IsOwnFault
+    × EndsEdges (edges_made input.source input.start samples) written own e
+
+-- why no more is told of an input: time goes back, or it has a fault of its own
+abbrev pub IsStop : CliFault → Type 0
+IsStop (Wave (wave.Order n)) = Unit {0}
+IsStop fault = IsOwnFault fault
+
+-- what the end of an input comes to in the writer
+abbrev pub WritesEnd : Ended → Option (List ℕ) → Option (List ℕ) → Result (Unit {0}) CliFault → Type 0
+WritesEnd e old new (Ok _) = (e.stop ≡ None) × Appends old new e.lines.items
+WritesEnd e old new (Err WriteFailed) = AppendsFront old new e.lines.items
+WritesEnd e old new (Err fault) = (e.stop ≡ Some fault) × Appends old new e.lines.items

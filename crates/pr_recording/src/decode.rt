@@ -1,0 +1,195 @@
+//! A recording in any format in, what it says out.
+
+ghost use Rattle.std.specs.Prelude.{◌≡◌, ◌≢◌, ◌+◌, ◌*◌, ◌^◌, ◌<◌, ◌≤◌, ◌↔◌, length, false, true, None, IfErr, IfOk, IfSome, IsErr, IsErrOf, OnErr, OnOk, Some};
+ghost use Rattle.std.specs.Io.KnownBytes.{Appends};
+ghost use Rattle.pr_cli.specs.Check.{trace_limit};
+ghost use Rattle.pr_cli.specs.PartlyWritten.{AppendsFront};
+ghost use Rattle.pr_cli.specs.Reported.{lines_read};
+ghost use Rattle.pr_cli.specs.Watched.{has_failed, wrapped};
+ghost use Rattle.pr_recording.specs.Decoded.{AnswersDecode, IsDecodeFault, ReadsAll};
+ghost use Rattle.pr_recording.specs.Narrated.{EndsNoted, GivesUp, NotesBlock, WritesEnd, edges_heard, lines_in};
+
+use crate::narrator::Ended;
+use crate::teller::Teller;
+use pr_cli::{
+    BLOCK, CHECK_LIMIT, CliFault, SourceReader, TraceInput, Watched, WriteFault,
+    made_edges_come_first, texts_say_samples, write_piece, write_whole,
+};
+use pr_decode::readings_add_up;
+use std::alloc::{AllocError, Global};
+use std::io::{Read, Write};
+
+/// Reads any recording of the bus, in any format, and writes what it says: the lines of its readings, as
+/// [`pr_measure::push_reading`] makes them, their summary, and whether the recording is lawful by this
+/// project's profile.
+///
+/// The recording may begin anywhere and have any levels. It is read block by block; what a block settles
+/// is written before the next is read, and nothing of it is kept but 1.3 megabytes of counters.
+///
+/// # Errors
+///
+/// - [`CliFault::Trace`]: a trace text with its first bad line; [`CliFault::Capture`]: a recording with
+///   its first fault. No further block is read.
+/// - [`CliFault::Wave`] with [`pr_wire::WaveFault::Order`]: a trace text in which time goes back, with the
+///   index of the first edge that stands before the one in front of it, unless a bad line stands before it.
+///   The rest of the text is read.
+/// - [`CliFault::TooLarge`]: only if the input has more than [`CHECK_LIMIT`] bytes.
+/// - [`CliFault::ReadFailed`] exactly if the input has failed, [`CliFault::WriteFailed`] exactly if the
+///   output has.
+/// - [`CliFault::NoMemory`]: memory was refused.
+///
+/// With the first three the lines of all that is settled before the fault have been written. With every
+/// other error a beginning of what was to be written has been.
+pub fn decode_over<R: Read, W: Write>(
+    alloc: Global,
+    input: &mut Watched<R>,
+    output: &mut Watched<W>,
+    trace: TraceInput<'_>,
+) -> Result<(), CliFault>
+    requires input { has_failed input.old ≡ false }
+    requires output { has_failed output.old ≡ false }
+    ensures decode { IfSome (R.remaining (wrapped input.old)) (λ text.
+        AnswersDecode trace_limit trace.entry text (W.contents (wrapped output.old)) (W.contents (wrapped output.new)) result) }
+    ensures at_end { ReadsAll (R.remaining (wrapped input.new)) result }
+    ensures own { IfErr result IsDecodeFault }
+    ensures read_failed { IsErrOf result CliFault.ReadFailed ↔ (has_failed input.new ≡ true) }
+    ensures write_failed { IsErrOf result CliFault.WriteFailed ↔ (has_failed output.new ≡ true) }
+{
+    decode_input(alloc, input, output, trace, CHECK_LIMIT)
+}
+
+/// Tells an input of at most `limit` bytes, block by block.
+fn decode_input<R: Read, W: Write>(
+    alloc: Global,
+    input: &mut Watched<R>,
+    output: &mut Watched<W>,
+    trace: TraceInput<'_>,
+    limit: usize,
+) -> Result<(), CliFault>
+    requires input { has_failed input.old ≡ false }
+    requires output { has_failed output.old ≡ false }
+    requires few { limit ≤ trace_limit }
+    ensures decode { IfSome (R.remaining (wrapped input.old)) (λ text.
+        AnswersDecode limit trace.entry text (W.contents (wrapped output.old)) (W.contents (wrapped output.new)) result) }
+    ensures at_end { ReadsAll (R.remaining (wrapped input.new)) result }
+    ensures own { IfErr result IsDecodeFault }
+    ensures read_failed { IsErrOf result CliFault.ReadFailed ↔ (has_failed input.new ≡ true) }
+    ensures write_failed { IsErrOf result CliFault.WriteFailed ↔ (has_failed output.new ≡ true) }
+{
+    readings_add_up();
+    texts_say_samples();
+    made_edges_come_first();
+    let mut reader = SourceReader::new(alloc, trace);
+    let mut teller = Teller::new(alloc, trace)?;
+    let mut left = limit;
+    let mut block = [0u8; BLOCK];
+    'pieces: loop {
+        match input.read(&mut block) {
+            Err(_) => return Err(CliFault::ReadFailed),
+            Ok(0) => return write_end(output, end_input(reader, teller)?),
+            Ok(n) => {
+                if n > left {
+                    return Err(CliFault::TooLarge);
+                }
+                left -= n;
+                if let Some(fault) = tell_block(&mut reader, &mut teller, &block[..n])? {
+                    return write_end(output, teller.finish(Some(fault))?);
+                }
+                write_lines(output, &mut teller)?;
+            }
+        }
+    }
+}
+
+/// Tells the bytes of a block. Gives the input's fault, where one stands there.
+fn tell_block(
+    reader: &mut SourceReader<'_>,
+    teller: &mut Teller,
+    block: &[u8],
+) -> Result<Option<CliFault>, AllocError>
+    requires lines { lines_read reader.old + length block.now + 1 < 2 ^ 64 }
+    requires edges { edges_heard teller.old + 3 * length block.now + 3 < 2 ^ 64 }
+    ensures noted { IfOk result (λ fault. NotesBlock block.now reader.old teller.old fault reader.new teller.new) }
+    ensures lines { IfOk result (λ fault. fault ≡ None → lines_read reader.new ≤ lines_read reader.old + length block.now) }
+    ensures edges { OnOk result (edges_heard teller.new ≤ edges_heard teller.old + 3 * length block.now) }
+{
+    let mut rest = block;
+    while !rest.is_empty() {
+        match reader.take_front(rest) {
+            Ok((len, sample)) => {
+                teller.take_if(sample)?;
+                rest = &rest[len..];
+            }
+            Err(fault) => return Ok(Some(own_fault(fault)?)),
+        }
+    }
+    Ok(None)
+}
+
+/// A fault of an input, where it is no want of memory.
+fn own_fault(fault: CliFault) -> Result<CliFault, AllocError>
+    ensures same { IfOk result (λ own. own ≡ fault) }
+    ensures own { OnOk result (fault ≢ CliFault.NoMemory) }
+{
+    match fault {
+        CliFault::NoMemory => Err(AllocError),
+        own => Ok(own),
+    }
+}
+
+/// Ends an input, and gives the last of what is told of it.
+fn end_input(reader: SourceReader<'_>, mut teller: Teller) -> Result<Ended, AllocError>
+    requires lines { lines_read reader + 1 < 2 ^ 64 }
+    requires edges { edges_heard teller + 9 < 2 ^ 64 }
+    ensures { IfOk result (λ ended. EndsNoted reader.entry teller ended) }
+{
+    match reader.finish() {
+        Ok(sample) => {
+            teller.take_if(sample)?;
+            teller.finish(None)
+        }
+        Err(fault) => {
+            let own = own_fault(fault)?;
+            teller.finish(Some(own))
+        }
+    }
+}
+
+/// Writes the lines that are not written yet.
+fn write_lines<W: Write>(output: &mut Watched<W>, teller: &mut Teller) -> Result<(), CliFault>
+    requires fresh { has_failed output.old ≡ false }
+    ensures ok { OnOk result (Appends (W.contents (wrapped output.old)) (W.contents (wrapped output.new)) (lines_in teller.old)) }
+    ensures err { OnErr result (AppendsFront (W.contents (wrapped output.old)) (W.contents (wrapped output.new)) (lines_in teller.old)) }
+    ensures given { OnOk result (GivesUp teller.old teller.new) }
+    ensures count { OnOk result (edges_heard teller.new ≡ edges_heard teller.old) }
+    ensures own { IfErr result (λ fault. fault ≡ CliFault.WriteFailed) }
+    ensures failed { IsErr result ↔ (has_failed output.new ≡ true) }
+{
+    match write_piece(output, teller.lines()) {
+        Ok(()) => {
+            teller.clear();
+            Ok(())
+        }
+        Err(WriteFault) => Err(CliFault::WriteFailed),
+    }
+}
+
+/// Writes the last of what is told, and answers why no more is, if that has a reason.
+fn write_end<W: Write>(output: &mut Watched<W>, ended: Ended) -> Result<(), CliFault>
+    requires fresh { has_failed output.old ≡ false }
+    requires stop { ended.stop ≢ Some CliFault.WriteFailed }
+    ensures written { WritesEnd ended (W.contents (wrapped output.old)) (W.contents (wrapped output.new)) result }
+    ensures failed { IsErrOf result CliFault.WriteFailed ↔ (has_failed output.new ≡ true) }
+{
+    match write_whole(output, ended.lines.as_slice()) {
+        Ok(()) => {}
+        Err(WriteFault) => return Err(CliFault::WriteFailed),
+    }
+    match ended.stop {
+        None => Ok(()),
+        Some(fault) => Err(fault),
+    }
+}
+
+#[cfg(test)]
+mod tests;
