@@ -4,14 +4,9 @@ use Rattle.pr_wire.specs.declared.Edge.{Edge}
 use Rattle.pr_wire.specs.declared.Frame.{Frame}
 use Rattle.pr_wire.specs.declared.WaveFault.{WaveFault}
 use Rattle.pr_wire.specs.Reached.{Reached, begin, reached}
-use Rattle.pr_receiver.specs.Heard.{is_listening, is_called}
 use Rattle.pr_receiver.specs.Given.{frames_ended}
-use Rattle.pr_receiver.specs.declared.listener.Listener.{Listener}
+use Rattle.pr_receiver.specs.Kept.{kept_of}
 use Rattle.pr_receiver.specs.declared.state.Progress.{Progress}
-
--- what a device keeps of frames
-abbrev pub kept_of : ℕ → List Frame → Listener
-kept_of device frames = record { device = device; listens = is_listening device frames; called = is_called device frames }
 
 -- the receiver has taken these edges, in this order, and no others; an edge that it refused is none of them
 pub record HasTaken (edges : List Edge) (receiver : Progress) : Type 0 where
