@@ -1,6 +1,8 @@
 //! Explanations of recordings: the moments are those of the table of lawful traces.
 
 use super::*;
+use pr_capture::Signals;
+use pr_options::Source;
 use pr_wire::example::TRACE_TEXT;
 use pr_wire::read_trace;
 use std::env::FillError;
@@ -24,11 +26,16 @@ const HEADER: &str = "$timescale 1 us $end\n$var wire 1 a ATN $end\n$var wire 1 
 fn told(
     rt: &(impl Abort + AllocGlobal),
     recording: &[u8],
-    kind: Recording,
+    source: Source,
     start: u64,
     wanted: &str,
 ) -> Result<(), Fail> {
-    let text = explain_recording(rt.alloc(), recording, kind, SIGNALS, start)?;
+    let input = TraceInput {
+        source,
+        signals: SIGNALS,
+        start,
+    };
+    let text = explain_trace(rt.alloc(), recording, input)?;
     assert_eq!(rt; text.as_slice(), wanted.as_bytes());
     Ok(())
 }
@@ -41,7 +48,7 @@ fn told_of_dump(
     wanted: &str,
 ) -> Result<(), Fail> {
     let dump = format!(in rt.alloc(); "{HEADER}{changes}")?;
-    told(rt, dump.as_bytes(), Recording::Dump, start, wanted)
+    told(rt, dump.as_bytes(), Source::Vcd, start, wanted)
 }
 
 /// The table with a row of names is explained so.
@@ -52,7 +59,7 @@ fn told_of_table(
     wanted: &str,
 ) -> Result<(), Fail> {
     let table = format!(in rt.alloc(); "Time [s],ATN,CLOCK,DATA\n{rows}")?;
-    told(rt, table.as_bytes(), Recording::Table, start, wanted)
+    told(rt, table.as_bytes(), Source::Csv, start, wanted)
 }
 
 /// The example trace as a table, all of its moments later by so many seconds.
@@ -77,9 +84,9 @@ fn example_table(rt: &impl AllocGlobal, seconds: u64) -> Result<String, Fail> {
 #[test]
 fn lawful_recordings(rt: HostRuntime) -> Result<(), Fail> {
     let table = example_table(&rt, 0)?;
-    told(&rt, table.as_bytes(), Recording::Table, 0, "")?;
+    told(&rt, table.as_bytes(), Source::Csv, 0, "")?;
     let table = example_table(&rt, 3)?;
-    told(&rt, table.as_bytes(), Recording::Table, 3_000_000, "")?;
+    told(&rt, table.as_bytes(), Source::Csv, 3_000_000, "")?;
     told_of_dump(&rt, "#0 1a 1c 1d\n", 0, "")
 }
 
@@ -191,10 +198,10 @@ fn names_of_signals(rt: HostRuntime) -> Result<(), Fail> {
     let how =
         "\n  --names tells which signals are ATN, CLOCK and DATA, as in --names ATN,CLOCK,DATA\n";
     let (signal, column) = ("no signal with levels of one bit", "no signal");
-    let rows: [(&[u8], Recording, &str, &str, &str); 6] = [
+    let rows: [(&[u8], Source, &str, &str, &str); 6] = [
         (
             b"; remark\nTime [s], \"D 0\" ,CLOCK,\"a,\x1b\"\r\n0,1,1,1\n",
-            Recording::Table,
+            Source::Csv,
             "  line 2: Time [s], \"D 0\" ,CLOCK,\"a,\\x1B\"\n  ATN is looked for as ATN,",
             column,
             "  the first column, called Time [s], is the time in seconds\n  the recording has the signals D 0, \
@@ -203,7 +210,7 @@ fn names_of_signals(rt: HostRuntime) -> Result<(), Fail> {
         (
             b"$comment $var wire 1 x ATN $end $timescale 1 us $end\n$var wire 1 a atn $end $var wire 8 c CLOCK $end\n\
               $var wire 1 ! D1 [3] $end $var real 1 r R $end $var realtime 1 t RT $end $var string 1 s S $end $var event 1 e E $end\n$enddefinitions $end\n$var wire 1 z LATE $end\n",
-            Recording::Dump,
+            Source::Vcd,
             "  line 4: $enddefinitions $end\n  CLOCK is looked for as CLOCK,",
             signal,
             "  the recording has the signals atn, D1",
@@ -211,14 +218,14 @@ fn names_of_signals(rt: HostRuntime) -> Result<(), Fail> {
         (
             b"$timescale 1 us $end $end $dumpvars $var wire 1 a D0 $end $dumpall $var wire 1 b D1 $end\n\
               $dumpon $var wire 1 c D2 $end $dumpoff $var wire 1 d D3 $end\n$enddefinitions $end\n",
-            Recording::Dump,
+            Source::Vcd,
             "  line 3: $enddefinitions $end\n  ATN is looked for as ATN,",
             signal,
             "  the recording has the signals D0, D1, D2, D3",
         ),
         (
             b"$timescale 1 us $end $var event 1 ! ATN $end $var real 1 r CLOCK $end $enddefinitions $end\n",
-            Recording::Dump,
+            Source::Vcd,
             "  line 1: $timescale 1 us $end $var event 1 ! ATN $end $var real 1 r CLOCK $end $enddefinitions $end\n  \
              ATN is looked for as ATN,",
             signal,
@@ -226,22 +233,22 @@ fn names_of_signals(rt: HostRuntime) -> Result<(), Fail> {
         ),
         (
             b"Time, \"\" ,\n0,1\n",
-            Recording::Table,
+            Source::Csv,
             "  line 1: Time, \"\" ,\n  ATN is looked for as ATN,",
             column,
             "  the first column, called Time, is the time in seconds\n  the recording names no signal",
         ),
         (
             b"t,1,2,3,4,5,6,7,8,9,10,11,12,13,14,15,16,17,18,19,20,21\n",
-            Recording::Table,
+            Source::Csv,
             "  line 1: t,1,2,3,4,5,6,7,8,9,10,11,12,13,14,15,16,17,18,19,20,21\n  ATN is looked for as ATN,",
             column,
             "  the first column, called t, is the time in seconds\n  the recording has the signals 1, 2, 3, 4, 5, 6, 7, 8, 9, 10, 11, 12, 13, 14, 15, 16, 17, 18, 19, 20, ..",
         ),
     ];
-    for (recording, kind, front, missing, names) in rows {
+    for (recording, source, front, missing, names) in rows {
         let wanted = format!(in rt.alloc(); "{front} and {missing} has that name\n{names}{how}")?;
-        told(&rt, recording, kind, 0, wanted.as_str())?;
+        told(&rt, recording, source, 0, wanted.as_str())?;
     }
     Ok(())
 }
@@ -277,7 +284,7 @@ fn tables_without_names(rt: HostRuntime) -> Result<(), Fail> {
         ),
     ];
     for (table, wanted) in rows {
-        told(&rt, table, Recording::Table, 0, wanted)?;
+        told(&rt, table, Source::Csv, 0, wanted)?;
     }
     Ok(())
 }
@@ -296,7 +303,7 @@ fn inverted_recordings(rt: HostRuntime) -> Result<(), Fail> {
     let plain = format!(in rt.alloc();
         "{front}probes stand behind inverters: --invert reads 0 as released\n"
     )?;
-    told(&rt, table, Recording::Table, 0, plain.as_str())?;
+    told(&rt, table, Source::Csv, 0, plain.as_str())?;
     let inverted = format!(in rt.alloc();
         "{front}levels are not inverted: --invert is not wanted\n"
     )?;
@@ -304,7 +311,12 @@ fn inverted_recordings(rt: HostRuntime) -> Result<(), Fail> {
         is_inverted: true,
         ..SIGNALS
     };
-    let text = explain_recording(rt.alloc(), dump, Recording::Dump, signals, 0)?;
+    let input = TraceInput {
+        source: Source::Vcd,
+        signals,
+        start: 0,
+    };
+    let text = explain_trace(rt.alloc(), dump, input)?;
     assert_eq!(rt; text.as_slice(), inverted.as_bytes());
     Ok(())
 }
@@ -397,7 +409,7 @@ fn faults_of_dumps(rt: HostRuntime) -> Result<(), Fail> {
     told(
         &rt,
         b"0,1,1,1\n",
-        Recording::Dump,
+        Source::Vcd,
         0,
         "  line 2: \n  the header of a dump ends with $enddefinitions $end; --from csv reads tables, and without \
          --from a trace text is read\n",
@@ -405,7 +417,7 @@ fn faults_of_dumps(rt: HostRuntime) -> Result<(), Fail> {
     told(
         &rt,
         b"$var wire 1 a ATN $end\n",
-        Recording::Dump,
+        Source::Vcd,
         0,
         "  line 2: \n  the header of a dump ends with $enddefinitions $end; --from csv reads tables, and without \
          --from a trace text is read\n",
@@ -413,7 +425,7 @@ fn faults_of_dumps(rt: HostRuntime) -> Result<(), Fail> {
     told(
         &rt,
         b"$enddefinitions $end\n",
-        Recording::Dump,
+        Source::Vcd,
         0,
         "  line 1: $enddefinitions $end\n  the header of a dump has $timescale 1 us $end: 1, 10 or \
          100 of a unit from fs to s\n",
@@ -429,7 +441,12 @@ fn names_looked_for(rt: HostRuntime) -> Result<(), Fail> {
         line: b"D2",
         is_inverted: false,
     };
-    let text = explain_recording(rt.alloc(), b"t,D0,D1,D2\n", Recording::Table, signals, 0)?;
+    let input = TraceInput {
+        source: Source::Csv,
+        signals,
+        start: 0,
+    };
+    let text = explain_trace(rt.alloc(), b"t,D0,D1,D2\n", input)?;
     let wanted =
         b"  line 1: t,D0,D1,D2\n  CLOCK is looked for as D\\xFF, and no signal has that name\n  \
         the first column, called t, is the time in seconds\n  the recording has the signals D0, D1, D2\n  \
@@ -439,8 +456,13 @@ fn names_looked_for(rt: HostRuntime) -> Result<(), Fail> {
 }
 
 /// Whether an explanation is refused memory. If not, it is as with ample memory.
-fn is_refused(rt: &(impl Abort + AllocGlobal), recording: &[u8], kind: Recording) -> bool {
-    match explain_recording(rt.alloc(), recording, kind, SIGNALS, 1) {
+fn is_refused(rt: &(impl Abort + AllocGlobal), recording: &[u8], source: Source) -> bool {
+    let input = TraceInput {
+        source,
+        signals: SIGNALS,
+        start: 1,
+    };
+    match explain_trace(rt.alloc(), recording, input) {
         Ok(text) => {
             assert!(rt; text.as_slice().ends_with(b"too early\n"));
             false
@@ -458,15 +480,15 @@ fn may_be_refused(rt: &impl Env) -> bool {
 }
 
 /// A dump or a table with a fault and with an edge before it that comes too early.
-const RECORDINGS: [(&[u8], Recording); 2] = [
+const RECORDINGS: [(&[u8], Source); 2] = [
     (
         b"$timescale 1 us $end $var wire 1 a ATN $end $var wire 1 c CLK $end $var wire 1 d DATA $end\n\
           $enddefinitions $end #1 1a 1c 1d #3 0a 0c #9 1a 0a q",
-        Recording::Dump,
+        Source::Vcd,
     ),
     (
         b"Time,ATN,CLOCK,DATA\n0.000001,1,1,1\n0.000003,0,0,1\n0.000009,1,0,0\n1,x,1,1",
-        Recording::Table,
+        Source::Csv,
     ),
 ];
 
@@ -474,9 +496,9 @@ const RECORDINGS: [(&[u8], Recording); 2] = [
 /// answers as ever. With no growth refused no call is.
 #[test]
 fn each_growth_refused(rt: HostRuntime) {
-    for (recording, kind) in RECORDINGS {
-        let first = is_refused(&rt, recording, kind);
-        let second = is_refused(&rt, recording, kind);
+    for (recording, source) in RECORDINGS {
+        let first = is_refused(&rt, recording, source);
+        let second = is_refused(&rt, recording, source);
         assert!(rt; !(first && second));
         assert!(rt; may_be_refused(&rt) || !(first || second));
     }
