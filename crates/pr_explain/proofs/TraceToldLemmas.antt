@@ -68,4 +68,3 @@ line_behind fault front behind all h e = record {
   is_line = h.is_line;
   whole = e ∙ ap (λ t. t ++ behind) (h.whole ∙ append-nil _);
 }
-

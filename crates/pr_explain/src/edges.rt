@@ -131,11 +131,7 @@ fn start_told(
 
 /// Adds how a recording is read that begins with all lines pulled, since its probes may stand behind
 /// inverters.
-fn push_inverters(
-    text: &mut Vec<u8>,
-    levels: Levels,
-    is_inverted: bool,
-) -> Result<(), NoMemory> {
+fn push_inverters(text: &mut Vec<u8>, levels: Levels, is_inverted: bool) -> Result<(), NoMemory> {
     if levels.atn || levels.clock || levels.line {
         return Ok(());
     }

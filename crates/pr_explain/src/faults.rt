@@ -170,7 +170,10 @@ fn push_text_rule(text: &mut Vec<u8>, line: &[u8]) -> Result<(), NoMemory> {
          released, 0 pulled), as in 100 001",
     )?;
     if line.starts_with(b"$") {
-        push(text, "\n  --from vcd reads Value Change Dumps, which have such lines")
+        push(
+            text,
+            "\n  --from vcd reads Value Change Dumps, which have such lines",
+        )
     } else if has_comma(line) {
         push(text, "\n  --from csv reads tables, which have such lines")
     } else {

@@ -18,11 +18,7 @@ pub struct Said {
 }
 
 /// Reads an input to its end, or to its first fault.
-pub fn read_input(
-    alloc: Global,
-    bytes: &[u8],
-    input: TraceInput<'_>,
-) -> Result<Said, NoMemory>
+pub fn read_input(alloc: Global, bytes: &[u8], input: TraceInput<'_>) -> Result<Said, NoMemory>
     ensures says { IfOk result (λ said. Says input.entry bytes.now said.edges.items said.fault) }
     ensures own { IfOk result (λ said. IfSome said.fault IsOwnFault) }
 {
