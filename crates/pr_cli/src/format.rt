@@ -17,7 +17,7 @@ use std::alloc::Global;
 /// # Errors
 ///
 /// [`NoMemory`] where memory was refused.
-pub(crate) fn text_in_format(
+pub fn text_in_format(
     alloc: Global,
     outcome: Outcome,
     present: Present,

@@ -127,7 +127,7 @@ fn tell_block(
 }
 
 /// A fault of an input, where it is no want of memory.
-fn own_fault(fault: CliFault) -> Result<CliFault, AllocError>
+pub fn own_fault(fault: CliFault) -> Result<CliFault, AllocError>
     ensures same { IfOk result (λ own. own ≡ fault) }
     ensures own { OnOk result (fault ≢ CliFault.NoMemory) }
 {

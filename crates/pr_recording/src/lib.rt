@@ -2,13 +2,17 @@
 //!
 //! The headline is on [`decode_over`]: it reads a recording in any format, block by block, and writes the
 //! text that `specs/Decoded.antt` defines of the edges that the recording says: the lines of its readings,
-//! their summary, and whether it is lawful.
+//! their summary, and whether it is lawful. [`reprint_over`] writes the pages that printers 4 and 5 print of
+//! it in their place, as `specs/Pages.antt` defines them.
 #![tactic(auto)]
 
 mod account;
+mod copier;
 mod decode;
 mod judge;
 mod narrator;
+mod pages;
 mod teller;
 
 pub use decode::decode_over;
+pub use pages::{PRINT_LIMIT, reprint_over};

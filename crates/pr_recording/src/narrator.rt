@@ -118,7 +118,7 @@ impl Narrator {
 }
 
 /// Why no more is told of edges: time goes back at one of them, or else their input has a fault.
-fn stop_at(back: Option<usize>, own: Option<CliFault>) -> Option<CliFault>
+pub fn stop_at(back: Option<usize>, own: Option<CliFault>) -> Option<CliFault>
     ensures { result ≡ stop_at back own }
 {
     match back {

@@ -1,0 +1,53 @@
+-- Linking words, for proofs: what was printed of an input, and what is written of it. No reader needs to believe them.
+use Rattle.std.specs.Prelude.{◌≡◌, ℕ, ◌<◌, ◌≤◌, List, length, Option, Some, None, Result, Ok, Err, IfSome}
+use Rattle.std.specs.Io.KnownBytes.{Appends, IsAtEnd, Keeps}
+use Rattle.pr_wire.specs.declared.WaveFault.TheVariants as wave
+use Rattle.pr_options.specs.declared.format.Format.{Format}
+use Rattle.pr_options.specs.declared.format.TraceInput.{TraceInput}
+use Rattle.pr_cli.specs.Formats.{text_in}
+use Rattle.pr_cli.specs.PartlyWritten.{AppendsFront}
+use Rattle.pr_cli.specs.Reported.{IsOwnFault}
+use Rattle.pr_cli.specs.declared.fault.CliFault.{CliFault}
+use Rattle.pr_cli.specs.declared.fault.CliFault.TheVariants.{Script, Trace, Wave, Capture, TooLarge, NoMemory, ReadFailed, WriteFailed}
+use Rattle.pr_recording.specs.declared.copier.Printed.{Printed}
+use Rattle.pr_recording.specs.Copied.{IsPrintOf}
+use Rattle.pr_recording.specs.Pages.{papers_alone}
+
+-- why no more is printed of an input: time goes back, or it has a fault of its own
+abbrev pub IsPrintStop : CliFault → Type 0
+IsPrintStop (Wave (wave.Order n)) = Unit {0}
+IsPrintStop fault = IsOwnFault fault
+
+-- what was printed of an input of at most so many bytes, or why nothing was
+pub record PrintsWhole (limit : ℕ) (input : TraceInput) (text : List ℕ) (p : Printed) : Type 0 where
+  pub print : IsPrintOf input text p
+  pub short : p.stop ≡ None → length text ≤ limit
+
+abbrev pub GivesPrint : ℕ → TraceInput → Result Printed CliFault → List ℕ → Type 0
+GivesPrint limit input (Ok p) text = PrintsWhole limit input text p
+GivesPrint limit input (Err TooLarge) text = limit < length text
+GivesPrint limit input (Err NoMemory) text = Unit {0}
+GivesPrint limit input (Err ReadFailed) text = Unit {0}
+GivesPrint limit input (Err _) text = ⊥
+
+-- so far as its end was read
+abbrev pub HasReadPages : Option (List ℕ) → Result Printed CliFault → Type 0
+HasReadPages left (Ok p) = p.stop ≡ None → IsAtEnd left
+HasReadPages left (Err fault) = Unit {0}
+
+-- a fault of reading, or want of memory
+abbrev pub IsNoPrint : CliFault → Type 0
+IsNoPrint TooLarge = Unit {0}
+IsNoPrint NoMemory = Unit {0}
+IsNoPrint ReadFailed = Unit {0}
+IsNoPrint _ = ⊥
+
+-- what the pages that were printed come to in the writer
+abbrev pub text_of_print : Format → Printed → List ℕ
+text_of_print format p = text_in format p.pages.present (papers_alone p.pages)
+
+abbrev pub WritesPrint : Format → Printed → Option (List ℕ) → Option (List ℕ) → Result (Unit {0}) CliFault → Type 0
+WritesPrint format p old new (Ok _) = (p.stop ≡ None) × Appends old new (text_of_print format p)
+WritesPrint format p old new (Err NoMemory) = Keeps old new
+WritesPrint format p old new (Err WriteFailed) = AppendsFront old new (text_of_print format p)
+WritesPrint format p old new (Err fault) = (p.stop ≡ Some fault) × Appends old new (text_of_print format p)

@@ -1,0 +1,64 @@
+-- Trusted: what `decode` answers for a recording whose pages are asked for, and what it leaves in the writer.
+use Rattle.std.specs.Prelude.{◌≡◌, ℕ, ◌<◌, ◌≤◌, List, [], length, Option, Some, None, Result, Ok, Err}
+use Rattle.std.specs.Io.KnownBytes.{Appends, Keeps}
+use Rattle.pr_wire.specs.declared.Edge.{Edge}
+use Rattle.pr_decode.specs.declared.reading.Reading.{Reading}
+use Rattle.pr_decode.specs.Readings.{readings_of, settled_of}
+use Rattle.pr_reprint.specs.declared.reprint.Reprinted.{Reprinted}
+use Rattle.pr_reprint.specs.Reprinted.{ArePapers}
+use Rattle.pr_system.specs.declared.outcome.Outcome.{Outcome}
+use Rattle.pr_options.specs.declared.format.Format.{Format}
+use Rattle.pr_options.specs.declared.format.TraceInput.{TraceInput}
+use Rattle.pr_cli.specs.Formats.{text_in}
+use Rattle.pr_cli.specs.PartlyWritten.{AppendsFront}
+use Rattle.pr_cli.specs.Report.{Says}
+use Rattle.pr_cli.specs.declared.fault.CliFault.{CliFault}
+use Rattle.pr_cli.specs.declared.fault.CliFault.TheVariants.{Script, Trace, Wave, Capture, TooLarge, NoMemory, ReadFailed, WriteFailed}
+use Rattle.pr_recording.specs.Decoded.{back_in, in_front, stop_at}
+
+-- the most bytes of a recording that is printed: a printer takes at most 2 ^ 32 inputs, and no byte of a recording makes more than one
+abbrev pub print_limit : ℕ
+print_limit = 4000000000
+
+-- the readings that are printed: all of a whole recording, or those that its edges settle up to where it stops
+abbrev pub readings_up_to : (stop : Option CliFault) → List Edge → List Reading
+readings_up_to None edges = readings_of edges
+readings_up_to (Some fault) edges = settled_of (in_front (back_in edges) edges)
+
+-- an outcome that is these papers and nothing else
+abbrev pub papers_alone : Reprinted → Outcome
+papers_alone r = record { paper4 = r.paper4; paper5 = r.paper5; statuses = []; stop = None; screen = []; trace = [] }
+
+-- the text of the pages that readings make: those of the printers that hear anything
+pub record IsPagesOf (format : Format) (readings : List Reading) (text : List ℕ) : Type 0 where
+  pub reprinted : Reprinted
+  pub are_papers : ArePapers readings reprinted
+  pub is_text : text ≡ text_in format reprinted.present (papers_alone reprinted)
+
+-- they were written, or a beginning of them
+abbrev pub WritesPages : Format → List Reading → Option (List ℕ) → Option (List ℕ) → Type 0
+WritesPages format readings old new = (text : List ℕ) × IsPagesOf format readings text × Appends old new text
+
+abbrev pub WritesFrontOfPages : Format → List Reading → Option (List ℕ) → Option (List ℕ) → Type 0
+WritesFrontOfPages format readings old new = (text : List ℕ) × IsPagesOf format readings text × AppendsFront old new text
+
+-- what is left in the writer with each answer, by how long the input is, why it stops, and what is printed
+abbrev pub LeavesPages : (len : ℕ) → (stop : Option CliFault) → Format → List Reading → Option (List ℕ) → Option (List ℕ) → Result (Unit {0}) CliFault → Type 0
+LeavesPages len stop format rs old new (Ok _) = (len ≤ print_limit) × (stop ≡ None) × WritesPages format rs old new
+LeavesPages len stop format rs old new (Err (Script fault)) = ⊥
+LeavesPages len stop format rs old new (Err (Trace fault)) = (stop ≡ Some (Trace fault)) × WritesPages format rs old new
+LeavesPages len stop format rs old new (Err (Wave fault)) = (stop ≡ Some (Wave fault)) × WritesPages format rs old new
+LeavesPages len stop format rs old new (Err (Capture fault)) = (stop ≡ Some (Capture fault)) × WritesPages format rs old new
+LeavesPages len stop format rs old new (Err TooLarge) = (print_limit < len) × Keeps old new
+LeavesPages len stop format rs old new (Err NoMemory) = Keeps old new
+LeavesPages len stop format rs old new (Err ReadFailed) = Keeps old new
+LeavesPages len stop format rs old new (Err WriteFailed) = WritesFrontOfPages format rs old new
+
+-- the answer, by the text read and what the writer held before and after
+pub record AnswersPages (input : TraceInput) (format : Format) (text : List ℕ) (old new : Option (List ℕ)) (result : Result (Unit {0}) CliFault) : Type 0 where
+  pub edges : List Edge
+  pub own : Option CliFault
+  pub says : Says input text edges own
+  pub leaves :
+      let stop = stop_at (back_in edges) own in
+      LeavesPages (length text) stop format (readings_up_to stop edges) old new result

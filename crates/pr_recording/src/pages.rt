@@ -1,0 +1,191 @@
+//! A recording in any format in, the pages that printers print of it out.
+
+ghost use Rattle.std.specs.Prelude.{◌≡◌, ◌≢◌, ◌+◌, ◌^◌, ◌<◌, ◌≤◌, ◌↔◌, length, false, true, None, IfErr, IfOk, IfSome, IsErrOf, OnOk};
+ghost use Rattle.std.specs.Io.KnownBytes.{Keeps};
+ghost use Rattle.pr_cli.specs.Reported.{lines_read};
+ghost use Rattle.pr_cli.specs.Watched.{has_failed, wrapped};
+ghost use Rattle.pr_recording.specs.Copied.{EndsText, PrintsBlock, edges_paged, inputs_paged};
+ghost use Rattle.pr_recording.specs.Copying.{GivesPrint, HasReadPages, IsNoPrint, IsPrintStop, WritesPrint};
+ghost use Rattle.pr_recording.specs.Decoded.{IsDecodeFault, ReadsAll};
+ghost use Rattle.pr_recording.specs.Pages.{AnswersPages, papers_alone, print_limit};
+
+use crate::copier::{PageMaker, Printed};
+use crate::decode::own_fault;
+use pr_cli::{
+    BLOCK, CliFault, Format, SourceReader, TraceInput, Watched, WriteFault, text_in_format,
+    texts_say_samples,
+};
+use pr_page::Sequence;
+use pr_reprint::Reprinted;
+use pr_system::Outcome;
+use std::alloc::{AllocError, Global};
+use std::io::{Read, Write};
+
+/// The longest recording that is printed, in bytes (profile): a printer takes at most 2^32 inputs, and no
+/// byte of a recording makes more than one.
+pub const PRINT_LIMIT: usize = 4_000_000_000;
+
+/// Reads any recording of the bus, in any format, and writes the pages that printers 4 and 5 print of it,
+/// in this format: of the bytes that were acknowledged, those that each of them hears. The sheets are
+/// those of the printers that hear anything; there are no statuses, no bytes on the screen and no stop.
+///
+/// The recording may begin anywhere and have any levels. It is read block by block and not kept, and the
+/// whole text is made before the first write.
+///
+/// # Errors
+///
+/// - [`CliFault::Trace`]: a trace text with its first bad line; [`CliFault::Capture`]: a recording with
+///   its first fault. No further block is read.
+/// - [`CliFault::Wave`] with [`pr_wire::WaveFault::Order`]: a trace text in which time goes back, with the
+///   index of the first edge that stands before the one in front of it, unless a bad line stands before it.
+/// - [`CliFault::TooLarge`]: only if the input has more than [`PRINT_LIMIT`] bytes.
+/// - [`CliFault::ReadFailed`] exactly if the input has failed, [`CliFault::WriteFailed`] exactly if the
+///   output has.
+/// - [`CliFault::NoMemory`]: memory was refused.
+///
+/// With the first three the pages of all that is settled before the fault have been written; after
+/// `WriteFailed` a beginning of the pages has; after every other error nothing.
+pub fn reprint_over<R: Read, W: Write>(
+    alloc: Global,
+    input: &mut Watched<R>,
+    output: &mut Watched<W>,
+    trace: TraceInput<'_>,
+    format: Format,
+) -> Result<(), CliFault>
+    requires input { has_failed input.old ≡ false }
+    requires output { has_failed output.old ≡ false }
+    ensures pages { IfSome (R.remaining (wrapped input.old)) (λ text.
+        AnswersPages trace.entry format text (W.contents (wrapped output.old)) (W.contents (wrapped output.new)) result) }
+    ensures at_end { ReadsAll (R.remaining (wrapped input.new)) result }
+    ensures own { IfErr result IsDecodeFault }
+    ensures read_failed { IsErrOf result CliFault.ReadFailed ↔ (has_failed input.new ≡ true) }
+    ensures write_failed { IsErrOf result CliFault.WriteFailed ↔ (has_failed output.new ≡ true) }
+{
+    let printed = print_input(alloc, input, trace, PRINT_LIMIT)?;
+    write_pages(alloc, output, printed, format)
+}
+
+/// Prints an input of at most `limit` bytes, block by block.
+fn print_input<R: Read>(
+    alloc: Global,
+    input: &mut Watched<R>,
+    trace: TraceInput<'_>,
+    limit: usize,
+) -> Result<Printed, CliFault>
+    requires fresh { has_failed input.old ≡ false }
+    requires few { limit ≤ print_limit }
+    ensures print { IfSome (R.remaining (wrapped input.old)) (λ text. GivesPrint limit trace.entry result text) }
+    ensures at_end { HasReadPages (R.remaining (wrapped input.new)) result }
+    ensures stop { IfOk result (λ printed. IfSome printed.stop IsPrintStop) }
+    ensures own { IfErr result IsNoPrint }
+    ensures failed { IsErrOf result CliFault.ReadFailed ↔ (has_failed input.new ≡ true) }
+{
+    let mut reader = SourceReader::new(alloc, trace);
+    let mut maker = PageMaker::new(alloc, trace);
+    let mut left = limit;
+    let mut block = [0u8; BLOCK];
+    'pieces: loop {
+        match input.read(&mut block) {
+            Err(_) => return Err(CliFault::ReadFailed),
+            Ok(0) => return Ok(end_print(reader, maker)?),
+            Ok(n) => {
+                if n > left {
+                    return Err(CliFault::TooLarge);
+                }
+                left -= n;
+                if let Some(fault) = print_block(&mut reader, &mut maker, &block[..n])? {
+                    return Ok(maker.finish(Some(fault))?);
+                }
+            }
+        }
+    }
+}
+
+/// Prints what the bytes of a block say. Gives the input's fault, where one stands there.
+fn print_block(
+    reader: &mut SourceReader<'_>,
+    maker: &mut PageMaker,
+    block: &[u8],
+) -> Result<Option<CliFault>, AllocError>
+    requires lines { lines_read reader.old + length block.now + 1 < 2 ^ 64 }
+    requires edges { edges_paged maker.old + length block.now + 1 < 2 ^ 64 }
+    requires inputs { inputs_paged maker.old + length block.now < 2 ^ 32 }
+    ensures printed { IfOk result (λ fault. PrintsBlock block.now reader.old maker.old fault reader.new maker.new) }
+    ensures lines { IfOk result (λ fault. fault ≡ None → lines_read reader.new ≤ lines_read reader.old + length block.now) }
+    ensures edges { OnOk result (edges_paged maker.new ≤ edges_paged maker.old + length block.now) }
+    ensures inputs { OnOk result (inputs_paged maker.new ≤ inputs_paged maker.old + length block.now) }
+{
+    let mut rest = block;
+    while !rest.is_empty() {
+        match reader.take_front(rest) {
+            Ok((len, sample)) => {
+                maker.take_if(sample)?;
+                rest = &rest[len..];
+            }
+            Err(fault) => return Ok(Some(own_fault(fault)?)),
+        }
+    }
+    Ok(None)
+}
+
+/// Ends an input, and gives what was printed of it.
+fn end_print(reader: SourceReader<'_>, mut maker: PageMaker) -> Result<Printed, AllocError>
+    requires lines { lines_read reader + 1 < 2 ^ 64 }
+    requires edges { edges_paged maker + 2 < 2 ^ 64 }
+    requires inputs { inputs_paged maker + 2 < 2 ^ 32 }
+    ensures { IfOk result (λ printed. EndsText reader.entry maker printed) }
+{
+    match reader.finish() {
+        Ok(sample) => {
+            maker.take_if(sample)?;
+            maker.finish(None)
+        }
+        Err(fault) => {
+            let own = own_fault(fault)?;
+            maker.finish(Some(own))
+        }
+    }
+}
+
+/// The outcome that is these papers and nothing else.
+fn papers_alone(alloc: Global, pages: Reprinted) -> Outcome
+    ensures { result ≡ papers_alone pages }
+{
+    Outcome {
+        paper4: pages.paper4,
+        paper5: pages.paper5,
+        statuses: Sequence::new(alloc),
+        stop: None,
+        screen: Sequence::new(alloc),
+        trace: Sequence::new(alloc),
+    }
+}
+
+/// Writes the pages, and answers why no more was printed, if that has a reason.
+fn write_pages<W: Write>(
+    alloc: Global,
+    output: &mut Watched<W>,
+    printed: Printed,
+    format: Format,
+) -> Result<(), CliFault>
+    requires fresh { has_failed output.old ≡ false }
+    requires stop { IfSome printed.stop IsPrintStop }
+    ensures written { WritesPrint format printed (W.contents (wrapped output.old)) (W.contents (wrapped output.new)) result }
+    ensures own { IfErr result IsDecodeFault }
+    ensures failed { IsErrOf result CliFault.WriteFailed ↔ (has_failed output.new ≡ true) }
+{
+    let Printed { pages, stop } = printed;
+    let present = pages.present;
+    let text = text_in_format(alloc, papers_alone(alloc, pages), present, format)?;
+    match text.write_to(output) {
+        Ok(()) => {}
+        Err(WriteFault) => return Err(CliFault::WriteFailed),
+    }
+    match stop {
+        None => Ok(()),
+        Some(fault) => Err(fault),
+    }
+}
+
+#[cfg(test)]
+mod tests;
