@@ -5,10 +5,10 @@
 //! A lawful trace is heard as the frames that it spells; so a recording of a print becomes its page.
 #![tactic(auto)]
 
+mod bus_printer;
 mod frame;
 mod laws;
 mod reprint;
-mod sheet;
 
 pub use laws::{readings_are_heard_in_turn, traces_are_heard_as_spelled};
 pub use reprint::{Reprint, Reprinted};

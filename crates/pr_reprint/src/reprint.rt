@@ -4,10 +4,10 @@ ghost use Rattle.std.specs.Prelude.{◌≡◌, ◌+◌, ◌^◌, ◌<◌, ◌≤
 ghost use Rattle.pr_decode.specs.declared.reading.Reading.{Reading};
 ghost use Rattle.pr_wire.specs.declared.Frame.{Frame};
 ghost use Rattle.pr_reprint.specs.Reprinted.{ArePapers, heard_in};
-ghost use Rattle.pr_reprint.specs.Taking.{AreTuned, HasHeard, HasReprinted, has_failed, number_taken};
+ghost use Rattle.pr_reprint.specs.Taking.{HasPrinted, HasReprinted, HaveListened, has_failed, number_taken};
 
+use crate::bus_printer::BusPrinter;
 use crate::frame::acknowledged_frame;
-use crate::sheet::Sheet;
 use pr_commands::{FIRST_PRINTER, SECOND_PRINTER};
 use pr_decode::Reading;
 use pr_page::{NoMemory, Paper};
@@ -29,22 +29,22 @@ pub struct Reprinted {
 
 /// Both printers, and whether one of them was refused memory.
 #[derive(Drop)]
-pub struct Sheets {
-    pub four: Sheet,
-    pub five: Sheet,
+pub struct BusPrinters {
+    pub four: BusPrinter,
+    pub five: BusPrinter,
     pub failed: bool,
 }
 
-impl Sheets {
+impl BusPrinters {
     /// Lets both printers hear a frame.
     fn hear(&mut self, frame: Frame) -> Result<(), NoMemory>
-        requires tuned { AreTuned self.old }
+        requires listened { HaveListened self.old }
         requires room { number_taken self.old < 2 ^ 32 }
-        ensures four { OnOk result ((frames : List Frame) → HasHeard 4 frames self.old.four →
-            HasHeard 4 (frames ++ frame ∷ []) self.new.four) }
-        ensures five { OnOk result ((frames : List Frame) → HasHeard 5 frames self.old.five →
-            HasHeard 5 (frames ++ frame ∷ []) self.new.five) }
-        ensures tuned { AreTuned self.new }
+        ensures four { OnOk result ((frames : List Frame) → HasPrinted 4 frames self.old.four →
+            HasPrinted 4 (frames ++ frame ∷ []) self.new.four) }
+        ensures five { OnOk result ((frames : List Frame) → HasPrinted 5 frames self.old.five →
+            HasPrinted 5 (frames ++ frame ∷ []) self.new.five) }
+        ensures listened { HaveListened self.new }
         ensures count { number_taken self.new ≤ number_taken self.old + 1 }
         ensures failed { self.new.failed ≡ self.old.failed }
     {
@@ -60,18 +60,18 @@ impl Sheets {
 /// [`Reprint::finish`] answers with the papers of every list of which it can be said.
 #[derive(Drop)]
 pub struct Reprint {
-    sheets: Sheets,
+    printers: BusPrinters,
 }
 
 impl Model for Reprint {
-    ghost use Rattle.pr_reprint.specs.declared.reprint.Sheets.{Sheets};
-    ghost use Rattle.pr_reprint.specs.Taking.{AreTuned};
+    ghost use Rattle.pr_reprint.specs.declared.reprint.BusPrinters.{BusPrinters};
+    ghost use Rattle.pr_reprint.specs.Taking.{HaveListened};
 
-    ghost Value = { Sheets };
+    ghost Value = { BusPrinters };
 
-    ghost view = { λ r. r.sheets };
+    ghost view = { λ r. r.printers };
 
-    ghost invariant = { λ r. AreTuned r.sheets };
+    ghost invariant = { λ r. HaveListened r.printers };
 }
 
 impl Reprint {
@@ -81,9 +81,9 @@ impl Reprint {
         ensures count { number_taken result ≡ 0 }
     {
         Reprint {
-            sheets: Sheets {
-                four: Sheet::new(alloc, FIRST_PRINTER),
-                five: Sheet::new(alloc, SECOND_PRINTER),
+            printers: BusPrinters {
+                four: BusPrinter::new(alloc, FIRST_PRINTER),
+                five: BusPrinter::new(alloc, SECOND_PRINTER),
                 failed: false,
             },
         }
@@ -107,14 +107,14 @@ impl Reprint {
         ensures works { OnOk result (has_failed self.old ≡ false) }
         ensures err { OnErr result (has_failed self.new ≡ true) }
     {
-        if self.sheets.failed {
+        if self.printers.failed {
             return Err(AllocError);
         }
         let Some(frame) = acknowledged_frame(reading) else {
             return Ok(());
         };
-        let answer = self.sheets.hear(frame);
-        self.sheets.failed = answer.is_err();
+        let answer = self.printers.hear(frame);
+        self.printers.failed = answer.is_err();
         answer
     }
 
@@ -124,8 +124,8 @@ impl Reprint {
         ensures inputs { (readings : List Reading) → HasReprinted readings self.now →
             result ≡ max (length (heard_in 4 readings)) (length (heard_in 5 readings)) }
     {
-        let four = self.sheets.four.printer.taken();
-        let five = self.sheets.five.printer.taken();
+        let four = self.printers.four.printer.taken();
+        let five = self.printers.five.printer.taken();
         four.max(five)
     }
 
@@ -135,12 +135,12 @@ impl Reprint {
         ensures { (readings : List Reading) → HasReprinted readings self → ArePapers readings result }
     {
         let present = Present {
-            four: self.sheets.four.printer.taken() > 0,
-            five: self.sheets.five.printer.taken() > 0,
+            four: self.printers.four.printer.taken() > 0,
+            five: self.printers.five.printer.taken() > 0,
         };
         Reprinted {
-            paper4: self.sheets.four.printer.into_paper(),
-            paper5: self.sheets.five.printer.into_paper(),
+            paper4: self.printers.four.printer.into_paper(),
+            paper5: self.printers.five.printer.into_paper(),
             present,
         }
     }

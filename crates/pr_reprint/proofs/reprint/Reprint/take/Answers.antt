@@ -1,4 +1,4 @@
-use Rattle.pr_reprint.specs.declared.reprint.Sheets.{Sheets}
+use Rattle.pr_reprint.specs.declared.reprint.BusPrinters.{BusPrinters}
 use Rattle.pr_reprint.proofs.Taken.{frame-more, none-more}
 use Rattle.pr_reprint.proofs.reprint.Reprint.take.Goals as goal
 
@@ -7,6 +7,6 @@ returns-in_default-clause-taken c = none-more c.args.self.now c.args.reading c.i
 
 pub returns-clause-taken : goal.returns-clause-taken
 returns-clause-taken c =
-    let new : Sheets = record { four = c.hear-answer.new.self.four; five = c.hear-answer.new.self.five; failed = c.is_err-self-inside.result } in
-    rw (← c.self.view_is) (frame-more c.hear-answer.result c.self.inside.sheets new c.args.reading c.in-Some.frame c.in-Some.ensures
+    let new : BusPrinters = record { four = c.hear-answer.new.self.four; five = c.hear-answer.new.self.five; failed = c.is_err-self-inside.result } in
+    rw (← c.self.view_is) (frame-more c.hear-answer.result c.self.inside.printers new c.args.reading c.in-Some.frame c.in-Some.ensures
     c.is_err-self-inside.ensures.value c.hear-answer.ensures.four c.hear-answer.ensures.five)
