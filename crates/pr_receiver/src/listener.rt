@@ -1,6 +1,6 @@
 //! What a device hears of frames, frame by frame.
 
-ghost use Rattle.std.specs.Prelude.{◌≡◌, ◌≤◌, ◌×◌, ◌++◌, ◌∷◌, [], List};
+ghost use Rattle.std.specs.Prelude.{◌≡◌, ◌≤◌, ◌++◌, ◌∷◌, [], List};
 ghost use Rattle.pr_wire.specs.declared.Frame.{Frame};
 ghost use Rattle.pr_receiver.specs.Heard.{input_of};
 ghost use Rattle.pr_receiver.specs.Kept.{kept_of};
