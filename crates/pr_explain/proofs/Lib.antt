@@ -1,2 +1,5 @@
 pub mod RowLemmas
 pub mod ToldLemmas
+mod InputLemmas
+mod TraceToldLemmas
+mod BackLemmas

@@ -2,12 +2,11 @@
 use Rattle.std.proofs.Common.{◌≡◌, ℕ, ◌+◌, ◌-◌, List, [], ◌++◌, refl, ap, subst, ◌∙◌, append_assoc, Some, Result, Ok, Err}
 use Rattle.std.specs.Prelude.{IfOk, OnOk, Vec}
 use Rattle.std.specs.Global.{Global}
-use Rattle.pr_wire.specs.TraceText.{IsFirstBad}
 use Rattle.pr_basic.specs.declared.fault.ScriptFault.{ScriptFault}
 use Rattle.pr_basic.specs.FaultPlaces.{IsFirstFaultAt}
 use Rattle.pr_basic.specs.LineAt.{IsLineAt}
 use Rattle.pr_explain.specs.Places.{IsSpotTold}
-use Rattle.pr_explain.specs.Told.{Begins, Has, IsTraceTold, TellsFault, line_words, spot_words}
+use Rattle.pr_explain.specs.Told.{Begins, Has, TellsFault, spot_words}
 
 -- words at the front, and more behind them
 pub begins_words : (front words text all rest : List ℕ) → front ≡ [] → text ≡ front ++ words → all ≡ text ++ rest → Begins words all
@@ -40,8 +39,3 @@ fault_named script fault place start number line n m (Ok text) first at a b has 
       let k : Has (spot_words n (m + 1) has.0) text.items ≡ Has (spot_words number (place - start + 1) has.0) text.items = rw (a, b) refl in
       subst (λ (t : Type 0). t) k has.1;
 }
-
--- a line that spells no edge
-pub bad_told : (trace : List ℕ) (n : ℕ) {E : Type 0} (v : Result (Vec ℕ Global) E) → IsFirstBad n trace → IfOk v (λ text. Begins (line_words n) text.items) → IfOk v (λ text. IsTraceTold trace text.items)
-bad_told trace n (Err e) first has = tt
-bad_told trace n (Ok text) first has = record { edges = first.edges; bad = Some n; says = (first, refl); told = has }

@@ -1,10 +1,5 @@
--- Trusted: which places explanations name: where the first fault stands.
-use Rattle.std.specs.Prelude.{◌≡◌, ◌⊎◌, ℕ, ◌+◌, ◌-◌, List, [], ◌∷◌, ◌++◌, Option, Some, None, codes, decimal}
-use Rattle.pr_wire.specs.declared.Edge.{Edge}
-use Rattle.pr_wire.specs.declared.WaveFault.{WaveFault}
-use Rattle.pr_wire.specs.declared.WaveFault.TheVariants as wave
-use Rattle.pr_wire.specs.Table.{fault_of}
-use Rattle.pr_wire.specs.TraceText.{SaysEdges}
+-- Trusted: which places explanations of scripts name: where the first fault stands.
+use Rattle.std.specs.Prelude.{◌≡◌, ◌⊎◌, ℕ, ◌+◌, ◌-◌, List, [], ◌++◌, Option, Some, None, codes, decimal}
 use Rattle.pr_basic.specs.declared.fault.ScriptFault.{ScriptFault}
 use Rattle.pr_basic.specs.declared.statement.Statement.{Statement}
 use Rattle.pr_basic.specs.FaultPlaces.{IsFirstFaultAt}
@@ -49,39 +44,3 @@ pub record IsGood (script text : List ℕ) : Type 0 where
 -- what is told of a script
 abbrev pub IsScriptTold : (script text : List ℕ) → Type 0
 IsScriptTold script text = IsGood script text ⊎ TellsFault script text
-
--- the words for an edge of a trace text: its line, from 1, and its index, from 0
-abbrev pub edge_words : (index : ℕ) → List ℕ
-edge_words n = codes "  line " ++ (decimal (n + 1) ++ (codes ", edge " ++ (decimal n ++ codes ": ")))
-
--- what is told of edges with this first fault, if they have one: nothing of a lawful trace; the edge that is not allowed; or that they
--- end too soon
-abbrev pub IsFaultTold : Option WaveFault → (text : List ℕ) → Type 0
-IsFaultTold None text = text ≡ []
-IsFaultTold (Some (wave.Start n)) text = Begins (edge_words n) text
-IsFaultTold (Some (wave.Order n)) text = Begins (edge_words n) text
-IsFaultTold (Some (wave.TooEarly n)) text = Begins (edge_words n) text
-IsFaultTold (Some (wave.TooLate n)) text = Begins (edge_words n) text
-IsFaultTold (Some (wave.Shape n)) text = Begins (edge_words n) text
-IsFaultTold (Some (wave.Truncated n)) text = Begins (codes "  the last edge: ") text
-IsFaultTold (Some wave.NoMemory) text = ⊥
-
--- what is told of edges, of which there may be none
-abbrev pub AreEdgesTold : List Edge → (text : List ℕ) → Type 0
-AreEdgesTold [] text = Begins (codes "  there is no edge: ") text
-AreEdgesTold (e ∷ es) text = IsFaultTold (fault_of (e ∷ es)) text
-
--- the words for a line that spells no edge: its number, from 1
-abbrev pub line_words : (number : ℕ) → List ℕ
-line_words n = codes "  line " ++ (decimal n ++ codes ": ")
-
--- what is told of a trace text: the first line that spells no edge, or what is told of its edges
-abbrev pub IsTextTold : (edges : List Edge) → (bad : Option ℕ) → (text : List ℕ) → Type 0
-IsTextTold edges None text = AreEdgesTold edges text
-IsTextTold edges (Some n) text = Begins (line_words n) text
-
-pub record IsTraceTold (trace text : List ℕ) : Type 0 where
-  pub edges : List Edge
-  pub bad : Option ℕ
-  pub says : SaysEdges trace edges bad
-  pub told : IsTextTold edges bad text

@@ -1,8 +1,9 @@
 //! Why edges are no lawful trace.
 
-ghost use Rattle.std.specs.Prelude.{◌≡◌, ◌+◌, ◌++◌, ◌^◌, ◌<◌, ◌≤◌, codes, length, true, IfErr, IfOk, OnOk};
-ghost use Rattle.pr_explain.specs.Places.{Follows, words_for};
-ghost use Rattle.pr_explain.specs.Told.{AreEdgesTold, Begins, edge_words};
+ghost use Rattle.std.specs.Prelude.{◌≡◌, ◌+◌, ◌++◌, ◌^◌, ◌<◌, ◌≤◌, codes, length, IfErr, IfOk, IfSome, MatchOption, OnOk};
+ghost use Rattle.pr_explain.specs.Places.{AreToldBy, Backs, Follows, brackets_for, none_for, words_for};
+ghost use Rattle.pr_explain.specs.Told.{Begins};
+ghost use Rattle.pr_explain.specs.TraceTold.{AreInOrder};
 
 use crate::places::{LAST_MOMENT, push_place, push_rows};
 use crate::rows::{Row, rows_behind};
@@ -61,10 +62,14 @@ pub fn edges_told(
     origin: Origin,
     is_whole: bool,
 ) -> Result<Vec<u8>, NoMemory>
-    ensures { origin ≡ Origin.Text → is_whole ≡ true → IfOk result (λ text. AreEdgesTold edges.now text.items) }
+    ensures { IfOk result (λ text. AreToldBy origin is_whole edges.now text.items) }
 {
     let [first, others @ ..] = edges else {
-        return no_edge_told(alloc, origin, is_whole);
+        return if is_whole {
+            no_edge_told(alloc, origin)
+        } else {
+            Ok(Vec::new(alloc))
+        };
     };
     if !first.is_start() {
         let rest = start_told(alloc, edges, *first, origin, is_whole)?;
@@ -83,23 +88,23 @@ pub fn edges_told(
     Ok(Vec::new(alloc))
 }
 
-/// That there is no edge, where edges are whole.
-fn no_edge_told(alloc: Global, origin: Origin, is_whole: bool) -> Result<Vec<u8>, NoMemory>
-    ensures { origin ≡ Origin.Text → is_whole ≡ true → IfOk result (λ text. Begins (codes "  there is no edge: ") text.items) }
+/// That there is no edge.
+fn no_edge_told(alloc: Global, origin: Origin) -> Result<Vec<u8>, NoMemory>
+    ensures { IfOk result (λ text. Begins (none_for origin) text.items) }
 {
     let mut text = Vec::new(alloc);
-    if !is_whole {
-        return Ok(text);
+    match origin {
+        Origin::Text => {
+            push(&mut text, "  there is no edge: ")?;
+            push(&mut text, "a trace begins with 0 111\n")?;
+        }
+        Origin::Recording { .. } => {
+            push(
+                &mut text,
+                "  the recording has no sample of the three lines\n",
+            )?;
+        }
     }
-    if let Origin::Recording(_) = origin {
-        push(
-            &mut text,
-            "  the recording has no sample of the three lines\n",
-        )?;
-        return Ok(text);
-    }
-    push(&mut text, "  there is no edge: ")?;
-    push(&mut text, "a trace begins with 0 111\n")?;
     Ok(text)
 }
 
@@ -117,10 +122,27 @@ fn start_told(
         &mut text,
         "\n  a trace begins with 0 111, all lines released at time 0\n",
     )?;
-    if let Origin::Recording(start) = origin {
+    if let Origin::Recording { start, is_inverted } = origin {
         push_start(&mut text, edges, start, is_whole)?;
+        push_inverters(&mut text, first.levels, is_inverted)?;
     }
     Ok(text)
+}
+
+/// Adds how a recording is read that begins with all lines pulled, since its probes may stand behind
+/// inverters.
+fn push_inverters(text: &mut Vec<u8>, levels: Levels, is_inverted: bool) -> Result<(), NoMemory> {
+    if levels.atn || levels.clock || levels.line {
+        return Ok(());
+    }
+    push(
+        text,
+        if is_inverted {
+            "  if nothing is sent there, the levels are not inverted: --invert is not wanted\n"
+        } else {
+            "  if nothing is sent there, the probes stand behind inverters: --invert reads 0 as released\n"
+        },
+    )
 }
 
 /// Adds where a recording may have the start of its trace, by its edges from a moment on, all of them or
@@ -197,10 +219,10 @@ fn first_idle(edges: &[Edge]) -> Option<Edge> {
 
 /// Adds that moments in brackets are the recording's own, where there will be some.
 fn push_brackets(text: &mut Vec<u8>, origin: Origin) -> Result<(), NoMemory>
-    ensures { origin ≡ Origin.Text → OnOk result (text.new.items ≡ text.old.items) }
+    ensures { OnOk result (text.new.items ≡ text.old.items ++ brackets_for origin) }
 {
     match origin {
-        Origin::Recording(start) if start > 0 => {
+        Origin::Recording { start, .. } if start > 0 => {
             push(text, "  [in brackets: the recording's own microseconds]\n")
         }
         _ => Ok(()),
@@ -218,7 +240,7 @@ fn push_index(text: &mut Vec<u8>, index: usize, origin: Origin) -> Result<(), No
             push_number(text, index as u64 + 1)?;
             push(text, ", edge ")?;
         }
-        Origin::Recording(_) => push(text, "  edge ")?,
+        Origin::Recording { .. } => push(text, "  edge ")?,
     }
     push_number(text, index as u64)?;
     push(text, ": ")
@@ -232,7 +254,7 @@ fn with_index(
     rest: Vec<u8>,
 ) -> Result<Vec<u8>, NoMemory>
     requires { index + 1 < 2 ^ 64 }
-    ensures { origin ≡ Origin.Text → IfOk result (λ text. Begins (edge_words index) text.items) }
+    ensures { IfOk result (λ text. Begins (brackets_for origin ++ words_for origin index) text.items) }
 {
     let mut text = Vec::new(alloc);
     push_brackets(&mut text, origin)?;
@@ -319,7 +341,7 @@ fn push_by(text: &mut Vec<u8>, missed: u64, when: &str) -> Result<(), NoMemory> 
 
 /// That edges end too soon.
 fn end_told(alloc: Global, led: &Led, origin: Origin) -> Result<Vec<u8>, NoMemory>
-    ensures { origin ≡ Origin.Text → IfOk result (λ text. Begins (codes "  the last edge: ") text.items) }
+    ensures { IfOk result (λ text. Begins (brackets_for origin ++ codes "  the last edge: ") text.items) }
 {
     let rest = end_rest(alloc, led, origin)?;
     let mut text = Vec::new(alloc);
@@ -345,4 +367,51 @@ fn end_rest(alloc: Global, led: &Led, origin: Origin) -> Result<Vec<u8>, NoMemor
          a printer has acknowledged, or behind an attention that did not end with UNLISTEN\n",
     )?;
     Ok(text)
+}
+
+/// An edge that stands before the one in front of it, with its index and that one.
+#[derive(Clone, Copy)]
+pub struct Back {
+    index: usize,
+    last: Edge,
+    edge: Edge,
+}
+
+/// The first edge that stands before the one in front of it, if there is one.
+pub fn back_in(edges: &[Edge]) -> Option<Back>
+    ensures backs { MatchOption result (AreInOrder edges.now) (λ back. Backs edges.now back) }
+    ensures within { IfSome result (λ back. back.index < length edges.now) }
+{
+    let [first, others @ ..] = edges else {
+        return None;
+    };
+    let mut last = *first;
+    let mut index: usize = 1;
+    let mut rest = others;
+    while let [edge, more @ ..] = rest {
+        if edge.time < last.time {
+            return Some(Back {
+                index,
+                last,
+                edge: *edge,
+            });
+        }
+        last = *edge;
+        index += 1;
+        rest = more;
+    }
+    None
+}
+
+/// That an edge stands before the one in front of it.
+pub fn back_told(alloc: Global, back: Back, origin: Origin) -> Result<Vec<u8>, NoMemory>
+    requires { back.index + 1 < 2 ^ 64 }
+    ensures { IfOk result (λ text. Begins (brackets_for origin ++ words_for origin back.index) text.items) }
+{
+    let mut rest = Vec::new(alloc);
+    push_edge(&mut rest, back.edge, origin)?;
+    push(&mut rest, "\n  the edge before it: ")?;
+    push_edge(&mut rest, back.last, origin)?;
+    push(&mut rest, "\n  it is earlier than the edge before it\n")?;
+    with_index(alloc, back.index, origin, rest)
 }

@@ -2,7 +2,7 @@
 
 ghost use Rattle.std.specs.Prelude.{◌<◌, ◌≤◌, length};
 
-use crate::recordings::Recording;
+use crate::faults::Recording;
 use crate::texts::{push, push_cut};
 use pr_wire::NoMemory;
 
@@ -30,7 +30,7 @@ pub fn push_names(
     }
     push(
         text,
-        "\n  --names tells which signals are ATN, CLOCK and DATA, as in --names ATN,CLOCK,DATA\n",
+        "\n  --names tells which signals are ATN, CLOCK and DATA, as in --names ATN,CLOCK,DATA",
     )
 }
 

@@ -1,8 +1,10 @@
 //! Pieces of the texts.
 
 ghost use Rattle.std.specs.Prelude.{◌≡◌, ◌+◌, ◌++◌, ◌<◌, decimal, length, OnOk};
+ghost use Rattle.pr_explain.specs.Places.{IsOriginOf};
 
 use itoa::Buffer;
+use pr_options::{Source, TraceInput};
 use pr_wire::{Edge, Levels, NoMemory};
 
 /// Where the moments of edges come from.
@@ -10,8 +12,26 @@ use pr_wire::{Edge, Levels, NoMemory};
 pub enum Origin {
     /// A trace text, in which each edge has the line of its index, from 1.
     Text,
-    /// A recording: they are counted from this moment of it, in microseconds.
-    Recording(u64),
+    /// A recording.
+    Recording {
+        /// The moment of the recording from which they are counted, in microseconds.
+        start: u64,
+        /// Levels are read as of probes behind inverters.
+        is_inverted: bool,
+    },
+}
+
+/// Where the moments of an input's edges come from.
+pub fn origin_of(input: TraceInput<'_>) -> Origin
+    ensures { IsOriginOf input.entry result }
+{
+    match input.source {
+        Source::Text => Origin::Text,
+        Source::Vcd | Source::Csv => Origin::Recording {
+            start: input.start,
+            is_inverted: input.signals.is_inverted,
+        },
+    }
 }
 
 /// The most bytes of a line that is shown (profile).
@@ -35,7 +55,7 @@ pub fn push_number(text: &mut Vec<u8>, number: u64) -> Result<(), NoMemory>
 /// Adds in brackets which moment of the recording a moment is, if it is counted from a later one than
 /// the recording's own.
 fn push_recorded(text: &mut Vec<u8>, time: u64, origin: Origin) -> Result<(), NoMemory> {
-    let Origin::Recording(start) = origin else {
+    let Origin::Recording { start, .. } = origin else {
         return Ok(());
     };
     match start.checked_add(time) {
@@ -132,25 +152,15 @@ pub fn without_end(line: &[u8]) -> &[u8] {
     }
 }
 
-/// What stands before a line with this number, from 1, and the line with its end.
-pub fn line_with(text: &[u8], number: usize) -> (&[u8], &[u8]) {
+/// The line with this number, from 1, with its end.
+pub fn line_with(text: &[u8], number: usize) -> &[u8] {
     let mut rest = text;
     for _ in 1..number {
         let (_, more) = cut_line(rest);
         rest = more;
     }
     let (line, _) = cut_line(rest);
-    let start = text.len().saturating_sub(rest.len());
-    (&text[..start], line)
-}
-
-/// Adds a line with its number, from 1.
-pub fn push_line(text: &mut Vec<u8>, number: usize, line: &[u8]) -> Result<(), NoMemory> {
-    push(text, "  line ")?;
-    push_number(text, number as u64)?;
-    push(text, ": ")?;
-    push_cut(text, without_end(line))?;
-    push(text, "\n")
+    line
 }
 
 /// What stands before the end of the first line, with that end, and what stands behind.

@@ -1,78 +1,72 @@
-//! Why a trace text is refused.
+//! Why a trace is refused, in any format.
 
 ghost use Rattle.std.specs.Prelude.{IfOk};
-ghost use Rattle.pr_explain.specs.Told.{Begins, IsTraceTold, line_words};
+ghost use Rattle.pr_explain.specs.TraceTold.{IsReadingTold, IsTraceTold};
 
-use crate::edges::edges_told;
-use crate::texts::{Origin, has_comma, line_with, push, push_cut, push_number, without_end};
-use pr_wire::{NoMemory, TraceFault, read_trace};
-use std::alloc::{AllocError, Global};
+use crate::edges::{back_in, back_told, edges_told};
+use crate::faults::fault_told;
+use crate::input::read_input;
+use crate::texts::origin_of;
+use pr_options::TraceInput;
+use pr_wire::NoMemory;
+use std::alloc::Global;
 
-/// Says why a trace text is refused: which line spells no edge, or where the first edge that is not
-/// lawful stands, what could have followed and by how much it was missed. Nothing, where the trace is
-/// lawful. It reads the text as `check` does; where a line spells no edge, an edge before it that is
-/// not lawful is told too.
+/// Says why a trace is refused: its first fault, with the line, and what the line should have; or where
+/// the first edge stands that is not lawful, what could have followed and by how much it was missed.
+/// Where a line has a fault, an edge before it that is not lawful is told too. Nothing, where the trace
+/// is lawful. It reads the trace as `check` does.
+///
+/// Moments are counted from the start that the input has; the recording's own microseconds stand in
+/// brackets where that is not 0.
 ///
 /// # Errors
 ///
 /// [`NoMemory`] where memory was refused.
-pub fn explain_trace(alloc: Global, trace: &[u8]) -> Result<Vec<u8>, NoMemory>
-    ensures { IfOk result (λ text. IsTraceTold trace.now text.items) }
+pub fn explain_trace(
+    alloc: Global,
+    trace: &[u8],
+    input: TraceInput<'_>,
+) -> Result<Vec<u8>, NoMemory>
+    ensures { IfOk result (λ text. IsTraceTold input.entry trace.now text.items) }
 {
-    let edges = match read_trace(alloc, trace) {
-        Ok(edges) => edges,
-        Err(TraceFault::BadLine(number)) => return bad_line_told(alloc, trace, number),
-        Err(TraceFault::NoMemory) => return Err(AllocError),
+    let said = read_input(alloc, trace, input)?;
+    let edges = said.edges.as_slice();
+    let origin = origin_of(input);
+    let Some(fault) = said.fault else {
+        return edges_told(alloc, edges, origin, true);
     };
-    edges_told(alloc, edges.as_slice(), Origin::Text, true)
+    let mut text = fault_told(alloc, trace, input, fault)?;
+    let behind = edges_told(alloc, edges, origin, false)?;
+    text.extend_from_slice(behind.as_slice())?;
+    Ok(text)
 }
 
-/// How a line is read that begins as one of another format does.
-fn other_format(line: &[u8]) -> &'static str {
-    if line.starts_with(b"$") {
-        "  --from vcd reads Value Change Dumps, which have such lines\n"
-    } else if has_comma(line) {
-        "  --from csv reads tables, which have such lines\n"
-    } else {
-        ""
-    }
-}
-
-/// The line with this number, which spells no edge, and what a line is. Then why the edges before it are
-/// not lawful, if they are not.
-fn bad_line_told(alloc: Global, trace: &[u8], number: usize) -> Result<Vec<u8>, NoMemory>
-    ensures { IfOk result (λ text. Begins (line_words number) text.items) }
+/// Says why a recording can not be read to its end: the first edge that stands before the one in front
+/// of it; or the first fault, with the line, and what the line should have. Nothing, where the recording
+/// can be read. It reads the recording as `decode` does.
+///
+/// # Errors
+///
+/// [`NoMemory`] where memory was refused.
+pub fn explain_reading(
+    alloc: Global,
+    recording: &[u8],
+    input: TraceInput<'_>,
+) -> Result<Vec<u8>, NoMemory>
+    ensures { IfOk result (λ text. IsReadingTold input.entry recording.now text.items) }
 {
-    let rest = bad_line_rest(alloc, trace, number)?;
-    let mut text = Vec::new(alloc);
-    push(&mut text, "  line ")?;
-    push_number(&mut text, number as u64)?;
-    push(&mut text, ": ")?;
-    text.extend_from_slice(rest.as_slice())?;
-    Ok(text)
-}
-
-/// The line, and what is told of it.
-fn bad_line_rest(alloc: Global, trace: &[u8], number: usize) -> Result<Vec<u8>, NoMemory> {
-    let (before, line) = line_with(trace, number);
-    let mut text = Vec::new(alloc);
-    push_cut(&mut text, without_end(line))?;
-    push(
-        &mut text,
-        "\n  a line is a time in microseconds, a space, and a digit each for ATN, CLOCK and DATA (1 \
-         released, 0 pulled), as in 100 001\n",
-    )?;
-    push(&mut text, other_format(line))?;
-    match read_trace(alloc, before) {
-        Ok(edges) => {
-            let told = edges_told(alloc, edges.as_slice(), Origin::Text, false)?;
-            text.extend_from_slice(told.as_slice())?;
-        }
-        Err(TraceFault::BadLine(_)) => {}
-        Err(TraceFault::NoMemory) => return Err(AllocError),
+    let said = read_input(alloc, recording, input)?;
+    let edges = said.edges.as_slice();
+    if let Some(back) = back_in(edges) {
+        return back_told(alloc, back, origin_of(input));
     }
-    Ok(text)
+    match said.fault {
+        Some(fault) => fault_told(alloc, recording, input, fault),
+        None => Ok(Vec::new(alloc)),
+    }
 }
 
+#[cfg(test)]
+mod recordings;
 #[cfg(test)]
 mod tests;

@@ -1,0 +1,47 @@
+-- Edges in which time goes back.
+use Rattle.std.proofs.Common.{◌≡◌, ℕ, ◌+◌, ◌<◌, ◌≤◌, List, [], ◌∷◌, ◌++◌, length, refl, ap, subst, ◌∙◌, sym, arith, append_assoc, append-nil, length-append}
+use Rattle.pr_wire.specs.declared.Edge.{Edge}
+use Rattle.pr_explain.specs.declared.edges.Back.{Back}
+use Rattle.pr_explain.specs.Places.{Backs}
+use Rattle.pr_explain.specs.TraceTold.{AreInOrder, AreInOrderBehind, GoesBackAt}
+
+-- the edges up to the last one are in order
+pub record SeenTo (all rest : List Edge) (last : Edge) (index : ℕ) : Type 0 where
+  pub before : List Edge
+  pub cut : all ≡ (before ++ last ∷ []) ++ rest
+  pub in_order : AreInOrder (before ++ last ∷ [])
+  pub number : index ≡ length before + 1
+
+pub seen_first : (first : Edge) (others : List Edge) → SeenTo (first ∷ others) others first 1
+seen_first first others = record { before = []; cut = refl; in_order = tt; number = refl }
+
+behind_push : (t : ℕ) (es : List Edge) (last e : Edge) → AreInOrderBehind t (es ++ last ∷ []) → last.time ≤ e.time → AreInOrderBehind t ((es ++ last ∷ []) ++ e ∷ [])
+behind_push t [] last e h k = (h.0, (k, tt))
+behind_push t (f ∷ es) last e h k = (h.0, behind_push f.time es last e h.1 k)
+
+order_push : (es : List Edge) (last e : Edge) → AreInOrder (es ++ last ∷ []) → last.time ≤ e.time → AreInOrder ((es ++ last ∷ []) ++ e ∷ [])
+order_push [] last e h k = (k, tt)
+order_push (f ∷ es) last e h k = behind_push f.time es last e h k
+
+pub seen_more : (all more : List Edge) (last e : Edge) (index : ℕ) → SeenTo all (e ∷ more) last index → last.time ≤ e.time → SeenTo all more e (index + 1)
+seen_more all more last e index s k = record {
+  before = s.before ++ last ∷ [];
+  cut = s.cut ∙ sym (append_assoc (s.before ++ last ∷ []) (e ∷ []) more);
+  in_order = order_push s.before last e s.in_order k;
+  number = omega (arith, length-append s.before (last ∷ []), s.number);
+}
+
+pub seen_all : (all rest : List Edge) (last : Edge) (index : ℕ) → rest ≡ [] → SeenTo all rest last index → AreInOrder all
+seen_all all rest last index e s = subst AreInOrder (sym (s.cut ∙ (ap (λ r. (s.before ++ last ∷ []) ++ r) e ∙ append-nil (s.before ++ last ∷ [])))) s.in_order
+
+pub seen_back : (all more : List Edge) (last e : Edge) (index : ℕ) → SeenTo all (e ∷ more) last index → e.time < last.time → GoesBackAt all index
+seen_back all more last e index s k = record {
+  before = s.before;
+  last = last;
+  edge = e;
+  after = more;
+  cut = s.cut;
+  is_first = s.in_order;
+  back = k;
+  number = s.number;
+}
