@@ -12,7 +12,8 @@ use Rattle.pr_reprint.specs.Reprinted.{heard_in}
 -- more readings only add inputs
 abbrev pub MoreReadingsAddInputs : Type 0
 MoreReadingsAddInputs =
-    (device : ℕ) (readings more : List Reading) → (later : List Input) × (heard_in device (readings ++ more) ≡ heard_in device readings ++ later)
+    (device : ℕ) (readings more : List Reading)
+    → (later : List Input) × (heard_in device (readings ++ more) ≡ heard_in device readings ++ later)
 
 -- a device hears no more inputs than there are readings
 abbrev pub InputsAreFew : Type 0
@@ -21,4 +22,5 @@ InputsAreFew = (device : ℕ) (readings : List Reading) → length (heard_in dev
 -- of what a lawful trace says a device hears what it hears of the frames that the trace spells
 abbrev pub TracesAreHeardAsSpelled : Type 0
 TracesAreHeardAsSpelled =
-    (device : ℕ) (edges : List Edge) (frames : List Frame) → Spells edges frames → heard_in device (readings_of edges) ≡ heard_of device frames
+    (device : ℕ) (edges : List Edge) (frames : List Frame) → Spells edges frames
+    → heard_in device (readings_of edges) ≡ heard_of device frames
