@@ -1,0 +1,3 @@
+pub mod Reprinted
+pub mod Taking
+pub mod Laws
