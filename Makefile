@@ -14,7 +14,7 @@ PROGRAM := crates/print1525/out/print1525
 
 # The crates whose tests go on after a refused allocation (tests/growths).
 GROWTHS := pr_page pr_serial pr_wire pr_receiver pr_bus pr_channels pr_basic pr_system pr_picture pr_capture \
-	pr_story pr_measure pr_explain pr_cli
+	pr_story pr_measure pr_reprint pr_explain pr_cli
 TESTS := $(foreach crate,$(GROWTHS),crates/$(crate)/out/$(crate)_tests)
 
 # What the program and the tests are built from.

@@ -1,4 +1,4 @@
-use Rattle.std.proofs.Common.{ap, ap₂, ◌∙◌, codes, ◌≡◌, ◌||◌, Bool, false, true, refl}
+use Rattle.std.proofs.Common.{ap, ap₂, ◌∙◌, codes, ◌≡◌, ◌||◌, Bool, false, true, refl, rules}
 use Rattle.clap.specs.Words.{App, app_of, new_app, with_subcommand}
 use Rattle.clap.specs.Simple.{Shape, app_of_fields, on_top}
 use Rattle.pr_options.specs.Subcommands.{IsLocal}
@@ -31,9 +31,7 @@ both_local a b v e h k = rw (e, h, k) refl
 
 pub returns-clause-local : goal.returns-clause-local
 returns-clause-local c =
-    let has = λ (s : Shape). s.has_globals in
-    let program : IsLocal c.disable_help_subcommand-program.result =
-        ap has c.disable_help_subcommand-program.ensures ∙ (ap has c.subcommand_required.ensures ∙ (ap has c.version.ensures ∙ c.new_command.ensures.local)) in
+    let program : IsLocal c.disable_help_subcommand-program.result = search rules in
     both_local _ _ _ c.in_ok-whole.ensures.globals
     (both_local _ _ _ c.in_ok-four.ensures.globals
     (both_local _ _ _ c.in_ok-three.ensures.globals
