@@ -1,6 +1,11 @@
 //! The BASIC error that stopped a run, in BASIC's own words.
 
-use crate::texts::{cut_line, push, push_cut, push_number, without_end};
+ghost use Rattle.std.specs.Prelude.{◌≡◌, ℕ, List, ◌∷◌, [], ◌++◌, ◌<◌, ◌≤◌, length, IfOk, OnOk, Some};
+ghost use Rattle.pr_text.specs.Lines.{lines_of};
+ghost use Rattle.pr_basic.specs.Grammar.{IsScript};
+ghost use Rattle.pr_explain.specs.StopTold.{IsStatementLine, TellsStop, in_words, place_words, stop_name, stop_words};
+
+use crate::texts::{push, push_cut, push_number, without_end};
 use pr_basic::{ScriptFault, Statement, StatusMode, basic_number, read_script};
 use pr_channels::Stop;
 use pr_serial::Present;
@@ -11,8 +16,21 @@ use std::alloc::{AllocError, Global};
 const UNHEARD: &str =
     "no printer was listening to the byte printed last before this statement, which goes out only here";
 
+/// The first line of a text.
+#[derive(Clone, Copy)]
+struct FirstLine<'a> {
+    /// Its bytes, without the byte 10 that ends it.
+    bytes: &'a [u8],
+    /// The line alone, with its end.
+    alone: &'a [u8],
+    /// What follows it.
+    rest: &'a [u8],
+}
+
 /// The error's name, as BASIC writes it.
-fn name_of(stop: Stop) -> &'static str {
+fn name_of(stop: Stop) -> &'static str
+    ensures { result.now ≡ stop_name stop }
+{
     match stop {
         Stop::TooManyFiles => "TOO MANY FILES",
         Stop::FileOpen => "FILE OPEN",
@@ -50,22 +68,77 @@ pub fn explain_stop(
     stop: Stop,
     statement: usize,
     present: Present,
-) -> Result<Vec<u8>, NoMemory> {
+) -> Result<Vec<u8>, NoMemory>
+    ensures { (statements : List Statement) → IsScript script.now statements → 0 < statement → statement ≤ length statements
+        → IfOk result (λ text. TellsStop script.now stop statement text.items) }
+{
     let device = device_at(alloc, script, statement)?;
     let (number, line) = line_of(alloc, script, statement)?;
+    let rest = told_behind(alloc, line, mode, stop, device, present)?;
+    let label = basic_number(line);
     let mut text = Vec::new(alloc);
-    push(&mut text, "?")?;
-    push(&mut text, name_of(stop))?;
-    push(&mut text, "  ERROR")?;
-    if let Some(label) = basic_number(line) {
-        push(&mut text, " IN ")?;
-        push_number(&mut text, u64::from(label))?;
+    push_place(&mut text, stop, label, statement, number)?;
+    text.extend_from_slice(rest.as_slice())?;
+    Ok(text)
+}
+
+/// Adds the name of an error, the number of the BASIC line, if it has one, the statement and the
+/// number of its line, both from 1.
+fn push_place(
+    text: &mut Vec<u8>,
+    stop: Stop,
+    label: Option<u32>,
+    statement: usize,
+    line: usize,
+) -> Result<(), NoMemory>
+    ensures { OnOk result (text.new.items ≡ text.old.items ++ stop_words stop label statement line) }
+{
+    push(text, "?")?;
+    push(text, name_of(stop))?;
+    push(text, "  ERROR")?;
+    push_label(text, label)?;
+    push_numbers(text, statement as u64, line as u64)
+}
+
+/// Adds the number of the BASIC line, if it has one.
+fn push_label(text: &mut Vec<u8>, label: Option<u32>) -> Result<(), NoMemory>
+    ensures { OnOk result (text.new.items ≡ text.old.items ++ in_words label) }
+{
+    match label {
+        None => Ok(()),
+        Some(label) => push_basic_line(text, u64::from(label)),
     }
-    push(&mut text, " (statement ")?;
-    push_number(&mut text, statement as u64)?;
-    push(&mut text, ")\n  line ")?;
-    push_number(&mut text, number)?;
-    push(&mut text, ": ")?;
+}
+
+/// Adds the number of a BASIC line.
+fn push_basic_line(text: &mut Vec<u8>, label: u64) -> Result<(), NoMemory>
+    ensures { OnOk result (text.new.items ≡ text.old.items ++ in_words (Some label)) }
+{
+    push(text, " IN ")?;
+    push_number(text, label)
+}
+
+/// Adds the numbers of a statement and of its line, and a colon.
+fn push_numbers(text: &mut Vec<u8>, statement: u64, line: u64) -> Result<(), NoMemory>
+    ensures { OnOk result (text.new.items ≡ text.old.items ++ place_words statement line) }
+{
+    push(text, " (statement ")?;
+    push_number(text, statement)?;
+    push(text, ")\n  line ")?;
+    push_number(text, line)?;
+    push(text, ": ")
+}
+
+/// What is told behind the number of the line: the line, and what the error means here.
+fn told_behind(
+    alloc: Global,
+    line: &[u8],
+    mode: StatusMode,
+    stop: Stop,
+    device: Option<u8>,
+    present: Present,
+) -> Result<Vec<u8>, NoMemory> {
+    let mut text = Vec::new(alloc);
     push_cut(&mut text, without_end(line))?;
     push(&mut text, "\n  ")?;
     push_reason(&mut text, mode, stop, device, present)?;
@@ -171,28 +244,57 @@ fn device_of(statements: &[Statement], number: usize) -> Option<u8> {
     opened
 }
 
-/// The line with a statement, counted from 1: the line's number, from 1, and its text with its end.
-fn line_of(alloc: Global, script: &[u8], statement: usize) -> Result<(u64, &[u8]), NoMemory> {
+/// The line with a statement, counted from 1: the line's number, from 1, and its bytes without the byte
+/// 10 that ends it. The time is linear in the bytes: each line is read once.
+fn line_of(alloc: Global, script: &[u8], statement: usize) -> Result<(usize, &[u8]), NoMemory>
+    ensures { (statements : List Statement) → IsScript script.now statements → 0 < statement → statement ≤ length statements
+        → IfOk result (λ found. IsStatementLine script.now statement found.1.now found.0) }
+{
     let mut rest = script;
-    let mut number: u64 = 0;
+    let mut number = 0;
     let mut left = statement;
     let mut line: &[u8] = &[];
     while !rest.is_empty() {
-        let (first, more) = cut_line(rest);
-        line = first;
-        number = number.saturating_add(1);
-        let count = statement_count(alloc, first)?;
+        let first = first_line(rest);
+        line = first.bytes;
+        number += 1;
+        let count = statement_count(alloc, first.alone)?;
         if left <= count {
             return Ok((number, line));
         }
         left -= count;
-        rest = more;
+        rest = first.rest;
     }
     Ok((number, line))
 }
 
-/// How many statements a line has.
-fn statement_count(alloc: Global, line: &[u8]) -> Result<usize, NoMemory> {
+/// The first line of a text.
+fn first_line(text: &[u8]) -> FirstLine<'_>
+    requires { 0 < length text.now }
+    ensures lines { lines_of text.now ≡ result.bytes.now ∷ lines_of result.rest.now }
+    ensures alone { lines_of result.alone.now ≡ result.bytes.now ∷ [] }
+    ensures less { length result.rest.now < length text.now }
+{
+    for (i, byte) in text.iter().enumerate() {
+        if *byte == b'\n' {
+            return FirstLine {
+                bytes: &text[..i],
+                alone: &text[..i + 1],
+                rest: &text[i + 1..],
+            };
+        }
+    }
+    FirstLine {
+        bytes: text,
+        alone: text,
+        rest: &[],
+    }
+}
+
+/// How many statements a line has that is given as a text of its own.
+fn statement_count(alloc: Global, line: &[u8]) -> Result<usize, NoMemory>
+    ensures { (statements : List Statement) → IsScript line.now statements → IfOk result (λ count. count ≡ length statements) }
+{
     match read_script(alloc, line) {
         Ok(statements) => Ok(statements.len()),
         Err(ScriptFault::NoMemory) => Err(AllocError),

@@ -1,0 +1,22 @@
+use Rattle.std.proofs.Common.{arith}
+use Rattle.pr_explain.proofs.StopLemmas.{line_found, none_left, none_passed, one_passed}
+use Rattle.pr_explain.proofs.stops.line_of.Goals as goal
+
+pub loop-line-init : goal.loop-line-init
+loop-line-init c = record { lines = none_passed _ _; count = omega arith }
+
+pub loop-line-preserved : goal.loop-line-preserved
+loop-line-preserved c = record {
+  lines =
+      one_passed _ _ _ _ c.loop-line.rest.now c.first_line-first.result.bytes.now c.first_line-first.result.alone.now _ c.in_ok-count.count c.loop-line.invariant.lines c.first_line-first.ensures.lines
+      c.first_line-first.ensures.alone c.in_ok-count.ensures c.if-left-count.false;
+  count = omega (arith, c.loop-line.invariant.count, c.first_line-first.ensures.less);
+}
+
+pub returns-then-left-count : goal.returns-then-left-count
+returns-then-left-count c =
+    line_found _ _ _ _ c.loop-line.rest.now c.first_line-first.result.bytes.now c.first_line-first.result.alone.now _ c.in_ok-count.count c.loop-line.invariant.lines c.first_line-first.ensures.lines
+    c.first_line-first.ensures.alone c.in_ok-count.ensures c.if-left-count.true
+
+pub returns : goal.returns
+returns c = λ statements is some within. absurd (none_left _ _ _ _ _ c.loop-line.invariant.lines (grind arith) statements is some within)
