@@ -5,3 +5,5 @@ pub mod Heeding
 pub mod Coming
 pub mod Noting
 pub mod Answering
+pub mod Copies
+pub mod Printing

@@ -1,0 +1,157 @@
+-- A copier, edge by edge.
+use Rattle.std.proofs.Common.{◌≡◌, ℕ, ◌+◌, List, [], ◌∷◌, ◌++◌, length, refl, ap, sym, subst, ◌∙◌, append-nil, length-append, Option, Some, None}
+use Rattle.std.specs.Option.{option_to_list}
+use Rattle.pr_wire.specs.declared.Edge.{Edge}
+use Rattle.pr_decode.specs.declared.decoder.Decoder.{Decoder}
+use Rattle.pr_decode.specs.declared.reading.Reading.{Reading}
+use Rattle.pr_decode.specs.Readings.{readings_of}
+use Rattle.pr_decode.specs.Taking.{GivenAreSettled, HasRead, IsBefore, StandsBefore, last_time}
+use Rattle.pr_reprint.specs.declared.reprint.BusPrinters.{BusPrinters}
+use Rattle.pr_reprint.specs.declared.reprint.Reprinted.{Reprinted}
+use Rattle.pr_reprint.specs.Reprinted.{ArePapers}
+use Rattle.pr_reprint.specs.Taking.{HasReprinted}
+use Rattle.pr_options.specs.declared.format.TraceInput.{TraceInput}
+use Rattle.pr_cli.specs.Reported.{HasMade, MakesAll, MakesMore}
+use Rattle.pr_cli.specs.declared.fault.CliFault.{CliFault}
+use Rattle.pr_recording.specs.declared.copier.Copier.{Copier}
+use Rattle.pr_recording.specs.declared.copier.PageMaker.{PageMaker}
+use Rattle.pr_recording.specs.declared.copier.Printed.{Printed}
+use Rattle.pr_recording.specs.Copied.{CopiesMore, EndsCopy, EndsPages, HasCopied, HasPaged, HasPrinted, PagesMore, PrintsReading}
+use Rattle.pr_recording.specs.Decoded.{back_in, in_front, stop_at}
+use Rattle.pr_recording.specs.Narrated.{time_of}
+use Rattle.pr_recording.specs.Pages.{readings_up_to}
+use Rattle.pr_recording.proofs.Backs.{back_stays, front_back, front_on, front_stays, goes_back, goes_on, time_of_one}
+
+-- no edge
+pub copied_none : (c : Copier) → c.back ≡ None → HasRead [] [] c.decoder → last_time c.decoder ≡ None → HasReprinted [] c.reprint → c.taken ≡ 0 → HasCopied [] c
+copied_none c b r l p t = record { back = b; printed = record { given = []; read = r; last = l; reprinted = p; taken = t } }
+
+-- other parts alone are changed
+printed_as : (edges : List Edge) (old new : Copier) → new.decoder ≡ old.decoder → new.reprint ≡ old.reprint → new.taken ≡ old.taken → HasPrinted edges old → HasPrinted edges new
+printed_as edges old new d p t h = record {
+  given = h.given;
+  read = rw d h.read;
+  last = ap last_time d ∙ h.last;
+  reprinted = rw p h.reprinted;
+  taken = t ∙ h.taken;
+}
+
+-- behind an edge at which time goes back nothing is taken
+pub copies_nothing : (c : Copier) (m : ℕ) (more : List Edge) → c.back ≡ Some m → CopiesMore more c c
+copies_nothing c m more is = λ edges h.
+    let back : back_in edges ≡ Some m = sym h.back ∙ is in
+    let P : List Edge → Type 0 = λ l. HasPrinted l c in
+    record {
+      back = is ∙ sym (back_stays edges more m back);
+      printed = subst P (sym (front_stays edges more m back)) h.printed;
+    }
+
+-- with no edge more
+pub copies_none : (c : Copier) → CopiesMore [] c c
+copies_none c = λ edges h. let P : List Edge → Type 0 = λ l. HasCopied l c in subst P (sym (append-nil edges)) h
+
+-- all edges are in front, where none goes back
+all_front : (edges : List Edge) → back_in edges ≡ None → in_front (back_in edges) edges ≡ edges
+all_front edges h = ap (λ v. in_front v edges) h
+
+of_front : (edges : List Edge) (c : Copier) → back_in edges ≡ None → HasPrinted (in_front (back_in edges) edges) c → HasPrinted edges c
+of_front edges c none h = let P : List Edge → Type 0 = λ l. HasPrinted l c in subst P (all_front edges none) h
+
+-- time goes back at an edge
+pub copies_back : (old new : Copier) (e : Edge) → old.back ≡ None → IsBefore e old.decoder → new.back ≡ Some old.taken → new.decoder ≡ old.decoder → new.reprint ≡ old.reprint → new.taken ≡ old.taken
+    → CopiesMore (e ∷ []) old new
+copies_back old new e was before back d p t = λ edges h.
+    let none : back_in edges ≡ None = sym h.back ∙ was in
+    let k = of_front edges old none h.printed in
+    let stands : StandsBefore e.time (time_of edges) = rw (← k.last) before in
+    let P : List Edge → Type 0 = λ l. HasPrinted l new in
+    record {
+      back = back ∙ (ap (λ (i : ℕ). Some i) k.taken ∙ sym (goes_back edges e none stands));
+      printed = subst P (sym (front_back edges e none stands)) (printed_as (in_front (back_in edges) edges) old new d p t h.printed);
+    }
+
+-- an edge is taken
+pub copies_one : (old new : Copier) (e : Edge) (r : Option Reading) → old.back ≡ None → (IsBefore e old.decoder → ⊥) → new.back ≡ old.back
+    → ((edges : List Edge) (given : List Reading) → HasRead edges given old.decoder → HasRead (edges ++ e ∷ []) (given ++ option_to_list r) new.decoder) → last_time new.decoder ≡ Some e.time
+    → PrintsReading r old new → new.taken ≡ old.taken + 1 → CopiesMore (e ∷ []) old new
+copies_one old new e r was later same reads last prints taken = λ edges h.
+    let none : back_in edges ≡ None = sym h.back ∙ was in
+    let k = of_front edges old none h.printed in
+    let on : StandsBefore e.time (time_of edges) → ⊥ = λ s. later (rw k.last s) in
+    let whole : in_front (back_in (edges ++ e ∷ [])) (edges ++ e ∷ []) ≡ edges ++ e ∷ [] = all_front (edges ++ e ∷ []) (goes_on edges e none on) in
+    let P : List Edge → Type 0 = λ l. HasPrinted l new in
+    let printed : HasPrinted (edges ++ e ∷ []) new = record {
+      given = k.given ++ option_to_list r;
+      read = reads edges k.given k.read;
+      last = last ∙ sym (time_of_one edges e);
+      reprinted = prints k.given k.reprinted;
+      taken = taken ∙ (ap (λ i. i + 1) k.taken ∙ sym (length-append edges (e ∷ [])));
+    } in
+    record {
+      back = same ∙ (was ∙ sym (goes_on edges e none on));
+      printed = subst P (sym whole) printed;
+    }
+
+-- no reading is printed
+pub prints_none : (c : Copier) → PrintsReading None c c
+prints_none c = λ readings h. let P : List Reading → Type 0 = λ l. HasReprinted l c.reprint in subst P (sym (append-nil readings)) h
+
+-- papers of readings, and of the same ones
+same_papers : (rs ss : List Reading) (p : Reprinted) → rs ≡ ss → ArePapers rs p → ArePapers ss p
+same_papers rs ss p e h = subst (λ (l : List Reading). ArePapers l p) e h
+
+-- the end of edges that stop
+pub ends_stopped : GivenAreSettled → (c : Copier) (own : Option CliFault) (f : CliFault) (p : Printed) → stop_at c.back own ≡ Some f → p.stop ≡ Some f
+    → ((readings : List Reading) → HasReprinted readings c.reprint → ArePapers readings p.pages) → (edges : List Edge) → HasCopied edges c → EndsCopy edges own p
+ends_stopped settled c own f p is stop papers = λ edges h.
+    let k = h.printed in
+    record {
+      stop = stop ∙ (sym is ∙ ap (λ v. stop_at v own) h.back);
+      papers = same_papers k.given (readings_up_to p.stop edges) p.pages
+          (sym (settled (in_front (back_in edges) edges) k.given c.decoder k.read) ∙ sym (ap (λ s. readings_up_to s edges) stop)) (papers k.given k.reprinted);
+    }
+
+-- nothing stops them
+no_back : (v : Option ℕ) (own : Option CliFault) → stop_at v own ≡ None → v ≡ None
+no_back None own h = refl
+no_back (Some n) own h = absurd (cc)
+
+-- the end of whole edges
+pub ends_whole : (c : Copier) (own : Option CliFault) (cut : Option Reading) (last : BusPrinters) (p : Printed) → stop_at c.back own ≡ None → p.stop ≡ None
+    → ((edges : List Edge) (given : List Reading) → HasRead edges given c.decoder → readings_of edges ≡ given ++ option_to_list cut)
+    → ((readings : List Reading) → HasReprinted readings c.reprint → HasReprinted (readings ++ option_to_list cut) last)
+    → ((readings : List Reading) → HasReprinted readings last → ArePapers readings p.pages) → (edges : List Edge) → HasCopied edges c → EndsCopy edges own p
+ends_whole c own cut last p is stop reads prints papers = λ edges h.
+    let none : back_in edges ≡ None = sym h.back ∙ no_back c.back own is in
+    let k = of_front edges c none h.printed in
+    record {
+      stop = stop ∙ (sym is ∙ ap (λ v. stop_at v own) h.back);
+      papers = same_papers (k.given ++ option_to_list cut) (readings_up_to p.stop edges) p.pages
+          (sym (reads edges k.given k.read) ∙ sym (ap (λ s. readings_up_to s edges) stop)) (papers (k.given ++ option_to_list cut) (prints k.given k.reprinted));
+    }
+
+-- what is printed of no reading
+pub reprinted_none : (b : BusPrinters) (readings : List Reading) → HasReprinted readings b → HasReprinted (readings ++ []) b
+reprinted_none b readings h = let P : List Reading → Type 0 = λ l. HasReprinted l b in subst P (sym (append-nil readings)) h
+
+-- Samples.
+
+pub paged_none : (input : TraceInput) (m : PageMaker) → HasMade input [] [] m.maker → HasCopied [] m.copier → HasPaged input [] m
+paged_none input m made copied = record { edges = []; made = made; copied = copied }
+
+pub pages_one : (old new : PageMaker) (s : Edge) (e : Option Edge) → MakesMore s old.maker e new.maker → CopiesMore (option_to_list e) old.copier new.copier → PagesMore (s ∷ []) old new
+pages_one old new s e makes copies = λ input samples h. record {
+  edges = h.edges ++ option_to_list e;
+  made = makes input samples h.edges h.made;
+  copied = copies h.edges h.copied;
+}
+
+pub pages_none : (m : PageMaker) → PagesMore [] m m
+pages_none m = λ input samples h. let P : List Edge → Type 0 = λ l. HasPaged input l m in subst P (sym (append-nil samples)) h
+
+-- the end of samples
+pub samples_end : (m : PageMaker) (c : Copier) (last : Option Edge) (own : Option CliFault) (p : Printed) → MakesAll m.maker last → CopiesMore (option_to_list last) m.copier c
+    → ((edges : List Edge) → HasCopied edges c → EndsCopy edges own p) → EndsPages m own p
+samples_end m c last own p makes copies ends = λ input samples h.
+    let P : List Edge → Type 0 = λ l. EndsCopy l own p in
+    subst P (makes input samples h.edges h.made) (ends (h.edges ++ option_to_list last) (copies h.edges h.copied))
