@@ -8,8 +8,8 @@ ghost use Rattle.pr_options.specs.Subcommands.{IsLocal};
 use crate::help;
 use crate::help::Told;
 use crate::options::{
-    DELAYS, EXPLAIN, FROM, FROM_TIME, Flag, INVERT, NAMES, PAGE_AS, PRESENT, READING_AS, REPORT_AS, SET,
-    STATUS, TRACE_AS, Valued,
+    DELAYS, EXPLAIN, FROM, FROM_TIME, Flag, INVERT, NAMES, PAGE_AS, PRESENT, READING_AS, REPORT_AS,
+    SET, STATUS, TRACE_AS, Valued,
 };
 use clap::{Arg, ArgAction, Command};
 use std::alloc::{AllocError, Global};

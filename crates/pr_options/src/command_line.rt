@@ -20,8 +20,8 @@ use crate::option_values::{
     read_status, read_trace_format,
 };
 use crate::options::{
-    DELAYS, FROM, FROM_TIME, INVERT, NAMES, PAGE_AS, PRESENT, READING_AS, REPORT_AS, SET, STATUS, TRACE_AS,
-    Valued,
+    DELAYS, FROM, FROM_TIME, INVERT, NAMES, PAGE_AS, PRESENT, READING_AS, REPORT_AS, SET, STATUS,
+    TRACE_AS, Valued,
 };
 use clap::ArgMatches;
 use clap::error::ErrorKind;

@@ -1,6 +1,7 @@
-use Rattle.std.proofs.Common.{ap, ap₂, ◌∙◌, codes, ◌≡◌, true}
+use Rattle.std.proofs.Common.{ap, ap₂, ◌∙◌, codes, ◌≡◌, ◌||◌, Bool, false, true, refl, rules}
 use Rattle.clap.specs.Words.{App, app_of, new_app, with_subcommand}
 use Rattle.clap.specs.Simple.{Shape, app_of_fields, on_top}
+use Rattle.pr_options.specs.Subcommands.{IsLocal}
 use Rattle.pr_options.proofs.clap_command.make_command.Goals as goal
 
 abbrev versioned : Shape → Shape
@@ -23,3 +24,16 @@ returns-clause-app c =
     ∙ ap₂ with_subcommand (c.in_ok-two.ensures.shape c.in_ok-bus.ensures.local
     ∙ ap₂ with_subcommand (c.in_ok-one.ensures.shape c.in_ok-pages.ensures.local ∙ ap₂ with_subcommand program_is (ap top c.in_ok-pages.ensures.app))
     (ap top c.in_ok-bus.ensures.app)) (ap top c.in_ok-check.ensures.app)) (ap top c.in_ok-decode.ensures.app)) (ap top c.in_ok-raw.ensures.app)
+
+-- neither of two has options for all
+both_local : (a b v : Bool) → v ≡ (a || b) → a ≡ false → b ≡ false → v ≡ false
+both_local a b v e h k = rw (e, h, k) refl
+
+pub returns-clause-local : goal.returns-clause-local
+returns-clause-local c =
+    let program : IsLocal c.disable_help_subcommand-program.result = search rules in
+    both_local _ _ _ c.in_ok-whole.ensures.globals
+    (both_local _ _ _ c.in_ok-four.ensures.globals
+    (both_local _ _ _ c.in_ok-three.ensures.globals
+    (both_local _ _ _ c.in_ok-two.ensures.globals (both_local _ _ _ c.in_ok-one.ensures.globals program c.in_ok-pages.ensures.local) c.in_ok-bus.ensures.local)
+    c.in_ok-check.ensures.local) c.in_ok-decode.ensures.local) c.in_ok-raw.ensures.local
