@@ -1,8 +1,10 @@
 -- Edges in which time goes back.
-use Rattle.std.proofs.Common.{◌≡◌, ℕ, ◌+◌, ◌<◌, ◌≤◌, List, [], ◌∷◌, ◌++◌, length, refl, ap, subst, ◌∙◌, sym, arith, append_assoc, append-nil, length-append}
+use Rattle.std.proofs.Common.{◌≡◌, ℕ, ◌+◌, ◌<◌, ◌≤◌, Bool, true, false, List, [], ◌∷◌, ◌++◌, length, refl, ap, subst, ◌∙◌, sym, arith, append_assoc, append-nil, length-append, Option, Some, None}
+use Rattle.std.specs.Prelude.{MatchOption, nat_lt, option_map, if◌then◌else◌}
+use Rattle.std.proofs.lemmas.Grind.{common_steps}
 use Rattle.pr_wire.specs.declared.Edge.{Edge}
 use Rattle.pr_explain.specs.declared.edges.Back.{Back}
-use Rattle.pr_explain.specs.Places.{Backs}
+use Rattle.pr_explain.specs.Places.{Backs, back_from}
 use Rattle.pr_explain.specs.TraceTold.{AreInOrder, AreInOrderBehind, GoesBackAt}
 
 -- the edges up to the last one are in order
@@ -45,3 +47,27 @@ seen_back all more last e index s k = record {
   back = k;
   number = s.number;
 }
+
+-- what is found is the first edge with which time goes back
+walk : (all es : List Edge) (last : Edge) (i : ℕ) → SeenTo all es last i → (v : Option ℕ) → back_from i last es ≡ v → MatchOption v (AreInOrder all) (λ n. GoesBackAt all n)
+walk all [] last i s None h = seen_all all [] last i refl s
+walk all [] last i s (Some n) h = absurd (cc)
+walk all (e ∷ es) last i s v h = by (nat_lt e.time last.time) refl h (λ more. walk all es e (i + 1) more v)
+  where
+    by : (b : Bool) → nat_lt e.time last.time ≡ b → (if b then Some i else back_from (i + 1) e es) ≡ v
+        → (SeenTo all es e (i + 1) → back_from (i + 1) e es ≡ v → MatchOption v (AreInOrder all) (λ n. GoesBackAt all n)) → MatchOption v (AreInOrder all) (λ n. GoesBackAt all n)
+    by true k h on =
+        let before : e.time < last.time = grind (arith, common_steps, k) in
+        rw (← h) (seen_back all es last e i s before)
+    by false k h on =
+        let later : last.time ≤ e.time = grind (arith, common_steps, k) in
+        on (seen_more all es last e i s later) h
+
+indexed : (all : List Edge) (v : Option Back) → MatchOption (option_map (λ (b : Back). b.index) v) (AreInOrder all) (λ n. GoesBackAt all n) → MatchOption v (AreInOrder all) (λ b. Backs all b)
+indexed all None h = h
+indexed all (Some b) h = h
+
+pub back_found : (first : Edge) (others : List Edge) (v : Option Back) → option_map (λ (b : Back). b.index) v ≡ back_from 1 first others
+    → MatchOption v (AreInOrder (first ∷ others)) (λ b. Backs (first ∷ others) b)
+back_found first others v h =
+    indexed (first ∷ others) v (walk (first ∷ others) others first 1 (seen_first first others) (option_map (λ (b : Back). b.index) v) (sym h))

@@ -1,16 +1,17 @@
 -- An input that is read from the front.
-use Rattle.std.proofs.Common.{◌≡◌, ◌⊎◌, ℕ, List, [], ◌++◌, take, drop, refl, ap, sym, subst, ◌∙◌, append-nil, append_assoc, take-append-drop, inl, inr, Option, Some, None, Result, Ok, Err}
-use Rattle.std.specs.Prelude.{IfSome}
+use Rattle.std.proofs.Common.{◌≡◌, ◌⊎◌, ℕ, List, [], ◌∷◌, ◌++◌, take, drop, refl, ap, sym, subst, ◌∙◌, append-nil, append_assoc, take-append-drop, inl, inr, Option, Some, None, Result, Ok, Err}
+use Rattle.std.specs.Prelude.{IfOk}
 use Rattle.std.specs.Option.{option_to_list}
 use Rattle.pr_wire.specs.declared.Edge.{Edge}
 use Rattle.pr_options.specs.declared.format.TraceInput.{TraceInput}
 use Rattle.pr_cli.specs.Report.{Says, SaysSamples}
-use Rattle.pr_cli.specs.Reported.{EndsInput, GivesMore, HasGiven, HasMade, IsOwnFault, RefusesInput}
+use Rattle.pr_cli.specs.Reported.{EndsInput, GivesMore, HasGiven, HasMade, IsOwnFault, MakesAll, MakesMore, RefusesInput}
 use Rattle.pr_cli.specs.declared.edge_maker.EdgeMaker.{EdgeMaker}
 use Rattle.pr_cli.specs.declared.source_reader.SourceReader.{SourceReader}
 use Rattle.pr_cli.specs.declared.fault.CliFault.{CliFault}
 use Rattle.pr_cli.specs.declared.fault.CliFault.TheVariants.{NoMemory}
 use Rattle.pr_explain.specs.Reading.{EndsEdges, TakesSample}
+use Rattle.pr_explain.specs.declared.input.Said.{Said}
 
 -- a front of the bytes was read, and these edges of it were kept
 pub record ReadFront (input : TraceInput) (bytes rest : List ℕ) (edges : List Edge) (r : SourceReader) (m : EdgeMaker) : Type 0 where
@@ -82,3 +83,34 @@ end_faulty input bytes rest edges all r m f g same other e h ends done =
       };
       own = own.0;
     })
+
+-- the same, of what a call gives
+pub said_ends : (input : TraceInput) (bytes rest : List ℕ) (edges more : List Edge) (r : SourceReader) (m n : EdgeMaker) (sample : Option Edge) {E : Type 0} (v : Result Said E) → rest ≡ []
+    → ReadFront input bytes rest edges r m → EndsInput r (Ok sample) → TakesSample sample edges m more n → IfOk v (λ said. EndsEdges more n said.edges.items) → IfOk v (λ said. said.fault ≡ None)
+    → IfOk v (λ said. Says input bytes said.edges.items said.fault)
+said_ends input bytes rest edges more r m n sample (Err e) empty f ends takes done none = tt
+said_ends input bytes rest edges more r m n sample (Ok said) empty f ends takes done none =
+    rw none (front_ends input bytes rest edges more said.edges.items r m n sample empty f ends takes done)
+
+pub said_faulty : (input : TraceInput) (bytes : List ℕ) (edges : List Edge) (m : EdgeMaker) (g : CliFault) {E : Type 0} (v : Result Said E) → IfOk v (λ said. EndsEdges edges m said.edges.items)
+    → IfOk v (λ said. said.fault ≡ Some g) → ((all : List Edge) → EndsEdges edges m all → IsFaulty input bytes all g) → IfOk v (λ said. Says input bytes said.edges.items said.fault)
+said_faulty input bytes edges m g (Err e) done is faulty = tt
+said_faulty input bytes edges m g (Ok said) done is faulty = rw is (faulty said.edges.items done).says
+
+-- a sample gives an edge, or none
+pub takes_edge : (o : Option Edge) (s e : Edge) (kept more : List Edge) (old new : EdgeMaker) → o ≡ Some s → MakesMore s old (Some e) new → more ≡ kept ++ e ∷ [] → TakesSample o kept old more new
+takes_edge o s e kept more old new is makes items = rw is (λ input samples h.
+    let P : List Edge → Type 0 = λ l. HasMade input (samples ++ s ∷ []) l new in
+    subst P (sym items) (makes input samples kept h))
+
+pub takes_no_edge : (o : Option Edge) (s : Edge) (kept : List Edge) (old new : EdgeMaker) → o ≡ Some s → MakesMore s old None new → TakesSample o kept old kept new
+takes_no_edge o s kept old new is makes = rw is (λ input samples h.
+    let P : List Edge → Type 0 = λ l. HasMade input (samples ++ s ∷ []) l new in
+    subst P (append-nil kept) (makes input samples kept h))
+
+-- and at the end
+pub ends_edge : (e : Edge) (kept all : List Edge) (m : EdgeMaker) → MakesAll m (Some e) → all ≡ kept ++ e ∷ [] → EndsEdges kept m all
+ends_edge e kept all m makes items = λ input samples h. items ∙ makes input samples kept h
+
+pub ends_no_edge : (kept : List Edge) (m : EdgeMaker) → MakesAll m None → EndsEdges kept m kept
+ends_no_edge kept m makes = λ input samples h. sym (append-nil kept) ∙ makes input samples kept h

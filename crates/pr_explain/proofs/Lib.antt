@@ -3,4 +3,4 @@ pub mod ToldLemmas
 pub mod StopLemmas
 mod InputLemmas
 mod TraceToldLemmas
-mod BackLemmas
+pub mod BackLemmas

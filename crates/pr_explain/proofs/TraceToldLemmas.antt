@@ -1,6 +1,7 @@
 -- What is told of edges, by the input and by where moments come from.
-use Rattle.std.proofs.Common.{◌≡◌, ◌⊎◌, ℕ, Bool, true, false, List, [], ◌∷◌, ◌++◌, refl, ap, sym, subst, ◌∙◌, append-nil, append_assoc, inl, inr, Option, Some, None}
-use Rattle.std.specs.Prelude.{codes}
+use Rattle.std.proofs.Common.{◌≡◌, ◌⊎◌, ℕ, Bool, true, false, List, [], ◌∷◌, ◌++◌, refl, ap, sym, subst, ◌∙◌, append-nil, append_assoc, inl, inr, Option, Some, None, Result, Ok, Err}
+use Rattle.std.specs.Prelude.{IfOk, Vec, codes}
+use Rattle.std.specs.Global.{Global}
 use Rattle.pr_wire.specs.declared.Edge.{Edge}
 use Rattle.pr_wire.specs.declared.WaveFault.{WaveFault}
 use Rattle.pr_wire.specs.declared.WaveFault.TheVariants as wave
@@ -8,12 +9,13 @@ use Rattle.pr_wire.specs.Table.{fault_of}
 use Rattle.pr_options.specs.declared.format.Source.{Source}
 use Rattle.pr_options.specs.declared.format.Source.TheVariants as source
 use Rattle.pr_options.specs.declared.format.TraceInput.{TraceInput}
+use Rattle.pr_cli.specs.Report.{Says}
 use Rattle.pr_cli.specs.declared.fault.CliFault.{CliFault}
 use Rattle.pr_explain.specs.declared.texts.Origin.{Origin}
 use Rattle.pr_explain.specs.declared.texts.Origin.TheVariants.{Text, Recording}
 use Rattle.pr_explain.specs.Places.{AreToldBy, IsOriginOf, IsToldBy, TellsBy, brackets_for, none_for, words_for}
 use Rattle.pr_explain.specs.Told.{Begins}
-use Rattle.pr_explain.specs.TraceTold.{AreEdgesTold, IsFaultTold, TellsEdge, TellsLine, bracket_words, index_words, line_words, no_edge_words}
+use Rattle.pr_explain.specs.TraceTold.{AreEdgesTold, IsFaultTold, IsTraceTold, TellsEdge, TellsLine, bracket_words, index_words, line_words, no_edge_words}
 
 -- the words of an origin are those of its input
 recorded : (s : Source) → (s ≡ source.Vcd) ⊎ (s ≡ source.Csv) → (start : ℕ) (n : ℕ) → (bracket_words s start ≡ bracket_words source.Vcd start) × (index_words s n ≡ index_words source.Vcd n) × (no_edge_words s ≡ no_edge_words source.Vcd)
@@ -66,5 +68,36 @@ line_behind fault front behind all h e = record {
   number = h.number;
   shown = h.shown;
   is_line = h.is_line;
-  whole = e ∙ ap (λ t. t ++ behind) (h.whole ∙ append-nil _);
+  whole = e ∙ ap (λ t. t ++ behind) (h.whole ∙ append-nil (line_words h.number ++ (h.shown ++ 10 ∷ [])));
 }
+
+-- what is told of a whole trace
+pub trace_whole : (input : TraceInput) (bytes : List ℕ) (edges all : List Edge) (own : Option CliFault) (o : Origin) {E : Type 0} (v : Result (Vec ℕ Global) E) → Says input bytes all own → own ≡ None → edges ≡ all
+    → IsOriginOf input o → IfOk v (λ text. AreToldBy o true edges text.items) → IfOk v (λ text. IsTraceTold input bytes text.items)
+trace_whole input bytes edges all own o (Err e) says none same is told = tt
+trace_whole input bytes edges all own o (Ok text) says none same is told =
+    let P : Option CliFault → Type 0 = λ w. Says input bytes all w in
+    let Q : List Edge → Type 0 = λ l. AreToldBy o true l text.items in
+    record {
+      edges = all;
+      own = None;
+      says = subst P none says;
+      told = edges_by input o true all text.items is (subst Q same told);
+    }
+
+-- and of one with a fault of its own
+pub trace_faulty : (input : TraceInput) (bytes : List ℕ) (edges all : List Edge) (own : Option CliFault) (fault : CliFault) (o : Origin) (front behind rest text : List ℕ) → Says input bytes all own → own ≡ Some fault
+    → edges ≡ all → IsOriginOf input o → TellsLine fault [] front → AreToldBy o false edges behind → rest ≡ behind → text ≡ front ++ rest → IsTraceTold input bytes text
+trace_faulty input bytes edges all own fault o front behind rest text says is_fault same is line told rest_is is_text =
+    let P : Option CliFault → Type 0 = λ w. Says input bytes all w in
+    let Q : List Edge → Type 0 = λ l. AreToldBy o false l behind in
+    record {
+      edges = all;
+      own = Some fault;
+      says = subst P is_fault says;
+      told = (
+        behind,
+        line_behind fault front behind text line (is_text ∙ ap (λ r. front ++ r) rest_is),
+        edges_by input o false all behind is (subst Q same told),
+      );
+    }

@@ -1,5 +1,5 @@
 -- Linking words, for proofs: the words for an edge, and where edges lead. No reader needs to believe them.
-use Rattle.std.specs.Prelude.{◌≡◌, ◌⊎◌, ℕ, Bool, true, false, ◌+◌, List, [], ◌∷◌, ◌++◌, length, Option, Some, None, codes, decimal, if◌then◌else◌, Result, Ok, Err}
+use Rattle.std.specs.Prelude.{◌≡◌, ◌⊎◌, ℕ, Bool, true, false, ◌+◌, List, [], ◌∷◌, ◌++◌, length, Option, Some, None, codes, decimal, nat_lt, if◌then◌else◌, Result, Ok, Err}
 use Rattle.pr_wire.specs.declared.Edge.{Edge}
 use Rattle.pr_wire.specs.declared.WaveFault.{WaveFault}
 use Rattle.pr_wire.specs.declared.WaveFault.TheVariants as wave
@@ -73,6 +73,11 @@ abbrev pub Follows : Edge → List Edge → Result Led Refused → Type 0
 Follows first others (Ok led) =
     fault_from 1 first (Idle 0) others ≡ (if may_end led.place then None else Some (wave.Truncated (length others + 1)))
 Follows first others (Err r) = fault_from 1 first (Idle 0) others ≡ Some (fault_at r.flaw r.index)
+
+-- the index of the first edge that stands before the one in front of it
+abbrev pub back_from : (index : ℕ) → (last : Edge) → List Edge → Option ℕ
+back_from i last [] = None
+back_from i last (e ∷ es) = if nat_lt e.time last.time then Some i else back_from (i + 1) e es
 
 -- the first edge with which time goes back
 abbrev pub Backs : List Edge → Back → Type 0

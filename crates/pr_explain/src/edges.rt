@@ -1,7 +1,7 @@
 //! Why edges are no lawful trace.
 
-ghost use Rattle.std.specs.Prelude.{◌≡◌, ◌+◌, ◌++◌, ◌^◌, ◌<◌, ◌≤◌, codes, length, IfErr, IfOk, IfSome, MatchOption, OnOk};
-ghost use Rattle.pr_explain.specs.Places.{AreToldBy, Backs, Follows, brackets_for, none_for, words_for};
+ghost use Rattle.std.specs.Prelude.{◌≡◌, ◌+◌, ◌++◌, ◌^◌, ◌<◌, ◌≤◌, codes, length, IfErr, IfOk, IfSome, MatchOption, OnOk, option_map};
+ghost use Rattle.pr_explain.specs.Places.{AreToldBy, Backs, Follows, back_from, brackets_for, none_for, words_for};
 ghost use Rattle.pr_explain.specs.Told.{Begins};
 ghost use Rattle.pr_explain.specs.TraceTold.{AreInOrder};
 
@@ -88,23 +88,31 @@ pub fn edges_told(
     Ok(Vec::new(alloc))
 }
 
+/// The words for no edge.
+fn no_edge(origin: Origin) -> &'static str
+    ensures { result.now ≡ none_for origin }
+{
+    match origin {
+        Origin::Text => "  there is no edge: ",
+        Origin::Recording { .. } => "  the recording has no sample of the three lines\n",
+    }
+}
+
+/// What stands behind these words.
+fn behind_no_edge(origin: Origin) -> &'static str {
+    match origin {
+        Origin::Text => "a trace begins with 0 111\n",
+        Origin::Recording { .. } => "",
+    }
+}
+
 /// That there is no edge.
 fn no_edge_told(alloc: Global, origin: Origin) -> Result<Vec<u8>, NoMemory>
     ensures { IfOk result (λ text. Begins (none_for origin) text.items) }
 {
     let mut text = Vec::new(alloc);
-    match origin {
-        Origin::Text => {
-            push(&mut text, "  there is no edge: ")?;
-            push(&mut text, "a trace begins with 0 111\n")?;
-        }
-        Origin::Recording { .. } => {
-            push(
-                &mut text,
-                "  the recording has no sample of the three lines\n",
-            )?;
-        }
-    }
+    push(&mut text, no_edge(origin))?;
+    push(&mut text, behind_no_edge(origin))?;
     Ok(text)
 }
 
@@ -377,30 +385,40 @@ pub struct Back {
     edge: Edge,
 }
 
-/// The first edge that stands before the one in front of it, if there is one.
-pub fn back_in(edges: &[Edge]) -> Option<Back>
-    ensures backs { MatchOption result (AreInOrder edges.now) (λ back. Backs edges.now back) }
-    ensures within { IfSome result (λ back. back.index < length edges.now) }
+/// The first edge behind the first one of a trace that stands before the one in front of it, if there is
+/// one.
+fn find_back(first: Edge, others: &[Edge]) -> Option<Back>
+    ensures back { option_map (λ back. back.index) result ≡ back_from 1 first others.now }
+    ensures within { IfSome result (λ back. back.index ≤ length others.now) }
 {
-    let [first, others @ ..] = edges else {
-        return None;
-    };
-    let mut last = *first;
-    let mut index: usize = 1;
+    let mut last = first;
+    let mut number: usize = 1;
     let mut rest = others;
     while let [edge, more @ ..] = rest {
         if edge.time < last.time {
             return Some(Back {
-                index,
+                index: number,
                 last,
                 edge: *edge,
             });
         }
         last = *edge;
-        index += 1;
+        number += 1;
         rest = more;
     }
     None
+}
+
+/// The first edge that stands before the one in front of it, if there is one.
+#[tactic(auto, using(crate::proofs::BackLemmas::back_found))]
+pub fn back_in(edges: &[Edge]) -> Option<Back>
+    ensures backs { MatchOption result (AreInOrder edges.now) (λ back. Backs edges.now back) }
+    ensures within { IfSome result (λ back. back.index < length edges.now) }
+{
+    match edges {
+        [first, others @ ..] => find_back(*first, others),
+        [] => None,
+    }
 }
 
 /// That an edge stands before the one in front of it.

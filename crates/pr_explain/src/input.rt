@@ -87,8 +87,11 @@ fn end_edges(
     ensures edges { IfOk result (λ said. EndsEdges edges.items maker said.edges.items) }
     ensures fault { IfOk result (λ said. said.fault ≡ fault) }
 {
-    if let Some(edge) = maker.finish() {
-        edges.push(edge)?;
+    match maker.finish() {
+        Some(edge) => {
+            edges.push(edge)?;
+            Ok(Said { edges, fault })
+        }
+        None => Ok(Said { edges, fault }),
     }
-    Ok(Said { edges, fault })
 }
