@@ -49,13 +49,13 @@ seen_back all more last e index s k = record {
 }
 
 -- what is found is the first edge with which time goes back
-walk : (all es : List Edge) (last : Edge) (i : ℕ) → SeenTo all es last i → (v : Option ℕ) → back_from i last es ≡ v → MatchOption v (AreInOrder all) (λ n. GoesBackAt all n)
+walk : (all es : List Edge) (last : Edge) (i : ℕ) → SeenTo all es last i → (v : Option ℕ) → back_from i (Some last) es ≡ v → MatchOption v (AreInOrder all) (λ n. GoesBackAt all n)
 walk all [] last i s None h = seen_all all [] last i refl s
 walk all [] last i s (Some n) h = absurd (cc)
 walk all (e ∷ es) last i s v h = by (nat_lt e.time last.time) refl h (λ more. walk all es e (i + 1) more v)
   where
-    by : (b : Bool) → nat_lt e.time last.time ≡ b → (if b then Some i else back_from (i + 1) e es) ≡ v
-        → (SeenTo all es e (i + 1) → back_from (i + 1) e es ≡ v → MatchOption v (AreInOrder all) (λ n. GoesBackAt all n)) → MatchOption v (AreInOrder all) (λ n. GoesBackAt all n)
+    by : (b : Bool) → nat_lt e.time last.time ≡ b → (if b then Some i else back_from (i + 1) (Some e) es) ≡ v
+        → (SeenTo all es e (i + 1) → back_from (i + 1) (Some e) es ≡ v → MatchOption v (AreInOrder all) (λ n. GoesBackAt all n)) → MatchOption v (AreInOrder all) (λ n. GoesBackAt all n)
     by true k h on =
         let before : e.time < last.time = grind (arith, common_steps, k) in
         rw (← h) (seen_back all es last e i s before)
@@ -67,7 +67,7 @@ indexed : (all : List Edge) (v : Option Back) → MatchOption (option_map (λ (b
 indexed all None h = h
 indexed all (Some b) h = h
 
-pub back_found : (first : Edge) (others : List Edge) (v : Option Back) → option_map (λ (b : Back). b.index) v ≡ back_from 1 first others
-    → MatchOption v (AreInOrder (first ∷ others)) (λ b. Backs (first ∷ others) b)
-back_found first others v h =
-    indexed (first ∷ others) v (walk (first ∷ others) others first 1 (seen_first first others) (option_map (λ (b : Back). b.index) v) (sym h))
+pub back_found : (edges : List Edge) (v : Option Back) → option_map (λ (b : Back). b.index) v ≡ back_from 0 None edges → MatchOption v (AreInOrder edges) (λ b. Backs edges b)
+back_found [] None h = tt
+back_found [] (Some b) h = absurd (cc)
+back_found (e ∷ es) v h = indexed (e ∷ es) v (walk (e ∷ es) es e 1 (seen_first e es) (option_map (λ (b : Back). b.index) v) (sym h))

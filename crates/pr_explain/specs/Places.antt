@@ -74,10 +74,15 @@ Follows first others (Ok led) =
     fault_from 1 first (Idle 0) others ≡ (if may_end led.place then None else Some (wave.Truncated (length others + 1)))
 Follows first others (Err r) = fault_from 1 first (Idle 0) others ≡ Some (fault_at r.flaw r.index)
 
+-- an edge stands before the last one, if there is a last one
+abbrev pub stands_before : Edge → (last : Option Edge) → Bool
+stands_before e None = false
+stands_before e (Some last) = nat_lt e.time last.time
+
 -- the index of the first edge that stands before the one in front of it
-abbrev pub back_from : (index : ℕ) → (last : Edge) → List Edge → Option ℕ
+abbrev pub back_from : (index : ℕ) → (last : Option Edge) → List Edge → Option ℕ
 back_from i last [] = None
-back_from i last (e ∷ es) = if nat_lt e.time last.time then Some i else back_from (i + 1) e es
+back_from i last (e ∷ es) = if stands_before e last then Some i else back_from (i + 1) (Some e) es
 
 -- the first edge with which time goes back
 abbrev pub Backs : List Edge → Back → Type 0

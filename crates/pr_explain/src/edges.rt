@@ -1,7 +1,7 @@
 //! Why edges are no lawful trace.
 
-ghost use Rattle.std.specs.Prelude.{◌≡◌, ◌+◌, ◌++◌, ◌^◌, ◌<◌, ◌≤◌, codes, length, IfErr, IfOk, IfSome, MatchOption, OnOk, option_map};
-ghost use Rattle.pr_explain.specs.Places.{AreToldBy, Backs, Follows, back_from, brackets_for, none_for, words_for};
+ghost use Rattle.std.specs.Prelude.{◌≡◌, ◌+◌, ◌++◌, ◌^◌, ◌<◌, ◌≤◌, codes, length, None, IfErr, IfOk, IfSome, MatchOption, OnOk, option_map};
+ghost use Rattle.pr_explain.specs.Places.{AreToldBy, Backs, Follows, back_from, brackets_for, none_for, stands_before, words_for};
 ghost use Rattle.pr_explain.specs.Told.{Begins};
 ghost use Rattle.pr_explain.specs.TraceTold.{AreInOrder};
 
@@ -381,29 +381,38 @@ fn end_rest(alloc: Global, led: &Led, origin: Origin) -> Result<Vec<u8>, NoMemor
 #[derive(Clone, Copy)]
 pub struct Back {
     index: usize,
-    last: Edge,
+    last: Option<Edge>,
     edge: Edge,
 }
 
-/// The first edge behind the first one of a trace that stands before the one in front of it, if there is
-/// one.
-fn find_back(first: Edge, others: &[Edge]) -> Option<Back>
-    ensures back { option_map (λ back. back.index) result ≡ back_from 1 first others.now }
-    ensures within { IfSome result (λ back. back.index ≤ length others.now) }
+/// Whether an edge stands before the last one, if there is a last one.
+fn goes_back(last: Option<Edge>, edge: Edge) -> bool
+    ensures { result ≡ stands_before edge last }
 {
-    let mut last = first;
-    let mut number: usize = 1;
-    let mut rest = others;
+    match last {
+        Some(last) => edge.time < last.time,
+        None => false,
+    }
+}
+
+/// Finds the first edge that stands before the one in front of it.
+fn find_back(edges: &[Edge]) -> Option<Back>
+    ensures back { option_map (λ back. back.index) result ≡ back_from 0 None edges.now }
+    ensures within { IfSome result (λ back. back.index < length edges.now) }
+{
+    let mut last = None;
+    let mut index: usize = 0;
+    let mut rest = edges;
     while let [edge, more @ ..] = rest {
-        if edge.time < last.time {
+        if goes_back(last, *edge) {
             return Some(Back {
-                index: number,
+                index,
                 last,
                 edge: *edge,
             });
         }
-        last = *edge;
-        number += 1;
+        last = Some(*edge);
+        index += 1;
         rest = more;
     }
     None
@@ -415,10 +424,7 @@ pub fn back_in(edges: &[Edge]) -> Option<Back>
     ensures backs { MatchOption result (AreInOrder edges.now) (λ back. Backs edges.now back) }
     ensures within { IfSome result (λ back. back.index < length edges.now) }
 {
-    match edges {
-        [first, others @ ..] => find_back(*first, others),
-        [] => None,
-    }
+    find_back(edges)
 }
 
 /// That an edge stands before the one in front of it.
@@ -428,8 +434,10 @@ pub fn back_told(alloc: Global, back: Back, origin: Origin) -> Result<Vec<u8>, N
 {
     let mut rest = Vec::new(alloc);
     push_edge(&mut rest, back.edge, origin)?;
-    push(&mut rest, "\n  the edge before it: ")?;
-    push_edge(&mut rest, back.last, origin)?;
+    if let Some(last) = back.last {
+        push(&mut rest, "\n  the edge before it: ")?;
+        push_edge(&mut rest, last, origin)?;
+    }
     push(&mut rest, "\n  it is earlier than the edge before it\n")?;
     with_index(alloc, back.index, origin, rest)
 }

@@ -1,12 +1,12 @@
-use Rattle.std.proofs.Common.{◌≡◌, ◌+◌, length}
+use Rattle.std.proofs.Common.{◌≡◌, ◌+◌, length, None}
 use Rattle.pr_explain.specs.Places.{back_from}
 use Rattle.pr_explain.proofs.edges.find_back.Given as goal
 
 -- the first edge with which time goes back is that of what is left
 abbrev pub invariant-loop-rest : goal.invariant-loop-rest
 invariant-loop-rest l = record {
-  back : back_from 1 l.fn.first l.fn.others ≡ back_from l.number l.last l.rest;
-  count : l.number + length l.rest ≡ length l.fn.others + 1;
+  back : back_from 0 None l.fn.edges ≡ back_from l.index l.last l.rest;
+  count : l.index + length l.rest ≡ length l.fn.edges;
 }
 
 abbrev pub decreases-loop-rest : goal.decreases-loop-rest
