@@ -1,6 +1,6 @@
 -- What is answered for an input, by what was told of it.
 use Rattle.std.proofs.Common.{◌≡◌, ◌≤◌, ℕ, ◌+◌, ◌-◌, ◌<◌, List, [], ◌++◌, length, take, refl, ap, sym, subst, ◌∙◌, arith, append-nil, append_assoc, length-append, Option, Some, None, Result, Ok, Err}
-use Rattle.std.specs.Prelude.{IfErr, IfSome}
+use Rattle.std.specs.Prelude.{IfErr, IfSome, IsErrAnd}
 use Rattle.std.specs.Io.KnownBytes.{Appends, Consumes, IsAtEnd}
 use Rattle.std.proofs.KnownBytes.{Appends-nil, Appends-trans, Consumes-nil, Consumes-trans}
 use Rattle.pr_wire.specs.declared.Edge.{Edge}
@@ -108,16 +108,35 @@ pub too_large : Laws → (limit : ℕ) (a b d old now : Option (List ℕ)) (inpu
 too_large laws limit a b d old now input r t left block h k many =
     at_once a d (h.text ++ block) (λ text. AnswersDecode limit input text old now (Err TooLarge)) (Consumes-trans a b d h.text block h.taken k)
     (λ more.
-        let c : ComesTo input ((h.text ++ block) ++ more) (h.written ++ lines_in t) =
-            let P : List ℕ → Type 0 = λ l. ComesTo input l (h.written ++ lines_in t) in
-            subst P (sym (append_assoc h.text block more)) (coming laws input h.text h.written r t h.noted (block ++ more)) in
-        let long : limit < length ((h.text ++ block) ++ more) = omega (arith, h.room, many, length-append h.text block, length-append (h.text ++ block) more) in
-        begins limit input ((h.text ++ block) ++ more) h.written (lines_in t) old now now (Err TooLarge) c h.wrote (front_none now (lines_in t)) (λ stop told front. (long, front)))
+    let c : ComesTo input ((h.text ++ block) ++ more) (h.written ++ lines_in t) =
+    let P : List ℕ → Type 0 = λ l. ComesTo input l (h.written ++ lines_in t) in
+    subst P (sym (append_assoc h.text block more)) (coming laws input h.text h.written r t h.noted (block ++ more)) in
+    let long : limit < length ((h.text ++ block) ++ more) = omega (arith, h.room, many, length-append h.text block, length-append (h.text ++ block) more) in
+    begins limit input ((h.text ++ block) ++ more) h.written (lines_in t) old now now (Err TooLarge) c h.wrote (front_none now (lines_in t)) (λ stop told front. (long, front)))
+
+-- what holds of want of memory holds of an answer that was made of it
+by_memory : (v : Result (Unit {0}) CliFault) (P : Result (Unit {0}) CliFault → Type 0) → IsErrAnd v (λ f. f ≡ NoMemory) → P (Err NoMemory) → P v
+by_memory (Ok u) P e p = absurd e
+by_memory (Err f) P e p = rw e p
+
+-- the answer where memory was refused
+pub partly_refused : Laws → (limit : ℕ) (a b old now : Option (List ℕ)) (input : TraceInput) (r : SourceReader) (t : Teller) (left : ℕ) (v : Result (Unit {0}) CliFault)
+    → ReadSoFar limit a b old now input r t left → IsErrAnd v (λ f. f ≡ NoMemory) → IfSome a (λ text. AnswersDecode limit input text old now v)
+partly_refused laws limit a b old now input r t left v h memory =
+    by_memory v (λ w. IfSome a (λ text. AnswersDecode limit input text old now w)) memory
+    (partly laws limit a b old now now input r t left (Err NoMemory) h (front_none now (lines_in t)) (λ n stop told k. k))
+
+-- the answer where a write failed
+pub partly_unwritten : Laws → (limit : ℕ) (a b old now new : Option (List ℕ)) (input : TraceInput) (r : SourceReader) (t : Teller) (left : ℕ) (v : Result (Unit {0}) CliFault) (f : CliFault)
+    → ReadSoFar limit a b old now input r t left → IsErrAnd v (λ x. x ≡ f) → f ≡ WriteFailed → AppendsFront now new (lines_in t) → IfSome a (λ text. AnswersDecode limit input text old new v)
+partly_unwritten laws limit a b old now new input r t left (Ok u) f h e failed k = absurd e
+partly_unwritten laws limit a b old now new input r t left (Err x) f h e failed k =
+    rw (e, failed) (partly laws limit a b old now new input r t left (Err WriteFailed) h k (λ n stop told front. front))
 
 -- before anything was read
-pub at_first : Laws → (limit : ℕ) (a old : Option (List ℕ)) (input : TraceInput) → IfSome a (λ text. AnswersDecode limit input text old old (Err NoMemory))
-at_first laws limit None old input = tt
-at_first laws limit (Some text) old input =
+first_refused : Laws → (limit : ℕ) (a old : Option (List ℕ)) (input : TraceInput) → IfSome a (λ text. AnswersDecode limit input text old old (Err NoMemory))
+first_refused laws limit None old input = tt
+first_refused laws limit (Some text) old input =
     let s = laws.some input text in
     let edges = edges_made input.source input.start s.0 in
     record {
@@ -126,6 +145,10 @@ at_first laws limit (Some text) old input =
       says = record { samples = s.0; are_samples = s.2; are_edges = refl };
       leaves = front_none old (told_of (stop_at (back_in edges) s.1) edges);
     }
+
+pub at_first : Laws → (limit : ℕ) (a old : Option (List ℕ)) (input : TraceInput) (v : Result (Unit {0}) CliFault) → IsErrAnd v (λ f. f ≡ NoMemory)
+    → IfSome a (λ text. AnswersDecode limit input text old old v)
+at_first laws limit a old input v memory = by_memory v (λ w. IfSome a (λ text. AnswersDecode limit input text old old w)) memory (first_refused laws limit a old input)
 
 -- why an input stops
 pub is_stop : (back : Option ℕ) (own : Option CliFault) → IfSome own IsOwnFault → IfSome (stop_at back own) IsStop
@@ -224,14 +247,14 @@ pub at_fault : (limit : ℕ) (a b d old now new : Option (List ℕ)) (input : Tr
 at_fault limit a b d old now new input r s t u left block f e v h k notes ends writes =
     at_once a d (h.text ++ block) (λ text. AnswersDecode limit input text old new v) (Consumes-trans a b d h.text block h.taken k)
     (λ more.
-        let w = notes.1 input h.text h.written h.noted more in
-        let edges = edges_made input.source input.start w.0 in
-        record {
-          edges = edges;
-          own = Some f;
-          says = record { samples = w.0; are_samples = w.1; are_edges = refl };
-          leaves = leaves_end limit (length ((h.text ++ block) ++ more)) edges h.written (Some f) e old now new v (λ none. absurd (cc)) (ends input w.0 h.written w.2) notes.0 h.wrote writes;
-        })
+    let w = notes.1 input h.text h.written h.noted more in
+    let edges = edges_made input.source input.start w.0 in
+    record {
+      edges = edges;
+      own = Some f;
+      says = record { samples = w.0; are_samples = w.1; are_edges = refl };
+      leaves = leaves_end limit (length ((h.text ++ block) ++ more)) edges h.written (Some f) e old now new v (λ none. absurd (cc)) (ends input w.0 h.written w.2) notes.0 h.wrote writes;
+    })
 
 -- why it stops at its end
 pub last_stop : (limit : ℕ) (a b old now : Option (List ℕ)) (input : TraceInput) (r : SourceReader) (t : Teller) (left : ℕ) (e : Ended) → ReadSoFar limit a b old now input r t left → EndsNoted r t e
@@ -254,6 +277,13 @@ fault_stop limit a b old now input r s t u left block f e h notes ends =
 -- a stop is no failed write
 pub no_write : (v : Option CliFault) → IfSome v IsStop → v ≡ Some WriteFailed → ⊥
 no_write v h e = known_stop v WriteFailed e h
+
+-- nor a failed read
+pub no_read : (e : Ended) (now new : Option (List ℕ)) (v : Result (Unit {0}) CliFault) → IfSome e.stop IsStop → WritesEnd e now new v → v ≡ Err ReadFailed → ⊥
+no_read e now new v h w k =
+    let P : Result (Unit {0}) CliFault → Type 0 = λ x. WritesEnd e now new x in
+    let u : WritesEnd e now new (Err ReadFailed) = subst P k w in
+    known_stop e.stop ReadFailed u.0 h
 
 -- what is answered where the end is written is a fault of a recording
 pub own_fault : (e : Ended) (now new : Option (List ℕ)) (v : Result (Unit {0}) CliFault) → IfSome e.stop IsStop → WritesEnd e now new v → IfErr v IsDecodeFault

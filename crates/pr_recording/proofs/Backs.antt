@@ -12,11 +12,12 @@ use Rattle.pr_recording.specs.Narrated.{time_after, time_of}
 -- more edges change nothing behind the first that goes back
 behind_more : (i last : ℕ) (es more : List Edge) (n : ℕ) → back_behind i last es ≡ Some n → back_behind i last (es ++ more) ≡ Some n
 behind_more i last [] more n h = absurd (cc)
-behind_more i last (e ∷ es) more n h = by (nat_lt e.time last) h
+behind_more i last (e ∷ es) more n h = by (behind_more (i + 1) e.time es more n) (nat_lt e.time last) h
   where
-    by : (b : Bool) → (if b then Some i else back_behind (i + 1) e.time es) ≡ Some n → (if b then Some i else back_behind (i + 1) e.time (es ++ more)) ≡ Some n
-    by true h = h
-    by false h = behind_more (i + 1) e.time es more n h
+    by : (back_behind (i + 1) e.time es ≡ Some n → back_behind (i + 1) e.time (es ++ more) ≡ Some n) → (b : Bool) → (if b then Some i else back_behind (i + 1) e.time es) ≡ Some n
+        → (if b then Some i else back_behind (i + 1) e.time (es ++ more)) ≡ Some n
+    by rest true h = h
+    by rest false h = rest h
 
 pub back_stays : (es more : List Edge) (n : ℕ) → back_in es ≡ Some n → back_in (es ++ more) ≡ Some n
 back_stays [] more n h = absurd (cc)
@@ -25,11 +26,11 @@ back_stays (e ∷ es) more n h = behind_more 1 e.time es more n h
 -- it is one of the edges
 behind_within : (i last : ℕ) (es : List Edge) (n : ℕ) → back_behind i last es ≡ Some n → (i ≤ n) × (n < i + length es)
 behind_within i last [] n h = absurd (cc)
-behind_within i last (e ∷ es) n h = by (nat_lt e.time last) h
+behind_within i last (e ∷ es) n h = by (behind_within (i + 1) e.time es n) (nat_lt e.time last) h
   where
-    by : (b : Bool) → (if b then Some i else back_behind (i + 1) e.time es) ≡ Some n → (i ≤ n) × (n < i + length (e ∷ es))
-    by true h = let k : i ≡ n = cc in (omega (arith, k), omega (arith, k))
-    by false h = let w = behind_within (i + 1) e.time es n h in (omega (arith, w.0), omega (arith, w.1))
+    by : (back_behind (i + 1) e.time es ≡ Some n → (i + 1 ≤ n) × (n < i + 1 + length es)) → (b : Bool) → (if b then Some i else back_behind (i + 1) e.time es) ≡ Some n → (i ≤ n) × (n < i + length (e ∷ es))
+    by rest true h = let k : i ≡ n = cc in (omega (arith, k), omega (arith, k))
+    by rest false h = let w = rest h in (omega (arith, w.0), omega (arith, w.1))
 
 pub back_within : (es : List Edge) (n : ℕ) → back_in es ≡ Some n → n < length es
 back_within [] n h = absurd (cc)
@@ -38,11 +39,11 @@ back_within (e ∷ es) n h = omega (arith, (behind_within 1 e.time es n h).1)
 -- behind edges of which none goes back
 behind_later : (i last : ℕ) (es more : List Edge) (n : ℕ) → back_behind i last es ≡ None → back_behind i last (es ++ more) ≡ Some n → i + length es ≤ n
 behind_later i last [] more n h k = omega (arith, (behind_within i last more n k).0)
-behind_later i last (e ∷ es) more n h k = by (nat_lt e.time last) h k
+behind_later i last (e ∷ es) more n h k = by (behind_later (i + 1) e.time es more n) (nat_lt e.time last) h k
   where
-    by : (b : Bool) → (if b then Some i else back_behind (i + 1) e.time es) ≡ None → (if b then Some i else back_behind (i + 1) e.time (es ++ more)) ≡ Some n → i + length (e ∷ es) ≤ n
-    by true h k = absurd (cc)
-    by false h k = omega (arith, behind_later (i + 1) e.time es more n h k)
+    by : (back_behind (i + 1) e.time es ≡ None → back_behind (i + 1) e.time (es ++ more) ≡ Some n → i + 1 + length es ≤ n) → (b : Bool) → (if b then Some i else back_behind (i + 1) e.time es) ≡ None → (if b then Some i else back_behind (i + 1) e.time (es ++ more)) ≡ Some n → i + length (e ∷ es) ≤ n
+    by rest true h k = absurd (cc)
+    by rest false h k = omega (arith, rest h k)
 
 pub back_later : (es more : List Edge) (n : ℕ) → back_in es ≡ None → back_in (es ++ more) ≡ Some n → length es ≤ n
 back_later [] more n h k = omega (arith)
@@ -52,12 +53,12 @@ back_later (e ∷ es) more n h k = omega (arith, behind_later 1 e.time es more n
 behind_one : (i last : ℕ) (es : List Edge) (e : Edge) → back_behind i last es ≡ None
     → back_behind i last (es ++ e ∷ []) ≡ (if nat_lt e.time (time_after last es) then Some (i + length es) else None)
 behind_one i last [] e h = ap (λ k. if nat_lt e.time last then Some k else None) (omega arith)
-behind_one i last (f ∷ es) e h = by (nat_lt f.time last) h
+behind_one i last (f ∷ es) e h = by (behind_one (i + 1) f.time es e) (nat_lt f.time last) h
   where
-    by : (b : Bool) → (if b then Some i else back_behind (i + 1) f.time es) ≡ None
+    by : (back_behind (i + 1) f.time es ≡ None → back_behind (i + 1) f.time (es ++ e ∷ []) ≡ (if nat_lt e.time (time_after f.time es) then Some (i + 1 + length es) else None)) → (b : Bool) → (if b then Some i else back_behind (i + 1) f.time es) ≡ None
         → (if b then Some i else back_behind (i + 1) f.time (es ++ e ∷ [])) ≡ (if nat_lt e.time (time_after f.time es) then Some (i + length (f ∷ es)) else None)
-    by true h = absurd (cc)
-    by false h = behind_one (i + 1) f.time es e h ∙ ap (λ k. if nat_lt e.time (time_after f.time es) then Some k else None) (omega arith)
+    by rest true h = absurd (cc)
+    by rest false h = rest h ∙ ap (λ k. if nat_lt e.time (time_after f.time es) then Some k else None) (omega arith)
 
 pub goes_on : (es : List Edge) (e : Edge) → back_in es ≡ None → (StandsBefore e.time (time_of es) → ⊥) → back_in (es ++ e ∷ []) ≡ None
 goes_on [] e h later = refl

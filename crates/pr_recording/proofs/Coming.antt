@@ -76,7 +76,7 @@ coming laws input text written r t h more =
     let begins = told_begins laws.cut edges says.1 in
     let behind = all_lines (behind_all Nothing k.given) given.0 in
     let lines : all_lines Nothing (settled_of (in_front (back_in edges) edges)) ≡ (written ++ lines_in t) ++ behind =
-        ap (λ rs. all_lines Nothing rs) given.1 ∙ (lines_add Nothing k.given given.0 ∙ ap (λ l. l ++ behind) (sym k.accounted.lines)) in
+    ap (λ rs. all_lines Nothing rs) given.1 ∙ (lines_add Nothing k.given given.0 ∙ ap (λ l. l ++ behind) (sym k.accounted.lines)) in
     record {
       edges = edges;
       own = says.1;

@@ -1,5 +1,6 @@
 -- A narrator, edge by edge.
-use Rattle.std.proofs.Common.{◌≡◌, ℕ, ◌+◌, ◌<◌, List, [], ◌∷◌, ◌++◌, length, refl, ap, sym, subst, ◌∙◌, arith, append-nil, append_assoc, length-append, Option, Some, None}
+use Rattle.std.proofs.Common.{◌≡◌, ℕ, ◌+◌, ◌<◌, List, [], ◌∷◌, ◌++◌, length, refl, ap, sym, subst, ◌∙◌, arith, append-nil, append_assoc, length-append, Bool, true, false, Option, Some, None}
+use Rattle.std.specs.Prelude.{is_some}
 use Rattle.std.specs.Option.{option_to_list}
 use Rattle.pr_wire.specs.declared.Edge.{Edge}
 use Rattle.pr_wire.specs.declared.WaveFault.{WaveFault}
@@ -38,7 +39,7 @@ heeded_as edges written old new d j a t h = record {
 }
 
 -- behind an edge at which time goes back nothing is taken
-pub narrates_nothing : (n : Narrator) (m : ℕ) (more : List Edge) → n.back ≡ Some m → NarratesMore more n n
+narrates_nothing : (n : Narrator) (m : ℕ) (more : List Edge) → n.back ≡ Some m → NarratesMore more n n
 narrates_nothing n m more is = λ edges written h.
     let back : back_in edges ≡ Some m = sym h.back ∙ is in
     let P : List Edge → Type 0 = λ l. HasHeeded l written n in
@@ -46,6 +47,18 @@ narrates_nothing n m more is = λ edges written h.
       back = is ∙ sym (back_stays edges more m back);
       heeded = subst P (sym (front_stays edges more m back)) h.heeded;
     }
+
+pub narrates_stopped : (n : Narrator) (more : List Edge) → is_some n.back ≡ true → NarratesMore more n n
+narrates_stopped n more is = by n.back refl is
+  where
+    by : (v : Option ℕ) → n.back ≡ v → is_some v ≡ true → NarratesMore more n n
+    by None e k = absurd (cc)
+    by (Some m) e k = narrates_nothing n m more e
+
+-- nothing stands there
+pub not_some : {X : Type 0} (v : Option X) → is_some v ≡ false → v ≡ None
+not_some None h = refl
+not_some (Some x) h = absurd (cc)
 
 -- with no edge more
 pub narrates_none : (n : Narrator) → NarratesMore [] n n
@@ -115,7 +128,7 @@ narrated_cleared old new b d j t clears = λ edges written h.
     }
 
 -- the end of edges that stop
-pub ends_stopped : GivenAreSettled → (n : Narrator) (own : Option CliFault) (f : CliFault) (e : Ended) → stop_at n.back own ≡ Some f → e.stop ≡ Some f → e.lines ≡ n.account.lines → (edges : List Edge) (written : List ℕ)
+ends_stopped : GivenAreSettled → (n : Narrator) (own : Option CliFault) (f : CliFault) (e : Ended) → stop_at n.back own ≡ Some f → e.stop ≡ Some f → e.lines ≡ n.account.lines → (edges : List Edge) (written : List ℕ)
     → HasNarrated edges written n → EndsEdges edges written own e
 ends_stopped settled n own f e is stop lines = λ edges written h.
     let k = h.heeded in
@@ -126,6 +139,11 @@ ends_stopped settled n own f e is stop lines = λ edges written h.
           ∙ (k.accounted.lines
           ∙ (ap (λ rs. all_lines Nothing rs) (sym (settled (in_front (back_in edges) edges) k.given n.decoder k.read)) ∙ sym (ap (λ s. told_of s edges) stop)));
     }
+
+pub ends_told : GivenAreSettled → (n : Narrator) (own : Option CliFault) (v : Option CliFault) (e : Ended) → v ≡ stop_at n.back own → is_some v ≡ true → e.stop ≡ v → e.lines ≡ n.account.lines
+    → (edges : List Edge) (written : List ℕ) → HasNarrated edges written n → EndsEdges edges written own e
+ends_told settled n own None e is some stop lines = absurd (cc)
+ends_told settled n own (Some f) e is some stop lines = ends_stopped settled n own f e (sym is) stop lines
 
 -- nothing stops them
 no_back : (v : Option ℕ) (own : Option CliFault) → stop_at v own ≡ None → v ≡ None

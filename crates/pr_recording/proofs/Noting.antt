@@ -52,9 +52,13 @@ own_is P Q f n (inr o) = o
 
 -- an input that ends here
 pub noted_ends : (r : SourceReader) (t u : Teller) (sample : Option Edge) (e : Ended) → EndsInput r (Ok sample) → HearsMore (option_to_list sample) t u → EndsSamples u None e → EndsNoted r t e
-noted_ends r t u sample e ends hears done = λ input text written h.
-    (h.samples ++ option_to_list sample, None, ends input text h.samples h.given, tt,
-    done input (h.samples ++ option_to_list sample) written (hears input h.samples written h.heard))
+noted_ends r t u sample e ends hears done = λ input text written h. (
+  h.samples ++ option_to_list sample,
+  None,
+  ends input text h.samples h.given,
+  tt,
+  done input (h.samples ++ option_to_list sample) written (hears input h.samples written h.heard),
+)
 
 -- or has a fault at its end
 pub noted_faulty : (r : SourceReader) (t : Teller) (f g : CliFault) (e : Ended) → g ≡ f → (f ≡ NoMemory → ⊥) → EndsInput r (Err f) → EndsSamples t (Some g) e → EndsNoted r t e

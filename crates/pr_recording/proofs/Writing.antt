@@ -15,10 +15,10 @@ front_whole a b text h = (text, [], sym (append-nil text), h)
 -- a beginning behind what was written before
 pub front_behind : (a b d : Option (List ℕ)) (xs ys zs rest : List ℕ) → zs ≡ (xs ++ ys) ++ rest → Appends a b xs → AppendsFront b d ys → AppendsFront a d zs
 front_behind a b d xs ys zs rest is h k = (
-    xs ++ k.0,
-    k.1 ++ rest,
-    is ∙ (ap (λ t. (xs ++ t) ++ rest) k.2 ∙ (ap (λ t. t ++ rest) (sym (append_assoc xs k.0 k.1)) ∙ append_assoc (xs ++ k.0) k.1 rest)),
-    Appends-trans a b d xs k.0 h k.3,
+  xs ++ k.0,
+  k.1 ++ rest,
+  is ∙ (ap (λ t. (xs ++ t) ++ rest) k.2 ∙ (ap (λ t. t ++ rest) (sym (append_assoc xs k.0 k.1)) ∙ append_assoc (xs ++ k.0) k.1 rest)),
+  Appends-trans a b d xs k.0 h k.3,
 )
 
 -- all behind what was written before

@@ -71,13 +71,7 @@ fn within(
 {
     let mut input = Watched::new(text.as_bytes());
     let mut output = Watched::new(Vec::new(rt.alloc()));
-    let answer = decode_input(
-        rt.alloc(),
-        &mut input,
-        &mut output,
-        usual(source),
-        limit,
-    );
+    let answer = decode_input(rt.alloc(), &mut input, &mut output, usual(source), limit);
     let mut all = String::new(rt.alloc());
     for part in written {
         all.push_str(part)?;
