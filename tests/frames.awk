@@ -27,6 +27,6 @@ NR == FNR { next }
     wanted = words[read] (eois[read] != "?" ? eois[read] : "")
     if (read > told) differs("no frame", $0)
     if (found != wanted) differs(wanted " at " looks[read], $0)
-    if ($1 + 0 <= looks[read] + 0 || (ends[read] != "" && $2 + 0 >= ends[read] + 0)) differs(wanted " from " looks[read] " to " ends[read], $0)
+    if ($1 + 0 <= looks[read] + 0 || $2 + 0 <= $1 + 0 || (ends[read] != "" && $2 + 0 >= ends[read] + 0)) differs(wanted " from " looks[read] " to " ends[read], $0)
 }
 END { if (!failed && read < told) differs(words[read + 1] " at " looks[read + 1], "no frame") }
