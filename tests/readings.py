@@ -1,0 +1,256 @@
+#!/usr/bin/env python3
+"""tests/readings.py [--frames] [--sigrok RULE..] < TRACE: what a recording says, by the definitions and not by the program's code.
+
+It goes through whole stretches (crates/pr_decode/specs/Readings.antt) and writes the lines of `print1525 decode`
+(crates/pr_measure/specs) but for the last, the verdict. With --frames it writes of each whole byte when it was ready, CLOCK's last
+pull, and the byte. The times of the trace do not go back.
+
+With --sigrok the named rules are those of sigrok's decoder `ieee488`, all where none is named:
+  silence   CLOCK may be released in a bit for as long as it likes
+  call      ATN's pull may begin an opening, where CLOCK is released
+  answer    DATA's third turn is end-or-identify, though it is not released again before CLOCK's first pull"""
+
+import sys
+
+LONGEST_BIT = 1000
+SIGROK = ("silence", "call", "answer")
+
+# The intervals, with the profile's bounds.
+BOUNDS = {
+    "ready": (1, 10000),
+    "first pull": (1, 199),
+    "answer": (200, 250),
+    "answer length": (80, 250),
+    "pull after answer": (1, 60),
+    "shortest low half": (20, 200),
+    "longest low half": (20, 200),
+    "shortest high half": (20, 200),
+    "longest high half": (20, 200),
+    "acknowledgement": (1, 80),
+}
+CODES = {
+    8: "graphic mode", 10: "line feed", 13: "return", 14: "double width", 15: "standard width", 16: "column", 17: "lower case",
+    18: "reverse on", 26: "repeat", 27: "escape", 39: '"\'"', 145: "upper case", 146: "reverse off",
+}
+
+
+class Edge:
+    def __init__(self, line):
+        time, levels = line.split()
+        self.time = int(time)
+        self.atn, self.clock, self.data = (level == "1" for level in levels)
+
+
+class Stretch:
+    """Neighbouring edges in which CLOCK stays as it is and ATN is not pulled."""
+
+    def __init__(self, called, edge):
+        self.called = called
+        self.edges = [edge]
+        self.clock = edge.clock
+        self.time = edge.time
+
+    def turns(self):
+        """Where DATA turns: where CLOCK is released it is pulled first, where CLOCK is pulled it is released first."""
+        level, found = not self.clock, []
+        for edge in self.edges:
+            if edge.data == level:
+                found.append(edge)
+                level = not level
+        return found
+
+
+def stretches_of(edges):
+    found = []
+    for n, edge in enumerate(edges):
+        called = n > 0 and edges[n - 1].atn and not edge.atn
+        if found and found[-1].clock == edge.clock and not called:
+            found[-1].edges.append(edge)
+        else:
+            found.append(Stretch(called, edge))
+    return found
+
+
+def first_late(stretch, following):
+    """When an edge first comes too late for a bit since CLOCK was released."""
+    behind = stretch.edges[1:] + [it.edges[0] for it in following[:1]]
+    return next((edge.time for edge in behind if edge.time - stretch.time > LONGEST_BIT), None)
+
+
+class Reading:
+    def __init__(self, turns, rules):
+        self.look, self.ready = turns[0].time, turns[1].time
+        self.is_command = not turns[1].atn
+        self.pulse = (turns[2].time, turns[3].time) if len(turns) > 3 else None
+        self.is_eoi = len(turns) > (2 if "answer" in rules else 3)
+        self.bits, self.lows, self.highs = [], [], []
+        self.acknowledged = None
+        self.end = "cut"
+
+    def is_whole(self):
+        return len(self.bits) == 8
+
+    def byte(self):
+        return sum(bit << n for n, bit in enumerate(self.bits))
+
+    def lengths(self):
+        found = {"ready": self.ready - self.look}
+        if self.pulse is None:
+            found["first pull"] = self.pull - self.ready
+        else:
+            found["answer"] = self.pulse[0] - self.ready
+            found["answer length"] = self.pulse[1] - self.pulse[0]
+            found["pull after answer"] = self.pull - self.pulse[1]
+        for word, halves in (("low", self.lows), ("high", self.highs)):
+            if halves:
+                found[f"shortest {word} half"] = min(halves)
+                found[f"longest {word} half"] = max(halves)
+        if self.acknowledged is not None:
+            found["acknowledgement"] = self.acknowledged - self.last_pull
+        return found
+
+
+def reading_at(stretches, rules):
+    """What begins with the first of some stretches, and how many stretches its bits are."""
+    opening, behind = stretches[0], stretches[1:]
+    turns = opening.turns()
+    if opening.called and "call" not in rules or not opening.clock or len(turns) < 2:
+        return None
+    if not behind or any(stretch.called for stretch in behind[:2]):
+        return None
+    reading = Reading(turns, rules)
+    reading.pull = behind[0].time
+    at = 0
+    while len(reading.bits) < 8 and at + 2 < len(behind):
+        low, high, following = behind[at : at + 3]
+        is_late = "silence" not in rules and first_late(high, [following]) is not None
+        if high.called or following.called or is_late:
+            break
+        reading.bits.append(int(high.edges[0].data))
+        reading.lows.append(high.time - low.time)
+        reading.highs.append(following.time - high.time)
+        at += 2
+    last, rest = behind[at], behind[at + 1 :]
+    reading.last_pull = last.time
+    if reading.is_whole():
+        end_frame(reading, last, rest)
+    else:
+        end_glitch(reading, rest, rules)
+    return reading, at
+
+
+def end_frame(reading, last, rest):
+    turns = last.turns()
+    if len(turns) > 1:
+        reading.acknowledged = turns[1].time
+        reading.end = "acknowledged"
+    elif rest:
+        reading.given_up = rest[0].time
+        reading.end = "not acknowledged"
+
+
+def end_glitch(reading, rest, rules):
+    if not rest:
+        return
+    late = None if "silence" in rules else first_late(rest[0], rest[1:])
+    if rest[0].called:
+        reading.end, reading.ended = "ATN", rest[0].time
+    elif late is not None:
+        reading.end, reading.ended = "silence", late
+    elif len(rest) > 1:
+        reading.end, reading.ended = "ATN", rest[1].time
+
+
+def readings_of(edges, rules):
+    stretches = stretches_of(edges)
+    found, at = [], 0
+    while at < len(stretches):
+        begun = reading_at(stretches[at:], rules)
+        at += 1
+        if begun:
+            found.append(begun[0])
+            at += begun[1]
+    return found
+
+
+def command_words(byte):
+    if byte == 63:
+        return "UNLISTEN"
+    for word, first, last in (("LISTEN", 32, 62), ("SECOND", 96, 111), ("CLOSE", 224, 239)):
+        if first <= byte <= last:
+            return f"{word} {byte - first}"
+    return f"command {byte}"
+
+
+def data_words(byte):
+    if byte in CODES:
+        return CODES[byte]
+    return f"'{chr(byte)}'" if 32 <= byte <= 126 else f"byte {byte}"
+
+
+def line_of(before, reading):
+    """The lines of a reading, behind `command`, `data` or nothing, and what stands behind it then."""
+    if not reading.is_whole():
+        ends = {"ATN": "ended by ATN at", "silence": "CLOCK released too long at"}
+        end = "cut by the recording's end" if reading.end == "cut" else f"{ends[reading.end]} {reading.ended} us"
+        return f"glitch at {reading.look} us, bits {len(reading.bits)}, {end}", before
+    byte = reading.byte()
+    if reading.end != "acknowledged":
+        end = "cut by the recording's end"
+        if reading.end != "cut":
+            end = f"not acknowledged, given up at {reading.given_up} us"
+        return f"{'command' if reading.is_command else 'byte'} {byte} at {reading.look} us, {end}", before
+    says = command_words(byte) if reading.is_command else data_words(byte)
+    line = f"{reading.look:12} {reading.acknowledged:12}  ${byte:02X}  {says}{', end-or-identify' if reading.is_eoi else ''}"
+    if not reading.is_command:
+        return (line if before == "data" else f"data\n{line}"), "data"
+    if before == "command" and byte >= 96:
+        return line, ""
+    return f"attention\n{line}", "" if byte == 63 else "command"
+
+
+def tell(readings):
+    before = ""
+    for reading in readings:
+        line, before = line_of(before, reading)
+        print(line)
+        for name, length in reading.lengths().items():
+            least, greatest = BOUNDS[name]
+            if not least <= length <= greatest:
+                print(f"    {name} {length} us, the profile has {least} to {greatest}")
+    frames = [reading for reading in readings if reading.is_whole()]
+    print("frames:", len(frames))
+    print("commands:", sum(reading.is_command for reading in frames))
+    print("data bytes:", sum(not reading.is_command for reading in frames))
+    print("not acknowledged:", sum(reading.end == "not acknowledged" for reading in frames))
+    print("glitches:", len(readings) - len(frames))
+    print("cut by the recording's end:", sum(reading.end == "cut" for reading in readings))
+    for name, (least, greatest) in BOUNDS.items():
+        lengths = sorted(it.lengths()[name] for it in readings if name in it.lengths())
+        if not lengths:
+            print(f"{name}: none")
+            continue
+        middle = lengths[(len(lengths) - 1) // 2]
+        outside = sum(not least <= length <= greatest for length in lengths)
+        print(
+            f"{name}: {len(lengths)}, least {lengths[0]}, middle {middle if middle < 16384 else 'over 16383'}, "
+            f"greatest {lengths[-1]}, outside {least} to {greatest}: {outside}"
+        )
+
+
+def main():
+    words = sys.argv[1:]
+    rules = ()
+    if "--sigrok" in words:
+        rules = tuple(words[words.index("--sigrok") + 1 :]) or SIGROK
+    readings = readings_of([Edge(line) for line in sys.stdin], rules)
+    if words[:1] != ["--frames"]:
+        tell(readings)
+        return
+    for reading in readings:
+        if reading.is_whole():
+            kind = "command" if reading.is_command else "data"
+            print(reading.ready, reading.last_pull, kind, reading.byte(), *["eoi"] * reading.is_eoi)
+
+
+main()
