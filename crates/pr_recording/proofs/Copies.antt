@@ -1,5 +1,6 @@
 -- A copier, edge by edge.
-use Rattle.std.proofs.Common.{◌≡◌, ℕ, ◌+◌, List, [], ◌∷◌, ◌++◌, length, refl, ap, sym, subst, ◌∙◌, append-nil, length-append, Option, Some, None}
+use Rattle.std.proofs.Common.{◌≡◌, ℕ, ◌+◌, List, [], ◌∷◌, ◌++◌, length, refl, ap, sym, subst, ◌∙◌, append-nil, length-append, true, Option, Some, None}
+use Rattle.std.specs.Prelude.{is_some}
 use Rattle.std.specs.Option.{option_to_list}
 use Rattle.pr_wire.specs.declared.Edge.{Edge}
 use Rattle.pr_decode.specs.declared.decoder.Decoder.{Decoder}
@@ -46,6 +47,13 @@ copies_nothing c m more is = λ edges h.
       printed = subst P (sym (front_stays edges more m back)) h.printed;
     }
 
+pub copies_stopped : (c : Copier) (more : List Edge) → is_some c.back ≡ true → CopiesMore more c c
+copies_stopped c more is = by c.back refl is
+  where
+    by : (v : Option ℕ) → c.back ≡ v → is_some v ≡ true → CopiesMore more c c
+    by None e k = absurd (cc)
+    by (Some m) e k = copies_nothing c m more e
+
 -- with no edge more
 pub copies_none : (c : Copier) → CopiesMore [] c c
 copies_none c = λ edges h. let P : List Edge → Type 0 = λ l. HasCopied l c in subst P (sym (append-nil edges)) h
@@ -73,7 +81,7 @@ copies_back old new e was before back d p t = λ edges h.
 -- an edge is taken
 pub copies_one : (old new : Copier) (e : Edge) (r : Option Reading) → old.back ≡ None → (IsBefore e old.decoder → ⊥) → new.back ≡ old.back
     → ((edges : List Edge) (given : List Reading) → HasRead edges given old.decoder → HasRead (edges ++ e ∷ []) (given ++ option_to_list r) new.decoder) → last_time new.decoder ≡ Some e.time
-    → PrintsReading r old new → new.taken ≡ old.taken + 1 → CopiesMore (e ∷ []) old new
+    → PrintsReading r old.reprint new.reprint → new.taken ≡ old.taken + 1 → CopiesMore (e ∷ []) old new
 copies_one old new e r was later same reads last prints taken = λ edges h.
     let none : back_in edges ≡ None = sym h.back ∙ was in
     let k = of_front edges old none h.printed in
@@ -93,8 +101,8 @@ copies_one old new e r was later same reads last prints taken = λ edges h.
     }
 
 -- no reading is printed
-pub prints_none : (c : Copier) → PrintsReading None c c
-prints_none c = λ readings h. let P : List Reading → Type 0 = λ l. HasReprinted l c.reprint in subst P (sym (append-nil readings)) h
+pub prints_none : (b : BusPrinters) → PrintsReading None b b
+prints_none b = λ readings h. let P : List Reading → Type 0 = λ l. HasReprinted l b in subst P (sym (append-nil readings)) h
 
 -- papers of readings, and of the same ones
 same_papers : (rs ss : List Reading) (p : Reprinted) → rs ≡ ss → ArePapers rs p → ArePapers ss p
@@ -111,6 +119,11 @@ ends_stopped settled c own f p is stop papers = λ edges h.
           (sym (settled (in_front (back_in edges) edges) k.given c.decoder k.read) ∙ sym (ap (λ s. readings_up_to s edges) stop)) (papers k.given k.reprinted);
     }
 
+pub ends_told : GivenAreSettled → (c : Copier) (own : Option CliFault) (v : Option CliFault) (p : Printed) → v ≡ stop_at c.back own → is_some v ≡ true → p.stop ≡ v
+    → ((readings : List Reading) → HasReprinted readings c.reprint → ArePapers readings p.pages) → (edges : List Edge) → HasCopied edges c → EndsCopy edges own p
+ends_told settled c own None p is some stop papers = absurd (cc)
+ends_told settled c own (Some f) p is some stop papers = ends_stopped settled c own f p (sym is) stop papers
+
 -- nothing stops them
 no_back : (v : Option ℕ) (own : Option CliFault) → stop_at v own ≡ None → v ≡ None
 no_back None own h = refl
@@ -119,7 +132,7 @@ no_back (Some n) own h = absurd (cc)
 -- the end of whole edges
 pub ends_whole : (c : Copier) (own : Option CliFault) (cut : Option Reading) (last : BusPrinters) (p : Printed) → stop_at c.back own ≡ None → p.stop ≡ None
     → ((edges : List Edge) (given : List Reading) → HasRead edges given c.decoder → readings_of edges ≡ given ++ option_to_list cut)
-    → ((readings : List Reading) → HasReprinted readings c.reprint → HasReprinted (readings ++ option_to_list cut) last)
+    → PrintsReading cut c.reprint last
     → ((readings : List Reading) → HasReprinted readings last → ArePapers readings p.pages) → (edges : List Edge) → HasCopied edges c → EndsCopy edges own p
 ends_whole c own cut last p is stop reads prints papers = λ edges h.
     let none : back_in edges ≡ None = sym h.back ∙ no_back c.back own is in
@@ -129,10 +142,6 @@ ends_whole c own cut last p is stop reads prints papers = λ edges h.
       papers = same_papers (k.given ++ option_to_list cut) (readings_up_to p.stop edges) p.pages
           (sym (reads edges k.given k.read) ∙ sym (ap (λ s. readings_up_to s edges) stop)) (papers (k.given ++ option_to_list cut) (prints k.given k.reprinted));
     }
-
--- what is printed of no reading
-pub reprinted_none : (b : BusPrinters) (readings : List Reading) → HasReprinted readings b → HasReprinted (readings ++ []) b
-reprinted_none b readings h = let P : List Reading → Type 0 = λ l. HasReprinted l b in subst P (sym (append-nil readings)) h
 
 -- Samples.
 
@@ -145,6 +154,10 @@ pages_one old new s e makes copies = λ input samples h. record {
   made = makes input samples h.edges h.made;
   copied = copies h.edges h.copied;
 }
+
+-- a sample more, if there is one
+pub pages_some : (old new : PageMaker) (o : Option Edge) (s : Edge) (e : Option Edge) → o ≡ Some s → MakesMore s old.maker e new.maker → CopiesMore (option_to_list e) old.copier new.copier → PagesMore (option_to_list o) old new
+pages_some old new o s e is makes copies = rw is (pages_one old new s e makes copies)
 
 pub pages_none : (m : PageMaker) → PagesMore [] m m
 pages_none m = λ input samples h. let P : List Edge → Type 0 = λ l. HasPaged input l m in subst P (sym (append-nil samples)) h

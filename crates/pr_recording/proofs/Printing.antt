@@ -142,12 +142,12 @@ pub read_faulty : (limit : ℕ) (a b d : Option (List ℕ)) (input : TraceInput)
 read_faulty limit a b d input r s m n left block f p h k prints done =
     at_once a d (h.text ++ block) (λ text. PrintsWhole limit input text p) (Consumes-trans a b d h.text block h.taken k)
     (λ more.
-        let o = prints.1 input h.text h.printed more in
-        let e = done input o.0 o.2 in
-        record {
-          print = record { samples = o.0; own = Some f; says = o.1; is_own = prints.0; ends = e };
-          short = λ none. absurd (stopped (back_in (edges_made input.source input.start o.0)) f (sym e.stop ∙ none));
-        })
+    let o = prints.1 input h.text h.printed more in
+    let e = done input o.0 o.2 in
+    record {
+      print = record { samples = o.0; own = Some f; says = o.1; is_own = prints.0; ends = e };
+      short = λ none. absurd (stopped (back_in (edges_made input.source input.start o.0)) f (sym e.stop ∙ none));
+    })
   where
     stopped : (v : Option ℕ) (f : CliFault) → stop_at v (Some f) ≡ None → ⊥
     stopped None f h = cc

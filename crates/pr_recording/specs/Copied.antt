@@ -5,6 +5,7 @@ use Rattle.std.specs.Io.KnownBytes.{IsAtEnd}
 use Rattle.pr_wire.specs.declared.Edge.{Edge}
 use Rattle.pr_decode.specs.declared.reading.Reading.{Reading}
 use Rattle.pr_decode.specs.Taking.{HasRead, last_time}
+use Rattle.pr_reprint.specs.declared.reprint.BusPrinters.{BusPrinters}
 use Rattle.pr_reprint.specs.Reprinted.{ArePapers}
 use Rattle.pr_reprint.specs.Taking as reprint
 use Rattle.pr_options.specs.declared.format.TraceInput.{TraceInput}
@@ -40,8 +41,8 @@ abbrev pub CopiesMore : List Edge → (old new : Copier) → Type 0
 CopiesMore more old new = (edges : List Edge) → HasCopied edges old → HasCopied (edges ++ more) new
 
 -- a reading more is printed, if there is one
-abbrev pub PrintsReading : Option Reading → (old new : Copier) → Type 0
-PrintsReading r old new = (readings : List Reading) → reprint.HasReprinted readings old.reprint → reprint.HasReprinted (readings ++ option_to_list r) new.reprint
+abbrev pub PrintsReading : Option Reading → (old new : BusPrinters) → Type 0
+PrintsReading r old new = (readings : List Reading) → reprint.HasReprinted readings old → reprint.HasReprinted (readings ++ option_to_list r) new
 
 -- how many edges were taken, and how many inputs a printer has taken at most
 abbrev pub edges_copied : Copier → ℕ

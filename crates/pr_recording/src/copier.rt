@@ -3,6 +3,7 @@
 ghost use Rattle.std.specs.Prelude.{◌≡◌, ◌+◌, ◌^◌, ◌<◌, ◌≤◌, ◌∷◌, [], List, IfOk, OnOk};
 ghost use Rattle.std.specs.Option.{option_to_list};
 ghost use Rattle.pr_wire.specs.declared.Edge.{Edge};
+ghost use Rattle.pr_reprint.specs.Taking.{number_taken};
 ghost use Rattle.pr_recording.specs.Copied.{CopiesMore, EndsCopy, EndsPages, HasCopied, HasPaged, PagesMore, PrintsReading, edges_copied, edges_paged, inputs_paged, inputs_printed};
 
 use crate::narrator::stop_at;
@@ -18,6 +19,18 @@ use std::alloc::Global;
 pub struct Printed {
     pub pages: Reprinted,
     pub stop: Option<CliFault>,
+}
+
+/// Prints a reading, if there is one.
+fn print_if(reprint: &mut Reprint, reading: Option<Reading>) -> Result<(), NoMemory>
+    requires room { number_taken reprint.old < 2 ^ 32 }
+    ensures printed { OnOk result (PrintsReading reading reprint.old reprint.new) }
+    ensures inputs { number_taken reprint.new ≤ number_taken reprint.old + 1 }
+{
+    match reading {
+        Some(reading) => reprint.take(reading),
+        None => Ok(()),
+    }
 }
 
 /// Prints what the edges of a recording say, up to where time goes back.
@@ -46,21 +59,6 @@ impl Copier {
         }
     }
 
-    /// Prints a reading, if there is one.
-    fn print(&mut self, reading: Option<Reading>) -> Result<(), NoMemory>
-        requires room { inputs_printed self.old < 2 ^ 32 }
-        ensures printed { OnOk result (PrintsReading reading self.old self.new) }
-        ensures inputs { inputs_printed self.new ≤ inputs_printed self.old + 1 }
-        ensures decoder { self.new.decoder ≡ self.old.decoder }
-        ensures taken { self.new.taken ≡ self.old.taken }
-        ensures back { self.new.back ≡ self.old.back }
-    {
-        match reading {
-            Some(reading) => self.reprint.take(reading),
-            None => Ok(()),
-        }
-    }
-
     /// Takes the next edge. Behind one at which time goes back it takes none.
     pub fn take(&mut self, edge: Edge) -> Result<(), NoMemory>
         requires room { inputs_printed self.old < 2 ^ 32 }
@@ -75,7 +73,7 @@ impl Copier {
         match self.decoder.take(edge) {
             Ok(reading) => {
                 self.taken += 1;
-                self.print(reading)
+                print_if(&mut self.reprint, reading)
             }
             Err(GoesBack) => {
                 self.back = Some(self.taken);
@@ -100,7 +98,7 @@ impl Copier {
 
     /// Ends the edges of an input with this fault, if it has one. Where nothing stops them, what the end
     /// cuts is taken too.
-    pub fn finish(self, own: Option<CliFault>) -> Result<Printed, NoMemory>
+    pub fn finish(mut self, own: Option<CliFault>) -> Result<Printed, NoMemory>
         requires room { inputs_printed self < 2 ^ 32 }
         ensures { IfOk result (λ printed. (edges : List Edge) → HasCopied edges self → EndsCopy edges own printed) }
     {
@@ -110,15 +108,9 @@ impl Copier {
             let pages = self.reprint.finish();
             return Ok(Printed { pages, stop });
         }
-        let Copier {
-            decoder,
-            mut reprint,
-            ..
-        } = self;
-        if let Some(cut) = decoder.finish() {
-            reprint.take(cut)?;
-        }
-        let pages = reprint.finish();
+        let cut = self.decoder.finish();
+        print_if(&mut self.reprint, cut)?;
+        let pages = self.reprint.finish();
         Ok(Printed { pages, stop: None })
     }
 }
