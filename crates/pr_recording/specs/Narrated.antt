@@ -55,7 +55,8 @@ readings_told a = survey.number_taken a.survey
 
 -- with more readings
 abbrev pub AccountsMore : List Reading → (old new : Account) → Type 0
-AccountsMore more old new = (given : List Reading) (written : List ℕ) → HasAccounted given written old → HasAccounted (given ++ more) written new
+AccountsMore more old new = (given : List Reading) (written : List ℕ) → HasAccounted given written old
+    → HasAccounted (given ++ more) written new
 
 -- Narrators.
 
