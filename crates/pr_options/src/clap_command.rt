@@ -78,7 +78,8 @@ fn trace_command<'a>(
     told: Told,
     formats: Valued,
 ) -> Result<Command<'a>, AllocError>
-    ensures app { IfOk result (λ c. app_of c ≡ trace_app name.entry.now (record { name = formats.name.now; default = formats.default.now })) }
+    ensures app { IfOk result (λ c.
+        app_of c ≡ trace_app name.entry.now (record { name = formats.name.now; default = formats.default.now })) }
     ensures local { IfOk result IsLocal }
 {
     let command = new_command(alloc, name, told);

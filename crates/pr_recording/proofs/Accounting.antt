@@ -1,6 +1,5 @@
 -- Readings and their lines, as more of them come.
 use Rattle.std.proofs.Common.{◌≡◌, ℕ, List, [], ◌∷◌, ◌++◌, refl, ap, sym, subst, ◌∙◌, append-nil, append_assoc}
-use Rattle.pr_wire.specs.declared.WaveFault.{WaveFault}
 use Rattle.pr_decode.specs.declared.reading.Reading.{Reading}
 use Rattle.pr_measure.specs.declared.line.Behind.{Behind}
 use Rattle.pr_measure.specs.declared.line.Behind.TheVariants.{Nothing}

@@ -10,7 +10,7 @@ use Rattle.pr_capture.specs.declared.fault.CaptureFault.{CaptureFault}
 use Rattle.pr_capture.specs.declared.fault.CaptureFault.TheVariants as capture
 use Rattle.pr_options.specs.declared.format.TraceInput.{TraceInput}
 use Rattle.pr_cli.specs.PartlyWritten.{AppendsFront}
-use Rattle.pr_cli.specs.Report.{edges_made, Says, SaysSamples}
+use Rattle.pr_cli.specs.Report.{edges_made}
 use Rattle.pr_cli.specs.Reported.{HasGiven, IsOwnFault}
 use Rattle.pr_cli.specs.declared.fault.CliFault.{CliFault}
 use Rattle.pr_cli.specs.declared.fault.CliFault.TheVariants.{Script, Trace, Wave, Capture, TooLarge, NoMemory, ReadFailed, WriteFailed}

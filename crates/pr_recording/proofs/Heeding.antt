@@ -1,13 +1,12 @@
 -- A narrator, edge by edge.
-use Rattle.std.proofs.Common.{◌≡◌, ℕ, ◌+◌, ◌<◌, List, [], ◌∷◌, ◌++◌, length, refl, ap, sym, subst, ◌∙◌, arith, append-nil, append_assoc, length-append, Bool, true, false, Option, Some, None}
+use Rattle.std.proofs.Common.{◌≡◌, ℕ, ◌+◌, List, [], ◌∷◌, ◌++◌, refl, ap, sym, subst, ◌∙◌, append-nil, length-append, true, false, Option, Some, None}
 use Rattle.std.specs.Prelude.{is_some}
 use Rattle.std.specs.Option.{option_to_list}
 use Rattle.pr_wire.specs.declared.Edge.{Edge}
 use Rattle.pr_wire.specs.declared.WaveFault.{WaveFault}
 use Rattle.pr_wire.specs.Table.{fault_of}
-use Rattle.pr_decode.specs.declared.decoder.Decoder.{Decoder}
 use Rattle.pr_decode.specs.declared.reading.Reading.{Reading}
-use Rattle.pr_decode.specs.Readings.{readings_of, settled_of}
+use Rattle.pr_decode.specs.Readings.{readings_of}
 use Rattle.pr_decode.specs.Taking.{GivenAreSettled, HasRead, IsBefore, StandsBefore, last_time}
 use Rattle.pr_measure.specs.declared.line.Behind.TheVariants.{Nothing}
 use Rattle.pr_measure.specs.ReadingText.{all_lines}
@@ -15,12 +14,11 @@ use Rattle.pr_measure.specs.Summary.{summary}
 use Rattle.pr_measure.specs.Verdict.{verdict_text}
 use Rattle.pr_cli.specs.declared.fault.CliFault.{CliFault}
 use Rattle.pr_recording.specs.declared.account.Account.{Account}
-use Rattle.pr_recording.specs.declared.judge.Judge.{Judge}
 use Rattle.pr_recording.specs.declared.narrator.Ended.{Ended}
 use Rattle.pr_recording.specs.declared.narrator.Narrator.{Narrator}
 use Rattle.pr_recording.specs.Decoded.{back_in, in_front, stop_at, told_of}
 use Rattle.pr_recording.specs.Narrated.{AccountsMore, EndsEdges, HasAccounted, HasHeeded, HasJudged, HasNarrated, NarratesMore, time_of}
-use Rattle.pr_recording.proofs.Backs.{back_stays, front_back, front_on, front_stays, goes_back, goes_on, time_of_one}
+use Rattle.pr_recording.proofs.Backs.{back_stays, front_back, front_stays, goes_back, goes_on, time_of_one}
 
 -- no edge
 pub narrated_none : (n : Narrator) → n.back ≡ None → HasRead [] [] n.decoder → last_time n.decoder ≡ None → HasJudged [] n.judge → HasAccounted [] [] n.account → n.taken ≡ 0 → HasNarrated [] [] n

@@ -1,11 +1,11 @@
 -- An input that is told block by block.
-use Rattle.std.proofs.Common.{◌≡◌, ◌⊎◌, ℕ, List, [], ◌∷◌, ◌++◌, length, take, drop, refl, ap, sym, subst, ◌∙◌, arith, append-nil, append_assoc, length-append, take-append-drop, inl, inr, Option, Some, None, Result, Ok, Err}
-use Rattle.std.specs.Prelude.{IfOk, IfSome, OnOk}
+use Rattle.std.proofs.Common.{◌≡◌, ◌⊎◌, ℕ, List, [], ◌∷◌, ◌++◌, take, drop, refl, ap, sym, subst, ◌∙◌, append-nil, append_assoc, take-append-drop, inl, inr, Option, Some, None, Result, Ok, Err}
+use Rattle.std.specs.Prelude.{IfOk, OnOk}
 use Rattle.std.specs.Option.{option_to_list}
 use Rattle.pr_wire.specs.declared.Edge.{Edge}
 use Rattle.pr_options.specs.declared.format.TraceInput.{TraceInput}
-use Rattle.pr_cli.specs.Report.{edges_made, SaysSamples}
-use Rattle.pr_cli.specs.Reported.{EndsInput, GivesMore, HasGiven, HasMade, IsOwnFault, MakesAll, MakesMore, RefusesInput}
+use Rattle.pr_cli.specs.Report.{SaysSamples}
+use Rattle.pr_cli.specs.Reported.{EndsInput, GivesMore, HasGiven, HasMade, MakesAll, MakesMore, RefusesInput}
 use Rattle.pr_cli.specs.declared.fault.CliFault.{CliFault}
 use Rattle.pr_cli.specs.declared.fault.CliFault.TheVariants.{NoMemory}
 use Rattle.pr_cli.specs.declared.source_reader.SourceReader.{SourceReader}

@@ -47,7 +47,8 @@ told_of None edges = all_lines Nothing (readings_of edges) ++ (summary (readings
 told_of (Some fault) edges = all_lines Nothing (settled_of (in_front (back_in edges) edges))
 
 -- what is left in the writer with each answer, by how long the input may be and is, why it stops, and what is to be told of it
-abbrev pub Leaves : (limit len : ℕ) → (stop : Option CliFault) → (told : List ℕ) → Option (List ℕ) → Option (List ℕ) → Result (Unit {0}) CliFault → Type 0
+abbrev pub Leaves : (limit len : ℕ) → (stop : Option CliFault) → (told : List ℕ) → Option (List ℕ) → Option (List ℕ) → Result (Unit {0}) CliFault
+    → Type 0
 Leaves limit len stop told old new (Ok _) = (len ≤ limit) × (stop ≡ None) × Appends old new told
 Leaves limit len stop told old new (Err (Script fault)) = ⊥
 Leaves limit len stop told old new (Err (Trace fault)) = (stop ≡ Some (Trace fault)) × Appends old new told
@@ -59,7 +60,8 @@ Leaves limit len stop told old new (Err ReadFailed) = AppendsFront old new told
 Leaves limit len stop told old new (Err WriteFailed) = AppendsFront old new told
 
 -- the answer, by the text read and what the writer held before and after
-pub record AnswersDecode (limit : ℕ) (input : TraceInput) (text : List ℕ) (old new : Option (List ℕ)) (result : Result (Unit {0}) CliFault) : Type 0 where
+pub record AnswersDecode (limit : ℕ) (input : TraceInput) (text : List ℕ) (old new : Option (List ℕ))
+    (result : Result (Unit {0}) CliFault) : Type 0 where
   pub edges : List Edge
   pub own : Option CliFault
   pub says : Says input text edges own

@@ -1,7 +1,6 @@
 -- Linking words, for proofs: which edges were taken, and which lines were made and written of them. No reader needs to believe them.
-use Rattle.std.specs.Prelude.{◌≡◌, ℕ, ◌+◌, ◌≤◌, List, [], ◌∷◌, ◌++◌, length, Option, Some, None, Result, Ok, Err, IfSome}
-use Rattle.std.specs.Option.{option_to_list}
-use Rattle.std.specs.Io.KnownBytes.{Appends, Keeps}
+use Rattle.std.specs.Prelude.{◌≡◌, ℕ, ◌+◌, List, [], ◌∷◌, ◌++◌, length, Option, Some, None, Result, Ok, Err, IfSome}
+use Rattle.std.specs.Io.KnownBytes.{Appends}
 use Rattle.pr_wire.specs.declared.Edge.{Edge}
 use Rattle.pr_wire.specs.declared.WaveFault.{WaveFault}
 use Rattle.pr_wire.specs.declared.WaveFault.TheVariants as wave
@@ -13,9 +12,7 @@ use Rattle.pr_decode.specs.declared.reading.Reading.{Reading}
 use Rattle.pr_decode.specs.Taking.{HasRead, last_time}
 use Rattle.pr_measure.specs.declared.line.Behind.TheVariants.{Nothing}
 use Rattle.pr_measure.specs.ReadingText.{all_lines, behind_all}
-use Rattle.pr_measure.specs.Summary.{summary}
 use Rattle.pr_measure.specs.Taking as survey
-use Rattle.pr_measure.specs.Verdict.{verdict_text}
 use Rattle.pr_options.specs.declared.format.TraceInput.{TraceInput}
 use Rattle.pr_cli.specs.PartlyWritten.{AppendsFront}
 use Rattle.pr_cli.specs.Report.{edges_made, SaysSamples}
@@ -58,7 +55,8 @@ readings_told a = survey.number_taken a.survey
 
 -- with more readings
 abbrev pub AccountsMore : List Reading → (old new : Account) → Type 0
-AccountsMore more old new = (given : List Reading) (written : List ℕ) → HasAccounted given written old → HasAccounted (given ++ more) written new
+AccountsMore more old new = (given : List Reading) (written : List ℕ) → HasAccounted given written old
+    → HasAccounted (given ++ more) written new
 
 -- Narrators.
 

@@ -1,5 +1,8 @@
 //! Recordings in, what they say out. The lines are worked by hand.
 
+ghost use Rattle.std.specs.Prelude.{◌≤◌};
+ghost use Rattle.pr_cli.specs.Check.{trace_limit};
+
 use super::*;
 use pr_capture::{CaptureFault, Signals};
 use pr_cli::Source;

@@ -1,4 +1,4 @@
-use Rattle.std.proofs.Common.{◌≡◌, ◌≤◌, ◌<◌, ◌-◌, true, false, arith, rules, take, length, length-take, sym, ◌∙◌, Some, None, Err}
+use Rattle.std.proofs.Common.{◌≡◌, ◌≤◌, ◌-◌, false, arith, rules, take, length, length-take, Some, None, Err}
 use Rattle.std.specs.Io.KnownBytes.{IsAtEnd}
 use Rattle.pr_cli.specs.declared.fault.CliFault.TheVariants.{ReadFailed}
 use Rattle.pr_recording.specs.Narrated.{NotesBlock, lines_in}

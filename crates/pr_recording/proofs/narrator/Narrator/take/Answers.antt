@@ -1,4 +1,4 @@
-use Rattle.std.proofs.Common.{◌≡◌, ◌+◌, [], ◌∷◌, true, false, refl, rules, None, Some}
+use Rattle.std.proofs.Common.{◌≡◌, ◌+◌, [], ◌∷◌, true, false, refl, rules, Some}
 use Rattle.std.specs.Prelude.{is_some}
 use Rattle.pr_decode.specs.Taking.{IsBefore}
 use Rattle.pr_recording.specs.declared.narrator.Narrator.{Narrator}
