@@ -1,6 +1,6 @@
 -- An input that is printed block by block.
 use Rattle.std.proofs.Common.{◌≡◌, ◌⊎◌, ◌≤◌, ◌<◌, ℕ, ◌+◌, ◌-◌, List, [], ◌++◌, length, take, drop, refl, ap, sym, subst, ◌∙◌, arith, append-nil, append_assoc, length-append, take-append-drop, inl, inr, Option, Some, None, Result, Ok, Err}
-use Rattle.std.specs.Prelude.{IfOk, IfSome}
+use Rattle.std.specs.Prelude.{IfOk, IfSome, IsErrAnd}
 use Rattle.std.specs.Option.{option_to_list}
 use Rattle.std.specs.Io.KnownBytes.{Appends, Consumes, IsAtEnd, Keeps}
 use Rattle.std.proofs.KnownBytes.{Consumes-nil, Consumes-trans}
@@ -130,10 +130,9 @@ at_once (Some xs) None text P c p = absurd c
 at_once (Some xs) (Some ys) text P c p = subst P (sym c) (p ys)
 
 -- the input ends
-pub read_whole : (limit : ℕ) (a b : Option (List ℕ)) (input : TraceInput) (r : SourceReader) (m : PageMaker) (left : ℕ) {E : Type 0} (v : Result Printed E) → ReadSoFar limit a b input r m left → IsAtEnd b
-    → IfOk v (EndsText r m) → IfOk v (λ p. IfSome a (λ text. PrintsWhole limit input text p))
-read_whole limit a b input r m left (Err e) h end ends = tt
-read_whole limit a b input r m left (Ok p) h end ends =
+pub read_end : (limit : ℕ) (a b : Option (List ℕ)) (input : TraceInput) (r : SourceReader) (m : PageMaker) (left : ℕ) (p : Printed) → ReadSoFar limit a b input r m left → IsAtEnd b → EndsText r m p
+    → IfSome a (λ text. PrintsWhole limit input text p)
+read_end limit a b input r m left p h end ends =
     at_end a b h.text (λ text. PrintsWhole limit input text p) h.taken end (record { print = ends input h.text h.printed; short = λ _. omega (arith, h.room) })
 
 -- or has a fault in a block
@@ -178,6 +177,26 @@ stop_is input text p h = by (back_in (edges_made input.source input.start h.samp
     by None None s e o = rw e tt
     by None (Some f) s e o = rw e (own_stop f o)
     by (Some n) own s e o = rw e tt
+
+-- where it ends, and where it has a fault
+pub end_stop : (limit : ℕ) (a b : Option (List ℕ)) (input : TraceInput) (r : SourceReader) (m : PageMaker) (left : ℕ) (p : Printed) → ReadSoFar limit a b input r m left → EndsText r m p → IfSome p.stop IsPrintStop
+end_stop limit a b input r m left p h ends = stop_is input h.text p (ends input h.text h.printed)
+
+pub fault_stop : (limit : ℕ) (a b : Option (List ℕ)) (input : TraceInput) (r s : SourceReader) (m n : PageMaker) (left : ℕ) (block : List ℕ) (f : CliFault) (p : Printed) → ReadSoFar limit a b input r m left
+    → PrintsBlock block r m (Some f) s n → EndsPages n (Some f) p → IfSome p.stop IsPrintStop × (p.stop ≡ None → ⊥)
+fault_stop limit a b input r s m n left block f p h prints done =
+    let o = prints.1 input h.text h.printed [] in
+    let e = done input o.0 o.2 in
+    let print : IsPrintOf input ((h.text ++ block) ++ []) p = record { samples = o.0; own = Some f; says = o.1; is_own = prints.0; ends = e } in
+    (stop_is input ((h.text ++ block) ++ []) p print, λ none. stopped (back_in (edges_made input.source input.start o.0)) f (sym e.stop ∙ none))
+  where
+    stopped : (v : Option ℕ) (f : CliFault) → stop_at v (Some f) ≡ None → ⊥
+    stopped None f h = cc
+    stopped (Some n) f h = cc
+
+-- the same text, partly written
+pub front_as : (old new : Option (List ℕ)) (t u : List ℕ) → t ≡ u → AppendsFront old new t → AppendsFront old new u
+front_as old new t u e h = subst (λ (l : List ℕ). AppendsFront old new l) e h
 
 -- what is written of the pages, and what is answered
 pub answered : (input : TraceInput) (format : Format) (text : List ℕ) (p : Printed) (old new : Option (List ℕ)) (v : Result (Unit {0}) CliFault) → PrintsWhole print_limit input text p
@@ -229,3 +248,26 @@ unanswered some input format text old new f none large keeps =
     by (Wave fault) n l = absurd n
     by (Capture fault) n l = absurd n
     by WriteFailed n l = absurd n
+
+-- the same, where it is known what the reader gives
+pub all_answered : (a old new : Option (List ℕ)) (input : TraceInput) (format : Format) (p : Printed) (v : Result (Unit {0}) CliFault) → IfSome a (λ text. PrintsWhole print_limit input text p)
+    → IfSome p.stop IsPrintStop → WritesPrint format p old new v → IfSome a (λ text. AnswersPages input format text old new v)
+all_answered None old new input format p v h stop writes = tt
+all_answered (Some text) old new input format p v h stop writes = answered input format text p old new v h stop writes
+
+pub none_answered : EachTextSaysSamples → (a old : Option (List ℕ)) (input : TraceInput) (format : Format) (f : CliFault) (v : Result (Unit {0}) CliFault) → IsErrAnd v (λ x. x ≡ f) → IsNoPrint f
+    → Keeps old old → IfSome a (λ text. GivesPrint print_limit input (Err f) text) → IfSome a (λ text. AnswersPages input format text old old v)
+none_answered some None old input format f v is none keeps h = tt
+none_answered some (Some text) old input format f (Ok u) is none keeps h = absurd is
+none_answered some (Some text) old input format f (Err x) is none keeps h =
+    rw is (unanswered some input format text old old f none (large f h) keeps)
+  where
+    large : (f : CliFault) → GivesPrint print_limit input (Err f) text → f ≡ TooLarge → print_limit < length text
+    large TooLarge h e = h
+    large NoMemory h e = absurd (cc)
+    large ReadFailed h e = absurd (cc)
+    large WriteFailed h e = absurd (cc)
+    large (Script fault) h e = absurd (cc)
+    large (Trace fault) h e = absurd (cc)
+    large (Wave fault) h e = absurd (cc)
+    large (Capture fault) h e = absurd (cc)

@@ -61,6 +61,7 @@ pub fn reprint_over<R: Read, W: Write>(
     ensures read_failed { IsErrOf result CliFault.ReadFailed ↔ (has_failed input.new ≡ true) }
     ensures write_failed { IsErrOf result CliFault.WriteFailed ↔ (has_failed output.new ≡ true) }
 {
+    texts_say_samples();
     let printed = print_input(alloc, input, trace, PRINT_LIMIT)?;
     write_pages(alloc, output, printed, format)
 }

@@ -1,7 +1,15 @@
 use Rattle.std.proofs.Common.{arith, length-drop}
 use Rattle.std.proofs.lemmas.List.{take_rest}
-use Rattle.pr_recording.proofs.Printing.{front_faulty, front_more}
+use Rattle.pr_recording.proofs.Printing.{front_faulty, front_more, front_none}
 use Rattle.pr_recording.proofs.pages.print_block.Goals as goal
+
+pub loop-rest-init : goal.loop-rest-init
+loop-rest-init c = record {
+  printed = front_none c.args.block.now c.args.reader.now c.args.maker.now;
+  lines = omega arith;
+  edges = omega arith;
+  inputs = omega arith;
+}
 
 pub loop-rest-preserved : goal.loop-rest-preserved
 loop-rest-preserved c =
