@@ -191,6 +191,25 @@ function hear(device, count,   i, part, listening) {
 }
 
 function compare(wanted, found) { if (wanted != found) { print case_name ": the answer is " wanted ", here " found; bad = 1 } }
+# A line of what a recording says: how its byte ends, or which interval lies outside its bounds, and how.
+function decoded(text,   n, part, name) {
+    if (text ~ /^ +[0-9]+ +[0-9]+  [$]/) ended["acknowledged"]++
+    if (text ~ /^byte .*, not acknowledged/) ended["a byte not acknowledged"]++
+    if (text ~ /^command .*, not acknowledged/) ended["a command not acknowledged"]++
+    if (text ~ /^(byte|command) .*, cut by/) ended["whole and cut"]++
+    if (text ~ /^glitch .*, ended by ATN/) ended["a glitch by ATN"]++
+    if (text ~ /^glitch .*, CLOCK released/) ended["a glitch by CLOCK"]++
+    if (text ~ /^glitch .*, cut by/) ended["a glitch cut"]++
+    if (text ~ /^glitch .*, bits 0/) ended["a glitch without bits"]++
+    if (text ~ /, middle over/) ended["a middle that is not told"]++
+    if (text !~ /^    .*, the profile has/) return
+    name = text
+    sub(/^    /, "", name)
+    sub(/ [0-9]+ us, .*/, "", name)
+    sub(/^    [^0-9]*/, "", text)
+    n = split(text, part, " ")
+    beyond[name, part[1] + 0 < part[n - 2] + 0 ? "below" : "above"]++
+}
 function settle(   i, wanted, rest) {
     if (words == "") return
     answers++
@@ -215,6 +234,10 @@ function settle(   i, wanted, rest) {
         reset_printer()
         for (i = 0; i < bytes; i++) take(input_byte[i])
         if (parameters) unfinished_by[unfinished()]++
+    }
+    if (words ~ /^decode/) {
+        for (i = 0; i < outputs; i++) decoded(output[i])
+        format[words ~ /vcd/ ? "vcd" : words ~ /csv/ ? "csv" : "text", mistake == "" ? "read" : "refused"]++
     }
     for (i = 0; i < outputs; i++) {
         if (output[i] ~ / cell /) { rest = output[i]; sub(/^ *[0-9]+ cell [0-9]+ ?/, "", rest); style[rest == "" ? "plain" : rest]++ }
@@ -355,5 +378,21 @@ END {
     print ""
     line_of("Faults", "unknown word|bad number|bad device|bad secondary address|bad byte|too long|bad trace line|" \
         "bad start|bad order|bad shape|too early|too late|truncated", told)
+    print ""
+    two("recording", "read", "refused")
+    n = split("text vcd csv", list, " ")
+    for (i = 1; i <= n; i++)
+        two(list[i], number(format[list[i], "read"], 1, "recording " list[i]), \
+            number(format[list[i], "refused"], 1, "refused recording " list[i]))
+    print ""
+    two("interval of a recording", "below", "above")
+    n = split("ready|first pull|answer|answer length|pull after answer|shortest low half|longest low half|" \
+        "shortest high half|longest high half|acknowledgement", list, "[|]")
+    for (i = 1; i <= n; i++)
+        two(list[i], number(beyond[list[i], "below"], 1, list[i] " below its bounds"), \
+            number(beyond[list[i], "above"], 1, list[i] " above its bounds"))
+    print ""
+    line_of("Bytes of recordings", "acknowledged|a byte not acknowledged|a command not acknowledged|whole and cut|" \
+        "a glitch by ATN|a glitch by CLOCK|a glitch cut|a glitch without bits|a middle that is not told", ended)
     exit bad
 }
