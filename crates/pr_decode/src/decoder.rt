@@ -30,26 +30,27 @@ pub struct Decoder {
 }
 
 /// What an edge ends of a byte that has its eight bits, while CLOCK is pulled.
-fn frame_ended(transfer: Transfer, stretch: Stretch, edge: Edge) -> Option<Reading>
-    ensures { result ≡ frame_ended transfer stretch edge }
+fn frame_ended(transfer: &Transfer, stretch: &Stretch, edge: Edge) -> Option<Reading>
+    ensures { result ≡ frame_ended transfer.now stretch.now edge }
 {
     if !stretch.goes_on(edge) {
-        return Some(Reading::Frame(transfer, FrameEnd::Unacknowledged(edge.time)));
+        return Some(Reading::Frame(*transfer, FrameEnd::Unacknowledged(edge.time)));
     }
-    let time = stretch.with(edge).acknowledgement()?;
-    Some(Reading::Frame(transfer, FrameEnd::Acknowledged(time)))
+    let time = stretch.acknowledgement_with(edge)?;
+    Some(Reading::Frame(*transfer, FrameEnd::Acknowledged(time)))
 }
 
 /// What an edge ends of a byte that has begun, behind a stretch with CLOCK pulled. Where ATN is pulled
 /// before the first bit, that is nothing.
-fn low_ended(transfer: Transfer, stretch: Stretch, edge: Edge) -> Option<Reading>
-    ensures { result ≡ low_ended transfer stretch edge }
+#[inline(always)]
+fn low_ended(transfer: &Transfer, stretch: &Stretch, edge: Edge) -> Option<Reading>
+    ensures { result ≡ low_ended transfer.now stretch.now edge }
 {
     match transfer.bits {
         0 => None,
         8 => frame_ended(transfer, stretch, edge),
         _ if calls(stretch.last, edge) => Some(Reading::Glitch(
-            transfer,
+            *transfer,
             GlitchEnd::Attention(edge.time),
         )),
         _ => None,
@@ -57,23 +58,27 @@ fn low_ended(transfer: Transfer, stretch: Stretch, edge: Edge) -> Option<Reading
 }
 
 /// What an edge ends of a byte that has begun, behind a stretch with CLOCK released.
-fn high_ended(transfer: Transfer, stretch: Stretch, edge: Edge) -> Option<Reading>
-    ensures { result ≡ high_ended transfer stretch edge }
+#[inline(always)]
+fn high_ended(transfer: &Transfer, stretch: &Stretch, edge: Edge) -> Option<Reading>
+    ensures { result ≡ high_ended transfer.now stretch.now edge }
 {
     if is_late(stretch.first.time, edge) {
-        Some(Reading::Glitch(transfer, GlitchEnd::Silence(edge.time)))
+        Some(Reading::Glitch(*transfer, GlitchEnd::Silence(edge.time)))
     } else if calls(stretch.last, edge) {
-        Some(Reading::Glitch(transfer, GlitchEnd::Attention(edge.time)))
+        Some(Reading::Glitch(*transfer, GlitchEnd::Attention(edge.time)))
     } else {
         None
     }
 }
 
 /// What an edge ends behind a stretch.
-fn ended(transfer: Option<Transfer>, stretch: Stretch, edge: Edge) -> Option<Reading>
-    ensures { result ≡ ended_by transfer stretch edge }
+#[inline(always)]
+fn ended(transfer: &Option<Transfer>, stretch: &Stretch, edge: Edge) -> Option<Reading>
+    ensures { result ≡ ended_by transfer.now stretch.now edge }
 {
-    let transfer = transfer?;
+    let Some(transfer) = transfer else {
+        return None;
+    };
     if stretch.first.levels.clock {
         high_ended(transfer, stretch, edge)
     } else {
@@ -81,23 +86,53 @@ fn ended(transfer: Option<Transfer>, stretch: Stretch, edge: Edge) -> Option<Rea
     }
 }
 
-/// The byte that has begun, once an edge has ended a stretch: none behind ATN's pull.
-fn moved(transfer: Option<Transfer>, stretch: Stretch, edge: Edge) -> Option<Transfer>
-    ensures { result ≡ moved transfer stretch edge }
+/// An edge has ended a stretch: the byte that has begun goes on, or one begins. Behind ATN's pull there is
+/// none.
+#[inline(always)]
+fn advance(transfer: &mut Option<Transfer>, stretch: &Stretch, edge: Edge)
+    ensures { transfer.new ≡ moved transfer.old stretch.now edge }
 {
     if calls(stretch.last, edge) {
-        return None;
+        *transfer = None;
+        return;
     }
-    match transfer {
-        Some(transfer) if stretch.first.levels.clock => {
-            Some(transfer.with_bit(stretch.first, edge))
+    if let Some(transfer) = transfer {
+        if stretch.first.levels.clock {
+            transfer.push_bit(stretch.first, edge);
         }
-        Some(transfer) => Some(transfer),
-        None => {
-            let opening = stretch.opening()?;
-            Some(Transfer::begun(opening, edge))
-        }
+        return;
     }
+    if let Some(opening) = stretch.opening() {
+        *transfer = Some(Transfer::begun(opening, edge));
+    }
+}
+
+/// Goes on behind a stretch.
+#[inline(always)]
+fn go_on(transfer: &mut Option<Transfer>, stretch: &mut Stretch, edge: Edge)
+    ensures { record { stretch = Some stretch.new; transfer = transfer.new } ≡ after transfer.old stretch.old edge }
+{
+    if stretch.goes_on(edge) {
+        stretch.push(edge);
+    } else {
+        let called = calls(stretch.last, edge);
+        advance(transfer, stretch, edge);
+        *stretch = Stretch::begun(called, edge);
+    }
+}
+
+/// Takes the next edge, and gives what it ends.
+#[inline(always)]
+fn step(transfer: &mut Option<Transfer>, stretch: &mut Stretch, edge: Edge) -> Option<Reading>
+    ensures reading { result ≡ ended_by transfer.old stretch.old edge }
+    ensures new { record { stretch = Some stretch.new; transfer = transfer.new } ≡ after_edge transfer.old stretch.old edge }
+{
+    let reading = ended(transfer, stretch, edge);
+    if reading.is_some() {
+        *transfer = None;
+    }
+    go_on(transfer, stretch, edge);
+    reading
 }
 
 impl Decoder {
@@ -110,31 +145,6 @@ impl Decoder {
             stretch: None,
             transfer: None,
         }
-    }
-
-    /// Goes on behind a stretch.
-    fn go_on(&mut self, stretch: Stretch, edge: Edge)
-        ensures { self.new ≡ after self.old.transfer stretch edge }
-    {
-        if stretch.goes_on(edge) {
-            self.stretch = Some(stretch.with(edge));
-        } else {
-            self.transfer = moved(self.transfer, stretch, edge);
-            self.stretch = Some(Stretch::begun(calls(stretch.last, edge), edge));
-        }
-    }
-
-    /// Takes the next edge, and gives what it ends.
-    fn step(&mut self, stretch: Stretch, edge: Edge) -> Option<Reading>
-        ensures reading { result ≡ ended_by self.old.transfer stretch edge }
-        ensures new { self.new ≡ after_edge self.old.transfer stretch edge }
-    {
-        let reading = ended(self.transfer, stretch, edge);
-        if reading.is_some() {
-            self.transfer = None;
-        }
-        self.go_on(stretch, edge);
-        reading
     }
 
     /// Takes the next edge of a recording, and gives the reading that it settles, if it settles one:
@@ -151,14 +161,14 @@ impl Decoder {
         ensures back { IsErr result ↔ IsBefore edge self.old }
         ensures stays { OnErr result (self.new ≡ self.old) }
     {
-        let Some(stretch) = self.stretch else {
+        let Some(stretch) = &mut self.stretch else {
             self.stretch = Some(Stretch::begun(false, edge));
             return Ok(None);
         };
         if edge.time < stretch.last.time {
             return Err(GoesBack);
         }
-        Ok(self.step(stretch, edge))
+        Ok(step(&mut self.transfer, stretch, edge))
     }
 
     /// Ends the recording, and gives the reading that it cuts, if there is one: a frame that was not

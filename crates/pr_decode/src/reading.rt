@@ -101,20 +101,16 @@ fn weight(bits: u8) -> u8
 }
 
 impl Halves {
-    /// With one half more, behind those of so many bits.
-    fn with(self, bits: u8, half: u64) -> Halves
-        ensures { result ≡ widened bits self half }
+    /// One half more comes, behind those of so many bits.
+    fn push(&mut self, bits: u8, half: u64)
+        ensures { self.new ≡ widened bits self.old half }
     {
         if bits == 0 {
-            Halves {
-                shortest: half,
-                longest: half,
-            }
+            self.shortest = half;
+            self.longest = half;
         } else {
-            Halves {
-                shortest: self.shortest.min(half),
-                longest: self.longest.max(half),
-            }
+            self.shortest = self.shortest.min(half);
+            self.longest = self.longest.max(half);
         }
     }
 }
@@ -139,21 +135,18 @@ impl Transfer {
         }
     }
 
-    /// With one bit more, by the edges that release CLOCK and pull it again.
-    pub(crate) fn with_bit(self, up: Edge, down: Edge) -> Transfer
-        ensures { result ≡ with_bit self up down }
+    /// One bit more comes, by the edges that release CLOCK and pull it again.
+    pub(crate) fn push_bit(&mut self, up: Edge, down: Edge)
+        ensures { self.new ≡ with_bit self.old up down }
     {
+        let bits = self.bits;
         let low = up.time.saturating_sub(self.last_pull);
         let high = down.time.saturating_sub(up.time);
-        let bit = if up.levels.line { weight(self.bits) } else { 0 };
-        Transfer {
-            opening: self.opening,
-            pull: self.pull,
-            bits: self.bits.saturating_add(1),
-            byte: self.byte.saturating_add(bit),
-            low: self.low.with(self.bits, low),
-            high: self.high.with(self.bits, high),
-            last_pull: down.time,
-        }
+        let bit = if up.levels.line { weight(bits) } else { 0 };
+        self.low.push(bits, low);
+        self.high.push(bits, high);
+        self.bits = bits.saturating_add(1);
+        self.byte = self.byte.saturating_add(bit);
+        self.last_pull = down.time;
     }
 }

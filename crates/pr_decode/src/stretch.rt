@@ -1,6 +1,6 @@
 //! A stretch of edges in which CLOCK stays as it is and ATN is not pulled, as far as it came.
 
-ghost use Rattle.std.specs.Prelude.{◌≡◌};
+ghost use Rattle.std.specs.Prelude.{◌≡◌, not};
 ghost use Rattle.pr_decode.specs.Readings.{is_late};
 ghost use Rattle.pr_decode.specs.Stretches.{calls, goes_on};
 ghost use Rattle.pr_decode.specs.Steps.{acknowledged_in, began, opening_in, turned, with_edge};
@@ -22,17 +22,18 @@ pub(crate) enum Turns {
 }
 
 impl Turns {
-    /// With the next edge, where DATA's first turn is to this level.
-    fn with(self, level: bool, edge: Edge) -> Turns
-        ensures { result ≡ turned level self edge }
+    /// The next edge comes, where DATA's first turn is to this level.
+    #[inline(always)]
+    fn push(&mut self, level: bool, edge: Edge)
+        ensures { self.new ≡ turned level self.old edge }
     {
         let is_level = edge.levels.line == level;
-        match self {
-            Turns::Still if is_level => Turns::Once(edge),
-            Turns::Once(a) if !is_level => Turns::Twice(a, edge),
-            Turns::Twice(a, b) if is_level => Turns::Thrice(a, b, edge),
-            Turns::Thrice(a, b, c) if !is_level => Turns::Often(a, b, c, edge),
-            turns => turns,
+        match *self {
+            Turns::Still if is_level => *self = Turns::Once(edge),
+            Turns::Once(a) if !is_level => *self = Turns::Twice(a, edge),
+            Turns::Twice(a, b) if is_level => *self = Turns::Thrice(a, b, edge),
+            Turns::Thrice(a, b, c) if !is_level => *self = Turns::Often(a, b, c, edge),
+            _ => {}
         }
     }
 }
@@ -66,36 +67,36 @@ impl Stretch {
     pub(crate) fn begun(called: bool, edge: Edge) -> Stretch
         ensures { result ≡ began called edge }
     {
+        let mut turns = Turns::Still;
+        turns.push(!edge.levels.clock, edge);
         Stretch {
             called,
             first: edge,
             last: edge,
-            turns: Turns::Still.with(!edge.levels.clock, edge),
+            turns,
         }
     }
 
-    /// With one edge more.
-    pub(crate) fn with(self, edge: Edge) -> Stretch
-        ensures { result ≡ with_edge self edge }
+    /// One edge more comes.
+    #[inline(always)]
+    pub(crate) fn push(&mut self, edge: Edge)
+        ensures { self.new ≡ with_edge self.old edge }
     {
-        Stretch {
-            called: self.called,
-            first: self.first,
-            last: edge,
-            turns: self.turns.with(!self.first.levels.clock, edge),
-        }
+        self.turns.push(!self.first.levels.clock, edge);
+        self.last = edge;
     }
 
     /// Whether an edge goes on with the stretch.
-    pub(crate) fn goes_on(self, edge: Edge) -> bool
-        ensures { result ≡ goes_on self.first self.last edge }
+    #[inline(always)]
+    pub(crate) fn goes_on(&self, edge: Edge) -> bool
+        ensures { result ≡ goes_on self.now.first self.now.last edge }
     {
         edge.levels.clock == self.first.levels.clock && !calls(self.last, edge)
     }
 
     /// The moments of an opening, where the stretch is one.
-    pub(crate) fn opening(self) -> Option<Opening>
-        ensures { result ≡ opening_in self }
+    pub(crate) fn opening(&self) -> Option<Opening>
+        ensures { result ≡ opening_in self.now }
     {
         if self.called || !self.first.levels.clock {
             return None;
@@ -120,11 +121,13 @@ impl Stretch {
         })
     }
 
-    /// The moment of the acknowledgement, where there is one in the stretch.
-    pub(crate) fn acknowledgement(self) -> Option<u64>
-        ensures { result ≡ acknowledged_in self.turns }
+    /// The moment of the acknowledgement, where there is one in the stretch with one edge more.
+    pub(crate) fn acknowledgement_with(&self, edge: Edge) -> Option<u64>
+        ensures { result ≡ acknowledged_in (turned (not self.now.first.levels.clock) self.now.turns edge) }
     {
-        match self.turns {
+        let mut turns = self.turns;
+        turns.push(!self.first.levels.clock, edge);
+        match turns {
             Turns::Still | Turns::Once(_) => None,
             Turns::Twice(_, b) | Turns::Thrice(_, b, _) | Turns::Often(_, b, _, _) => Some(b.time),
         }
