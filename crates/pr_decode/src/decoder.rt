@@ -23,10 +23,15 @@ pub struct GoesBack;
 /// It keeps the stretch in which CLOCK stays as it is, and the byte that has begun, not the edges. Its
 /// contracts say "these edges were taken and these readings given"; every call answers by all lists of
 /// which that can be said.
+///
+/// Its fields are public so that what it keeps may be kept elsewhere between two edges, in plain numbers
+/// for a program in C.
 #[derive(Drop)]
 pub struct Decoder {
-    stretch: Option<Stretch>,
-    transfer: Option<Transfer>,
+    /// The stretch that is not ended yet, once an edge has come.
+    pub stretch: Option<Stretch>,
+    /// The byte that has begun, as far as it came.
+    pub transfer: Option<Transfer>,
 }
 
 /// What an edge ends of a byte that has its eight bits, while CLOCK is pulled.

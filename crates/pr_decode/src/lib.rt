@@ -13,3 +13,4 @@ mod stretch;
 pub use decoder::{Decoder, GoesBack};
 pub use laws::{moments_decide, readings_add_up, traces_are_read};
 pub use reading::{FrameEnd, GlitchEnd, Halves, Opening, Pulse, Reading, Transfer};
+pub use stretch::{Stretch, Turns};

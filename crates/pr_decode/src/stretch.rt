@@ -11,9 +11,10 @@ use pr_wire::Edge;
 /// For how many microseconds CLOCK may be released in a bit (profile).
 const LONGEST_BIT: u64 = 1000;
 
-/// The edges at which DATA has turned in a stretch, the first four at most.
-#[derive(Clone, Copy)]
-pub(crate) enum Turns {
+/// The edges at which DATA has turned in a stretch, the first four at most. Where CLOCK is released the first
+/// of them pulls DATA, where CLOCK is pulled it releases DATA.
+#[derive(Clone, Copy, Debug, PartialEq, Eq)]
+pub enum Turns {
     Still,
     Once(Edge),
     Twice(Edge, Edge),
@@ -38,12 +39,14 @@ impl Turns {
     }
 }
 
-/// A stretch as far as it came.
-#[derive(Clone, Copy)]
-pub(crate) struct Stretch {
+/// A stretch as far as it came: edges over which CLOCK stays as it is.
+#[derive(Clone, Copy, Debug, PartialEq, Eq)]
+pub struct Stretch {
     /// Whether its first edge pulls ATN.
     pub called: bool,
+    /// Its first edge.
     pub first: Edge,
+    /// The edge taken last.
     pub last: Edge,
     pub turns: Turns,
 }

@@ -29,7 +29,7 @@ readings_up_to (Some fault) edges = settled_of (in_front (back_in edges) edges)
 abbrev pub papers_alone : Reprinted → Outcome
 papers_alone r = record { paper4 = r.paper4; paper5 = r.paper5; statuses = []; stop = None; screen = []; trace = [] }
 
--- the text of the pages that readings make: those of the printers that hear anything
+-- the text of the pages that readings make: those of the printers that hear a byte
 pub record IsPagesOf (format : Format) (readings : List Reading) (text : List ℕ) : Type 0 where
   pub reprinted : Reprinted
   pub are_papers : ArePapers readings reprinted

@@ -32,7 +32,7 @@ use std::io::{Read, Write};
 ///   its first fault. No further block is read.
 /// - [`CliFault::Wave`] with [`pr_wire::WaveFault::Order`]: a trace text in which time goes back, with the
 ///   index of the first edge that stands before the one in front of it, unless a bad line stands before it.
-///   The rest of the text is read.
+///   The rest of the text is read, to its end or to its first bad line.
 /// - [`CliFault::TooLarge`]: only if the input has more than [`CHECK_LIMIT`] bytes.
 /// - [`CliFault::ReadFailed`] exactly if the input has failed, [`CliFault::WriteFailed`] exactly if the
 ///   output has.

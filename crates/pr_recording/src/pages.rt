@@ -27,7 +27,7 @@ pub const PRINT_LIMIT: usize = 4_000_000_000;
 
 /// Reads any recording of the bus, in any format, and writes the pages that printers 4 and 5 print of it,
 /// in this format: of the bytes that were acknowledged, those that each of them hears. The sheets are
-/// those of the printers that hear anything; there are no statuses, no bytes on the screen and no stop.
+/// those of the printers that hear a byte; there are no statuses, no bytes on the screen and no stop.
 ///
 /// The recording may begin anywhere and have any levels. It is read block by block and not kept, and the
 /// whole text is made before the first write.

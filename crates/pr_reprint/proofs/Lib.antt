@@ -1,3 +1,4 @@
 pub mod Adding
+pub mod Printing
 pub mod Taken
 pub mod Traces

@@ -1,7 +1,8 @@
 -- Trusted: what printers 4 and 5 print of what a recording of the bus says: the pages of what they hear of its acknowledged bytes.
-use Rattle.std.specs.Prelude.{◌≡◌, ℕ, nat_lt, Bool, List, length, Option, Some, None}
-use Rattle.std.specs.List.{filter_map}
+use Rattle.std.specs.Prelude.{◌≡◌, ℕ, Bool, true, false, List, Option, Some, None}
+use Rattle.std.specs.List.{filter_map, list_any}
 use Rattle.pr_page.specs.declared.input.Input.{Input}
+use Rattle.pr_page.specs.declared.input.Input.TheVariants.{Select, Byte}
 use Rattle.pr_page.specs.Page.{IsPage}
 use Rattle.pr_wire.specs.declared.Frame.{Frame}
 use Rattle.pr_receiver.specs.Heard.{heard_of}
@@ -27,12 +28,16 @@ acknowledged_frames readings = filter_map acknowledged_frame readings
 abbrev pub heard_in : ℕ → List Reading → List Input
 heard_in device readings = heard_of device (acknowledged_frames readings)
 
--- it hears anything at all
-abbrev pub hears_any : ℕ → List Reading → Bool
-hears_any device readings = nat_lt 0 (length (heard_in device readings))
+-- it hears a byte; a call alone is none, since a printer that is not there is called too
+abbrev pub is_byte : Input → Bool
+is_byte (Byte byte) = true
+is_byte (Select lower) = false
 
--- these are the papers of both printers, and those of them are there that hear anything
+abbrev pub hears_bytes : ℕ → List Reading → Bool
+hears_bytes device readings = list_any is_byte (heard_in device readings)
+
+-- these are the papers of both printers, and those of them are there that hear a byte
 pub record ArePapers (readings : List Reading) (reprinted : Reprinted) : Type 0 where
   pub paper4 : IsPage (heard_in 4 readings) reprinted.paper4
   pub paper5 : IsPage (heard_in 5 readings) reprinted.paper5
-  pub present : reprinted.present ≡ record { four = hears_any 4 readings; five = hears_any 5 readings }
+  pub present : reprinted.present ≡ record { four = hears_bytes 4 readings; five = hears_bytes 5 readings }

@@ -1,6 +1,7 @@
 -- Linking words: which readings were given to both printers. The clauses of `Reprint` say all that a caller needs of them. No reader
 -- needs to believe them.
 use Rattle.std.specs.Prelude.{◌≡◌, ℕ, max, Bool, false, List}
+use Rattle.std.specs.List.{list_any}
 use Rattle.pr_page.specs.Taken as page
 use Rattle.pr_wire.specs.declared.Frame.{Frame}
 use Rattle.pr_receiver.specs.Heard.{heard_of}
@@ -8,7 +9,7 @@ use Rattle.pr_receiver.specs.Kept.{kept_of}
 use Rattle.pr_decode.specs.declared.reading.Reading.{Reading}
 use Rattle.pr_reprint.specs.declared.bus_printer.BusPrinter.{BusPrinter}
 use Rattle.pr_reprint.specs.declared.reprint.BusPrinters.{BusPrinters}
-use Rattle.pr_reprint.specs.Reprinted.{acknowledged_frames}
+use Rattle.pr_reprint.specs.Reprinted.{acknowledged_frames, is_byte}
 
 -- a printer's listening part has heard some frames
 abbrev pub HasListened : ℕ → BusPrinter → Type 0
@@ -18,6 +19,7 @@ HasListened device p = (frames : List Frame) × (p.listener ≡ kept_of device f
 pub record HasPrinted (device : ℕ) (frames : List Frame) (p : BusPrinter) : Type 0 where
   pub kept : p.listener ≡ kept_of device frames
   pub taken : page.HasTaken (heard_of device frames) p.printer
+  pub bytes : p.got_byte ≡ list_any is_byte (heard_of device frames)
 
 -- how many inputs it has printed
 abbrev pub number_printed : BusPrinter → ℕ

@@ -1,10 +1,11 @@
 //! One printer: its listening part, and the paper on which it prints what that hears.
 
-ghost use Rattle.std.specs.Prelude.{◌≡◌, ◌+◌, ◌^◌, ◌<◌, ◌≤◌, ◌++◌, ◌∷◌, [], List, OnOk};
+ghost use Rattle.std.specs.Prelude.{◌≡◌, ◌+◌, ◌^◌, ◌<◌, ◌≤◌, ◌++◌, ◌∷◌, ◌||◌, [], List, OnOk};
 ghost use Rattle.pr_wire.specs.declared.Frame.{Frame};
+ghost use Rattle.pr_reprint.specs.Reprinted.{is_byte};
 ghost use Rattle.pr_reprint.specs.Taking.{HasListened, HasPrinted, number_printed};
 
-use pr_page::{NoMemory, Printer};
+use pr_page::{Input, NoMemory, Printer};
 use pr_receiver::{Listener, frames_are_heard_in_turn};
 use pr_wire::Frame;
 use std::alloc::Global;
@@ -14,6 +15,18 @@ use std::alloc::Global;
 pub struct BusPrinter {
     pub listener: Listener,
     pub printer: Printer,
+    /// It has heard a byte, not calls alone.
+    pub got_byte: bool,
+}
+
+/// Whether a byte has come, with one input more.
+fn with_input(before: bool, input: Input) -> bool
+    ensures { result ≡ (before || is_byte input) }
+{
+    match input {
+        Input::Byte(_) => true,
+        Input::Select(_) => before,
+    }
 }
 
 impl BusPrinter {
@@ -25,6 +38,7 @@ impl BusPrinter {
         BusPrinter {
             listener: Listener::new(device),
             printer: Printer::new(alloc),
+            got_byte: false,
         }
     }
 
@@ -44,7 +58,10 @@ impl BusPrinter {
     {
         frames_are_heard_in_turn();
         match self.listener.hear(frame) {
-            Some(input) => self.printer.take(input),
+            Some(input) => {
+                self.got_byte = with_input(self.got_byte, input);
+                self.printer.take(input)
+            }
             None => Ok(()),
         }
     }

@@ -23,7 +23,8 @@ pub struct Reprinted {
     pub paper4: Paper,
     /// The paper of printer 5.
     pub paper5: Paper,
-    /// Which of them heard anything: a LISTEN, which selects a character set, or a byte.
+    /// Which of them heard a byte. A call alone counts for nothing, since a printer that is not there is
+    /// called too.
     pub present: Present,
 }
 
@@ -129,14 +130,14 @@ impl Reprint {
         four.max(five)
     }
 
-    /// The papers: the pages of what the printers hear of all readings taken, and which of them heard
-    /// anything. It takes no memory.
+    /// The papers: the pages of what the printers hear of all readings taken, and which of them heard a
+    /// byte. It takes no memory.
     pub fn finish(self) -> Reprinted
         ensures { (readings : List Reading) → HasReprinted readings self → ArePapers readings result }
     {
         let present = Present {
-            four: self.printers.four.printer.taken() > 0,
-            five: self.printers.five.printer.taken() > 0,
+            four: self.printers.four.got_byte,
+            five: self.printers.five.got_byte,
         };
         Reprinted {
             paper4: self.printers.four.printer.into_paper(),

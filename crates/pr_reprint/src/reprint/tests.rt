@@ -89,7 +89,7 @@ fn has_row(rt: &impl Abort, paper: &Paper, codes: &[u8]) {
     assert_eq!(rt; paper.held.len(), 0);
 }
 
-/// Which printers heard anything.
+/// Which printers heard a byte.
 fn heard(rt: &impl Abort, print: &Reprinted, four: bool, five: bool) {
     assert_eq!(rt; print.present, Present { four, five });
 }
@@ -162,12 +162,14 @@ fn both_printers(rt: HostRuntime) {
     heard(&rt, &print, true, true);
 }
 
-/// A printer that was called and sent nothing is there; one that nobody called is not.
+/// A printer that was called and sent nothing may not be there; one that nobody called hears nothing.
 #[test]
 fn printers_that_print_nothing(rt: HostRuntime) {
     let print = reprinted(&rt, &[command(LISTEN + 4), command(UNLISTEN)]);
     holds(&rt, &print.paper4, b"", false);
-    heard(&rt, &print, true, false);
+    heard(&rt, &print, false, false);
+    let print = reprinted(&rt, &[command(LISTEN + 4), command(LISTEN + 5), sent(13)]);
+    heard(&rt, &print, true, true);
     let print = reprinted(&rt, &[sent(b'H'), command(LISTEN + 6), sent(b'I')]);
     heard(&rt, &print, false, false);
 }
