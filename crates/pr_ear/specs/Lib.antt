@@ -1,2 +1,4 @@
 pub mod Hearing
 pub mod Buffers
+pub mod Decoding
+pub mod DecoderNumbers

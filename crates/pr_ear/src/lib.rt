@@ -12,6 +12,14 @@ ghost use Rattle.pr_ear.specs.Hearing.{Tells, answer_of, edge_of, fault_code, fa
 ghost use Rattle.pr_ear.specs.declared.Told.{Told};
 ghost use Rattle.pr_ear.specs.declared.Told.TheVariants.{Unlawful};
 
+mod decoder_numbers;
+mod decoding;
+
+pub use decoder_numbers::{WireByte, WireDecoder, WireReading};
+pub use decoding::{
+    DecoderTold, begin_decoder, decode_edge, end_decoder, print1525_decode_begin,
+    print1525_decode_edge, print1525_decode_end,
+};
 use pr_page::Input;
 use pr_receiver::{Receiver, inputs_add_up, traces_give_what_is_heard};
 use pr_wire::{Edge, Levels, WaveFault, allowed_traces, lawful_traces};

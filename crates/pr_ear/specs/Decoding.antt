@@ -1,0 +1,122 @@
+-- Trusted: what a decoder tells of the edges of a recording that it was given, one by one, and the numbers in which it tells it.
+use Rattle.std.specs.Prelude.{◌≡◌, ℕ, ◌<◌, List, [], ◌∷◌, ◌++◌, map, Option, Some, None}
+use Rattle.std.specs.Option.{option_to_list}
+use Rattle.pr_decode.specs.declared.reading.FrameEnd.TheVariants as frame
+use Rattle.pr_decode.specs.declared.reading.GlitchEnd.TheVariants as glitch
+use Rattle.pr_decode.specs.declared.reading.Pulse.{Pulse}
+use Rattle.pr_decode.specs.declared.reading.Reading.{Reading}
+use Rattle.pr_decode.specs.declared.reading.Reading.TheVariants.{Frame, Glitch}
+use Rattle.pr_decode.specs.declared.reading.Transfer.{Transfer}
+use Rattle.pr_decode.specs.Readings.{readings_of, settled_of}
+use Rattle.pr_ear.specs.declared.Answer.{Answer}
+use Rattle.pr_ear.specs.declared.WireEdge.{WireEdge}
+use Rattle.pr_ear.specs.declared.decoder_numbers.WireByte.{WireByte}
+use Rattle.pr_ear.specs.declared.decoder_numbers.WireReading.{WireReading}
+use Rattle.pr_ear.specs.declared.decoding.DecoderTold.{DecoderTold}
+use Rattle.pr_ear.specs.declared.decoding.DecoderTold.TheVariants.{Done, GoesBack, NoDecoder}
+use Rattle.pr_ear.specs.Hearing.{bit_of, edge_of}
+
+-- the moment of the last of some edges
+abbrev pub last_moment : List WireEdge → Option ℕ
+last_moment [] = None
+last_moment (e ∷ []) = Some e.time
+last_moment (e ∷ f ∷ es) = last_moment (f ∷ es)
+
+-- a moment stands before another, if there is one
+abbrev pub StandsBefore : ℕ → Option ℕ → Type 0
+StandsBefore time None = ⊥
+StandsBefore time (Some last) = time < last
+
+-- what all edges say, and what they say whatever may follow
+abbrev pub said_by : List WireEdge → List Reading
+said_by edges = readings_of (map edge_of edges)
+
+abbrev pub settled_by : List WireEdge → List Reading
+settled_by edges = settled_of (map edge_of edges)
+
+-- what is told of one edge more is right: the reading that it settles; or that it stands before the last
+abbrev pub TellsNext : List WireEdge → WireEdge → DecoderTold → Type 0
+TellsNext edges edge (Done reading) =
+    (settled_by (edges ++ edge ∷ []) ≡ settled_by edges ++ option_to_list reading) × (StandsBefore edge.time (last_moment edges) → ⊥)
+TellsNext edges edge GoesBack = StandsBefore edge.time (last_moment edges)
+TellsNext edges edge NoDecoder = ⊥
+
+-- what is told of an end behind these edges is right, where these readings were told: they are all that is settled, and the end cuts
+-- one more, or none
+abbrev pub TellsCut : List WireEdge → (given : List Reading) → DecoderTold → Type 0
+TellsCut edges given (Done reading) = (settled_by edges ≡ given) × (said_by edges ≡ given ++ option_to_list reading)
+TellsCut edges given GoesBack = ⊥
+TellsCut edges given NoDecoder = ⊥
+
+-- the pulse of end-or-identify, as numbers
+abbrev pub eoi_number : Option Pulse → ℕ
+eoi_number None = 0
+eoi_number (Some p) = 1
+
+abbrev pub answered : Option Pulse → ℕ
+answered None = 0
+answered (Some p) = p.pulled
+
+abbrev pub answer_ended : Option Pulse → ℕ
+answer_ended None = 0
+answer_ended (Some p) = p.released
+
+-- a byte as far as it came, as numbers
+abbrev pub byte_numbers : Transfer → WireByte
+byte_numbers t = record {
+  look = t.opening.look;
+  ready = t.opening.ready;
+  answered = answered t.opening.pulse;
+  answer_ended = answer_ended t.opening.pulse;
+  pull = t.pull;
+  shortest_low = t.low.shortest;
+  longest_low = t.low.longest;
+  shortest_high = t.high.shortest;
+  longest_high = t.high.longest;
+  last_pull = t.last_pull;
+  command = bit_of t.opening.command;
+  eoi = eoi_number t.opening.pulse;
+  bits = t.bits;
+  byte = t.byte;
+}
+
+-- the numbers of no byte
+abbrev pub no_byte : WireByte
+no_byte = record {
+  look = 0;
+  ready = 0;
+  answered = 0;
+  answer_ended = 0;
+  pull = 0;
+  shortest_low = 0;
+  longest_low = 0;
+  shortest_high = 0;
+  longest_high = 0;
+  last_pull = 0;
+  command = 0;
+  eoi = 0;
+  bits = 0;
+  byte = 0;
+}
+
+-- a reading, if there is one, as numbers
+abbrev pub reading_numbers : Option Reading → WireReading
+reading_numbers None = record { byte = no_byte; end = 0; kind = 0 }
+reading_numbers (Some (Frame t (frame.Acknowledged time))) = record { byte = byte_numbers t; end = time; kind = 1 }
+reading_numbers (Some (Frame t (frame.Unacknowledged time))) = record { byte = byte_numbers t; end = time; kind = 2 }
+reading_numbers (Some (Frame t frame.Cut)) = record { byte = byte_numbers t; end = 0; kind = 3 }
+reading_numbers (Some (Glitch t (glitch.Attention time))) = record { byte = byte_numbers t; end = time; kind = 4 }
+reading_numbers (Some (Glitch t (glitch.Silence time))) = record { byte = byte_numbers t; end = time; kind = 5 }
+reading_numbers (Some (Glitch t glitch.Cut)) = record { byte = byte_numbers t; end = 0; kind = 6 }
+
+-- what is told, as numbers: the reading, and the answer
+abbrev pub reading_of : DecoderTold → WireReading
+reading_of (Done reading) = reading_numbers reading
+reading_of GoesBack = reading_numbers None
+reading_of NoDecoder = reading_numbers None
+
+abbrev pub decoder_answer_of : DecoderTold → Answer
+decoder_answer_of (Done None) = record { code = 0; fault = 0; place = 0; length = 0 }
+decoder_answer_of (Done (Some reading)) = record { code = 0; fault = 0; place = 0; length = 1 }
+decoder_answer_of GoesBack = record { code = 2; fault = 12; place = 0; length = 0 }
+decoder_answer_of NoDecoder = record { code = 2; fault = 27; place = 0; length = 0 }

@@ -1,0 +1,137 @@
+//! A decoder of recordings that sits on the wire: what a recording says edge by edge, between calls in the
+//! caller's memory.
+
+ghost use Rattle.std.specs.Prelude.{◌≡◌, ◌++◌, ◌∷◌, [], ℕ, List, Option, None};
+ghost use Rattle.pr_decode.specs.declared.reading.Reading.{Reading};
+ghost use Rattle.pr_ear.specs.declared.WireEdge.{WireEdge};
+ghost use Rattle.pr_ear.specs.declared.decoding.DecoderTold.{DecoderTold};
+ghost use Rattle.pr_ear.specs.declared.decoding.DecoderTold.TheVariants.{Done, GoesBack, NoDecoder};
+ghost use Rattle.pr_ear.specs.Decoding.{TellsCut, TellsNext, decoder_answer_of, reading_of};
+ghost use Rattle.pr_ear.specs.DecoderNumbers.{HasDecoded, IsDecoder, LeavesOf};
+
+use crate::decoder_numbers::{WireDecoder, WireReading, numbers_of_reading, restore, store};
+use crate::{Answer, WireEdge, edge_for};
+use pr_decode::{Decoder, GoesBack, Reading};
+
+/// What a decoder tells.
+#[derive(Clone, Copy, Debug, PartialEq, Eq)]
+pub enum DecoderTold {
+    /// The call did what it is for. With an edge, or an end: the reading that it settles, if it settles one.
+    Done(Option<Reading>),
+    /// The edge stands before the one taken last.
+    GoesBack,
+    /// The numbers are not those of a decoder.
+    NoDecoder,
+}
+
+/// Begins a decoder, which has taken no edge.
+pub fn begin_decoder(decoder: &mut WireDecoder)
+    ensures { HasDecoded [] [] decoder.new }
+{
+    *decoder = store(&Decoder::new());
+}
+
+/// Gives a decoder the next edge of a recording, and tells the reading that it settles. An edge that
+/// stands before the one taken last is refused, and the decoder is then as it was; likewise where its
+/// numbers are not those of one.
+pub fn decode_edge(decoder: &mut WireDecoder, edge: WireEdge) -> DecoderTold
+    ensures tells { (edges : List WireEdge) (given : List Reading) → HasDecoded edges given decoder.old → TellsNext edges edge result }
+    ensures takes { (edges : List WireEdge) (given : List Reading) → HasDecoded edges given decoder.old →
+        LeavesOf edges given edge result decoder.old decoder.new }
+    ensures no_decoder { (IsDecoder decoder.old → ⊥) → (result ≡ NoDecoder) × (decoder.new ≡ decoder.old) }
+{
+    let Some(mut restored) = restore(decoder) else {
+        return DecoderTold::NoDecoder;
+    };
+    match restored.take(edge_for(edge)) {
+        Ok(reading) => {
+            *decoder = store(&restored);
+            DecoderTold::Done(reading)
+        }
+        Err(GoesBack) => DecoderTold::GoesBack,
+    }
+}
+
+/// Tells the reading that the end of a recording cuts, if it cuts one. The decoder may be given more
+/// edges.
+pub fn end_decoder(decoder: &WireDecoder) -> DecoderTold
+    ensures tells { (edges : List WireEdge) (given : List Reading) → HasDecoded edges given decoder.now → TellsCut edges given result }
+    ensures no_decoder { (IsDecoder decoder.now → ⊥) → result ≡ NoDecoder }
+{
+    match restore(decoder) {
+        Some(restored) => DecoderTold::Done(restored.finish()),
+        None => DecoderTold::NoDecoder,
+    }
+}
+
+/// What a decoder tells, as numbers.
+fn answer(told: DecoderTold) -> Answer
+    ensures { result ≡ decoder_answer_of told }
+{
+    let (code, fault, length) = match told {
+        DecoderTold::Done(None) => (0, 0, 0),
+        DecoderTold::Done(Some(_)) => (0, 0, 1),
+        DecoderTold::GoesBack => (2, 12, 0),
+        DecoderTold::NoDecoder => (2, 27, 0),
+    };
+    Answer {
+        code,
+        fault,
+        place: 0,
+        length,
+    }
+}
+
+/// The reading that is told, as numbers.
+fn reading(told: DecoderTold) -> WireReading
+    ensures { result ≡ reading_of told }
+{
+    match told {
+        DecoderTold::Done(reading) => numbers_of_reading(reading),
+        DecoderTold::GoesBack | DecoderTold::NoDecoder => numbers_of_reading(None),
+    }
+}
+
+/// Begins a decoder, which has taken no edge.
+#[unsafe(no_mangle)]
+pub extern "C" fn print1525_decode_begin(decoder: &mut WireDecoder)
+    ensures { HasDecoded [] [] decoder.new }
+{
+    begin_decoder(decoder);
+}
+
+/// Gives a decoder the next edge of a recording.
+#[unsafe(no_mangle)]
+pub extern "C" fn print1525_decode_edge(
+    decoder: &mut WireDecoder,
+    edge: &WireEdge,
+    out: &mut WireReading,
+    told: &mut Answer,
+)
+    ensures tells { (edges : List WireEdge) (given : List Reading) → HasDecoded edges given decoder.old →
+        (said : DecoderTold) × TellsNext edges edge.now said × LeavesOf edges given edge.now said decoder.old decoder.new
+        × (out.new ≡ reading_of said) × (told.new ≡ decoder_answer_of said) }
+    ensures no_decoder { (IsDecoder decoder.old → ⊥) →
+        (decoder.new ≡ decoder.old) × (out.new ≡ reading_of NoDecoder) × (told.new ≡ decoder_answer_of NoDecoder) }
+{
+    let said = decode_edge(decoder, *edge);
+    *out = reading(said);
+    *told = answer(said);
+}
+
+/// Tells the reading that the end of a recording cuts.
+#[unsafe(no_mangle)]
+pub extern "C" fn print1525_decode_end(
+    decoder: &WireDecoder,
+    out: &mut WireReading,
+    told: &mut Answer,
+)
+    ensures tells { (edges : List WireEdge) (given : List Reading) → HasDecoded edges given decoder.now →
+        (said : DecoderTold) × TellsCut edges given said × (out.new ≡ reading_of said) × (told.new ≡ decoder_answer_of said) }
+    ensures no_decoder { (IsDecoder decoder.now → ⊥) →
+        (out.new ≡ reading_of NoDecoder) × (told.new ≡ decoder_answer_of NoDecoder) }
+{
+    let said = end_decoder(decoder);
+    *out = reading(said);
+    *told = answer(said);
+}
