@@ -16,7 +16,8 @@ use Rattle.pr_ear.specs.declared.decoder_numbers.WireDecoder.{WireDecoder}
 use Rattle.pr_ear.specs.declared.decoding.DecoderTold.{DecoderTold}
 use Rattle.pr_ear.specs.declared.decoding.DecoderTold.TheVariants.{Done, GoesBack, NoDecoder}
 use Rattle.pr_ear.specs.Decoding.{byte_numbers, last_moment, no_byte}
-use Rattle.pr_ear.specs.Hearing.{bit_of, edge_of, wire_of}
+use Rattle.pr_ear.specs.Hearing.{bit_of, edge_of}
+use Rattle.pr_ear.specs.Numbers.{wire_of}
 
 -- the numbers of no edge
 abbrev pub no_edge : WireEdge

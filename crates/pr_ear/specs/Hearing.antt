@@ -27,10 +27,6 @@ abbrev pub bit_of : Bool → ℕ
 bit_of true = 1
 bit_of false = 0
 
--- an edge in a caller's numbers
-abbrev pub wire_of : Edge → WireEdge
-wire_of e = record { time = e.time; atn = bit_of e.levels.atn; clock = bit_of e.levels.clock; «data» = bit_of e.levels.line }
-
 -- an input as a number: a byte, 256 the graphic/upper case set, 257 the lower/upper case set
 abbrev pub number_of : Input → ℕ
 number_of (Select false) = 256

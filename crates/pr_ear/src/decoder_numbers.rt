@@ -3,13 +3,12 @@
 ghost use Rattle.std.specs.Prelude.{◌≡◌, None, IfSome};
 ghost use Rattle.pr_ear.specs.Decoding.{byte_numbers, reading_numbers};
 ghost use Rattle.pr_ear.specs.DecoderNumbers.{IsDecoder, byte_from, byte_in, begun_in, called_in, decoder_by, first_in, last_in, no_edge, pulse_from, sent_in, stored, stretch_by, transfer_by, turn1, turn2, turn3, turn4, turns_by, turns_in, turns_number};
-ghost use Rattle.pr_ear.specs.Hearing.{bit_of, wire_of};
 
+use crate::numbers::{NO_EDGE, bit, wire_for};
 use crate::{WireEdge, edge_for};
 use pr_decode::{
     Decoder, FrameEnd, GlitchEnd, Halves, Opening, Pulse, Reading, Stretch, Transfer, Turns,
 };
-use pr_wire::Edge;
 
 /// A byte on the wires as far as it came, with its moments in microseconds. What it has not is 0.
 #[repr(C)]
@@ -86,33 +85,6 @@ pub struct WireDecoder {
     /// 1: a byte has begun.
     pub sent: u8,
 }
-
-/// A truth value as a number.
-fn bit(value: bool) -> u8
-    ensures { result ≡ bit_of value }
-{
-    if value { 1 } else { 0 }
-}
-
-/// An edge in a caller's numbers.
-fn wire_for(edge: Edge) -> WireEdge
-    ensures { result ≡ wire_of edge }
-{
-    WireEdge {
-        time: edge.time,
-        atn: bit(edge.levels.atn),
-        clock: bit(edge.levels.clock),
-        data: bit(edge.levels.line),
-    }
-}
-
-/// The numbers of no edge.
-const NO_EDGE: WireEdge = WireEdge {
-    time: 0,
-    atn: 0,
-    clock: 0,
-    data: 0,
-};
 
 /// The numbers of no byte.
 const NO_BYTE: WireByte = WireByte {

@@ -11,7 +11,7 @@ ghost use Rattle.pr_ear.specs.DecoderNumbers.{HasDecoded, IsDecoder, LeavesOf};
 
 use crate::decoder_numbers::{WireDecoder, WireReading, numbers_of_reading, restore, store};
 use crate::{Answer, WireEdge, edge_for};
-use pr_decode::{Decoder, GoesBack, Reading};
+use pr_decode::{Decoder, GoesBack, Reading, readings_add_up};
 
 /// What a decoder tells.
 #[derive(Clone, Copy, Debug, PartialEq, Eq)]
@@ -40,6 +40,7 @@ pub fn decode_edge(decoder: &mut WireDecoder, edge: WireEdge) -> DecoderTold
         LeavesOf edges given edge result decoder.old decoder.new }
     ensures no_decoder { (IsDecoder decoder.old → ⊥) → (result ≡ NoDecoder) × (decoder.new ≡ decoder.old) }
 {
+    readings_add_up();
     let Some(mut restored) = restore(decoder) else {
         return DecoderTold::NoDecoder;
     };
