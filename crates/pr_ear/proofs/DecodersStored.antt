@@ -1,20 +1,18 @@
 -- A decoder comes back from its numbers.
-use Rattle.std.proofs.Common.{◌≡◌, ℕ, ◌+◌, Bool, true, false, eqb, cond, List, [], ◌∷◌, ◌++◌, Option, Some, None, refl, sym, ap, ◌∙◌}
-use Rattle.std.proofs.lemmas.Bool.{eq-eqb, eqb-true}
-use Rattle.std.specs.Prelude.{◌&&◌, ◌==◌, if◌then◌else◌}
-use Rattle.pr_wire.specs.declared.Edge.{Edge}
+use Rattle.std.proofs.Common.{◌≡◌, Bool, true, false, eqb, Option, Some, None, refl, sym, ap, ◌∙◌}
+use Rattle.std.proofs.lemmas.Bool.{eqb-true}
+use Rattle.std.specs.Prelude.{◌&&◌, ◌==◌}
 use Rattle.pr_decode.specs.declared.decoder.Decoder.{Decoder}
 use Rattle.pr_decode.specs.declared.reading.Pulse.{Pulse}
 use Rattle.pr_decode.specs.declared.reading.Transfer.{Transfer}
 use Rattle.pr_decode.specs.declared.stretch.Stretch.{Stretch}
 use Rattle.pr_decode.specs.declared.stretch.Turns.{Turns}
 use Rattle.pr_decode.specs.declared.stretch.Turns.TheVariants.{Still, Once, Twice, Thrice, Often}
-use Rattle.pr_ear.specs.declared.WireEdge.{WireEdge}
 use Rattle.pr_ear.specs.declared.decoder_numbers.WireByte.{WireByte}
 use Rattle.pr_ear.specs.declared.decoder_numbers.WireDecoder.{WireDecoder}
 use Rattle.pr_ear.specs.Decoding.{answer_ended, answered, byte_numbers, eoi_number}
 use Rattle.pr_ear.specs.DecoderNumbers.{IsDecoder, begun_in, byte_from, byte_in, called_in, decoder_by, first_in, last_in, pulse_from, sent_in, stored, stretch_from, transfer_from, turn1, turn2, turn3, turn4, turns_from, turns_in, turns_number}
-use Rattle.pr_ear.specs.Hearing.{bit_of, edge_of}
+use Rattle.pr_ear.specs.Hearing.{edge_of}
 use Rattle.pr_ear.proofs.Stored.{bit-back, edge-back, both, same_wires, wires-are, same-number}
 
 -- turns come back

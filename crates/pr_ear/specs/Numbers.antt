@@ -1,5 +1,5 @@
 -- Linking words: how a standing is held in numbers. No reader needs to believe them; that a standing comes back from its numbers is proved.
-use Rattle.std.specs.Prelude.{◌≡◌, ℕ, ◌≤◌, Bool, true, false, ◌==◌, nat_lt, if◌then◌else◌, List, length, Option, Some, None}
+use Rattle.std.specs.Prelude.{◌≡◌, ℕ, ◌≤◌, Bool, ◌==◌, nat_lt, if◌then◌else◌, List, length, Option, Some, None}
 use Rattle.pr_wire.specs.declared.Edge.{Edge}
 use Rattle.pr_wire.specs.declared.place.Flaw.TheVariants.{Order, TooEarly, TooLate, Shape}
 use Rattle.pr_wire.specs.declared.place.Place.{Place}

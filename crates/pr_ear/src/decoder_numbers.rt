@@ -174,8 +174,13 @@ pub fn numbers_of_reading(reading: Option<Reading>) -> WireReading
 /// The numbers with those of the turns.
 fn with_turns(numbers: WireDecoder, turns: &Turns) -> WireDecoder
     requires { (numbers.turn1 ≡ no_edge) × (numbers.turn2 ≡ no_edge) × (numbers.turn3 ≡ no_edge) × (numbers.turn4 ≡ no_edge) }
-    ensures { result ≡ record numbers { turns = turns_number turns.now; turn1 = turn1 turns.now; turn2 = turn2 turns.now;
-        turn3 = turn3 turns.now; turn4 = turn4 turns.now } }
+    ensures { result ≡ record numbers {
+      turns = turns_number turns.now;
+      turn1 = turn1 turns.now;
+      turn2 = turn2 turns.now;
+      turn3 = turn3 turns.now;
+      turn4 = turn4 turns.now;
+    } }
 {
     match turns {
         Turns::Still => WireDecoder {
