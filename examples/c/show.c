@@ -4,7 +4,7 @@
 #include <stdlib.h>
 #include <string.h>
 
-/* All of standard input; its length is left in *length. */
+/* All of standard input; its length is left in *length. NULL where there is no memory for it. */
 static uint8_t *read_all(size_t *length) {
     size_t room = 65536, got;
     uint8_t *bytes = (uint8_t *)malloc(room);
@@ -21,28 +21,34 @@ static uint8_t *read_all(size_t *length) {
 }
 
 int main(int count, char **words) {
-    const uint16_t no_delays[1] = {0};
-    uint8_t format = PRINT1525_LIST, *script, *text = NULL, nothing[1];
+    const uint16_t typical[1] = {0};
+    const char *word = count > 1 ? words[1] : "list";
+    const uint8_t format = strcmp(word, "text") == 0  ? PRINT1525_TEXT
+                           : strcmp(word, "svg") == 0 ? PRINT1525_SVG
+                                                      : PRINT1525_LIST;
+    uint8_t *script, *text = (uint8_t *)malloc(1);
     size_t length, capacity = 0;
     print1525_answer answer;
-    if (count > 1 && strcmp(words[1], "text") == 0) format = PRINT1525_TEXT;
-    if (count > 1 && strcmp(words[1], "svg") == 0) format = PRINT1525_SVG;
     script = read_all(&length);
-    if (!script) return 3;
+    if (!script || !text) return PRINT1525_NO_MEMORY;
     /* The first call asks for the size, the second one for the text. */
-    print1525_pages(script, length, PRINT1525_BOTH, PRINT1525_EACH, no_delays, 0, no_delays, 0,
-                    no_delays, 0, format, nothing, 0, &answer);
-    if (answer.code == PRINT1525_TOO_SMALL && (text = (uint8_t *)malloc(answer.length)) != NULL) {
-        capacity = answer.length;
-        print1525_pages(script, length, PRINT1525_BOTH, PRINT1525_EACH, no_delays, 0, no_delays, 0,
-                        no_delays, 0, format, text, capacity, &answer);
+    for (;;) {
+        print1525_pages(script, length, PRINT1525_BOTH, PRINT1525_EACH, typical, 0, typical, 0, typical, 0,
+                        format, text, capacity, &answer);
+        if (answer.code != PRINT1525_TOO_SMALL) break;
+        free(text);
+        text = (uint8_t *)malloc(capacity = answer.length);
+        if (!text) return PRINT1525_NO_MEMORY;
     }
-    if (answer.code <= PRINT1525_STOPPED && text) fwrite(text, 1, answer.length, stdout);
+    if (answer.code <= PRINT1525_STOPPED) fwrite(text, 1, answer.length, stdout);
+    if (answer.code == PRINT1525_STOPPED)
+        fprintf(stderr, "?%s  ERROR (statement %lu)\n", print1525_stop_text(answer.fault),
+                (unsigned long)answer.place);
     if (answer.code == PRINT1525_REFUSED && answer.place == 0)
         fprintf(stderr, "%s\n", print1525_fault_text(answer.fault));
     else if (answer.code == PRINT1525_REFUSED)
         fprintf(stderr, "line %lu: %s\n", (unsigned long)answer.place, print1525_fault_text(answer.fault));
     free(text);
     free(script);
-    return answer.code == PRINT1525_TOO_SMALL ? 3 : (int)answer.code;
+    return (int)answer.code;
 }

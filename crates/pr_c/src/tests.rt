@@ -30,7 +30,7 @@ fn a_stopped_run(rt: HostRuntime) {
     };
     let each = StatusMode::Each;
     let told = pages(rt.alloc(), b"REM\nPRINT#5", BOTH, delays, each, Format::List, &mut out);
-    assert!(rt; told == Told::Written(Some((2, Stop::FileNotOpen)), 55));
+    assert!(rt; told == Told::Written(Some((2, Stop::FileNotOpen)), 50));
     assert!(rt; out.starts_with(b"printer 4\nprinter 5\nstatus 0 0\nscreen\nstop 3 at 2\n"));
 }
 
