@@ -1,0 +1,227 @@
+//! What a device hears of a trace, for C programs: over the caller's memory alone.
+//!
+//! Nothing here takes memory, and no pointer is kept. Each slice is a pointer and then a length.
+#![tactic(auto)]
+
+ghost use Rattle.std.specs.Prelude.{◌≡◌, ◌≢◌, ◌≤◌, ◌<◌, ◌+◌, ◌^◌, length, map, Some, IfOk, IfErr};
+ghost use Rattle.std.specs.Option.{option_to_list};
+ghost use Rattle.pr_wire.specs.declared.WaveFault.TheVariants.{NoMemory};
+ghost use Rattle.pr_wire.specs.Table.{fault_of};
+ghost use Rattle.pr_ear.specs.Buffers.{IsFilled, KeepsOn};
+ghost use Rattle.pr_ear.specs.Hearing.{Tells, answer_of, edge_of, fault_code, fault_index, number_of};
+ghost use Rattle.pr_ear.specs.declared.Told.{Told};
+ghost use Rattle.pr_ear.specs.declared.Told.TheVariants.{Unlawful};
+
+use pr_page::Input;
+use pr_receiver::{Receiver, inputs_add_up, traces_give_what_is_heard};
+use pr_wire::{Edge, Levels, WaveFault, allowed_traces, lawful_traces};
+
+/// An edge of a trace: the moment from which on the lines stand at these levels.
+#[repr(C)]
+#[derive(Clone, Copy, Debug, PartialEq, Eq)]
+pub struct WireEdge {
+    /// In microseconds.
+    pub time: u64,
+    /// 0: ATN is pulled. Every other number: it is released.
+    pub atn: u8,
+    /// 0: CLOCK is pulled. Every other number: it is released.
+    pub clock: u8,
+    /// 0: DATA is pulled. Every other number: it is released.
+    pub data: u8,
+}
+
+/// What came of a trace.
+#[derive(Clone, Copy, Debug, PartialEq, Eq)]
+pub enum Told {
+    /// So many inputs were heard, and they stand at the front of the buffer.
+    Heard(usize),
+    /// The trace is not lawful, with its first fault.
+    Unlawful(WaveFault),
+    /// So many inputs were heard, more than the buffer has room for.
+    TooSmall(usize),
+    /// There is no such device: 4 to 30 are devices.
+    NoDevice,
+}
+
+/// What came of a trace, as numbers: those of every call of the library for C.
+#[repr(C)]
+#[derive(Clone, Copy, Debug, PartialEq, Eq)]
+pub struct Answer {
+    /// 0 heard, 2 refused with its fault, 4 the buffer is too small.
+    pub code: usize,
+    /// With code 2: 11 to 16 the faults of a trace, as [`WaveFault`] lists them, 21 no device of 4
+    /// to 30; else 0.
+    pub fault: usize,
+    /// The index of the edge at fault, or 0.
+    pub place: usize,
+    /// The number of inputs, or 0.
+    pub length: usize,
+}
+
+/// The edge that a caller's edge means.
+fn edge_for(edge: WireEdge) -> Edge
+    ensures { result ≡ edge_of edge }
+{
+    Edge {
+        time: edge.time,
+        levels: Levels {
+            atn: edge.atn != 0,
+            clock: edge.clock != 0,
+            line: edge.data != 0,
+        },
+    }
+}
+
+/// The number that stands for an input.
+fn number_for(input: Input) -> u16
+    ensures { result ≡ number_of input }
+{
+    match input {
+        Input::Select(false) => 256,
+        Input::Select(true) => 257,
+        Input::Byte(byte) => u16::from(byte),
+    }
+}
+
+/// Puts the number of an input that came, if one did, behind those that came before it, where the
+/// buffer has room for it. Gives how many have come.
+fn keep(out: &mut [u16], count: usize, input: Option<Input>) -> usize
+    requires few { count + 1 < 2 ^ 64 }
+    ensures count { result ≡ count + length (option_to_list input) }
+    ensures kept { KeepsOn count (map number_of (option_to_list input)) out.old out.new }
+    ensures length { length out.new ≡ length out.old }
+{
+    let Some(input) = input else {
+        return count;
+    };
+    if count < out.len() {
+        out[count] = number_for(input);
+    }
+    count + 1
+}
+
+/// Goes over a trace once, and gives the number of inputs that a device hears. As many of them as
+/// the buffer has room for are put at its front.
+fn fill(device: u8, edges: &[WireEdge], out: &mut [u16]) -> Result<usize, WaveFault>
+    requires least { 4 ≤ device }
+    requires greatest { device ≤ 30 }
+    ensures filled { IfOk result (λ n. IsFilled device edges.now out.old out.new n) }
+    ensures fault { IfErr result (λ fault. fault_of (map edge_of edges.now) ≡ Some fault) }
+    ensures memory { IfErr result (λ fault. fault ≢ NoMemory) }
+    ensures length { length out.new ≡ length out.old }
+{
+    allowed_traces();
+    inputs_add_up();
+    let mut receiver = Receiver::new(device);
+    let mut count = 0;
+    for edge in edges {
+        match receiver.edge(edge_for(*edge)) {
+            Ok(input) => count = keep(out, count, input),
+            Err(fault) => return Err(fault),
+        }
+    }
+    match receiver.finish() {
+        Ok(()) => Ok(count),
+        Err(fault) => Err(fault),
+    }
+}
+
+/// Goes over a trace to count what a device hears of it, and once more where the buffer has room.
+fn hear_twice(device: u8, edges: &[WireEdge], out: &mut [u16]) -> Told
+    requires least { 4 ≤ device }
+    requires greatest { device ≤ 30 }
+    ensures tells { Tells device edges.now out.old out.new result }
+    ensures memory { result ≢ Unlawful NoMemory }
+    ensures length { length out.new ≡ length out.old }
+{
+    traces_give_what_is_heard();
+    lawful_traces();
+    let count = match fill(device, edges, &mut []) {
+        Ok(count) => count,
+        Err(fault) => return Told::Unlawful(fault),
+    };
+    if count > out.len() {
+        return Told::TooSmall(count);
+    }
+    match fill(device, edges, out) {
+        Ok(_) => Told::Heard(count),
+        Err(fault) => Told::Unlawful(fault),
+    }
+}
+
+/// Puts the inputs that a device hears of a trace at the front of a buffer: a byte as its number,
+/// the selection of the graphic/upper case set as 256, that of the lower/upper case set as 257. The
+/// rest of the buffer is left as it was, and all of it where anything else is told.
+pub fn hear(device: u8, edges: &[WireEdge], out: &mut [u16]) -> Told
+    ensures tells { Tells device edges.now out.old out.new result }
+    ensures memory { result ≢ Unlawful NoMemory }
+    ensures length { length out.new ≡ length out.old }
+{
+    if (4..=30).contains(&device) {
+        hear_twice(device, edges, out)
+    } else {
+        Told::NoDevice
+    }
+}
+
+/// An answer with no fault.
+fn plain(code: usize, length: usize) -> Answer
+    ensures { result ≡ record { code = code; fault = 0; place = 0; length = length } }
+{
+    Answer {
+        code,
+        fault: 0,
+        place: 0,
+        length,
+    }
+}
+
+/// What is told, as numbers.
+fn numbered(told: Told) -> Answer
+    ensures { result ≡ answer_of told }
+{
+    let (fault, place) = match told {
+        Told::Heard(length) => return plain(0, length),
+        Told::TooSmall(length) => return plain(4, length),
+        Told::Unlawful(fault) => numbers_of(fault),
+        Told::NoDevice => (21, 0),
+    };
+    Answer {
+        code: 2,
+        fault,
+        place,
+        length: 0,
+    }
+}
+
+/// The number of a trace's fault and the index of its edge.
+fn numbers_of(fault: WaveFault) -> (usize, usize)
+    ensures { result ≡ (fault_code fault, fault_index fault) }
+{
+    match fault {
+        WaveFault::Start(at) => (11, at),
+        WaveFault::Order(at) => (12, at),
+        WaveFault::TooEarly(at) => (13, at),
+        WaveFault::TooLate(at) => (14, at),
+        WaveFault::Shape(at) => (15, at),
+        WaveFault::Truncated(at) => (16, at),
+        WaveFault::NoMemory => (0, 0),
+    }
+}
+
+/// What a device hears of a trace, at the front of the caller's buffer.
+#[unsafe(no_mangle)]
+pub extern "C" fn print1525_hear(
+    device: u8,
+    edges: &[WireEdge],
+    out: &mut [u16],
+    answer: &mut Answer,
+)
+    ensures tells { (told : Told) × Tells device edges.now out.old out.new told × (answer.new ≡ answer_of told) }
+    ensures length { length out.new ≡ length out.old }
+{
+    *answer = numbered(hear(device, edges, out));
+}
+
+#[cfg(test)]
+mod tests;
