@@ -10,9 +10,7 @@ use crate::told::{Told, give};
 use pr_basic::StatusMode;
 use pr_bus::Delays;
 use pr_channels::Stop;
-use pr_cli::{
-    CliFault, Format, TraceFormat, Watched, bus_over, check_over, pages_over, raw_over,
-};
+use pr_cli::{CliFault, Format, TraceFormat, Watched, bus_over, check_over, pages_over, raw_over};
 use pr_serial::Present;
 use std::alloc::Global;
 

@@ -29,7 +29,15 @@ fn a_stopped_run(rt: HostRuntime) {
         return;
     };
     let each = StatusMode::Each;
-    let told = pages(rt.alloc(), b"REM\nPRINT#5", BOTH, delays, each, Format::List, &mut out);
+    let told = pages(
+        rt.alloc(),
+        b"REM\nPRINT#5",
+        BOTH,
+        delays,
+        each,
+        Format::List,
+        &mut out,
+    );
     assert!(rt; told == Told::Written(Some((2, Stop::FileNotOpen)), 50));
     assert!(rt; out.starts_with(b"printer 4\nprinter 5\nstatus 0 0\nscreen\nstop 3 at 2\n"));
 }
@@ -42,7 +50,15 @@ fn a_trace_in_a_buffer(rt: HostRuntime) {
         return;
     };
     let each = StatusMode::Each;
-    let told = bus(rt.alloc(), b"REM", BOTH, delays, each, TraceFormat::Text, &mut out);
+    let told = bus(
+        rt.alloc(),
+        b"REM",
+        BOTH,
+        delays,
+        each,
+        TraceFormat::Text,
+        &mut out,
+    );
     assert!(rt; told == Told::Written(None, 6));
     assert!(rt; out == *b"0 111\n");
 }
