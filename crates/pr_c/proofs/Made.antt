@@ -1,13 +1,9 @@
 -- What is made in memory, and handed to the caller.
-use Rattle.std.proofs.Common.{◌≡◌, ℕ, List, [], Bool, Option, Some, None, Result, Ok, Err, refl, sym, subst, ◌∙◌}
-use Rattle.pr_channels.specs.declared.faults.Stop.{Stop}
+use Rattle.std.proofs.Common.{◌≡◌, ℕ, List, [], Bool, Some, None, Result, Ok, Err, refl, sym, subst}
 use Rattle.pr_options.specs.declared.format.Format.{Format}
 use Rattle.pr_options.specs.declared.format.TraceFormat.{TraceFormat}
-use Rattle.pr_basic.specs.declared.statement.Statement.{Statement}
-use Rattle.pr_basic.specs.Grammar.{IsScript}
 use Rattle.pr_basic.specs.Runs.{run_of}
-use Rattle.pr_system.specs.declared.outcome.Outcome.{Outcome}
-use Rattle.pr_cli.specs.Bus.{AnswersBus, bus_text}
+use Rattle.pr_cli.specs.Bus.{AnswersBus}
 use Rattle.pr_cli.specs.Check.{AnswersCheck}
 use Rattle.pr_cli.specs.Pages.{AnswersPages, IsTextOf, Start, ending_of}
 use Rattle.pr_cli.specs.Raw.{AnswersRaw, IsRawText}

@@ -1,5 +1,5 @@
 -- Linking words: a text that was made, or the fault in its place, is handed to the caller. No reader needs to believe them.
-use Rattle.std.specs.Prelude.{◌≡◌, ℕ, ◌<◌, ◌≤◌, List, ◌++◌, length, drop, Option, None, Result, Ok, Err}
+use Rattle.std.specs.Prelude.{◌≡◌, ℕ, ◌<◌, ◌≤◌, List, ◌++◌, length, drop, None, Result, Ok, Err}
 use Rattle.pr_serial.specs.declared.Present.{Present}
 use Rattle.pr_basic.specs.declared.session.StatusMode.{StatusMode}
 use Rattle.pr_basic.specs.declared.statement.Statement.{Statement}
