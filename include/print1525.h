@@ -68,7 +68,9 @@ enum print1525_fault {
     PRINT1525_NO_SUCH_PRINTERS = 22,
     PRINT1525_NO_SUCH_STATUS = 23,
     PRINT1525_NO_SUCH_FORMAT = 24,
-    PRINT1525_NO_SUCH_SET = 25
+    PRINT1525_NO_SUCH_SET = 25,
+    /* of an ear that print1525_ear_begin has not begun; `place` is 0 */
+    PRINT1525_NO_EAR = 26
 };
 
 /* The BASIC error that stopped a run: `fault` beside PRINT1525_STOPPED; `place` is the statement at
@@ -125,6 +127,7 @@ static inline const char *print1525_fault_text(size_t fault) {
     case PRINT1525_NO_SUCH_STATUS: return "no such status";
     case PRINT1525_NO_SUCH_FORMAT: return "no such format";
     case PRINT1525_NO_SUCH_SET: return "no such character set";
+    case PRINT1525_NO_EAR: return "no ear";
     default: return "no fault";
     }
 }
@@ -215,6 +218,49 @@ typedef struct {
  * with its index. */
 void print1525_hear(uint8_t device, const print1525_edge *edges, size_t edges_length,
                     uint16_t *buffer, size_t capacity, print1525_answer *answer);
+
+/* What is kept of a device between two edges: an ear on the wire. The numbers are the library's; the
+ * caller only keeps them, and may copy them. */
+typedef struct {
+    uint64_t since, released;
+    uint8_t place, sending, eoi, count, byte, bit, unlistened;
+} print1525_place;
+
+typedef struct {
+    size_t taken;
+    print1525_edge last;
+    print1525_place place;
+    uint8_t begun, refused, device, listens, called;
+} print1525_ear;
+
+/* What an ear tells. Each call writes all of it. */
+typedef struct {
+    size_t code;  /* PRINT1525_DONE or PRINT1525_REFUSED */
+    size_t fault; /* with code 2 one of enum print1525_fault, else 0 */
+    size_t place; /* with the faults 11 to 16 the index of the edge, from 0, else 0 */
+    size_t heard; /* 1: an input came with the edge; else 0 */
+    size_t input; /* that input, a number as of print1525_hear; else 0 */
+} print1525_ear_answer;
+
+/* Begins an ear for a device of 4 to 30, to which no edge has come. Takes no memory.
+ *
+ * Refuses, with the ear as it was: the device (21). */
+void print1525_ear_begin(print1525_ear *ear, uint8_t device, print1525_ear_answer *answer);
+
+/* Gives an ear the next edge, and tells the input that comes with it. Takes no memory, and no more time
+ * for a later edge than for an earlier one.
+ *
+ * Asks: an ear that was begun, and edges in order, the first of them at 0 with all lines released.
+ * Gives: with edge after edge the inputs that print1525_hear gives for all of them.
+ * Refuses: numbers that are no ear (26), with the ear as it was; and an edge that no lawful trace has
+ * there (11 to 15) with its index. That fault is told again with each edge behind it; begin the ear anew
+ * to go on. */
+void print1525_ear_edge(print1525_ear *ear, const print1525_edge *edge, print1525_ear_answer *answer);
+
+/* Tells whether the edges that an ear was given are a whole lawful trace. The ear may be given more.
+ *
+ * Refuses: numbers that are no ear (26), and edges that are none by their first fault (11 to 16). */
+void print1525_ear_end(const print1525_ear *ear, print1525_ear_answer *answer);
 
 #ifdef __cplusplus
 }

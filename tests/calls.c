@@ -4,6 +4,7 @@
  *     calls bus PRINTERS STATUS FORMAT DELAYS
  *     calls raw SET FORMAT
  *     calls check
+ *     calls hear DEVICE                               (a trace text; the inputs that the device hears, a number each line)
  *     calls settings                                  (numbers that stand for no setting; no input)
  *
  * Writes the text to standard output, and a line to standard error as print1525 does, and ends with the answer's
@@ -195,6 +196,73 @@ static void try_sizes(const job *j, guarded buffer, print1525_answer true_answer
         try_size(j, buffer, capacity, true_answer, text);
 }
 
+/* The edges of a trace text, each with one digit for each line of the bus. */
+static size_t read_edges(const guarded text, print1525_edge *edges) {
+    size_t index = 0, count = 0;
+    while (index < text.size) {
+        uint64_t time = 0;
+        while (index < text.size && text.bytes[index] >= '0' && text.bytes[index] <= '9')
+            time = time * 10 + (uint64_t)(text.bytes[index++] - '0');
+        if (index + 5 > text.size || text.bytes[index] != ' ' || text.bytes[index + 4] != '\n') exit(97);
+        edges[count].time = time;
+        edges[count].atn = text.bytes[index + 1] != '0';
+        edges[count].clock = text.bytes[index + 2] != '0';
+        edges[count].data = text.bytes[index + 3] != '0';
+        count++;
+        index += 5;
+    }
+    return count;
+}
+
+/* An ear that is given the edges one by one hears the same inputs, or tells the same first fault; and takes no memory. */
+static void try_ear(uint8_t device, const print1525_edge *edges, size_t count, print1525_answer whole, const uint16_t *inputs) {
+    print1525_ear ear;
+    print1525_ear_answer answer;
+    size_t heard = 0, index;
+    print1525_ear_begin(&ear, device, &answer);
+    for (index = 0; index < count && answer.code == PRINT1525_DONE; index++) {
+        print1525_ear_edge(&ear, &edges[index], &answer);
+        if (answer.heard && (whole.code == PRINT1525_DONE) && (heard >= whole.length || answer.input != inputs[heard]))
+            is_wrong("an ear hears another input at edge", index);
+        heard += answer.heard;
+    }
+    if (answer.code == PRINT1525_DONE) print1525_ear_end(&ear, &answer);
+    if (answer.code != whole.code || answer.fault != whole.fault || answer.place != whole.place)
+        is_wrong("an ear tells another answer, fault", answer.fault);
+    if (whole.code == PRINT1525_DONE && heard != whole.length) is_wrong("an ear hears so many inputs", heard);
+}
+
+/* What a device hears: the whole list at once with buffers of all sizes, and edge by edge. */
+static print1525_answer hear(uint8_t device, guarded text) {
+    print1525_edge *edges;
+    guarded place = guard((text.size / 6 + 1) * sizeof *edges), room, before;
+    print1525_answer answer, small;
+    size_t count, capacity, index;
+    uint16_t *inputs;
+    edges = (print1525_edge *)(void *)(place.bytes - (size_t)place.bytes % sizeof(uint64_t));
+    count = read_edges(text, edges);
+    room = guard((count + 1) * sizeof *inputs);
+    before = guard(room.size);
+    inputs = (uint16_t *)(void *)room.bytes;
+    taken = 0;
+    memset(room.bytes, UNTOUCHED, room.size);
+    print1525_hear(device, edges, count, inputs, count + 1, &answer);
+    for (capacity = 0; answer.code == PRINT1525_DONE && capacity < answer.length; capacity++) {
+        uint16_t *const front = inputs + (count + 1 - capacity);
+        memcpy(before.bytes, room.bytes, room.size);
+        print1525_hear(device, edges, count, front, capacity, &small);
+        if (!is_answer(small, PRINT1525_TOO_SMALL, 0, 0, answer.length) || memcmp(before.bytes, room.bytes, room.size) != 0)
+            is_wrong("another answer to a buffer of inputs of size", capacity);
+    }
+    for (index = answer.code == PRINT1525_DONE ? answer.length : 0; index <= count; index++)
+        if (inputs[index] != (UNTOUCHED << 8 | UNTOUCHED)) is_wrong("an input behind those heard is written", index);
+    if (answer.code > PRINT1525_REFUSED) is_wrong("an answer of print1525_hear", answer.code);
+    try_ear(device, edges, count, answer, inputs);
+    if (taken != 0) is_wrong("print1525_hear or an ear takes memory", (size_t)taken);
+    for (index = 0; answer.code == PRINT1525_DONE && index < answer.length; index++) printf("%u\n", (unsigned)inputs[index]);
+    return answer;
+}
+
 /* The line that the program tells on standard error; after a stop the last line of its page text. */
 static void tell(print1525_answer answer) {
     const unsigned long place = (unsigned long)answer.place;
@@ -266,6 +334,11 @@ int main(int words, char **word) {
     if (strcmp(j.name, "settings") == 0) {
         try_settings();
         return wrong ? 99 : 0;
+    }
+    if (strcmp(j.name, "hear") == 0) {
+        answer = hear((uint8_t)(words > 2 ? atoi(word[2]) : 4), read_all());
+        tell(answer);
+        return wrong ? 99 : (int)answer.code;
     }
     if (words > 2) j.first = (uint8_t)atoi(word[2]);
     if (strcmp(j.name, "raw") == 0 && words > 3) j.format = (uint8_t)atoi(word[3]);
