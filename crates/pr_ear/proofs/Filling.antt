@@ -86,7 +86,7 @@ fills-next allowed more device wires n r new k kept old b out d e input g h i a 
     }
 
 -- where edges and more edges lead
-reached-append : (es fs : List Edge) (r : Reached) → reached r (es ++ fs) ≡ led (λ q. reached q fs) (reached r es)
+pub reached-append : (es fs : List Edge) (r : Reached) → reached r (es ++ fs) ≡ led (λ q. reached q fs) (reached r es)
 reached-append [] fs r = refl
 reached-append (e ∷ es) fs r = by (step_of r.last r.place r.count e) (λ s. reached-append es fs (onto r e s))
   where
@@ -96,7 +96,7 @@ reached-append (e ∷ es) fs r = by (step_of r.last r.place r.count e) (λ s. re
     by (Err w) k = refl
 
 -- the fault of edges that are not allowed stays with more edges
-fault-stays : AllowedIsReached → FaultIsReached → (es fs : List Edge) (w : WaveFault) → (IsAllowed es → ⊥) → fault_of es ≡ Some w → fault_of (es ++ fs) ≡ Some w
+pub fault-stays : AllowedIsReached → FaultIsReached → (es fs : List Edge) (w : WaveFault) → (IsAllowed es → ⊥) → fault_of es ≡ Some w → fault_of (es ++ fs) ≡ Some w
 fault-stays allowed fault es fs w n h = by (reached begin es) refl
   where
     by : (v : Result Reached WaveFault) → reached begin es ≡ v → fault_of (es ++ fs) ≡ Some w

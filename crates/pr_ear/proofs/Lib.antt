@@ -1,1 +1,4 @@
 pub mod Filling
+pub mod Stored
+pub mod Standings
+pub mod Ears

@@ -1,2 +1,5 @@
 pub mod Hearing
 pub mod Buffers
+pub mod Numbers
+pub mod Taken
+pub mod Ears

@@ -3,15 +3,24 @@
 //! Nothing here takes memory, and no pointer is kept. Each slice is a pointer and then a length.
 #![tactic(auto)]
 
-ghost use Rattle.std.specs.Prelude.{◌≡◌, ◌≢◌, ◌≤◌, ◌<◌, ◌+◌, ◌^◌, length, map, Some, IfOk, IfErr};
+ghost use Rattle.std.specs.Prelude.{true, ◌↔◌, ◌≡◌, ◌≢◌, ◌≤◌, ◌<◌, ◌+◌, ◌^◌, length, map, Some, IfOk, IfErr};
 ghost use Rattle.std.specs.Option.{option_to_list};
 ghost use Rattle.pr_wire.specs.declared.WaveFault.TheVariants.{NoMemory};
 ghost use Rattle.pr_wire.specs.Table.{fault_of};
 ghost use Rattle.pr_ear.specs.Buffers.{IsFilled, KeepsOn};
-ghost use Rattle.pr_ear.specs.Hearing.{Tells, answer_of, edge_of, fault_code, fault_index, number_of};
+ghost use Rattle.pr_ear.specs.Hearing.{IsDevice, Tells, answer_of, edge_of, fault_code, fault_index, number_of};
 ghost use Rattle.pr_ear.specs.declared.Told.{Told};
 ghost use Rattle.pr_ear.specs.declared.Told.TheVariants.{Unlawful};
 
+mod ear;
+mod numbers;
+mod standing;
+
+pub use ear::{
+    EarAnswer, EarTold, begin_ear, ears_hear_the_same, end_ear, first_faults_stay,
+    print1525_ear_begin, print1525_ear_edge, print1525_ear_end, take_edge,
+};
+pub use numbers::{Ear, PlaceNumbers};
 use pr_page::Input;
 use pr_receiver::{Receiver, inputs_add_up, traces_give_what_is_heard};
 use pr_wire::{Edge, Levels, WaveFault, allowed_traces, lawful_traces};
@@ -157,11 +166,18 @@ pub fn hear(device: u8, edges: &[WireEdge], out: &mut [u16]) -> Told
     ensures memory { result ≢ Unlawful NoMemory }
     ensures length { length out.new ≡ length out.old }
 {
-    if (4..=30).contains(&device) {
+    if is_device(device) {
         hear_twice(device, edges, out)
     } else {
         Told::NoDevice
     }
+}
+
+/// Whether there is such a device.
+fn is_device(device: u8) -> bool
+    ensures yes { result ≡ true ↔ IsDevice device }
+{
+    (4..=30).contains(&device)
 }
 
 /// An answer with no fault.

@@ -1,0 +1,242 @@
+-- A standing comes back from its numbers.
+use Rattle.std.proofs.Common.{◌≡◌, ℕ, suc, ◌+◌, ◌-◌, ◌*◌, ◌/◌, ◌%◌, ◌<◌, ◌≤◌, Bool, true, false, eqb, List, [], ◌∷◌, ◌++◌, length, Option, Some, None, refl, sym, ap, ◌∙◌, arith, append_assoc, append-nil, length-append}
+use Rattle.std.proofs.lemmas.Bool.{eq-eqb, eqb-true}
+use Rattle.std.specs.Prelude.{◌&&◌, ◌==◌, if◌then◌else◌}
+use Rattle.pr_wire.specs.declared.Edge.{Edge}
+use Rattle.pr_wire.specs.declared.place.Flaw.TheVariants.{Order, TooEarly, TooLate, Shape}
+use Rattle.pr_wire.specs.declared.place.Place.{Place}
+use Rattle.pr_wire.specs.declared.place.Place.TheVariants.{Idle, Call, Ready, Free, Pulse, After, Bit, High, Last, Ack, Freed}
+use Rattle.pr_wire.specs.declared.place.Sending.{Sending}
+use Rattle.pr_wire.specs.declared.place.Sending.TheVariants.{First, Second, Data}
+use Rattle.pr_wire.specs.Levels.{byte_of}
+use Rattle.pr_wire.specs.Packed.{bits_in}
+use Rattle.pr_ear.specs.declared.WireEdge.{WireEdge}
+use Rattle.pr_ear.specs.declared.numbers.Ear.{Ear}
+use Rattle.pr_ear.specs.declared.numbers.PlaceNumbers.{PlaceNumbers}
+use Rattle.pr_ear.specs.declared.standing.Refusal.{Refusal}
+use Rattle.pr_ear.specs.declared.standing.Refusal.TheVariants.{Start, Flawed}
+use Rattle.pr_ear.specs.declared.standing.Standing.{Standing}
+use Rattle.pr_ear.specs.Hearing.{edge_of, is_released, IsDevice}
+use Rattle.pr_ear.specs.Numbers.{bit_of, bits_by, begun_number, few, place_by, refusal_by, refusal_number, sending_by, sending_number, standing_by, stored, stored_last, stored_place, wire_of, HasFewBits, IsEar}
+
+-- bits come back from their number
+bits-back : (bs : List Bool) → bits_in (length bs) (byte_of bs) ≡ bs
+bits-back [] = refl
+bits-back (true ∷ bs) =
+    let low : (1 + 2 * byte_of bs) % 2 ≡ 1 = omega arith in
+    let high : (1 + 2 * byte_of bs) / 2 ≡ byte_of bs = omega arith in
+    ap (λ m. eqb m 1 ∷ bits_in (length bs) ((1 + 2 * byte_of bs) / 2)) low
+    ∙ (ap (λ m. true ∷ bits_in (length bs) m) high ∙ ap (λ l. true ∷ l) (bits-back bs))
+bits-back (false ∷ bs) =
+    let low : (0 + 2 * byte_of bs) % 2 ≡ 0 = omega arith in
+    let high : (0 + 2 * byte_of bs) / 2 ≡ byte_of bs = omega arith in
+    ap (λ m. eqb m 1 ∷ bits_in (length bs) ((0 + 2 * byte_of bs) / 2)) low
+    ∙ (ap (λ m. false ∷ bits_in (length bs) m) high ∙ ap (λ l. false ∷ l) (bits-back bs))
+
+few-same : (n : ℕ) → n ≤ 8 → few n ≡ n
+few-same n h = grind arith
+
+-- the bits of a place come back
+seen-back : (bs : List Bool) → length bs ≤ 8 → bits_in (few (length bs)) (byte_of bs) ≡ bs
+seen-back bs h = ap (λ n. bits_in n (byte_of bs)) (few-same (length bs) h) ∙ bits-back bs
+
+bit-back : (b : Bool) → (bit_of b == 1) ≡ b
+bit-back true = refl
+bit-back false = refl
+
+level-back : (b : Bool) → is_released (bit_of b) ≡ b
+level-back true = refl
+level-back false = refl
+
+sending-back : (s : Sending) → sending_by (sending_number s) ≡ s
+sending-back First = refl
+sending-back Second = refl
+sending-back Data = refl
+
+place-back : (p : Place) → HasFewBits p → place_by (stored_place p) ≡ p
+place-back (Idle since) h = refl
+place-back (Call since pulled) h = ap (λ b. Call since b) (bit-back pulled)
+place-back (Ready since sending) h = ap (λ s. Ready since s) (sending-back sending)
+place-back (Free since sending) h = ap (λ s. Free since s) (sending-back sending)
+place-back (Pulse since released) h = refl
+place-back (After since) h = refl
+place-back (Bit since sending eoi seen bit) h =
+    ap (λ s. Bit since s (bit_of eoi == 1) (bits_in (few (length seen)) (byte_of seen)) (bit_of bit == 1)) (sending-back sending)
+    ∙ (ap (λ b. Bit since sending b (bits_in (few (length seen)) (byte_of seen)) (bit_of bit == 1)) (bit-back eoi)
+    ∙ (ap (λ l. Bit since sending eoi l (bit_of bit == 1)) (seen-back seen h) ∙ ap (λ b. Bit since sending eoi seen b) (bit-back bit)))
+place-back (High since sending eoi seen bit) h =
+    ap (λ s. High since s (bit_of eoi == 1) (bits_in (few (length seen)) (byte_of seen)) (bit_of bit == 1)) (sending-back sending)
+    ∙ (ap (λ b. High since sending b (bits_in (few (length seen)) (byte_of seen)) (bit_of bit == 1)) (bit-back eoi)
+    ∙ (ap (λ l. High since sending eoi l (bit_of bit == 1)) (seen-back seen h) ∙ ap (λ b. High since sending eoi seen b) (bit-back bit)))
+place-back (Last since sending eoi seen) h =
+    ap (λ s. Last since s (bit_of eoi == 1) (bits_in (few (length seen)) (byte_of seen))) (sending-back sending)
+    ∙ (ap (λ b. Last since sending b (bits_in (few (length seen)) (byte_of seen))) (bit-back eoi)
+    ∙ ap (λ l. Last since sending eoi l) (seen-back seen h))
+place-back (Ack since sending byte) h = ap (λ s. Ack since s byte) (sending-back sending)
+place-back (Freed since unlistened released) h =
+    ap (λ b. Freed since b (bit_of released == 1)) (bit-back unlistened) ∙ ap (λ b. Freed since unlistened b) (bit-back released)
+
+refusal-back : (r : Option Refusal) → refusal_by (refusal_number r) ≡ r
+refusal-back None = refl
+refusal-back (Some Start) = refl
+refusal-back (Some (Flawed Order)) = refl
+refusal-back (Some (Flawed TooEarly)) = refl
+refusal-back (Some (Flawed TooLate)) = refl
+refusal-back (Some (Flawed Shape)) = refl
+
+edge-back : (e : Edge) → edge_of (wire_of e) ≡ e
+edge-back e =
+    ap (λ b. record { time = e.time; levels = record { atn = b; clock = is_released (bit_of e.levels.clock); line = is_released (bit_of e.levels.line) } }) (level-back e.levels.atn)
+    ∙ (ap (λ b. record { time = e.time; levels = record { atn = e.levels.atn; clock = b; line = is_released (bit_of e.levels.line) } }) (level-back e.levels.clock)
+    ∙ ap (λ b. record { time = e.time; levels = record { atn = e.levels.atn; clock = e.levels.clock; line = b } }) (level-back e.levels.line))
+
+-- the last edge, by its numbers
+abbrev last_by : (begun : ℕ) → Edge → Option Edge
+last_by begun e = if begun == 1 then Some e else None
+
+last-back : (o : Option Edge) → last_by (begun_number o) (edge_of (stored_last o)) ≡ o
+last-back None = refl
+last-back (Some e) = ap (λ x. Some x) (edge-back e)
+
+-- a standing comes back from its numbers
+pub standing-back : (s : Standing) → HasFewBits s.place → standing_by (stored s) ≡ s
+standing-back s h =
+    let a = place-back s.place h in
+    let b = last-back s.last in
+    let c = refusal-back s.refused in
+    let d = bit-back s.listener.listens in
+    let e = bit-back s.listener.called in
+    rw (a, b, c, d, e) refl
+
+-- what was stored of a device is an ear
+pub stored-is-ear : (s : Standing) → HasFewBits s.place → IsDevice s.listener.device → IsEar (stored s)
+stored-is-ear s h d = record { device = d; numbers = ap stored (standing-back s h) }
+
+-- so many bits have been put into a place, and the rest of the byte has the others
+pub record HasBits (n : PlaceNumbers) (i : ℕ) (place : Place) (rest : ℕ) : Type 0 where
+  pub seen : List Bool
+  pub place_is : place ≡ Bit n.since (sending_by n.sending) (n.eoi == 1) seen (n.bit == 1)
+  pub count : length seen ≡ i
+  pub others : seen ++ bits_in (few n.count - i) rest ≡ bits_by n
+
+-- no bit has been put
+pub no-bits : (n : PlaceNumbers) (place : Place) → place ≡ Bit n.since (sending_by n.sending) (n.eoi == 1) [] (n.bit == 1) → HasBits n 0 place n.byte
+no-bits n place h =
+    let z : few n.count - 0 ≡ few n.count = omega arith in
+    record { seen = []; place_is = h; count = refl; others = ap (λ k. bits_in k n.byte) z }
+
+-- one bit more
+pub one-bit : (n : PlaceNumbers) (i : ℕ) (place new : Place) (rest next : ℕ) (b : Bool) → HasBits n i place rest → i < few n.count → few n.count ≤ 8
+    → b ≡ eqb (rest % 2) 1 → next ≡ rest / 2
+    → ((since : ℕ) (sending : Sending) (eoi : Bool) (seen : List Bool) (bit : Bool) → place ≡ Bit since sending eoi seen bit → length seen < 8
+    → new ≡ Bit since sending eoi (seen ++ b ∷ []) bit)
+    → HasBits n (i + 1) new next
+one-bit n i place new rest next b h l m j k p =
+    let d : few n.count - i ≡ suc (few n.count - (i + 1)) = omega arith in
+    record {
+      seen = h.seen ++ b ∷ [];
+      place_is = p n.since (sending_by n.sending) (eqb n.eoi 1) h.seen (eqb n.bit 1) h.place_is (omega (arith, h.count));
+      count = omega (arith, h.count, length-append h.seen (b ∷ []));
+      others =
+          append_assoc h.seen (b ∷ []) (bits_in (few n.count - (i + 1)) next)
+          ∙ (ap (λ x. h.seen ++ (x ∷ bits_in (few n.count - (i + 1)) next)) j
+          ∙ (ap (λ x. h.seen ++ (eqb (rest % 2) 1 ∷ bits_in (few n.count - (i + 1)) x)) k
+          ∙ (ap (λ x. h.seen ++ bits_in x rest) (sym d) ∙ h.others)));
+    }
+
+-- all bits have been put
+pub all-bits : (n : PlaceNumbers) (i : ℕ) (place : Place) (rest : ℕ) → HasBits n i place rest → few n.count ≤ i
+    → place ≡ Bit n.since (sending_by n.sending) (n.eoi == 1) (bits_by n) (n.bit == 1)
+all-bits n i place rest h l =
+    let d : few n.count - i ≡ 0 = omega arith in
+    let s : h.seen ≡ bits_by n = sym (append-nil h.seen) ∙ (ap (λ x. h.seen ++ bits_in x rest) (sym d) ∙ h.others) in
+    h.place_is ∙ ap (λ x. Bit n.since (sending_by n.sending) (eqb n.eoi 1) x (eqb n.bit 1)) s
+
+-- two conditions that hold together
+both : (a b : Bool) → (a && b) ≡ true → (a ≡ true) × (b ≡ true)
+both true b h = (refl, h)
+both false b h = absurd (let x : false ≡ true = h in cc)
+
+abbrev same_wires : WireEdge → WireEdge → Bool
+same_wires a b = eqb a.time b.time && (eqb a.atn b.atn && (eqb a.clock b.clock && eqb a.data b.data))
+
+abbrev same_places : PlaceNumbers → PlaceNumbers → Bool
+same_places a b =
+    eqb a.since b.since && (eqb a.released b.released && (eqb a.place b.place && (eqb a.sending b.sending
+    && (eqb a.eoi b.eoi && (eqb a.count b.count && (eqb a.byte b.byte && (eqb a.bit b.bit && eqb a.unlistened b.unlistened)))))))
+
+-- two ears have the same numbers
+abbrev pub same_ears : Ear → Ear → Bool
+same_ears a b =
+    eqb a.taken b.taken && (same_wires a.last b.last && (same_places a.place b.place && (eqb a.begun b.begun
+    && (eqb a.refused b.refused && (eqb a.device b.device && (eqb a.listens b.listens && eqb a.called b.called))))))
+
+wires-are : (a b : WireEdge) → same_wires a b ≡ true → a ≡ b
+wires-are a b h =
+    let k = both (eqb a.time b.time) _ h in
+    let l = both (eqb a.atn b.atn) _ k.1 in
+    let m = both (eqb a.clock b.clock) _ l.1 in
+    let e : record { time = a.time; atn = a.atn; clock = a.clock; «data» = a.data } ≡ record { time = b.time; atn = b.atn; clock = b.clock; «data» = b.data } =
+    rw (eqb-true a.time b.time k.0, eqb-true a.atn b.atn l.0, eqb-true a.clock b.clock m.0, eqb-true a.data b.data m.1) refl in
+    e
+
+places-are : (a b : PlaceNumbers) → same_places a b ≡ true → a ≡ b
+places-are a b h =
+    let k = both (eqb a.since b.since) _ h in
+    let l = both (eqb a.released b.released) _ k.1 in
+    let m = both (eqb a.place b.place) _ l.1 in
+    let n = both (eqb a.sending b.sending) _ m.1 in
+    let o = both (eqb a.eoi b.eoi) _ n.1 in
+    let p = both (eqb a.count b.count) _ o.1 in
+    let q = both (eqb a.byte b.byte) _ p.1 in
+    let r = both (eqb a.bit b.bit) _ q.1 in
+    let e : record { since = a.since; released = a.released; place = a.place; sending = a.sending; eoi = a.eoi; count = a.count; byte = a.byte; bit = a.bit; unlistened = a.unlistened }
+    ≡ record { since = b.since; released = b.released; place = b.place; sending = b.sending; eoi = b.eoi; count = b.count; byte = b.byte; bit = b.bit; unlistened = b.unlistened } =
+    rw (
+      eqb-true a.since b.since k.0,
+      eqb-true a.released b.released l.0,
+      eqb-true a.place b.place m.0,
+      eqb-true a.sending b.sending n.0,
+      eqb-true a.eoi b.eoi o.0,
+      eqb-true a.count b.count p.0,
+      eqb-true a.byte b.byte q.0,
+      eqb-true a.bit b.bit r.0,
+      eqb-true a.unlistened b.unlistened r.1,
+    ) refl in
+    e
+
+-- ears with the same numbers are the same
+pub ears-are : (a b : Ear) → true ≡ same_ears a b → a ≡ b
+ears-are a b h =
+    let k = both (eqb a.taken b.taken) _ (sym h) in
+    let l = both (same_wires a.last b.last) _ k.1 in
+    let m = both (same_places a.place b.place) _ l.1 in
+    let n = both (eqb a.begun b.begun) _ m.1 in
+    let o = both (eqb a.refused b.refused) _ n.1 in
+    let p = both (eqb a.device b.device) _ o.1 in
+    let q = both (eqb a.listens b.listens) _ p.1 in
+    let e : record { taken = a.taken; last = a.last; place = a.place; begun = a.begun; refused = a.refused; device = a.device; listens = a.listens; called = a.called }
+    ≡ record { taken = b.taken; last = b.last; place = b.place; begun = b.begun; refused = b.refused; device = b.device; listens = b.listens; called = b.called } =
+    rw (
+      eqb-true a.taken b.taken k.0,
+      wires-are a.last b.last l.0,
+      places-are a.place b.place m.0,
+      eqb-true a.begun b.begun n.0,
+      eqb-true a.refused b.refused o.0,
+      eqb-true a.device b.device p.0,
+      eqb-true a.listens b.listens q.0,
+      eqb-true a.called b.called q.1,
+    ) refl in
+    e
+
+same-number : (n : ℕ) → eqb n n ≡ true
+same-number n = eq-eqb n n refl
+
+-- the same ear has the same numbers
+same-ear : (a : Ear) → same_ears a a ≡ true
+same-ear a = simp (same-number) refl
+
+-- an ear that is none has other numbers than the standing that they mean
+pub others-than : (a b : Ear) → false ≡ same_ears a b → a ≡ b → ⊥
+others-than a b h e =
+    let x : false ≡ true = h ∙ (ap (λ (c : Ear). same_ears c b) e ∙ same-ear b) in cc
