@@ -224,12 +224,12 @@ void print1525_hear(uint8_t device, const print1525_edge *edges, size_t edges_le
 typedef struct {
     uint64_t since, released;
     uint8_t place, sending, eoi, count, byte, bit, unlistened;
-} print1525_place;
+} print1525_ear_place;
 
 typedef struct {
     size_t taken;
     print1525_edge last;
-    print1525_place place;
+    print1525_ear_place place;
     uint8_t begun, refused, device, listens, called;
 } print1525_ear;
 
