@@ -68,6 +68,7 @@ pub fn take_edge(ear: &mut Ear, edge: WireEdge) -> EarTold
     ensures tells { (device : ℕ) (edges : List WireEdge) → HasTaken device edges ear.old → TellsEdge device edges edge result }
     ensures taken { (device : ℕ) (edges : List WireEdge) → HasTaken device edges ear.old → HasTaken device (edges ++ edge ∷ []) ear.new }
     ensures no_ear { (IsEar ear.old → ⊥) → (result ≡ NoEar) × (ear.new ≡ ear.old) }
+    ensures memory { result ≢ Unlawful NoMemory }
 {
     let Some(mut standing) = restore(ear) else {
         return EarTold::NoEar;
@@ -85,6 +86,7 @@ pub fn take_edge(ear: &mut Ear, edge: WireEdge) -> EarTold
 pub fn end_ear(ear: &Ear) -> EarTold
     ensures tells { (device : ℕ) (edges : List WireEdge) → HasTaken device edges ear.now → TellsEnd edges result }
     ensures no_ear { (IsEar ear.now → ⊥) → result ≡ NoEar }
+    ensures memory { result ≢ Unlawful NoMemory }
 {
     let Some(standing) = restore(ear) else {
         return EarTold::NoEar;

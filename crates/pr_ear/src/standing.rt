@@ -1,6 +1,7 @@
 //! How far the edges that an ear was given have come.
 
-ghost use Rattle.std.specs.Prelude.{◌≡◌, ◌<◌, ◌+◌, ◌≤◌, ◌++◌, ◌∷◌, [], ℕ, List, Ok, MatchResult};
+ghost use Rattle.std.specs.Prelude.{◌≡◌, ◌≢◌, ◌<◌, ◌+◌, ◌≤◌, ◌++◌, ◌∷◌, [], ℕ, List, Ok, IfErr, MatchResult};
+ghost use Rattle.pr_wire.specs.declared.WaveFault.TheVariants.{NoMemory};
 ghost use Rattle.std.specs.Result.{result_err};
 ghost use Rattle.std.specs.Option.{option_to_list};
 ghost use Rattle.pr_wire.specs.declared.Edge.{Edge};
@@ -26,7 +27,8 @@ pub enum Refusal {
 impl Refusal {
     /// The fault of the edge at an index that was refused so.
     pub fn at(self, index: usize) -> WaveFault
-        ensures { result ≡ refused_at self index }
+        ensures value { result ≡ refused_at self index }
+        ensures memory { result ≢ NoMemory }
     {
         match self {
             Refusal::Start => WaveFault::Start(0),
@@ -112,6 +114,7 @@ impl Standing {
         requires { self.old.listener.device ≤ 30 }
         ensures right { (device : ℕ) (edges : List Edge) → HasCome device edges self.old → IsRight device edges edge result }
         ensures come { (device : ℕ) (edges : List Edge) → HasCome device edges self.old → HasCome device (edges ++ edge ∷ []) self.new }
+        ensures memory { IfErr result (λ fault. fault ≢ NoMemory) }
     {
         allowed_traces();
         if let Some(refusal) = self.refused {
@@ -137,6 +140,7 @@ impl Standing {
     /// The first fault of the edges given, or that they are too few.
     pub fn finish(&self) -> Result<(), WaveFault>
         ensures right { (device : ℕ) (edges : List Edge) → HasCome device edges self.now → IsRightEnd edges result }
+        ensures memory { IfErr result (λ fault. fault ≢ NoMemory) }
     {
         allowed_traces();
         lawful_traces();

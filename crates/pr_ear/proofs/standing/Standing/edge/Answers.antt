@@ -8,7 +8,7 @@ use Rattle.pr_ear.proofs.standing.Standing.edge.Goals as goal
 pub returns-in-Some-clause-right : goal.returns-in-Some-clause-right
 returns-in-Some-clause-right c = λ device edges h.
     let k = refusal-stays c.allowed_traces.ensures.allowed c.allowed_traces.ensures.fault device edges (c.args.edge ∷ []) c.args.self.now c.in-Some.refusal c.in-Some.is h in
-    (k.1, k.2 ∙ ap (λ x. Some x) (sym c.at.ensures))
+    (k.1, k.2 ∙ ap (λ x. Some x) (sym c.at.ensures.value))
 
 pub returns-in-Some-clause-come : goal.returns-in-Some-clause-come
 returns-in-Some-clause-come c = λ device edges h.
@@ -33,7 +33,7 @@ pub returns-in-Err-clause-right : goal.returns-in-Err-clause-right
 returns-in-Err-clause-right c = λ device edges h.
     let s = stands-of device edges c.args.self.now c.in_default.is h in
     let r = refuses c.allowed_traces.ensures.allowed c.allowed_traces.ensures.fault c.allowed_traces.ensures.step device edges c.args.self.now c.go_on.new.self c.args.edge c.in-Err.refusal s c.in-Err.ensures.moved in
-    (r.0, r.1 ∙ ap (λ x. Some x) (sym (c.at-in-Err.ensures ∙ ap (λ (n : Standing). refused_at c.in-Err.refusal n.taken) r.2)))
+    (r.0, r.1 ∙ ap (λ x. Some x) (sym (c.at-in-Err.ensures.value ∙ ap (λ (n : Standing). refused_at c.in-Err.refusal n.taken) r.2)))
 
 pub returns-in-Err-clause-come : goal.returns-in-Err-clause-come
 returns-in-Err-clause-come c = λ device edges h.
