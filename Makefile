@@ -5,12 +5,17 @@
 # make edits        tells of each wrong idea of the must-fail edits whether the prover refuses it: hours; tests/edits CRATE of one crate
 # make bench        speed and peak memory beside `wc -l`, with the aim of each
 # make peer         traces and pictures of runs, read by others: sigrok's decoder of the bus (sigrok-cli and libsigrokdecode4),
-#                   xmllint and rsvg-convert (libxml2-utils, librsvg2-bin and netpbm)
-# make install      copies the built program to $(PREFIX)/bin
+#                   xmllint and rsvg-convert (libxml2-utils, librsvg2-bin and netpbm); and the calls for C watched by valgrind and
+#                   by cc's sanitizer of addresses
+# make lib          proves and builds libprint1525.a, the library for C programs (docs/C.md)
+# make install      copies the built program, the library for C with its header and what pkg-config wants, and the manual page to
+#                   $(DESTDIR)$(PREFIX), where PREFIX is /usr/local unless it is given
 
 SHELL := /bin/bash
 PREFIX ?= /usr/local
 PROGRAM := crates/print1525/out/print1525
+LIBRARY := libprint1525.a
+VERSION := 0.1.0
 
 # The crates whose tests go on after a refused allocation (tests/growths).
 GROWTHS := pr_page pr_serial pr_wire pr_receiver pr_bus pr_channels pr_basic pr_system pr_picture pr_capture \
@@ -20,7 +25,7 @@ TESTS := $(foreach crate,$(GROWTHS),crates/$(crate)/out/$(crate)_tests)
 # What the program and the tests are built from.
 SOURCES := crates.txt $(shell find crates -path '*/out' -prune -o \( -name '*.rt' -o -name '*.antt' \) -print)
 
-.PHONY: run try build test outside cases edits bench peer install
+.PHONY: run try build test outside cases edits bench peer lib install
 
 run: build
 	@$(PROGRAM) pages < examples/hello.bas
@@ -42,7 +47,7 @@ test:
 	@$(MAKE) --no-print-directory outside
 
 # The tests outside the prover: the built program, and the tests of crates that go on after a refusal.
-outside: build $(TESTS)
+outside: build lib $(TESTS)
 	@tests/run $(PROGRAM)
 	@cases/run $(PROGRAM)
 	@cases/made --check
@@ -51,6 +56,14 @@ outside: build $(TESTS)
 # So are the tests.
 $(TESTS): $(SOURCES)
 	@cd $(@D)/.. && rt test > out.log 2>&1 || { cat out.log; exit 1; }; rm -f out.log
+
+# The library for C programs: the archives of two crates and the part of the toolchain's that calls malloc, in one.
+lib: $(LIBRARY)
+
+$(LIBRARY): $(SOURCES) tests/archive
+	@for crate in pr_ear pr_c; do \
+		(cd crates/$$crate && rt lib > out.log 2>&1 || { cat out.log; exit 1; }; rm -f out.log) || exit 1; done
+	@tests/archive $@ pr_ear pr_c
 
 # What differs shows in `git diff`.
 cases: build
@@ -66,10 +79,16 @@ bench: build $(TESTS)
 	@tests/bench $(PROGRAM)
 
 # Not a part of the gate.
-peer: build
+peer: build lib
+	@tests/watched $(LIBRARY)
 	@tests/peer $(PROGRAM)
 	@tests/pictures $(PROGRAM)
 
-install: build
-	install -d $(DESTDIR)$(PREFIX)/bin
+install: build lib
+	install -d $(DESTDIR)$(PREFIX)/bin $(DESTDIR)$(PREFIX)/include $(DESTDIR)$(PREFIX)/lib/pkgconfig $(DESTDIR)$(PREFIX)/share/man/man1
 	install $(PROGRAM) $(DESTDIR)$(PREFIX)/bin/print1525
+	install -m 644 include/print1525.h $(DESTDIR)$(PREFIX)/include/print1525.h
+	install -m 644 $(LIBRARY) $(DESTDIR)$(PREFIX)/lib/libprint1525.a
+	install -m 644 docs/print1525.1 $(DESTDIR)$(PREFIX)/share/man/man1/print1525.1
+	sed -e 's|@PREFIX@|$(PREFIX)|' -e 's|@VERSION@|$(VERSION)|' include/print1525.pc.in > $(DESTDIR)$(PREFIX)/lib/pkgconfig/print1525.pc
+	chmod 644 $(DESTDIR)$(PREFIX)/lib/pkgconfig/print1525.pc

@@ -1,0 +1,35 @@
+-- Trusted: what the numbers that a C caller passes stand for.
+use Rattle.std.specs.Prelude.{ℕ, ◌==◌, Bool, true, false, if◌then◌else◌, Option, Some, None}
+use Rattle.pr_serial.specs.declared.Present.{Present}
+use Rattle.pr_basic.specs.declared.session.StatusMode.{StatusMode}
+use Rattle.pr_basic.specs.declared.session.StatusMode.TheVariants as mode
+use Rattle.pr_options.specs.declared.format.Format.{Format}
+use Rattle.pr_options.specs.declared.format.Format.TheVariants as format
+use Rattle.pr_options.specs.declared.format.TraceFormat.{TraceFormat}
+use Rattle.pr_options.specs.declared.format.TraceFormat.TheVariants as trace
+
+-- the printers present: none, printer 4, printer 5, both
+abbrev pub present_of : ℕ → Option Present
+present_of printers =
+    if printers == 0 then Some (record { four = false; five = false })
+    else (if printers == 1 then Some (record { four = true; five = false })
+    else (if printers == 2 then Some (record { four = false; five = true })
+    else (if printers == 3 then Some (record { four = true; five = true }) else None)))
+
+-- how the status goes on: cleared before each statement, or kept
+abbrev pub mode_of : ℕ → Option StatusMode
+mode_of status = if status == 0 then Some mode.Each else (if status == 1 then Some mode.Kept else None)
+
+-- the format: the page text, lines of 80 columns, or an SVG document
+abbrev pub format_of : ℕ → Option Format
+format_of number =
+    if number == 0 then Some format.List
+    else (if number == 1 then Some format.Lines else (if number == 2 then Some format.Picture else None))
+
+-- the format of a trace: the trace text, or a Value Change Dump
+abbrev pub trace_format_of : ℕ → Option TraceFormat
+trace_format_of number = if number == 0 then Some trace.Text else (if number == 1 then Some trace.Vcd else None)
+
+-- the character set: 0 graphic/upper case, 1 lower/upper case
+abbrev pub lower_of : ℕ → Option Bool
+lower_of set = if set == 0 then Some false else (if set == 1 then Some true else None)

@@ -1,0 +1,104 @@
+//! The calls, over the crates' own types.
+
+ghost use Rattle.std.specs.Prelude.{◌≡◌, length};
+ghost use Rattle.pr_c.specs.Answers.{IsBusText, IsFramesText, IsPagesText, IsPaperRefusal, IsPaperText, IsScriptRefusal, IsTraceRefusal, Tells};
+ghost use Rattle.pr_c.specs.Giving.{without_run};
+ghost use Rattle.pr_cli.specs.Pages.{start_of};
+
+use crate::stops::with_stop;
+use crate::told::{Told, give};
+use pr_basic::StatusMode;
+use pr_bus::Delays;
+use pr_channels::Stop;
+use pr_cli::{CliFault, Format, TraceFormat, Watched, bus_over, check_over, pages_over, raw_over};
+use pr_serial::Present;
+use std::alloc::Global;
+
+/// Runs a script over wires, and puts the text of its pages in a format at the front of a buffer.
+pub fn pages(
+    alloc: Global,
+    script: &[u8],
+    present: Present,
+    delays: Delays,
+    mode: StatusMode,
+    format: Format,
+    out: &mut [u8],
+) -> Told
+    ensures tells { Tells (IsPagesText (start_of present delays mode) format script.now) (IsScriptRefusal script.now)
+        out.old out.new result }
+    ensures length { length out.new ≡ length out.old }
+{
+    let mut input = Watched::new(script);
+    let mut output = Watched::new(Vec::new(alloc));
+    let made = pages_over(
+        alloc,
+        &mut input,
+        &mut output,
+        present,
+        delays,
+        mode,
+        format,
+    );
+    let stopped = with_stop(alloc, made, script, present, mode);
+    give(stopped, &output.into_inner(), out)
+}
+
+/// Runs a script over wires, and puts the trace of its run in a format at the front of a buffer.
+pub fn bus(
+    alloc: Global,
+    script: &[u8],
+    present: Present,
+    delays: Delays,
+    mode: StatusMode,
+    format: TraceFormat,
+    out: &mut [u8],
+) -> Told
+    ensures tells { Tells (IsBusText (start_of present delays mode) format script.now) (IsScriptRefusal script.now) out.old out.new result }
+    ensures length { length out.new ≡ length out.old }
+{
+    let mut input = Watched::new(script);
+    let mut output = Watched::new(Vec::new(alloc));
+    let made = bus_over(
+        alloc,
+        &mut input,
+        &mut output,
+        present,
+        delays,
+        mode,
+        format,
+    );
+    let stopped = with_stop(alloc, made, script, present, mode);
+    give(stopped, &output.into_inner(), out)
+}
+
+/// Puts the text of the page that a printer prints of some bytes at the front of a buffer.
+pub fn raw(alloc: Global, bytes: &[u8], lower: bool, format: Format, out: &mut [u8]) -> Told
+    ensures tells { Tells (IsPaperText lower format bytes.now) (IsPaperRefusal bytes.now) out.old out.new result }
+    ensures length { length out.new ≡ length out.old }
+{
+    let mut input = Watched::new(bytes);
+    let mut output = Watched::new(Vec::new(alloc));
+    let made = done(raw_over(alloc, &mut input, &mut output, lower, format));
+    give(made, &output.into_inner(), out)
+}
+
+/// Puts the frames that a trace text spells at the front of a buffer, a line for each.
+pub fn check(alloc: Global, text: &[u8], out: &mut [u8]) -> Told
+    ensures tells { Tells (IsFramesText text.now) (IsTraceRefusal text.now) out.old out.new result }
+    ensures length { length out.new ≡ length out.old }
+{
+    let mut input = Watched::new(text);
+    let mut output = Watched::new(Vec::new(alloc));
+    let made = done(check_over(alloc, &mut input, &mut output));
+    give(made, &output.into_inner(), out)
+}
+
+/// A text that was made without a run.
+fn done(made: Result<(), CliFault>) -> Result<Option<(usize, Stop)>, CliFault>
+    ensures { result ≡ without_run made }
+{
+    match made {
+        Ok(()) => Ok(None),
+        Err(fault) => Err(fault),
+    }
+}

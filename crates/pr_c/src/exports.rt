@@ -1,0 +1,147 @@
+//! The calls of `include/print1525.h`.
+
+ghost use Rattle.std.specs.Prelude.{◌≡◌, length, IfOk};
+ghost use Rattle.pr_bus.specs.DelaysLeft.{numbers_left};
+ghost use Rattle.pr_c.specs.Asked.{TellsBus, TellsCheck, TellsPages, TellsRaw, delays_of};
+ghost use Rattle.pr_c.specs.Settings.{format_of, lower_of, mode_of, present_of, trace_format_of};
+ghost use Rattle.pr_wire.specs.Choices.{left};
+
+use crate::calls::{bus, check, pages, raw};
+use crate::settings::{format_for, lower_for, mode_for, present_for, trace_format_for};
+use crate::told::{Answer, Told, numbered, refused};
+use pr_bus::Delays;
+use pr_cli::CliFault;
+use pr_wire::Choices;
+use std::alloc::{AllocError, Global};
+
+/// The numbers of a party, of which none has been taken.
+fn choices_for(alloc: Global, numbers: &[u16]) -> Result<Choices, AllocError>
+    ensures { IfOk result (λ choices. left choices ≡ numbers.now) }
+{
+    let mut copied = Vec::new(alloc);
+    copied.extend_from_slice(numbers)?;
+    Ok(Choices::new(copied))
+}
+
+/// The delay numbers of a run, of which none has been taken.
+fn delays_for(
+    alloc: Global,
+    computer: &[u16],
+    four: &[u16],
+    five: &[u16],
+) -> Result<Delays, AllocError>
+    ensures { IfOk result (λ delays. numbers_left delays ≡ delays_of computer.now four.now five.now) }
+{
+    Ok(Delays {
+        computer: choices_for(alloc, computer)?,
+        four: choices_for(alloc, four)?,
+        five: choices_for(alloc, five)?,
+    })
+}
+
+/// Runs a script, and puts the text of its pages at the front of the caller's buffer.
+#[unsafe(no_mangle)]
+pub extern "C" fn print1525_pages(
+    alloc: Global,
+    script: &[u8],
+    printers: u8,
+    status: u8,
+    computer: &[u16],
+    four: &[u16],
+    five: &[u16],
+    format: u8,
+    out: &mut [u8],
+    answer: &mut Answer,
+)
+    ensures tells { TellsPages (present_of printers) (mode_of status) (format_of format) (delays_of computer.now four.now five.now)
+        script.now out.old out.new answer.new }
+    ensures length { length out.new ≡ length out.old }
+{
+    let Some(present) = present_for(printers) else {
+        *answer = refused(22, 0);
+        return;
+    };
+    let Some(mode) = mode_for(status) else {
+        *answer = refused(23, 0);
+        return;
+    };
+    let Some(format) = format_for(format) else {
+        *answer = refused(24, 0);
+        return;
+    };
+    let told = match delays_for(alloc, computer, four, five) {
+        Ok(delays) => pages(alloc, script, present, delays, mode, format, out),
+        Err(AllocError) => Told::Refused(CliFault::NoMemory),
+    };
+    *answer = numbered(told);
+}
+
+/// Runs a script, and puts the trace of its run at the front of the caller's buffer.
+#[unsafe(no_mangle)]
+pub extern "C" fn print1525_bus(
+    alloc: Global,
+    script: &[u8],
+    printers: u8,
+    status: u8,
+    computer: &[u16],
+    four: &[u16],
+    five: &[u16],
+    format: u8,
+    out: &mut [u8],
+    answer: &mut Answer,
+)
+    ensures tells { TellsBus (present_of printers) (mode_of status) (trace_format_of format) (delays_of computer.now four.now five.now)
+        script.now out.old out.new answer.new }
+    ensures length { length out.new ≡ length out.old }
+{
+    let Some(present) = present_for(printers) else {
+        *answer = refused(22, 0);
+        return;
+    };
+    let Some(mode) = mode_for(status) else {
+        *answer = refused(23, 0);
+        return;
+    };
+    let Some(format) = trace_format_for(format) else {
+        *answer = refused(24, 0);
+        return;
+    };
+    let told = match delays_for(alloc, computer, four, five) {
+        Ok(delays) => bus(alloc, script, present, delays, mode, format, out),
+        Err(AllocError) => Told::Refused(CliFault::NoMemory),
+    };
+    *answer = numbered(told);
+}
+
+/// Puts the page that a printer prints of some bytes at the front of the caller's buffer.
+#[unsafe(no_mangle)]
+pub extern "C" fn print1525_raw(
+    alloc: Global,
+    bytes: &[u8],
+    set: u8,
+    format: u8,
+    out: &mut [u8],
+    answer: &mut Answer,
+)
+    ensures tells { TellsRaw (lower_of set) (format_of format) bytes.now out.old out.new answer.new }
+    ensures length { length out.new ≡ length out.old }
+{
+    let Some(lower) = lower_for(set) else {
+        *answer = refused(25, 0);
+        return;
+    };
+    let Some(format) = format_for(format) else {
+        *answer = refused(24, 0);
+        return;
+    };
+    *answer = numbered(raw(alloc, bytes, lower, format, out));
+}
+
+/// Puts the frames that a trace text spells at the front of the caller's buffer.
+#[unsafe(no_mangle)]
+pub extern "C" fn print1525_check(alloc: Global, text: &[u8], out: &mut [u8], answer: &mut Answer)
+    ensures tells { TellsCheck text.now out.old out.new answer.new }
+    ensures length { length out.new ≡ length out.old }
+{
+    *answer = numbered(check(alloc, text, out));
+}

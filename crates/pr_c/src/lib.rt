@@ -1,0 +1,17 @@
+//! The library for C: memory in, memory out, no pointer kept.
+//!
+//! The caller owns every buffer. Each slice is a pointer and then a length.
+#![tactic(auto)]
+
+mod calls;
+mod exports;
+mod settings;
+mod stops;
+mod told;
+
+pub use calls::{bus, check, pages, raw};
+pub use exports::{print1525_bus, print1525_check, print1525_pages, print1525_raw};
+pub use told::{Answer, Told};
+
+#[cfg(test)]
+mod tests;

@@ -1,0 +1,85 @@
+/* A printer as an emulator has it: bytes in, and an SVG document for each sheet of 11 inches out.
+ *     print PREFIX < BYTES          writes PREFIX1.svg, PREFIX2.svg ..
+ * print1525_raw draws continuous paper; a sheet is a window on it. */
+#include "print1525.h"
+#include <stdio.h>
+#include <stdlib.h>
+#include <string.h>
+
+/* Units of the document: 1/1260 inch. The paper lies below its heading. */
+#define SHEET 13860
+#define PAPER_LEFT 630
+#define PAPER_TOP 1050
+#define PAPER_WIDTH 12600
+
+/* What was sent to the printer. */
+static uint8_t *sent;
+static size_t count, room;
+
+/* Takes a byte that the machine sends to device 4; 0 where there is no memory for it. */
+static int printer_takes(uint8_t byte) {
+    if (count == room) {
+        uint8_t *more = (uint8_t *)realloc(sent, room + 65536);
+        if (!more) return 0;
+        sent = more;
+        room += 65536;
+    }
+    sent[count++] = byte;
+    return 1;
+}
+
+/* The page of what was sent, with a zero byte behind it; NULL where there is none. */
+static char *printer_page(print1525_answer *answer) {
+    char *page = (char *)malloc(1), *larger;
+    size_t capacity = 0;
+    while (page) {
+        print1525_raw(sent, count, PRINT1525_UPPER, PRINT1525_SVG, (uint8_t *)page, capacity, answer);
+        if (answer->code == PRINT1525_DONE) {
+            page[answer->length] = '\0';
+            return page;
+        }
+        larger = answer->code == PRINT1525_TOO_SMALL ? (char *)malloc(answer->length + 1) : NULL;
+        free(page);
+        page = larger;
+        capacity = answer->length;
+    }
+    return NULL;
+}
+
+/* Writes the sheet with this number, from 0; 0 where its file cannot be written. */
+static int write_sheet(const char *prefix, unsigned long number, const char *page, const char *size, const char *rest) {
+    char name[4096];
+    FILE *file;
+    snprintf(name, sizeof name, "%s%lu.svg", prefix, number + 1);
+    file = fopen(name, "wb");
+    if (!file) return 0;
+    fwrite(page, 1, (size_t)(size - page), file);
+    fprintf(file, " width=\"60pc\" height=\"66pc\" viewBox=\"%d %lu %d %d\"", PAPER_LEFT, PAPER_TOP + SHEET * number,
+            PAPER_WIDTH, SHEET);
+    fwrite(rest, 1, strlen(rest), file);
+    return fclose(file) == 0;
+}
+
+int main(int words, char **word) {
+    print1525_answer answer = {PRINT1525_NO_MEMORY, 0, 0, 0};
+    char *page;
+    const char *size, *rest, *paper;
+    unsigned long height, number;
+    int byte;
+    if (words != 2) return 2;
+    if (!(sent = (uint8_t *)malloc(room = 65536))) return PRINT1525_NO_MEMORY;
+    while ((byte = getchar()) != EOF)
+        if (!printer_takes((uint8_t)byte)) return PRINT1525_NO_MEMORY;
+    page = printer_page(&answer);
+    free(sent);
+    if (!page) return (int)answer.code;
+    size = strstr(page, " width=");
+    rest = strstr(page, " font-family=");
+    paper = strstr(page, "</text>\n<rect width=\"12600\" height=\"");
+    if (!size || !rest || !paper) return 2;
+    height = strtoul(strstr(paper, "height=") + strlen("height=\""), NULL, 10);
+    for (number = 0; number == 0 || SHEET * number < height; number++)
+        if (!write_sheet(word[1], number, page, size, rest)) return PRINT1525_NO_MEMORY;
+    free(page);
+    return PRINT1525_DONE;
+}

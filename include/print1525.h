@@ -1,0 +1,269 @@
+/* libprint1525: what a Commodore 64 prints on VIC-1525 printers, for C and C++ programs.
+ *
+ * The calls are proved: each gives exactly what its definition says (docs/C.md says where the
+ * definitions stand), reads nothing but what it is passed, writes nothing but the caller's buffer
+ * and answer, and returns. The proofs hold where the caller keeps these rules:
+ *
+ * - No pointer is NULL, also where its length is 0 (any other pointer of its type does then). A
+ *   pointer is aligned for its type, and at least `length` things of it may be read there, or
+ *   `capacity` of a buffer read and written.
+ * - The buffer and the answer overlap nothing else that the call is passed.
+ * - During a call no other thread writes what the call reads, or touches the buffer or the answer.
+ * - malloc, realloc and free are those of one allocator, and no call is made from a signal handler,
+ *   but of the calls that take no memory.
+ *
+ * Who owns what. The caller owns all memory that it passes; no pointer is kept after a call, and no
+ * call hands out memory. What a call takes by malloc it gives back before it returns.
+ *
+ * Threads. There is no state between calls and none behind them: each call stands alone, and several
+ * threads may make calls at once.
+ *
+ * Sizes. A text stands at the front of the buffer, without a zero byte behind it; the rest of the
+ * buffer is as it was. A call never writes beyond `capacity`. Where the text has no room, nothing is
+ * written and `length` tells how many bytes it has: call with a capacity of 0 first, and then with a
+ * buffer of that length. A refusal leaves the whole buffer as it was, too. */
+#ifndef PRINT1525_H
+#define PRINT1525_H
+
+#include <stddef.h>
+#include <stdint.h>
+
+#ifdef __cplusplus
+extern "C" {
+#endif
+
+/* How a call ended: `code` of an answer. 0 to 3 are the exit statuses of the program print1525. */
+enum print1525_code {
+    PRINT1525_DONE = 0,      /* the text stands in the buffer */
+    PRINT1525_STOPPED = 1,   /* the same, and a BASIC error stopped the run: `fault` is its number */
+    PRINT1525_REFUSED = 2,   /* what was passed is refused: `fault` says why, and `place` where */
+    PRINT1525_NO_MEMORY = 3, /* malloc or realloc gave none */
+    PRINT1525_TOO_SMALL = 4  /* the text has `length` bytes, and the buffer fewer */
+};
+
+/* Why a call refused: `fault` beside PRINT1525_REFUSED. */
+enum print1525_fault {
+    PRINT1525_NO_FAULT = 0,
+    /* of a script; `place` is the line, from 1 */
+    PRINT1525_UNKNOWN_WORD = 1,
+    PRINT1525_BAD_NUMBER = 2,
+    PRINT1525_BAD_DEVICE = 3,
+    PRINT1525_BAD_SECOND = 4,
+    PRINT1525_BAD_BYTE = 5,
+    PRINT1525_TOO_LONG = 6,
+    PRINT1525_TOO_MANY = 7,
+    /* of a trace text; `place` is the line, from 1 */
+    PRINT1525_BAD_LINE = 8,
+    /* of any input; `place` is 0 */
+    PRINT1525_TOO_LARGE = 9,
+    /* of edges; `place` is the edge's index, from 0 */
+    PRINT1525_START = 11,
+    PRINT1525_ORDER = 12,
+    PRINT1525_TOO_EARLY = 13,
+    PRINT1525_TOO_LATE = 14,
+    PRINT1525_SHAPE = 15,
+    PRINT1525_TRUNCATED = 16,
+    /* of a number that stands for no setting; `place` is 0 */
+    PRINT1525_NO_SUCH_DEVICE = 21,
+    PRINT1525_NO_SUCH_PRINTERS = 22,
+    PRINT1525_NO_SUCH_STATUS = 23,
+    PRINT1525_NO_SUCH_FORMAT = 24,
+    PRINT1525_NO_SUCH_SET = 25,
+    /* of an ear that print1525_ear_begin has not begun; `place` is 0 */
+    PRINT1525_NO_EAR = 26
+};
+
+/* The BASIC error that stopped a run: `fault` beside PRINT1525_STOPPED; `place` is the statement at
+ * which it did, from 1. */
+enum print1525_stop {
+    PRINT1525_TOO_MANY_FILES = 1,
+    PRINT1525_FILE_OPEN = 2,
+    PRINT1525_FILE_NOT_OPEN = 3,
+    PRINT1525_DEVICE_NOT_PRESENT = 5,
+    PRINT1525_NOT_INPUT_FILE = 6
+};
+
+/* What a call tells. Each call writes all of it; nothing in it is read. */
+typedef struct {
+    size_t code;   /* one of enum print1525_code */
+    size_t fault;  /* with code 1 one of enum print1525_stop, with code 2 of enum print1525_fault, else 0 */
+    size_t place;  /* with codes 1 and 2 the statement, the line or the edge as those say, else 0 */
+    size_t length; /* with codes 0, 1 and 4 the bytes of the text (of print1525_hear: the inputs), else 0 */
+} print1525_answer;
+
+/* What a code says. */
+static inline const char *print1525_code_text(size_t code) {
+    switch (code) {
+    case PRINT1525_DONE: return "done";
+    case PRINT1525_STOPPED: return "stopped";
+    case PRINT1525_REFUSED: return "refused";
+    case PRINT1525_NO_MEMORY: return "out of memory";
+    case PRINT1525_TOO_SMALL: return "buffer too small";
+    default: return "no code";
+    }
+}
+
+/* What a fault says, in the program's words: it tells `line 3: unknown word` of the faults 1 to 8,
+ * and `edge 5: too early` of 11 to 16. */
+static inline const char *print1525_fault_text(size_t fault) {
+    switch (fault) {
+    case PRINT1525_UNKNOWN_WORD: return "unknown word";
+    case PRINT1525_BAD_NUMBER: return "bad number";
+    case PRINT1525_BAD_DEVICE: return "bad device";
+    case PRINT1525_BAD_SECOND: return "bad secondary address";
+    case PRINT1525_BAD_BYTE: return "bad byte";
+    case PRINT1525_TOO_LONG: return "too long";
+    case PRINT1525_TOO_MANY: return "too many statements";
+    case PRINT1525_BAD_LINE: return "bad trace line";
+    case PRINT1525_TOO_LARGE: return "input too large";
+    case PRINT1525_START: return "bad start";
+    case PRINT1525_ORDER: return "bad order";
+    case PRINT1525_TOO_EARLY: return "too early";
+    case PRINT1525_TOO_LATE: return "too late";
+    case PRINT1525_SHAPE: return "bad shape";
+    case PRINT1525_TRUNCATED: return "truncated";
+    case PRINT1525_NO_SUCH_DEVICE: return "no such device";
+    case PRINT1525_NO_SUCH_PRINTERS: return "no such printers";
+    case PRINT1525_NO_SUCH_STATUS: return "no such status";
+    case PRINT1525_NO_SUCH_FORMAT: return "no such format";
+    case PRINT1525_NO_SUCH_SET: return "no such character set";
+    case PRINT1525_NO_EAR: return "no ear";
+    default: return "no fault";
+    }
+}
+
+/* The BASIC error with a number, as the computer tells it behind a question mark. */
+static inline const char *print1525_stop_text(size_t stop) {
+    switch (stop) {
+    case PRINT1525_TOO_MANY_FILES: return "TOO MANY FILES";
+    case PRINT1525_FILE_OPEN: return "FILE OPEN";
+    case PRINT1525_FILE_NOT_OPEN: return "FILE NOT OPEN";
+    case PRINT1525_DEVICE_NOT_PRESENT: return "DEVICE NOT PRESENT";
+    case PRINT1525_NOT_INPUT_FILE: return "NOT INPUT FILE";
+    default: return "NO ERROR";
+    }
+}
+
+/* `printers`: which are on the bus. */
+enum { PRINT1525_NO_PRINTER = 0, PRINT1525_FOUR = 1, PRINT1525_FIVE = 2, PRINT1525_BOTH = 3 };
+/* `status`: cleared before each statement, or kept. */
+enum { PRINT1525_EACH = 0, PRINT1525_KEPT = 1 };
+/* `format` of a page: a line for each row and mark, lines of 80 columns, or an SVG document. */
+enum { PRINT1525_LIST = 0, PRINT1525_TEXT = 1, PRINT1525_SVG = 2 };
+/* `format` of a trace: a line for each edge, or a Value Change Dump. */
+enum { PRINT1525_TRACE = 0, PRINT1525_VCD = 1 };
+/* `set`: the graphic/upper case or the lower/upper case characters. */
+enum { PRINT1525_UPPER = 0, PRINT1525_LOWER = 1 };
+
+/* Runs a script and gives its pages.
+ *
+ * Asks: a script of at most 16,777,216 bytes; printers, status and format of the enums above; and the
+ * numbers of the delays of the computer, of printer 4 and of printer 5, as of the option --delays
+ * (past a list's end, and so with lengths of 0, each delay is the typical one; they change no page).
+ * Gives: the text that `print1525 pages` writes. Code 1 tells the BASIC error that stopped the run;
+ * what was printed until then is in the text.
+ * Refuses, with the buffer as it was: printers (22), status (23) and format (24), in this order; then
+ * a script above the limit (9), or by its first fault (1 to 7) with its line. */
+void print1525_pages(const uint8_t *script, size_t script_length, uint8_t printers, uint8_t status,
+                     const uint16_t *computer, size_t computer_length,
+                     const uint16_t *four, size_t four_length,
+                     const uint16_t *five, size_t five_length,
+                     uint8_t format, uint8_t *buffer, size_t capacity, print1525_answer *answer);
+
+/* Runs a script and gives the trace of its run on the serial bus.
+ *
+ * Asks: what print1525_pages asks, with a format of a trace.
+ * Gives: the text that `print1525 bus` writes, a trace text or a Value Change Dump. Code 1 tells the
+ * BASIC error that stopped the run.
+ * Refuses: as print1525_pages. */
+void print1525_bus(const uint8_t *script, size_t script_length, uint8_t printers, uint8_t status,
+                   const uint16_t *computer, size_t computer_length,
+                   const uint16_t *four, size_t four_length,
+                   const uint16_t *five, size_t five_length,
+                   uint8_t format, uint8_t *buffer, size_t capacity, print1525_answer *answer);
+
+/* Prints the bytes that a printer gets.
+ *
+ * Asks: at most 4,294,967,295 bytes, the character set that is selected before them, and a format of
+ * a page.
+ * Gives: the text that `print1525 raw` writes, the page as that of printer 4.
+ * Refuses, with the buffer as it was: set (25) and format (24), in this order; then bytes above the
+ * limit (9). */
+void print1525_raw(const uint8_t *bytes, size_t bytes_length, uint8_t set, uint8_t format,
+                   uint8_t *buffer, size_t capacity, print1525_answer *answer);
+
+/* Checks a trace text.
+ *
+ * Asks: a text of at most 1,099,511,627,776 bytes, as print1525_bus writes it.
+ * Gives: the text that `print1525 check` writes: a line for each frame that the trace spells, and
+ * `lawful`.
+ * Refuses, with the buffer as it was: a text above the limit (9), or by its first fault: a bad line
+ * (8) with its number, or an edge (11 to 16) with its index. */
+void print1525_check(const uint8_t *text, size_t text_length,
+                     uint8_t *buffer, size_t capacity, print1525_answer *answer);
+
+/* An edge of the serial bus: from this microsecond on the lines stand at these levels, each 0 for
+ * pulled and any other number for released. */
+typedef struct {
+    uint64_t time;
+    uint8_t atn, clock, data;
+} print1525_edge;
+
+/* Gives what a device hears of a trace. Takes no memory.
+ *
+ * Asks: a device of 4 to 30, and edges, the first of them at 0 with all lines released.
+ * Gives: for each input a number, 0 to 255 a byte, 256 the selection of the graphic/upper case set,
+ * 257 that of the lower/upper case set. `capacity` and `length` count numbers.
+ * Refuses, with the buffer as it was: the device (21), then the edges by their first fault (11 to 16)
+ * with its index. */
+void print1525_hear(uint8_t device, const print1525_edge *edges, size_t edges_length,
+                    uint16_t *buffer, size_t capacity, print1525_answer *answer);
+
+/* What is kept of a device between two edges: an ear on the wire. The numbers are the library's; the
+ * caller only keeps them, and may copy them. */
+typedef struct {
+    uint64_t since, released;
+    uint8_t place, sending, eoi, count, byte, bit, unlistened;
+} print1525_ear_place;
+
+typedef struct {
+    size_t taken;
+    print1525_edge last;
+    print1525_ear_place place;
+    uint8_t begun, refused, device, listens, called;
+} print1525_ear;
+
+/* What an ear tells. Each call writes all of it. */
+typedef struct {
+    size_t code;  /* PRINT1525_DONE or PRINT1525_REFUSED */
+    size_t fault; /* with code 2 one of enum print1525_fault, else 0 */
+    size_t place; /* with the faults 11 to 16 the index of the edge, from 0, else 0 */
+    size_t heard; /* 1: an input came with the edge; else 0 */
+    size_t input; /* that input, a number as of print1525_hear; else 0 */
+} print1525_ear_answer;
+
+/* Begins an ear for a device of 4 to 30, to which no edge has come. Takes no memory.
+ *
+ * Refuses, with the ear as it was: the device (21). */
+void print1525_ear_begin(print1525_ear *ear, uint8_t device, print1525_ear_answer *answer);
+
+/* Gives an ear the next edge, and tells the input that comes with it. Takes no memory, and no more time
+ * for a later edge than for an earlier one.
+ *
+ * Asks: an ear that was begun, and edges in order, the first of them at 0 with all lines released.
+ * Gives: with edge after edge the inputs that print1525_hear gives for all of them.
+ * Refuses: numbers that are no ear (26), with the ear as it was; and an edge that no lawful trace has
+ * there (11 to 15) with its index. That fault is told again with each edge behind it; begin the ear anew
+ * to go on. */
+void print1525_ear_edge(print1525_ear *ear, const print1525_edge *edge, print1525_ear_answer *answer);
+
+/* Tells whether the edges that an ear was given are a whole lawful trace. The ear may be given more.
+ *
+ * Refuses: numbers that are no ear (26), and edges that are none by their first fault (11 to 16). */
+void print1525_ear_end(const print1525_ear *ear, print1525_ear_answer *answer);
+
+#ifdef __cplusplus
+}
+#endif
+
+#endif

@@ -1,0 +1,370 @@
+/* The calls of include/print1525.h over standard input, as a test of them: calls CALL SETTING..
+ *
+ *     calls pages PRINTERS STATUS FORMAT DELAYS       (numbers as in the header; DELAYS as of --delays)
+ *     calls bus PRINTERS STATUS FORMAT DELAYS
+ *     calls raw SET FORMAT
+ *     calls check
+ *     calls hear DEVICE                               (a trace text; the inputs that the device hears, a number each line)
+ *     calls settings                                  (numbers that stand for no setting; no input)
+ *
+ * Writes the text to standard output, and a line to standard error as print1525 does, and ends with the answer's
+ * code. Before that the call is made with buffers of sizes from 0 on (each size up to MOST_SIZES, else some), and
+ * with each allocation refused in turn (CALLS=once in the environment leaves both out). Input and buffer end where
+ * memory ends, so a byte read or written beyond them is a fault. Each answer has to be as the header says, all
+ * memory has to be given back, and a refusal may change nothing; else a line beginning with WRONG is told, and the
+ * status is 99. Linked with -Wl,--wrap=malloc,--wrap=realloc,--wrap=free. */
+#define _DEFAULT_SOURCE
+#include "print1525.h"
+#include <stdio.h>
+#include <stdlib.h>
+#include <string.h>
+#include <sys/mman.h>
+#include <unistd.h>
+
+#define MOST_SIZES 2048
+#define MOST_REFUSALS 400
+#define UNTOUCHED 0xA5
+
+/* malloc, realloc and free as the library calls them: counted, and one of them refused. */
+static long live, taken, refused_one;
+
+#ifdef __cplusplus
+extern "C" {
+#endif
+void *__real_malloc(size_t size);
+void *__real_realloc(void *old, size_t size);
+void __real_free(void *old);
+void *__wrap_malloc(size_t size);
+void *__wrap_realloc(void *old, size_t size);
+void __wrap_free(void *old);
+
+void *__wrap_malloc(size_t size) {
+    void *block;
+    if (++taken == refused_one) return NULL;
+    block = __real_malloc(size);
+    live += block != NULL;
+    return block;
+}
+
+void *__wrap_realloc(void *old, size_t size) {
+    if (++taken == refused_one) return NULL;
+    live += old == NULL;
+    return __real_realloc(old, size);
+}
+
+void __wrap_free(void *old) {
+    live -= old != NULL;
+    __real_free(old);
+}
+#ifdef __cplusplus
+}
+#endif
+
+static int wrong;
+
+static void is_wrong(const char *what, size_t number) {
+    if (wrong++ < 5) fprintf(stderr, "WRONG: %s, %lu\n", what, (unsigned long)number);
+}
+
+/* Bytes that end where memory ends. */
+typedef struct {
+    uint8_t *bytes;
+    size_t size;
+} guarded;
+
+static guarded guard(size_t size) {
+    const size_t page = (size_t)sysconf(_SC_PAGESIZE), whole = (size + page) / page * page;
+    uint8_t *start = (uint8_t *)mmap(NULL, whole + page, PROT_READ | PROT_WRITE, MAP_PRIVATE | MAP_ANONYMOUS, -1, 0);
+    guarded made;
+    if (start == (uint8_t *)MAP_FAILED || mprotect(start + whole, page, PROT_NONE) != 0) exit(98);
+    made.bytes = start + whole - size;
+    made.size = size;
+    return made;
+}
+
+/* One call with all that it is passed but the buffer. */
+typedef struct {
+    const char *name;
+    uint8_t first, second, format;
+    const uint8_t *input;
+    size_t length;
+    uint16_t delays[3][200];
+    size_t counts[3];
+} job;
+
+/* The lists of a value of --delays. */
+static void read_delays(job *j, const char *text) {
+    int list = 0;
+    while (*text) {
+        if (*text == '/') list++, text++;
+        else if (*text == ',') text++;
+        else {
+            char *end;
+            j->delays[list][j->counts[list]++] = (uint16_t)strtoul(text, &end, 10);
+            text = end;
+        }
+    }
+}
+
+/* Makes the call. No more memory may be taken after it than before. */
+static print1525_answer call(const job *j, uint8_t *buffer, size_t capacity) {
+    print1525_answer answer;
+    const long before = live;
+    memset(&answer, UNTOUCHED, sizeof answer);
+    if (strcmp(j->name, "pages") == 0)
+        print1525_pages(j->input, j->length, j->first, j->second, j->delays[0], j->counts[0], j->delays[1], j->counts[1],
+                        j->delays[2], j->counts[2], j->format, buffer, capacity, &answer);
+    else if (strcmp(j->name, "bus") == 0)
+        print1525_bus(j->input, j->length, j->first, j->second, j->delays[0], j->counts[0], j->delays[1], j->counts[1],
+                      j->delays[2], j->counts[2], j->format, buffer, capacity, &answer);
+    else if (strcmp(j->name, "raw") == 0)
+        print1525_raw(j->input, j->length, j->first, j->format, buffer, capacity, &answer);
+    else
+        print1525_check(j->input, j->length, buffer, capacity, &answer);
+    if (live != before) is_wrong("memory is not given back", (size_t)(live - before));
+    return answer;
+}
+
+static int is_untouched(const uint8_t *bytes, size_t count) {
+    size_t index;
+    for (index = 0; index < count; index++)
+        if (bytes[index] != UNTOUCHED) return 0;
+    return 1;
+}
+
+static int is_answer(print1525_answer answer, size_t code, size_t fault, size_t place, size_t length) {
+    return answer.code == code && answer.fault == fault && answer.place == place && answer.length == length;
+}
+
+/* The answer to a call with this capacity is the same text, or that it has no room, or the same refusal. */
+static void try_size(const job *j, guarded buffer, size_t capacity, print1525_answer true_answer, const uint8_t *text) {
+    uint8_t *const front = buffer.bytes + buffer.size - capacity;
+    print1525_answer answer;
+    memset(buffer.bytes, UNTOUCHED, buffer.size);
+    answer = call(j, front, capacity);
+    if (!is_untouched(buffer.bytes, buffer.size - capacity)) is_wrong("bytes before the buffer are written", capacity);
+    if (true_answer.code <= PRINT1525_STOPPED && true_answer.length <= capacity) {
+        if (!is_answer(answer, true_answer.code, true_answer.fault, true_answer.place, true_answer.length) ||
+            memcmp(front, text, answer.length) != 0)
+            is_wrong("another text in a buffer of size", capacity);
+        if (!is_untouched(front + true_answer.length, capacity - true_answer.length))
+            is_wrong("bytes behind the text are written, size", capacity);
+        return;
+    }
+    if (!is_untouched(front, capacity)) is_wrong("the buffer is written, size", capacity);
+    if (true_answer.code <= PRINT1525_STOPPED
+            ? !is_answer(answer, PRINT1525_TOO_SMALL, 0, 0, true_answer.length)
+            : !is_answer(answer, true_answer.code, true_answer.fault, true_answer.place, 0))
+        is_wrong("another answer to a buffer of size", capacity);
+}
+
+/* With an allocation refused the answer is want of memory with an untouched buffer, or where the C library's refusal
+ * does not matter, the same as ever. */
+static size_t try_refusals(const job *j, guarded buffer, size_t capacity, print1525_answer true_answer, const uint8_t *text) {
+    uint8_t *const front = buffer.bytes + buffer.size - capacity;
+    size_t told = 0;
+    long all, step, number;
+    taken = 0;
+    call(j, front, capacity);
+    all = taken;
+    step = all / MOST_REFUSALS + 1;
+    for (number = 1; number <= all; number += step) {
+        print1525_answer answer;
+        memset(buffer.bytes, UNTOUCHED, buffer.size);
+        taken = 0;
+        refused_one = number;
+        answer = call(j, front, capacity);
+        refused_one = 0;
+        if (answer.code == PRINT1525_NO_MEMORY) {
+            told++;
+            if (!is_answer(answer, PRINT1525_NO_MEMORY, 0, 0, 0) || !is_untouched(front, capacity))
+                is_wrong("what a refused allocation leaves", (size_t)number);
+        } else if (!is_answer(answer, true_answer.code, true_answer.fault, true_answer.place, true_answer.length) ||
+                   (true_answer.code <= PRINT1525_STOPPED && memcmp(front, text, true_answer.length) != 0))
+            is_wrong("another answer with a refused allocation", (size_t)number);
+    }
+    if (all > 0 && told == 0) is_wrong("no refused allocation is told", (size_t)all);
+    return told;
+}
+
+/* The call with sizes from 0 to what is needed and beyond. */
+static void try_sizes(const job *j, guarded buffer, print1525_answer true_answer, const uint8_t *text) {
+    const size_t needed = true_answer.length, step = needed <= MOST_SIZES ? 1 : needed / 50;
+    size_t capacity;
+    for (capacity = 0; capacity < needed + 2; capacity += step) try_size(j, buffer, capacity, true_answer, text);
+    for (capacity = needed < 8 ? 0 : needed - 8; capacity <= needed + 16; capacity++)
+        try_size(j, buffer, capacity, true_answer, text);
+}
+
+/* The edges of a trace text, each with one digit for each line of the bus. */
+static size_t read_edges(const guarded text, print1525_edge *edges) {
+    size_t index = 0, count = 0;
+    while (index < text.size) {
+        uint64_t time = 0;
+        while (index < text.size && text.bytes[index] >= '0' && text.bytes[index] <= '9')
+            time = time * 10 + (uint64_t)(text.bytes[index++] - '0');
+        if (index + 5 > text.size || text.bytes[index] != ' ' || text.bytes[index + 4] != '\n') exit(97);
+        edges[count].time = time;
+        edges[count].atn = text.bytes[index + 1] != '0';
+        edges[count].clock = text.bytes[index + 2] != '0';
+        edges[count].data = text.bytes[index + 3] != '0';
+        count++;
+        index += 5;
+    }
+    return count;
+}
+
+/* An ear that is given the edges one by one hears the same inputs, or tells the same first fault; and takes no memory. */
+static void try_ear(uint8_t device, const print1525_edge *edges, size_t count, print1525_answer whole, const uint16_t *inputs) {
+    print1525_ear ear;
+    print1525_ear_answer answer;
+    size_t heard = 0, index;
+    print1525_ear_begin(&ear, device, &answer);
+    for (index = 0; index < count && answer.code == PRINT1525_DONE; index++) {
+        print1525_ear_edge(&ear, &edges[index], &answer);
+        if (answer.heard && (whole.code == PRINT1525_DONE) && (heard >= whole.length || answer.input != inputs[heard]))
+            is_wrong("an ear hears another input at edge", index);
+        heard += answer.heard;
+    }
+    if (answer.code == PRINT1525_DONE) print1525_ear_end(&ear, &answer);
+    if (answer.code != whole.code || answer.fault != whole.fault || answer.place != whole.place)
+        is_wrong("an ear tells another answer, fault", answer.fault);
+    if (whole.code == PRINT1525_DONE && heard != whole.length) is_wrong("an ear hears so many inputs", heard);
+}
+
+/* What a device hears: the whole list at once with buffers of all sizes, and edge by edge. */
+static print1525_answer hear(uint8_t device, guarded text) {
+    print1525_edge *edges;
+    guarded place = guard((text.size / 6 + 1) * sizeof *edges), room, before;
+    print1525_answer answer, small;
+    size_t count, capacity, index;
+    uint16_t *inputs;
+    edges = (print1525_edge *)(void *)(place.bytes - (size_t)place.bytes % sizeof(uint64_t));
+    count = read_edges(text, edges);
+    room = guard((count + 1) * sizeof *inputs);
+    before = guard(room.size);
+    inputs = (uint16_t *)(void *)room.bytes;
+    taken = 0;
+    memset(room.bytes, UNTOUCHED, room.size);
+    print1525_hear(device, edges, count, inputs, count + 1, &answer);
+    for (capacity = 0; answer.code == PRINT1525_DONE && capacity < answer.length; capacity++) {
+        uint16_t *const front = inputs + (count + 1 - capacity);
+        memcpy(before.bytes, room.bytes, room.size);
+        print1525_hear(device, edges, count, front, capacity, &small);
+        if (!is_answer(small, PRINT1525_TOO_SMALL, 0, 0, answer.length) || memcmp(before.bytes, room.bytes, room.size) != 0)
+            is_wrong("another answer to a buffer of inputs of size", capacity);
+    }
+    for (index = answer.code == PRINT1525_DONE ? answer.length : 0; index <= count; index++)
+        if (inputs[index] != (UNTOUCHED << 8 | UNTOUCHED)) is_wrong("an input behind those heard is written", index);
+    if (answer.code > PRINT1525_REFUSED) is_wrong("an answer of print1525_hear", answer.code);
+    try_ear(device, edges, count, answer, inputs);
+    if (taken != 0) is_wrong("print1525_hear or an ear takes memory", (size_t)taken);
+    for (index = 0; answer.code == PRINT1525_DONE && index < answer.length; index++) printf("%u\n", (unsigned)inputs[index]);
+    return answer;
+}
+
+/* The line that the program tells on standard error; after a stop the last line of its page text. */
+static void tell(print1525_answer answer) {
+    const unsigned long place = (unsigned long)answer.place;
+    if (answer.code == PRINT1525_STOPPED) fprintf(stderr, "stop %lu at %lu\n", (unsigned long)answer.fault, place);
+    if (answer.code == PRINT1525_NO_MEMORY) fprintf(stderr, "print1525: %s\n", print1525_code_text(answer.code));
+    if (answer.code != PRINT1525_REFUSED) return;
+    fprintf(stderr, "print1525: ");
+    if (answer.fault <= PRINT1525_BAD_LINE) fprintf(stderr, "line %lu: ", place);
+    else if (answer.fault >= PRINT1525_START && answer.fault <= PRINT1525_TRUNCATED) fprintf(stderr, "edge %lu: ", place);
+    fprintf(stderr, "%s\n", print1525_fault_text(answer.fault));
+}
+
+/* Each number that stands for no setting is refused, the first of several, before the input is looked at. */
+static void try_settings(void) {
+    static const struct {
+        const char *name;
+        uint8_t first, second, format;
+        size_t fault;
+    } rows[] = {
+        {"pages", 4, 0, 0, PRINT1525_NO_SUCH_PRINTERS}, {"pages", 255, 2, 3, PRINT1525_NO_SUCH_PRINTERS},
+        {"pages", 3, 2, 0, PRINT1525_NO_SUCH_STATUS},   {"pages", 3, 255, 3, PRINT1525_NO_SUCH_STATUS},
+        {"pages", 3, 1, 3, PRINT1525_NO_SUCH_FORMAT},   {"pages", 0, 0, 255, PRINT1525_NO_SUCH_FORMAT},
+        {"bus", 4, 0, 0, PRINT1525_NO_SUCH_PRINTERS},   {"bus", 255, 2, 2, PRINT1525_NO_SUCH_PRINTERS},
+        {"bus", 3, 2, 0, PRINT1525_NO_SUCH_STATUS},     {"bus", 3, 255, 2, PRINT1525_NO_SUCH_STATUS},
+        {"bus", 3, 1, 2, PRINT1525_NO_SUCH_FORMAT},     {"bus", 0, 0, 255, PRINT1525_NO_SUCH_FORMAT},
+        {"raw", 2, 0, 0, PRINT1525_NO_SUCH_SET},        {"raw", 255, 0, 3, PRINT1525_NO_SUCH_SET},
+        {"raw", 1, 0, 3, PRINT1525_NO_SUCH_FORMAT},     {"raw", 0, 0, 255, PRINT1525_NO_SUCH_FORMAT},
+    };
+    static job j;
+    const guarded input = guard(7), buffer = guard(99);
+    size_t row;
+    memcpy(input.bytes, "NO WORD", 7);
+    for (row = 0; row < sizeof rows / sizeof *rows; row++) {
+        print1525_answer answer;
+        memset(buffer.bytes, UNTOUCHED, buffer.size);
+        j.name = rows[row].name;
+        j.first = rows[row].first;
+        j.second = rows[row].second;
+        j.format = rows[row].format;
+        j.input = input.bytes;
+        j.length = input.size;
+        answer = call(&j, buffer.bytes, buffer.size);
+        if (!is_answer(answer, PRINT1525_REFUSED, rows[row].fault, 0, 0) || !is_untouched(buffer.bytes, buffer.size))
+            is_wrong("a setting that is none, row", row);
+    }
+}
+
+/* All of standard input, ending where memory ends. */
+static guarded read_all(void) {
+    size_t room = 1 << 20, count = 0, got;
+    uint8_t *bytes = (uint8_t *)malloc(room);
+    guarded made;
+    while (bytes && (got = fread(bytes + count, 1, room - count, stdin)) > 0)
+        if ((count += got) == room) bytes = (uint8_t *)realloc(bytes, room *= 2);
+    if (!bytes) exit(98);
+    made = guard(count);
+    memcpy(made.bytes, bytes, count);
+    free(bytes);
+    return made;
+}
+
+int main(int words, char **word) {
+    static job j;
+    const char *once = getenv("CALLS");
+    print1525_answer answer;
+    guarded input, buffer, empty = guard(0);
+    if (words < 2) return 98;
+    j.name = word[1];
+    if (strcmp(j.name, "settings") == 0) {
+        try_settings();
+        return wrong ? 99 : 0;
+    }
+    if (strcmp(j.name, "hear") == 0) {
+        answer = hear((uint8_t)(words > 2 ? atoi(word[2]) : 4), read_all());
+        tell(answer);
+        return wrong ? 99 : (int)answer.code;
+    }
+    if (words > 2) j.first = (uint8_t)atoi(word[2]);
+    if (strcmp(j.name, "raw") == 0 && words > 3) j.format = (uint8_t)atoi(word[3]);
+    else if (words > 5) {
+        j.second = (uint8_t)atoi(word[3]);
+        j.format = (uint8_t)atoi(word[4]);
+        read_delays(&j, word[5]);
+    }
+    input = read_all();
+    j.input = input.bytes;
+    j.length = input.size;
+    answer = call(&j, empty.bytes, 0);
+    buffer = guard(answer.code == PRINT1525_TOO_SMALL ? answer.length + 16 : 99);
+    if (answer.code == PRINT1525_TOO_SMALL) {
+        uint8_t *const front = buffer.bytes + 16;
+        const size_t needed = answer.length;
+        answer = call(&j, front, needed);
+        if (answer.code > PRINT1525_STOPPED || answer.length != needed) is_wrong("another text than was asked for", needed);
+        fwrite(front, 1, answer.length, stdout);
+    }
+    if (!once || strcmp(once, "once") != 0) {
+        guarded text = guard(answer.length);
+        memcpy(text.bytes, buffer.bytes + 16, answer.code <= PRINT1525_STOPPED ? answer.length : 0);
+        try_sizes(&j, buffer, answer, text.bytes);
+        try_refusals(&j, buffer, answer.code <= PRINT1525_STOPPED ? answer.length : 9, answer, text.bytes);
+    }
+    tell(answer);
+    return wrong ? 99 : (int)answer.code;
+}
