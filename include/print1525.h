@@ -69,8 +69,10 @@ enum print1525_fault {
     PRINT1525_NO_SUCH_STATUS = 23,
     PRINT1525_NO_SUCH_FORMAT = 24,
     PRINT1525_NO_SUCH_SET = 25,
-    /* of an ear that print1525_ear_begin has not begun; `place` is 0 */
-    PRINT1525_NO_EAR = 26
+    /* of an ear that print1525_ear_begin has not begun, and of a decoder that print1525_decode_begin has
+     * not; `place` is 0 */
+    PRINT1525_NO_EAR = 26,
+    PRINT1525_NO_DECODER = 27
 };
 
 /* The BASIC error that stopped a run: `fault` beside PRINT1525_STOPPED; `place` is the statement at
@@ -88,7 +90,8 @@ typedef struct {
     size_t code;   /* one of enum print1525_code */
     size_t fault;  /* with code 1 one of enum print1525_stop, with code 2 of enum print1525_fault, else 0 */
     size_t place;  /* with codes 1 and 2 the statement, the line or the edge as those say, else 0 */
-    size_t length; /* with codes 0, 1 and 4 the bytes of the text (of print1525_hear: the inputs), else 0 */
+    size_t length; /* with codes 0, 1 and 4 the bytes of the text (of print1525_hear the inputs, of a
+                    * decoder the readings, 0 or 1), else 0 */
 } print1525_answer;
 
 /* What a code says. */
@@ -128,6 +131,7 @@ static inline const char *print1525_fault_text(size_t fault) {
     case PRINT1525_NO_SUCH_FORMAT: return "no such format";
     case PRINT1525_NO_SUCH_SET: return "no such character set";
     case PRINT1525_NO_EAR: return "no ear";
+    case PRINT1525_NO_DECODER: return "no decoder";
     default: return "no fault";
     }
 }
@@ -261,6 +265,66 @@ void print1525_ear_edge(print1525_ear *ear, const print1525_edge *edge, print152
  *
  * Refuses: numbers that are no ear (26), and edges that are none by their first fault (11 to 16). */
 void print1525_ear_end(const print1525_ear *ear, print1525_ear_answer *answer);
+
+/* A byte on the wires as far as it came, with its moments in microseconds; what it has not is 0. */
+typedef struct {
+    uint64_t look;                          /* CLOCK is released and DATA is pulled */
+    uint64_t ready;                         /* DATA is released */
+    uint64_t answered, answer_ended;        /* with end-or-identify DATA is pulled, and released again */
+    uint64_t pull;                          /* CLOCK's first pull */
+    uint64_t shortest_low, longest_low;     /* for how long CLOCK is pulled in its bits */
+    uint64_t shortest_high, longest_high;   /* for how long CLOCK is released in them */
+    uint64_t last_pull;                     /* CLOCK's last pull */
+    uint8_t command;                        /* 1: a command; 0: a data byte */
+    uint8_t eoi;                            /* 1: with end-or-identify */
+    uint8_t bits;                           /* how many bits came whole, at most eight */
+    uint8_t byte;                           /* their number, the lowest bit first */
+} print1525_byte;
+
+/* `kind` of a reading: of a whole byte how it ends, and of one begun and not ended what ended it. */
+enum print1525_kind {
+    PRINT1525_NOTHING = 0,
+    PRINT1525_ACKNOWLEDGED = 1,     /* a whole byte, at whose end DATA is pulled */
+    PRINT1525_UNACKNOWLEDGED = 2,   /* a whole byte, at whose end CLOCK is released or ATN pulled */
+    PRINT1525_CUT = 3,              /* a whole byte, behind which the recording ends */
+    PRINT1525_ATTENTION = 4,        /* ATN is pulled within the byte */
+    PRINT1525_SILENCE = 5,          /* CLOCK is released for more than 1000 microseconds within it */
+    PRINT1525_CUT_WITHIN = 6        /* the recording ends within it */
+};
+
+/* What a recording says at one place. */
+typedef struct {
+    print1525_byte byte;
+    uint64_t end; /* the moment of its end; 0 where the recording ends before */
+    uint8_t kind; /* one of enum print1525_kind */
+} print1525_reading;
+
+/* What is kept of a recording between two edges. The numbers are the library's; the caller only keeps
+ * them, and may copy them. */
+typedef struct {
+    print1525_edge first, last, turn1, turn2, turn3, turn4;
+    print1525_byte byte;
+    uint8_t begun, called, turns, sent;
+} print1525_decoder;
+
+/* Begins a decoder of a recording, from whatever bus and however it begins. Takes no memory. */
+void print1525_decode_begin(print1525_decoder *decoder);
+
+/* Gives a decoder the next edge, and tells the reading that it settles. Takes no memory, and no more time
+ * for a later edge than for an earlier one.
+ *
+ * Asks: a decoder that was begun, and edges whose times do not go back; several may stand at one time.
+ * Gives: `length` 1 and the reading, or 0 and one that is PRINT1525_NOTHING.
+ * Refuses, with the decoder as it was and PRINT1525_NOTHING: numbers that are no decoder (27), and an edge
+ * that stands before the one taken last (12). */
+void print1525_decode_edge(print1525_decoder *decoder, const print1525_edge *edge,
+                           print1525_reading *reading, print1525_answer *answer);
+
+/* Tells the reading that the end of a recording cuts, if it cuts one. The decoder may be given more edges.
+ *
+ * Refuses: numbers that are no decoder (27). */
+void print1525_decode_end(const print1525_decoder *decoder, print1525_reading *reading,
+                          print1525_answer *answer);
 
 #ifdef __cplusplus
 }

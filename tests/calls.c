@@ -6,6 +6,7 @@
  *     calls check
  *     calls hear DEVICE                               (a trace text; the inputs that the device hears, a number each line)
  *     calls settings                                  (numbers that stand for no setting; no input)
+ *     calls decoder                                   (a decoder's answers and refusals; no input)
  *
  * Writes the text to standard output, and a line to standard error as print1525 does, and ends with the answer's
  * code. Before that the call is made with buffers of sizes from 0 on (each size up to MOST_SIZES, else some), and
@@ -310,6 +311,51 @@ static void try_settings(void) {
     }
 }
 
+/* A decoder refuses numbers that are none, and an edge that stands before the one taken last, with nothing changed; a byte that the
+ * recording's end cuts is told by the end alone, as often as it is asked for. */
+static void try_decoder(void) {
+    static const char levels[] = "100110111101111101";
+    static const print1525_edge later = {9, 1, 0, 1}, earlier = {8, 1, 1, 1};
+    print1525_decoder decoder, before;
+    print1525_reading reading;
+    print1525_answer answer;
+    size_t index;
+    memset(&decoder, UNTOUCHED, sizeof decoder);
+    before = decoder;
+    print1525_decode_edge(&decoder, &later, &reading, &answer);
+    if (!is_answer(answer, PRINT1525_REFUSED, PRINT1525_NO_DECODER, 0, 0) || reading.kind != PRINT1525_NOTHING)
+        is_wrong("an edge for numbers that are no decoder", answer.fault);
+    print1525_decode_end(&decoder, &reading, &answer);
+    if (!is_answer(answer, PRINT1525_REFUSED, PRINT1525_NO_DECODER, 0, 0)) is_wrong("an end for no decoder", answer.fault);
+    if (memcmp(&before, &decoder, sizeof decoder) != 0) is_wrong("a refused decoder is changed", 0);
+    print1525_decode_begin(&decoder);
+    print1525_decode_edge(&decoder, &later, &reading, &answer);
+    before = decoder;
+    print1525_decode_edge(&decoder, &earlier, &reading, &answer);
+    if (!is_answer(answer, PRINT1525_REFUSED, PRINT1525_ORDER, 0, 0) || memcmp(&before, &decoder, sizeof decoder) != 0)
+        is_wrong("an edge that goes back", answer.fault);
+    print1525_decode_begin(&decoder);
+    for (index = 0; index < 6; index++) {
+        const char *const level = levels + 3 * index;
+        print1525_edge edge;
+        edge.time = 100 * index;
+        edge.atn = level[0] != '0';
+        edge.clock = level[1] != '0';
+        edge.data = level[2] != '0';
+        print1525_decode_edge(&decoder, &edge, &reading, &answer);
+        if (!is_answer(answer, PRINT1525_DONE, 0, 0, 0) || reading.kind != PRINT1525_NOTHING || reading.byte.look != 0)
+            is_wrong("a reading at edge", index);
+    }
+    for (index = 0; index < 2; index++) {
+        print1525_decode_end(&decoder, &reading, &answer);
+        if (!is_answer(answer, PRINT1525_DONE, 0, 0, 1) || reading.kind != PRINT1525_CUT_WITHIN || reading.end != 0 ||
+            reading.byte.look != 100 || reading.byte.ready != 200 || reading.byte.pull != 300 || reading.byte.last_pull != 500 ||
+            reading.byte.bits != 1 || reading.byte.byte != 1 || reading.byte.command != 0 || reading.byte.eoi != 0 ||
+            reading.byte.shortest_low != 100 || reading.byte.longest_high != 100)
+            is_wrong("the byte that is cut", index);
+    }
+}
+
 /* All of standard input, ending where memory ends. */
 static guarded read_all(void) {
     size_t room = 1 << 20, count = 0, got;
@@ -333,6 +379,10 @@ int main(int words, char **word) {
     j.name = word[1];
     if (strcmp(j.name, "settings") == 0) {
         try_settings();
+        return wrong ? 99 : 0;
+    }
+    if (strcmp(j.name, "decoder") == 0) {
+        try_decoder();
         return wrong ? 99 : 0;
     }
     if (strcmp(j.name, "hear") == 0) {

@@ -1,0 +1,49 @@
+/* What a recording of the bus says, edge by edge: when each whole byte was ready, CLOCK's last pull, what it is:
+ * decode < RECORDING (a line an edge, as `100 001`)
+ * The recording may be of any bus and begin anywhere. Between two edges only a decoder is kept; nothing here calls
+ * malloc. */
+#include "print1525.h"
+#include <stdio.h>
+
+/* The next edge that was recorded; 0 where none comes. */
+static int next_edge(print1525_edge *edge) {
+    int c = getchar();
+    edge->time = 0;
+    for (; c >= '0' && c <= '9'; c = getchar()) edge->time = edge->time * 10 + (uint64_t)(c - '0');
+    if (c != ' ') return 0;
+    edge->atn = getchar() != '0';
+    edge->clock = getchar() != '0';
+    edge->data = getchar() != '0';
+    return getchar() == '\n';
+}
+
+/* Tells a whole byte; of one begun and not ended nothing. */
+static void tell(const print1525_reading *reading) {
+    const print1525_byte *byte = &reading->byte;
+    if (reading->kind < PRINT1525_ACKNOWLEDGED || reading->kind > PRINT1525_CUT) return;
+    printf("%lu %lu %s %u%s\n", (unsigned long)byte->ready, (unsigned long)byte->last_pull,
+           byte->command ? "command" : "data", (unsigned)byte->byte, byte->eoi ? " eoi" : "");
+}
+
+int main(void) {
+    static char in[4096], out[4096];
+    print1525_decoder decoder;
+    print1525_edge edge;
+    print1525_reading reading;
+    print1525_answer answer;
+    setvbuf(stdin, in, _IOFBF, sizeof in);
+    setvbuf(stdout, out, _IOFBF, sizeof out);
+
+    print1525_decode_begin(&decoder);
+    while (next_edge(&edge)) {
+        print1525_decode_edge(&decoder, &edge, &reading, &answer);
+        if (answer.code != PRINT1525_DONE) {
+            fprintf(stderr, "%s\n", print1525_fault_text(answer.fault));
+            return (int)answer.code;
+        }
+        tell(&reading);
+    }
+    print1525_decode_end(&decoder, &reading, &answer);
+    tell(&reading);
+    return (int)answer.code;
+}
