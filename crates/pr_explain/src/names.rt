@@ -21,15 +21,27 @@ pub fn push_names(
 ) -> Result<(), NoMemory>
     ensures { OnOk result (IsFresh text.old.items → IsWithin text.new.items) }
 {
-    let names = match kind {
-        Recording::Dump => push_dump_names(text, recording)?,
-        Recording::Table => push_table_names(text, line)?,
-    };
+    let names = push_each_name(text, recording, line, kind)?;
     push_names_end(text, names, kind)?;
     push(
         text,
         "\n  --names tells which signals are ATN, CLOCK and DATA, as in --names ATN,CLOCK,DATA",
     )
+}
+
+/// Adds the names of a recording's signals, and gives how many they are.
+fn push_each_name(
+    text: &mut Vec<u8>,
+    recording: &[u8],
+    line: &[u8],
+    kind: Recording,
+) -> Result<NameList, NoMemory>
+    ensures { IfOk result (λ names. IsFresh text.old.items → IsNamed names.count text.new.items) }
+{
+    match kind {
+        Recording::Dump => push_dump_names(text, recording),
+        Recording::Table => push_table_names(text, line),
+    }
 }
 
 /// Adds that more names came than are told, or that none came.
