@@ -31,8 +31,8 @@ is_within_line bytes = list_all (λ b. not (b == 10)) bytes
 abbrev pub are_spaces : List ℕ → Bool
 are_spaces bytes = list_all (λ b. b == 32) bytes
 
--- a text is a line, a line of spaces with a caret behind them, and the words for a place from there on: no other caret stands first in
--- its line, so no other place is told
+-- in the first line of a text a line is shown, its second is spaces and a caret, and its third begins with the words for a place: so a
+-- text tells one place at most
 pub record TellsSpot (words text : List ℕ) : Type 0 where
   pub shown : List ℕ
   pub indent : List ℕ

@@ -92,7 +92,7 @@ fault_line (Trace (trace.BadLine n)) = Some n
 fault_line (Capture fault) = capture_line fault
 fault_line _ = None
 
--- no line of these begins as the words for an edge do, or those for brackets; the first of them, which stands behind its number, may
+-- no line of these begins as the words for an edge do, or those for brackets, but for the first, which stands behind its number
 abbrev pub TellsNoEdge : List ℕ → Type 0
 TellsNoEdge shown = (front line : List ℕ) → shown ≡ front ++ 10 ∷ line
     → Begins (codes "  line ") line ⊎ (Begins (codes "  edge ") line ⊎ Begins (codes "  [in brackets") line) → ⊥

@@ -45,11 +45,7 @@ fn push_each_name(
 }
 
 /// Adds that more names came than are told, or that none came.
-fn push_names_end(
-    text: &mut Vec<u8>,
-    names: NameList,
-    kind: Recording,
-) -> Result<(), NoMemory>
+fn push_names_end(text: &mut Vec<u8>, names: NameList, kind: Recording) -> Result<(), NoMemory>
     ensures { OnOk result (IsNamed names.count text.old.items → IsWithin text.new.items) }
 {
     if names.count == 0 {

@@ -12,4 +12,4 @@ returns c =
     on_ok c.push-3.result _ _ c.push-3.ensures
     (λ e. λ fresh.
     after_words false true c.push_cut.new.text.items c.push-3.new.text.items _
-    (after_shown c.push-2.new.text.items c.push_cut.new.text.items (after_words true false c.args.text.now.items c.push-2.new.text.items _ fresh c.in_ok-push-2.ensures refl) c.in_ok-push_cut.ensures) e refl)
+    (after_shown c.push-2.new.text.items c.push_cut.new.text.items (after_words true false c.args.text.now.items c.push-2.new.text.items _ fresh c.in_ok-push.ensures refl) c.in_ok-push_cut.ensures) e refl)
