@@ -6,7 +6,8 @@ use Rattle.pr_basic.specs.Limits.{statement_limit}
 use Rattle.pr_basic.specs.Grammar.{AreLines, IsLine, IsScript, without_return}
 use Rattle.pr_basic.specs.declared.statement.Statement.{Statement}
 use Rattle.pr_channels.specs.declared.faults.Stop.{Stop}
-use Rattle.pr_explain.specs.StopTold.{IsLabel, IsStatementLine, TellsStop, stop_words}
+use Rattle.pr_explain.specs.StopTold.{IsStatementLine, TellsStop, stop_words}
+use Rattle.pr_explain.specs.Told.{IsLabel}
 
 -- a line ends at its first byte 10
 pub cut_here : (bs : List ℕ) (i : ℕ) → i < length bs → get_or bs i 0 ≡ 10 → ((k : ℕ) → k < i → get_or bs k 0 ≡ 10 → ⊥) → lines_of bs ≡ take i bs ∷ lines_of (drop (suc i) bs)

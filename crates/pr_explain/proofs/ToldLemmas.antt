@@ -1,12 +1,11 @@
 -- Which places texts name.
-use Rattle.std.proofs.Common.{◌≡◌, ℕ, ◌+◌, ◌-◌, List, [], ◌++◌, refl, ap, subst, ◌∙◌, append_assoc, Some, Result, Ok, Err}
+use Rattle.std.proofs.Common.{◌≡◌, ℕ, ◌+◌, ◌-◌, List, [], ◌++◌, refl, ap, subst, ◌∙◌, append_assoc, Option, Some, Result, Ok, Err}
 use Rattle.std.specs.Prelude.{IfOk, OnOk, Vec}
 use Rattle.std.specs.Global.{Global}
 use Rattle.pr_basic.specs.declared.fault.ScriptFault.{ScriptFault}
 use Rattle.pr_basic.specs.FaultPlaces.{IsFirstFaultAt}
 use Rattle.pr_basic.specs.LineAt.{IsLineAt}
-use Rattle.pr_explain.specs.Places.{IsSpotTold}
-use Rattle.pr_explain.specs.Told.{Begins, Has, TellsFault, spot_words}
+use Rattle.pr_explain.specs.Told.{Begins, IsLabel, TellsFault, TellsSpot, spot_words}
 
 -- words at the front, and more behind them
 pub begins_words : (front words text all rest : List ℕ) → front ≡ [] → text ≡ front ++ words → all ≡ text ++ rest → Begins words all
@@ -23,19 +22,21 @@ on_ok (Ok x) P Q p f = f p
 on_ok (Err e) P Q p f = tt
 
 -- the place of a script's fault
-pub fault_named : (script : List ℕ) (fault : ScriptFault) (place start number : ℕ) (line : List ℕ) (n m : ℕ) {E : Type 0} (v : Result (Vec ℕ Global) E) → IsFirstFaultAt script fault place
-    → IsLineAt script place start line number → n ≡ number → m ≡ place - start → IfOk v (λ text. IsSpotTold n (m + 1) text.items) → IfOk v (λ text. TellsFault script text.items)
-fault_named script fault place start number line n m (Err e) first at a b has = tt
-fault_named script fault place start number line n m (Ok text) first at a b has = record {
-  fault = fault;
-  place = place;
-  start = start;
-  line = line;
-  number = number;
-  label = has.0;
-  is_first = first;
-  is_line = at;
-  told =
-      let k : Has (spot_words n (m + 1) has.0) text.items ≡ Has (spot_words number (place - start + 1) has.0) text.items = rw (a, b) refl in
-      subst (λ (t : Type 0). t) k has.1;
-}
+pub fault_named : (script : List ℕ) (fault : ScriptFault) (place start number : ℕ) (line : List ℕ) (n m : ℕ) (label : Option ℕ) {E : Type 0} (v : Result (Vec ℕ Global) E) → IsFirstFaultAt script fault place
+    → IsLineAt script place start line number → n ≡ number → m ≡ place - start → IsLabel line label → IfOk v (λ text. TellsSpot (spot_words n (m + 1) label) text.items) → IfOk v (λ text. TellsFault script text.items)
+fault_named script fault place start number line n m label (Err e) first at a b labelled told = tt
+fault_named script fault place start number line n m label (Ok text) first at a b labelled told =
+    let P : List ℕ → Type 0 = λ words. TellsSpot words text.items in
+    let same : spot_words n (m + 1) label ≡ spot_words number (place - start + 1) label = rw (a, b) refl in
+    record {
+      fault = fault;
+      place = place;
+      start = start;
+      line = line;
+      number = number;
+      label = label;
+      is_first = first;
+      is_line = at;
+      labelled = labelled;
+      told = subst P same told;
+    }

@@ -1,6 +1,6 @@
 -- What is told of edges, by the input and by where moments come from.
 use Rattle.std.proofs.Common.{◌≡◌, ◌⊎◌, ℕ, Bool, true, false, List, [], ◌∷◌, ◌++◌, refl, ap, sym, subst, ◌∙◌, append-nil, append_assoc, inl, inr, Option, Some, None, Result, Ok, Err}
-use Rattle.std.specs.Prelude.{IfOk, Vec, codes}
+use Rattle.std.specs.Prelude.{IfOk, Vec, codes, decimal}
 use Rattle.std.specs.Global.{Global}
 use Rattle.pr_wire.specs.declared.Edge.{Edge}
 use Rattle.pr_wire.specs.declared.WaveFault.{WaveFault}
@@ -15,7 +15,9 @@ use Rattle.pr_explain.specs.declared.texts.Origin.{Origin}
 use Rattle.pr_explain.specs.declared.texts.Origin.TheVariants.{Text, Recording}
 use Rattle.pr_explain.specs.Places.{AreToldBy, IsOriginOf, IsToldBy, TellsBy, brackets_for, none_for, words_for}
 use Rattle.pr_explain.specs.Told.{Begins}
-use Rattle.pr_explain.specs.TraceTold.{AreEdgesTold, IsFaultTold, IsTraceTold, TellsEdge, TellsLine, bracket_words, index_words, line_words, no_edge_words}
+use Rattle.pr_explain.specs.Shown.{IsWithin}
+use Rattle.pr_explain.proofs.ShownLemmas.{no_edge_told}
+use Rattle.pr_explain.specs.TraceTold.{AreEdgesTold, IsFaultTold, IsTraceTold, TellsEdge, TellsLine, bracket_words, fault_line, index_words, line_words, no_edge_words}
 
 -- the words of an origin are those of its input
 recorded : (s : Source) → (s ≡ source.Vcd) ⊎ (s ≡ source.Csv) → (start : ℕ) (n : ℕ) → (bracket_words s start ≡ bracket_words source.Vcd start) × (index_words s n ≡ index_words source.Vcd n) × (no_edge_words s ≡ no_edge_words source.Vcd)
@@ -68,8 +70,29 @@ line_behind fault front behind all h e = record {
   number = h.number;
   shown = h.shown;
   is_line = h.is_line;
+  no_edge = h.no_edge;
   whole = e ∙ ap (λ t. t ++ behind) (h.whole ∙ append-nil (line_words h.number ++ (h.shown ++ 10 ∷ [])));
 }
+
+-- five pieces of text, one behind another
+five : (a b c d e : List ℕ) → (((a ++ b) ++ c) ++ d) ++ e ≡ ((a ++ (b ++ c)) ++ (d ++ e)) ++ []
+five a b c d e = simp (append_assoc, append-nil)
+
+-- the words for a line, and behind them lines of which none tells an edge
+pub line_as : (fault : CliFault) (number : ℕ) (t0 t1 t2 t3 t4 t5 rest added : List ℕ) → Some number ≡ fault_line fault → IsWithin rest → added ≡ rest → t0 ≡ [] → t1 ≡ t0 ++ codes "  line " → t2 ≡ t1 ++ decimal number
+    → t3 ≡ t2 ++ codes ": " → t4 ≡ t3 ++ added → t5 ≡ t4 ++ 10 ∷ [] → TellsLine fault [] t5
+line_as fault number t0 t1 t2 t3 t4 t5 rest added line within same none a b c d e =
+    let e1 : t1 ≡ codes "  line " = a ∙ ap (λ z. z ++ codes "  line ") none in
+    let e2 : t2 ≡ codes "  line " ++ decimal number = b ∙ ap (λ z. z ++ decimal number) e1 in
+    let e3 : t3 ≡ (codes "  line " ++ decimal number) ++ codes ": " = c ∙ ap (λ z. z ++ codes ": ") e2 in
+    let e4 : t4 ≡ ((codes "  line " ++ decimal number) ++ codes ": ") ++ rest = d ∙ (ap (λ z. t3 ++ z) same ∙ ap (λ z. z ++ rest) e3) in
+    record {
+      number = number;
+      shown = rest;
+      is_line = sym line;
+      no_edge = λ front line is. no_edge_told false false rest front line within is;
+      whole = e ∙ (ap (λ z. z ++ 10 ∷ []) e4 ∙ five (codes "  line ") (decimal number) (codes ": ") rest (10 ∷ []));
+    }
 
 -- what is told of a whole trace
 pub trace_whole : (input : TraceInput) (bytes : List ℕ) (edges all : List Edge) (own : Option CliFault) (o : Origin) {E : Type 0} (v : Result (Vec ℕ Global) E) → Says input bytes all own → own ≡ None → edges ≡ all

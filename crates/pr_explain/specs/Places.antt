@@ -13,7 +13,7 @@ use Rattle.pr_explain.specs.declared.edges.Led.{Led}
 use Rattle.pr_explain.specs.declared.edges.Refused.{Refused}
 use Rattle.pr_explain.specs.declared.texts.Origin.{Origin}
 use Rattle.pr_explain.specs.declared.texts.Origin.TheVariants.{Text, Recording}
-use Rattle.pr_explain.specs.Told.{Begins, Has, spot_words}
+use Rattle.pr_explain.specs.Told.{Begins}
 use Rattle.pr_explain.specs.TraceTold.{GoesBackAt, TellsLine, bracket_words, index_words, no_edge_words}
 
 -- the moments of an input's edges come from there
@@ -63,10 +63,6 @@ AreToldBy o whole (e ∷ es) text = IsToldBy o whole (fault_of (e ∷ es)) text
 -- the line of a fault is told, and nothing behind it
 abbrev pub IsLineTold : CliFault → (text : List ℕ) → Type 0
 IsLineTold fault text = TellsLine fault [] text
-
--- a place of a script is told, with a BASIC line or without
-abbrev pub IsSpotTold : (line column : ℕ) → (text : List ℕ) → Type 0
-IsSpotTold line column text = (label : Option ℕ) × Has (spot_words line column label) text
 
 -- edges behind the first one of a trace are followed to their end, or to the first that is not allowed
 abbrev pub Follows : Edge → List Edge → Result Led Refused → Type 0

@@ -1,12 +1,11 @@
 -- Trusted: how the BASIC error is told that stopped a script: its name, the number of the BASIC line, the statement and the line in which it stands.
-use Rattle.std.specs.Prelude.{◌≡◌, ℕ, suc, ◌+◌, ◌<◌, ◌≤◌, List, [], ◌∷◌, ◌++◌, length, Option, Some, None, MatchOption, codes, decimal}
+use Rattle.std.specs.Prelude.{◌≡◌, ℕ, suc, ◌+◌, ◌<◌, ◌≤◌, List, [], ◌∷◌, ◌++◌, length, Option, Some, None, codes, decimal}
 use Rattle.pr_text.specs.Lines.{lines_of}
 use Rattle.pr_basic.specs.declared.statement.Statement.{Statement}
 use Rattle.pr_basic.specs.Grammar.{AreLines, IsLine, without_return}
-use Rattle.pr_basic.specs.LineAt.{HasBasicNumber}
 use Rattle.pr_channels.specs.declared.faults.Stop.{Stop}
 use Rattle.pr_channels.specs.declared.faults.Stop.TheVariants.{TooManyFiles, FileOpen, FileNotOpen, DeviceNotPresent, NotInputFile}
-use Rattle.pr_explain.specs.Told.{Begins}
+use Rattle.pr_explain.specs.Told.{Begins, IsLabel}
 
 -- a statement of a script, counted from 1, stands in this line, whose number is counted from 1: there are fewer statements in the lines
 -- before it, and no fewer in those and the line itself
@@ -21,10 +20,6 @@ pub record IsStatementLine (script : List ℕ) (statement : ℕ) (line : List �
   pub is_line : IsLine (without_return line) own
   pub from : length earlier < statement
   pub to : statement ≤ length earlier + length own
-
--- the BASIC number of a line, if it begins with one
-abbrev pub IsLabel : (line : List ℕ) → Option ℕ → Type 0
-IsLabel line label = MatchOption label ((n : ℕ) → HasBasicNumber line n → ⊥) (λ n. HasBasicNumber line n)
 
 -- the name of an error, as BASIC writes it
 abbrev pub stop_name : Stop → List ℕ

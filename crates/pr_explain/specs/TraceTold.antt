@@ -92,11 +92,17 @@ fault_line (Trace (trace.BadLine n)) = Some n
 fault_line (Capture fault) = capture_line fault
 fault_line _ = None
 
--- the line of a fault is told, in lines of which the first begins with its number; `behind` follows these
+-- no line of these begins as the words for an edge do, or those for brackets, but for the first, which stands behind its number
+abbrev pub TellsNoEdge : List ℕ → Type 0
+TellsNoEdge shown = (front line : List ℕ) → shown ≡ front ++ 10 ∷ line
+    → Begins (codes "  line ") line ⊎ (Begins (codes "  edge ") line ⊎ Begins (codes "  [in brackets") line) → ⊥
+
+-- the line of a fault is told, in lines of which the first begins with its number and no other tells an edge; `behind` follows these
 pub record TellsLine (fault : CliFault) (behind text : List ℕ) : Type 0 where
   pub number : ℕ
   pub shown : List ℕ
   pub is_line : fault_line fault ≡ Some number
+  pub no_edge : TellsNoEdge shown
   pub whole : text ≡ (line_words number ++ (shown ++ 10 ∷ [])) ++ behind
 
 -- Traces.

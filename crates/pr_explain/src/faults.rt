@@ -1,8 +1,9 @@
 //! The faults of trace texts and of recordings: a line, and what it should have.
 
-ghost use Rattle.std.specs.Prelude.{◌≡◌, ◌≢◌, None, IfOk};
+ghost use Rattle.std.specs.Prelude.{◌≡◌, ◌≢◌, ◌++◌, codes, None, IfOk, IfSome, OnOk};
 ghost use Rattle.pr_cli.specs.Reported.{IsOwnFault};
 ghost use Rattle.pr_explain.specs.Places.{IsLineTold};
+ghost use Rattle.pr_explain.specs.Shown.{BeginsLine, IsFresh, IsWithin};
 ghost use Rattle.pr_explain.specs.TraceTold.{capture_line, fault_line};
 
 use crate::names::{begins_with_number, no_signal, push_names, push_time_column};
@@ -53,12 +54,23 @@ fn line_of_capture(fault: CaptureFault) -> Option<usize>
     }
 }
 
-/// A line of the bus, and the name of the signal that is looked for.
-fn names_of<'a>(wire: Wire, signals: Signals<'a>) -> (&'static str, &'a [u8]) {
+/// The words for a line of the bus whose signal is looked for.
+fn looked_for(wire: Wire) -> &'static str
+    ensures { BeginsLine result.now }
+{
     match wire {
-        Wire::Atn => ("ATN", signals.atn),
-        Wire::Clock => ("CLOCK", signals.clock),
-        Wire::Data => ("DATA", signals.line),
+        Wire::Atn => "  ATN is looked for as ",
+        Wire::Clock => "  CLOCK is looked for as ",
+        Wire::Data => "  DATA is looked for as ",
+    }
+}
+
+/// The name of that signal.
+fn signal_name<'a>(wire: Wire, signals: Signals<'a>) -> &'a [u8] {
+    match wire {
+        Wire::Atn => signals.atn,
+        Wire::Clock => signals.clock,
+        Wire::Data => signals.line,
     }
 }
 
@@ -68,19 +80,20 @@ fn push_missing(
     kind: Recording,
     wire: Wire,
     signals: Signals<'_>,
-) -> Result<(), NoMemory> {
-    let (line, name) = names_of(wire, signals);
-    push(text, "  ")?;
-    push(text, line)?;
-    push(text, " is looked for as ")?;
-    push_cut(text, name)?;
+) -> Result<(), NoMemory>
+    ensures { OnOk result (IsFresh text.old.items → IsFresh text.new.items) }
+{
+    push(text, looked_for(wire))?;
+    push_cut(text, signal_name(wire, signals))?;
     push(text, ", and ")?;
     push(text, no_signal(kind))?;
     push(text, " has that name\n")
 }
 
 /// Why a line can not name the columns of a table.
-fn no_names(line: &[u8]) -> Option<&'static str> {
+fn no_names(line: &[u8]) -> Option<&'static str>
+    ensures { IfSome result (λ words. BeginsLine words.now) }
+{
     if without_end(line).is_empty() {
         Some("  the table has no line that names its columns")
     } else if line.starts_with(b"$") {
@@ -103,7 +116,9 @@ fn push_columns(
     line: &[u8],
     wire: Wire,
     signals: Signals<'_>,
-) -> Result<(), NoMemory> {
+) -> Result<(), NoMemory>
+    ensures { OnOk result (IsFresh text.old.items → IsWithin text.new.items) }
+{
     if let Some(words) = no_names(line) {
         return push(text, words);
     }
@@ -113,7 +128,9 @@ fn push_columns(
 }
 
 /// What a dump has where it has this fault.
-fn rule_of_dumps(fault: CaptureFault) -> &'static str {
+fn rule_of_dumps(fault: CaptureFault) -> &'static str
+    ensures { BeginsLine (codes "  " ++ result.now) }
+{
     match fault {
         CaptureFault::BadWord(_) => {
             "behind its header a dump has times (#120), levels (0! or b0 !, with the signal's code) and \
@@ -135,7 +152,9 @@ fn rule_of_dumps(fault: CaptureFault) -> &'static str {
 }
 
 /// What a table has where it has this fault.
-fn rule_of_tables(fault: CaptureFault) -> &'static str {
+fn rule_of_tables(fault: CaptureFault) -> &'static str
+    ensures { BeginsLine (codes "  " ++ result.now) }
+{
     match fault {
         CaptureFault::BadTime(_) => {
             "a row begins with its time in seconds, digits with or without decimals, as in 0.000125; it is below \
@@ -146,7 +165,9 @@ fn rule_of_tables(fault: CaptureFault) -> &'static str {
 }
 
 /// What a recording of any kind has where it has this fault.
-fn rule_of_both(fault: CaptureFault) -> &'static str {
+fn rule_of_both(fault: CaptureFault) -> &'static str
+    ensures { BeginsLine (codes "  " ++ result.now) }
+{
     match fault {
         CaptureFault::GoesBack(_) => "this time is before an earlier one",
         CaptureFault::NoLevel(_, _) => "each of the three lines needs a level",
@@ -163,7 +184,9 @@ fn rule_of_both(fault: CaptureFault) -> &'static str {
 
 /// Adds what a line of a trace text should have, and how a line is read that begins as one of another
 /// format does.
-fn push_text_rule(text: &mut Vec<u8>, line: &[u8]) -> Result<(), NoMemory> {
+fn push_text_rule(text: &mut Vec<u8>, line: &[u8]) -> Result<(), NoMemory>
+    ensures { OnOk result (IsFresh text.old.items → IsWithin text.new.items) }
+{
     push(
         text,
         "  a line is a time in microseconds, a space, and a digit each for ATN, CLOCK and DATA (1 \
@@ -189,7 +212,9 @@ fn push_capture_rule(
     signals: Signals<'_>,
     fault: CaptureFault,
     line: &[u8],
-) -> Result<(), NoMemory> {
+) -> Result<(), NoMemory>
+    ensures { OnOk result (IsFresh text.old.items → IsWithin text.new.items) }
+{
     match (fault, kind) {
         (CaptureFault::NoSignal(_, wire), Recording::Dump) => {
             push_missing(text, kind, wire, signals)?;
@@ -204,7 +229,10 @@ fn push_capture_rule(
 }
 
 /// Adds words behind two spaces.
-fn push_words(text: &mut Vec<u8>, words: &str) -> Result<(), NoMemory> {
+fn push_words(text: &mut Vec<u8>, words: &str) -> Result<(), NoMemory>
+    requires { BeginsLine (codes "  " ++ words.now) }
+    ensures { OnOk result (IsFresh text.old.items → IsWithin text.new.items) }
+{
     push(text, "  ")?;
     push(text, words)
 }
@@ -217,31 +245,37 @@ fn line_told(
     input: TraceInput<'_>,
     fault: CliFault,
     number: usize,
-) -> Result<Vec<u8>, NoMemory> {
+) -> Result<Vec<u8>, NoMemory>
+    ensures { IfOk result (λ text. IsWithin text.items) }
+{
     let line = line_with(bytes, number);
     let mut text = Vec::new(alloc);
     push_cut(&mut text, without_end(line))?;
     push(&mut text, "\n")?;
-    match (fault, input.source) {
-        (CliFault::Capture(fault), Source::Vcd) => push_capture_rule(
-            &mut text,
-            bytes,
-            Recording::Dump,
-            input.signals,
-            fault,
-            line,
-        )?,
-        (CliFault::Capture(fault), Source::Csv) => push_capture_rule(
-            &mut text,
-            bytes,
-            Recording::Table,
-            input.signals,
-            fault,
-            line,
-        )?,
-        _ => push_text_rule(&mut text, line)?,
-    }
+    push_rule(&mut text, bytes, input, fault, line)?;
     Ok(text)
+}
+
+/// Adds what a line should have that has this fault.
+fn push_rule(
+    text: &mut Vec<u8>,
+    bytes: &[u8],
+    input: TraceInput<'_>,
+    fault: CliFault,
+    line: &[u8],
+) -> Result<(), NoMemory>
+    ensures { OnOk result (IsFresh text.old.items → IsWithin text.new.items) }
+{
+    let signals = input.signals;
+    match (fault, input.source) {
+        (CliFault::Capture(fault), Source::Vcd) => {
+            push_capture_rule(text, bytes, Recording::Dump, signals, fault, line)
+        }
+        (CliFault::Capture(fault), Source::Csv) => {
+            push_capture_rule(text, bytes, Recording::Table, signals, fault, line)
+        }
+        _ => push_text_rule(text, line),
+    }
 }
 
 /// The line of an input that has this fault of its own, and what it should have.

@@ -1,6 +1,8 @@
 //! The names of a recording's signals.
 
-ghost use Rattle.std.specs.Prelude.{◌<◌, ◌≤◌, length};
+ghost use Rattle.std.specs.Prelude.{◌≡◌, ◌<◌, ◌≤◌, ◌==◌, false, true, length, IfOk, OnOk, Some};
+ghost use Rattle.pr_explain.specs.Shown.{IsFresh, IsNamed, IsWithin, line_after};
+ghost use Rattle.pr_explain.specs.Told.{is_within_line};
 
 use crate::faults::Recording;
 use crate::texts::{push, push_cut};
@@ -16,26 +18,50 @@ pub fn push_names(
     recording: &[u8],
     line: &[u8],
     kind: Recording,
-) -> Result<(), NoMemory> {
-    let mut names = NameList::new();
-    match kind {
-        Recording::Dump => push_dump_names(text, recording, &mut names)?,
-        Recording::Table => push_table_names(text, line, &mut names)?,
-    }
-    if names.count == 0 {
-        push(text, "  the recording names ")?;
-        push(text, no_signal(kind))?;
-    } else if names.count > NAMES {
-        push(text, ", ..")?;
-    }
+) -> Result<(), NoMemory>
+    ensures { OnOk result (IsFresh text.old.items → IsWithin text.new.items) }
+{
+    let names = push_each_name(text, recording, line, kind)?;
+    push_names_end(text, names, kind)?;
     push(
         text,
         "\n  --names tells which signals are ATN, CLOCK and DATA, as in --names ATN,CLOCK,DATA",
     )
 }
 
+/// Adds the names of a recording's signals, and gives how many they are.
+fn push_each_name(
+    text: &mut Vec<u8>,
+    recording: &[u8],
+    line: &[u8],
+    kind: Recording,
+) -> Result<NameList, NoMemory>
+    ensures { IfOk result (λ names. IsFresh text.old.items → IsNamed names.count text.new.items) }
+{
+    match kind {
+        Recording::Dump => push_dump_names(text, recording),
+        Recording::Table => push_table_names(text, line),
+    }
+}
+
+/// Adds that more names came than are told, or that none came.
+fn push_names_end(text: &mut Vec<u8>, names: NameList, kind: Recording) -> Result<(), NoMemory>
+    ensures { OnOk result (IsNamed names.count text.old.items → IsWithin text.new.items) }
+{
+    if names.count == 0 {
+        push(text, "  the recording names ")?;
+        push(text, no_signal(kind))
+    } else if names.count > NAMES {
+        push(text, ", ..")
+    } else {
+        Ok(())
+    }
+}
+
 /// The words for no signal of a recording that can be a line of the bus; each of a table's can.
-pub fn no_signal(kind: Recording) -> &'static str {
+pub fn no_signal(kind: Recording) -> &'static str
+    ensures { is_within_line result.now ≡ true }
+{
     match kind {
         Recording::Dump => "no signal with levels of one bit",
         Recording::Table => "no signal",
@@ -50,49 +76,61 @@ struct NameList {
 
 impl NameList {
     /// No name was told.
-    fn new() -> NameList {
+    fn new() -> NameList
+        ensures { result.count ≡ 0 }
+    {
         NameList { count: 0 }
     }
 
     /// Adds a name, unless it is empty or enough were told.
-    fn push(&mut self, text: &mut Vec<u8>, name: &[u8]) -> Result<(), NoMemory> {
+    fn push(&mut self, text: &mut Vec<u8>, name: &[u8]) -> Result<(), NoMemory>
+        ensures { OnOk result (IsNamed self.old.count text.old.items → IsNamed self.new.count text.new.items) }
+    {
         if name.is_empty() {
             return Ok(());
         }
-        if self.count < NAMES {
-            push(
-                text,
-                if self.count == 0 {
-                    "  the recording has the signals "
-                } else {
-                    ", "
-                },
-            )?;
-            push_cut(text, name)?;
+        let count = self.count;
+        self.count = count.saturating_add(1);
+        if count >= NAMES {
+            return Ok(());
         }
-        self.count = self.count.saturating_add(1);
-        Ok(())
+        push(text, before_name(count))?;
+        push_cut(text, name)
     }
 }
 
-/// Adds the names of a dump's signals of one bit.
-fn push_dump_names(text: &mut Vec<u8>, dump: &[u8], names: &mut NameList) -> Result<(), NoMemory> {
+/// What stands before a name, behind so many names that are told.
+fn before_name(count: usize) -> &'static str
+    ensures { line_after (count == 0) result.now ≡ Some false }
+{
+    if count == 0 {
+        "  the recording has the signals "
+    } else {
+        ", "
+    }
+}
+
+/// Adds the names of a dump's signals of one bit, and gives how many they are.
+fn push_dump_names(text: &mut Vec<u8>, dump: &[u8]) -> Result<NameList, NoMemory>
+    ensures { IfOk result (λ names. IsFresh text.old.items → IsNamed names.count text.new.items) }
+{
+    let mut names = NameList::new();
     let mut rest = dump;
     while !rest.is_empty() {
         let (word, more) = split_word(rest);
         rest = more;
         if word == b"$enddefinitions".as_slice() {
-            return Ok(());
+            return Ok(names);
         }
         if word.starts_with(b"$") && !stands_alone(word) {
             let (section, more) = split_section(more);
             rest = more;
             if word == b"$var".as_slice() {
-                push_signal(text, section, names)?;
+                push_signal(text, section, &mut names)?;
             }
         }
     }
-    Ok(())
+    Ok(names)
 }
 
 /// Whether a word begins no section up to the next `$end`: changes stand in these as elsewhere.
@@ -114,7 +152,9 @@ fn has_levels(kind: &[u8]) -> bool {
 
 /// Adds the name of a signal that has this section, if it can be a line of the bus: it has levels, and
 /// one bit.
-fn push_signal(text: &mut Vec<u8>, section: &[u8], names: &mut NameList) -> Result<(), NoMemory> {
+fn push_signal(text: &mut Vec<u8>, section: &[u8], names: &mut NameList) -> Result<(), NoMemory>
+    ensures { OnOk result (IsNamed names.old.count text.old.items → IsNamed names.new.count text.new.items) }
+{
     let (kind, rest) = split_word(section);
     let (size, rest) = split_word(rest);
     let (_code, rest) = split_word(rest);
@@ -194,7 +234,9 @@ fn is_mark_of_number(byte: u8, has_digit: bool) -> bool {
 }
 
 /// Adds which column of a table is that of the time, by the line of their names.
-pub fn push_time_column(text: &mut Vec<u8>, line: &[u8]) -> Result<(), NoMemory> {
+pub fn push_time_column(text: &mut Vec<u8>, line: &[u8]) -> Result<(), NoMemory>
+    ensures { OnOk result (IsFresh text.old.items → IsFresh text.new.items) }
+{
     let (time, _) = split_field(line);
     let name = unframed(time);
     if name.is_empty() {
@@ -205,15 +247,18 @@ pub fn push_time_column(text: &mut Vec<u8>, line: &[u8]) -> Result<(), NoMemory>
     push(text, ", is the time in seconds\n")
 }
 
-/// Adds the names of a table's columns, but for that of the time.
-fn push_table_names(text: &mut Vec<u8>, line: &[u8], names: &mut NameList) -> Result<(), NoMemory> {
+/// Adds the names of a table's columns, but for that of the time, and gives how many they are.
+fn push_table_names(text: &mut Vec<u8>, line: &[u8]) -> Result<NameList, NoMemory>
+    ensures { IfOk result (λ names. IsFresh text.old.items → IsNamed names.count text.new.items) }
+{
+    let mut names = NameList::new();
     let (_time, mut rest) = split_field(line);
     while !rest.is_empty() {
         let (field, more) = split_field(rest);
         rest = more;
         names.push(text, unframed(field))?;
     }
-    Ok(())
+    Ok(names)
 }
 
 /// The first field of a line, and what stands behind its comma; nothing, where it has none. A comma

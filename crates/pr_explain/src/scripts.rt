@@ -1,12 +1,12 @@
 //! Why a script is refused.
 
-ghost use Rattle.std.specs.Prelude.{◌≡◌, ◌+◌, ◌-◌, ◌++◌, ◌≤◌, length, IfOk, OnOk, Some};
+ghost use Rattle.std.specs.Prelude.{◌≡◌, ◌+◌, ◌-◌, ◌++◌, ◌≤◌, length, true, IfOk, OnOk, Some};
 ghost use Rattle.pr_basic.specs.FaultPlaces.{IsFirstFaultAt};
-ghost use Rattle.pr_explain.specs.Told.{IsScriptTold, TellsFault, label_words};
-ghost use Rattle.pr_explain.specs.Places.{IsSpotTold};
+ghost use Rattle.pr_explain.specs.Told.{IsLabel, IsScriptTold, TellsFault, TellsSpot, is_within_line, label_words, spot_words};
+ghost use Rattle.pr_explain.specs.Shown.{AddsIndented, AddsShown, AddsSpaces};
 
 use crate::context::{expected_at, is_in_string, takes_item};
-use crate::texts::{push, push_cut, push_number, push_shown, without_end};
+use crate::texts::{push, push_cut, push_escaped, push_number, without_end};
 use crate::words::{foreign_word, is_number, word_at};
 use pr_basic::{
     LineAt, ScriptFault, basic_number, faults_tell_their_line, line_at, read_script_at,
@@ -26,6 +26,8 @@ struct Spot<'a> {
     before: &'a [u8],
     /// What stands from the place on, without the line's end.
     rest: &'a [u8],
+    /// The number of the BASIC line, if it has one.
+    label: Option<u32>,
 }
 
 /// Says why a script is refused: the line with a caret under the place of the first fault, its column,
@@ -71,18 +73,20 @@ fn spot_in(line: LineAt<'_>, place: usize) -> Spot<'_>
     requires to { place ≤ line.start + length line.bytes.now }
     ensures number { result.number ≡ line.entry.number }
     ensures column { length result.before.now ≡ place - line.entry.start }
+    ensures label { IsLabel line.entry.bytes.now result.label }
 {
     let (before, behind) = line.bytes.split_at(place - line.start);
     Spot {
         number: line.number,
         before,
         rest: without_end(behind),
+        label: basic_number(line.bytes),
     }
 }
 
 /// What there is to say of a fault.
 fn fault_told(alloc: Global, spot: Spot<'_>, fault: ScriptFault) -> Result<Vec<u8>, NoMemory>
-    ensures { IfOk result (λ text. IsSpotTold spot.entry.number (length spot.entry.before.now + 1) text.items) }
+    ensures { IfOk result (λ text. TellsSpot (spot_words spot.entry.number (length spot.entry.before.now + 1) spot.entry.label) text.items) }
 {
     let rest = fault_rest(alloc, spot, fault)?;
     let mut text = Vec::new(alloc);
@@ -91,7 +95,7 @@ fn fault_told(alloc: Global, spot: Spot<'_>, fault: ScriptFault) -> Result<Vec<u
     push_number(&mut text, spot.number as u64)?;
     push(&mut text, ", column ")?;
     push_number(&mut text, spot.before.len() as u64 + 1)?;
-    push_label(&mut text, basic_number(spot.before))?;
+    push_label(&mut text, spot.label)?;
     text.extend_from_slice(rest.as_slice())?;
     Ok(text)
 }
@@ -183,24 +187,39 @@ fn wants_number(fault: ScriptFault) -> bool {
 }
 
 /// Adds the line around a place, and what stands before a caret under it.
-fn push_shown_line(text: &mut Vec<u8>, spot: Spot<'_>) -> Result<(), NoMemory> {
+fn push_shown_line(text: &mut Vec<u8>, spot: Spot<'_>) -> Result<(), NoMemory>
+    ensures { OnOk result (AddsIndented text.old.items text.new.items) }
+{
+    let width = push_line_around(text, spot)?;
+    push(text, "\n")?;
+    push_spaces(text, width)
+}
+
+/// Adds the line around a place, and gives how wide what stands before the place is shown.
+fn push_line_around(text: &mut Vec<u8>, spot: Spot<'_>) -> Result<usize, NoMemory>
+    ensures { OnOk result (AddsShown text.old.items text.new.items) }
+{
     let start = spot.before.len().saturating_sub(BEFORE);
-    let before = &spot.before[start..];
-    push(text, "  ")?;
-    if start > 0 {
-        push(text, "..")?;
-    }
     let front = text.len();
-    for byte in before {
-        push_shown(text, *byte)?;
-    }
+    push(text, margin(start > 0))?;
+    push_escaped(text, &spot.before[start..])?;
     let width = text.len().saturating_sub(front);
     push_cut(text, spot.rest)?;
-    push(text, "\n  ")?;
-    if start > 0 {
-        push(text, "  ")?;
-    }
-    for _ in 0..width {
+    Ok(width)
+}
+
+/// What stands before a line that is shown, where its front is left out or not.
+fn margin(is_cut: bool) -> &'static str
+    ensures { is_within_line result.now ≡ true }
+{
+    if is_cut { "  .." } else { "  " }
+}
+
+/// Adds so many spaces.
+fn push_spaces(text: &mut Vec<u8>, count: usize) -> Result<(), NoMemory>
+    ensures { OnOk result (AddsSpaces text.old.items text.new.items) }
+{
+    for _ in 0..count {
         text.push(b' ')?;
     }
     Ok(())

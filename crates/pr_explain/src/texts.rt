@@ -1,7 +1,8 @@
 //! Pieces of the texts.
 
-ghost use Rattle.std.specs.Prelude.{◌≡◌, ◌+◌, ◌++◌, ◌<◌, decimal, length, OnOk};
+ghost use Rattle.std.specs.Prelude.{◌≡◌, ◌+◌, ◌++◌, ◌<◌, ◌≤◌, decimal, length, OnOk};
 ghost use Rattle.pr_explain.specs.Places.{IsOriginOf};
+ghost use Rattle.pr_explain.specs.Shown.{AddsShown};
 
 use itoa::Buffer;
 use pr_options::{Source, TraceInput};
@@ -95,18 +96,31 @@ pub fn push_levels(text: &mut Vec<u8>, levels: Levels) -> Result<(), NoMemory> {
 /// A hexadecimal digit.
 fn hex_digit(n: u8) -> u8
     requires { n < 16 }
+    ensures { 48 ≤ result }
 {
     if n < 10 { n + b'0' } else { n + 55 }
 }
 
 /// Adds a byte as it is, if it is one of ASCII's that can be seen, or else as `\x` and two digits.
-pub fn push_shown(text: &mut Vec<u8>, byte: u8) -> Result<(), NoMemory> {
+fn push_shown(text: &mut Vec<u8>, byte: u8) -> Result<(), NoMemory>
+    ensures { OnOk result (AddsShown text.old.items text.new.items) }
+{
     if byte >= 32 && byte < 127 {
         text.push(byte)?;
         return Ok(());
     }
     let (high, low) = (hex_digit(byte / 16), hex_digit(byte % 16));
     text.extend_from_slice(&[b'\\', b'x', high, low])
+}
+
+/// Adds bytes, those that can not be seen escaped.
+pub fn push_escaped(text: &mut Vec<u8>, bytes: &[u8]) -> Result<(), NoMemory>
+    ensures { OnOk result (AddsShown text.old.items text.new.items) }
+{
+    for byte in bytes {
+        push_shown(text, *byte)?;
+    }
+    Ok(())
 }
 
 /// The first [`SHOWN`] bytes of a line, or all where they are fewer.
@@ -119,15 +133,16 @@ fn front(line: &[u8]) -> &[u8] {
 }
 
 /// Adds the bytes of a line, escaped, and `..` behind the first [`SHOWN`] where there are more.
-pub fn push_cut(text: &mut Vec<u8>, line: &[u8]) -> Result<(), NoMemory> {
+pub fn push_cut(text: &mut Vec<u8>, line: &[u8]) -> Result<(), NoMemory>
+    ensures { OnOk result (AddsShown text.old.items text.new.items) }
+{
     let shown = front(line);
-    for byte in shown {
-        push_shown(text, *byte)?;
-    }
+    push_escaped(text, shown)?;
     if shown.len() < line.len() {
-        push(text, "..")?;
+        push(text, "..")
+    } else {
+        Ok(())
     }
-    Ok(())
 }
 
 /// Whether a comma stands in a line.

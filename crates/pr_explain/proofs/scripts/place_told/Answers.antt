@@ -9,5 +9,5 @@ unreachable-requires c =
 
 pub returns : goal.returns
 returns c =
-    fault_named c.args.script.now c.args.fault c.args.place c.in-Some.line.start c.in-Some.line.number c.in-Some.line.bytes.now c.spot_in.result.number (length c.spot_in.result.before.now) c.fault_told.result
-    c.requires c.in-Some.ensures c.spot_in.ensures.number c.spot_in.ensures.column c.fault_told.ensures
+    fault_named c.args.script.now c.args.fault c.args.place c.in-Some.line.start c.in-Some.line.number c.in-Some.line.bytes.now c.spot_in.result.number (length c.spot_in.result.before.now) c.spot_in.result.label
+    c.fault_told.result c.requires c.in-Some.ensures c.spot_in.ensures.number c.spot_in.ensures.column c.spot_in.ensures.label c.fault_told.ensures
