@@ -44,6 +44,7 @@ try:
 
 test:
 	rt ci
+	-@tests/stamps
 	@$(MAKE) --no-print-directory outside
 
 # The tests outside the prover: the built program, and the tests of crates that go on after a refusal.
