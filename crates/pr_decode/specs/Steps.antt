@@ -3,6 +3,8 @@ use Rattle.std.specs.Prelude.{ℕ, ◌+◌, ◌-◌, ◌==◌, min, max, Bool, n
 use Rattle.pr_wire.specs.declared.Edge.{Edge}
 use Rattle.pr_wire.specs.Table.{same}
 use Rattle.pr_decode.specs.declared.decoder.Decoder.{Decoder}
+use Rattle.pr_decode.specs.declared.decoder.Ending.{Ending}
+use Rattle.pr_decode.specs.declared.decoder.Ending.TheVariants.{Whole, Broken}
 use Rattle.pr_decode.specs.declared.reading.Opening.{Opening}
 use Rattle.pr_decode.specs.declared.reading.Halves.{Halves}
 use Rattle.pr_decode.specs.declared.reading.Transfer.{Transfer}
@@ -121,6 +123,13 @@ high_ended t s e = if is_late s.first.time e then Some (Glitch t (glitch.Silence
 abbrev pub ended_by : Option Transfer → Stretch → Edge → Option Reading
 ended_by None s e = None
 ended_by (Some t) s e = if s.first.levels.clock then high_ended t s e else low_ended t s e
+
+-- the reading of a byte that has begun, by how it ends, if it does
+abbrev pub ended_as : Option Transfer → Option Ending → Option Reading
+ended_as t None = None
+ended_as None (Some e) = None
+ended_as (Some t) (Some (Whole end)) = Some (Frame t end)
+ended_as (Some t) (Some (Broken end)) = Some (Glitch t end)
 
 -- the byte begun, once an edge has ended a stretch
 abbrev pub begun_behind : Option Opening → Edge → Option Transfer

@@ -4,8 +4,9 @@ ghost use Rattle.std.specs.Prelude.{◌≡◌, ◌++◌, ◌∷◌, [], ◌<◌,
 ghost use Rattle.std.specs.Option.{option_to_list};
 ghost use Rattle.pr_wire.specs.declared.Edge.{Edge};
 ghost use Rattle.pr_decode.specs.declared.reading.Reading.{Reading};
+ghost use Rattle.pr_decode.specs.declared.reading.Transfer.{Transfer};
 ghost use Rattle.pr_decode.specs.Readings.{readings_of, settled_of};
-ghost use Rattle.pr_decode.specs.Steps.{after, after_edge, ended_by, frame_ended, high_ended, low_ended, moved};
+ghost use Rattle.pr_decode.specs.Steps.{after, after_edge, ended_as, ended_by, frame_ended, high_ended, low_ended, moved};
 ghost use Rattle.pr_decode.specs.Taking.{HasRead, IsBefore, last_time};
 
 use crate::reading::{FrameEnd, GlitchEnd, Reading, Transfer};
@@ -34,61 +35,77 @@ pub struct Decoder {
     pub transfer: Option<Transfer>,
 }
 
-/// What an edge ends of a byte that has its eight bits, while CLOCK is pulled.
-fn frame_ended(transfer: &Transfer, stretch: &Stretch, edge: Edge) -> Option<Reading>
-    ensures { result ≡ frame_ended transfer.now stretch.now edge }
-{
-    if !stretch.goes_on(edge) {
-        return Some(Reading::Frame(*transfer, FrameEnd::Unacknowledged(edge.time)));
-    }
-    let time = stretch.acknowledgement_with(edge)?;
-    Some(Reading::Frame(*transfer, FrameEnd::Acknowledged(time)))
+/// How a byte ends that has begun.
+#[derive(Clone, Copy)]
+enum Ending {
+    Whole(FrameEnd),
+    Broken(GlitchEnd),
 }
 
-/// What an edge ends of a byte that has begun, behind a stretch with CLOCK pulled. Where ATN is pulled
-/// before the first bit, that is nothing.
-#[inline(always)]
-fn low_ended(transfer: &Transfer, stretch: &Stretch, edge: Edge) -> Option<Reading>
-    ensures { result ≡ low_ended transfer.now stretch.now edge }
+/// How an edge ends a byte that has its eight bits, while CLOCK is pulled.
+fn whole_end(stretch: &Stretch, edge: Edge) -> Option<Ending>
+    ensures { (transfer : Transfer) → ended_as (Some transfer) result ≡ frame_ended transfer stretch.now edge }
 {
-    match transfer.bits {
+    if !stretch.goes_on(edge) {
+        return Some(Ending::Whole(FrameEnd::Unacknowledged(edge.time)));
+    }
+    let time = stretch.acknowledgement_with(edge)?;
+    Some(Ending::Whole(FrameEnd::Acknowledged(time)))
+}
+
+/// How an edge ends a byte that has begun and has so many bits, behind a stretch with CLOCK pulled. Where
+/// ATN is pulled before the first bit, it does not.
+#[inline(always)]
+fn low_end(bits: u8, stretch: &Stretch, edge: Edge) -> Option<Ending>
+    ensures { (transfer : Transfer) → transfer.bits ≡ bits → ended_as (Some transfer) result ≡ low_ended transfer stretch.now edge }
+{
+    match bits {
         0 => None,
-        8 => frame_ended(transfer, stretch, edge),
-        _ if calls(stretch.last, edge) => Some(Reading::Glitch(
-            *transfer,
-            GlitchEnd::Attention(edge.time),
-        )),
+        8 => whole_end(stretch, edge),
+        _ if calls(stretch.last, edge) => Some(Ending::Broken(GlitchEnd::Attention(edge.time))),
         _ => None,
     }
 }
 
-/// What an edge ends of a byte that has begun, behind a stretch with CLOCK released.
+/// How an edge ends a byte that has begun, behind a stretch with CLOCK released.
 #[inline(always)]
-fn high_ended(transfer: &Transfer, stretch: &Stretch, edge: Edge) -> Option<Reading>
-    ensures { result ≡ high_ended transfer.now stretch.now edge }
+fn high_end(stretch: &Stretch, edge: Edge) -> Option<Ending>
+    ensures { (transfer : Transfer) → ended_as (Some transfer) result ≡ high_ended transfer stretch.now edge }
 {
     if is_late(stretch.first.time, edge) {
-        Some(Reading::Glitch(*transfer, GlitchEnd::Silence(edge.time)))
+        Some(Ending::Broken(GlitchEnd::Silence(edge.time)))
     } else if calls(stretch.last, edge) {
-        Some(Reading::Glitch(*transfer, GlitchEnd::Attention(edge.time)))
+        Some(Ending::Broken(GlitchEnd::Attention(edge.time)))
     } else {
         None
     }
 }
 
-/// What an edge ends behind a stretch.
+/// How an edge ends the byte that has begun, if one has, behind a stretch.
 #[inline(always)]
-fn ended(transfer: &Option<Transfer>, stretch: &Stretch, edge: Edge) -> Option<Reading>
-    ensures { result ≡ ended_by transfer.now stretch.now edge }
+fn ended_now(transfer: &Option<Transfer>, stretch: &Stretch, edge: Edge) -> Option<Ending>
+    ensures { ended_as transfer.now result ≡ ended_by transfer.now stretch.now edge }
 {
     let Some(transfer) = transfer else {
         return None;
     };
     if stretch.first.levels.clock {
-        high_ended(transfer, stretch, edge)
+        high_end(stretch, edge)
     } else {
-        low_ended(transfer, stretch, edge)
+        low_end(transfer.bits, stretch, edge)
     }
+}
+
+/// Gives the byte that has begun with its end, and lets no byte have begun.
+fn end(transfer: &mut Option<Transfer>, ending: Ending) -> Option<Reading>
+    ensures reading { result ≡ ended_as transfer.old (Some ending) }
+    ensures none { transfer.new ≡ None }
+{
+    let transfer = transfer.take()?;
+    Some(match ending {
+        Ending::Whole(end) => Reading::Frame(transfer, end),
+        Ending::Broken(end) => Reading::Glitch(transfer, end),
+    })
 }
 
 /// An edge has ended a stretch: the byte that has begun goes on, or one begins. Behind ATN's pull there is
@@ -122,7 +139,7 @@ fn go_on(transfer: &mut Option<Transfer>, stretch: &mut Stretch, edge: Edge)
     } else {
         let called = calls(stretch.last, edge);
         advance(transfer, stretch, edge);
-        *stretch = Stretch::begun(called, edge);
+        stretch.begin(called, edge);
     }
 }
 
@@ -132,10 +149,11 @@ fn step(transfer: &mut Option<Transfer>, stretch: &mut Stretch, edge: Edge) -> O
     ensures reading { result ≡ ended_by transfer.old stretch.old edge }
     ensures new { record { stretch = Some stretch.new; transfer = transfer.new } ≡ after_edge transfer.old stretch.old edge }
 {
-    let reading = ended(transfer, stretch, edge);
-    if reading.is_some() {
-        *transfer = None;
-    }
+    let Some(ending) = ended_now(transfer, stretch, edge) else {
+        go_on(transfer, stretch, edge);
+        return None;
+    };
+    let reading = end(transfer, ending);
     go_on(transfer, stretch, edge);
     reading
 }

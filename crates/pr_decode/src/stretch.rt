@@ -80,6 +80,18 @@ impl Stretch {
         }
     }
 
+    /// The stretch is over, and one begins with this edge.
+    #[inline(always)]
+    pub(crate) fn begin(&mut self, called: bool, edge: Edge)
+        ensures { self.new ≡ began called edge }
+    {
+        self.called = called;
+        self.first = edge;
+        self.last = edge;
+        self.turns = Turns::Still;
+        self.turns.push(!edge.levels.clock, edge);
+    }
+
     /// One edge more comes.
     #[inline(always)]
     pub(crate) fn push(&mut self, edge: Edge)

@@ -49,6 +49,7 @@ impl Account {
     }
 
     /// Adds a reading, if there is one.
+    #[inline(always)]
     pub fn push_if(&mut self, reading: Option<Reading>) -> Result<(), AllocError>
         requires few { readings_told self.old + 1 < 2 ^ 64 }
         ensures accounted { OnOk result (AccountsMore (option_to_list reading) self.old self.new) }

@@ -8,4 +8,4 @@ returns-in_default-clause-read c = λ edges given h. rw c.begun.ensures (first-t
 pub returns-clause-read : goal.returns-clause-read
 returns-clause-read c = λ edges given h.
     more-taken edges given c.args.self.now (record { stretch = Some c.step.new.stretch; transfer = c.step.new.transfer }) c.args.edge
-        c.in-Some.stretch c.step.result c.in-Some.is c.step.ensures.reading c.step.ensures.new h
+    c.in-Some.stretch c.step.result c.in-Some.is c.step.ensures.reading c.step.ensures.new h
