@@ -34,7 +34,7 @@ build: $(PROGRAM)
 
 # `rt run` proves, builds and runs. `rt ci` leaves the program too: it is built again only after a change.
 $(PROGRAM): $(SOURCES)
-	@cd crates/print1525 && set -o pipefail && rt run -- --help 2>&1 | tee out.log | awk -f ../../tests/progress.awk || \
+	@cd crates/print1525 && set -o pipefail && rt run -- --help 2>&1 | tee out.log | ../../tests/progress || \
 		{ cat out.log; rm -f out.log; exit 1; }; rm -f out.log
 	@touch $@
 
