@@ -1,6 +1,8 @@
 //! What a device hears of a trace, for C programs: over the caller's memory alone.
 //!
-//! Nothing here takes memory, and no pointer is kept. Each slice is a pointer and then a length.
+//! [`print1525_hear`] takes a whole trace. An [`Ear`] takes it edge by edge as it comes, and lies in
+//! the caller's memory between two edges; the headline is on [`print1525_ear_edge`]. Nothing here
+//! takes memory, and no pointer is kept. Each slice is a pointer and then a length.
 #![tactic(auto)]
 
 ghost use Rattle.std.specs.Prelude.{true, ◌↔◌, ◌≡◌, ◌≢◌, ◌≤◌, ◌<◌, ◌+◌, ◌^◌, length, map, Some, IfOk, IfErr};

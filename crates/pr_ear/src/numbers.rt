@@ -38,7 +38,8 @@ pub struct PlaceNumbers {
 }
 
 /// What a caller keeps of a device between two edges. The numbers are this library's: a caller
-/// writes none of them.
+/// writes none of them. Numbers that hold no place, device or fault are told from those of an ear;
+/// such as hold those to which no edges lead are not, and then nothing is said of what is told.
 #[repr(C)]
 #[derive(Clone, Copy, Debug, PartialEq, Eq)]
 pub struct Ear {
