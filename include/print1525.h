@@ -1,14 +1,14 @@
 /* libprint1525: what a Commodore 64 prints on VIC-1525 printers, for C and C++ programs.
  *
  * The calls are proved: each gives exactly what its definition says (docs/C.md says where the
- * definitions stand), reads nothing but what it is passed, writes nothing but the caller's buffer
- * and answer, and returns. The proofs hold where the caller keeps these rules:
+ * definitions stand), reads nothing but what it is passed, writes nothing but the caller's buffer,
+ * ear and answer, and returns. The proofs hold where the caller keeps these rules:
  *
- * - No pointer is NULL, also where its length is 0 (any other pointer of its type does then). A
+ * - No pointer is NULL, also where its length is 0 (any other pointer of its type will do). A
  *   pointer is aligned for its type, and at least `length` things of it may be read there, or
  *   `capacity` of a buffer read and written.
- * - The buffer and the answer overlap nothing else that the call is passed.
- * - During a call no other thread writes what the call reads, or touches the buffer or the answer.
+ * - The buffer, the ear and the answer overlap nothing else that the call is passed.
+ * - During a call no other thread writes what the call reads, or touches what it writes.
  * - malloc, realloc and free are those of one allocator, and no call is made from a signal handler,
  *   but of the calls that take no memory.
  *
