@@ -2,12 +2,13 @@
  *
  * The calls are proved: each gives exactly what its definition says (docs/C.md says where the
  * definitions stand), reads nothing but what it is passed, writes nothing but the caller's buffer,
- * ear and answer, and returns. The proofs hold where the caller keeps these rules:
+ * ear, decoder, reading and answer, and returns. The proofs hold where the caller keeps these rules:
  *
  * - No pointer is NULL, also where its length is 0 (any other pointer of its type will do). A
  *   pointer is aligned for its type, and at least `length` things of it may be read there, or
  *   `capacity` of a buffer read and written.
- * - The buffer, the ear and the answer overlap nothing else that the call is passed.
+ * - The buffer, the ear, the decoder, the reading and the answer overlap nothing else that the call is
+ *   passed.
  * - During a call no other thread writes what the call reads, or touches what it writes.
  * - malloc, realloc and free are those of one allocator, and no call is made from a signal handler,
  *   but of the calls that take no memory.
@@ -56,7 +57,7 @@ enum print1525_fault {
     PRINT1525_BAD_LINE = 8,
     /* of any input; `place` is 0 */
     PRINT1525_TOO_LARGE = 9,
-    /* of edges; `place` is the edge's index, from 0 */
+    /* of edges; `place` is the edge's index, from 0 (of print1525_decode_edge 0: it counts no edges) */
     PRINT1525_START = 11,
     PRINT1525_ORDER = 12,
     PRINT1525_TOO_EARLY = 13,
@@ -224,7 +225,9 @@ void print1525_hear(uint8_t device, const print1525_edge *edges, size_t edges_le
                     uint16_t *buffer, size_t capacity, print1525_answer *answer);
 
 /* What is kept of a device between two edges: an ear on the wire. The numbers are the library's; the
- * caller only keeps them, and may copy them. */
+ * caller only keeps them, and may copy them. Numbers that are laid out as no ear's are refused; where a
+ * caller writes others, nothing is promised of what is told then but that each call returns and writes
+ * nothing else. */
 typedef struct {
     uint64_t since, released;
     uint8_t place, sending, eoi, count, byte, bit, unlistened;
@@ -300,7 +303,7 @@ typedef struct {
 } print1525_reading;
 
 /* What is kept of a recording between two edges. The numbers are the library's; the caller only keeps
- * them, and may copy them. */
+ * them, and may copy them. Of numbers that a caller writes the same holds as of an ear's. */
 typedef struct {
     print1525_edge first, last, turn1, turn2, turn3, turn4;
     print1525_byte byte;
@@ -316,7 +319,7 @@ void print1525_decode_begin(print1525_decoder *decoder);
  * Asks: a decoder that was begun, and edges whose times do not go back; several may stand at one time.
  * Gives: `length` 1 and the reading, or 0 and one that is PRINT1525_NOTHING.
  * Refuses, with the decoder as it was and PRINT1525_NOTHING: numbers that are no decoder (27), and an edge
- * that stands before the one taken last (12). */
+ * that stands before the one taken last (12; `place` is 0, since a decoder counts no edges). */
 void print1525_decode_edge(print1525_decoder *decoder, const print1525_edge *edge,
                            print1525_reading *reading, print1525_answer *answer);
 

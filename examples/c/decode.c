@@ -5,16 +5,18 @@
 #include "print1525.h"
 #include <stdio.h>
 
-/* The next edge that was recorded; 0 where none comes. */
+/* The next edge that was recorded, a line as `100 001`. Gives 1, or 0 where none comes, or -1 at a line that is none. */
 static int next_edge(print1525_edge *edge) {
     int c = getchar();
+    if (c == EOF) return 0;
     edge->time = 0;
+    if (c < '0' || c > '9') return -1;
     for (; c >= '0' && c <= '9'; c = getchar()) edge->time = edge->time * 10 + (uint64_t)(c - '0');
-    if (c != ' ') return 0;
+    if (c != ' ') return -1;
     edge->atn = getchar() != '0';
     edge->clock = getchar() != '0';
     edge->data = getchar() != '0';
-    return getchar() == '\n';
+    return getchar() == '\n' ? 1 : -1;
 }
 
 /* Tells a whole byte; of one begun and not ended nothing. */
@@ -31,17 +33,22 @@ int main(void) {
     print1525_edge edge;
     print1525_reading reading;
     print1525_answer answer;
+    int got;
     setvbuf(stdin, in, _IOFBF, sizeof in);
     setvbuf(stdout, out, _IOFBF, sizeof out);
 
     print1525_decode_begin(&decoder);
-    while (next_edge(&edge)) {
+    while ((got = next_edge(&edge)) > 0) {
         print1525_decode_edge(&decoder, &edge, &reading, &answer);
         if (answer.code != PRINT1525_DONE) {
             fprintf(stderr, "%s\n", print1525_fault_text(answer.fault));
             return (int)answer.code;
         }
         tell(&reading);
+    }
+    if (got < 0) {
+        fprintf(stderr, "bad line\n");
+        return PRINT1525_REFUSED;
     }
     print1525_decode_end(&decoder, &reading, &answer);
     tell(&reading);
