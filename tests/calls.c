@@ -9,11 +9,12 @@
  *     calls decoder                                   (a decoder's answers and refusals; no input)
  *
  * Writes the text to standard output, and a line to standard error as print1525 does, and ends with the answer's
- * code. Before that the call is made with buffers of sizes from 0 on (each size up to MOST_SIZES, else some), and
- * with each allocation refused in turn (CALLS=once in the environment leaves both out). Input and buffer end where
- * memory ends, so a byte read or written beyond them is a fault. Each answer has to be as the header says, all
- * memory has to be given back, and a refusal may change nothing; else a line beginning with WRONG is told, and the
- * status is 99. Linked with -Wl,--wrap=malloc,--wrap=realloc,--wrap=free. */
+ * code. Before that the call is made with buffers of all sizes from 0 to what is needed, and with each allocation
+ * refused in turn; where there are more than MOST_SIZES or MOST_REFUSALS some are left out, unless CALLS=all stands
+ * in the environment (CALLS=once leaves both out). Input and buffer end where memory ends, so a byte read or written
+ * beyond them is a fault. Each answer has to be as the header says, all memory has to be given back, and a refusal
+ * may change nothing; else a line beginning with WRONG is told, and the status is 99. Linked with
+ * -Wl,--wrap=malloc,--wrap=realloc,--wrap=free. */
 #define _DEFAULT_SOURCE
 #include "print1525.h"
 #include <stdio.h>
@@ -22,7 +23,7 @@
 #include <sys/mman.h>
 #include <unistd.h>
 
-#define MOST_SIZES 2048
+#define MOST_SIZES 8192
 #define MOST_REFUSALS 400
 #define UNTOUCHED 0xA5
 
@@ -61,7 +62,7 @@ void __wrap_free(void *old) {
 }
 #endif
 
-static int wrong;
+static int wrong, is_all;
 
 static void is_wrong(const char *what, size_t number) {
     if (wrong++ < 5) fprintf(stderr, "WRONG: %s, %lu\n", what, (unsigned long)number);
@@ -168,7 +169,7 @@ static size_t try_refusals(const job *j, guarded buffer, size_t capacity, print1
     taken = 0;
     call(j, front, capacity);
     all = taken;
-    step = all / MOST_REFUSALS + 1;
+    step = is_all ? 1 : all / MOST_REFUSALS + 1;
     for (number = 1; number <= all; number += step) {
         print1525_answer answer;
         memset(buffer.bytes, UNTOUCHED, buffer.size);
@@ -190,7 +191,7 @@ static size_t try_refusals(const job *j, guarded buffer, size_t capacity, print1
 
 /* The call with sizes from 0 to what is needed and beyond. */
 static void try_sizes(const job *j, guarded buffer, print1525_answer true_answer, const uint8_t *text) {
-    const size_t needed = true_answer.length, step = needed <= MOST_SIZES ? 1 : needed / 50;
+    const size_t needed = true_answer.length, step = is_all || needed <= MOST_SIZES ? 1 : needed / 50;
     size_t capacity;
     for (capacity = 0; capacity < needed + 2; capacity += step) try_size(j, buffer, capacity, true_answer, text);
     for (capacity = needed < 8 ? 0 : needed - 8; capacity <= needed + 16; capacity++)
@@ -376,6 +377,7 @@ int main(int words, char **word) {
     print1525_answer answer;
     guarded input, buffer, empty = guard(0);
     if (words < 2) return 98;
+    is_all = once && strcmp(once, "all") == 0;
     j.name = word[1];
     if (strcmp(j.name, "settings") == 0) {
         try_settings();
