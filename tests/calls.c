@@ -1,12 +1,14 @@
 /* The calls of include/print1525.h over standard input, as a test of them: calls CALL SETTING..
  *
- *     calls pages PRINTERS STATUS FORMAT DELAYS       (numbers as in the header; DELAYS as of --delays)
+ *     calls pages PRINTERS STATUS FORMAT DELAYS       (the header's names by their index: no printer, 4, 5, both; each, kept;
+ *                                                      list, text, svg; DELAYS as of --delays)
  *     calls bus PRINTERS STATUS FORMAT DELAYS
  *     calls raw SET FORMAT
  *     calls check
  *     calls hear DEVICE                               (a trace text; the inputs that the device hears, a number each line)
  *     calls settings                                  (numbers that stand for no setting; no input)
  *     calls decoder                                   (a decoder's answers and refusals; no input)
+ *     calls readings                                  (a recording; each reading with all that is told of it, a line each)
  *
  * Writes the text to standard output, and a line to standard error as print1525 does, and ends with the answer's
  * code. Before that the call is made with buffers of all sizes from 0 to what is needed, and with each allocation
@@ -357,6 +359,77 @@ static void try_decoder(void) {
     }
 }
 
+/* A name of the header by its index, where there is one. */
+static uint8_t named(const uint8_t *names, size_t count, int index) {
+    return index >= 0 && (size_t)index < count ? names[index] : (uint8_t)index;
+}
+
+/* The settings of a call, each by its name in the header: what another number stands for is told by the text. */
+static void set(job *j, int words, char **word) {
+    static const uint8_t printers[] = {PRINT1525_NO_PRINTER, PRINT1525_FOUR, PRINT1525_FIVE, PRINT1525_BOTH};
+    static const uint8_t statuses[] = {PRINT1525_EACH, PRINT1525_KEPT}, sets[] = {PRINT1525_UPPER, PRINT1525_LOWER};
+    static const uint8_t pages[] = {PRINT1525_LIST, PRINT1525_TEXT, PRINT1525_SVG}, traces[] = {PRINT1525_TRACE, PRINT1525_VCD};
+    if (strcmp(j->name, "raw") == 0 && words > 3) {
+        j->first = named(sets, sizeof sets, atoi(word[2]));
+        j->format = named(pages, sizeof pages, atoi(word[3]));
+    } else if (words > 5) {
+        const int is_bus = strcmp(j->name, "bus") == 0;
+        j->first = named(printers, sizeof printers, atoi(word[2]));
+        j->second = named(statuses, sizeof statuses, atoi(word[3]));
+        j->format = is_bus ? named(traces, sizeof traces, atoi(word[4])) : named(pages, sizeof pages, atoi(word[4]));
+        read_delays(j, word[5]);
+    }
+}
+
+/* What a reading's kind is called. */
+static const char *kind_of(uint8_t kind) {
+    switch (kind) {
+    case PRINT1525_ACKNOWLEDGED: return "acknowledged";
+    case PRINT1525_UNACKNOWLEDGED: return "unacknowledged";
+    case PRINT1525_CUT: return "cut";
+    case PRINT1525_ATTENTION: return "attention";
+    case PRINT1525_SILENCE: return "silence";
+    case PRINT1525_CUT_WITHIN: return "cut-within";
+    default: return "nothing";
+    }
+}
+
+/* A reading with all that is told of it, as tests/readings.py --fields has it. */
+static void tell_reading(const print1525_reading *reading) {
+    const print1525_byte *const byte = &reading->byte;
+    const uint64_t moments[] = {reading->end, byte->look, byte->ready, byte->answered, byte->answer_ended, byte->pull,
+                                byte->shortest_low, byte->longest_low, byte->shortest_high, byte->longest_high, byte->last_pull};
+    size_t index;
+    printf("%s", kind_of(reading->kind));
+    for (index = 0; index < sizeof moments / sizeof *moments; index++) printf(" %lu", (unsigned long)moments[index]);
+    printf(" %u %u %u %u\n", byte->command, byte->eoi, byte->bits, byte->byte);
+}
+
+/* All readings of a recording; behind each edge and each end the decoder's numbers stand where memory ends. */
+static int readings(guarded text) {
+    guarded place = guard((text.size / 6 + 1) * sizeof(print1525_edge)), kept = guard(sizeof(print1525_decoder)),
+            read = guard(sizeof(print1525_reading)), told = guard(sizeof(print1525_answer));
+    print1525_edge *const edges = (print1525_edge *)(void *)(place.bytes - (size_t)place.bytes % sizeof(uint64_t));
+    print1525_decoder *const decoder = (print1525_decoder *)(void *)kept.bytes;
+    print1525_reading *const reading = (print1525_reading *)(void *)read.bytes;
+    print1525_answer *const answer = (print1525_answer *)(void *)told.bytes;
+    const size_t count = read_edges(text, edges);
+    size_t index;
+    taken = 0;
+    print1525_decode_begin(decoder);
+    for (index = 0; index < count; index++) {
+        print1525_decode_edge(decoder, &edges[index], reading, answer);
+        if (answer->code != PRINT1525_DONE || answer->length != (reading->kind != PRINT1525_NOTHING))
+            is_wrong("an answer of a decoder at edge", index);
+        if (answer->length) tell_reading(reading);
+    }
+    print1525_decode_end(decoder, reading, answer);
+    if (answer->code != PRINT1525_DONE) is_wrong("an answer of a decoder's end", answer->code);
+    if (answer->length) tell_reading(reading);
+    if (taken != 0) is_wrong("a decoder takes memory", (size_t)taken);
+    return wrong ? 99 : 0;
+}
+
 /* All of standard input, ending where memory ends. */
 static guarded read_all(void) {
     size_t room = 1 << 20, count = 0, got;
@@ -392,13 +465,8 @@ int main(int words, char **word) {
         tell(answer);
         return wrong ? 99 : (int)answer.code;
     }
-    if (words > 2) j.first = (uint8_t)atoi(word[2]);
-    if (strcmp(j.name, "raw") == 0 && words > 3) j.format = (uint8_t)atoi(word[3]);
-    else if (words > 5) {
-        j.second = (uint8_t)atoi(word[3]);
-        j.format = (uint8_t)atoi(word[4]);
-        read_delays(&j, word[5]);
-    }
+    if (strcmp(j.name, "readings") == 0) return readings(read_all());
+    set(&j, words, word);
     input = read_all();
     j.input = input.bytes;
     j.length = input.size;

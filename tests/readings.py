@@ -1,9 +1,11 @@
 #!/usr/bin/env python3
-"""tests/readings.py [--frames] [--sigrok RULE..] < TRACE: what a recording says, by the definitions and not by the program's code.
+"""tests/readings.py [--frames|--fields] [--sigrok RULE..] < TRACE: what a recording says, by the definitions and not by the program's code.
 
 It goes through whole stretches (crates/pr_decode/specs/Readings.antt) and writes the lines of `print1525 decode`
 (crates/pr_measure/specs) but for the last, the verdict. With --frames it writes of each whole byte when it was ready, CLOCK's last
 pull, and the byte. The times of the trace do not go back.
+
+With --fields it writes of each reading how it ends and when, and all of its moments and bits, as `tests/calls.c` does.
 
 With --sigrok the named rules are those of sigrok's decoder `ieee488`, all where none is named:
   silence   CLOCK may be released in a bit for as long as it likes
@@ -238,12 +240,29 @@ def tell(readings):
         )
 
 
+def fields_of(reading):
+    """How a reading ends and when, and its byte's moments, halves, kind, end-or-identify, bits and number."""
+    if reading.is_whole():
+        ends = {"acknowledged": "acknowledged", "not acknowledged": "unacknowledged", "cut": "cut"}
+        end = {"acknowledged": reading.acknowledged, "not acknowledged": getattr(reading, "given_up", 0), "cut": 0}[reading.end]
+    else:
+        ends = {"ATN": "attention", "silence": "silence", "cut": "cut-within"}
+        end = 0 if reading.end == "cut" else reading.ended
+    halves = [f(it) if it else 0 for it in (reading.lows, reading.highs) for f in (min, max)]
+    moments = [reading.look, reading.ready, *(reading.pulse or (0, 0)), reading.pull, *halves, reading.last_pull]
+    return [ends[reading.end], end, *moments, int(reading.is_command), int(reading.is_eoi), len(reading.bits), reading.byte()]
+
+
 def main():
     words = sys.argv[1:]
     rules = ()
     if "--sigrok" in words:
         rules = tuple(words[words.index("--sigrok") + 1 :]) or SIGROK
     readings = readings_of([Edge(line) for line in sys.stdin], rules)
+    if words[:1] == ["--fields"]:
+        for reading in readings:
+            print(*fields_of(reading))
+        return
     if words[:1] != ["--frames"]:
         tell(readings)
         return
