@@ -1,0 +1,57 @@
+-- Trusted: what came of a call, as numbers.
+use Rattle.std.specs.Prelude.{ℕ, ◌+◌, Option, Some, None}
+use Rattle.pr_wire.specs.declared.WaveFault.TheVariants as wave
+use Rattle.pr_wire.specs.declared.text.TraceFault.TheVariants as trace
+use Rattle.pr_capture.specs.declared.fault.CaptureFault.{CaptureFault}
+use Rattle.pr_capture.specs.declared.fault.CaptureFault.TheVariants as capture
+use Rattle.pr_capture.specs.declared.fault.Wire.{Wire}
+use Rattle.pr_capture.specs.declared.fault.Wire.TheVariants as wire
+use Rattle.pr_cli.specs.declared.fault.CliFault.{CliFault}
+use Rattle.pr_cli.specs.declared.fault.CliFault.TheVariants.{Trace, Wave, Capture, TooLarge}
+use Rattle.pr_web.specs.declared.answer.Answer.{Answer}
+use Rattle.pr_web.specs.declared.answer.Told.{Told}
+use Rattle.pr_web.specs.declared.answer.Told.TheVariants.{Written, TooSmall, Refused}
+
+-- ATN, CLOCK, DATA
+abbrev pub signal_number : Wire → ℕ
+signal_number wire.Atn = 1
+signal_number wire.Clock = 2
+signal_number wire.Data = 3
+
+-- a fault of a recording by its number, and its line
+abbrev pub capture_numbers : CaptureFault → ℕ × ℕ
+capture_numbers (capture.NoSignal line wire) = (30 + signal_number wire, line)
+capture_numbers (capture.NoLevel line wire) = (33 + signal_number wire, line)
+capture_numbers (capture.BadWord line) = (41, line)
+capture_numbers (capture.NoEnd line) = (42, line)
+capture_numbers (capture.NoDefinitions line) = (43, line)
+capture_numbers (capture.NoTimescale line) = (44, line)
+capture_numbers (capture.BadTime line) = (45, line)
+capture_numbers (capture.GoesBack line) = (46, line)
+capture_numbers (capture.Unknown line) = (47, line)
+capture_numbers (capture.Floating line) = (48, line)
+capture_numbers (capture.BadLevel line) = (49, line)
+capture_numbers capture.NoMemory = (0, 0)
+
+-- a fault of an input by its number, and its line or the index of its edge
+abbrev pub fault_numbers : CliFault → ℕ × ℕ
+fault_numbers (Trace (trace.BadLine line)) = (8, line)
+fault_numbers (Wave (wave.Order edge)) = (12, edge)
+fault_numbers (Capture fault) = capture_numbers fault
+fault_numbers _ = (0, 0)
+
+-- a refusal with its fault's numbers, and with the bytes of what stands before the fault
+abbrev pub refusal : ℕ × ℕ → ℕ → Answer
+refusal numbers length = record { code = 2; fault = numbers.0; place = numbers.1; length = length }
+
+-- an answer without a fault
+abbrev pub plain : ℕ → ℕ → Answer
+plain code length = record { code = code; fault = 0; place = 0; length = length }
+
+-- what is told, as numbers
+abbrev pub answer_of : Told → Answer
+answer_of (Written None n) = plain 0 n
+answer_of (Written (Some fault) n) = refusal (fault_numbers fault) n
+answer_of (TooSmall n) = plain 4 n
+answer_of (Refused TooLarge) = refusal (9, 0) 0
+answer_of (Refused _) = plain 3 0

@@ -1,0 +1,55 @@
+-- Trusted: what the page's buffer holds after a call, by the text that was made.
+use Rattle.std.specs.Prelude.{◌≡◌, ℕ, ◌<◌, ◌≤◌, Bool, true, false, List, [], ◌++◌, length, drop, Option, Some, None, Result, Ok, Err}
+use Rattle.pr_cli.specs.Check.{trace_limit}
+use Rattle.pr_cli.specs.declared.fault.CliFault.{CliFault}
+use Rattle.pr_cli.specs.declared.fault.CliFault.TheVariants.{Trace, Wave, Capture, NoMemory}
+use Rattle.pr_options.specs.declared.format.Format.{Format}
+use Rattle.pr_options.specs.declared.format.TraceInput.{TraceInput}
+use Rattle.pr_recording.specs.Decoded.{AnswersDecode}
+use Rattle.pr_recording.specs.Pages.{AnswersPages}
+use Rattle.pr_web.specs.declared.answer.Told.{Told}
+use Rattle.pr_web.specs.declared.answer.Told.TheVariants.{Written, TooSmall, Refused}
+
+-- what was made of an input: all that it says, or why not
+abbrev pub Made : Type 0
+Made = Result (Unit {0}) CliFault
+
+-- a fault of what the input says, before which it is told
+abbrev pub is_of_input : CliFault → Bool
+is_of_input (Trace fault) = true
+is_of_input (Wave fault) = true
+is_of_input (Capture fault) = true
+is_of_input _ = false
+
+-- there is a text: it is whole, or ends at this fault of the input
+abbrev pub HasText : Made → Option CliFault → Type 0
+HasText made None = made ≡ Ok tt
+HasText made (Some fault) = (made ≡ Err fault) × (is_of_input fault ≡ true)
+
+-- there is one, or none for this reason
+abbrev pub FindsText : Made → Result (Option CliFault) CliFault → Type 0
+FindsText made (Ok stop) = HasText made stop
+FindsText made (Err fault) = (made ≡ Err fault) × (is_of_input fault ≡ false)
+
+-- the text is handed over: it stands at the front of the buffer, and the rest is as it was; or it has no room; or there is none
+abbrev pub Gives : Made → List ℕ → (old new : List ℕ) → Told → Type 0
+Gives made text old new (Written stop n) = HasText made stop × (n ≡ length text) × (n ≤ length old) × (new ≡ text ++ drop n old)
+Gives made text old new (TooSmall n) = (stop : Option CliFault) × HasText made stop × (n ≡ length text) × (length old < n) × (new ≡ old)
+Gives made text old new (Refused fault) = (made ≡ Err fault) × (is_of_input fault ≡ false) × (new ≡ old)
+
+-- what a recording says is handed over
+abbrev pub GivesReadings : TraceInput → List ℕ → (old new : List ℕ) → Told → Type 0
+GivesReadings input bytes old new told =
+    (made : Made) × (text : List ℕ) × AnswersDecode trace_limit input bytes (Some []) (Some text) made × Gives made text old new told
+
+-- the pages that printers print of it are
+abbrev pub GivesPages : TraceInput → Format → List ℕ → (old new : List ℕ) → Told → Type 0
+GivesPages input format bytes old new told =
+    (made : Made) × (text : List ℕ) × AnswersPages input format bytes (Some []) (Some text) made × Gives made text old new told
+
+-- a text that is such a one is handed over, or there is none
+abbrev pub Hands : (List ℕ → Type 0) → (old new : List ℕ) → Told → Type 0
+Hands IsText old new (Written stop n) =
+    (text : List ℕ) × IsText text × (stop ≡ None) × (n ≡ length text) × (n ≤ length old) × (new ≡ text ++ drop n old)
+Hands IsText old new (TooSmall n) = (text : List ℕ) × IsText text × (n ≡ length text) × (length old < n) × (new ≡ old)
+Hands IsText old new (Refused fault) = (fault ≡ NoMemory) × (new ≡ old)

@@ -1,0 +1,48 @@
+-- Trusted: what the numbers and bytes that the page passes stand for.
+use Rattle.std.specs.Prelude.{◌≡◌, ℕ, ◌==◌, Bool, true, false, List, if◌then◌else◌, not, Option, Some, None}
+use Rattle.pr_basic.specs.declared.session.StatusMode.{StatusMode}
+use Rattle.pr_basic.specs.declared.session.StatusMode.TheVariants as mode
+use Rattle.pr_channels.specs.declared.faults.Stop.{Stop}
+use Rattle.pr_channels.specs.declared.faults.Stop.TheVariants as stop
+use Rattle.pr_options.specs.declared.format.Format.{Format}
+use Rattle.pr_options.specs.declared.format.Format.TheVariants as format
+use Rattle.pr_options.specs.declared.format.Source.{Source}
+use Rattle.pr_options.specs.declared.format.Source.TheVariants as source
+use Rattle.pr_options.specs.declared.format.TraceInput.{TraceInput}
+
+-- the format of a recording: a trace text, a Value Change Dump, a table of comma separated values
+abbrev pub source_of : ℕ → Option Source
+source_of number =
+    if number == 0 then Some source.Text
+    else (if number == 1 then Some source.Vcd else (if number == 2 then Some source.Csv else None))
+
+-- the BASIC error with a number
+abbrev pub stop_of : ℕ → Option Stop
+stop_of number =
+    if number == 1 then Some stop.TooManyFiles
+    else (if number == 2 then Some stop.FileOpen
+    else (if number == 3 then Some stop.FileNotOpen
+    else (if number == 5 then Some stop.DeviceNotPresent else (if number == 6 then Some stop.NotInputFile else None))))
+
+-- whether a number stands for yes
+abbrev pub is_yes : ℕ → Bool
+is_yes number = not (number == 0)
+
+-- how the status goes on: cleared before each statement, or kept
+abbrev pub mode_of : (is_kept : Bool) → StatusMode
+mode_of false = mode.Each
+mode_of true = mode.Kept
+
+-- the format of pages: lines of 80 columns, or an SVG document
+abbrev pub page_format_of : (is_picture : Bool) → Format
+page_format_of false = format.Lines
+page_format_of true = format.Picture
+
+-- a recording with these names of its signals, of levels as they stand or inverted, which starts at this microsecond
+pub record IsInput (source : Source) (atn clock line : List ℕ) (is_inverted : Bool) (start : ℕ) (input : TraceInput) : Type 0 where
+  pub source : input.source ≡ source
+  pub atn : input.signals.atn.now ≡ atn
+  pub clock : input.signals.clock.now ≡ clock
+  pub line : input.signals.line.now ≡ line
+  pub inverted : input.signals.is_inverted ≡ is_inverted
+  pub start : input.start ≡ start

@@ -1,0 +1,157 @@
+//! What a call tells the page.
+
+ghost use Rattle.std.specs.Prelude.{◌≡◌, length};
+ghost use Rattle.pr_web.specs.Answers.{answer_of, capture_numbers, fault_numbers, refusal, signal_number};
+ghost use Rattle.pr_web.specs.Giving.{FindsText, Gives, is_of_input};
+
+use pr_capture::{CaptureFault, Wire};
+use pr_cli::CliFault;
+use pr_wire::{TraceFault, WaveFault};
+
+/// What came of a call.
+#[derive(Clone, Copy, Debug, PartialEq, Eq)]
+pub enum Told {
+    /// The text stands at the front of the buffer, and has this many bytes. Of an input that can not be
+    /// read to its end it is what stands before the fault, and there is the fault.
+    Written(Option<CliFault>, usize),
+    /// The text has this many bytes, more than the buffer has room for.
+    TooSmall(usize),
+    /// There is no text.
+    Refused(CliFault),
+}
+
+/// What came of a call, as numbers.
+#[repr(C)]
+#[derive(Clone, Copy, Debug, PartialEq, Eq)]
+pub struct Answer {
+    /// 0 done, 2 refused, 3 out of memory, 4 the buffer is too small.
+    pub code: usize,
+    /// With code 2 the number of the fault: 8 a bad line of a trace text, 9 too large, 12 an edge that
+    /// stands before the one in front of it, 29 and 30 a number that stands for no setting, 31 to 49 those
+    /// of a recording. Else 0.
+    pub fault: usize,
+    /// The line of the fault, from 1, or the index of its edge; or 0.
+    pub place: usize,
+    /// The number of the text's bytes, or 0.
+    pub length: usize,
+}
+
+/// Hands a text that was made to the page, also where its input has a fault.
+pub fn give(made: Result<(), CliFault>, text: &[u8], out: &mut [u8]) -> Told
+    ensures gives { Gives made text.now out.old out.new result }
+    ensures length { length out.new ≡ length out.old }
+{
+    let stop = match stop_in(made) {
+        Ok(stop) => stop,
+        Err(fault) => return Told::Refused(fault),
+    };
+    let size = text.len();
+    if size > out.len() {
+        return Told::TooSmall(size);
+    }
+    out[..size].copy_from_slice(text);
+    Told::Written(stop, size)
+}
+
+/// Where the text of an input ends, if it ends before the input; or why there is none.
+fn stop_in(made: Result<(), CliFault>) -> Result<Option<CliFault>, CliFault>
+    ensures { FindsText made result }
+{
+    match made {
+        Ok(()) => Ok(None),
+        Err(fault) if is_of_input(fault) => Ok(Some(fault)),
+        Err(fault) => Err(fault),
+    }
+}
+
+/// Whether a fault is one of what the input says, before which it is told.
+fn is_of_input(fault: CliFault) -> bool
+    ensures { result ≡ is_of_input fault }
+{
+    matches!(
+        fault,
+        CliFault::Trace(_) | CliFault::Wave(_) | CliFault::Capture(_)
+    )
+}
+
+/// A refusal with the number of its fault and the place.
+pub fn refused(fault: usize, place: usize) -> Answer
+    ensures { result ≡ refusal (fault, place) 0 }
+{
+    Answer {
+        code: 2,
+        fault,
+        place,
+        length: 0,
+    }
+}
+
+/// What is told, as numbers.
+pub fn numbered(told: Told) -> Answer
+    ensures { result ≡ answer_of told }
+{
+    let (code, length) = match told {
+        Told::Written(Some(fault), size) => {
+            let (fault, place) = numbers_of(fault);
+            return Answer {
+                code: 2,
+                fault,
+                place,
+                length: size,
+            };
+        }
+        Told::Refused(CliFault::TooLarge) => return refused(9, 0),
+        Told::Written(None, size) => (0, size),
+        Told::Refused(_) => (3, 0),
+        Told::TooSmall(size) => (4, size),
+    };
+    Answer {
+        code,
+        fault: 0,
+        place: 0,
+        length,
+    }
+}
+
+/// The number of a fault of an input, and its place.
+fn numbers_of(fault: CliFault) -> (usize, usize)
+    ensures { result ≡ fault_numbers fault }
+{
+    match fault {
+        CliFault::Trace(TraceFault::BadLine(line)) => (8, line),
+        CliFault::Wave(WaveFault::Order(edge)) => (12, edge),
+        CliFault::Capture(fault) => numbers_of_capture(fault),
+        _ => (0, 0),
+    }
+}
+
+/// The number of a recording's fault, and its line.
+fn numbers_of_capture(fault: CaptureFault) -> (usize, usize)
+    ensures { result ≡ capture_numbers fault }
+{
+    match fault {
+        CaptureFault::NoSignal(line, wire) => (30 + number_of_wire(wire), line),
+        CaptureFault::NoLevel(line, wire) => (33 + number_of_wire(wire), line),
+        CaptureFault::BadWord(line) => (41, line),
+        CaptureFault::NoEnd(line) => (42, line),
+        CaptureFault::NoDefinitions(line) => (43, line),
+        CaptureFault::NoTimescale(line) => (44, line),
+        CaptureFault::BadTime(line) => (45, line),
+        CaptureFault::GoesBack(line) => (46, line),
+        CaptureFault::Unknown(line) => (47, line),
+        CaptureFault::Floating(line) => (48, line),
+        CaptureFault::BadLevel(line) => (49, line),
+        CaptureFault::NoMemory => (0, 0),
+    }
+}
+
+/// 1 ATN, 2 CLOCK, 3 DATA.
+fn number_of_wire(wire: Wire) -> usize
+    ensures { result ≡ signal_number wire }
+{
+    match wire {
+        Wire::Atn => 1,
+        Wire::Clock => 2,
+        Wire::Data => 3,
+    }
+}
