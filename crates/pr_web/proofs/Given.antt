@@ -1,7 +1,12 @@
 -- What is made in memory, and handed to the page.
-use Rattle.std.proofs.Common.{◌≡◌, ℕ, List, Some, None, Ok, Err, refl}
+use Rattle.std.proofs.Common.{◌≡◌, ℕ, List, [], Some, None, Ok, Err, refl}
+use Rattle.pr_cli.specs.Check.{trace_limit}
 use Rattle.pr_cli.specs.declared.fault.CliFault.{CliFault}
-use Rattle.pr_web.specs.Giving.{Gives, Hands}
+use Rattle.pr_options.specs.declared.format.Format.{Format}
+use Rattle.pr_options.specs.declared.format.TraceInput.{TraceInput}
+use Rattle.pr_recording.specs.Decoded.{AnswersDecode}
+use Rattle.pr_recording.specs.Pages.{AnswersPages}
+use Rattle.pr_web.specs.Giving.{Gives, GivesPages, GivesReadings, Hands, Made}
 use Rattle.pr_web.specs.declared.answer.Told.{Told}
 use Rattle.pr_web.specs.declared.answer.Told.TheVariants.{Written, TooSmall, Refused}
 
@@ -12,3 +17,13 @@ hands IsText text old new (Written None n) is g = (text, is, refl, g.1, g.2, g.3
 hands IsText text old new (Written (Some fault) n) is g = cc
 hands IsText text old new (TooSmall n) is g = (text, is, g.2, g.3, g.4)
 hands IsText text old new (Refused fault) is g = cc
+
+-- so is what a recording says
+pub gives-readings : (input : TraceInput) (bytes text old new : List ℕ) (made : Made) (told : Told)
+    → AnswersDecode trace_limit input bytes (Some []) (Some text) made → Gives made text old new told → GivesReadings input bytes old new told
+gives-readings input bytes text old new made told a g = (made, text, a, g)
+
+-- so are its pages
+pub gives-pages : (input : TraceInput) (format : Format) (bytes text old new : List ℕ) (made : Made) (told : Told)
+    → AnswersPages input format bytes (Some []) (Some text) made → Gives made text old new told → GivesPages input format bytes old new told
+gives-pages input format bytes text old new made told a g = (made, text, a, g)

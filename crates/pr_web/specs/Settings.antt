@@ -40,9 +40,9 @@ page_format_of true = format.Picture
 
 -- a recording with these names of its signals, of levels as they stand or inverted, which starts at this microsecond
 pub record IsInput (source : Source) (atn clock line : List ℕ) (is_inverted : Bool) (start : ℕ) (input : TraceInput) : Type 0 where
-  pub source : input.source ≡ source
-  pub atn : input.signals.atn.now ≡ atn
-  pub clock : input.signals.clock.now ≡ clock
-  pub line : input.signals.line.now ≡ line
-  pub inverted : input.signals.is_inverted ≡ is_inverted
-  pub start : input.start ≡ start
+  pub of_source : input.source ≡ source
+  pub of_atn : input.signals.atn.now ≡ atn
+  pub of_clock : input.signals.clock.now ≡ clock
+  pub of_line : input.signals.line.now ≡ line
+  pub of_inverted : input.signals.is_inverted ≡ is_inverted
+  pub of_start : input.start ≡ start

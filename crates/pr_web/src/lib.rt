@@ -15,3 +15,6 @@ pub use explanations::{
     print1525_explain_trace,
 };
 pub use recordings::{print1525_readings, print1525_reprint};
+
+#[cfg(test)]
+mod tests;
