@@ -60,7 +60,7 @@ pub struct WireReading {
 }
 
 /// What a caller keeps of a recording between two edges. The numbers are this library's: a caller writes
-/// none of them.
+/// none of them. Numbers that are not those of a decoder (`IsDecoder`) are refused.
 #[repr(C)]
 #[derive(Clone, Copy, Debug, PartialEq, Eq)]
 pub struct WireDecoder {

@@ -41,8 +41,8 @@ pub struct PlaceNumbers {
 }
 
 /// What a caller keeps of a device between two edges. The numbers are this library's: a caller
-/// writes none of them. Numbers that hold no place, device or fault are told from those of an ear;
-/// such as hold those to which no edges lead are not, and then nothing is said of what is told.
+/// writes none of them. Numbers that are not those of an ear (`IsEar`) are refused. Of such as are,
+/// though no edges leave them, it is only said that they stay those of an ear.
 #[repr(C)]
 #[derive(Clone, Copy, Debug, PartialEq, Eq)]
 pub struct Ear {
