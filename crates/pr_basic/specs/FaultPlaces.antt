@@ -18,7 +18,8 @@ abbrev pub with_colons : List (List Lexeme) → List Lexeme
 with_colons [] = []
 with_colons (p ∷ ps) = p ++ Colon ∷ with_colons ps
 
--- good parts, no more statements than there is room for, and then a part with a fault; the lexemes before its place, and how many bytes of the next lexeme stand before it
+-- good parts, no more statements than there is room for, and then a part with a fault; the lexemes before its place, and how many bytes of
+-- the next lexeme stand before it
 pub record ArePartsFault (room : ℕ) (f : LineFault) (done : List Lexeme) (inside : ℕ) (ps : List (List Lexeme)) : Type 0 where
   pub before : List (List Lexeme)
   pub part : List Lexeme
@@ -63,7 +64,8 @@ abbrev pub size_of : List (List ℕ) → ℕ
 size_of [] = 0
 size_of (l ∷ ls) = suc (length l) + size_of ls
 
--- good lines, no more statements than there is room for, and then a line with a fault; the line's number from 0, and how many bytes stand before the fault's place
+-- good lines, no more statements than there is room for, and then a line with a fault; the line's number from 0, and how many bytes stand
+-- before the fault's place
 pub record AreLinesFault (room : ℕ) (f : LineFault) (number place : ℕ) (lines : List (List ℕ)) : Type 0 where
   pub before : List (List ℕ)
   pub line : List ℕ

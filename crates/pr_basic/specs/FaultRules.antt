@@ -1,4 +1,5 @@
--- Trusted: the table of faults: the first fault of a part of a line, from the left, and its place among the part's lexemes. What stands before it is in the grammar.
+-- Trusted: the table of faults: the first fault of a part of a line, from the left, and its place among the part's lexemes. What stands
+-- before it is in the grammar.
 use Rattle.std.specs.Prelude.{◌≡◌, ℕ, ◌+◌, ◌≤◌, ◌<◌, ◌⊎◌, Bool, true, false, List, [], ◌∷◌, ◌++◌, length}
 use Rattle.std.specs.List.{list_all}
 use Rattle.pr_basic.specs.ListLimit.{byte_limit}
@@ -90,7 +91,8 @@ GoesTooFar part next = AfterSecond part next
 
 -- the faults outside lists, each with its place
 abbrev pub IsFaultOutsideLists : Placed → List Lexeme → Type 0
--- no keyword where a statement must begin: there; what cannot go on the statement: there; a comma of CMD or PRINT# with no list after it: the end
+-- no keyword where a statement must begin: there; what cannot go on the statement: there; a comma of CMD or PRINT# with no list after it:
+-- the end
 IsFaultOutsideLists (UnknownWord, at) part =
     ((l : Lexeme) × (ls : List Lexeme) × (part ≡ l ∷ ls) × (begins_statement l ≡ false) × (at ≡ start_of part))
     ⊎ (((l : Lexeme) × (ls : List Lexeme) × GoesTooFar part (l ∷ ls) × (at ≡ start_of (l ∷ ls)))

@@ -1,4 +1,5 @@
--- Trusted: the first fault of a script, from the left: what stands before it is in the grammar, and there a rule of the table of faults holds.
+-- Trusted: the first fault of a script, from the left: what stands before it is in the grammar, and there a rule of the table of faults
+-- holds.
 use Rattle.std.specs.Prelude.{ℕ, List}
 use Rattle.pr_basic.specs.FaultPlaces.{IsFirstFaultAt}
 use Rattle.pr_basic.specs.declared.fault.ScriptFault.{ScriptFault}

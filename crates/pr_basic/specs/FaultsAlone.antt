@@ -1,4 +1,5 @@
--- Linking words: the table of faults without their places. A law says that it is the table with them, so that a reader needs only one of the two.
+-- Linking words: the table of faults without their places. A law says that it is the table with them, so that a reader needs only one of
+-- the two.
 use Rattle.std.specs.Prelude.{◌≡◌, ℕ, ◌+◌, ◌-◌, ◌≤◌, ◌<◌, ◌⊎◌, true, false, List, [], ◌∷◌, ◌++◌, length}
 use Rattle.std.specs.List.{list_all}
 use Rattle.pr_basic.specs.Limits.{statement_limit}
@@ -31,7 +32,8 @@ IsFaultOutsideListsAlone UnknownWord part = ((l : Lexeme) × (ls : List Lexeme) 
     ⊎ (GoesTooFarAlone part
     ⊎ ((k : Keyword) × (takes_list k ≡ true) × AfterFile k part (Comma ∷ [])))
 -- a file that is missing or above 255
-IsFaultOutsideListsAlone BadNumber part = (k : Keyword) × (ls : List Lexeme) × (part ≡ Word k ∷ ls) × (takes_file k ≡ true) × NoNumber 0 255 ls
+IsFaultOutsideListsAlone BadNumber part =
+    (k : Keyword) × (ls : List Lexeme) × (part ≡ Word k ∷ ls) × (takes_file k ≡ true) × NoNumber 0 255 ls
 -- in OPEN no comma after the file, or no device of 4 to 30 after it
 IsFaultOutsideListsAlone BadDevice part = (ls : List Lexeme) × AfterFile word.Open part ls
     × ((rest : List Lexeme) → ls ≡ Comma ∷ rest → NoNumber 4 30 rest)
@@ -47,13 +49,16 @@ IsItemFaultAlone UnknownWord n next = ((l : Lexeme) × (rest : List Lexeme) × (
     ⊎ ((ds : List ℕ) × (rest : List Lexeme) × (next ≡ Word word.Chr ∷ OpenParen ∷ Digits ds ∷ rest)
     × (number_of ds ≤ 255) × Lacks CloseParen rest))
 -- no digits in CHR$
-IsItemFaultAlone BadNumber n next = (rest : List Lexeme) × (next ≡ Word word.Chr ∷ OpenParen ∷ rest) × ((ds : List ℕ) → Lacks (Digits ds) rest)
+IsItemFaultAlone BadNumber n next =
+    (rest : List Lexeme) × (next ≡ Word word.Chr ∷ OpenParen ∷ rest) × ((ds : List ℕ) → Lacks (Digits ds) rest)
 -- a byte outside 32 to 126 in a string, after at most 255 bytes; a CHR$ of more than 255
-IsItemFaultAlone BadByte n next = ((good : List ℕ) × (b : ℕ) × (more : List ℕ) × (rest : List Lexeme) × (next ≡ Quoted (good ++ b ∷ more) ∷ rest)
+IsItemFaultAlone BadByte n next =
+    ((good : List ℕ) × (b : ℕ) × (more : List ℕ) × (rest : List Lexeme) × (next ≡ Quoted (good ++ b ∷ more) ∷ rest)
     × (list_all is_printable good ≡ true) × (is_printable b ≡ false) × (n + length good ≤ byte_limit))
     ⊎ ((ds : List ℕ) × (rest : List Lexeme) × (next ≡ Word word.Chr ∷ OpenParen ∷ Digits ds ∷ rest) × (255 < number_of ds))
 -- the 256th byte: one of a string that may stand there, or that of a whole CHR$
-IsItemFaultAlone TooLong n next = ((good : List ℕ) × (b : ℕ) × (more : List ℕ) × (rest : List Lexeme) × (next ≡ Quoted (good ++ b ∷ more) ∷ rest)
+IsItemFaultAlone TooLong n next =
+    ((good : List ℕ) × (b : ℕ) × (more : List ℕ) × (rest : List Lexeme) × (next ≡ Quoted (good ++ b ∷ more) ∷ rest)
     × (list_all is_printable good ≡ true) × (is_printable b ≡ true) × (n + length good ≡ byte_limit))
     ⊎ ((ds : List ℕ) × (rest : List Lexeme) × (next ≡ Word word.Chr ∷ OpenParen ∷ Digits ds ∷ CloseParen ∷ rest)
     × (number_of ds ≤ 255) × (n ≡ byte_limit))

@@ -1,4 +1,5 @@
--- Trusted: the grammar of scripts: which bytes are a script of which statements. It says nothing of faults, and nothing of how a script is read.
+-- Trusted: the grammar of scripts: which bytes are a script of which statements. It says nothing of faults, and nothing of how a script is
+-- read.
 use Rattle.std.specs.Prelude.{◌≡◌, ℕ, ◌+◌, ◌≤◌, ◌<◌, ◌⊎◌, ◌&&◌, ◌==◌, Bool, true, false, List, [], ◌∷◌, ◌++◌, length, Some, None, nat_le, if◌then◌else◌}
 use Rattle.std.specs.List.{list_all}
 use Rattle.pr_text.specs.Digits.{number_of}

@@ -6,7 +6,8 @@ use Rattle.pr_text.specs.Digits.{is_digit}
 use Rattle.pr_basic.specs.declared.lexemes.Keyword.{Keyword}
 use Rattle.pr_basic.specs.declared.lexemes.Keyword.TheVariants.{Open, Close, Cmd, PrintTo, Print, Chr}
 
--- a lexeme: a keyword, a REM with the rest of its line, the digits of a number, the bytes of a string, a sign, or a byte that begins none of these
+-- a lexeme: a keyword, a REM with the rest of its line, the digits of a number, the bytes of a string, a sign, or a byte that begins none
+-- of these
 pub data Lexeme : Type 0 where
   Word : Keyword → Lexeme
   Remark : Lexeme
@@ -55,7 +56,8 @@ abbrev pub NoSpace : List ℕ → Type 0
 NoSpace [] = Unit {0}
 NoSpace (b ∷ bs) = is_space b ≡ false
 
--- bytes spell a lexeme, with the line's bytes after them: PRINT has no `#` behind it, digits go on as far as they can, a string ends with its quote or with the line, a remark with the line
+-- bytes spell a lexeme, with the line's bytes after them: PRINT has no `#` behind it, digits go on as far as they can, a string ends with
+-- its quote or with the line, a remark with the line
 abbrev pub Spells : Lexeme → List ℕ → List ℕ → Type 0
 Spells (Word Print) bytes after = IsWord (letters_of Print) bytes × NoHash after
 Spells (Word k) bytes after = IsWord (letters_of k) bytes

@@ -1,4 +1,5 @@
--- Linking words: the lexemes of a line, one after another as the reader takes them. The laws of the crate tie them to the grammar's own words. No reader needs to believe them.
+-- Linking words: the lexemes of a line, one after another as the reader takes them. The laws of the crate tie them to the grammar's own
+-- words. No reader needs to believe them.
 use Rattle.std.specs.Prelude.{◌≡◌, ℕ, zero, suc, ◌+◌, ◌-◌, ◌==◌, Bool, List, [], ◌∷◌, ◌++◌, length, take, drop, map, codes, nat_lt, if◌then◌else◌}
 use Rattle.std.specs.List.{prefix_len}
 use Rattle.std.specs.Str.{bytes_eq}

@@ -1,4 +1,5 @@
--- Words of calls: what a statement and its parts do to the channels. Who uses `perform` by itself believes them; what a run gives is defined without them.
+-- Words of calls: what a statement and its parts do to the channels. Who uses `perform` by itself believes them; what a run gives is
+-- defined without them.
 use Rattle.std.specs.Prelude.{◌≡◌, ℕ, false, nat_lt, Option, List, ◌++◌, map, if◌then◌else◌}
 use Rattle.pr_serial.specs.Elements.{Byte}
 use Rattle.pr_serial.specs.Items.{items_of}

@@ -1,4 +1,5 @@
--- Linking words: the statement, or the first fault and its place, of the lexemes of a part, as the reader takes them. The laws of the crate tie them to the grammar and to the table of faults. No reader needs to believe them.
+-- Linking words: the statement, or the first fault and its place, of the lexemes of a part, as the reader takes them. The laws of the
+-- crate tie them to the grammar and to the table of faults. No reader needs to believe them.
 use Rattle.std.specs.Prelude.{ℕ, ◌+◌, ◌-◌, ◌&&◌, List, [], ◌∷◌, length, ◌++◌, Bool, true, false, Option, Some, None, Result, Ok, Err, nat_le, nat_lt, if◌then◌else◌}
 use Rattle.std.specs.List.{prefix_len}
 use Rattle.pr_basic.specs.ListLimit.{byte_limit}
@@ -58,7 +59,8 @@ close_in ls = do
 unfoldable pub byte_added : List Lexeme → List ℕ → ℕ → Result (List ℕ) Placed
 byte_added at bytes b = if nat_lt (length bytes) byte_limit then Ok (bytes ++ b ∷ []) else Err (TooLong, start_of at)
 
--- the bytes of a string, which is at the front of some lexemes: the first that may not stand in one comes before the list's last byte, or after it, or not at all
+-- the bytes of a string, which is at the front of some lexemes: the first that may not stand in one comes before the list's last byte, or
+-- after it, or not at all
 unfoldable pub string_added : List Lexeme → List ℕ → List ℕ → Result (List ℕ) Placed
 string_added at bytes s =
     if nat_lt byte_limit (length bytes + prefix_len is_printable s) then Err (TooLong, within at (1 + (byte_limit - length bytes)))

@@ -1,4 +1,5 @@
--- Linking words: the statements of a script, or its first fault and its place, read line by line. The laws of the crate tie them to the grammar and to the table of faults. No reader needs to believe them.
+-- Linking words: the statements of a script, or its first fault and its place, read line by line. The laws of the crate tie them to the
+-- grammar and to the table of faults. No reader needs to believe them.
 use Rattle.std.specs.Prelude.{ℕ, suc, ◌+◌, ◌-◌, ◌==◌, List, [], ◌∷◌, length, ◌++◌, take, Bool, false, Option, Some, None, Result, Ok, Err, nat_le, if◌then◌else◌}
 use Rattle.pr_basic.specs.Limits.{statement_limit}
 use Rattle.pr_basic.specs.Lexemes.{Lexeme, Colon, Digits}
@@ -19,7 +20,8 @@ pub record Passed : Type 0 where
 
 -- a line's optional number of at most 63999, and the lexemes after it
 unfoldable pub numbered : List Lexeme → Result (List Lexeme × List Lexeme) (LineFault × Passed)
-numbered (Digits ds ∷ ls) = if nat_le (number_of ds) 63999 then Ok (Digits ds ∷ [], ls) else Err (BadNumber, record { done = []; inside = 0 })
+numbered (Digits ds ∷ ls) =
+    if nat_le (number_of ds) 63999 then Ok (Digits ds ∷ [], ls) else Err (BadNumber, record { done = []; inside = 0 })
 numbered ls = Ok ([], ls)
 
 -- the digits that stand first

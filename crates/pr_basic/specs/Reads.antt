@@ -1,4 +1,5 @@
--- Linking words: what a function of the reader answered is what the reading words say, unless memory ran out. No reader needs to believe it.
+-- Linking words: what a function of the reader answered is what the reading words say, unless memory ran out. No reader needs to believe
+-- it.
 use Rattle.std.specs.Prelude.{◌≡◌, ◌∷◌, ◌++◌, ◌≤◌, length, ℕ, List, [], Option, Some, None, Result, Ok, Err}
 use Rattle.std.specs.Borrow.{Bor}
 use Rattle.pr_basic.specs.Text.{Text}

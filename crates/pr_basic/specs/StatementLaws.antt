@@ -1,4 +1,5 @@
--- Laws: what follows from the definitions, in the manuals' words. The functions of src/laws.rt prove them, and callers take them from there.
+-- Laws: what follows from the definitions, in the manuals' words. The functions of src/laws.rt prove them, and callers take them from
+-- there.
 use Rattle.std.specs.Prelude.{◌≡◌, ℕ, ◌+◌, Bool, true, false, not, ◌||◌, Option, Some, None, List, [], ◌∷◌, ◌++◌, length, drop, if◌then◌else◌}
 use Rattle.pr_commands.specs.Bytes as command
 use Rattle.pr_serial.specs.declared.Present.{Present}
@@ -30,7 +31,8 @@ abbrev pub is_byte_unanswered : Present → List Item → Option ℕ → Bool
 is_byte_unanswered present sent None = false
 is_byte_unanswered present sent (Some b) = not (is_answered present sent (item.Sent b true))
 
--- the LISTEN to a file's device is not answered, or the element directly before it is a byte that is not; where the status is kept: the LISTEN or any item before it in the run is not answered
+-- the LISTEN to a file's device is not answered, or the element directly before it is a byte that is not; where the status is kept: the
+-- LISTEN or any item before it in the run is not answered
 abbrev pub is_missing : StatusMode → Present → List Element → File → Bool
 is_missing Each present before file =
     not (is_answered present (items_of before) (item.Attention (command.listen + file.device) (second_from command.secondary file.second)))

@@ -54,7 +54,8 @@ pub record IsSameEar (old new : WiredEar) : Type 0 where
 abbrev pub HasRoom : WiredEar → Type 0
 HasRoom ear = ear.there ≡ true → vec_len ear.inputs + 2 ≤ vec_capacity ear.inputs
 
--- a printer that has heard a trace may hear these edges behind it: they are allowed, and there is room for all inputs behind the forgotten edges
+-- a printer that has heard a trace may hear these edges behind it: they are allowed, and there is room for all inputs behind the forgotten
+-- edges
 pub record IsReady (forgotten trace edges : List Edge) (ear : WiredEar) : Type 0 where
   pub hears : IsHearing forgotten trace ear
   pub allowed : IsAllowed (trace ++ edges)

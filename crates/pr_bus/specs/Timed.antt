@@ -19,7 +19,8 @@ pub record TimedPrinter : Type 0 where
   pub device : ℕ
   pub numbers : List ℕ
 
--- what stands on CLOCK and DATA between two items: both are released; both are pulled; CLOCK is pulled, and DATA will be released at a moment
+-- what stands on CLOCK and DATA between two items: both are released; both are pulled; CLOCK is pulled, and DATA will be released at a
+-- moment
 pub data Lines : Type 0 where
   Free : Lines
   Pulled : Lines

@@ -1,4 +1,5 @@
--- Words of calls: what a contract sees of the bus on wires, and which part of the trace it shows. Who uses `Wires` by itself believes them; no claim about a run rests on them.
+-- Words of calls: what a contract sees of the bus on wires, and which part of the trace it shows. Who uses `Wires` by itself believes
+-- them; no claim about a run rests on them.
 use Rattle.std.specs.Prelude.{ℕ, Bool, Option, Some, None, List, [], ◌∷◌, take}
 use Rattle.pr_serial.specs.declared.Present.{Present}
 use Rattle.pr_serial.specs.declared.Item.{Item}

@@ -1,5 +1,6 @@
 -- Trusted: what a table of comma separated values says of the bus: samples of its lines, up to the first fault if there is one.
--- Blank lines and remarks say nothing. Of the others the first has the columns' names, and each later one is a sample, whose first field is the time in seconds.
+-- Blank lines and remarks say nothing. Of the others the first has the columns' names, and each later one is a sample, whose first field
+-- is the time in seconds.
 use Rattle.std.specs.Prelude.{ℕ, zero, suc, ◌+◌, ◌-◌, ◌*◌, ◌==◌, ◌&&◌, ◌||◌, Bool, true, false, not, List, [], ◌∷◌, ◌++◌, codes, drop, length, nat_lt, take, if◌then◌else◌, Option, Some, None, Result, Ok, Err}
 use Rattle.std.specs.List.{list_all, prefix_len}
 use Rattle.pr_wire.specs.declared.Edge.{Edge}

@@ -34,7 +34,8 @@ told_from s Names number ls = lines_told s number ls
 told_from s (Rows c before) number ls = rows_told c s.is_inverted number before ls
 
 -- a line leads from one place to another and gives a sample, if it gives one, or it has a fault
-abbrev pub ReadsLine : Signals → (number : ℕ) → (line : List ℕ) → (old : RowPlace) → Result (Option Edge) CaptureFault → (new : RowPlace) → Type 0
+abbrev pub ReadsLine :
+    Signals → (number : ℕ) → (line : List ℕ) → (old : RowPlace) → Result (Option Edge) CaptureFault → (new : RowPlace) → Type 0
 ReadsLine s number line old (Ok sample) new =
     (more : List (List ℕ)) → told_from s old number (line ∷ more) ≡ told_behind (listed sample) (told_from s new (number + 1) more)
 ReadsLine s number line old (Err f) new = (more : List (List ℕ)) → told_from s old number (line ∷ more) ≡ refused f

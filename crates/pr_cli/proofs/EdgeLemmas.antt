@@ -1,6 +1,5 @@
 -- Edges that are made of samples.
 use Rattle.std.proofs.Common.{◌≡◌, ℕ, List, [], ◌∷◌, ◌++◌, refl, ap, sym, ◌∙◌, append-nil, Option, Some, None}
-use Rattle.std.specs.Option.{option_to_list}
 use Rattle.pr_wire.specs.declared.Edge.{Edge}
 use Rattle.pr_capture.specs.declared.gatherer.Gatherer.{Gatherer}
 use Rattle.pr_capture.specs.Gathering as gathering
@@ -9,7 +8,7 @@ use Rattle.pr_options.specs.declared.format.Source.{Source}
 use Rattle.pr_options.specs.declared.format.Source.TheVariants as source
 use Rattle.pr_options.specs.declared.format.TraceInput.{TraceInput}
 use Rattle.pr_cli.specs.Report.{edges_made}
-use Rattle.pr_cli.specs.Reported.{HasGathered, HasMade, MadeEdgesComeFirst, MakesAll, MakesMore}
+use Rattle.pr_cli.specs.Reported.{HasGathered, MadeEdgesComeFirst, MakesAll, MakesMore}
 use Rattle.pr_cli.specs.declared.edge_maker.EdgeMaker.{EdgeMaker}
 
 pub made_gathered : (input : TraceInput) (g : Gatherer) → (input.source ≡ source.Text → ⊥) → gathering.HasGathered input.start [] [] g → HasGathered input [] [] (Some g)

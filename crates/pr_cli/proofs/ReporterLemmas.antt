@@ -21,7 +21,7 @@ use Rattle.pr_options.specs.declared.format.Report.{Report}
 use Rattle.pr_options.specs.declared.format.Report.TheVariants as report
 use Rattle.pr_options.specs.declared.format.TraceInput.{TraceInput}
 use Rattle.pr_cli.specs.FrameText.{frame_line, frame_lines}
-use Rattle.pr_cli.specs.Report.{edges_made, refusal, IsReport}
+use Rattle.pr_cli.specs.Report.{refusal, IsReport}
 use Rattle.pr_cli.specs.Reported.{data_behind, last_line, lines_of_frame, lines_of_frames, AreLines, EndsReport, EndsSamples, HasEnded, HasHeard, HasMade, HasReported, IsOwnFault, IsTraceFault, MakesAll, MakesMore, ReportsMore, TellsSoFar}
 use Rattle.pr_cli.specs.declared.reporter.FrameReporter.{FrameReporter}
 use Rattle.pr_cli.specs.declared.reporter.ReportText.{ReportText}

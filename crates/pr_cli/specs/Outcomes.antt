@@ -1,4 +1,5 @@
--- Linking words, for proofs: what a part of the program answers is what its definition gives, unless memory ran out. No reader needs to believe them.
+-- Linking words, for proofs: what a part of the program answers is what its definition gives, unless memory ran out. No reader needs to
+-- believe them.
 use Rattle.std.specs.Prelude.{◌≢◌, List, ℕ, Result, Ok, Err}
 use Rattle.pr_basic.specs.declared.fault.ScriptFault.TheVariants as fault
 use Rattle.pr_basic.specs.declared.statement.Statement.{Statement}

@@ -1,4 +1,5 @@
--- Trusted: what `check` answers for an input of any format and for a report of any kind, and what it leaves in the reader and in the writer.
+-- Trusted: what `check` answers for an input of any format and for a report of any kind, and what it leaves in the reader and in the
+-- writer.
 use Rattle.std.specs.Prelude.{◌≡◌, ℕ, ◌<◌, ◌≤◌, false, List, [], length, Option, Some, None, option_map, Result, Ok, Err}
 use Rattle.std.specs.Io.KnownBytes.{Appends, IsAtEnd, Keeps}
 use Rattle.pr_wire.specs.declared.Edge.{Edge}
@@ -111,7 +112,8 @@ AnswersReport input r text old new (Err NoMemory) = Keeps old new
 AnswersReport input r text old new (Err ReadFailed) = Keeps old new
 AnswersReport input r text old new (Err WriteFailed) = WritesFront input r text old new
 
--- whatever the reader tells, nothing is written where the input was not read, or memory was refused; of frames also not where the trace is refused
+-- whatever the reader tells, nothing is written where the input was not read, or memory was refused; of frames also not where the trace is
+-- refused
 abbrev pub WritesNoReport : Report → Option (List ℕ) → Option (List ℕ) → Result (Unit {0}) CliFault → Type 0
 WritesNoReport r old new (Err TooLarge) = Keeps old new
 WritesNoReport r old new (Err NoMemory) = Keeps old new

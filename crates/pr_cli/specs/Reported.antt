@@ -1,4 +1,5 @@
--- Linking words, for proofs: what a reader of a trace in any format has given, which lines were made of it, and what a part of `check` answers. No reader needs to believe them.
+-- Linking words, for proofs: what a reader of a trace in any format has given, which lines were made of it, and what a part of `check`
+-- answers. No reader needs to believe them.
 use Rattle.std.specs.Prelude.{◌≡◌, ◌⊎◌, ℕ, ◌<◌, ◌≤◌, Bool, false, List, [], ◌∷◌, ◌++◌, codes, flat_map, length, Option, Some, None, Result, Ok, Err, IfSome}
 use Rattle.std.specs.Option.{option_to_list}
 use Rattle.std.specs.Io.KnownBytes.{Appends, IsAtEnd}
@@ -84,7 +85,8 @@ EndsInput r (Err f) = (f ≡ NoMemory) ⊎ (IsOwnFault f
 -- whatever follows the text that a reader has taken, the samples that it has given come first
 abbrev pub GivenSamplesComeFirst : Type 0
 GivenSamplesComeFirst =
-    (input : TraceInput) (t more : List ℕ) (given samples : List Edge) (fault : Option CliFault) (r : SourceReader) → HasGiven input t given r
+    (input : TraceInput) (t more : List ℕ) (given samples : List Edge) (fault : Option CliFault) (r : SourceReader)
+    → HasGiven input t given r
     → SaysSamples input input.source (t ++ more) samples fault → (later : List Edge) × (samples ≡ given ++ later)
 
 -- each text says something in each format
@@ -171,7 +173,8 @@ pub record EndsReport (report : Report) (edges : List Edge) (own : Option CliFau
 abbrev pub HasGathered : TraceInput → (samples edges : List Edge) → Option Gatherer → Type 0
 HasGathered input samples edges None = (input.source ≡ source.Text) × (edges ≡ samples)
 HasGathered input samples edges (Some g) =
-    ((ss : List Edge) → edges_made input.source input.start ss ≡ edges_of input.start ss) × gathering.HasGathered input.start samples edges g
+    ((ss : List Edge) → edges_made input.source input.start ss ≡ edges_of input.start ss)
+    × gathering.HasGathered input.start samples edges g
 
 abbrev pub HasMade : TraceInput → (samples edges : List Edge) → EdgeMaker → Type 0
 HasMade input samples edges m = HasGathered input samples edges m.gatherer
@@ -267,7 +270,8 @@ IsNoReport _ = ⊥
 
 -- what an input comes to that ends here
 abbrev pub EndsNoted : SourceReader → TraceReporter → Result ReportText CliFault → Type 0
-EndsNoted r n (Ok t) = (limit : ℕ) (input : TraceInput) (report : Report) (text : List ℕ) → length text ≤ limit → HasNoted input report text r n
+EndsNoted r n (Ok t) =
+    (limit : ℕ) (input : TraceInput) (report : Report) (text : List ℕ) → length text ≤ limit → HasNoted input report text r n
     → IsReportOf limit input report text t
 EndsNoted r n (Err fault) = Unit {0}
 

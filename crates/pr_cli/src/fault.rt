@@ -1,6 +1,6 @@
 //! Why there was no text, or not all of it.
 
-ghost use Rattle.std.specs.Prelude.{◌≡◌};
+ghost use Rattle.std.specs.Prelude.{◌≡◌, ◌≢◌, IfOk, IsErr, OnOk};
 
 use crate::read_write::ReadFault;
 use pr_basic::ScriptFault;
@@ -112,6 +112,22 @@ impl From<ReadFault> for CliFault {
             ReadFault::NoMemory => CliFault::NoMemory,
             ReadFault::ReadFailed => CliFault::ReadFailed,
         }
+    }
+}
+
+/// A fault of an input itself.
+///
+/// # Errors
+///
+/// `AllocError` where the fault is [`CliFault::NoMemory`], which is no fault of an input.
+pub fn own_fault(fault: CliFault) -> Result<CliFault, AllocError>
+    ensures same { IfOk result (λ own. own ≡ fault) }
+    ensures own { OnOk result (fault ≢ CliFault.NoMemory) }
+    ensures memory { IsErr result → fault ≡ CliFault.NoMemory }
+{
+    match fault {
+        CliFault::NoMemory => Err(AllocError),
+        own => Ok(own),
     }
 }
 

@@ -1,6 +1,6 @@
 //! A trace in any format in, a report on its frames out.
 
-ghost use Rattle.std.specs.Prelude.{◌≡◌, ◌≢◌, ◌+◌, ◌^◌, ◌<◌, ◌≤◌, ◌↔◌, length, false, true, None, Some, IfErr, IfOk, IfSome, IsErrOf, OnErr, OnOk};
+ghost use Rattle.std.specs.Prelude.{◌≡◌, ◌+◌, ◌^◌, ◌<◌, ◌≤◌, ◌↔◌, length, false, true, None, Some, IfErr, IfOk, IfSome, IsErrOf, OnErr, OnOk};
 ghost use Rattle.std.specs.Option.{option_to_list};
 ghost use Rattle.pr_options.specs.declared.format.Report.{Report};
 ghost use Rattle.pr_cli.specs.Check.{trace_limit};
@@ -9,7 +9,7 @@ ghost use Rattle.pr_cli.specs.Reported.{EndsNoted, GivesReport, HasReadAll, Hear
 ghost use Rattle.pr_cli.specs.Watched.{has_failed, wrapped};
 
 use crate::check::CHECK_LIMIT;
-use crate::fault::CliFault;
+use crate::fault::{CliFault, own_fault};
 use crate::read_write::{BLOCK, WriteFault, write_whole};
 use crate::reporter::{ReportText, TraceReporter};
 use crate::source_reader::SourceReader;
@@ -154,17 +154,6 @@ fn report_block(
         }
     }
     Ok(None)
-}
-
-/// A fault of an input, where it is no want of memory.
-fn own_fault(fault: CliFault) -> Result<CliFault, AllocError>
-    ensures same { IfOk result (λ own. own ≡ fault) }
-    ensures own { OnOk result (fault ≢ CliFault.NoMemory) }
-{
-    match fault {
-        CliFault::NoMemory => Err(AllocError),
-        own => Ok(own),
-    }
 }
 
 /// Reports on a sample, if there is one.

@@ -105,7 +105,8 @@ impl FrameReporter {
     /// Ends the edges of an input with this fault, if it has one: where nothing is refused, `lawful`
     /// stands behind the lines of their frames.
     fn finish(self, own: Option<CliFault>) -> Result<ReportText, AllocError>
-        ensures { IfOk result (λ text. (report : Report) (edges : List Edge) → HasReported report edges self → EndsReport report edges own text) }
+        ensures { IfOk result (λ text.
+            (report : Report) (edges : List Edge) → HasReported report edges self → EndsReport report edges own text) }
     {
         frames_are_told();
         lawful_traces();

@@ -1,4 +1,5 @@
--- Trusted: a recording, cut into stretches: neighbouring edges over which CLOCK stays as it is, with ATN pulled by the first alone, if by any.
+-- Trusted: a recording, cut into stretches: neighbouring edges over which CLOCK stays as it is, with ATN pulled by the first alone, if by
+-- any.
 use Rattle.std.specs.Prelude.{Bool, false, not, ◌&&◌, List, [], ◌∷◌, ◌++◌, if◌then◌else◌}
 use Rattle.pr_wire.specs.declared.Edge.{Edge}
 use Rattle.pr_wire.specs.Table.{same}

@@ -1,7 +1,7 @@
 -- How the lines of a text grow.
 use Rattle.std.proofs.Common.{◌≡◌, ◌⊎◌, ℕ, ◌<◌, Bool, true, false, List, [], ◌∷◌, ◌++◌, refl, ap, sym, subst, ◌∙◌, append_assoc, append-nil, eq-eqb, ne_eqb, arith, inl, inr, Option, Some, None}
 use Rattle.std.specs.Prelude.{not, ◌&&◌, ◌||◌, ◌==◌, codes, decimal, eqb, if◌then◌else◌}
-use Rattle.pr_explain.specs.Shown.{AddsIndented, AddsShown, AddsSpaces, BeginsLine, IsFresh, IsNamed, IsWithin, differs_from, line_after, tells_no_edge}
+use Rattle.pr_explain.specs.Shown.{AddsIndented, AddsShown, AddsSpaces, IsFresh, IsNamed, IsWithin, differs_from, line_after, tells_no_edge}
 use Rattle.pr_explain.specs.Told.{Begins, TellsSpot, are_spaces, is_within_line, label_words, spot_words}
 
 -- Truth values.

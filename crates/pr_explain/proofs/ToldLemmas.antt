@@ -1,5 +1,5 @@
 -- Which places texts name.
-use Rattle.std.proofs.Common.{◌≡◌, ℕ, ◌+◌, ◌-◌, List, [], ◌++◌, refl, ap, subst, ◌∙◌, append_assoc, Option, Some, Result, Ok, Err}
+use Rattle.std.proofs.Common.{◌≡◌, ℕ, ◌+◌, ◌-◌, List, [], ◌++◌, refl, ap, subst, ◌∙◌, append_assoc, Option, Result, Ok, Err}
 use Rattle.std.specs.Prelude.{IfOk, OnOk, Vec}
 use Rattle.std.specs.Global.{Global}
 use Rattle.pr_basic.specs.declared.fault.ScriptFault.{ScriptFault}

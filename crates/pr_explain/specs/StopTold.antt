@@ -1,4 +1,5 @@
--- Trusted: how the BASIC error is told that stopped a script: its name, the number of the BASIC line, the statement and the line in which it stands.
+-- Trusted: how the BASIC error is told that stopped a script: its name, the number of the BASIC line, the statement and the line in which
+-- it stands.
 use Rattle.std.specs.Prelude.{◌≡◌, ℕ, suc, ◌+◌, ◌<◌, ◌≤◌, List, [], ◌∷◌, ◌++◌, length, Option, Some, None, codes, decimal}
 use Rattle.pr_text.specs.Lines.{lines_of}
 use Rattle.pr_basic.specs.declared.statement.Statement.{Statement}

@@ -1,14 +1,14 @@
 //! Reading a trace whole, in any format.
 
-ghost use Rattle.std.specs.Prelude.{◌≡◌, ◌≢◌, ◌≤◌, length, IfOk, IfSome, OnOk};
+ghost use Rattle.std.specs.Prelude.{◌≡◌, ◌≤◌, length, IfOk, IfSome, OnOk};
 ghost use Rattle.pr_cli.specs.Report.{Says};
 ghost use Rattle.pr_cli.specs.Reported.{IsOwnFault};
 ghost use Rattle.pr_explain.specs.Reading.{EndsEdges, TakesSample};
 
-use pr_cli::{CliFault, EdgeMaker, SourceReader};
+use pr_cli::{CliFault, EdgeMaker, SourceReader, own_fault};
 use pr_options::TraceInput;
 use pr_wire::{Edge, NoMemory};
-use std::alloc::{AllocError, Global};
+use std::alloc::Global;
 
 /// The edges that an input says, up to its first fault, and that fault, if it has one.
 #[derive(Drop)]
@@ -47,17 +47,6 @@ pub fn read_input(alloc: Global, bytes: &[u8], input: TraceInput<'_>) -> Result<
             let own = own_fault(fault)?;
             end_edges(edges, maker, Some(own))
         }
-    }
-}
-
-/// A fault of an input, where it is no want of memory.
-fn own_fault(fault: CliFault) -> Result<CliFault, NoMemory>
-    ensures same { IfOk result (λ own. own ≡ fault) }
-    ensures own { OnOk result (fault ≢ CliFault.NoMemory) }
-{
-    match fault {
-        CliFault::NoMemory => Err(AllocError),
-        own => Ok(own),
     }
 }
 

@@ -48,7 +48,8 @@ fn between(levels: Levels, since: u64, least: u64, other: u64, greatest: u64) ->
 /// moment.
 fn by_kind(atn: bool, clock: bool, line: bool, since: u64, kind: Kind) -> Option<Row>
     ensures takes { (e : Edge) → e.time < 2 ^ 64 →
-        takes result e ≡ lies (record { atn = atn; clock = clock; line = line }) (since + (bounds_of kind).0) (Some (since + (bounds_of kind).2)) e }
+        takes result e ≡ lies (record { atn = atn; clock = clock; line = line })
+        (since + (bounds_of kind).0) (Some (since + (bounds_of kind).2)) e }
     ensures moments { has_moment result ≡ true }
     ensures levels { IfSome result (λ row. row.levels ≡ record { atn = atn; clock = clock; line = line }) }
 {

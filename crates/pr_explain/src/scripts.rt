@@ -86,7 +86,8 @@ fn spot_in(line: LineAt<'_>, place: usize) -> Spot<'_>
 
 /// What there is to say of a fault.
 fn fault_told(alloc: Global, spot: Spot<'_>, fault: ScriptFault) -> Result<Vec<u8>, NoMemory>
-    ensures { IfOk result (λ text. TellsSpot (spot_words spot.entry.number (length spot.entry.before.now + 1) spot.entry.label) text.items) }
+    ensures { IfOk result (λ text.
+        TellsSpot (spot_words spot.entry.number (length spot.entry.before.now + 1) spot.entry.label) text.items) }
 {
     let rest = fault_rest(alloc, spot, fault)?;
     let mut text = Vec::new(alloc);

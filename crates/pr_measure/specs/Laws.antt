@@ -1,4 +1,5 @@
--- Laws: the text of readings, that of lawful traces, and the middle of lengths. The functions of src/laws.rt prove them, and callers take them from there.
+-- Laws: the text of readings, that of lawful traces, and the middle of lengths. The functions of src/laws.rt prove them, and callers take
+-- them from there.
 use Rattle.std.specs.Prelude.{◌≡◌, ◌≢◌, ℕ, ◌<◌, ◌≤◌, true, false, List, [], ◌∷◌, ◌++◌, map}
 use Rattle.pr_commands.specs.Bytes as command
 use Rattle.pr_wire.specs.declared.Edge.{Edge}

@@ -15,7 +15,6 @@ mod survey;
 mod tally;
 mod verdict;
 
-pub use interval::{INTERVALS, Interval};
 pub use laws::{lawful_traces_are_told, lawful_traces_are_within, lines_add_up, middles_are_least};
 pub use line::{Behind, push_reading};
 pub use survey::Survey;

@@ -1,4 +1,5 @@
--- Words of calls: what a fault of a value of --delays is to the command line. Who uses this `From` by itself believes it; no claim rests on it.
+-- Words of calls: what a fault of a value of --delays is to the command line. Who uses this `From` by itself believes it; no claim rests
+-- on it.
 use Rattle.pr_options.specs.declared.delays.DelayFault.{DelayFault}
 use Rattle.pr_options.specs.declared.delays.DelayFault.TheVariants as delay
 use Rattle.pr_options.specs.declared.command_line.JobFault.{JobFault}

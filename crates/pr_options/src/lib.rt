@@ -2,10 +2,9 @@
 //!
 //! [`read_job`] reads the words of a command line and says which [`Job`] they ask for, or why they
 //! ask for none; [`explains`] says whether more is to be told of a refusal. The command with its
-//! subcommands, options and help is one of clap's; the value of an option is read by
-//! [`read_present`], [`read_delays`], [`read_status`], [`read_set`], [`read_source`],
-//! [`read_signals`], [`read_start`], [`read_format`], [`read_trace_format`] and [`read_report`].
-//! Nothing here reads an input, runs a script or writes a text.
+//! subcommands, options and help is one of clap's. [`read_present`], [`read_delays`] and
+//! [`read_status`] read the values of the options that say how a run begins. Nothing here reads an
+//! input, runs a script or writes a text.
 #![tactic(auto)]
 
 mod clap_command;
@@ -20,7 +19,4 @@ mod parts;
 pub use command_line::{Job, JobFault, explains, read_job};
 pub use delays::{DelayFault, read_delays};
 pub use format::{Format, Report, Source, TraceFormat, TraceInput};
-pub use option_values::{
-    read_format, read_present, read_report, read_set, read_signals, read_source, read_start,
-    read_status, read_trace_format,
-};
+pub use option_values::{read_present, read_status};

@@ -1,4 +1,5 @@
--- Words of calls: what ties edges that a receiver takes at once to the same edges one by one. Who uses `Receiver::pass_frame` by itself believes them; no claim about a run rests on them.
+-- Words of calls: what ties edges that a receiver takes at once to the same edges one by one. Who uses `Receiver::pass_frame` by itself
+-- believes them; no claim about a run rests on them.
 use Rattle.std.specs.Prelude.{◌≡◌, ℕ, ◌+◌, ◌-◌, ◌<◌, List, [], ◌∷◌, ◌++◌, take, Option, None}
 use Rattle.std.specs.Option.{option_to_list}
 use Rattle.pr_wire.specs.declared.Edge.{Edge}

@@ -18,12 +18,14 @@ abbrev pub if_allowed : Result Step Flaw → (Step → Option Frame) → Option 
 if_allowed (Ok step) next = next step
 if_allowed (Err flaw) next = None
 
--- the frame that an edge ends behind these edges, which come after the edge `last` in the place `p`: that of the table's row by which it comes
+-- the frame that an edge ends behind these edges, which come after the edge `last` in the place `p`: that of the table's row by which it
+-- comes
 abbrev pub frame_from : Edge → Place → List Edge → Edge → Option Frame
 frame_from last p [] edge = if_allowed (verdict last p edge) (λ step. step.frame)
 frame_from last p (e ∷ es) edge = if_allowed (verdict last p e) (λ step. frame_from e step.place es edge)
 
--- the frame that an edge ends behind those before it, with its acknowledgement; the first edge ends none, nor does one behind edges that are not allowed
+-- the frame that an edge ends behind those before it, with its acknowledgement; the first edge ends none, nor does one behind edges that
+-- are not allowed
 abbrev pub frame_at : List Edge → Edge → Option Frame
 frame_at [] edge = None
 frame_at (e ∷ es) edge = if is_start e then frame_from e (Idle 0) es edge else None

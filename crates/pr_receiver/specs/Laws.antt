@@ -1,4 +1,5 @@
--- Laws: the frames and inputs that come with edges, and what a device hears of frames. The functions of src/laws.rt prove them, and callers take them from there.
+-- Laws: the frames and inputs that come with edges, and what a device hears of frames. The functions of src/laws.rt prove them, and
+-- callers take them from there.
 use Rattle.std.specs.Prelude.{◌≡◌, ℕ, false, ◌||◌, if◌then◌else◌, List, [], ◌∷◌, ◌++◌}
 use Rattle.std.specs.Option.{option_to_list}
 use Rattle.pr_wire.specs.declared.Edge.{Edge}

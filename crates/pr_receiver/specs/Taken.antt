@@ -1,4 +1,5 @@
--- Linking words: what ties a receiver to the edges that it has taken. The clauses of `Receiver` say all that a caller needs of them. No reader needs to believe them.
+-- Linking words: what ties a receiver to the edges that it has taken. The clauses of `Receiver` say all that a caller needs of them. No
+-- reader needs to believe them.
 use Rattle.std.specs.Prelude.{◌≡◌, ℕ, List, Option, Ok}
 use Rattle.pr_wire.specs.declared.Edge.{Edge}
 use Rattle.pr_wire.specs.declared.WaveFault.{WaveFault}

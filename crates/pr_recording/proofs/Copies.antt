@@ -3,7 +3,6 @@ use Rattle.std.proofs.Common.{◌≡◌, ℕ, ◌+◌, List, [], ◌∷◌, ◌+
 use Rattle.std.specs.Prelude.{is_some}
 use Rattle.std.specs.Option.{option_to_list}
 use Rattle.pr_wire.specs.declared.Edge.{Edge}
-use Rattle.pr_decode.specs.declared.decoder.Decoder.{Decoder}
 use Rattle.pr_decode.specs.declared.reading.Reading.{Reading}
 use Rattle.pr_decode.specs.Readings.{readings_of}
 use Rattle.pr_decode.specs.Taking.{GivenAreSettled, HasRead, IsBefore, StandsBefore, last_time}
@@ -21,7 +20,7 @@ use Rattle.pr_recording.specs.Copied.{CopiesMore, EndsCopy, EndsPages, HasCopied
 use Rattle.pr_recording.specs.Decoded.{back_in, in_front, stop_at}
 use Rattle.pr_recording.specs.Narrated.{time_of}
 use Rattle.pr_recording.specs.Pages.{readings_up_to}
-use Rattle.pr_recording.proofs.Backs.{back_stays, front_back, front_on, front_stays, goes_back, goes_on, time_of_one}
+use Rattle.pr_recording.proofs.Backs.{back_stays, front_back, front_stays, goes_back, goes_on, time_of_one}
 
 -- no edge
 pub copied_none : (c : Copier) → c.back ≡ None → HasRead [] [] c.decoder → last_time c.decoder ≡ None → HasReprinted [] c.reprint → c.taken ≡ 0 → HasCopied [] c

@@ -1,15 +1,14 @@
 -- An input that is printed block by block.
 use Rattle.std.proofs.Common.{◌≡◌, ◌⊎◌, ◌≤◌, ◌<◌, ℕ, ◌+◌, ◌-◌, List, [], ◌++◌, length, take, drop, refl, ap, sym, subst, ◌∙◌, arith, append-nil, append_assoc, length-append, take-append-drop, inl, inr, Option, Some, None, Result, Ok, Err}
-use Rattle.std.specs.Prelude.{IfOk, IfSome, IsErrAnd}
+use Rattle.std.specs.Prelude.{IfSome, IsErrAnd}
 use Rattle.std.specs.Option.{option_to_list}
-use Rattle.std.specs.Io.KnownBytes.{Appends, Consumes, IsAtEnd, Keeps}
+use Rattle.std.specs.Io.KnownBytes.{Consumes, IsAtEnd, Keeps}
 use Rattle.std.proofs.KnownBytes.{Consumes-nil, Consumes-trans}
 use Rattle.pr_wire.specs.declared.Edge.{Edge}
-use Rattle.pr_wire.specs.declared.WaveFault.TheVariants as wave
 use Rattle.pr_options.specs.declared.format.Format.{Format}
 use Rattle.pr_options.specs.declared.format.TraceInput.{TraceInput}
 use Rattle.pr_cli.specs.PartlyWritten.{AppendsFront}
-use Rattle.pr_cli.specs.Report.{edges_made, Says, SaysSamples}
+use Rattle.pr_cli.specs.Report.{edges_made, SaysSamples}
 use Rattle.pr_cli.specs.Reported.{EachTextSaysSamples, EndsInput, GivesMore, HasGiven, IsOwnFault, RefusesInput}
 use Rattle.pr_cli.specs.declared.fault.CliFault.{CliFault}
 use Rattle.pr_cli.specs.declared.fault.CliFault.TheVariants.{Script, Trace, Wave, Capture, TooLarge, NoMemory, ReadFailed, WriteFailed}

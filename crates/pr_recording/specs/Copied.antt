@@ -1,7 +1,6 @@
 -- Linking words, for proofs: which edges were taken and printed. No reader needs to believe them.
-use Rattle.std.specs.Prelude.{◌≡◌, ℕ, ◌+◌, ◌≤◌, List, [], ◌++◌, length, Option, Some, None, Result, Ok, Err, IfSome}
+use Rattle.std.specs.Prelude.{◌≡◌, ℕ, ◌+◌, List, ◌++◌, length, Option, Some, None, IfSome}
 use Rattle.std.specs.Option.{option_to_list}
-use Rattle.std.specs.Io.KnownBytes.{IsAtEnd}
 use Rattle.pr_wire.specs.declared.Edge.{Edge}
 use Rattle.pr_decode.specs.declared.reading.Reading.{Reading}
 use Rattle.pr_decode.specs.Taking.{HasRead, last_time}
@@ -12,7 +11,6 @@ use Rattle.pr_options.specs.declared.format.TraceInput.{TraceInput}
 use Rattle.pr_cli.specs.Report.{edges_made, SaysSamples}
 use Rattle.pr_cli.specs.Reported.{HasGiven, HasMade, IsOwnFault}
 use Rattle.pr_cli.specs.declared.fault.CliFault.{CliFault}
-use Rattle.pr_cli.specs.declared.fault.CliFault.TheVariants.{TooLarge, NoMemory, ReadFailed}
 use Rattle.pr_cli.specs.declared.source_reader.SourceReader.{SourceReader}
 use Rattle.pr_recording.specs.declared.copier.Copier.{Copier}
 use Rattle.pr_recording.specs.declared.copier.PageMaker.{PageMaker}
@@ -42,7 +40,8 @@ CopiesMore more old new = (edges : List Edge) → HasCopied edges old → HasCop
 
 -- a reading more is printed, if there is one
 abbrev pub PrintsReading : Option Reading → (old new : BusPrinters) → Type 0
-PrintsReading r old new = (readings : List Reading) → reprint.HasReprinted readings old → reprint.HasReprinted (readings ++ option_to_list r) new
+PrintsReading r old new =
+    (readings : List Reading) → reprint.HasReprinted readings old → reprint.HasReprinted (readings ++ option_to_list r) new
 
 -- how many edges were taken, and how many inputs a printer has taken at most
 abbrev pub edges_copied : Copier → ℕ
@@ -99,7 +98,8 @@ pub record IsPrintOf (input : TraceInput) (text : List ℕ) (p : Printed) : Type
 abbrev pub PrintsBlock : (block : List ℕ) → SourceReader → PageMaker → Option CliFault → SourceReader → PageMaker → Type 0
 PrintsBlock block r m None s n = (input : TraceInput) (text : List ℕ) → HasTakenText input text r m → HasTakenText input (text ++ block) s n
 PrintsBlock block r m (Some f) s n = IsOwnFault f × ((input : TraceInput) (text : List ℕ) → HasTakenText input text r m
-    → (more : List ℕ) → (samples : List Edge) × SaysSamples input input.source ((text ++ block) ++ more) samples (Some f) × HasPaged input samples n)
+    → (more : List ℕ) → (samples : List Edge) × SaysSamples input input.source ((text ++ block) ++ more) samples (Some f)
+    × HasPaged input samples n)
 
 -- and an input that ends here
 abbrev pub EndsText : SourceReader → PageMaker → Printed → Type 0

@@ -1,5 +1,5 @@
 -- Linking words, for proofs: what was printed of an input, and what is written of it. No reader needs to believe them.
-use Rattle.std.specs.Prelude.{◌≡◌, ℕ, ◌<◌, ◌≤◌, List, length, Option, Some, None, Result, Ok, Err, IfSome}
+use Rattle.std.specs.Prelude.{◌≡◌, ℕ, ◌<◌, ◌≤◌, List, length, Option, Some, None, Result, Ok, Err}
 use Rattle.std.specs.Io.KnownBytes.{Appends, IsAtEnd, Keeps}
 use Rattle.pr_wire.specs.declared.WaveFault.TheVariants as wave
 use Rattle.pr_options.specs.declared.format.Format.{Format}
@@ -8,7 +8,7 @@ use Rattle.pr_cli.specs.Formats.{text_in}
 use Rattle.pr_cli.specs.PartlyWritten.{AppendsFront}
 use Rattle.pr_cli.specs.Reported.{IsOwnFault}
 use Rattle.pr_cli.specs.declared.fault.CliFault.{CliFault}
-use Rattle.pr_cli.specs.declared.fault.CliFault.TheVariants.{Script, Trace, Wave, Capture, TooLarge, NoMemory, ReadFailed, WriteFailed}
+use Rattle.pr_cli.specs.declared.fault.CliFault.TheVariants.{Wave, TooLarge, NoMemory, ReadFailed, WriteFailed}
 use Rattle.pr_recording.specs.declared.copier.Printed.{Printed}
 use Rattle.pr_recording.specs.Copied.{IsPrintOf}
 use Rattle.pr_recording.specs.Pages.{papers_alone}

@@ -47,7 +47,8 @@ told_of None edges = all_lines Nothing (readings_of edges) ++ (summary (readings
 told_of (Some fault) edges = all_lines Nothing (settled_of (in_front (back_in edges) edges))
 
 -- what is left in the writer with each answer, by how long the input may be and is, why it stops, and what is to be told of it
-abbrev pub Leaves : (limit len : ℕ) → (stop : Option CliFault) → (told : List ℕ) → Option (List ℕ) → Option (List ℕ) → Result (Unit {0}) CliFault
+abbrev pub Leaves :
+    (limit len : ℕ) → (stop : Option CliFault) → (told : List ℕ) → Option (List ℕ) → Option (List ℕ) → Result (Unit {0}) CliFault
     → Type 0
 Leaves limit len stop told old new (Ok _) = (len ≤ limit) × (stop ≡ None) × Appends old new told
 Leaves limit len stop told old new (Err (Script fault)) = ⊥

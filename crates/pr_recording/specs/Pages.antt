@@ -43,7 +43,8 @@ abbrev pub WritesFrontOfPages : Format → List Reading → Option (List ℕ) �
 WritesFrontOfPages format readings old new = (text : List ℕ) × IsPagesOf format readings text × AppendsFront old new text
 
 -- what is left in the writer with each answer, by how long the input is, why it stops, and what is printed
-abbrev pub LeavesPages : (len : ℕ) → (stop : Option CliFault) → Format → List Reading → Option (List ℕ) → Option (List ℕ) → Result (Unit {0}) CliFault → Type 0
+abbrev pub LeavesPages :
+    (len : ℕ) → (stop : Option CliFault) → Format → List Reading → Option (List ℕ) → Option (List ℕ) → Result (Unit {0}) CliFault → Type 0
 LeavesPages len stop format rs old new (Ok _) = (len ≤ print_limit) × (stop ≡ None) × WritesPages format rs old new
 LeavesPages len stop format rs old new (Err (Script fault)) = ⊥
 LeavesPages len stop format rs old new (Err (Trace fault)) = (stop ≡ Some (Trace fault)) × WritesPages format rs old new

@@ -13,7 +13,7 @@ use crate::narrator::Ended;
 use crate::teller::Teller;
 use pr_cli::{
     BLOCK, CHECK_LIMIT, CliFault, SourceReader, TraceInput, Watched, WriteFault,
-    made_edges_come_first, texts_say_samples, write_piece, write_whole,
+    made_edges_come_first, own_fault, texts_say_samples, write_piece, write_whole,
 };
 use pr_decode::readings_add_up;
 use std::alloc::{AllocError, Global};
@@ -124,17 +124,6 @@ fn tell_block(
         }
     }
     Ok(None)
-}
-
-/// A fault of an input, where it is no want of memory.
-pub fn own_fault(fault: CliFault) -> Result<CliFault, AllocError>
-    ensures same { IfOk result (λ own. own ≡ fault) }
-    ensures own { OnOk result (fault ≢ CliFault.NoMemory) }
-{
-    match fault {
-        CliFault::NoMemory => Err(AllocError),
-        own => Ok(own),
-    }
 }
 
 /// Ends an input, and gives the last of what is told of it.

@@ -10,10 +10,9 @@ ghost use Rattle.pr_recording.specs.Decoded.{IsDecodeFault, ReadsAll};
 ghost use Rattle.pr_recording.specs.Pages.{AnswersPages, papers_alone, print_limit};
 
 use crate::copier::{PageMaker, Printed};
-use crate::decode::own_fault;
 use pr_cli::{
-    BLOCK, CliFault, Format, SourceReader, TraceInput, Watched, WriteFault, text_in_format,
-    texts_say_samples,
+    BLOCK, CliFault, Format, SourceReader, TraceInput, Watched, WriteFault, own_fault,
+    text_in_format, texts_say_samples,
 };
 use pr_page::Sequence;
 use pr_reprint::Reprinted;

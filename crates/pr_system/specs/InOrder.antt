@@ -16,7 +16,8 @@ pub record IsFed (present : Present) (device : ℕ) (items : List Item) (printer
   pub taken : HasTaken (heard_by present device items) printer
   pub count : number_taken printer ≡ length (heard_by present device items)
 
--- the bus works, the items are those of the elements, the status is the run's, each printer has taken what it heard, and there are at most 262 items for each statement
+-- the bus works, the items are those of the elements, the status is the run's, each printer has taken what it heard, and there are at most
+-- 262 items for each statement
 pub record IsInOrder (seen : Seen) (mode : StatusMode) (four five : PrinterState) (statuses : List ℕ) : Type 0 where
   pub works : seen.failed ≡ false
   pub in_step : seen.sent ≡ items_of seen.elements

@@ -8,7 +8,7 @@ use Rattle.pr_wire.specs.declared.Frame.{Frame}
 use Rattle.pr_wire.specs.declared.line.EdgeLine.{EdgeLine}
 use Rattle.pr_wire.specs.declared.first_lines.FirstLines.{FirstLines}
 use Rattle.pr_wire.specs.declared.place.Place.{Place}
-use Rattle.pr_wire.specs.declared.part.LinePart.{LinePart}
+use Rattle.pr_wire.specs.declared.line_part.LinePart.{LinePart}
 use Rattle.pr_wire.specs.declared.checker.Verdict.{Verdict}
 use Rattle.pr_wire.specs.declared.checker.Verdict.TheVariants.{Allowed}
 use Rattle.pr_wire.specs.Ahead.{PassesFrame, last_of}

@@ -1,7 +1,7 @@
 -- The table of two digits.
 use Rattle.std.proofs.Common.{◌≡◌, ℕ, zero, suc, ◌+◌, ◌*◌, ◌-◌, ◌/◌, ◌%◌, ◌<◌, Bool, true, ◌&&◌, T, eqb, get_or, inl, inr, arith, eq-zero-or-pos, eqb→eq}
 use lib.Ieee.Fits.{and_l, and_r}
-use Rattle.pr_wire.specs.declared.written.TheConstants.{PAIRS}
+use Rattle.pr_wire.specs.declared.line_writer.TheConstants.{PAIRS}
 
 -- the table has the two digits of each number below one
 abbrev are_pairs : ℕ → Bool

@@ -5,8 +5,8 @@ use Rattle.std.specs.Prelude.{if◌then◌else◌, ◌==◌, ◌&&◌, nat_lt}
 use Rattle.std.proofs.lemmas.Grind.{common_steps}
 use Rattle.std.proofs.lemmas.Bool.{eqb-true}
 use Rattle.pr_wire.specs.declared.Edge.{Edge}
-use Rattle.pr_wire.specs.declared.part.LinePart.{LinePart}
-use Rattle.pr_wire.specs.declared.part.LinePart.TheVariants.{Nothing, Time, Space, Atn, Clock, Whole, Returned, Bad}
+use Rattle.pr_wire.specs.declared.line_part.LinePart.{LinePart}
+use Rattle.pr_wire.specs.declared.line_part.LinePart.TheVariants.{Nothing, Time, Space, Atn, Clock, Whole, Returned, Bad}
 use Rattle.pr_wire.specs.LineParts.{time_after, level_byte_after, part_after, part_with, edge_of_part, is_nothing}
 use Rattle.pr_wire.specs.Levels.{edge_at}
 use Rattle.pr_wire.specs.TextSteps.{level_in}

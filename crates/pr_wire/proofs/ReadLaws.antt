@@ -5,7 +5,7 @@ use Rattle.std.specs.Option.{option_to_list}
 use Rattle.std.proofs.lemmas.Grind.{common_steps}
 use Rattle.pr_wire.specs.declared.Edge.{Edge}
 use Rattle.pr_wire.specs.declared.line.EdgeLine.{EdgeLine}
-use Rattle.pr_wire.specs.declared.part.LinePart.TheVariants.{Nothing}
+use Rattle.pr_wire.specs.declared.line_part.LinePart.TheVariants.{Nothing}
 use Rattle.pr_wire.specs.declared.reader.TraceReader.{TraceReader}
 use Rattle.pr_wire.specs.declared.text.TraceFault.{TraceFault}
 use Rattle.pr_wire.specs.declared.text.TraceFault.TheVariants.{BadLine, NoMemory}

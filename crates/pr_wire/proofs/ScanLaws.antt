@@ -4,8 +4,8 @@ use Rattle.std.specs.List.{list_all}
 use Rattle.std.specs.Prelude.{◌==◌}
 use Rattle.std.proofs.lemmas.Grind.{common_steps}
 use Rattle.pr_wire.specs.declared.Edge.{Edge}
-use Rattle.pr_wire.specs.declared.part.LinePart.{LinePart}
-use Rattle.pr_wire.specs.declared.part.LinePart.TheVariants.{Nothing, Time, Space, Atn, Clock, Whole, Returned, Bad}
+use Rattle.pr_wire.specs.declared.line_part.LinePart.{LinePart}
+use Rattle.pr_wire.specs.declared.line_part.LinePart.TheVariants.{Nothing, Time, Space, Atn, Clock, Whole, Returned, Bad}
 use Rattle.pr_wire.specs.declared.line.EdgeLine.{EdgeLine}
 use Rattle.pr_wire.specs.Checked.{is_inner, IsScanned}
 use Rattle.pr_wire.specs.LineParts.{part_after, edge_of_part, is_nothing}

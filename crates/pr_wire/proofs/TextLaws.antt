@@ -8,14 +8,14 @@ use Rattle.std.proofs.lemmas.Fmt.{decimal_step, digits_decimal, digits_value-dec
 use Rattle.std.proofs.lemmas.Str.Parse.{IsNumeralModel, numerals_by_fold}
 use Rattle.pr_wire.specs.declared.Edge.{Edge}
 use Rattle.pr_wire.specs.declared.line.EdgeLine.{EdgeLine}
-use Rattle.pr_wire.specs.declared.part.LinePart.TheVariants as Part
+use Rattle.pr_wire.specs.declared.line_part.LinePart.TheVariants as Part
 use Rattle.pr_wire.specs.TraceText.{levels_text, edge_text, trace_text, IsEdgeLine, AreEdgeLines, IsTraceText, IsFirstBad, SaysEdges}
 use Rattle.pr_text.specs.Digits.{is_digit, number_after}
 use Rattle.pr_text.specs.Lines.{lines_of}
 use Rattle.pr_wire.specs.TraceText.Return.{Without}
 use Rattle.pr_wire.specs.LineParts.{edge_of_part, part_with}
 use Rattle.pr_wire.specs.TextSteps.{line_in}
-use Rattle.pr_wire.specs.Written.{three_digits, levels_line}
+use Rattle.pr_wire.specs.LineWriter.{three_digits, levels_line}
 use Rattle.pr_wire.proofs.LineLaws.{line_in-is, IsRead, line_read, split, digits_on_line, levels_on_line, level_at_end, no_line, some_line}
 use Rattle.pr_wire.proofs.LineLaws.Behind.{Nothing}
 use Rattle.pr_wire.proofs.PartLaws.{line_part, part_line}

@@ -1,12 +1,13 @@
--- Linking words: what a checker has taken of a text, and which frames came by. The clauses of `Checker` say all that a caller needs of them. No reader needs to believe them.
+-- Linking words: what a checker has taken of a text, and which frames came by. The clauses of `Checker` say all that a caller needs of
+-- them. No reader needs to believe them.
 use Rattle.std.specs.Prelude.{◌≡◌, ℕ, ◌+◌, Bool, true, false, not, ◌==◌, List, ◌++◌, length, reverse, Option, Some, None, Result, Ok, Err}
 use Rattle.std.specs.List.{list_all}
 use Rattle.pr_wire.specs.declared.Edge.{Edge}
 use Rattle.pr_wire.specs.declared.Frame.{Frame}
 use Rattle.pr_wire.specs.declared.WaveFault.{WaveFault}
 use Rattle.pr_wire.specs.declared.WaveFault.TheVariants.{Start}
-use Rattle.pr_wire.specs.declared.part.LinePart.{LinePart}
-use Rattle.pr_wire.specs.declared.part.LinePart.TheVariants.{Nothing}
+use Rattle.pr_wire.specs.declared.line_part.LinePart.{LinePart}
+use Rattle.pr_wire.specs.declared.line_part.LinePart.TheVariants.{Nothing}
 use Rattle.pr_wire.specs.declared.place.Place.TheVariants.{Idle}
 use Rattle.pr_wire.specs.declared.checker.Checker.{Checker}
 use Rattle.pr_wire.specs.declared.checker.Verdict.{Verdict}

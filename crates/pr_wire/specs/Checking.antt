@@ -1,4 +1,5 @@
--- Words of calls: what a checker answers at the end of a text, and `read_trace` of a text that it refuses. Who uses these calls by themselves believes them; no claim about a run rests on them.
+-- Words of calls: what a checker answers at the end of a text, and `read_trace` of a text that it refuses. Who uses these calls by
+-- themselves believes them; no claim about a run rests on them.
 use Rattle.std.specs.Prelude.{◌≡◌, ℕ, List, [], ◌∷◌, ◌++◌, Option, Some, None, Result, Ok, Err}
 use Rattle.pr_wire.specs.declared.Edge.{Edge}
 use Rattle.pr_wire.specs.declared.Frame.{Frame}

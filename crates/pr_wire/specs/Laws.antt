@@ -1,4 +1,5 @@
--- Laws: lawful traces, the places that edges reach, and delays. `lawful_traces`, `allowed_traces` and `delays_within_bounds` prove them, and callers take them from there.
+-- Laws: lawful traces, the places that edges reach, and delays. `lawful_traces`, `allowed_traces` and `delays_within_bounds` prove them,
+-- and callers take them from there.
 use Rattle.std.specs.Prelude.{◌≡◌, ◌↔◌, ℕ, true, List, [], ◌∷◌, ◌++◌, length, reverse, None, Ok}
 use Rattle.pr_wire.specs.declared.Edge.{Edge}
 use Rattle.pr_wire.specs.declared.Frame.{Frame}

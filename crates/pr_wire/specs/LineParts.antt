@@ -1,8 +1,8 @@
 -- Machine steps: a line of a trace text, byte by byte. No reader needs to believe them.
 use Rattle.std.specs.Prelude.{ℕ, ◌+◌, ◌-◌, ◌*◌, ◌==◌, ◌&&◌, Bool, true, false, List, [], ◌∷◌, Option, Some, None, nat_lt, if◌then◌else◌}
 use Rattle.pr_wire.specs.declared.Edge.{Edge}
-use Rattle.pr_wire.specs.declared.part.LinePart.{LinePart}
-use Rattle.pr_wire.specs.declared.part.LinePart.TheVariants.{Nothing, Time, Space, Atn, Clock, Whole, Returned, Bad}
+use Rattle.pr_wire.specs.declared.line_part.LinePart.{LinePart}
+use Rattle.pr_wire.specs.declared.line_part.LinePart.TheVariants.{Nothing, Time, Space, Atn, Clock, Whole, Returned, Bad}
 use Rattle.pr_wire.specs.Levels.{edge_at}
 use Rattle.pr_wire.specs.TextSteps.{level_in}
 use Rattle.pr_text.specs.Digits.{is_digit}

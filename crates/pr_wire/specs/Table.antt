@@ -1,4 +1,5 @@
--- Trusted: the table of lawful traces: which edge may follow in each place, when, and the place that it reaches; and the first fault of a list of edges by it.
+-- Trusted: the table of lawful traces: which edge may follow in each place, when, and the place that it reaches; and the first fault of a
+-- list of edges by it.
 use Rattle.std.specs.Prelude.{ℕ, ◌+◌, Bool, true, false, not, ◌&&◌, ◌==◌, nat_lt, if◌then◌else◌, List, [], ◌∷◌, ◌++◌, length, Option, Some, None, Result, Ok, Err}
 use Rattle.pr_commands.specs.Bytes as command
 use Rattle.pr_wire.specs.declared.Levels.{Levels}

@@ -38,5 +38,6 @@ EndsText r (Err NoMemory) = ⊥
 -- whatever follows what a reader has taken, the edges that it has given come first
 abbrev pub GivenEdgesComeFirst : Type 0
 GivenEdgesComeFirst =
-    (text more : List ℕ) (given edges : List Edge) (bad : Option ℕ) (r : TraceReader) → HasRead text given r → SaysEdges (text ++ more) edges bad
+    (text more : List ℕ) (given edges : List Edge) (bad : Option ℕ) (r : TraceReader) → HasRead text given r
+    → SaysEdges (text ++ more) edges bad
     → (later : List Edge) × (edges ≡ given ++ later)

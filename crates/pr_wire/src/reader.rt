@@ -6,7 +6,7 @@ ghost use Rattle.pr_wire.specs.TraceReading.{EndsText, FaultsIn, GivenEdgesComeF
 
 use crate::Edge;
 use crate::line::read_ended_line;
-use crate::part::LinePart;
+use crate::line_part::LinePart;
 use crate::text::TraceFault;
 
 /// Reads a trace text that comes in blocks, and gives its edges one by one. It keeps neither the text

@@ -7,7 +7,7 @@ ghost use Rattle.pr_wire.specs.TraceText.{trace_text, IsTraceText};
 ghost use Rattle.pr_wire.specs.TextLaws.{TextIsReadBack, TextSaysSomething, TextSpellsOnce};
 
 use crate::line::read_line;
-use crate::written::Writer;
+use crate::line_writer::Writer;
 use crate::{Edge, NoMemory};
 use std::alloc::{AllocFailed, Global};
 use thiserror::Error;

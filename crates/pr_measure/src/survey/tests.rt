@@ -201,8 +201,8 @@ fn names_and_laws(rt: HostRuntime) {
     crate::lawful_traces_are_within();
     crate::lines_add_up();
     crate::middles_are_least();
-    assert_eq!(rt; crate::INTERVALS[0].name(), b"ready".as_slice());
-    assert_eq!(rt; crate::INTERVALS[9].kind(), Kind::F);
+    assert_eq!(rt; crate::interval::INTERVALS[0].name(), b"ready".as_slice());
+    assert_eq!(rt; crate::interval::INTERVALS[9].kind(), Kind::F);
     assert!(rt; Interval::Answer.is_outside(251));
     assert!(rt; !Interval::AnswerLength.is_outside(250));
     assert!(rt; Interval::AnswerLength.is_outside(251));

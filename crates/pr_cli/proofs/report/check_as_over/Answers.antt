@@ -1,5 +1,4 @@
 use Rattle.std.proofs.Common.{subst}
-use Rattle.pr_options.specs.declared.format.Report.TheVariants as report
 use Rattle.pr_cli.specs.Report.{AnswersReport}
 use Rattle.pr_cli.specs.Reported.{WritesText}
 use Rattle.pr_cli.specs.declared.reporter.ReportText.{ReportText}

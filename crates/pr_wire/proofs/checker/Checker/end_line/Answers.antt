@@ -1,5 +1,5 @@
 use Rattle.std.proofs.Common.{false, reverse, refl, sym, ◌∙◌}
-use Rattle.pr_wire.specs.declared.part.LinePart.TheVariants.{Nothing}
+use Rattle.pr_wire.specs.declared.line_part.LinePart.TheVariants.{Nothing}
 use Rattle.pr_wire.proofs.CheckLaws.{taken_at, taken_first_bad, taken_edge}
 use Rattle.pr_wire.proofs.checker.Checker.end_line.Goals as goal
 

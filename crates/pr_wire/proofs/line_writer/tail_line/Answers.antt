@@ -1,5 +1,5 @@
 use Rattle.std.proofs.Common.{◌≡◌, ◌/◌, ◌%◌, arith, refl}
-use Rattle.pr_wire.proofs.written.tail_line.Goals as goal
+use Rattle.pr_wire.proofs.line_writer.tail_line.Goals as goal
 
 pub returns : goal.returns
 returns c =

@@ -1,6 +1,6 @@
 use Rattle.std.proofs.lemmas.List.{take_rest}
 use Rattle.pr_wire.proofs.TextLaws.{more_edges}
-use Rattle.pr_wire.proofs.written.Writer.push_edges.Goals as goal
+use Rattle.pr_wire.proofs.line_writer.Writer.push_edges.Goals as goal
 
 pub loop-rest-preserved : goal.loop-rest-preserved
 loop-rest-preserved c =

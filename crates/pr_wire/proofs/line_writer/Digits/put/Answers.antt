@@ -1,6 +1,6 @@
 use Rattle.std.proofs.Common.{rules, ap, ◌∙◌, ◌++◌, take, arith, ◌+◌, ◌-◌}
 use Rattle.pr_wire.proofs.BlockLaws.{take_put}
-use Rattle.pr_wire.proofs.written.Digits.put.Goals as goal
+use Rattle.pr_wire.proofs.line_writer.Digits.put.Goals as goal
 
 pub returns-clause-text : goal.returns-clause-text
 returns-clause-text c =

@@ -1,6 +1,6 @@
 use Rattle.std.proofs.Common.{arith, ap, ◌++◌, ◌∙◌, sym, take}
 use Rattle.pr_wire.proofs.TextLaws.{written_short, written_long}
-use Rattle.pr_wire.proofs.written.Writer.put_edge.Goals as goal
+use Rattle.pr_wire.proofs.line_writer.Writer.put_edge.Goals as goal
 
 pub returns-then-edge-lt-TAILS-clause-text : goal.returns-then-edge-lt-TAILS-clause-text
 returns-then-edge-lt-TAILS-clause-text c =

@@ -1,7 +1,7 @@
 use Rattle.std.proofs.Common.{◌≡◌, ◌*◌, ◌≤◌, ◌++◌, drop, length, take}
 use Rattle.std.specs.Prelude.{flat_map}
 use Rattle.pr_wire.specs.TraceText.{edge_text}
-use Rattle.pr_wire.proofs.written.Writer.fill.Given as goal
+use Rattle.pr_wire.proofs.line_writer.Writer.fill.Given as goal
 
 -- the lines in the block and those of what is left make the whole
 abbrev pub invariant-loop-edge : goal.invariant-loop-edge
