@@ -31,8 +31,7 @@ use Rattle.pr_c.specs.declared.told.Told.TheVariants.{Written, TooSmall, Refused
 abbrev pub Stopping : Type 0
 Stopping = Option (ℕ × Stop)
 
--- what is told is right, by the buffer before and after: the text stands at its front, and the rest is as it was; or it has no room; or there
--- is none
+-- what is told is right, by the buffer before and after: the text in front, the rest as it was; or the text has no room; or there is none
 abbrev pub Tells : (Stopping → List ℕ → Type 0) → (CliFault → Type 0) → List ℕ → List ℕ → Told → Type 0
 Tells IsText IsFault old new (Written stop n) =
     (text : List ℕ) × IsText stop text × (n ≡ length text) × (n ≤ length old) × (new ≡ text ++ drop n old)
