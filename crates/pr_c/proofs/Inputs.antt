@@ -40,18 +40,24 @@ inputs_are false bytes all = ap (λ l. Select false ∷ l) (bytes_are bytes all)
 pub bytes_are_inputs : (lower : Bool) (format : Format) (bytes text : List ℕ) (stop : Stopping) → All (λ b. b < 256) bytes
     → (IsPaperText lower format bytes stop text ↔ IsPrintedText format (selection_of lower ∷ bytes) stop text)
 bytes_are_inputs lower format bytes text stop all =
-    let same = inputs_are lower bytes all in
-    ( λ raw.
-      ( omega (arith, raw.0), none_other lower bytes all, raw.1
-      , record {
+    let same = inputs_are lower bytes all in (
+      λ raw. (
+        omega (arith, raw.0),
+        none_other lower bytes all,
+        raw.1,
+        record {
           paper = raw.2.paper;
           is_page = subst (λ inputs. IsPage inputs raw.2.paper) (sym same) raw.2.is_page;
           is_text = raw.2.is_text;
-        })
-    , λ printed.
-      ( omega (arith, printed.0), printed.2
-      , record {
+        },
+      ),
+      λ printed. (
+        omega (arith, printed.0),
+        printed.2,
+        record {
           paper = printed.3.paper;
           is_page = subst (λ inputs. IsPage inputs printed.3.paper) same printed.3.is_page;
           is_text = printed.3.is_text;
-        }))
+        },
+      ),
+    )

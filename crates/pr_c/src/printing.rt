@@ -15,7 +15,7 @@ use pr_system::Outcome;
 use std::alloc::{AllocError, Global};
 
 /// The most inputs of a page: a printer takes no more.
-pub const PRINT_LIMIT: usize = 4_294_967_296;
+const PRINT_LIMIT: usize = 4_294_967_296;
 
 /// The last number that stands for an input.
 const LAST_INPUT: u16 = 257;
