@@ -1,4 +1,4 @@
--- Trusted: what the numbers stand for that a C caller's printer gets, and what is told of them.
+-- Trusted: the inputs of a printer as a C caller's numbers, and what is told of them.
 use Rattle.std.specs.Prelude.{◌≡◌, ℕ, ◌<◌, ◌≤◌, Bool, ◌==◌, nat_lt, if◌then◌else◌, List, length, map, Some, None}
 use Rattle.std.specs.List.{position}
 use Rattle.pr_page.specs.Page.{IsPage}
@@ -18,13 +18,13 @@ use Rattle.pr_c.specs.declared.told.Told.TheVariants.{NoInput}
 abbrev pub is_no_input : ℕ → Bool
 is_no_input number = nat_lt 257 number
 
--- the input that another stands for: 0 to 255 a byte, 256 the selection of the graphic/upper case set, 257 that of the lower/upper case set
+-- the input that another stands for: 0 to 255 a byte, 256 the selection of the graphic/upper case set, 257 that of the lower/upper case one
 abbrev pub input_of : ℕ → Input
 input_of number = if nat_lt number 256 then Byte number else Select (number == 257)
 
 -- the most inputs: a printer takes no more
-abbrev pub print_limit : ℕ
-print_limit = 4294967296
+abbrev pub inputs_limit : ℕ
+inputs_limit = 4294967296
 
 -- the text of the page of these inputs, as that of printer 4
 pub record IsInputsText (format : Format) (inputs : List Input) (text : List ℕ) : Type 0 where
@@ -35,16 +35,17 @@ pub record IsInputsText (format : Format) (inputs : List Input) (text : List ℕ
 -- the text of the page of the inputs that numbers stand for, of which each stands for one
 abbrev pub IsPrintedText : Format → List ℕ → Stopping → List ℕ → Type 0
 IsPrintedText format numbers stop text =
-    (length numbers ≤ print_limit) × (position is_no_input numbers ≡ None) × (stop ≡ None) × IsInputsText format (map input_of numbers) text
+    (length numbers ≤ inputs_limit) × (position is_no_input numbers ≡ None) × (stop ≡ None)
+    × IsInputsText format (map input_of numbers) text
 
 -- why numbers give none, other than by one of them; memory can be refused where each stands for an input
 abbrev pub IsPrintRefusal : List ℕ → CliFault → Type 0
-IsPrintRefusal numbers TooLarge = print_limit < length numbers
-IsPrintRefusal numbers NoMemory = (length numbers ≤ print_limit) × (position is_no_input numbers ≡ None)
+IsPrintRefusal numbers TooLarge = inputs_limit < length numbers
+IsPrintRefusal numbers NoMemory = (length numbers ≤ inputs_limit) × (position is_no_input numbers ≡ None)
 IsPrintRefusal numbers _ = ⊥
 
 -- what is told of numbers: the index of the first that stands for no input, or what becomes of the page
 abbrev pub TellsInputs : Format → List ℕ → List ℕ → List ℕ → Told → Type 0
 TellsInputs format numbers old new (NoInput index) =
-    (length numbers ≤ print_limit) × (position is_no_input numbers ≡ Some index) × (new ≡ old)
+    (length numbers ≤ inputs_limit) × (position is_no_input numbers ≡ Some index) × (new ≡ old)
 TellsInputs format numbers old new told = Tells (IsPrintedText format numbers) (IsPrintRefusal numbers) old new told

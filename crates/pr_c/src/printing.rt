@@ -5,7 +5,7 @@ ghost use Rattle.std.specs.List.{position};
 ghost use Rattle.pr_cli.specs.Raw.{printed_on};
 ghost use Rattle.pr_page.specs.Page.{IsPage};
 ghost use Rattle.pr_c.specs.Laws.{BytesAreInputs};
-ghost use Rattle.pr_c.specs.Printing.{IsInputsText, TellsInputs, input_of, is_no_input, print_limit};
+ghost use Rattle.pr_c.specs.Printing.{IsInputsText, TellsInputs, input_of, is_no_input, inputs_limit};
 
 use crate::told::{Told, give};
 use pr_cli::{CliFault, Format, text_in_format};
@@ -15,7 +15,7 @@ use pr_system::Outcome;
 use std::alloc::{AllocError, Global};
 
 /// The most inputs of a page: a printer takes no more.
-const PRINT_LIMIT: usize = 4_294_967_296;
+const INPUTS_LIMIT: usize = 4_294_967_296;
 
 /// The last number that stands for an input.
 const LAST_INPUT: u16 = 257;
@@ -51,7 +51,7 @@ fn first_no_input(numbers: &[u16]) -> Option<usize>
 
 /// The paper of a printer that has taken the inputs that numbers stand for.
 fn paper_of(alloc: Global, numbers: &[u16]) -> Result<Paper, NoMemory>
-    requires few { length numbers.now ≤ print_limit }
+    requires few { length numbers.now ≤ inputs_limit }
     ensures { IfOk result (λ paper. IsPage (map input_of numbers.now) paper) }
 {
     let mut printer = Printer::new(alloc);
@@ -80,7 +80,7 @@ fn outcome_with(alloc: Global, paper: Paper) -> Outcome
 
 /// The text of the page of the inputs that numbers stand for.
 fn text_of(alloc: Global, numbers: &[u16], format: Format) -> Result<Vec<u8>, NoMemory>
-    requires few { length numbers.now ≤ print_limit }
+    requires few { length numbers.now ≤ inputs_limit }
     ensures { IfOk result (λ text. IsInputsText format (map input_of numbers.now) text.items) }
 {
     let paper = paper_of(alloc, numbers)?;
@@ -96,7 +96,7 @@ pub fn print(alloc: Global, inputs: &[u16], format: Format, out: &mut [u8]) -> T
     ensures tells { TellsInputs format inputs.now out.old out.new result }
     ensures length { length out.new ≡ length out.old }
 {
-    if inputs.len() > PRINT_LIMIT {
+    if inputs.len() > INPUTS_LIMIT {
         return Told::Refused(CliFault::TooLarge);
     }
     if let Some(index) = first_no_input(inputs) {
