@@ -8,6 +8,7 @@
  *     calls check
  *     calls hear DEVICE                               (a trace text; the inputs that the device hears, a number each line)
  *     calls settings                                  (numbers that stand for no setting; no input)
+ *     calls stops                                     (the number and the text of each BASIC error; no input)
  *     calls decoder                                   (a decoder's answers and refusals; no input)
  *     calls readings                                  (a recording; each reading with all that is told of it, a line each)
  *
@@ -484,6 +485,12 @@ int main(int words, char **word) {
     if (strcmp(j.name, "settings") == 0) {
         try_settings();
         return wrong ? 99 : 0;
+    }
+    if (strcmp(j.name, "stops") == 0) {
+        size_t stop;
+        for (stop = 0; stop < 256; stop++)
+            if (strcmp(print1525_stop_text(stop), "NO ERROR") != 0) printf("%lu %s\n", (unsigned long)stop, print1525_stop_text(stop));
+        return 0;
     }
     if (strcmp(j.name, "decoder") == 0) {
         try_decoder();
