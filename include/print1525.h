@@ -73,7 +73,9 @@ enum print1525_fault {
     /* of an ear that print1525_ear_begin has not begun, and of a decoder that print1525_decode_begin has
      * not; `place` is 0 */
     PRINT1525_NO_EAR = 26,
-    PRINT1525_NO_DECODER = 27
+    PRINT1525_NO_DECODER = 27,
+    /* of a number that stands for no input of a printer; `place` is its index, from 0 */
+    PRINT1525_NO_SUCH_INPUT = 28
 };
 
 /* The BASIC error that stopped a run: `fault` beside PRINT1525_STOPPED; `place` is the statement at
@@ -90,7 +92,7 @@ enum print1525_stop {
 typedef struct {
     size_t code;   /* one of enum print1525_code */
     size_t fault;  /* with code 1 one of enum print1525_stop, with code 2 of enum print1525_fault, else 0 */
-    size_t place;  /* with codes 1 and 2 the statement, the line or the edge as those say, else 0 */
+    size_t place;  /* with codes 1 and 2 the statement, line, edge or input as those say, else 0 */
     size_t length; /* with codes 0, 1 and 4 the bytes of the text (of print1525_hear the inputs, of a
                     * decoder the readings, 0 or 1), else 0 */
 } print1525_answer;
@@ -133,6 +135,7 @@ static inline const char *print1525_fault_text(size_t fault) {
     case PRINT1525_NO_SUCH_SET: return "no such character set";
     case PRINT1525_NO_EAR: return "no ear";
     case PRINT1525_NO_DECODER: return "no decoder";
+    case PRINT1525_NO_SUCH_INPUT: return "no such input";
     default: return "no fault";
     }
 }
@@ -159,6 +162,8 @@ enum { PRINT1525_LIST = 0, PRINT1525_TEXT = 1, PRINT1525_SVG = 2 };
 enum { PRINT1525_TRACE = 0, PRINT1525_VCD = 1 };
 /* `set`: the graphic/upper case or the lower/upper case characters. */
 enum { PRINT1525_UPPER = 0, PRINT1525_LOWER = 1 };
+/* An input of a printer that is no byte: the selection of the one or of the other. */
+enum { PRINT1525_SELECT_UPPER = 256, PRINT1525_SELECT_LOWER = 257 };
 
 /* Runs a script and gives its pages.
  *
@@ -196,6 +201,18 @@ void print1525_bus(const uint8_t *script, size_t script_length, uint8_t printers
  * limit (9). */
 void print1525_raw(const uint8_t *bytes, size_t bytes_length, uint8_t set, uint8_t format,
                    uint8_t *buffer, size_t capacity, print1525_answer *answer);
+
+/* Prints what a printer hears: bytes, and between them selections of a character set.
+ *
+ * Asks: at most 4,294,967,296 inputs, each a number as print1525_hear and an ear give it: 0 to 255 a byte,
+ * 256 the selection of the graphic/upper case set, 257 that of the lower/upper case set; and a format of a
+ * page. Before the first selection the graphic/upper case set is selected.
+ * Gives: the text of the page, as that of printer 4. Of a selection and bytes behind it this is what
+ * print1525_raw gives for that set and these bytes.
+ * Refuses, with the buffer as it was: format (24); inputs above the limit (9); then the first number above
+ * 257 (28) with its index, before any memory is taken. */
+void print1525_print(const uint16_t *inputs, size_t inputs_length, uint8_t format,
+                     uint8_t *buffer, size_t capacity, print1525_answer *answer);
 
 /* Checks a trace text.
  *

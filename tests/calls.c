@@ -4,9 +4,11 @@
  *                                                      list, text, svg; DELAYS as of --delays)
  *     calls bus PRINTERS STATUS FORMAT DELAYS
  *     calls raw SET FORMAT
+ *     calls print FORMAT                              (inputs, a number each line)
  *     calls check
  *     calls hear DEVICE                               (a trace text; the inputs that the device hears, a number each line)
  *     calls settings                                  (numbers that stand for no setting; no input)
+ *     calls stops                                     (the number and the text of each BASIC error; no input)
  *     calls ears                                      (an ear's answers and refusals; no input)
  *     calls decoder                                   (a decoder's answers and refusals; no input)
  *     calls readings                                  (a recording; each reading with all that is told of it, a line each)
@@ -96,6 +98,8 @@ typedef struct {
     uint8_t first, second, format;
     const uint8_t *input;
     size_t length;
+    const uint16_t *numbers;
+    size_t count;
     uint16_t delays[3][200];
     size_t counts[3];
 } job;
@@ -114,6 +118,22 @@ static void read_delays(job *j, const char *text) {
     }
 }
 
+/* A printer's inputs, a number each line, ending where memory ends. The header's names stand for 256 and 257. */
+static void read_numbers(job *j) {
+    static const uint16_t selections[] = {PRINT1525_SELECT_UPPER, PRINT1525_SELECT_LOWER};
+    size_t index, lines = 0;
+    uint16_t *number;
+    for (index = 0; index < j->length; index++) lines += j->input[index] == '\n';
+    number = (uint16_t *)(void *)guard(lines * sizeof *number).bytes;
+    j->numbers = number;
+    j->count = lines;
+    for (index = 0; lines > 0; lines--, index++, number++) {
+        unsigned value = 0;
+        for (; j->input[index] != '\n'; index++) value = value * 10 + (unsigned)(j->input[index] - '0');
+        *number = value / 2 == 128 ? selections[value % 2] : (uint16_t)value;
+    }
+}
+
 /* Makes the call. No more memory may be taken after it than before. */
 static print1525_answer call(const job *j, uint8_t *buffer, size_t capacity) {
     print1525_answer answer;
@@ -127,6 +147,8 @@ static print1525_answer call(const job *j, uint8_t *buffer, size_t capacity) {
                       j->delays[2], j->counts[2], j->format, buffer, capacity, &answer);
     else if (strcmp(j->name, "raw") == 0)
         print1525_raw(j->input, j->length, j->first, j->format, buffer, capacity, &answer);
+    else if (strcmp(j->name, "print") == 0)
+        print1525_print(j->numbers, j->count, j->format, buffer, capacity, &answer);
     else
         print1525_check(j->input, j->length, buffer, capacity, &answer);
     if (live != before) is_wrong("memory is not given back", (size_t)(live - before));
@@ -192,6 +214,7 @@ static size_t try_refusals(const job *j, guarded buffer, size_t capacity, print1
             is_wrong("another answer with a refused allocation", (size_t)number);
     }
     if (all > 0 && told == 0) is_wrong("no refused allocation is told", (size_t)all);
+    if (all > 0 && true_answer.fault == PRINT1525_NO_SUCH_INPUT) is_wrong("memory is taken of a number that is no input", (size_t)all);
     return told;
 }
 
@@ -526,6 +549,7 @@ static void tell(print1525_answer answer) {
     fprintf(stderr, "print1525: ");
     if (answer.fault <= PRINT1525_BAD_LINE) fprintf(stderr, "line %lu: ", place);
     else if (answer.fault >= PRINT1525_START && answer.fault <= PRINT1525_TRUNCATED) fprintf(stderr, "edge %lu: ", place);
+    else if (answer.fault == PRINT1525_NO_SUCH_INPUT) fprintf(stderr, "input %lu: ", place);
     fprintf(stderr, "%s\n", print1525_fault_text(answer.fault));
 }
 
@@ -544,11 +568,15 @@ static void try_settings(void) {
         {"bus", 3, 1, 2, PRINT1525_NO_SUCH_FORMAT},     {"bus", 0, 0, 255, PRINT1525_NO_SUCH_FORMAT},
         {"raw", 2, 0, 0, PRINT1525_NO_SUCH_SET},        {"raw", 255, 0, 3, PRINT1525_NO_SUCH_SET},
         {"raw", 1, 0, 3, PRINT1525_NO_SUCH_FORMAT},     {"raw", 0, 0, 255, PRINT1525_NO_SUCH_FORMAT},
+        {"print", 0, 0, 3, PRINT1525_NO_SUCH_FORMAT},   {"print", 0, 0, 255, PRINT1525_NO_SUCH_FORMAT},
     };
+    static const uint16_t no_input[1] = {65535};
     static job j;
     const guarded input = guard(7), buffer = guard(99);
     size_t row;
     memcpy(input.bytes, "NO WORD", 7);
+    j.numbers = no_input;
+    j.count = 1;
     for (row = 0; row < sizeof rows / sizeof *rows; row++) {
         print1525_answer answer;
         memset(buffer.bytes, UNTOUCHED, buffer.size);
@@ -742,7 +770,9 @@ static void set(job *j, int words, char **word) {
     static const uint8_t printers[] = {PRINT1525_NO_PRINTER, PRINT1525_FOUR, PRINT1525_FIVE, PRINT1525_BOTH};
     static const uint8_t statuses[] = {PRINT1525_EACH, PRINT1525_KEPT}, sets[] = {PRINT1525_UPPER, PRINT1525_LOWER};
     static const uint8_t pages[] = {PRINT1525_LIST, PRINT1525_TEXT, PRINT1525_SVG}, traces[] = {PRINT1525_TRACE, PRINT1525_VCD};
-    if (strcmp(j->name, "raw") == 0 && words > 3) {
+    if (strcmp(j->name, "print") == 0 && words > 2) {
+        j->format = named(pages, sizeof pages, atoi(word[2]));
+    } else if (strcmp(j->name, "raw") == 0 && words > 3) {
         j->first = named(sets, sizeof sets, atoi(word[2]));
         j->format = named(pages, sizeof pages, atoi(word[3]));
     } else if (words > 5) {
@@ -832,6 +862,12 @@ int main(int words, char **word) {
         try_settings();
         return wrong ? 99 : 0;
     }
+    if (strcmp(j.name, "stops") == 0) {
+        size_t stop;
+        for (stop = 0; stop < 256; stop++)
+            if (strcmp(print1525_stop_text(stop), "NO ERROR") != 0) printf("%lu %s\n", (unsigned long)stop, print1525_stop_text(stop));
+        return 0;
+    }
     if (strcmp(j.name, "ears") == 0) {
         try_ears();
         return wrong ? 99 : 0;
@@ -850,6 +886,7 @@ int main(int words, char **word) {
     input = read_all();
     j.input = input.bytes;
     j.length = input.size;
+    if (strcmp(j.name, "print") == 0) read_numbers(&j);
     answer = call(&j, empty.bytes, 0);
     buffer = guard(answer.code == PRINT1525_TOO_SMALL ? answer.length + 16 : 99);
     if (answer.code == PRINT1525_TOO_SMALL) {
