@@ -73,7 +73,9 @@ enum print1525_fault {
     /* of an ear that print1525_ear_begin has not begun, and of a decoder that print1525_decode_begin has
      * not; `place` is 0 */
     PRINT1525_NO_EAR = 26,
-    PRINT1525_NO_DECODER = 27
+    PRINT1525_NO_DECODER = 27,
+    /* of a number that stands for no input of a printer; `place` is its index, from 0 */
+    PRINT1525_NO_SUCH_INPUT = 28
 };
 
 /* The BASIC error that stopped a run: `fault` beside PRINT1525_STOPPED; `place` is the statement at
@@ -90,7 +92,7 @@ enum print1525_stop {
 typedef struct {
     size_t code;   /* one of enum print1525_code */
     size_t fault;  /* with code 1 one of enum print1525_stop, with code 2 of enum print1525_fault, else 0 */
-    size_t place;  /* with codes 1 and 2 the statement, the line or the edge as those say, else 0 */
+    size_t place;  /* with codes 1 and 2 the statement, line, edge or input as those say, else 0 */
     size_t length; /* with codes 0, 1 and 4 the bytes of the text (of print1525_hear the inputs, of a
                     * decoder the readings, 0 or 1), else 0 */
 } print1525_answer;
@@ -133,6 +135,7 @@ static inline const char *print1525_fault_text(size_t fault) {
     case PRINT1525_NO_SUCH_SET: return "no such character set";
     case PRINT1525_NO_EAR: return "no ear";
     case PRINT1525_NO_DECODER: return "no decoder";
+    case PRINT1525_NO_SUCH_INPUT: return "no such input";
     default: return "no fault";
     }
 }
@@ -159,6 +162,8 @@ enum { PRINT1525_LIST = 0, PRINT1525_TEXT = 1, PRINT1525_SVG = 2 };
 enum { PRINT1525_TRACE = 0, PRINT1525_VCD = 1 };
 /* `set`: the graphic/upper case or the lower/upper case characters. */
 enum { PRINT1525_UPPER = 0, PRINT1525_LOWER = 1 };
+/* An input of a printer that is no byte: the selection of the one or of the other. */
+enum { PRINT1525_SELECT_UPPER = 256, PRINT1525_SELECT_LOWER = 257 };
 
 /* Runs a script and gives its pages.
  *
@@ -197,6 +202,18 @@ void print1525_bus(const uint8_t *script, size_t script_length, uint8_t printers
 void print1525_raw(const uint8_t *bytes, size_t bytes_length, uint8_t set, uint8_t format,
                    uint8_t *buffer, size_t capacity, print1525_answer *answer);
 
+/* Prints what a printer hears: bytes, and between them selections of a character set.
+ *
+ * Asks: at most 4,294,967,296 inputs, each a number as print1525_hear and an ear give it: 0 to 255 a byte,
+ * 256 the selection of the graphic/upper case set, 257 that of the lower/upper case set; and a format of a
+ * page. Before the first selection the graphic/upper case set is selected.
+ * Gives: the text of the page, as that of printer 4. Of a selection and bytes behind it this is what
+ * print1525_raw gives for that set and these bytes.
+ * Refuses, with the buffer as it was: format (24); inputs above the limit (9); then the first number above
+ * 257 (28) with its index, before any memory is taken. */
+void print1525_print(const uint16_t *inputs, size_t inputs_length, uint8_t format,
+                     uint8_t *buffer, size_t capacity, print1525_answer *answer);
+
 /* Checks a trace text.
  *
  * Asks: a text of at most 1,099,511,627,776 bytes, as print1525_bus writes it.
@@ -224,20 +241,37 @@ typedef struct {
 void print1525_hear(uint8_t device, const print1525_edge *edges, size_t edges_length,
                     uint16_t *buffer, size_t capacity, print1525_answer *answer);
 
-/* What is kept of a device between two edges: an ear on the wire. The numbers are the library's; the
- * caller only keeps them, and may copy them. Numbers that are laid out as no ear's are refused; where a
- * caller writes others, nothing is promised of what is told then but that each call returns and writes
- * nothing else. */
+/* The place that an ear's edges have reached in the table of lawful traces, and what is kept of a byte.
+ * What a place has not is 0; docs/DEFINITIONS.md lists the places. */
 typedef struct {
-    uint64_t since, released;
-    uint8_t place, sending, eoi, count, byte, bit, unlistened;
+    uint64_t since;     /* the moment from which the next edge's time counts */
+    uint64_t released;  /* in the answer to end-or-identify the moment at which DATA was released before it */
+    uint8_t place;      /* which place, 0 to 10 */
+    uint8_t sending;    /* which byte is sent: 0 the first of an attention, 1 its second, 2 a data byte */
+    uint8_t eoi;        /* 1: end-or-identify was answered */
+    uint8_t count;      /* how many bits of the byte have come, at most eight */
+    uint8_t byte;       /* their number, the lowest bit first; behind its acknowledgement the byte */
+    uint8_t bit;        /* the bit that stands; in a call 1: DATA is pulled, behind an attention 1: it is released */
+    uint8_t unlistened; /* 1: the last command was UNLISTEN */
 } print1525_ear_place;
 
+/* What is kept of a device between two edges: an ear on the wire. The numbers are the library's; the
+ * caller only keeps them, and may copy them. Before a call uses them it tests each: a device of 4 to 30;
+ * before the first edge nothing else but a fault; behind it an edge, a place to which that edge can lead by
+ * the table with the numbers of this place and no others, and a count that so many microseconds have room
+ * for. Other numbers are refused (26). Not tested is whether a trace has just these moments, this count, this
+ * byte and a device that listens: with numbers that pass and that no edges left the call goes on from there.
+ * Nothing is promised of what it tells then, but that it returns, writes nothing else, and leaves numbers
+ * that pass. */
 typedef struct {
-    size_t taken;
-    print1525_edge last;
+    size_t taken;              /* how many edges were accepted */
+    print1525_edge last;       /* the last of them, each level 0 or 1 */
     print1525_ear_place place;
-    uint8_t begun, refused, device, listens, called;
+    uint8_t begun;             /* 1: an edge was accepted */
+    uint8_t refused;           /* 0, or the fault with which an edge was refused (11 if none was accepted) */
+    uint8_t device;
+    uint8_t listens;           /* 1: it was called, and no UNLISTEN has come behind that */
+    uint8_t called;            /* 1: the last frame called it */
 } print1525_ear;
 
 /* What an ear tells. Each call writes all of it. */
@@ -302,12 +336,23 @@ typedef struct {
     uint8_t kind; /* one of enum print1525_kind */
 } print1525_reading;
 
-/* What is kept of a recording between two edges. The numbers are the library's; the caller only keeps
- * them, and may copy them. Of numbers that a caller writes the same holds as of an ear's. */
+/* What is kept of a recording between two edges: a decoder. The numbers are the library's; the caller only
+ * keeps them, and may copy them. Before a call uses them it tests each: before the first edge they are 0;
+ * behind it there are two edges, and those at which DATA has turned, to and fro from the level that CLOCK has
+ * not; a byte that has begun has at most eight bits and no greater number than so many make, its halves in
+ * order, and where CLOCK is pulled, it was pulled last with the first edge. Other numbers are refused (27).
+ * Not tested is whether a recording has just these moments and ATN's levels: with numbers that pass and that
+ * no edges left the call goes on from there. Nothing is promised of what it tells then, but that it returns
+ * and writes nothing else. */
 typedef struct {
-    print1525_edge first, last, turn1, turn2, turn3, turn4;
-    print1525_byte byte;
-    uint8_t begun, called, turns, sent;
+    print1525_edge first;                      /* since when CLOCK stands as it does; each level 0 or 1 */
+    print1525_edge last;                       /* the edge taken last */
+    print1525_edge turn1, turn2, turn3, turn4; /* the edges from `first` on at which DATA has turned */
+    print1525_byte byte;                       /* the byte that has begun */
+    uint8_t begun;                             /* 1: an edge was taken */
+    uint8_t called;                            /* 1: `first` pulls ATN */
+    uint8_t turns;                             /* how many turns are kept, at most four */
+    uint8_t sent;                              /* 1: a byte has begun */
 } print1525_decoder;
 
 /* Begins a decoder of a recording, from whatever bus and however it begins. Takes no memory. */

@@ -1,6 +1,6 @@
 /* A printer as an emulator has it: bytes in, and an SVG document for each sheet of 11 inches out.
- *     print PREFIX < BYTES          writes PREFIX1.svg, PREFIX2.svg ..
- * print1525_raw draws continuous paper; a sheet is a window on it. */
+ *     print PREFIX [upper|lower] < BYTES          writes PREFIX1.svg, PREFIX2.svg ..
+ * print1525_print draws continuous paper; a sheet is a window on it. */
 #include "print1525.h"
 #include <stdio.h>
 #include <stdlib.h>
@@ -12,28 +12,28 @@
 #define PAPER_TOP 1050
 #define PAPER_WIDTH 12600
 
-/* What was sent to the printer. */
-static uint8_t *sent;
+/* What the printer heard. */
+static uint16_t *heard;
 static size_t count, room;
 
-/* Takes a byte that the machine sends to device 4; 0 where there is no memory for it. */
-static int printer_takes(uint8_t byte) {
+/* Takes what the machine sends to device 4, a byte or the selection of a character set; 0 where there is no memory for it. */
+static int printer_takes(uint16_t input) {
     if (count == room) {
-        uint8_t *more = (uint8_t *)realloc(sent, room + 65536);
+        uint16_t *more = (uint16_t *)realloc(heard, (room + 65536) * sizeof *heard);
         if (!more) return 0;
-        sent = more;
+        heard = more;
         room += 65536;
     }
-    sent[count++] = byte;
+    heard[count++] = input;
     return 1;
 }
 
-/* The page of what was sent, with a zero byte behind it; NULL where there is none. */
+/* The page of what was heard, with a zero byte behind it; NULL where there is none. */
 static char *printer_page(print1525_answer *answer) {
     char *page = (char *)malloc(1), *larger;
     size_t capacity = 0;
     while (page) {
-        print1525_raw(sent, count, PRINT1525_UPPER, PRINT1525_SVG, (uint8_t *)page, capacity, answer);
+        print1525_print(heard, count, PRINT1525_SVG, (uint8_t *)page, capacity, answer);
         if (answer->code == PRINT1525_DONE) {
             page[answer->length] = '\0';
             return page;
@@ -65,13 +65,14 @@ int main(int words, char **word) {
     char *page;
     const char *size, *rest, *paper;
     unsigned long height, number;
-    int byte;
-    if (words != 2) return 2;
-    if (!(sent = (uint8_t *)malloc(room = 65536))) return PRINT1525_NO_MEMORY;
+    int byte, is_lower = words == 3 && strcmp(word[2], "lower") == 0;
+    if (words != 2 && !is_lower && !(words == 3 && strcmp(word[2], "upper") == 0)) return 2;
+    if (!(heard = (uint16_t *)malloc((room = 65536) * sizeof *heard))) return PRINT1525_NO_MEMORY;
+    printer_takes(is_lower ? PRINT1525_SELECT_LOWER : PRINT1525_SELECT_UPPER);
     while ((byte = getchar()) != EOF)
-        if (!printer_takes((uint8_t)byte)) return PRINT1525_NO_MEMORY;
+        if (!printer_takes((uint16_t)byte)) return PRINT1525_NO_MEMORY;
     page = printer_page(&answer);
-    free(sent);
+    free(heard);
     if (!page) return (int)answer.code;
     size = strstr(page, " width=");
     rest = strstr(page, " font-family=");

@@ -14,7 +14,7 @@ use Rattle.pr_cli.specs.declared.fault.CliFault.TheVariants.{Script, Trace, Wave
 use Rattle.pr_c.specs.Answers.{IsBusText, IsFramesText, IsPagesText, IsPaperRefusal, IsPaperText, IsScriptRefusal, IsTraceRefusal, Stopping, Tells}
 use Rattle.pr_c.specs.Giving.{Gives, GivesStop, IsFound, in_memory, without_run}
 use Rattle.pr_c.specs.declared.told.Told.{Told}
-use Rattle.pr_c.specs.declared.told.Told.TheVariants.{Written, TooSmall, Refused}
+use Rattle.pr_c.specs.declared.told.Told.TheVariants.{Written, TooSmall, Refused, NoInput}
 
 -- what was made is this text or this fault
 abbrev pub IsMade : (Stopping → List ℕ → Type 0) → (CliFault → Type 0) → List ℕ → Result Stopping CliFault → Type 0
@@ -27,6 +27,7 @@ pub tells : (IsText : Stopping → List ℕ → Type 0) (IsFault : CliFault → 
 tells IsText IsFault text old new (Ok stop) (Written s n) m g = (text, subst (λ j. IsText j text) (sym g.0) m, g.1, g.2, g.3)
 tells IsText IsFault text old new (Ok stop) (TooSmall n) m g = (stop, text, m, g.0, g.1, g.2)
 tells IsText IsFault text old new (Ok stop) (Refused f) m g = absurd g
+tells IsText IsFault text old new (Ok stop) (NoInput i) m g = absurd g
 tells IsText IsFault text old new (Err fault) told m g = subst (λ t. Tells IsText IsFault old new t) (sym g.0) (m, g.1)
 
 -- a run that is done has no stop

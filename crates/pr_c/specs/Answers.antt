@@ -25,19 +25,20 @@ use Rattle.pr_cli.specs.declared.fault.CliFault.{CliFault}
 use Rattle.pr_cli.specs.declared.fault.CliFault.TheVariants.{Script, Trace, Wave, Capture, TooLarge, NoMemory, ReadFailed, WriteFailed}
 use Rattle.pr_c.specs.declared.told.Answer.{Answer}
 use Rattle.pr_c.specs.declared.told.Told.{Told}
-use Rattle.pr_c.specs.declared.told.Told.TheVariants.{Written, TooSmall, Refused}
+use Rattle.pr_c.specs.declared.told.Told.TheVariants.{Written, TooSmall, Refused, NoInput}
 
 -- a BASIC error that stopped a run, with the number of its statement, from 1; none where no error did
 abbrev pub Stopping : Type 0
 Stopping = Option (ℕ × Stop)
 
--- what is told is right, by the buffer before and after: the text stands at its front, and the rest is as it was; or the text has no room; or there is none
+-- what is told is right, by the buffer before and after: the text in front, the rest as it was; or the text has no room; or there is none
 abbrev pub Tells : (Stopping → List ℕ → Type 0) → (CliFault → Type 0) → List ℕ → List ℕ → Told → Type 0
 Tells IsText IsFault old new (Written stop n) =
     (text : List ℕ) × IsText stop text × (n ≡ length text) × (n ≤ length old) × (new ≡ text ++ drop n old)
 Tells IsText IsFault old new (TooSmall n) =
     (stop : Stopping) × (text : List ℕ) × IsText stop text × (n ≡ length text) × (length old < n) × (new ≡ old)
 Tells IsText IsFault old new (Refused fault) = IsFault fault × (new ≡ old)
+Tells IsText IsFault old new (NoInput index) = ⊥
 
 -- the text of a script's pages, and the error that stopped its run
 abbrev pub IsPagesText : Start → Format → List ℕ → Stopping → List ℕ → Type 0
@@ -121,6 +122,7 @@ abbrev pub answer_of : Told → Answer
 answer_of (Written None n) = plain 0 n
 answer_of (Written (Some (statement, stop)) n) = stopped statement stop n
 answer_of (TooSmall n) = plain 4 n
+answer_of (NoInput index) = refusal (28, index)
 answer_of (Refused (Script fault)) = refusal (script_numbers fault)
 answer_of (Refused (Trace fault)) = refusal (trace_numbers fault)
 answer_of (Refused (Wave fault)) = refusal (wave_numbers fault)

@@ -6,6 +6,7 @@ use Rattle.pr_basic.specs.declared.session.StatusMode.{StatusMode}
 use Rattle.pr_options.specs.declared.format.Format.{Format}
 use Rattle.pr_options.specs.declared.format.TraceFormat.{TraceFormat}
 use Rattle.pr_c.specs.Answers.{IsBusText, IsFramesText, IsPagesText, IsPaperRefusal, IsPaperText, IsScriptRefusal, IsTraceRefusal, Tells, answer_of, refusal}
+use Rattle.pr_c.specs.Printing.{TellsInputs}
 use Rattle.pr_c.specs.declared.told.Answer.{Answer}
 use Rattle.pr_c.specs.declared.told.Told.{Told}
 
@@ -41,6 +42,11 @@ TellsRaw None _ bytes old new answer = Refuses 25 old new answer
 TellsRaw (Some lower) None bytes old new answer = Refuses 24 old new answer
 TellsRaw (Some lower) (Some format) bytes old new answer =
     (told : Told) × (answer ≡ answer_of told) × Tells (IsPaperText lower format bytes) (IsPaperRefusal bytes) old new told
+
+-- the page of a printer's inputs, as numbers
+abbrev pub TellsPrint : Option Format → List ℕ → List ℕ → List ℕ → Answer → Type 0
+TellsPrint None inputs old new answer = Refuses 24 old new answer
+TellsPrint (Some format) inputs old new answer = (told : Told) × (answer ≡ answer_of told) × TellsInputs format inputs old new told
 
 -- the frames of a trace text
 abbrev pub TellsCheck : List ℕ → List ℕ → List ℕ → Answer → Type 0

@@ -11,7 +11,7 @@ use Rattle.pr_cli.specs.declared.fault.CliFault.{CliFault}
 use Rattle.pr_cli.specs.declared.fault.CliFault.TheVariants.{Script, Trace, Wave, Capture, TooLarge, NoMemory}
 use Rattle.pr_c.specs.Answers.{Stopping}
 use Rattle.pr_c.specs.declared.told.Told.{Told}
-use Rattle.pr_c.specs.declared.told.Told.TheVariants.{Written, TooSmall, Refused}
+use Rattle.pr_c.specs.declared.told.Told.TheVariants.{Written, TooSmall, Refused, NoInput}
 
 -- a fault of memory to memory: nothing but want of memory makes a read or a write there fail
 abbrev pub in_memory : CliFault → CliFault
@@ -27,6 +27,7 @@ abbrev pub Puts : Stopping → List ℕ → List ℕ → List ℕ → Told → T
 Puts stop text old new (Written s n) = (s ≡ stop) × (n ≡ length text) × (n ≤ length old) × (new ≡ text ++ drop n old)
 Puts stop text old new (TooSmall n) = (n ≡ length text) × (length old < n) × (new ≡ old)
 Puts stop text old new (Refused fault) = ⊥
+Puts stop text old new (NoInput index) = ⊥
 
 -- what was made is handed on
 abbrev pub Gives : Result Stopping CliFault → List ℕ → List ℕ → List ℕ → Told → Type 0

@@ -1,4 +1,6 @@
 pub mod Settings
 pub mod Answers
 pub mod Giving
+pub mod Printing
 pub mod Asked
+pub mod Laws

@@ -2,11 +2,12 @@
 
 ghost use Rattle.std.specs.Prelude.{◌≡◌, length, IfOk};
 ghost use Rattle.pr_bus.specs.DelaysLeft.{numbers_left};
-ghost use Rattle.pr_c.specs.Asked.{TellsBus, TellsCheck, TellsPages, TellsRaw, delays_of};
+ghost use Rattle.pr_c.specs.Asked.{TellsBus, TellsCheck, TellsPages, TellsPrint, TellsRaw, delays_of};
 ghost use Rattle.pr_c.specs.Settings.{format_of, lower_of, mode_of, present_of, trace_format_of};
 ghost use Rattle.pr_wire.specs.Choices.{left};
 
 use crate::calls::{bus, check, pages, raw};
+use crate::printing::print;
 use crate::settings::{format_for, lower_for, mode_for, present_for, trace_format_for};
 use crate::told::{Answer, Told, numbered, refused};
 use pr_bus::Delays;
@@ -135,6 +136,25 @@ pub extern "C" fn print1525_raw(
         return;
     };
     *answer = numbered(raw(alloc, bytes, lower, format, out));
+}
+
+/// Puts the page that a printer prints of its inputs at the front of the caller's buffer.
+#[unsafe(no_mangle)]
+pub extern "C" fn print1525_print(
+    alloc: Global,
+    inputs: &[u16],
+    format: u8,
+    out: &mut [u8],
+    answer: &mut Answer,
+)
+    ensures tells { TellsPrint (format_of format) inputs.now out.old out.new answer.new }
+    ensures length { length out.new ≡ length out.old }
+{
+    let Some(format) = format_for(format) else {
+        *answer = refused(24, 0);
+        return;
+    };
+    *answer = numbered(print(alloc, inputs, format, out));
 }
 
 /// Puts the frames that a trace text spells at the front of the caller's buffer.

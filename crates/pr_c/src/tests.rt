@@ -1,4 +1,5 @@
 use crate::calls::{bus, check, pages, raw};
+use crate::printing::print;
 use crate::told::{Told, numbered};
 use pr_basic::StatusMode;
 use pr_channels::Stop;
@@ -19,6 +20,34 @@ fn a_page_in_a_buffer(rt: HostRuntime) {
     assert!(rt; told == Told::Written(None, 51));
     assert!(rt; out.starts_with(b"printer 4\nrow 0\n 0 cell 65\nprinter 5\nstatus\nscreen\n"));
     assert!(rt; out[51] == 7);
+}
+
+#[test]
+fn a_page_of_inputs(rt: HostRuntime) {
+    let mut out = [7u8; 93];
+    let inputs = [65, 13, 257, 65, 13, 256, 255];
+    let told = print(rt.alloc(), &inputs, Format::List, &mut out);
+    assert!(rt; told == Told::Written(None, 92));
+    assert!(rt;
+        out.starts_with(
+            b"printer 4\nrow 0\n 0 cell 65\nrow 21\n 0 cell 65 lower\nheld\n 0 cell 255\nprinter 5\n"
+        )
+    );
+    assert!(rt; out[92] == 7);
+}
+
+#[test]
+fn numbers_that_stand_for_no_input(rt: HostRuntime) {
+    let mut out = [7u8; 99];
+    for (number, index) in [(258, 2), (65535, 2)] {
+        let told = print(rt.alloc(), &[65, 257, number, 300], Format::List, &mut out);
+        assert!(rt; told == Told::NoInput(index));
+        assert!(rt; out == [7; 99]);
+        let answer = numbered(told);
+        assert!(rt;
+            answer.code == 2 && answer.fault == 28 && answer.place == 2 && answer.length == 0
+        );
+    }
 }
 
 #[test]

@@ -19,6 +19,8 @@ pub enum Told {
     TooSmall(usize),
     /// There is no text.
     Refused(CliFault),
+    /// The number at this index stands for no input of a printer.
+    NoInput(usize),
 }
 
 /// What came of a call, as numbers.
@@ -29,9 +31,10 @@ pub struct Answer {
     pub code: usize,
     /// With code 1 the number of the BASIC error: 1, 2, 3, 5 or 6. With code 2 the number of the fault:
     /// 1 to 7 those of a script, 8 a bad line of a trace text, 9 too large, 11 to 16 those of a trace,
-    /// 22 to 25 a number that stands for no setting. Else 0.
+    /// 22 to 25 a number that stands for no setting, 28 one that stands for no input. Else 0.
     pub fault: usize,
-    /// The statement of the error, from 1, the line of the fault, from 1, or the index of its edge; or 0.
+    /// The statement of the error, from 1, the line of the fault, from 1, or the index of its edge or of
+    /// its input, from 0; or 0.
     pub place: usize,
     /// The number of the text's bytes, or 0.
     pub length: usize,
@@ -139,6 +142,7 @@ pub fn numbered(told: Told) -> Answer
         Told::Written(None, size) => unfaulted(0, size),
         Told::Written(Some((statement, stop)), size) => at_stop(statement, stop, size),
         Told::TooSmall(size) => unfaulted(4, size),
+        Told::NoInput(index) => refused(28, index),
         Told::Refused(CliFault::Script(fault)) => of_script(fault),
         Told::Refused(CliFault::Trace(TraceFault::BadLine(line))) => refused(8, line),
         Told::Refused(CliFault::Trace(TraceFault::NoMemory)) => refused(0, 0),

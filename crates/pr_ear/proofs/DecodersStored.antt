@@ -9,11 +9,10 @@ use Rattle.pr_decode.specs.declared.stretch.Stretch.{Stretch}
 use Rattle.pr_decode.specs.declared.stretch.Turns.{Turns}
 use Rattle.pr_decode.specs.declared.stretch.Turns.TheVariants.{Still, Once, Twice, Thrice, Often}
 use Rattle.pr_ear.specs.declared.decoder_numbers.WireByte.{WireByte}
-use Rattle.pr_ear.specs.declared.decoder_numbers.WireDecoder.{WireDecoder}
 use Rattle.pr_ear.specs.Decoding.{answer_ended, answered, byte_numbers, eoi_number}
-use Rattle.pr_ear.specs.DecoderNumbers.{IsDecoder, begun_in, byte_from, byte_in, called_in, decoder_by, first_in, last_in, pulse_from, sent_in, stored, stretch_from, transfer_from, turn1, turn2, turn3, turn4, turns_from, turns_in, turns_number}
+use Rattle.pr_ear.specs.DecoderTaken.{begun_in, byte_from, byte_in, called_in, decoder_by, first_in, last_in, pulse_from, sent_in, stored, stretch_from, transfer_from, turn1, turn2, turn3, turn4, turns_from, turns_in, turns_number}
 use Rattle.pr_ear.specs.Hearing.{edge_of}
-use Rattle.pr_ear.proofs.Stored.{bit-back, edge-back, both, same_wires, wires-are, same-number}
+use Rattle.pr_ear.proofs.Stored.{bit-back, both, edge-back, same-number}
 
 -- turns come back
 turns-back : (t : Turns) → turns_from (turns_number t) (edge_of (turn1 t)) (edge_of (turn2 t)) (edge_of (turn3 t)) (edge_of (turn4 t)) ≡ t
@@ -57,26 +56,16 @@ decoder-back d =
     let b = transfer-back d.transfer in
     rw (a, b) refl
 
--- so what was stored is a decoder
-pub stored-is-decoder : (d : Decoder) → IsDecoder (stored d)
-stored-is-decoder d = ap stored (decoder-back d)
-
 -- two bytes have the same numbers
-abbrev same_bytes : WireByte → WireByte → Bool
+abbrev pub same_bytes : WireByte → WireByte → Bool
 same_bytes a b =
     eqb a.look b.look && (eqb a.ready b.ready && (eqb a.answered b.answered && (eqb a.answer_ended b.answer_ended && (eqb a.pull b.pull
     && (eqb a.shortest_low b.shortest_low && (eqb a.longest_low b.longest_low && (eqb a.shortest_high b.shortest_high
     && (eqb a.longest_high b.longest_high && (eqb a.last_pull b.last_pull && (eqb a.command b.command && (eqb a.eoi b.eoi && (eqb a.bits b.bits
     && (eqb a.byte b.byte)))))))))))))
 
--- two decoders have the same numbers
-abbrev pub same_decoders : WireDecoder → WireDecoder → Bool
-same_decoders a b =
-    same_wires a.first b.first && (same_wires a.last b.last && (same_wires a.turn1 b.turn1 && (same_wires a.turn2 b.turn2 && (same_wires a.turn3 b.turn3
-    && (same_wires a.turn4 b.turn4 && (same_bytes a.byte b.byte && (eqb a.begun b.begun && (eqb a.called b.called && (eqb a.turns b.turns
-    && (eqb a.sent b.sent))))))))))
-
-bytes-are : (a b : WireByte) → same_bytes a b ≡ true → a ≡ b
+-- and are the same then
+pub bytes-are : (a b : WireByte) → same_bytes a b ≡ true → a ≡ b
 bytes-are a b h =
     let k1 = both (eqb a.look b.look) _ h in
     let k2 = both (eqb a.ready b.ready) _ k1.1 in
@@ -111,40 +100,5 @@ bytes-are a b h =
     ) refl in
     e
 
--- decoders with the same numbers are the same
-pub decoders-are : (a b : WireDecoder) → true ≡ same_decoders a b → a ≡ b
-decoders-are a b h =
-    let k1 = both (same_wires a.first b.first) _ (sym h) in
-    let k2 = both (same_wires a.last b.last) _ k1.1 in
-    let k3 = both (same_wires a.turn1 b.turn1) _ k2.1 in
-    let k4 = both (same_wires a.turn2 b.turn2) _ k3.1 in
-    let k5 = both (same_wires a.turn3 b.turn3) _ k4.1 in
-    let k6 = both (same_wires a.turn4 b.turn4) _ k5.1 in
-    let k7 = both (same_bytes a.byte b.byte) _ k6.1 in
-    let k8 = both (eqb a.begun b.begun) _ k7.1 in
-    let k9 = both (eqb a.called b.called) _ k8.1 in
-    let k10 = both (eqb a.turns b.turns) _ k9.1 in
-    let e : record { first = a.first; last = a.last; turn1 = a.turn1; turn2 = a.turn2; turn3 = a.turn3; turn4 = a.turn4; byte = a.byte; begun = a.begun; called = a.called; turns = a.turns; sent = a.sent }
-    ≡ record { first = b.first; last = b.last; turn1 = b.turn1; turn2 = b.turn2; turn3 = b.turn3; turn4 = b.turn4; byte = b.byte; begun = b.begun; called = b.called; turns = b.turns; sent = b.sent } =
-    rw (
-      wires-are a.first b.first k1.0,
-      wires-are a.last b.last k2.0,
-      wires-are a.turn1 b.turn1 k3.0,
-      wires-are a.turn2 b.turn2 k4.0,
-      wires-are a.turn3 b.turn3 k5.0,
-      wires-are a.turn4 b.turn4 k6.0,
-      bytes-are a.byte b.byte k7.0,
-      eqb-true a.begun b.begun k8.0,
-      eqb-true a.called b.called k9.0,
-      eqb-true a.turns b.turns k10.0,
-      eqb-true a.sent b.sent k10.1,
-    ) refl in
-    e
-
-same-decoder : (a : WireDecoder) → same_decoders a a ≡ true
-same-decoder a = simp (same-number) refl
-
--- a decoder that is none has other numbers than the one that they mean
-pub others-than : (a b : WireDecoder) → false ≡ same_decoders a b → a ≡ b → ⊥
-others-than a b h e =
-    let x : false ≡ true = h ∙ (ap (λ (c : WireDecoder). same_decoders c b) e ∙ same-decoder b) in cc
+pub same-byte : (a b : WireByte) → a ≡ b → same_bytes a b ≡ true
+same-byte a b h = ap (λ (c : WireByte). same_bytes c b) h ∙ (let e : same_bytes b b ≡ true = simp (same-number) refl in e)

@@ -17,21 +17,21 @@ use Rattle.pr_ear.specs.declared.standing.Standing.{Standing}
 use Rattle.pr_ear.specs.Ears.{comes_with, AreAllowed, EarsHearTheSame, FirstFaultsStay}
 use Rattle.pr_ear.specs.Hearing.{edge_of, number_of, IsDevice}
 use Rattle.pr_ear.specs.Numbers.{standing_by, stored, HasFewBits}
-use Rattle.pr_ear.specs.Taken.{HasCome, HasTaken, IsRight}
+use Rattle.pr_ear.specs.Taken.{CanStand, HasCome, HasTaken, IsRight}
 use Rattle.pr_ear.proofs.Filling.{fault-stays}
 use Rattle.pr_ear.proofs.Standings.{refused-stays}
-use Rattle.pr_ear.proofs.Stored.{standing-back, stored-is-ear}
+use Rattle.pr_ear.proofs.Fitting.{stored-is-ear}
+use Rattle.pr_ear.proofs.Stored.{standing-back}
 
 -- the device of an ear is one
 pub device-of : (device : ℕ) (edges : List WireEdge) (ear : Ear) → HasTaken device edges ear → IsDevice device
 device-of device edges ear h = subst (λ n. IsDevice n) h.come.device_is h.ear_is.device
 
 -- a standing that is stored is that of an ear
-pub taken-of : (device : ℕ) (edges : List WireEdge) (s : Standing) (ear : Ear) → IsDevice device → ear ≡ stored s → HasFewBits s.place → HasCome device (map edge_of edges) s → HasTaken device edges ear
+pub taken-of : (device : ℕ) (edges : List WireEdge) (s : Standing) (ear : Ear) → CanStand s → ear ≡ stored s → HasFewBits s.place → HasCome device (map edge_of edges) s → HasTaken device edges ear
 taken-of device edges s ear d e f h =
-    let dev : IsDevice s.listener.device = subst (λ n. IsDevice n) (sym h.device_is) d in
     let come : HasCome device (map edge_of edges) (standing_by (stored s)) = subst (λ (t : Standing). HasCome device (map edge_of edges) t) (sym (standing-back s f)) h in
-    subst (λ (t : Ear). HasTaken device edges t) (sym e) (record { ear_is = stored-is-ear s f dev; come = come })
+    subst (λ (t : Ear). HasTaken device edges t) (sym e) (record { ear_is = stored-is-ear s d; come = come })
 
 -- a standing that is restored from an ear is that of its edges
 pub come-of : (device : ℕ) (edges : List WireEdge) (ear : Ear) (s : Standing) → s ≡ standing_by ear → HasTaken device edges ear → HasCome device (map edge_of edges) s
@@ -43,9 +43,9 @@ one-more edges edge e h = ap (λ x. map edge_of edges ++ x ∷ []) h ∙ sym (ma
 
 -- an ear that is given one edge more
 pub taken-more : (device : ℕ) (edges : List WireEdge) (edge : WireEdge) (old : Ear) (s : Standing) (e : Edge) (after : Standing) (new : Ear) → HasTaken device edges old → s ≡ standing_by old → e ≡ edge_of edge
-    → (HasCome device (map edge_of edges) s → HasCome device (map edge_of edges ++ e ∷ []) after) → new ≡ stored after → HasFewBits after.place → HasTaken device (edges ++ edge ∷ []) new
-taken-more device edges edge old s e after new h r x m n f =
-    taken-of device (edges ++ edge ∷ []) after new (device-of device edges old h) n f
+    → (HasCome device (map edge_of edges) s → HasCome device (map edge_of edges ++ e ∷ []) after) → CanStand after → new ≡ stored after → HasFewBits after.place → HasTaken device (edges ++ edge ∷ []) new
+taken-more device edges edge old s e after new h r x m k n f =
+    taken-of device (edges ++ edge ∷ []) after new k n f
     (subst (λ l. HasCome device l after) (one-more edges edge e x) (m (come-of device edges old s r h)))
 
 -- an input that comes with an edge of a caller's

@@ -1,6 +1,10 @@
 pub mod Filling
 pub mod Stored
+pub mod Leading
+pub mod Fitting
+pub mod Listening
 pub mod Standings
 pub mod Ears
 pub mod DecodersStored
+pub mod DecodersFitting
 pub mod Decoded

@@ -66,7 +66,7 @@ frame-behind (x ∷ es) last p before n e = by (verdict last p x) (λ s. frame-b
     by (Err f) k = refl
 
 -- the first step, by whether the first edge is the start
-abbrev start_step : Bool → Result Step WaveFault
+abbrev pub start_step : Bool → Result Step WaveFault
 start_step b = if b then Ok (record { place = Idle 0; frame = None }) else Err (fault.Start 0)
 
 -- the frame that an edge ends is the one where those before it lead
@@ -96,7 +96,7 @@ step-frame device es s e t h k =
     frame-reached es e ∙ (ap (λ v. frame_led v e) h.leads ∙ ap frame_of_step j)
 
 -- behind the first edge none comes for a tenth of a millisecond
-idle-late : (e : Edge) (s : Step) → by_row (Idle 0) e ≡ Ok s → 100 ≤ e.time
+pub idle-late : (e : Edge) (s : Step) → by_row (Idle 0) e ≡ Ok s → 100 ≤ e.time
 idle-late e s h = by e.levels.atn e.levels.clock e.levels.line h
   where
     at : (b : Bool) → nat_lt e.time 100 ≡ b → (if b then Err TooEarly else Ok (record { place = Call e.time false; frame = None })) ≡ Ok s → 100 ≤ e.time
@@ -110,7 +110,7 @@ idle-late e s h = by e.levels.atn e.levels.clock e.levels.line h
     by true c l k = absurd (let x : Err Shape ≡ Ok s = k in cc)
 
 -- an edge that is allowed comes later, by its row
-verdict-later : (last : Edge) (p : Place) (n : ℕ) (e : Edge) (s : Step) → indexed n (verdict last p e) ≡ Ok s → (last.time < e.time) × (by_row p e ≡ Ok s)
+pub verdict-later : (last : Edge) (p : Place) (n : ℕ) (e : Edge) (s : Step) → indexed n (verdict last p e) ≡ Ok s → (last.time < e.time) × (by_row p e ≡ Ok s)
 verdict-later last p n e s h = by (nat_lt last.time e.time) (differ last.levels e.levels) refl h
   where
     row : (v : Result Step Flaw) → indexed n v ≡ Ok s → v ≡ Ok s

@@ -11,13 +11,13 @@ use Rattle.pr_wire.specs.declared.place.Sending.TheVariants.{First, Second, Data
 use Rattle.pr_wire.specs.Levels.{byte_of}
 use Rattle.pr_wire.specs.Packed.{bits_in}
 use Rattle.pr_ear.specs.declared.WireEdge.{WireEdge}
-use Rattle.pr_ear.specs.declared.numbers.Ear.{Ear}
 use Rattle.pr_ear.specs.declared.numbers.PlaceNumbers.{PlaceNumbers}
 use Rattle.pr_ear.specs.declared.standing.Refusal.{Refusal}
 use Rattle.pr_ear.specs.declared.standing.Refusal.TheVariants.{Start, Flawed}
 use Rattle.pr_ear.specs.declared.standing.Standing.{Standing}
-use Rattle.pr_ear.specs.Hearing.{bit_of, edge_of, is_released, IsDevice}
-use Rattle.pr_ear.specs.Numbers.{bits_by, begun_number, few, place_by, refusal_by, refusal_number, sending_by, sending_number, standing_by, stored, stored_last, stored_place, wire_of, HasFewBits, IsEar}
+use Rattle.pr_ear.specs.EarNumbers.{sending_number, stored_place}
+use Rattle.pr_ear.specs.Hearing.{bit_of, edge_of, is_released}
+use Rattle.pr_ear.specs.Numbers.{bits_by, begun_number, few, place_by, refusal_by, refusal_number, sending_by, standing_by, stored, stored_last, wire_of, HasFewBits}
 
 -- bits come back from their number
 bits-back : (bs : List Bool) → bits_in (length bs) (byte_of bs) ≡ bs
@@ -44,7 +44,7 @@ pub bit-back : (b : Bool) → (bit_of b == 1) ≡ b
 bit-back true = refl
 bit-back false = refl
 
-level-back : (b : Bool) → is_released (bit_of b) ≡ b
+pub level-back : (b : Bool) → is_released (bit_of b) ≡ b
 level-back true = refl
 level-back false = refl
 
@@ -53,7 +53,8 @@ sending-back First = refl
 sending-back Second = refl
 sending-back Data = refl
 
-place-back : (p : Place) → HasFewBits p → place_by (stored_place p) ≡ p
+-- a place comes back
+pub place-back : (p : Place) → HasFewBits p → place_by (stored_place p) ≡ p
 place-back (Idle since) h = refl
 place-back (Call since pulled) h = ap (λ b. Call since b) (bit-back pulled)
 place-back (Ready since sending) h = ap (λ s. Ready since s) (sending-back sending)
@@ -108,10 +109,6 @@ standing-back s h =
     let e = bit-back s.listener.called in
     rw (a, b, c, d, e) refl
 
--- what was stored of a device is an ear
-pub stored-is-ear : (s : Standing) → HasFewBits s.place → IsDevice s.listener.device → IsEar (stored s)
-stored-is-ear s h d = record { device = d; numbers = ap stored (standing-back s h) }
-
 -- so many bits have been put into a place, and the rest of the byte has the others
 pub record HasBits (n : PlaceNumbers) (i : ℕ) (place : Place) (rest : ℕ) : Type 0 where
   pub seen : List Bool
@@ -157,19 +154,15 @@ pub both : (a b : Bool) → (a && b) ≡ true → (a ≡ true) × (b ≡ true)
 both true b h = (refl, h)
 both false b h = absurd (let x : false ≡ true = h in cc)
 
+-- two edges have the same numbers
 abbrev pub same_wires : WireEdge → WireEdge → Bool
 same_wires a b = eqb a.time b.time && (eqb a.atn b.atn && (eqb a.clock b.clock && eqb a.data b.data))
 
-abbrev same_places : PlaceNumbers → PlaceNumbers → Bool
+-- two places have the same numbers
+abbrev pub same_places : PlaceNumbers → PlaceNumbers → Bool
 same_places a b =
     eqb a.since b.since && (eqb a.released b.released && (eqb a.place b.place && (eqb a.sending b.sending
     && (eqb a.eoi b.eoi && (eqb a.count b.count && (eqb a.byte b.byte && (eqb a.bit b.bit && eqb a.unlistened b.unlistened)))))))
-
--- two ears have the same numbers
-abbrev pub same_ears : Ear → Ear → Bool
-same_ears a b =
-    eqb a.taken b.taken && (same_wires a.last b.last && (same_places a.place b.place && (eqb a.begun b.begun
-    && (eqb a.refused b.refused && (eqb a.device b.device && (eqb a.listens b.listens && eqb a.called b.called))))))
 
 pub wires-are : (a b : WireEdge) → same_wires a b ≡ true → a ≡ b
 wires-are a b h =
@@ -180,7 +173,7 @@ wires-are a b h =
     rw (eqb-true a.time b.time k.0, eqb-true a.atn b.atn l.0, eqb-true a.clock b.clock m.0, eqb-true a.data b.data m.1) refl in
     e
 
-places-are : (a b : PlaceNumbers) → same_places a b ≡ true → a ≡ b
+pub places-are : (a b : PlaceNumbers) → same_places a b ≡ true → a ≡ b
 places-are a b h =
     let k = both (eqb a.since b.since) _ h in
     let l = both (eqb a.released b.released) _ k.1 in
@@ -205,38 +198,12 @@ places-are a b h =
     ) refl in
     e
 
--- ears with the same numbers are the same
-pub ears-are : (a b : Ear) → true ≡ same_ears a b → a ≡ b
-ears-are a b h =
-    let k = both (eqb a.taken b.taken) _ (sym h) in
-    let l = both (same_wires a.last b.last) _ k.1 in
-    let m = both (same_places a.place b.place) _ l.1 in
-    let n = both (eqb a.begun b.begun) _ m.1 in
-    let o = both (eqb a.refused b.refused) _ n.1 in
-    let p = both (eqb a.device b.device) _ o.1 in
-    let q = both (eqb a.listens b.listens) _ p.1 in
-    let e : record { taken = a.taken; last = a.last; place = a.place; begun = a.begun; refused = a.refused; device = a.device; listens = a.listens; called = a.called }
-    ≡ record { taken = b.taken; last = b.last; place = b.place; begun = b.begun; refused = b.refused; device = b.device; listens = b.listens; called = b.called } =
-    rw (
-      eqb-true a.taken b.taken k.0,
-      wires-are a.last b.last l.0,
-      places-are a.place b.place m.0,
-      eqb-true a.begun b.begun n.0,
-      eqb-true a.refused b.refused o.0,
-      eqb-true a.device b.device p.0,
-      eqb-true a.listens b.listens q.0,
-      eqb-true a.called b.called q.1,
-    ) refl in
-    e
-
 pub same-number : (n : ℕ) → eqb n n ≡ true
 same-number n = eq-eqb n n refl
 
--- the same ear has the same numbers
-same-ear : (a : Ear) → same_ears a a ≡ true
-same-ear a = simp (same-number) refl
+-- the same numbers are the same
+pub same-place : (a b : PlaceNumbers) → a ≡ b → same_places a b ≡ true
+same-place a b h = ap (λ (c : PlaceNumbers). same_places c b) h ∙ (let e : same_places b b ≡ true = simp (same-number) refl in e)
 
--- an ear that is none has other numbers than the standing that they mean
-pub others-than : (a b : Ear) → false ≡ same_ears a b → a ≡ b → ⊥
-others-than a b h e =
-    let x : false ≡ true = h ∙ (ap (λ (c : Ear). same_ears c b) e ∙ same-ear b) in cc
+pub same-wire : (a b : WireEdge) → a ≡ b → same_wires a b ≡ true
+same-wire a b h = ap (λ (c : WireEdge). same_wires c b) h ∙ (let e : same_wires b b ≡ true = simp (same-number) refl in e)

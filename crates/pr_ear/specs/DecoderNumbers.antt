@@ -1,167 +1,63 @@
--- Linking words: how a decoder is held in numbers. No reader needs to believe them; that a decoder comes back from its numbers is proved.
-use Rattle.std.specs.Prelude.{◌≡◌, ℕ, Bool, ◌==◌, if◌then◌else◌, List, [], ◌∷◌, ◌++◌, map, Option, Some, None}
-use Rattle.std.specs.Option.{option_to_list}
-use Rattle.pr_wire.specs.declared.Edge.{Edge}
-use Rattle.pr_decode.specs.declared.decoder.Decoder.{Decoder}
-use Rattle.pr_decode.specs.declared.reading.Pulse.{Pulse}
-use Rattle.pr_decode.specs.declared.reading.Reading.{Reading}
-use Rattle.pr_decode.specs.declared.reading.Transfer.{Transfer}
-use Rattle.pr_decode.specs.declared.stretch.Stretch.{Stretch}
-use Rattle.pr_decode.specs.declared.stretch.Turns.{Turns}
-use Rattle.pr_decode.specs.declared.stretch.Turns.TheVariants.{Still, Once, Twice, Thrice, Often}
-use Rattle.pr_decode.specs.Taking.{HasRead, last_time}
+-- Trusted: which numbers are those of a decoder, what a decoder keeps of the edges that it has taken: of the stretch that is not ended yet
+-- (edges over which CLOCK stays as it is) the first edge, the last, and those at which DATA has turned, four at most; and the byte that has
+-- begun, as far as it came. (That edges leave such numbers is proved. Not every such numbers have edges that leave them: moments and ATN's
+-- levels that no edges have together are not told from others.)
+use Rattle.std.specs.Prelude.{◌≡◌, ℕ, ◌<◌, ◌≤◌, ◌^◌, Bool, not}
 use Rattle.pr_ear.specs.declared.WireEdge.{WireEdge}
 use Rattle.pr_ear.specs.declared.decoder_numbers.WireByte.{WireByte}
 use Rattle.pr_ear.specs.declared.decoder_numbers.WireDecoder.{WireDecoder}
-use Rattle.pr_ear.specs.declared.decoding.DecoderTold.{DecoderTold}
-use Rattle.pr_ear.specs.declared.decoding.DecoderTold.TheVariants.{Done, GoesBack, NoDecoder}
-use Rattle.pr_ear.specs.Decoding.{byte_numbers, last_moment, no_byte}
-use Rattle.pr_ear.specs.Hearing.{bit_of, edge_of}
-use Rattle.pr_ear.specs.Numbers.{wire_of}
+use Rattle.pr_ear.specs.Decoding.{no_byte}
+use Rattle.pr_ear.specs.Hearing.{is_released}
 
--- the numbers of no edge
+-- the numbers of no edge, and of one
 abbrev pub no_edge : WireEdge
 no_edge = record { time = 0; atn = 0; clock = 0; «data» = 0 }
 
--- how many edges at which DATA has turned are kept, and each of them
-abbrev pub turns_number : Turns → ℕ
-turns_number Still = 0
-turns_number (Once a) = 1
-turns_number (Twice a b) = 2
-turns_number (Thrice a b c) = 3
-turns_number (Often a b c d) = 4
+pub record IsEdge (e : WireEdge) : Type 0 where
+  pub atn : e.atn ≤ 1
+  pub clock : e.clock ≤ 1
+  pub line : e.data ≤ 1
 
-abbrev pub turn1 : Turns → WireEdge
-turn1 Still = no_edge
-turn1 (Once a) = wire_of a
-turn1 (Twice a b) = wire_of a
-turn1 (Thrice a b c) = wire_of a
-turn1 (Often a b c d) = wire_of a
+-- of so many edges at which DATA has turned this is the one of this number, where DATA turned to this level; there is none behind them
+pub record IsTurn (turns number : ℕ) (level : Bool) (e : WireEdge) : Type 0 where
+  pub kept : number ≤ turns → IsEdge e × (is_released e.data ≡ level)
+  pub none : turns < number → e ≡ no_edge
 
-abbrev pub turn2 : Turns → WireEdge
-turn2 Still = no_edge
-turn2 (Once a) = no_edge
-turn2 (Twice a b) = wire_of b
-turn2 (Thrice a b c) = wire_of b
-turn2 (Often a b c d) = wire_of b
+-- DATA turns to CLOCK's other level first, and then to and fro; at the first edge of the stretch already, if it stands so there
+pub record HasTurns (w : WireDecoder) : Type 0 where
+  pub few : w.turns ≤ 4
+  pub turn1 : IsTurn w.turns 1 (not (is_released w.first.clock)) w.turn1
+  pub turn2 : IsTurn w.turns 2 (is_released w.first.clock) w.turn2
+  pub turn3 : IsTurn w.turns 3 (not (is_released w.first.clock)) w.turn3
+  pub turn4 : IsTurn w.turns 4 (is_released w.first.clock) w.turn4
+  pub begins : is_released w.first.data ≡ not (is_released w.first.clock) → w.turn1 ≡ w.first
 
-abbrev pub turn3 : Turns → WireEdge
-turn3 Still = no_edge
-turn3 (Once a) = no_edge
-turn3 (Twice a b) = no_edge
-turn3 (Thrice a b c) = wire_of c
-turn3 (Often a b c d) = wire_of c
+-- the numbers of a byte as far as it came
+pub record IsByte (b : WireByte) : Type 0 where
+  pub command : b.command ≤ 1
+  pub eoi : b.eoi ≤ 1
+  pub unanswered : b.eoi ≡ 0 → (b.answered ≡ 0) × (b.answer_ended ≡ 0)
+  pub few : b.bits ≤ 8
+  pub byte : b.byte < 2 ^ b.bits
+  pub low : b.shortest_low ≤ b.longest_low
+  pub high : b.shortest_high ≤ b.longest_high
+  pub none : b.bits ≡ 0 → (b.longest_low ≡ 0) × (b.longest_high ≡ 0) × (b.last_pull ≡ b.pull)
 
-abbrev pub turn4 : Turns → WireEdge
-turn4 Still = no_edge
-turn4 (Once a) = no_edge
-turn4 (Twice a b) = no_edge
-turn4 (Thrice a b c) = no_edge
-turn4 (Often a b c d) = wire_of d
+-- the byte goes on in the stretch: where CLOCK is pulled its pull was the last one; where the byte is whole CLOCK is pulled, and DATA has
+-- not been pulled again for an acknowledgement
+pub record IsGoingOn (w : WireDecoder) : Type 0 where
+  pub uncalled : w.called ≡ 0
+  pub pulled : w.first.clock ≡ 0 → w.byte.last_pull ≡ w.first.time
+  pub whole : w.byte.bits ≡ 8 → (w.first.clock ≡ 0) × (w.turns ≤ 1)
 
--- the turns by their numbers
-abbrev pub turns_from : ℕ → (a b c d : Edge) → Turns
-turns_from n a b c d =
-    if n == 0 then Still
-    else (if n == 1 then Once a
-    else (if n == 2 then Twice a b
-    else (if n == 3 then Thrice a b c else Often a b c d)))
-
-abbrev pub turns_by : WireDecoder → Turns
-turns_by w = turns_from w.turns (edge_of w.turn1) (edge_of w.turn2) (edge_of w.turn3) (edge_of w.turn4)
-
--- the numbers of a stretch, if there is one
-abbrev pub begun_in : Option Stretch → ℕ
-begun_in None = 0
-begun_in (Some s) = 1
-
-abbrev pub called_in : Option Stretch → ℕ
-called_in None = 0
-called_in (Some s) = bit_of s.called
-
-abbrev pub first_in : Option Stretch → WireEdge
-first_in None = no_edge
-first_in (Some s) = wire_of s.first
-
-abbrev pub last_in : Option Stretch → WireEdge
-last_in None = no_edge
-last_in (Some s) = wire_of s.last
-
-abbrev pub turns_in : Option Stretch → Turns
-turns_in None = Still
-turns_in (Some s) = s.turns
-
--- a stretch by its numbers
-abbrev pub stretch_from : (begun : ℕ) → (called : Bool) → (first last : Edge) → Turns → Option Stretch
-stretch_from begun called first last turns =
-    if begun == 1 then Some (record { called = called; first = first; last = last; turns = turns }) else None
-
-abbrev pub stretch_by : WireDecoder → Option Stretch
-stretch_by w = stretch_from w.begun (w.called == 1) (edge_of w.first) (edge_of w.last) (turns_by w)
-
--- the numbers of a byte, if one has begun
-abbrev pub sent_in : Option Transfer → ℕ
-sent_in None = 0
-sent_in (Some t) = 1
-
-abbrev pub byte_in : Option Transfer → WireByte
-byte_in None = no_byte
-byte_in (Some t) = byte_numbers t
-
--- a byte by its numbers
-abbrev pub pulse_from : (eoi pulled released : ℕ) → Option Pulse
-pulse_from eoi pulled released = if eoi == 1 then Some (record { pulled = pulled; released = released }) else None
-
-abbrev pub byte_from : WireByte → Transfer
-byte_from b = record {
-  opening = record { command = b.command == 1; look = b.look; ready = b.ready; pulse = pulse_from b.eoi b.answered b.answer_ended };
-  pull = b.pull;
-  bits = b.bits;
-  byte = b.byte;
-  low = record { shortest = b.shortest_low; longest = b.longest_low };
-  high = record { shortest = b.shortest_high; longest = b.longest_high };
-  last_pull = b.last_pull;
-}
-
-abbrev pub transfer_from : (sent : ℕ) → Transfer → Option Transfer
-transfer_from sent t = if sent == 1 then Some t else None
-
-abbrev pub transfer_by : WireDecoder → Option Transfer
-transfer_by w = transfer_from w.sent (byte_from w.byte)
-
--- the numbers of a decoder
-abbrev pub stored : Decoder → WireDecoder
-stored d = record {
-  first = first_in d.stretch;
-  last = last_in d.stretch;
-  turn1 = turn1 (turns_in d.stretch);
-  turn2 = turn2 (turns_in d.stretch);
-  turn3 = turn3 (turns_in d.stretch);
-  turn4 = turn4 (turns_in d.stretch);
-  byte = byte_in d.transfer;
-  begun = begun_in d.stretch;
-  called = called_in d.stretch;
-  turns = turns_number (turns_in d.stretch);
-  sent = sent_in d.transfer;
-}
-
--- a decoder by its numbers
-abbrev pub decoder_by : WireDecoder → Decoder
-decoder_by w = record { stretch = stretch_by w; transfer = transfer_by w }
-
--- the numbers are those that hold a decoder
-abbrev pub IsDecoder : WireDecoder → Type 0
-IsDecoder w = stored (decoder_by w) ≡ w
-
--- these edges were taken and these readings told, and the numbers hold the decoder that they have left
-pub record HasDecoded (edges : List WireEdge) (given : List Reading) (w : WireDecoder) : Type 0 where
-  pub decoder : Decoder
-  pub read : HasRead (map edge_of edges) given decoder
-  pub last : last_time decoder ≡ last_moment edges
-  pub numbers : w ≡ stored decoder
-
--- what an edge leaves: it was taken, or the decoder is as it was
-abbrev pub LeavesOf : List WireEdge → (given : List Reading) → WireEdge → DecoderTold → (old new : WireDecoder) → Type 0
-LeavesOf edges given edge (Done reading) old new = HasDecoded (edges ++ edge ∷ []) (given ++ option_to_list reading) new
-LeavesOf edges given edge GoesBack old new = new ≡ old
-LeavesOf edges given edge NoDecoder old new = new ≡ old
+-- the numbers are those of a decoder
+pub record IsDecoder (w : WireDecoder) : Type 0 where
+  pub begun : w.begun ≤ 1
+  pub called : w.called ≤ w.begun
+  pub sent : w.sent ≤ w.begun
+  pub first : IsEdge w.first
+  pub last : IsEdge w.last
+  pub turns : HasTurns w
+  pub none : w.begun ≡ 0 → (w.first ≡ no_edge) × (w.last ≡ no_edge) × (w.turns ≡ 0)
+  pub unsent : w.sent ≡ 0 → w.byte ≡ no_byte
+  pub byte : w.sent ≡ 1 → IsByte w.byte × IsGoingOn w

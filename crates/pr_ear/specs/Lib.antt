@@ -2,6 +2,8 @@ pub mod Hearing
 pub mod Buffers
 pub mod Decoding
 pub mod DecoderNumbers
+pub mod DecoderTaken
+pub mod EarNumbers
 pub mod Numbers
 pub mod Taken
 pub mod Ears

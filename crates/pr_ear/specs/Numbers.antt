@@ -1,12 +1,12 @@
--- Linking words: how a standing is held in numbers. No reader needs to believe them; that a standing comes back from its numbers is proved.
-use Rattle.std.specs.Prelude.{◌≡◌, ℕ, ◌≤◌, Bool, ◌==◌, nat_lt, if◌then◌else◌, List, length, Option, Some, None}
+-- Linking words: how a standing is held in an ear's numbers. No reader needs to believe them; that a standing comes back from its numbers
+-- is proved.
+use Rattle.std.specs.Prelude.{ℕ, ◌≤◌, Bool, ◌==◌, nat_lt, if◌then◌else◌, List, length, Option, Some, None}
 use Rattle.pr_wire.specs.declared.Edge.{Edge}
 use Rattle.pr_wire.specs.declared.place.Flaw.TheVariants.{Order, TooEarly, TooLate, Shape}
 use Rattle.pr_wire.specs.declared.place.Place.{Place}
 use Rattle.pr_wire.specs.declared.place.Place.TheVariants.{Idle, Call, Ready, Free, Pulse, After, Bit, High, Last, Ack, Freed}
 use Rattle.pr_wire.specs.declared.place.Sending.{Sending}
 use Rattle.pr_wire.specs.declared.place.Sending.TheVariants.{First, Second, Data}
-use Rattle.pr_wire.specs.Levels.{byte_of}
 use Rattle.pr_wire.specs.Packed.{bits_in}
 use Rattle.pr_ear.specs.declared.WireEdge.{WireEdge}
 use Rattle.pr_ear.specs.declared.numbers.Ear.{Ear}
@@ -14,44 +14,16 @@ use Rattle.pr_ear.specs.declared.numbers.PlaceNumbers.{PlaceNumbers}
 use Rattle.pr_ear.specs.declared.standing.Refusal.{Refusal}
 use Rattle.pr_ear.specs.declared.standing.Refusal.TheVariants.{Start, Flawed}
 use Rattle.pr_ear.specs.declared.standing.Standing.{Standing}
-use Rattle.pr_ear.specs.Hearing.{bit_of, edge_of, IsDevice}
+use Rattle.pr_ear.specs.EarNumbers.{stored_place}
+use Rattle.pr_ear.specs.Hearing.{bit_of, edge_of}
 
--- which byte is sent, as a number, and from it
-abbrev pub sending_number : Sending → ℕ
-sending_number First = 0
-sending_number Second = 1
-sending_number Data = 2
-
+-- which byte is sent, by its number
 abbrev pub sending_by : ℕ → Sending
 sending_by n = if n == 0 then First else (if n == 1 then Second else Data)
 
 -- an edge in a caller's numbers
 abbrev pub wire_of : Edge → WireEdge
 wire_of e = record { time = e.time; atn = bit_of e.levels.atn; clock = bit_of e.levels.clock; «data» = bit_of e.levels.line }
-
--- the numbers of a place that has no others
-abbrev pub plain_place : (place since : ℕ) → PlaceNumbers
-plain_place place since =
-    record { since = since; released = 0; place = place; sending = 0; eoi = 0; count = 0; byte = 0; bit = 0; unlistened = 0 }
-
--- the numbers of a place in which a byte is sent
-abbrev pub byte_place : (place since : ℕ) → Sending → Bool → List Bool → (bit : ℕ) → PlaceNumbers
-byte_place place since sending eoi seen bit =
-    record (plain_place place since) { sending = sending_number sending; eoi = bit_of eoi; count = length seen; byte = byte_of seen; bit = bit }
-
--- the numbers of a place
-abbrev pub stored_place : Place → PlaceNumbers
-stored_place (Idle since) = plain_place 0 since
-stored_place (Call since pulled) = record (plain_place 1 since) { bit = bit_of pulled }
-stored_place (Ready since sending) = record (plain_place 2 since) { sending = sending_number sending }
-stored_place (Free since sending) = record (plain_place 3 since) { sending = sending_number sending }
-stored_place (Pulse since released) = record (plain_place 4 since) { released = released }
-stored_place (After since) = plain_place 5 since
-stored_place (Bit since sending eoi seen bit) = byte_place 6 since sending eoi seen (bit_of bit)
-stored_place (High since sending eoi seen bit) = byte_place 7 since sending eoi seen (bit_of bit)
-stored_place (Last since sending eoi seen) = byte_place 8 since sending eoi seen 0
-stored_place (Ack since sending byte) = record (plain_place 9 since) { sending = sending_number sending; byte = byte }
-stored_place (Freed since unlistened released) = record (plain_place 10 since) { bit = bit_of released; unlistened = bit_of unlistened }
 
 -- so many bits have come; a byte has no more than eight
 abbrev pub few : ℕ → ℕ
@@ -139,8 +111,3 @@ HasFewBits (Bit since sending eoi seen bit) = length seen ≤ 8
 HasFewBits (High since sending eoi seen bit) = length seen ≤ 8
 HasFewBits (Last since sending eoi seen) = length seen ≤ 8
 HasFewBits _ = Unit {0}
-
--- the numbers are those that hold a standing of a device
-pub record IsEar (ear : Ear) : Type 0 where
-  pub device : IsDevice ear.device
-  pub numbers : stored (standing_by ear) ≡ ear

@@ -2,8 +2,10 @@
 
 ghost use Rattle.std.specs.Prelude.{◌≡◌, None, IfSome};
 ghost use Rattle.pr_ear.specs.Decoding.{byte_numbers, reading_numbers};
-ghost use Rattle.pr_ear.specs.DecoderNumbers.{IsDecoder, byte_from, byte_in, begun_in, called_in, decoder_by, first_in, last_in, no_edge, pulse_from, sent_in, stored, stretch_by, transfer_by, turn1, turn2, turn3, turn4, turns_by, turns_in, turns_number};
+ghost use Rattle.pr_ear.specs.DecoderNumbers.{no_edge, IsDecoder};
+ghost use Rattle.pr_ear.specs.DecoderTaken.{byte_from, byte_in, begun_in, called_in, decoder_by, first_in, last_in, pulse_from, sent_in, stored, stretch_by, transfer_by, turn1, turn2, turn3, turn4, turns_by, turns_in, turns_number};
 
+use crate::decoder_fits::is_decoder;
 use crate::numbers::{NO_EDGE, bit, wire_for};
 use crate::{WireEdge, edge_for};
 use pr_decode::{
@@ -58,7 +60,7 @@ pub struct WireReading {
 }
 
 /// What a caller keeps of a recording between two edges. The numbers are this library's: a caller writes
-/// none of them.
+/// none of them. Numbers that are not those of a decoder (`IsDecoder`) are refused.
 #[repr(C)]
 #[derive(Clone, Copy, Debug, PartialEq, Eq)]
 pub struct WireDecoder {
@@ -87,7 +89,7 @@ pub struct WireDecoder {
 }
 
 /// The numbers of no byte.
-const NO_BYTE: WireByte = WireByte {
+pub const NO_BYTE: WireByte = WireByte {
     look: 0,
     ready: 0,
     answered: 0,
@@ -327,9 +329,8 @@ pub fn restore(numbers: &WireDecoder) -> Option<Decoder>
     ensures some { IfSome result (λ d. (d ≡ decoder_by numbers.now) × IsDecoder numbers.now) }
     ensures none { result ≡ None → IsDecoder numbers.now → ⊥ }
 {
-    let decoder = decoder_for(numbers);
-    if store(&decoder) == *numbers {
-        Some(decoder)
+    if is_decoder(numbers) {
+        Some(decoder_for(numbers))
     } else {
         None
     }

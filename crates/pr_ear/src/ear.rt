@@ -7,7 +7,7 @@ ghost use Rattle.pr_ear.specs.declared.WireEdge.{WireEdge};
 ghost use Rattle.pr_ear.specs.declared.ear.EarTold.{EarTold};
 ghost use Rattle.pr_ear.specs.declared.ear.EarTold.TheVariants.{Done, Unlawful, NoDevice, NoEar};
 ghost use Rattle.pr_ear.specs.Hearing.{IsDevice};
-ghost use Rattle.pr_ear.specs.Numbers.{IsEar};
+ghost use Rattle.pr_ear.specs.EarNumbers.{IsEar};
 ghost use Rattle.pr_ear.specs.Taken.{HasTaken};
 ghost use Rattle.pr_ear.specs.Ears.{ear_answer_of, EarsHearTheSame, FirstFaultsStay, TellsEdge, TellsEnd};
 
@@ -67,6 +67,7 @@ pub fn begin_ear(ear: &mut Ear, device: u8) -> EarTold
 pub fn take_edge(ear: &mut Ear, edge: WireEdge) -> EarTold
     ensures tells { (device : ℕ) (edges : List WireEdge) → HasTaken device edges ear.old → TellsEdge device edges edge result }
     ensures taken { (device : ℕ) (edges : List WireEdge) → HasTaken device edges ear.old → HasTaken device (edges ++ edge ∷ []) ear.new }
+    ensures stays { IsEar ear.old → (result ≢ NoEar) × IsEar ear.new }
     ensures no_ear { (IsEar ear.old → ⊥) → (result ≡ NoEar) × (ear.new ≡ ear.old) }
     ensures memory { result ≢ Unlawful NoMemory }
 {
@@ -85,6 +86,7 @@ pub fn take_edge(ear: &mut Ear, edge: WireEdge) -> EarTold
 /// may be given more.
 pub fn end_ear(ear: &Ear) -> EarTold
     ensures tells { (device : ℕ) (edges : List WireEdge) → HasTaken device edges ear.now → TellsEnd edges result }
+    ensures ear { IsEar ear.now → result ≢ NoEar }
     ensures no_ear { (IsEar ear.now → ⊥) → result ≡ NoEar }
     ensures memory { result ≢ Unlawful NoMemory }
 {
@@ -169,6 +171,7 @@ pub extern "C" fn print1525_ear_edge(ear: &mut Ear, edge: &WireEdge, answer: &mu
     ensures tells { (device : ℕ) (edges : List WireEdge) → HasTaken device edges ear.old →
         (told : EarTold) × TellsEdge device edges edge.now told × (answer.new ≡ ear_answer_of told) }
     ensures taken { (device : ℕ) (edges : List WireEdge) → HasTaken device edges ear.old → HasTaken device (edges ++ edge.now ∷ []) ear.new }
+    ensures stays { IsEar ear.old → (told : EarTold) × (told ≢ NoEar) × (answer.new ≡ ear_answer_of told) × IsEar ear.new }
     ensures no_ear { (IsEar ear.old → ⊥) → (ear.new ≡ ear.old) × (answer.new ≡ ear_answer_of NoEar) }
 {
     *answer = ear_numbers(take_edge(ear, *edge));
@@ -179,6 +182,7 @@ pub extern "C" fn print1525_ear_edge(ear: &mut Ear, edge: &WireEdge, answer: &mu
 pub extern "C" fn print1525_ear_end(ear: &Ear, answer: &mut EarAnswer)
     ensures tells { (device : ℕ) (edges : List WireEdge) → HasTaken device edges ear.now →
         (told : EarTold) × TellsEnd edges told × (answer.new ≡ ear_answer_of told) }
+    ensures ear { IsEar ear.now → (told : EarTold) × (told ≢ NoEar) × (answer.new ≡ ear_answer_of told) }
     ensures no_ear { (IsEar ear.now → ⊥) → answer.new ≡ ear_answer_of NoEar }
 {
     *answer = ear_numbers(end_ear(ear));

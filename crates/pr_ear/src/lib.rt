@@ -14,9 +14,11 @@ ghost use Rattle.pr_ear.specs.Hearing.{IsDevice, Tells, answer_of, edge_of, faul
 ghost use Rattle.pr_ear.specs.declared.Told.{Told};
 ghost use Rattle.pr_ear.specs.declared.Told.TheVariants.{Unlawful};
 
+mod decoder_fits;
 mod decoder_numbers;
 mod decoding;
 mod ear;
+mod fits;
 mod numbers;
 mod standing;
 

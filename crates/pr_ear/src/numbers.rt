@@ -5,10 +5,13 @@ ghost use Rattle.pr_wire.specs.Packed.{bits_in};
 ghost use Rattle.pr_wire.specs.declared.place.Place.{Place};
 ghost use Rattle.pr_wire.specs.declared.place.Sending.{Sending};
 ghost use Rattle.pr_ear.specs.Hearing.{bit_of};
-ghost use Rattle.pr_ear.specs.Numbers.{bits_by, begun_number, byte_place, byte_place_by, few, place_by, plain_place, refusal_by, refusal_number, sending_by, sending_number, standing_by, stored, stored_last, stored_place, wire_of, HasFewBits, IsEar};
+ghost use Rattle.pr_ear.specs.EarNumbers.{byte_place, plain_place, sending_number, stored_place, IsEar};
+ghost use Rattle.pr_ear.specs.Taken.{CanStand};
+ghost use Rattle.pr_ear.specs.Numbers.{bits_by, begun_number, byte_place_by, few, place_by, refusal_by, refusal_number, sending_by, standing_by, stored, stored_last, wire_of, HasFewBits};
 
+use crate::fits::is_ear;
 use crate::standing::{Refusal, Standing};
-use crate::{WireEdge, edge_for, is_device};
+use crate::{WireEdge, edge_for};
 use pr_receiver::Listener;
 use pr_wire::{Edge, Flaw, Levels, Place, Sending, Step};
 
@@ -38,8 +41,8 @@ pub struct PlaceNumbers {
 }
 
 /// What a caller keeps of a device between two edges. The numbers are this library's: a caller
-/// writes none of them. Numbers that hold no place, device or fault are told from those of an ear;
-/// such as hold those to which no edges lead are not, and then nothing is said of what is told.
+/// writes none of them. Numbers that are not those of an ear (`IsEar`) are refused. Of such as are,
+/// though no edges leave them, it is only said that they stay those of an ear.
 #[repr(C)]
 #[derive(Clone, Copy, Debug, PartialEq, Eq)]
 pub struct Ear {
@@ -91,7 +94,7 @@ fn sending_for(number: u8) -> Sending
 }
 
 /// The numbers of a place that has no others.
-fn plain(place: u8, since: u64) -> PlaceNumbers
+pub fn plain(place: u8, since: u64) -> PlaceNumbers
     ensures { result ≡ plain_place place since }
 {
     PlaceNumbers {
@@ -118,7 +121,7 @@ fn sent(place: u8, since: u64, sending: Sending) -> PlaceNumbers
 }
 
 /// The numbers of a place.
-fn numbers_of_place(place: &Place) -> PlaceNumbers
+pub fn numbers_of_place(place: &Place) -> PlaceNumbers
     ensures value { result ≡ stored_place place.now }
     ensures few { HasFewBits place.now }
 {
@@ -203,7 +206,7 @@ fn some_bits(numbers: PlaceNumbers, eoi: bool, count: usize, byte: u8) -> PlaceN
 }
 
 /// A place by its numbers.
-fn place_for(numbers: &PlaceNumbers) -> Place
+pub fn place_for(numbers: &PlaceNumbers) -> Place
     ensures { result ≡ place_by numbers.now }
 {
     let since = numbers.since;
@@ -439,14 +442,11 @@ fn standing_for(ear: &Ear) -> Standing
 /// The standing that an ear holds, if its numbers are those of one.
 pub fn restore(ear: &Ear) -> Option<Standing>
     ensures some { IfSome result (λ s. (s ≡ standing_by ear.now) × IsEar ear.now) }
+    ensures fits { IfSome result (λ s. CanStand s) }
     ensures none { result ≡ None → IsEar ear.now → ⊥ }
 {
-    if !is_device(ear.device) {
-        return None;
-    }
-    let standing = standing_for(ear);
-    if store(&standing) == *ear {
-        Some(standing)
+    if is_ear(ear) {
+        Some(standing_for(ear))
     } else {
         None
     }

@@ -3,4 +3,4 @@ use Rattle.pr_ear.proofs.Ears.{taken-of}
 use Rattle.pr_ear.proofs.ear.begin_ear.Goals as goal
 
 pub returns-clause-begun : goal.returns-clause-begun
-returns-clause-begun c = λ d. (refl, taken-of c.args.device [] c.new.result c.store.result d c.store.ensures.value c.store.ensures.few c.new.ensures)
+returns-clause-begun c = λ d. (refl, taken-of c.args.device [] c.new.result c.store.result (c.new.ensures.fits d) c.store.ensures.value c.store.ensures.few c.new.ensures.come)

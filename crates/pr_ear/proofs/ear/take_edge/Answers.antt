@@ -1,6 +1,8 @@
-use Rattle.std.proofs.Common.{map}
+use Rattle.std.proofs.Common.{map, rules, subst, sym}
+use Rattle.pr_ear.specs.EarNumbers.{IsEar}
 use Rattle.pr_ear.specs.Hearing.{edge_of}
 use Rattle.pr_ear.proofs.Ears.{come-of, taken-more, tells-fault, tells-input}
+use Rattle.pr_ear.proofs.Fitting.{stored-is-ear}
 use Rattle.pr_ear.proofs.ear.take_edge.Goals as goal
 
 pub returns-in-Ok-clause-tells : goal.returns-in-Ok-clause-tells
@@ -11,7 +13,11 @@ returns-in-Ok-clause-tells c = λ device edges h.
 pub returns-in-Ok-clause-taken : goal.returns-in-Ok-clause-taken
 returns-in-Ok-clause-taken c = λ device edges h.
     taken-more device edges c.args.edge c.args.ear.now c.in-Some.standing c.edge_for.result c.edge-said.new.self c.store.result h c.in-Some.ensures.some.0 c.edge_for.ensures
-    (c.edge-said.ensures.come device (map edge_of edges)) c.store.ensures.value c.store.ensures.few
+    (c.edge-said.ensures.come device (map edge_of edges)) (c.edge-said.ensures.fits c.in-Some.ensures.fits) c.store.ensures.value c.store.ensures.few
+
+pub returns-in-Ok-clause-stays : goal.returns-in-Ok-clause-stays
+returns-in-Ok-clause-stays c = λ h.
+    (search rules, subst IsEar (sym c.store.ensures.value) (stored-is-ear c.edge-said.new.self (c.edge-said.ensures.fits c.in-Some.ensures.fits)))
 
 pub returns-in-Err-clause-tells : goal.returns-in-Err-clause-tells
 returns-in-Err-clause-tells c = λ device edges h.
@@ -21,4 +27,8 @@ returns-in-Err-clause-tells c = λ device edges h.
 pub returns-in-Err-clause-taken : goal.returns-in-Err-clause-taken
 returns-in-Err-clause-taken c = λ device edges h.
     taken-more device edges c.args.edge c.args.ear.now c.in-Some.standing c.edge_for.result c.edge-said.new.self c.store.result h c.in-Some.ensures.some.0 c.edge_for.ensures
-    (c.edge-said.ensures.come device (map edge_of edges)) c.store.ensures.value c.store.ensures.few
+    (c.edge-said.ensures.come device (map edge_of edges)) (c.edge-said.ensures.fits c.in-Some.ensures.fits) c.store.ensures.value c.store.ensures.few
+
+pub returns-in-Err-clause-stays : goal.returns-in-Err-clause-stays
+returns-in-Err-clause-stays c = λ h.
+    (search rules, subst IsEar (sym c.store.ensures.value) (stored-is-ear c.edge-said.new.self (c.edge-said.ensures.fits c.in-Some.ensures.fits)))

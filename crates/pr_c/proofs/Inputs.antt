@@ -1,0 +1,63 @@
+-- The inputs that numbers stand for, and those that bytes are.
+use Rattle.std.proofs.Common.{◌≡◌, ℕ, ◌<◌, Bool, true, false, List, [], ◌∷◌, None, length, refl, ap, sym, subst, arith}
+use Rattle.std.proofs.lemmas.Grind.{common_steps}
+use Rattle.std.proofs.lemmas.Bool.Decides.{nat_tests}
+use Rattle.std.proofs.lemmas.List.Elements.{All-head, All-tail}
+use Rattle.std.specs.Prelude.{◌↔◌, map}
+use Rattle.std.specs.List.{All, position, position_or_len}
+use Rattle.pr_page.specs.Page.{IsPage}
+use Rattle.pr_page.specs.declared.input.Input.TheVariants.{Byte, Select}
+use Rattle.pr_options.specs.declared.format.Format.{Format}
+use Rattle.pr_cli.specs.Raw.{raw_inputs}
+use Rattle.pr_c.specs.Answers.{IsPaperText, Stopping}
+use Rattle.pr_c.specs.Laws.{selection_of}
+use Rattle.pr_c.specs.Printing.{IsPrintedText, input_of, is_no_input}
+
+-- a byte stands for itself
+byte_is : (b : ℕ) → b < 256 → (input_of b ≡ Byte b) × (is_no_input b ≡ false)
+byte_is b h = (grind (arith, nat_tests), grind (arith, nat_tests))
+
+-- bytes stand for themselves
+bytes_are : (bytes : List ℕ) → All (λ b. b < 256) bytes
+    → (map input_of bytes ≡ map Byte bytes) × (position_or_len is_no_input bytes ≡ length bytes)
+bytes_are [] all = (refl, refl)
+bytes_are (b ∷ bs) all =
+    let this = byte_is b (All-head (λ b. b < 256) b bs all) in
+    let more = bytes_are bs (All-tail (λ b. b < 256) b bs all) in
+    (cc (this.0, more.0), grind (arith, common_steps, this.1, more.1))
+
+-- of a selection and bytes no number stands for no input
+none_other : (lower : Bool) (bytes : List ℕ) → All (λ b. b < 256) bytes → position is_no_input (selection_of lower ∷ bytes) ≡ None
+none_other true bytes all = rw (bytes_are bytes all).1 (grind (arith, nat_tests))
+none_other false bytes all = rw (bytes_are bytes all).1 (grind (arith, nat_tests))
+
+-- a selection and bytes are the inputs of bytes in its set
+inputs_are : (lower : Bool) (bytes : List ℕ) → All (λ b. b < 256) bytes → map input_of (selection_of lower ∷ bytes) ≡ raw_inputs lower bytes
+inputs_are true bytes all = ap (λ l. Select true ∷ l) (bytes_are bytes all).0
+inputs_are false bytes all = ap (λ l. Select false ∷ l) (bytes_are bytes all).0
+
+-- the text of bytes in a set is that of their inputs
+pub bytes_are_inputs : (lower : Bool) (format : Format) (bytes text : List ℕ) (stop : Stopping) → All (λ b. b < 256) bytes
+    → (IsPaperText lower format bytes stop text ↔ IsPrintedText format (selection_of lower ∷ bytes) stop text)
+bytes_are_inputs lower format bytes text stop all =
+    let same = inputs_are lower bytes all in (
+      λ raw. (
+        omega (arith, raw.0),
+        none_other lower bytes all,
+        raw.1,
+        record {
+          paper = raw.2.paper;
+          is_page = subst (λ inputs. IsPage inputs raw.2.paper) (sym same) raw.2.is_page;
+          is_text = raw.2.is_text;
+        },
+      ),
+      λ printed. (
+        omega (arith, printed.0),
+        printed.2,
+        record {
+          paper = printed.3.paper;
+          is_page = subst (λ inputs. IsPage inputs printed.3.paper) same printed.3.is_page;
+          is_text = printed.3.is_text;
+        },
+      ),
+    )

@@ -1,0 +1,115 @@
+//! The page of a printer's inputs.
+
+ghost use Rattle.std.specs.Prelude.{◌≡◌, ◌≤◌, length, map, IfOk};
+ghost use Rattle.std.specs.List.{position};
+ghost use Rattle.pr_cli.specs.Raw.{printed_on};
+ghost use Rattle.pr_page.specs.Page.{IsPage};
+ghost use Rattle.pr_c.specs.Laws.{BytesAreInputs};
+ghost use Rattle.pr_c.specs.Printing.{IsInputsText, TellsInputs, input_of, is_no_input, inputs_limit};
+
+use crate::told::{Told, give};
+use pr_cli::{CliFault, Format, text_in_format};
+use pr_page::{Input, NoMemory, Paper, Printer, Sequence};
+use pr_serial::Present;
+use pr_system::Outcome;
+use std::alloc::{AllocError, Global};
+
+/// The most inputs of a page: a printer takes no more.
+const INPUTS_LIMIT: usize = 4_294_967_296;
+
+/// The last number that stands for an input.
+const LAST_INPUT: u16 = 257;
+
+/// The printers of a page that is printed of inputs.
+const FOUR_ALONE: Present = Present {
+    four: true,
+    five: false,
+};
+
+/// The input that a number stands for: 0 to 255 a byte, 256 the selection of the graphic/upper case
+/// set, 257 that of the lower/upper case set.
+fn input_for(number: u16) -> Input
+    ensures { result ≡ input_of number }
+{
+    match u8::try_from(number) {
+        Ok(byte) => Input::Byte(byte),
+        Err(_) => Input::Select(number == LAST_INPUT),
+    }
+}
+
+/// The index of the first number that stands for no input, if there is one.
+fn first_no_input(numbers: &[u16]) -> Option<usize>
+    ensures { result ≡ position is_no_input numbers.now }
+{
+    for (index, number) in numbers.iter().enumerate() {
+        if *number > LAST_INPUT {
+            return Some(index);
+        }
+    }
+    None
+}
+
+/// The paper of a printer that has taken the inputs that numbers stand for.
+fn paper_of(alloc: Global, numbers: &[u16]) -> Result<Paper, NoMemory>
+    requires few { length numbers.now ≤ inputs_limit }
+    ensures { IfOk result (λ paper. IsPage (map input_of numbers.now) paper) }
+{
+    let mut printer = Printer::new(alloc);
+    for number in numbers {
+        printer.take(input_for(*number))?;
+    }
+    Ok(printer.into_paper())
+}
+
+/// The outcome that is the paper of printer 4 and nothing else.
+fn outcome_with(alloc: Global, paper: Paper) -> Outcome
+    ensures { result ≡ printed_on paper }
+{
+    Outcome {
+        paper4: paper,
+        paper5: Paper {
+            rows: Sequence::new(alloc),
+            held: Sequence::new(alloc),
+        },
+        statuses: Sequence::new(alloc),
+        stop: None,
+        screen: Sequence::new(alloc),
+        trace: Sequence::new(alloc),
+    }
+}
+
+/// The text of the page of the inputs that numbers stand for.
+fn text_of(alloc: Global, numbers: &[u16], format: Format) -> Result<Vec<u8>, NoMemory>
+    requires few { length numbers.now ≤ inputs_limit }
+    ensures { IfOk result (λ text. IsInputsText format (map input_of numbers.now) text.items) }
+{
+    let paper = paper_of(alloc, numbers)?;
+    let text = text_in_format(alloc, outcome_with(alloc, paper), FOUR_ALONE, format)?;
+    text.into_vec()
+}
+
+/// Puts the text of the page that a printer prints of its inputs, as that of printer 4, at the front of
+/// a buffer. The inputs are numbers: 0 to 255 a byte, 256 the selection of the graphic/upper case set,
+/// 257 that of the lower/upper case set; before the first selection the former is selected. A number
+/// that stands for no input is told by its index, from 0, before any memory is taken.
+pub fn print(alloc: Global, inputs: &[u16], format: Format, out: &mut [u8]) -> Told
+    ensures tells { TellsInputs format inputs.now out.old out.new result }
+    ensures length { length out.new ≡ length out.old }
+{
+    if inputs.len() > INPUTS_LIMIT {
+        return Told::Refused(CliFault::TooLarge);
+    }
+    if let Some(index) = first_no_input(inputs) {
+        return Told::NoInput(index);
+    }
+    match text_of(alloc, inputs, format) {
+        Ok(text) => give(Ok(None), &text, out),
+        Err(AllocError) => Told::Refused(CliFault::NoMemory),
+    }
+}
+
+/// A law, with nothing to run: what is printed of bytes in a character set is printed of inputs, of
+/// which the first selects that set and the others are these bytes.
+pub fn bytes_are_inputs()
+    ensures { BytesAreInputs }
+{}
