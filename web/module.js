@@ -135,7 +135,7 @@ const loadPrint1525 = (() => {
     1: 'unknown word', 2: 'bad number', 3: 'bad device', 4: 'bad secondary address', 5: 'bad byte', 6: 'too long',
     7: 'too many statements', 8: 'bad trace line', 9: 'input too large', 11: 'bad start', 12: 'bad order', 13: 'too early',
     14: 'too late', 15: 'bad shape', 16: 'truncated', 22: 'no such printers', 23: 'no such status', 24: 'no such format',
-    25: 'no such character set', 29: 'no such source', 30: 'no such stop', 31: 'no signal ATN', 32: 'no signal CLOCK',
+    25: 'no such character set', 28: 'no such input', 29: 'no such source', 30: 'no such stop', 31: 'no signal ATN', 32: 'no signal CLOCK',
     33: 'no signal DATA', 34: 'no level of ATN', 35: 'no level of CLOCK', 36: 'no level of DATA', 41: 'bad word', 42: 'no $end',
     43: 'no $enddefinitions', 44: 'no timescale', 45: 'bad time', 46: 'time goes back', 47: 'level x', 48: 'level z',
     49: 'bad level',
@@ -215,6 +215,8 @@ const loadPrint1525 = (() => {
       bus: asked => call('print1525_bus', [...scriptWords(asked), numberOf(asked.format || 'text', ['text', 'vcd'], 'format')]),
       // The bytes that a printer gets, and the character set before them: 0 graphic/upper case, 1 lower/upper case.
       raw: ({ bytes, set = 0, format = 'list' }) => call('print1525_raw', [bytesOf(bytes), set, pageFormat(format)]),
+      // What a printer hears: 0 to 255 a byte, 256 and 257 the selection of the graphic/upper case or the lower/upper case set.
+      print: ({ inputs, format = 'list' }) => call('print1525_print', [Uint16Array.from(inputs), pageFormat(format)]),
       check: ({ text }) => call('print1525_check', [bytesOf(text)]),
       // What a recording says. With code 2 the text is what stands before the fault.
       decode: asked => {
