@@ -1,7 +1,6 @@
 -- What is made in memory, and handed to the page.
-use Rattle.std.proofs.Common.{◌≡◌, ℕ, List, [], Some, None, Ok, Err, refl}
+use Rattle.std.proofs.Common.{ℕ, List, [], Some, None, Ok, refl}
 use Rattle.pr_cli.specs.Check.{trace_limit}
-use Rattle.pr_cli.specs.declared.fault.CliFault.{CliFault}
 use Rattle.pr_options.specs.declared.format.Format.{Format}
 use Rattle.pr_options.specs.declared.format.TraceInput.{TraceInput}
 use Rattle.pr_recording.specs.Decoded.{AnswersDecode}

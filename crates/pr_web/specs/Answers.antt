@@ -1,5 +1,5 @@
 -- Trusted: what came of a call, as numbers.
-use Rattle.std.specs.Prelude.{ℕ, ◌+◌, Option, Some, None}
+use Rattle.std.specs.Prelude.{ℕ, ◌+◌, Some, None}
 use Rattle.pr_wire.specs.declared.WaveFault.TheVariants as wave
 use Rattle.pr_wire.specs.declared.text.TraceFault.TheVariants as trace
 use Rattle.pr_capture.specs.declared.fault.CaptureFault.{CaptureFault}
