@@ -1,0 +1,66 @@
+// A long text by its lines, of which only those that can be seen are in the page.
+
+class Reader {
+  /** Shows texts in an element that scrolls. `onLine` is told the index of a line that is clicked or chosen with Enter. */
+  constructor(element, onLine = null) {
+    this.element = element;
+    this.onLine = onLine;
+    this.lines = [];
+    this.marked = -1;
+    this.block = document.createElement('pre');
+    this.room = document.createElement('div');
+    this.room.className = 'room';
+    this.room.append(this.block);
+    element.append(this.room);
+    element.addEventListener('scroll', () => this.draw(), { passive: true });
+    new ResizeObserver(() => this.draw()).observe(element);
+    if (onLine) {
+      this.block.addEventListener('click', event => {
+        const line = event.target.closest('[data-line]');
+        if (line && !String(getSelection())) onLine(Number(line.dataset.line));
+      });
+    }
+  }
+
+  show(text) {
+    this.lines = text.split('\n');
+    if (this.lines[this.lines.length - 1] === '') this.lines.pop();
+    this.marked = -1;
+    this.drawn = '';
+    this.draw();
+  }
+
+  /** Marks a line and brings it into view. */
+  mark(line) {
+    this.marked = line;
+    this.drawn = '';
+    const height = this.height();
+    const top = line * height, element = this.element;
+    if (line >= 0 && element.clientHeight && (top < element.scrollTop || top + height > element.scrollTop + element.clientHeight)) {
+      element.scrollTop = top - element.clientHeight / 3;
+    }
+    this.draw();
+  }
+
+  height() {
+    return parseFloat(getComputedStyle(this.block).lineHeight) || 20;
+  }
+
+  draw() {
+    if (!this.element.clientHeight) return;
+    const height = this.height(), from = Math.max(Math.floor(this.element.scrollTop / height) - 20, 0);
+    const to = Math.min(from + Math.ceil(this.element.clientHeight / height) + 40, this.lines.length);
+    const key = [from, to, height].join(' ');
+    if (key === this.drawn) return;
+    this.drawn = key;
+    this.room.style.height = `${this.lines.length * height}px`;
+    this.block.style.transform = `translateY(${from * height}px)`;
+    this.block.replaceChildren(...this.lines.slice(from, to).map((line, index) => {
+      const span = document.createElement('span');
+      span.dataset.line = from + index;
+      span.textContent = line + '\n';
+      if (from + index === this.marked) span.className = 'marked';
+      return span;
+    }));
+  }
+}
