@@ -412,8 +412,9 @@ function take(bytes, name, kind = kindOf(bytes, name)) {
 
 function sourceNotice(words = '') {
   const { source } = state;
-  if (!source) { document.body.classList.remove('sourced'); return notice('source', ''); }
-  document.body.classList.add('sourced');
+  document.body.dataset.shows = !source ? 'script' : source.kind === 'raw' ? 'raw' : 'recording';
+  if (!source) return notice('source', '');
+  if (source.kind !== 'raw' && state.tabs.pages === 'list') showTab('pages', 'sheets');
   const pick = (label, values, value, act) => {
     const select = document.createElement('select');
     select.setAttribute('aria-label', label);

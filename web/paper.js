@@ -40,6 +40,7 @@ class Paper {
     if (!text) { this.room.replaceChildren(); this.room.removeAttribute('style'); return; }
     if (text.length <= WHOLE) {
       this.put(text);
+      this.svg.classList.add('whole');
       this.part = null;
     } else this.part = { from: 0, to: 0 };
     this.lay();
