@@ -18,17 +18,21 @@ class Editor {
 
   get text() { return this.area.value; }
 
-  /** Puts another text in, so that the browser's own undo brings the old one back. */
+  /** Puts another text in, so that the browser's own undo brings the old one back (a long one would take a browser too long). */
   replace(text) {
-    if (text === this.text) return;
-    const focused = document.activeElement;
-    this.area.focus({ preventScroll: true });
-    this.area.select();
-    const done = text ? document.execCommand('insertText', false, text) : document.execCommand('delete');
-    if (!done || this.text !== text.replace(/\r\n?/g, '\n')) this.area.value = text;
+    const plain = text.replace(/\r\n?/g, '\n');
+    if (plain === this.text) return;
+    if (plain.length < 1e5 && this.text.length < 1e5) {
+      const focused = document.activeElement;
+      this.area.focus({ preventScroll: true });
+      this.area.select();
+      document.execCommand(plain ? 'insertText' : 'delete', false, plain);
+      if (focused && focused !== document.body) focused.focus({ preventScroll: true }); else this.area.blur();
+    }
+    if (this.text !== plain) this.area.value = plain;
     this.area.setSelectionRange(0, 0);
     this.area.scrollTo(0, 0);
-    if (focused && focused !== document.body) focused.focus({ preventScroll: true }); else this.area.blur();
+    this.tell([], [], null);
     this.measure();
     this.draw();
   }

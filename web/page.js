@@ -103,7 +103,7 @@ async function printNow(version) {
     if (version !== wanted && performance.now() - lastShown < 400) return;
     lastShown = performance.now();
     showRun(answer);
-    if (version === wanted) traceSoon(version, script.length);
+    if (version === wanted && answer.code <= 1) traceSoon(version, script.length);
     return;
   }
   const answer = source.kind === 'raw' ? await ask('raw', { bytes: source.bytes, set: source.set }) : await ask('recording', { bytes: source.bytes, input: source.kind });
@@ -121,18 +121,21 @@ function showRun(answer) {
   showPaper(decode(answer.svg));
 }
 
+let texts = 0;     // how often a text of the tabs became another one
+
 function showPaper(svg) {
   paper.show(svg);
-  for (const what of ['lines', 'list']) readers[what].stale = true;
+  for (const what of ['lines', 'list']) readers[what].stale = ++texts;
   fillReader(state.tabs.pages);
 }
 
 /** Fills the text of a tab, if it is the one that is seen. */
 async function fillReader(tab) {
-  const what = { lines: 'text', list: 'list', edges: 'trace', frames: 'readings' }[tab], reader = readers[tab];
-  if (!what || !reader.stale || !ready) return;
-  reader.stale = false;
+  const what = { lines: 'text', list: 'list', edges: 'trace', frames: 'readings' }[tab], reader = readers[tab], version = reader?.stale;
+  if (!what || !version || !ready) return;
   const bytes = await ask('text', { what });
+  if (reader.stale !== version) return;
+  reader.stale = 0;
   reader.show(decode(bytes || new Uint8Array(0)));
   if (tab === 'frames' && wave.frames[wave.chosen]) reader.mark(wave.frames[wave.chosen].line);
 }
@@ -186,7 +189,7 @@ function tellStatuses(answer, words) {
   const signs = [], titles = [], rank = ['', 'fine', 'unreached', 'unanswered', 'stopped'];
   const sign = (line, name, title) => {
     if (rank.indexOf(name) > rank.indexOf(signs[line] || '')) signs[line] = name;
-    titles[line] = titles[line] && titles.length < 5000 ? `${titles[line]}\n${title}` : title;
+    if (statuses.length <= 20000) titles[line] = titles[line] ? `${titles[line]}\n${title}` : title;
   };
   const unanswered = [];
   statuses.forEach((status, index) => {
@@ -277,8 +280,11 @@ function showWire(answer) {
   tellUnder(null);
   tellChosen(-1);
   showIntervals(answer);
-  readers.frames.stale = readers.edges.stale = true;
-  if (answer) fillReader(state.tabs.wire); else for (const tab of ['frames', 'edges']) { readers[tab].show(''); readers[tab].stale = false; }
+  for (const tab of ['frames', 'edges']) {
+    readers[tab].stale = answer ? ++texts : 0;
+    if (!answer) readers[tab].show('');
+  }
+  fillReader(state.tabs.wire);
 }
 
 /** The intervals of a recording's bytes beside the profile's bounds. */
@@ -483,7 +489,7 @@ function save() {
   notice('kept', kept ? '' : 'This listing is too long to be kept by the browser: save it as a file.');
   return address().then(hash => {
     const plain = hash.length <= LINK_LIMIT ? hash : '';
-    try { history.replaceState(null, '', `${location.pathname}${location.search}${plain ? `#${plain}` : ''}`); } catch { location.replace(`#${plain}`); }
+    history.replaceState(null, '', `${location.pathname}${location.search}${plain ? `#${plain}` : ''}`);
     lastHash = location.hash;
     return plain;
   });
@@ -495,8 +501,9 @@ async function through(stream, bytes) {
   return new Uint8Array(await new Response(new Blob([bytes]).stream().pipeThrough(stream)).arrayBuffer());
 }
 
-/** The state as the part of an address behind `#`: the choices by their letters, and the listing, deflated, in base64url. */
+/** The state as the part of an address behind `#`: the choices by their letters, and the listing, deflated, in base64url; empty for a long one. */
 async function address() {
+  if (editor.text.length > 10 * LINK_LIMIT) return '';
   const { printers, status, delays, lists } = state, parts = [`p=${['none', '4', '5', 'both'][printers]}`];
   if (status) parts.push('s=kept');
   if (delays !== 'typical') parts.push(`d=${delays === 'lists' ? lists.map(list => list.replace(/\s/g, '')).join('/') : delays}`);

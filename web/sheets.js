@@ -33,26 +33,24 @@ function sheetsOf(svg) {
 
 /** Finds the rows of a sheet, and gives where its text ends. */
 function readRows(svg, sheet) {
-  let at = sheet.from, depth = 0, row = null, held = false;
-  for (;;) {
-    const end = svg.indexOf('\n', at);
-    const line = svg.startsWith('<g', at);
-    if (line) {
-      depth++;
-      if (svg.startsWith('<g opacity', at)) held = true;
-      else row = { y: parseInt(svg.slice(at + 26, at + 40), 10) - 14, from: end + 1, to: 0, held };
-    } else if (svg.startsWith('</g>', at)) {
-      depth--;
-      if (depth < 0) { sheet.to = at; return end + 1; }
-      if (row) {
-        row.to = at;
-        // the rule above the marks that are held is a group too
-        if (!svg.startsWith('<path shape-rendering="auto"', row.from)) sheet.rows.push(row);
-        row = null;
+  let at = sheet.from, held = false;
+  while (svg.startsWith('<g ', at) || held) {
+    const begin = svg.indexOf('\n', at) + 1;
+    if (svg.startsWith('</g>', at)) held = false;               // the end of the marks that are held
+    else if (svg.startsWith('<g opacity', at)) held = true;
+    else {
+      const end = svg.indexOf('</g>', begin);
+      // the rule above the marks that are held is a group too
+      if (!svg.startsWith('<path shape-rendering="auto"', begin)) {
+        sheet.rows.push({ y: parseInt(svg.slice(at + 26, at + 40), 10) - 14, from: begin, to: end, held });
       }
+      at = end + 5;
+      continue;
     }
-    at = end + 1;
+    at = begin;
   }
+  sheet.to = at;
+  return svg.indexOf('\n', at) + 1;
 }
 
 const ENTITIES = /&#(\d+);/g;

@@ -380,7 +380,9 @@ class Wave {
     const words = `${spaced(to - from)} µs`;
     pen.font = `600 12px ${this.font}`;
     const wide = pen.measureText(words).width + 10;
-    const middle = Math.min(Math.max((Math.max(left, NAMES_WIDTH) + Math.min(right, NAMES_WIDTH + this.width)) / 2, NAMES_WIDTH + wide / 2), NAMES_WIDTH + this.width - wide / 2);
+    const first = Math.max(left, NAMES_WIDTH), last = Math.min(right, NAMES_WIDTH + this.width), beside = last - first < wide + 6;
+    const wanted = !beside ? (first + last) / 2 : last + wide + 8 < NAMES_WIDTH + this.width ? last + 6 + wide / 2 : first - 6 - wide / 2;
+    const middle = Math.min(Math.max(wanted, NAMES_WIDTH + wide / 2), NAMES_WIDTH + this.width - wide / 2);
     pen.beginPath();
     pen.roundRect(middle - wide / 2, y - 9, wide, 18, 4);
     pen.fill();

@@ -227,7 +227,7 @@ function intervalsIn(frame, { times, levels }) {
 /** The named intervals between a frame's end and the next one's look, where a lawful trace has them. */
 function intervalsBetween(before, behind, { times, levels }) {
   const parts = [];
-  const part = (name, from, to, line, kind) => { if (to > from) parts.push({ name, from, to, line, bounds: DELAYS[kind], bit: 0 }); };
+  const part = (name, from, to, line, kind) => { if (to > from) parts.push({ name, from, to, line, bounds: DELAYS[kind] || null, bit: 0 }); };
   const from = before ? before.end : 0, to = behind ? behind.look : Infinity;
   let since = from, called = null, freed = null, i = Math.max(edgeAt(times, from), 0);
   let level = levels[i];
@@ -237,14 +237,14 @@ function intervalsBetween(before, behind, { times, levels }) {
     if (!released) { part('from the first command to the second', from, to, CLOCK, 'Aw'); return parts; }
   }
   for (i++; i < times.length && times[i] <= to; i++) {
-    const time = times[i], turned = level ^ levels[i];
+    const time = times[i], turned = level ^ levels[i], rests = level === 7;
     level = levels[i];
     if (turned & ATN && level & ATN) {
       if (called === null && before) part('from the acknowledgement to ATN\'s release', from, time, ATN, 'R');
       freed = since = time;
       called = null;
     } else if (turned & ATN) {
-      part(before && freed === null && called === null ? 'from the acknowledgement to ATN' : 'before ATN is pulled', since, time, ATN, 'Bb');
+      part(rests ? 'rest' : before && freed === null && called === null ? 'from the acknowledgement to ATN' : 'before ATN is pulled', since, time, ATN, rests ? '' : 'Bb');
       called = time;
     }
     if (turned & DATA && !(level & DATA) && called !== null) part('the printers answer ATN', called, time, DATA, 'At');
@@ -291,6 +291,7 @@ function delayNumbers(greatest, present, frames, { times, levels }) {
       waits(time);
       for (const p of printers) kinds[1 + p].push('At');
       kinds[0].push('Aw');
+      since = time;
     } else if (turned & ATN) {
       if (last && last.kind === 'command' && since === last.end) {
         kinds[0].push('R');
