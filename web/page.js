@@ -1,7 +1,6 @@
 // The page: what is typed goes to the worker, and what comes back goes on paper and on the wire.
 
 const $ = id => document.getElementById(id);
-const FAULTS = ['', 'unknown word', 'bad number', 'bad device', 'bad secondary address', 'bad byte', 'too long', 'too many statements', 'bad trace line', 'input too large'];
 const AUTOMATIC = 64 * 1024;       // a longer listing's trace is made only when it is asked for
 const LINK_LIMIT = 30000;          // characters of an address
 const EARLIER_LIMIT = 20;
@@ -106,7 +105,7 @@ async function printNow(version) {
     if (version === wanted && answer.code <= 1) traceSoon(version, script.length);
     return;
   }
-  const answer = source.kind === 'raw' ? await ask('raw', { bytes: source.bytes, set: source.set }) : await ask('recording', { bytes: source.bytes, input: source.kind });
+  const answer = source.kind === 'raw' ? await ask('raw', { bytes: source.bytes, set: source.set }) : await ask('recording', recordingOf(source));
   if (version !== wanted || state.source !== source) return;
   showSource(answer);
 }
@@ -125,6 +124,8 @@ let texts = 0;     // how often a text of the tabs became another one
 
 function showPaper(svg) {
   paper.show(svg);
+  $('no-sheet').hidden = !paper.picture || paper.picture.sheets.length > 0;
+  $('no-sheet').textContent = state.source ? 'No printer hears a byte of this.' : 'No printer is on the bus: no sheet.';
   for (const what of ['lines', 'list']) readers[what].stale = ++texts;
   fillReader(state.tabs.pages);
 }
@@ -162,9 +163,9 @@ function showScript(answer) {
 }
 
 /** A script that cannot be read: its first fault, at its place. */
-function tellRefusal({ fault, line, told }, words) {
+function tellRefusal({ words: why, line, told }, words) {
   const said = told.split('\n'), where = said.map(text => /^ {2}line (\d+), column (\d+)[^:]*: (.*)$/.exec(text)).find(Boolean);
-  const name = FAULTS[fault] || 'refused', signs = [], titles = [];
+  const name = why.replace(/^line \d+: /, ''), signs = [], titles = [];
   if (!where) {
     words('first', line ? `Line ${line}: ${name}` : name[0].toUpperCase() + name.slice(1));
     if (line) signs[line - 1] = 'refused';
@@ -342,7 +343,7 @@ function tellChosen(index, more = '') {
     const long = to - from, range = ranges.get(name) || { least: long, greatest: long, bounds };
     ranges.set(name, { least: Math.min(range.least, long), greatest: Math.max(range.greatest, long), bounds });
   }
-  const says = frame.byte === null ? frame.name : `$${frame.byte.toString(16).toUpperCase().padStart(2, '0')} ${frame.name}${frame.eoi ? ', end-or-identify' : ''}`;
+  const says = frame.byte === null ? frame.name : `$${hexadecimal(frame.byte)} ${frame.name}${frame.eoi ? ', end-or-identify' : ''}`;
   const strong = document.createElement('strong');
   strong.textContent = says;
   line.append(strong, `  ${spaced(frame.look)}${Number.isFinite(frame.end) ? ` to ${spaced(frame.end)}` : ''} µs${frame.fault ? `, ${frame.fault}` : ''}${more}`);
@@ -410,10 +411,32 @@ function take(bytes, name, kind = kindOf(bytes, name)) {
     notice('lines', /\r(?!\n)/.test(text) ? 'The file had carriage returns alone between lines; they are line ends here.' : '', [button('Close', () => notice('lines', ''))]);
     return listingChanged();
   }
-  state.source = { bytes, name, kind, set: 0 };
+  state.source = { bytes, name, kind, set: 0, names: ['ATN', 'CLOCK', 'DATA'], inverted: false, start: 0 };
   wave.moved = false;
   sourceNotice();
   print();
+}
+
+/** What the module is asked of a recording. */
+const recordingOf = ({ bytes, kind, names, inverted, start }) => ({ bytes, input: kind, ...(kind === 'text' ? {} : { names, inverted, start }) });
+
+/** The signals of a dump or a table: their names, whether their levels are inverted, and where the recording begins. */
+function signalFields(source) {
+  const fields = document.createElement('span'), again = () => print();
+  fields.className = 'signals';
+  const field = (words, value, act, type = 'text') => {
+    const label = document.createElement('label'), input = document.createElement('input');
+    Object.assign(input, { type, value, autocomplete: 'off', spellcheck: false });
+    if (type === 'checkbox') input.checked = value;
+    input.onchange = () => { act(input); again(); };
+    label.append(...(type === 'checkbox' ? [input, words] : [words, input]));
+    fields.append(label);
+  };
+  ['ATN', 'CLOCK', 'DATA'].forEach((name, line) => field(`${name} is`, source.names[line], input => { source.names[line] = input.value.trim() || name; }));
+  field('inverted', source.inverted, input => { source.inverted = input.checked; }, 'checkbox');
+  field('from', source.start, input => { source.start = Math.max(Math.floor(Number(input.value)) || 0, 0); });
+  fields.append('µs');
+  return fields;
 }
 
 function sourceNotice(words = '') {
@@ -430,6 +453,7 @@ function sourceNotice(words = '') {
   };
   const actions = [pick('Read the file as', KINDS, source.kind, kind => take(source.bytes, source.name, kind))];
   if (source.kind === 'raw') actions.push(pick('Character set', { 0: 'graphic/upper case', 1: 'lower/upper case' }, source.set, set => { source.set = Number(set); print(); }));
+  if (source.kind === 'vcd' || source.kind === 'csv') actions.push(signalFields(source));
   actions.push(button('Back to the listing', () => { leaveSource(); print(); }));
   notice('source', `The paper ${source.kind === 'raw' ? 'shows' : 'and the wire show'} ${source.name}.${words ? ` ${words}` : ''}`, actions);
 }
@@ -446,7 +470,7 @@ function leaveSource() {
 function showSource(answer) {
   const { source } = state;
   document.body.classList.remove('stale');
-  const why = answer.code === 2 ? `It cannot be read to its end: ${FAULTS[answer.fault] || 'refused'}${answer.line ? `, line ${answer.line}` : ''}.` : answer.code > 2 ? 'There was no memory for it.' : '';
+  const why = answer.code === 2 ? `It cannot be read to its end: ${answer.words}.` : answer.code > 2 ? 'There was no memory for it.' : '';
   const told = (answer.told || '').split('\n').map(line => line.trim()).filter(line => line && !/^[\^~]+$/.test(line));
   sourceNotice(why || (answer.verdict && answer.verdict !== 'lawful' ? `${answer.verdict[0].toUpperCase()}${answer.verdict.slice(1)}.` : answer.verdict === 'lawful' ? 'It is lawful.' : ''));
   if (told.length) {
@@ -456,7 +480,7 @@ function showSource(answer) {
     more.append(name, text);
     box.append(more);
   }
-  if (answer.svg) showPaper(decode(answer.svg)); else paper.show('');
+  if (answer.svg) showPaper(decode(answer.svg)); else { paper.show(''); $('no-sheet').hidden = true; }
   if (source.kind === 'raw') { showWire(null); cover('A printer\'s bytes alone: nothing is known of the wire.'); return; }
   cover('');
   showWire(answer);

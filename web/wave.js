@@ -8,6 +8,9 @@ const NAMES_WIDTH = 58, RIGHT = 10;
 /** A number with thin spaces between its thousands. */
 const spaced = number => String(number).replace(/\B(?=(\d{3})+$)/g, '\u2009');
 
+/** A byte in two hexadecimal digits. */
+const hexadecimal = byte => byte.toString(16).toUpperCase().padStart(2, '0');
+
 class Wave {
   /** `onUnder` is told what is under the pointer, `onChoose` the index of the frame that is chosen, or -1. */
   constructor(canvas, onUnder, onChoose) {
@@ -338,7 +341,12 @@ class Wave {
     if (eoi) { pen.fillStyle = this.ink('eoi'); pen.fillRect(x + width - eoi - .5, top + 1, eoi, 23); }
     pen.font = `600 12px ${this.font}`;
     const words = [frame.eoi ? `${frame.name} EOI` : frame.fault ? `${frame.name}, ${frame.fault}` : frame.name, frame.name, frame.name.replace(/^(['"])(.)\1$/, '$2')];
-    const fitting = words.find(word => pen.measureText(word).width < width - eoi - 6);
+    const fits = word => pen.measureText(word).width < width - eoi - 5;
+    let fitting = words.find(fits);
+    if (!fitting) {
+      pen.font = `600 10px ${this.font}`;
+      fitting = [frame.name, ...(frame.byte === null ? [] : [`$${hexadecimal(frame.byte)}`])].find(fits);
+    }
     if (!fitting) return;
     pen.fillStyle = chosen ? this.ink('ground') : this.ink('text');
     pen.fillText(fitting, x + (width - eoi) / 2, top + 13);

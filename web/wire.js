@@ -49,10 +49,14 @@ function textOfEdges({ times, levels }, end) {
   return new TextEncoder().encode(lines.join(''));
 }
 
-/** Gathers samples into edges: of those at one moment the last counts, and of these those that change a level. */
+/**
+ * Gathers samples into edges, their moments counted from a start: of those at one moment the last counts, and of these those
+ * that change a level.
+ */
 class Gathering {
-  constructor() { this.times = []; this.levels = []; }
-  add(time, level) {
+  constructor({ inverted = false, start = 0 }) { Object.assign(this, { times: [], levels: [], inverted, start }); }
+  add(moment, bits) {
+    const time = Math.max(moment - this.start, 0), level = parseInt(bits.join(''), 2) ^ (this.inverted ? 7 : 0);
     const last = this.times.length - 1;
     if (last >= 0 && this.times[last] === time) {
       this.levels[last] = level;
@@ -62,30 +66,31 @@ class Gathering {
   edges() { return { times: Float64Array.from(this.times), levels: Uint8Array.from(this.levels) }; }
 }
 
-const SIGNALS = [['ATN'], ['CLOCK', 'CLK'], ['DATA']];
-
-/** Which of some names is which signal: their indices for ATN, CLOCK and DATA, -1 for one that is not there. */
-function signalsIn(names) {
-  const plain = names.map(name => name.trim().replace(/^"(.*)"$/, '$1').trim().toUpperCase());
-  return SIGNALS.map(calls => calls.map(call => plain.indexOf(call)).find(index => index >= 0) ?? -1);
+/** Which of some names is which of the signals looked for: their indices, -1 for one that is not there. CLK is CLOCK too. */
+function signalsIn(names, wanted) {
+  const plain = name => name.trim().replace(/^"(.*)"$/, '$1').trim().toUpperCase(), there = names.map(plain);
+  return wanted.map(name => {
+    const index = there.indexOf(plain(name));
+    return index < 0 && plain(name) === 'CLOCK' ? there.indexOf('CLK') : index;
+  });
 }
 
 /** The edges of a table of samples, as far as it can be read, for the drawing alone. */
-function edgesOfTable(text) {
-  const gathering = new Gathering();
+function edgesOfTable(text, ask) {
+  const gathering = new Gathering(ask);
   let columns = null;
   for (const line of text.split('\n')) {
     if (!line.trim() || /^[;#]/.test(line)) continue;
     const fields = line.replace(/\r$/, '').split(',').map(field => field.trim().replace(/^"(.*)"$/, '$1'));
     if (!columns) {
-      columns = signalsIn(fields);
+      columns = signalsIn(fields, ask.names);
       if (columns.includes(-1)) break;
       continue;
     }
     const moment = /^(\d+)(?:\.(\d*))?$/.exec(fields[0]);
     const bits = columns.map(column => fields[column]);
     if (!moment || bits.some(bit => bit !== '0' && bit !== '1')) break;
-    gathering.add(Number(moment[1]) * 1e6 + Number(((moment[2] || '') + '000000').slice(0, 6)), parseInt(bits.join(''), 2));
+    gathering.add(Number(moment[1]) * 1e6 + Number(((moment[2] || '') + '000000').slice(0, 6)), bits);
   }
   return gathering.edges();
 }
@@ -93,8 +98,8 @@ function edgesOfTable(text) {
 const UNITS = { s: 1e15, ms: 1e12, us: 1e9, ns: 1e6, ps: 1e3, fs: 1 };
 
 /** The edges of a Value Change Dump, as far as it can be read, for the drawing alone. */
-function edgesOfDump(text) {
-  const gathering = new Gathering(), words = text.split(/\s+/).filter(Boolean);
+function edgesOfDump(text, ask) {
+  const gathering = new Gathering(ask), words = text.split(/\s+/).filter(Boolean);
   const names = [], codes = [];
   let unit = 0, time = 0, i = 0;
   while (i < words.length && words[i] !== '$enddefinitions') {
@@ -106,12 +111,12 @@ function edgesOfDump(text) {
     if (scale) unit = Number(scale[1]) * UNITS[scale[2]];
     if (words[from] === '$var' && said[1] === '1') { codes.push(said[2]); names.push(said[3]); }
   }
-  const wires = signalsIn(names);
+  const wires = signalsIn(names, ask.names);
   if (wires.includes(-1) || !unit) return gathering.edges();
   const levels = [null, null, null];
   const change = (code, level) => {
     wires.forEach((wire, line) => { if (codes[wire] === code) levels[line] = level; });
-    if (levels.every(known => known === '0' || known === '1')) gathering.add(time, parseInt(levels.join(''), 2));
+    if (levels.every(known => known === '0' || known === '1')) gathering.add(time, levels);
   };
   for (; i < words.length; i++) {
     const word = words[i];
@@ -125,10 +130,10 @@ function edgesOfDump(text) {
 }
 
 /** The edges of a recording in one of the formats of `decode`. */
-function edgesOf(bytes, input) {
-  if (input === 'text') return edgesOfText(bytes);
-  const text = new TextDecoder('latin1').decode(bytes);
-  return input === 'vcd' ? edgesOfDump(text) : edgesOfTable(text);
+function edgesOf(ask) {
+  if (ask.input === 'text') return edgesOfText(ask.bytes);
+  const text = new TextDecoder('latin1').decode(ask.bytes);
+  return ask.input === 'vcd' ? edgesOfDump(text, ask) : edgesOfTable(text, ask);
 }
 
 const HEARD = /^ *(\d+) +(\d+)  \$([0-9A-F]{2})  (.*)$/;
@@ -159,7 +164,7 @@ function readingsOf(text) {
       });
     } else if ((found = GLITCH.exec(line))) {
       readings.frames.push({
-        look: Number(found[1]), end: Number(found[4] ?? Infinity), kind: 'glitch', byte: null, name: `${found[2]} bits`, eoi: false,
+        look: Number(found[1]), end: Number(found[4] ?? Infinity), kind: 'glitch', byte: null, name: found[2] === '1' ? '1 bit' : `${found[2]} bits`, eoi: false,
         fault: found[3] || 'cut by the end', line: index,
       });
     } else if (/^(not )?lawful/.test(line)) readings.verdict = line;

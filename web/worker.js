@@ -1,13 +1,19 @@
 // Runs the module beside the page, so that nothing it does holds up typing. Each message is a job with what it is
 // asked; the answer goes back under the job's number. What was printed last is kept for the texts and the clicks.
 
-let module = null;
+let print1525 = null;
 const shown = { kind: '', ask: null, svg: '', list: null };    // what is on paper
 const wire = { bytes: null, input: 'text', edges: null, frames: [], readings: null };
 
 const text = bytes => new TextDecoder().decode(bytes);
 const lasting = () => [new Uint16Array(0), new Uint16Array(0), new Uint16Array(0)];
-const answerOf = ({ code, fault, line, statement }) => ({ code, fault, line, statement });
+
+/** What an answer says but for its text, with the stop or the fault in the program's words. */
+const answerOf = answer => {
+  const { code, fault, line, statement } = answer;
+  return { code, fault, line, statement, words: print1525.words(answer) };
+};
+
 
 /** What stands behind the papers in a page text: each statement's status (1 where no device answered) and the screen's bytes. */
 function endOf(list) {
@@ -29,7 +35,7 @@ function picture(kind, ask, answer) {
 /** The pages of what stands on the wire in front of an edge, as a picture. */
 async function pagesBefore(edge) {
   const cut = wire.input === 'text' ? wire.bytes.subarray(0, wire.edges.starts[edge]) : textOfEdges(wire.edges, edge);
-  return text((await module.decode({ bytes: cut, input: 'text', output: 'svg' })).text);
+  return text((await print1525.decode({ bytes: cut, input: 'text', output: 'svg' })).text);
 }
 
 /** The least number of some for which a question is answered with yes, where it is so for each greater one. */
@@ -52,59 +58,63 @@ function keepWire(bytes, input, edges, readings) {
 const jobs = {
   /** Makes the module ready. */
   async open({ bytes }) {
-    module = await loadPrint1525(bytes);
+    print1525 = await loadPrint1525(bytes);
   },
 
   /** One call of the module as it stands. */
   async call({ method, ask }) {
-    return module[method](ask);
+    const answer = await print1525[method](ask);
+    return { ...answer, words: print1525.words(answer) };
   },
 
   /** The pages of a script: the picture, the statuses, the screen's bytes, or why there are none. */
   async print(ask) {
     const began = performance.now();
     const run = { script: ask.script, printers: ask.printers, status: ask.status, delays: lasting() };
-    const list = await module.pages({ ...run, format: 'list' });
+    const list = await print1525.pages({ ...run, format: 'list' });
     const answer = answerOf(list);
     if (list.code <= 1) {
-      Object.assign(answer, endOf(list.text), { svg: picture('script', run, await module.pages({ ...run, format: 'svg' })) });
+      Object.assign(answer, endOf(list.text), { svg: picture('script', run, await print1525.pages({ ...run, format: 'svg' })) });
       shown.list = list.text;
     }
     answer.milliseconds = performance.now() - began;
-    if (list.code === 1) answer.told = text((await module.explainStop({ ...run, fault: list.fault, statement: list.statement })).text);
-    if (list.code === 2) answer.told = text((await module.explainScript({ script: ask.script })).text);
+    if (list.code === 1) answer.told = text((await print1525.explainStop({ ...run, stop: list.fault, statement: list.statement })).text);
+    if (list.code === 2) answer.told = text((await print1525.explainScript({ script: ask.script })).text);
     return answer;
   },
 
   /** The trace of a script's run at some delays, and what it says. */
   async trace({ script, printers, status, delays, extreme }) {
     const run = { script, printers, status, delays: extreme ? lasting() : delays, format: 'text' };
-    const decode = async bytes => (await module.decode({ bytes, input: 'text', output: 'readings' })).text;
-    let bus = await module.bus(run);
+    const decode = async bytes => (await print1525.decode({ bytes, input: 'text', output: 'readings' })).text;
+    let bus = await print1525.bus(run);
     if (bus.code > 1) return answerOf(bus);
     if (extreme) {
       const typical = edgesOfText(bus.text);
       run.delays = delayNumbers(extreme === 'greatest', printers, readingsOf(text(await decode(bus.text))).frames, typical);
-      bus = await module.bus(run);
+      bus = await print1525.bus(run);
       if (bus.code > 1) return answerOf(bus);
     }
     return { ...answerOf(bus), ...keepWire(bus.text, 'text', edgesOfText(bus.text), await decode(bus.text)), delays: run.delays };
   },
 
-  /** What a recording says, with its edges and its pages. */
-  async recording({ bytes, input }) {
-    const said = await module.decode({ bytes, input, output: 'readings' });
-    const answer = { ...answerOf(said), ...keepWire(bytes, input, edgesOf(bytes, input), said.text || new Uint8Array(0)) };
-    const pages = await module.decode({ bytes, input, output: 'svg' });
-    if (pages.text && pages.text.length) answer.svg = picture('recording', { bytes, input }, pages);
-    if (said.code === 2) answer.told = text((await module.explainReading({ bytes, input })).text);
-    else if (answer.verdict !== 'lawful') answer.told = text((await module.explainTrace({ bytes, input })).text);
+  /**
+   * What a recording says, with its edges and its pages: `ask` has its bytes and their format, and of a dump or a table the
+   * names of its signals, whether its levels are inverted, and the microsecond at which it begins.
+   */
+  async recording(ask) {
+    const said = await print1525.decode({ ...ask, output: 'readings' });
+    const answer = { ...answerOf(said), ...keepWire(ask.bytes, ask.input, edgesOf(ask), said.text) };
+    const pages = await print1525.decode({ ...ask, output: 'svg' });
+    if (pages.text.length) answer.svg = picture('recording', ask, pages);
+    if (said.code === 2) answer.told = text((await print1525.explainReading(ask)).text);
+    else if (answer.verdict !== 'lawful') answer.told = text((await print1525.explainTrace(ask)).text);
     return answer;
   },
 
   /** The page of the bytes that a printer gets. */
   async raw({ bytes, set }) {
-    const pages = await module.raw({ bytes, set, format: 'svg' });
+    const pages = await print1525.raw({ bytes, set, format: 'svg' });
     return { ...answerOf(pages), svg: pages.code === 0 ? picture('raw', { bytes, set }, pages) : null };
   },
 
@@ -113,11 +123,11 @@ const jobs = {
     if (what === 'svg') return new TextEncoder().encode(shown.svg);
     if (what === 'readings') return wire.readings.slice();
     if (what === 'trace') return wire.input === 'text' ? wire.bytes.slice() : textOfEdges(wire.edges, wire.edges.times.length);
-    if (what === 'vcd') return (await module.bus({ ...shown.ask, delays, format: 'vcd' })).text;
+    if (what === 'vcd') return (await print1525.bus({ ...shown.ask, delays, format: 'vcd' })).text;
     if (what === 'list' && shown.list) return shown.list.slice();
-    if (shown.kind === 'script') return (await module.pages({ ...shown.ask, format: what })).text;
-    if (shown.kind === 'raw') return (await module.raw({ ...shown.ask, format: what })).text;
-    return (await module.decode({ ...shown.ask, output: what })).text;
+    if (shown.kind === 'script') return (await print1525.pages({ ...shown.ask, format: what })).text;
+    if (shown.kind === 'raw') return (await print1525.raw({ ...shown.ask, format: what })).text;
+    return (await print1525.decode({ ...shown.ask, output: what })).text;
   },
 
   /** The marks that a frame's byte makes: those that the pages have with its last edge and not without it. */
@@ -132,7 +142,7 @@ const jobs = {
     const often = count(shown.svg);
     if (shown.kind === 'raw') {
       const { bytes, set } = shown.ask;
-      const raw = async end => text((await module.raw({ bytes: bytes.subarray(0, end), set, format: 'svg' })).text);
+      const raw = async end => text((await print1525.raw({ bytes: bytes.subarray(0, end), set, format: 'svg' })).text);
       return { byte: await least(bytes.length, async end => count(await raw(end)) >= often) - 1 };
     }
     const heard = wire.frames.flatMap((frame, index) => frame.fault ? [] : [index]);
