@@ -218,10 +218,10 @@ function intervalsIn(frame, { times, levels }) {
         part('pull after answer', pulseEnd, time, CLOCK);
       }
       pull = time;
-    } else if (pull !== null && release === null && clock) {
-      part('low half', pull, release = time, CLOCK, bits + 1);
-    } else if (pull !== null && release !== null && !clock) {
-      part('high half', release, pull = time, CLOCK, ++bits);
+    } else if (pull !== null && release === null && clock) release = time;
+    else if (pull !== null && release !== null && !clock) {
+      part('low half', pull, release, CLOCK, ++bits);
+      part('high half', release, pull = time, CLOCK, bits);
       release = null;
     }
   }

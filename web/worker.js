@@ -2,7 +2,7 @@
 // asked; the answer goes back under the job's number. What was printed last is kept for the texts and the clicks.
 
 let print1525 = null;
-const shown = { kind: '', ask: null, svg: '', list: null };    // what is on paper
+const shown = { kind: '', ask: null, svg: '', lines: null };   // what is on paper
 const wire = { bytes: null, input: 'text', edges: null, frames: [], readings: null };
 
 const text = bytes => new TextDecoder().decode(bytes);
@@ -14,13 +14,13 @@ const answerOf = answer => {
   return { code, fault, line, statement, words: print1525.words(answer) };
 };
 
-
-/** What stands behind the papers in a page text: each statement's status (1 where no device answered) and the screen's bytes. */
-function endOf(list) {
-  let at = list.length - 2;
-  while (at > 0 && !(list[at] === 10 && list[at + 1] === 115 && list[at + 2] === 116 && list[at + 3] === 97)) at--;
-  const [statuses, screen] = text(list.subarray(at + 1)).split('\n').map(line => line.split(' ').slice(1));
-  return { statuses: Uint8Array.from(statuses, status => status === '0' ? 0 : 1), screen: Uint8Array.from(screen, Number) };
+/** What stands behind the papers in the lines of a run: each statement's status (1 where no device answered) and the screen's bytes. */
+function endOf(lines) {
+  const numbers = name => {
+    const from = `\n${lines}`.lastIndexOf(`\n${name}: `);        // a printed line has a sign in front
+    return from < 0 ? [] : lines.slice(from + name.length + 2, lines.indexOf('.', from)).split(/\s+/);
+  };
+  return { statuses: Uint8Array.from(numbers('Statuses'), status => status === '0' ? 0 : 1), screen: Uint8Array.from(numbers('Screen'), Number) };
 }
 
 /** Prints on paper by one of the module's calls, as a picture, and keeps it. */
@@ -28,7 +28,7 @@ function picture(kind, ask, answer) {
   shown.kind = kind;
   shown.ask = ask;
   shown.svg = text(answer.text);
-  shown.list = null;
+  shown.lines = null;
   return answer.text;
 }
 
@@ -71,15 +71,15 @@ const jobs = {
   async print(ask) {
     const began = performance.now();
     const run = { script: ask.script, printers: ask.printers, status: ask.status, delays: lasting() };
-    const list = await print1525.pages({ ...run, format: 'list' });
-    const answer = answerOf(list);
-    if (list.code <= 1) {
-      Object.assign(answer, endOf(list.text), { svg: picture('script', run, await print1525.pages({ ...run, format: 'svg' })) });
-      shown.list = list.text;
+    const lines = await print1525.pages({ ...run, format: 'text' });
+    const answer = answerOf(lines);
+    if (lines.code <= 1) {
+      Object.assign(answer, endOf(text(lines.text)), { svg: picture('script', run, await print1525.pages({ ...run, format: 'svg' })) });
+      shown.lines = lines.text;
     }
     answer.milliseconds = performance.now() - began;
-    if (list.code === 1) answer.told = text((await print1525.explainStop({ ...run, stop: list.fault, statement: list.statement })).text);
-    if (list.code === 2) answer.told = text((await print1525.explainScript({ script: ask.script })).text);
+    if (lines.code === 1) answer.told = text((await print1525.explainStop({ ...run, stop: lines.fault, statement: lines.statement })).text);
+    if (lines.code === 2) answer.told = text((await print1525.explainScript({ script: ask.script })).text);
     return answer;
   },
 
@@ -124,7 +124,7 @@ const jobs = {
     if (what === 'readings') return wire.readings.slice();
     if (what === 'trace') return wire.input === 'text' ? wire.bytes.slice() : textOfEdges(wire.edges, wire.edges.times.length);
     if (what === 'vcd') return (await print1525.bus({ ...shown.ask, delays, format: 'vcd' })).text;
-    if (what === 'list' && shown.list) return shown.list.slice();
+    if (what === 'text' && shown.lines) return shown.lines.slice();
     if (shown.kind === 'script') return (await print1525.pages({ ...shown.ask, format: what })).text;
     if (shown.kind === 'raw') return (await print1525.raw({ ...shown.ask, format: what })).text;
     return (await print1525.decode({ ...shown.ask, output: what })).text;
