@@ -87,7 +87,7 @@ class Wave {
   xOf(moment) { return NAMES_WIDTH + (moment - this.from) / (this.to - this.from) * this.width; }
   momentAt(x) { return this.from + (x - NAMES_WIDTH) / this.width * (this.to - this.from); }
   rows() {
-    const height = this.canvas.clientHeight, top = 40, bottom = height - 44, each = (bottom - top) / 3;
+    const height = this.canvas.clientHeight, top = 40, bottom = Math.max(height - 44, top + 36), each = (bottom - top) / 3;
     return { band: 8, top, bottom, each, axis: bottom + 4, strip: height - 14 };
   }
 
@@ -282,7 +282,7 @@ class Wave {
     pen.beginPath();
     let y = levelOf(from);
     pen.moveTo(NAMES_WIDTH, y);
-    if (to - from <= this.width * 2) {
+    if (to - from <= this.width / 3) {
       for (let i = from; i < to; i++) {
         const x = this.xOf(times[i]);
         pen.lineTo(x, y);
