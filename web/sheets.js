@@ -93,13 +93,20 @@ function marksOf(svg, among = null) {
   return counts;
 }
 
-/** The marks of a picture that another one has not (or not as often): `{ printer, row, x, width }`. */
+/**
+ * The marks of a picture that another one has not (or not as often): `{ printer, row, x, width }`. The boxes of a reversed cell
+ * are one mark with the character in front of them.
+ */
 function marksMore(before, behind) {
-  const had = marksOf(before), more = [];
+  const had = marksOf(before), more = [], boxes = [];
   for (const [name, count] of marksOf(behind)) {
     if (count <= (had.get(name) || 0)) continue;
     const [printer, row, x, width] = name.split(' ', 4).map(Number);
-    more.push({ printer, row, x, width });
+    (name.endsWith(' box') ? boxes : more).push({ printer, row, x, width });
+  }
+  for (const box of boxes) {
+    const same = more.find(mark => mark.printer === box.printer && mark.row === box.row && box.x >= mark.x && box.x <= mark.x + mark.width && mark.width < 18);
+    if (same) same.width = Math.max(same.width, box.x + box.width - same.x); else more.push(box);
   }
   return more;
 }
