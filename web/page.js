@@ -101,7 +101,7 @@ async function printNow(version) {
     const answer = await ask('print', { script, printers: state.printers, status: state.status });
     if (version !== wanted && performance.now() - lastShown < 400) return;
     lastShown = performance.now();
-    showRun(answer);
+    showRun(answer, version === wanted);
     if (version === wanted && answer.code <= 1) traceSoon(version, script.length);
     return;
   }
@@ -112,9 +112,9 @@ async function printNow(version) {
 
 let lastShown = 0;
 
-/** Shows what a script's run gives. */
-function showRun(answer) {
-  showScript(answer);
+/** Shows what a script's run gives: its sheets, and beside the listing how it went, if that is still the listing. */
+function showRun(answer, isLatest) {
+  if (isLatest) showScript(answer);
   if (answer.code > 1) { document.body.classList.add('stale'); return; }
   document.body.classList.remove('stale');
   showPaper(decode(answer.svg));

@@ -63,9 +63,9 @@ class Paper {
   }
 
   scale() {
-    if (this.size) return this.size / PICA;
     const width = this.inFocus().length > 1 ? this.picture.width : SHEET_AND_MARGINS;
-    return Math.min(this.element.clientWidth / width, 20 / PICA);
+    const wanted = this.size ? this.size / PICA : Math.min(this.element.clientWidth / width, 20 / PICA);
+    return Math.min(wanted, HIGHEST / this.picture.height);
   }
 
   /** Scrolls to the sheet that has something on it, when that is another one than before. */
