@@ -120,7 +120,7 @@ class Page:
             raise Failed(details.get("exception", {}).get("description") or details["text"])
         return answer["result"].get("value")
 
-    def until(self, script, seconds=30):
+    def until(self, script, seconds=120):
         """Waits until a script's value is true, and gives how long that took."""
         began = time.time()
         while True:

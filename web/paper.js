@@ -174,7 +174,8 @@ class Paper {
     group.setAttribute('class', 'found');
     for (const { x, y, width } of this.found) {
       const box = document.createElementNS('http://www.w3.org/2000/svg', 'rect');
-      for (const [name, value] of Object.entries({ x: x - 12, y: y - 22, width: width + 24, height: LETTER_HEIGHT + 44, rx: 20 })) box.setAttribute(name, value);
+      const places = { x: x - 12, y: y - 22, width: width + 24, height: LETTER_HEIGHT + 44, rx: 20 };
+      for (const [name, value] of Object.entries(places)) box.setAttribute(name, value);
       group.append(box);
     }
     this.svg.append(group);

@@ -70,8 +70,9 @@ function marksIn(text) {
       for (const column of found[1].split('M').slice(1)) marks.push({ x: parseInt(column, 10), width: 1, what: column.slice(column.indexOf('-')) });
     } else if ((found = /^<text [^>]*?(?:x="|translate\()(\d+)[^>]*?>(.*)<\/text>$/.exec(line))) {
       const wide = line.includes(' scale(2 ') ? 2 : 1, white = line.includes('fill="#fff"') ? 'white ' : '';
+      const width = 6 * wide, kind = white + (wide > 1 ? 'wide ' : '');
       characters(found[2]).forEach((character, place) => {
-        if (character !== ' ') marks.push({ x: Number(found[1]) + 6 * wide * place, width: 6 * wide, what: white + (wide > 1 ? 'wide ' : '') + character });
+        if (character !== ' ') marks.push({ x: Number(found[1]) + width * place, width, what: kind + character });
       });
     }
   }
@@ -105,7 +106,8 @@ function marksMore(before, behind) {
     (name.endsWith(' box') ? boxes : more).push({ printer, row, x, width });
   }
   for (const box of boxes) {
-    const same = more.find(mark => mark.printer === box.printer && mark.row === box.row && box.x >= mark.x && box.x <= mark.x + mark.width && mark.width < 18);
+    const touches = mark => mark.printer === box.printer && mark.row === box.row && box.x >= mark.x && box.x <= mark.x + mark.width;
+    const same = more.find(mark => touches(mark) && mark.width < 18);
     if (same) same.width = Math.max(same.width, box.x + box.width - same.x); else more.push(box);
   }
   return more;

@@ -14,7 +14,8 @@ const hexadecimal = byte => byte.toString(16).toUpperCase().padStart(2, '0');
 class Wave {
   /** `onUnder` is told what is under the pointer, `onChoose` the index of the frame that is chosen, or -1. */
   constructor(canvas, onUnder, onChoose) {
-    Object.assign(this, { canvas, onUnder, onChoose, frames: [], edges: null, turns: [], end: 0, chosen: -1, from: 0, to: 1, moved: false, pointer: null });
+    Object.assign(this, { canvas, onUnder, onChoose, frames: [], edges: null, turns: [] });
+    Object.assign(this, { begin: 0, end: 0, from: 0, to: 1, moved: false, chosen: -1, pointer: null });
     new ResizeObserver(() => this.draw()).observe(canvas);
     matchMedia('(prefers-color-scheme: dark)').addEventListener('change', () => this.draw());
     canvas.addEventListener('keydown', event => this.key(event));
@@ -75,7 +76,7 @@ class Wave {
     if (frame) {
       const end = Number.isFinite(frame.end) ? frame.end : frame.look + 1000, long = end - frame.look;
       if (this.to - this.from > long * 60 || this.to - this.from < long * 1.2) this.see(frame.look - long * 1.5, end + long * 1.5);
-      else if (frame.look < this.from || end > this.to) this.see((frame.look + end - this.to + this.from) / 2, (frame.look + end + this.to - this.from) / 2);
+      else if (frame.look < this.from || end > this.to) this.see(frame.look + (long - this.to + this.from) / 2, frame.look + (long + this.to - this.from) / 2);
     }
     this.draw();
     if (tell) this.onChoose(index);
@@ -113,7 +114,8 @@ class Wave {
     const { x, y } = this.pointer, { top, bottom, each } = this.rows();
     if (x < NAMES_WIDTH || x > this.canvas.clientWidth - RIGHT || y > bottom + 20) return null;
     const moment = this.momentAt(x), wire = y >= top && y < bottom ? WIRES[Math.floor((y - top) / each)] : null;
-    const around = this.intervalsAt(moment).filter(part => part.from <= moment && moment <= part.to).sort((a, b) => (a.to - a.from) - (b.to - b.from));
+    const around = this.intervalsAt(moment).filter(part => part.from <= moment && moment <= part.to);
+    around.sort((a, b) => (a.to - a.from) - (b.to - b.from));
     const part = around.find(part => wire && part.line === wire.bit) || around[0] || null;
     const under = { moment, frame: this.frameUnder(moment), part, wire };
     if (!part && wire) {
@@ -128,10 +130,19 @@ class Wave {
   key(event) {
     const step = event.shiftKey ? .9 : .15, last = this.frames.length - 1;
     const next = () => this.chosen >= 0 ? this.chosen + 1 : Math.max(frameAt(this.frames, this.from) + (this.from > this.begin ? 1 : 0), 0);
+    const before = () => this.chosen >= 0 ? this.chosen - 1 : next() - 1;
     const keys = {
-      ArrowLeft: () => this.pan(-step), ArrowRight: () => this.pan(step), '+': () => this.zoom(1.5), '=': () => this.zoom(1.5), '-': () => this.zoom(1 / 1.5),
-      Home: () => this.all(), End: () => this.see(this.end - (this.to - this.from), this.end), Escape: () => this.choose(-1),
-      n: () => last >= 0 && this.choose(Math.min(next(), last)), p: () => last >= 0 && this.choose(Math.max(this.chosen >= 0 ? this.chosen - 1 : next() - 1, 0)),
+      ArrowLeft: () => this.pan(-step),
+      ArrowRight: () => this.pan(step),
+      '+': () => this.zoom(1.5),
+      '=': () => this.zoom(1.5),
+      '-': () => this.zoom(1 / 1.5),
+      0: () => this.all(),
+      Home: () => this.all(),
+      End: () => this.see(this.end - (this.to - this.from), this.end),
+      Escape: () => this.choose(-1),
+      n: () => last >= 0 && this.choose(Math.min(next(), last)),
+      p: () => last >= 0 && this.choose(Math.max(before(), 0)),
     };
     const act = !event.ctrlKey && !event.metaKey && !event.altKey && (keys[event.key] || keys[event.key.toLowerCase()]);
     if (!act) return;
@@ -223,7 +234,10 @@ class Wave {
     this.drawAttention(places);
     this.drawAxis(places);
     this.drawChosen(places);
-    WIRES.forEach((wire, number) => this.drawWire(this.turns[number], places.top + number * places.each + 8, places.top + (number + 1) * places.each - 6));
+    WIRES.forEach((wire, number) => {
+      const top = places.top + number * places.each;
+      this.drawWire(this.turns[number], top + 8, top + places.each - 6);
+    });
     this.drawFrames(places);
     this.drawUnder(places);
     this.drawStrip(places);
@@ -340,7 +354,8 @@ class Wave {
     pen.stroke();
     if (eoi) { pen.fillStyle = this.ink('eoi'); pen.fillRect(x + width - eoi - .5, top + 1, eoi, 23); }
     pen.font = `600 12px ${this.font}`;
-    const words = [frame.eoi ? `${frame.name} EOI` : frame.fault ? `${frame.name}, ${frame.fault}` : frame.name, frame.name, frame.name.replace(/^(['"])(.)\1$/, '$2')];
+    const whole = frame.eoi ? `${frame.name} EOI` : frame.fault ? `${frame.name}, ${frame.fault}` : frame.name;
+    const words = [whole, frame.name, frame.name.replace(/^(['"])(.)\1$/, '$2')];
     const fits = word => pen.measureText(word).width < width - eoi - 5;
     let fitting = words.find(fits);
     if (!fitting) {

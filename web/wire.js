@@ -164,15 +164,15 @@ function readingsOf(text) {
       });
     } else if ((found = GLITCH.exec(line))) {
       readings.frames.push({
-        look: Number(found[1]), end: Number(found[4] ?? Infinity), kind: 'glitch', byte: null, name: found[2] === '1' ? '1 bit' : `${found[2]} bits`, eoi: false,
-        fault: found[3] || 'cut by the end', line: index,
+        look: Number(found[1]), end: Number(found[4] ?? Infinity), kind: 'glitch', byte: null,
+        name: found[2] === '1' ? '1 bit' : `${found[2]} bits`, eoi: false, fault: found[3] || 'cut by the end', line: index,
       });
     } else if (/^(not )?lawful/.test(line)) readings.verdict = line;
     else if ((found = INTERVAL.exec(line))) {
       const [, name, count, least, over, middle, greatest, from, to, outside] = found;
       readings.intervals.push(count === undefined ? { name, count: 0 } : {
-        name, count: Number(count), least: Number(least), middle: (over || '') + middle, greatest: Number(greatest), from: Number(from), to: Number(to),
-        outside: Number(outside),
+        name, count: Number(count), least: Number(least), middle: (over || '') + middle, greatest: Number(greatest),
+        from: Number(from), to: Number(to), outside: Number(outside),
       });
     } else if ((found = /^([a-z ']+): (\d+)$/.exec(line))) readings.counts.push({ name: found[1], count: Number(found[2]) });
   });
@@ -249,11 +249,14 @@ function intervalsBetween(before, behind, { times, levels }) {
       freed = since = time;
       called = null;
     } else if (turned & ATN) {
-      part(rests ? 'rest' : before && freed === null && called === null ? 'from the acknowledgement to ATN' : 'before ATN is pulled', since, time, ATN, rests ? '' : 'Bb');
+      const name = before && freed === null && called === null ? 'from the acknowledgement to ATN' : 'before ATN is pulled';
+      part(rests ? 'rest' : name, since, time, ATN, rests ? '' : 'Bb');
       called = time;
     }
     if (turned & DATA && !(level & DATA) && called !== null) part('the printers answer ATN', called, time, DATA, 'At');
-    if (turned & DATA && level & DATA && freed !== null && freed < time && called === null) part('printers that do not listen let DATA go', freed, time, DATA, 'Dr');
+    if (turned & DATA && level & DATA && freed !== null && freed < time && called === null) {
+      part('printers that do not listen let DATA go', freed, time, DATA, 'Dr');
+    }
     if (turned & CLOCK && level & CLOCK && called === null && freed !== null && time < to) {
       const unlisten = before && before.name === 'UNLISTEN';
       part(unlisten ? 'from ATN to CLOCK, behind UNLISTEN' : 'a byte that nobody hears', freed, time, CLOCK, unlisten ? 'Cr' : 'Bb');

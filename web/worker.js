@@ -52,7 +52,7 @@ async function least(count, isSo) {
 function keepWire(bytes, input, edges, readings) {
   const { frames, counts, intervals, verdict } = readingsOf(text(readings));
   Object.assign(wire, { bytes, input, edges, frames, readings });
-  return { times: edges.times.slice(), levels: edges.levels.slice(), frames, counts, intervals, verdict, readings: readings.slice(), size: bytes.length };
+  return { times: edges.times.slice(), levels: edges.levels.slice(), frames, counts, intervals, verdict };
 }
 
 const jobs = {
