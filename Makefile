@@ -8,8 +8,8 @@
 #                   xmllint and rsvg-convert (libxml2-utils, librsvg2-bin and netpbm); and the calls for C watched by valgrind and
 #                   by cc's sanitizer of addresses
 # make lib          proves and builds libprint1525.a, the library for C programs (docs/C.md)
-# make web          makes web/print1525.html, the page in a browser: proves its module once more in a copy of the crates, for
-#                   WebAssembly (web/README.md says what that takes), and tells whether the committed file is another one
+# make web          makes web/print1525.html, the page in a browser, with its WebAssembly module of proved crates (web/README.md says
+#                   how), and tells whether the committed file is another one
 # make web-test     tests that page in Debian's chromium beside the built program
 # make install      copies the built program, the library for C with its header and what pkg-config wants, and the manual page to
 #                   $(DESTDIR)$(PREFIX), where PREFIX is /usr/local unless it is given
@@ -89,13 +89,13 @@ peer: build lib
 	@tests/peer $(PROGRAM)
 	@tests/pictures $(PROGRAM)
 
-# Not a part of the gate, which knows no WebAssembly. The module is made anew where a crate or a file of it changed.
+# Not a part of the gate, which knows no WebAssembly. The module is made anew where a crate changed.
 web: $(MODULE)
 	@web/make $(MODULE)
 	@git diff --quiet HEAD -- web/print1525.html && echo 'web/print1525.html is the committed file.' || \
 		echo 'web/print1525.html is another file than the committed one.'
 
-$(MODULE): $(SOURCES) web/module $(shell find web/crates -type f 2>/dev/null)
+$(MODULE): $(SOURCES) web/module
 	@mkdir -p $(@D)
 	web/module $@
 
