@@ -8,6 +8,9 @@
 #                   xmllint and rsvg-convert (libxml2-utils, librsvg2-bin and netpbm); and the calls for C watched by valgrind and
 #                   by cc's sanitizer of addresses
 # make lib          proves and builds libprint1525.a, the library for C programs (docs/C.md)
+# make web          makes web/print1525.html, the page in a browser, with its WebAssembly module of proved crates (web/README.md says
+#                   how), and tells whether the committed file is another one
+# make web-test     tests that page in Debian's chromium beside the built program
 # make install      copies the built program, the library for C with its header and what pkg-config wants, and the manual page to
 #                   $(DESTDIR)$(PREFIX), where PREFIX is /usr/local unless it is given
 
@@ -15,6 +18,7 @@ SHELL := /bin/bash
 PREFIX ?= /usr/local
 PROGRAM := crates/print1525/out/print1525
 LIBRARY := libprint1525.a
+MODULE := out/print1525.wasm
 VERSION := 0.1.0
 
 # The crates whose tests go on after a refused allocation (tests/growths).
@@ -25,7 +29,7 @@ TESTS := $(foreach crate,$(GROWTHS),crates/$(crate)/out/$(crate)_tests)
 # What the program and the tests are built from.
 SOURCES := crates.txt $(shell find crates -path '*/out' -prune -o \( -name '*.rt' -o -name '*.antt' \) -print)
 
-.PHONY: run try build test outside cases edits bench peer lib install
+.PHONY: run try build test outside cases edits bench peer lib web web-test install
 
 run: build
 	@$(PROGRAM) pages < examples/hello.bas
@@ -84,6 +88,20 @@ peer: build lib
 	@tests/watched $(LIBRARY)
 	@tests/peer $(PROGRAM)
 	@tests/pictures $(PROGRAM)
+
+# Not a part of the gate, which knows no WebAssembly. The module is made anew where a crate changed.
+web: $(MODULE)
+	@web/make $(MODULE)
+	@git diff --quiet HEAD -- web/print1525.html && echo 'web/print1525.html is the committed file.' || \
+		echo 'web/print1525.html is another file than the committed one.'
+
+$(MODULE): $(SOURCES) web/module
+	@mkdir -p $(@D)
+	web/module $@
+
+# Wants chromium; the pictures of the page are left in out/web, to be looked at.
+web-test: build
+	@web/test --program $(PROGRAM)
 
 install: build lib
 	install -d $(DESTDIR)$(PREFIX)/bin $(DESTDIR)$(PREFIX)/include $(DESTDIR)$(PREFIX)/lib/pkgconfig $(DESTDIR)$(PREFIX)/share/man/man1

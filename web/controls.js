@@ -1,0 +1,233 @@
+// The choices, the tabs, the bars and the buttons; and how the page begins.
+
+/** The lists of delays as numbers, or null where one is none; says so beside them. */
+function readLists() {
+  if (state.delays !== 'lists') return [];
+  const names = ['the computer', 'printer 4', 'printer 5'], lists = state.lists.map(list => {
+    const parts = list.trim() ? list.split(',').map(part => part.trim()) : [];
+    return parts.every(part => /^\d{1,5}$/.test(part) && Number(part) <= 65535) ? Uint16Array.from(parts, Number) : null;
+  });
+  const bad = lists.indexOf(null);
+  $('lists-fault').textContent = bad < 0 ? '' : `The list of ${names[bad]} is not numbers of 0 to 65535 with commas between them.`;
+  return bad < 0 ? lists : null;
+}
+
+function showChoices() {
+  const form = $('options');
+  form.elements.printers.value = state.printers;
+  form.elements.status.value = state.status;
+  form.elements.delays.value = state.delays;
+  ['computer', 'four', 'five'].forEach((name, index) => {
+    if (form.elements[name].value !== state.lists[index]) form.elements[name].value = state.lists[index];
+  });
+  $('lists').hidden = state.delays !== 'lists';
+}
+
+$('options').addEventListener('submit', event => event.preventDefault());
+$('options').addEventListener('input', () => {
+  const form = $('options').elements;
+  Object.assign(state, {
+    printers: Number(form.printers.value), status: Number(form.status.value), delays: form.delays.value,
+    lists: [form.computer.value, form.four.value, form.five.value],
+  });
+  showChoices();
+  readLists();
+  leaveSource();
+  listingChanged();
+});
+
+// tabs, bars, downloads
+
+function showTab(section, tab) {
+  state.tabs[section] = tab;
+  for (const made of $(section).querySelectorAll('[role=tab]')) {
+    const chosen = made.dataset.tab === tab;
+    made.setAttribute('aria-selected', String(chosen));
+    made.tabIndex = chosen ? 0 : -1;
+    $(made.dataset.tab).hidden = !chosen;
+  }
+  $(section).dataset.tab = tab;
+  fillReader(tab);
+  if (readers[tab]) readers[tab].draw();
+  if (tab === 'frames' && wave.chosen >= 0) readers.frames.mark(wave.frames[wave.chosen].line);
+  store.set('view', { ...(store.get('view') || {}), tabs: state.tabs });
+}
+
+for (const section of ['pages', 'wire']) {
+  $(section).querySelector('[role=tablist]').addEventListener('keydown', event => {
+    const tabs = [...$(section).querySelectorAll('[role=tab]')], at = tabs.indexOf(document.activeElement);
+    const to = { ArrowRight: at + 1, ArrowLeft: at - 1, Home: 0, End: tabs.length - 1 }[event.key];
+    if (at < 0 || to === undefined) return;
+    event.preventDefault();
+    const tab = tabs[(to + tabs.length) % tabs.length];
+    tab.focus();
+    showTab(section, tab.dataset.tab);
+  });
+  for (const tab of $(section).querySelectorAll('[role=tab]')) tab.onclick = () => showTab(section, tab.dataset.tab);
+}
+
+/** A bar between two parts that is dragged or moved with the arrow keys; the size is a share of the window. */
+function bar(id, variable, least, most, shareAt) {
+  const element = $(id), across = element.getAttribute('aria-orientation') === 'vertical';
+  const set = share => {
+    const size = Math.min(Math.max(share, least), most);
+    document.documentElement.style.setProperty(variable, `${(size * 100).toFixed(1)}%`);
+    element.setAttribute('aria-valuenow', String(Math.round(size * 100)));
+    store.set('view', { ...(store.get('view') || {}), [variable]: size });
+    return size;
+  };
+  let share = store.get('view')?.[variable];
+  share = share ? set(share) : null;
+  element.setAttribute('aria-valuemin', String(least * 100));
+  element.setAttribute('aria-valuemax', String(most * 100));
+  element.addEventListener('pointerdown', event => {
+    element.setPointerCapture(event.pointerId);
+    event.preventDefault();
+    element.focus();
+    element.onpointermove = move => { share = set(shareAt(move)); };
+  });
+  element.addEventListener('pointerup', () => { element.onpointermove = null; });
+  element.addEventListener('pointercancel', () => { element.onpointermove = null; });
+  element.addEventListener('keydown', event => {
+    const by = { [across ? 'ArrowLeft' : 'ArrowDown']: -.02, [across ? 'ArrowRight' : 'ArrowUp']: .02 }[event.key];
+    if (!by) return;
+    event.preventDefault();
+    const box = $('bench').getBoundingClientRect();
+    share = set((share ?? (across ? $('listing').offsetWidth / box.width : $('wire').offsetHeight / box.height)) + by);
+  });
+}
+
+bar('bar-listing', '--listing', .18, .7, event => (event.clientX - $('bench').getBoundingClientRect().left) / $('bench').clientWidth);
+bar('bar-wire', '--wire', .15, .7, event => ($('bench').getBoundingClientRect().bottom - event.clientY) / $('bench').clientHeight);
+
+function download(bytes, name, type) {
+  const anchor = document.createElement('a');
+  anchor.href = URL.createObjectURL(new Blob([bytes], { type }));
+  anchor.download = name;
+  anchor.click();
+  setTimeout(() => URL.revokeObjectURL(anchor.href), 10000);
+}
+
+const FILES = {
+  svg: ['svg', 'image/svg+xml'],
+  text: ['txt', 'text/plain'],
+  list: ['page', 'text/plain'],
+  trace: ['trace', 'text/plain'],
+  vcd: ['vcd', 'text/plain'],
+  readings: ['frames', 'text/plain'],
+};
+
+for (const made of document.querySelectorAll('[data-save]')) {
+  made.onclick = async () => {
+    const what = made.dataset.save, [ending, type] = FILES[what];
+    const bytes = await ask('text', { what, delays: state.taken || [[], [], []].map(() => new Uint16Array(0)) });
+    download(bytes, `${(state.source?.name || 'listing').replace(/\.[^.]*$/, '')}.${ending}`, type);
+  };
+}
+$('save').onclick = () => download(encode(editor.text), 'listing.bas', 'text/plain');
+
+// the rest of the hands
+
+$('smaller').onclick = () => paper.zoom(1 / 1.25);
+$('larger').onclick = () => paper.zoom(1.25);
+$('fit').onclick = () => paper.fit();
+$('sheets').addEventListener('keydown', event => {
+  if (event.ctrlKey || event.metaKey || event.altKey) return;
+  const keys = {
+    '+': () => paper.zoom(1.25),
+    '=': () => paper.zoom(1.25),
+    '-': () => paper.zoom(1 / 1.25),
+    0: () => paper.fit(),
+    Escape: () => wave.choose(-1),
+  };
+  const act = keys[event.key];
+  if (act) { event.preventDefault(); act(); }
+});
+$('wave-smaller').onclick = () => wave.zoom(1 / 1.6);
+$('wave-larger').onclick = () => wave.zoom(1.6);
+$('wave-fit').onclick = () => wave.all();
+$('about').onclick = () => $('about-box').showModal();
+$('about-box').addEventListener('click', event => { if (event.target === $('about-box')) $('about-box').close(); });
+$('menu').onchange = () => { const { value } = $('menu'); $('menu').selectedIndex = 0; openFromMenu(value); };
+$('open').onclick = () => $('file').click();
+$('file').onchange = async () => {
+  const file = $('file').files[0];
+  $('file').value = '';
+  if (file) take(new Uint8Array(await file.arrayBuffer()), file.name);
+};
+$('link').onclick = async () => {
+  const plain = await save(), link = location.href;
+  if (!plain) return notice('link', 'This listing is too long for an address: save it as a file.', [button('Close', () => notice('link', ''))]);
+  try {
+    await navigator.clipboard.writeText(link);
+    $('link').textContent = 'Copied';
+    setTimeout(() => { $('link').textContent = 'Copy link'; }, 1600);
+  } catch {
+    notice('link', 'The address of this page now holds the listing: copy it from the address bar.', [button('Close', () => notice('link', ''))]);
+  }
+};
+
+let dragged = 0;
+addEventListener('dragenter', event => { if (event.dataTransfer?.types.includes('Files')) { dragged++; $('drop').hidden = false; } });
+addEventListener('dragleave', event => {
+  if (!event.dataTransfer?.types.includes('Files')) return;
+  dragged = Math.max(dragged - 1, 0);
+  $('drop').hidden = dragged === 0;
+});
+addEventListener('dragover', event => { if (event.dataTransfer?.types.includes('Files')) event.preventDefault(); });
+addEventListener('drop', async event => {
+  dragged = 0;
+  $('drop').hidden = true;
+  const file = event.dataTransfer?.files[0];
+  if (!file) return;
+  event.preventDefault();
+  take(new Uint8Array(await file.arrayBuffer()), file.name);
+});
+addEventListener('pagehide', () => { if (saving) save(); });
+document.addEventListener('visibilitychange', () => { if (document.hidden && saving) save(); });
+addEventListener('hashchange', async () => {
+  if (location.hash === lastHash) return;
+  lastHash = location.hash;
+  const linked = await readAddress(location.hash);
+  if (linked) { keepEarlier(); put(linked); listingChanged(); }
+});
+
+/** Puts a listing and its choices in. */
+function put({ text, printers, status, delays, lists }) {
+  Object.assign(state, { printers, status, delays, lists });
+  leaveSource();
+  showChoices();
+  editor.replace(text);
+}
+
+let ready = false;
+
+/** Begins with the listing of the address, or with the one that was kept, or with an example; then makes the module ready. */
+async function begin() {
+  const linked = await readAddress(location.hash), kept = store.get('listing');
+  const first = { printers: 3, status: 0, delays: 'typical', lists: ['', '', ''] };
+  const view = store.get('view');
+  showTab('pages', view?.tabs?.pages || 'sheets');
+  showTab('wire', view?.tabs?.wire || 'wave');
+  if (linked && kept && kept.text !== linked.text) keepEarlier(kept.text);
+  put({ ...first, ...(linked || kept || { text: (examples.find(example => example.name === 'banner') || examples[0]).text }) });
+  fillMenu();
+  if (!has64BitMemory()) {
+    notice('memory', 'This browser has no 64-bit memory for WebAssembly (memory64), and the proved code needs it. Chrome, Edge and ' +
+      'other Chromium browsers have it from version 133, Firefox from 134. What you type here is kept all the same.');
+    $('told').textContent = 'Nothing can be printed in this browser.';
+    cover('Nothing can be printed in this browser.');
+    return;
+  }
+  try {
+    await ask('open', { bytes: fromBase64($('module').textContent.trim()) });
+  } catch (error) {
+    notice('memory', `The module cannot run in this browser: ${error.message}`);
+    return;
+  }
+  ready = true;
+  document.body.classList.add('ready');
+  print();
+}
+
+begin();

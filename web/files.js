@@ -1,0 +1,107 @@
+// Files that are dropped or opened: listings, traces, recordings and a printer's bytes.
+
+const KINDS = { script: 'a listing', text: 'a trace', vcd: 'a Value Change Dump', csv: 'a table of samples', raw: 'a printer\'s bytes' };
+
+/** What a file seems to be, by what stands in it. */
+function kindOf(bytes, name) {
+  const head = new TextDecoder('latin1').decode(bytes.subarray(0, 4096)), lines = head.split('\n').map(line => line.trim()).filter(Boolean);
+  if (/\.vcd$/i.test(name) || /\$(timescale|var|enddefinitions)\b/.test(head)) return 'vcd';
+  if (lines.length && /^\d+ [01]{3}$/.test(lines[0])) return 'text';
+  if (/\.csv$/i.test(name) || /^[^\n]*,\s*"?(atn|clock|clk|data)"?\s*(,|$)/im.test(head)) return 'csv';
+  const isText = !/[\x00-\x08\x0e-\x1f\x7f-\x9f]/.test(head);
+  if (/\.bas$/i.test(name) || (isText && /^[ \t]*\d*[ \t]*(open|cmd|print|close|rem)\b/im.test(head))) return 'script';
+  return bytes.some(byte => byte < 9 || (byte > 13 && byte < 32) || byte > 126) ? 'raw' : 'script';
+}
+
+/** Shows a file as what it is, or as what it is said to be. */
+function take(bytes, name, kind = kindOf(bytes, name)) {
+  if (kind === 'script') {
+    leaveSource();
+    keepEarlier();
+    let text;
+    try { text = new TextDecoder('utf-8', { fatal: true }).decode(bytes); } catch { text = new TextDecoder('latin1').decode(bytes); }
+    editor.replace(text);
+    tellOnce('lines', /\r(?!\n)/.test(text) ? 'The file had carriage returns alone between lines; they are line ends here.' : '');
+    return listingChanged();
+  }
+  state.source = { bytes, name, kind, set: 0, names: ['ATN', 'CLOCK', 'DATA'], inverted: false, start: 0 };
+  wave.moved = false;
+  sourceNotice();
+  print();
+}
+
+/** What the module is asked of a recording. */
+const recordingOf = ({ bytes, kind, names, inverted, start }) => ({ bytes, input: kind, ...(kind === 'text' ? {} : { names, inverted, start }) });
+
+/** The signals of a dump or a table: their names, whether their levels are inverted, and where the recording begins. */
+function signalFields(source) {
+  const fields = document.createElement('span'), again = () => print();
+  fields.className = 'signals';
+  const field = (words, value, act, type = 'text') => {
+    const label = document.createElement('label'), input = document.createElement('input');
+    Object.assign(input, { type, value, autocomplete: 'off', spellcheck: false });
+    if (type === 'checkbox') input.checked = value;
+    input.onchange = () => { act(input); again(); };
+    label.append(...(type === 'checkbox' ? [input, words] : [words, input]));
+    fields.append(label);
+  };
+  ['ATN', 'CLOCK', 'DATA'].forEach((name, line) => {
+    field(`${name} is`, source.names[line], input => { source.names[line] = input.value.trim() || name; });
+  });
+  field('inverted', source.inverted, input => { source.inverted = input.checked; }, 'checkbox');
+  field('from', source.start, input => { source.start = Math.max(Math.floor(Number(input.value)) || 0, 0); });
+  fields.append('µs');
+  return fields;
+}
+
+function sourceNotice(words = '') {
+  const { source } = state;
+  document.body.dataset.shows = !source ? 'script' : source.kind === 'raw' ? 'raw' : 'recording';
+  if (!source) return notice('source', '');
+  if (source.kind !== 'raw' && state.tabs.pages === 'list') showTab('pages', 'sheets');
+  const pick = (label, values, value, act) => {
+    const select = document.createElement('select');
+    select.setAttribute('aria-label', label);
+    for (const [key, text] of Object.entries(values)) select.add(new Option(text, key, false, key === String(value)));
+    select.onchange = () => act(select.value);
+    return select;
+  };
+  const actions = [pick('Read the file as', KINDS, source.kind, kind => take(source.bytes, source.name, kind))];
+  if (source.kind === 'raw') {
+    const sets = { 0: 'graphic/upper case', 1: 'lower/upper case' };
+    actions.push(pick('Character set', sets, source.set, set => { source.set = Number(set); print(); }));
+  }
+  if (source.kind === 'vcd' || source.kind === 'csv') actions.push(signalFields(source));
+  actions.push(button('Back to the listing', () => { leaveSource(); print(); }));
+  notice('source', `The paper ${source.kind === 'raw' ? 'shows' : 'and the wire show'} ${source.name}.${words ? ` ${words}` : ''}`, actions);
+}
+
+function leaveSource() {
+  notice('byte', '');
+  if (!state.source) return;
+  state.source = null;
+  wave.moved = false;
+  sourceNotice();
+}
+
+/** Shows what a file gives. */
+function showSource(answer) {
+  const { source } = state;
+  document.body.classList.remove('stale');
+  const why = answer.code === 2 ? `It cannot be read to its end: ${answer.words}.` : answer.code > 2 ? 'There was no memory for it.' : '';
+  const told = (answer.told || '').split('\n').map(line => line.trim()).filter(line => line && !/^[\^~]+$/.test(line));
+  const verdict = !answer.verdict ? '' : answer.verdict === 'lawful' ? 'It is lawful.' : `${answer.verdict[0].toUpperCase()}${answer.verdict.slice(1)}.`;
+  sourceNotice(why || verdict);
+  if (told.length) {
+    const [more, name, text] = ['details', 'summary', 'pre'].map(kind => document.createElement(kind));
+    name.textContent = 'Why';
+    text.textContent = answer.told.replace(/\n$/, '');
+    more.append(name, text);
+    document.querySelector('[data-notice="source"]').append(more);
+  }
+  if (answer.svg) showPaper(decode(answer.svg)); else { paper.show(''); $('no-sheet').hidden = true; }
+  if (source.kind === 'raw') { showWire(null); cover('A printer\'s bytes alone: nothing is known of the wire.'); return; }
+  cover('');
+  showWire(answer);
+}
+

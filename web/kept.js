@@ -1,0 +1,112 @@
+// What is kept: the listing in this browser and in the address, and the listings before it; and the menu that brings them back.
+
+let saving = 0;
+
+/** The listing changed: it is kept, and printed. */
+function listingChanged() {
+  clearTimeout(saving);
+  saving = setTimeout(save, 300);
+  notice('drag', '');
+  print();
+}
+
+const store = {
+  get(name) { try { return JSON.parse(localStorage.getItem(`print1525.${name}`)); } catch { return null; } },
+  set(name, value) {
+    try { localStorage.setItem(`print1525.${name}`, JSON.stringify(value)); return true; } catch { return false; }
+  },
+};
+
+/** Keeps the listing and the choices in this browser, and puts them into the address. */
+function save() {
+  clearTimeout(saving);
+  saving = 0;
+  const { printers, status, delays, lists } = state, kept = store.set('listing', { text: editor.text, printers, status, delays, lists });
+  notice('kept', kept ? '' : 'This listing is too long to be kept by the browser: save it as a file.');
+  return address().then(hash => {
+    const plain = hash.length <= LINK_LIMIT ? hash : '';
+    history.replaceState(null, '', `${location.pathname}${location.search}${plain ? `#${plain}` : ''}`);
+    lastHash = location.hash;
+    return plain;
+  });
+}
+
+let lastHash = location.hash;
+
+async function through(stream, bytes) {
+  return new Uint8Array(await new Response(new Blob([bytes]).stream().pipeThrough(stream)).arrayBuffer());
+}
+
+/** The state as the part of an address behind `#`: the choices by their letters, and the listing, deflated, in base64url; empty for a long one. */
+async function address() {
+  if (editor.text.length > 10 * LINK_LIMIT) return '';
+  const { printers, status, delays, lists } = state, parts = [`p=${['none', '4', '5', 'both'][printers]}`];
+  if (status) parts.push('s=kept');
+  if (delays !== 'typical') parts.push(`d=${delays === 'lists' ? lists.map(list => list.replace(/\s/g, '')).join('/') : delays}`);
+  const bytes = await through(new CompressionStream('deflate-raw'), encode(editor.text));
+  let text = '';
+  for (let at = 0; at < bytes.length; at += 8192) text += String.fromCharCode(...bytes.subarray(at, at + 8192));
+  parts.push(`t=${btoa(text).replace(/\+/g, '-').replace(/\//g, '_').replace(/=+$/, '')}`);
+  return parts.join('&');
+}
+
+/** Reads an address; null where it has no listing that can be read. */
+async function readAddress(hash) {
+  const parts = new Map(hash.replace(/^#/, '').split('&').map(part => [part[0], part.slice(2)]));
+  if (!parts.has('t')) return null;
+  try {
+    const text = decode(await through(new DecompressionStream('deflate-raw'), fromBase64(parts.get('t').replace(/-/g, '+').replace(/_/g, '/'))));
+    const printers = ['none', '4', '5', 'both'].indexOf(parts.get('p')), delays = decodeURIComponent(parts.get('d') || 'typical');
+    const isWord = ['typical', 'least', 'greatest'].includes(delays);
+    return {
+      text, printers: printers < 0 ? 3 : printers, status: parts.get('s') === 'kept' ? 1 : 0,
+      delays: isWord ? delays : 'lists', lists: isWord ? ['', '', ''] : [...delays.split('/'), '', ''].slice(0, 3),
+    };
+  } catch { return null; }
+}
+
+/** Keeps the listing that another one is about to replace, unless it is an example as it came. */
+function keepEarlier(text = editor.text) {
+  if (!text.trim() || examples.some(example => example.text === text)) return;
+  const earlier = (store.get('earlier') || []).filter(kept => kept.text !== text);
+  earlier.unshift({ text, when: Date.now() });
+  while (earlier.length > EARLIER_LIMIT || (earlier.length > 1 && !store.set('earlier', earlier))) earlier.pop();
+  store.set('earlier', earlier);
+  fillMenu();
+}
+
+// the menu
+
+const examples = JSON.parse($('examples').textContent);
+
+function fillMenu() {
+  const menu = $('menu'), groups = new Map();
+  menu.replaceChildren(new Option('an example …', '', true, true));
+  const add = (group, words, value) => {
+    if (!groups.has(group)) {
+      groups.set(group, Object.assign(document.createElement('optgroup'), { label: group }));
+      menu.append(groups.get(group));
+    }
+    groups.get(group).append(new Option(words, value));
+  };
+  examples.forEach(({ group, name, title }, index) => add(group, title ? `${name}: ${title}` : name, `example ${index}`));
+  add('New', 'an empty listing', 'empty');
+  for (const [index, { text, when }] of (store.get('earlier') || []).entries()) {
+    const first = text.split('\n').find(line => line.trim()) || '', then = new Date(when).toLocaleString([], { dateStyle: 'medium', timeStyle: 'short' });
+    add('Your earlier listings', `${first.trim().slice(0, 40)} (${then})`, `earlier ${index}`);
+  }
+}
+
+function openFromMenu(value) {
+  const [what, index] = value.split(' ');
+  if (!what) return;
+  const example = what === 'example' ? examples[index] : null;
+  if (example?.bytes) return take(fromBase64(example.bytes), example.name, example.kind);
+  const text = example ? example.text : what === 'earlier' ? store.get('earlier')[index].text : '';
+  leaveSource();
+  keepEarlier();
+  editor.replace(text);
+  wave.moved = false;
+  listingChanged();
+}
+

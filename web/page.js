@@ -1,0 +1,238 @@
+// The page: what is typed goes to the worker, and what comes back goes on paper and on the wire.
+
+const $ = id => document.getElementById(id);
+const AUTOMATIC = 64 * 1024;       // a longer listing's trace is made only when it is asked for
+const LINK_LIMIT = 30000;          // characters of an address
+const EARLIER_LIMIT = 20;
+
+/** The choices beside the listing, and what the paper and the wire show: the listing, or a file (`source`). */
+const state = { printers: 3, status: 0, delays: 'typical', lists: ['', '', ''], source: null, tabs: { pages: 'sheets', wire: 'wave' } };
+
+// the worker
+
+const worker = new Worker(URL.createObjectURL(new Blob([$('worker').textContent], { type: 'text/javascript' })));
+const answers = new Map();
+let jobs = 0;
+
+/** Gives the worker a job, and answers with its answer. */
+function ask(job, what) {
+  return new Promise((resolve, reject) => {
+    answers.set(++jobs, { resolve, reject });
+    worker.postMessage({ number: jobs, job, ask: what });
+  });
+}
+
+worker.onmessage = ({ data: { number, answer, error } }) => {
+  const { resolve, reject } = answers.get(number);
+  answers.delete(number);
+  if (error === undefined) resolve(answer); else reject(new Error(error));
+};
+
+const decode = bytes => new TextDecoder().decode(bytes);
+const encode = text => new TextEncoder().encode(text);
+const fromBase64 = text => Uint8Array.from(atob(text), sign => sign.charCodeAt(0));
+
+/** Whether the browser has 64-bit memories, by a module that is nothing but one. */
+const has64BitMemory = () => WebAssembly.validate(Uint8Array.of(0, 97, 115, 109, 1, 0, 0, 0, 5, 3, 1, 4, 1));
+
+// the parts of the page
+
+const editor = new Editor(document.querySelector('.editor'), () => { leaveSource(); listingChanged(); });
+const paper = new Paper($('sheets'), mark => markClicked(mark));
+const wave = new Wave($('wave').querySelector('canvas'), under => tellUnder(under), frame => frameChosen(frame));
+const readers = {
+  lines: new Reader($('lines')),
+  list: new Reader($('list')),
+  frames: new Reader($('frames'), line => {
+    const frame = wave.frames.findIndex(frame => frame.line === line);
+    if (frame >= 0) wave.choose(frame);
+  }),
+  edges: new Reader($('edges')),
+};
+
+/** A notice at the top, with buttons; a later one of the same name takes its place. */
+function notice(name, words, actions = []) {
+  document.querySelector(`[data-notice="${name}"]`)?.remove();
+  if (!words) return;
+  const box = document.createElement('div'), text = document.createElement('p');
+  box.className = 'notice';
+  box.dataset.notice = name;
+  text.textContent = words;
+  box.append(text, ...actions);
+  $('notices').append(box);
+}
+
+/** A notice that goes when it is closed. */
+const tellOnce = (name, words) => notice(name, words, [button('Close', () => notice(name, ''))]);
+
+function button(words, act) {
+  const made = document.createElement('button');
+  made.type = 'button';
+  made.textContent = words;
+  made.onclick = act;
+  return made;
+}
+
+// printing
+
+let wanted = 0, printed = 0, printing = false, traced = 0, waitingTrace = 0;
+
+/** Prints what is there now. While the worker prints, only the latest of what comes meanwhile is printed then. */
+async function print() {
+  wanted++;
+  if (printing || !ready) return;
+  printing = true;
+  const slow = setTimeout(() => document.body.classList.add('printing'), 250);
+  try {
+    while (printed !== wanted) {
+      const version = wanted;
+      await printNow(version);
+      printed = version;
+    }
+  } catch (error) {
+    notice('failed', `The module failed: ${error.message}`);
+  }
+  clearTimeout(slow);
+  document.body.classList.remove('printing');
+  printing = false;
+}
+
+async function printNow(version) {
+  const { source } = state;
+  if (!source) {
+    const script = encode(editor.text);
+    const answer = await ask('print', { script, printers: state.printers, status: state.status });
+    if (version !== wanted && performance.now() - lastShown < 400) return;
+    lastShown = performance.now();
+    showRun(answer, version === wanted);
+    if (version === wanted && answer.code <= 1) traceSoon(version, script.length);
+    return;
+  }
+  const answer = source.kind === 'raw' ? await ask('raw', { bytes: source.bytes, set: source.set }) : await ask('recording', recordingOf(source));
+  if (version !== wanted || state.source !== source) return;
+  showSource(answer);
+}
+
+let lastShown = 0;
+
+/** Shows what a script's run gives: its sheets, and beside the listing how it went, if that is still the listing. */
+function showRun(answer, isLatest) {
+  if (isLatest) showScript(answer);
+  if (answer.code > 1) { document.body.classList.add('stale'); return; }
+  document.body.classList.remove('stale');
+  showPaper(decode(answer.svg));
+}
+
+let texts = 0;     // how often a text of the tabs became another one
+
+function showPaper(svg) {
+  paper.show(svg);
+  $('no-sheet').hidden = !paper.picture || paper.picture.sheets.length > 0;
+  $('no-sheet').textContent = state.source ? 'No printer hears a byte of this.' : 'No printer is on the bus: no sheet.';
+  for (const what of ['lines', 'list']) readers[what].stale = ++texts;
+  fillReader(state.tabs.pages);
+}
+
+/** Fills the text of a tab, if it is the one that is seen. */
+async function fillReader(tab) {
+  const what = { lines: 'text', list: 'list', edges: 'trace', frames: 'readings' }[tab], reader = readers[tab], version = reader?.stale;
+  if (!what || !version || !ready) return;
+  const bytes = await ask('text', { what });
+  if (reader.stale !== version) return;
+  reader.stale = 0;
+  reader.show(decode(bytes || new Uint8Array(0)));
+  if (tab === 'frames' && wave.frames[wave.chosen]) reader.mark(wave.frames[wave.chosen].line);
+}
+
+const counted = (number, one, many = `${one}s`) => `${spaced(number)} ${number === 1 ? one : many}`;
+
+/** Tells of a script how it went: beside its lines, and below them. */
+function showScript(answer) {
+  const told = $('told'), words = (name, text) => {
+    const line = document.createElement('p');
+    line.className = name;
+    line.textContent = text;
+    told.append(line);
+    return line;
+  };
+  told.replaceChildren();
+  told.className = ['fine', 'stopped', 'refused', 'refused'][answer.code] || 'refused';
+  editor.area.setAttribute('aria-invalid', String(answer.code === 2));
+  $('listing-facts').textContent = `${answer.milliseconds.toFixed(answer.milliseconds < 10 ? 1 : 0)} ms`;
+  if (answer.code === 2) tellRefusal(answer, words);
+  else if (answer.code > 2) words('first', 'There was no memory for this.');
+  else tellStatuses(answer, words);
+  showScreen(answer.code <= 1 ? answer.screen : new Uint8Array(0));
+}
+
+/** A script that cannot be read: its first fault, at its place. */
+function tellRefusal({ words: why, line, told }, words) {
+  const said = told.split('\n'), where = said.map(text => /^ {2}line (\d+), column (\d+)[^:]*: (.*)$/.exec(text)).find(Boolean);
+  const name = why.replace(/^line \d+: /, ''), signs = [], titles = [];
+  if (!where) {
+    words('first', line ? `Line ${line}: ${name}` : name[0].toUpperCase() + name.slice(1));
+    if (line) signs[line - 1] = 'refused';
+    return editor.tell(signs, titles, null);
+  }
+  const number = Number(where[1]) - 1, text = editor.line(number), from = decode(encode(text).subarray(0, Number(where[2]) - 1)).length;
+  const word = /^"(.*)": /.exec(where[3]), length = word && text.startsWith(word[1], from) ? word[1].length : 1;
+  const expected = where[3].replace(/^".*": /, ''), hints = said.slice(said.indexOf(where[0]) + 1).filter(text => text.trim());
+  const first = words('first', `${name[0].toUpperCase()}${name.slice(1)} in line ${where[1]}, column ${where[2]}`);
+  first.append(' ', button('go there', () => editor.goTo(number, from)));
+  words('', where[3]);
+  hints.forEach(hint => words('', hint.trim()));
+  signs[number] = 'refused';
+  titles[number] = expected;
+  editor.tell(signs, titles, { line: number, from, to: from + length, words: expected, kind: 'refused' });
+}
+
+/** A run's statuses and its stop. */
+function tellStatuses(answer, words) {
+  const { statuses, code, statement, told } = answer, lines = linesOfStatements(editor.text);
+  const known = code === 1 ? lines.length >= statement : lines.length === statuses.length;
+  const signs = [], titles = [], rank = ['', 'fine', 'unreached', 'unanswered', 'stopped'];
+  const sign = (line, name, title) => {
+    if (rank.indexOf(name) > rank.indexOf(signs[line] || '')) signs[line] = name;
+    if (statuses.length <= 20000) titles[line] = titles[line] ? `${titles[line]}\n${title}` : title;
+  };
+  const unanswered = [];
+  statuses.forEach((status, index) => {
+    if (status) unanswered.push(index);
+    if (!known || (code === 1 && index === statement - 1)) return;
+    sign(lines[index], status ? 'unanswered' : 'fine', `statement ${index + 1}: status ${status ? '128, no device answered' : '0'}`);
+  });
+  let note = null;
+  if (code === 1) {
+    const [first, , hint] = told.split('\n'), name = first.split('  ERROR')[0];
+    words('first', first);
+    if (hint) words('', hint.trim());
+    if (known) {
+      const line = lines[statement - 1], text = editor.line(line);
+      sign(line, 'stopped', `statement ${statement}: ${name}`);
+      lines.slice(statement).forEach((line, index) => sign(line, 'unreached', `statement ${statement + 1 + index}: not reached`));
+      note = { line, from: text.length - text.trimStart().length, to: text.trimEnd().length, words: name, kind: 'stopped' };
+    }
+  } else if (statuses.length) words('first', `${counted(statuses.length, 'statement')} done`);
+  else words('first', 'Nothing to do yet: type a listing, choose an example, or drop a file.');
+  const places = unanswered.slice(0, 4).map(index => known ? `${index + 1} (line ${lines[index] + 1})` : index + 1).join(', ');
+  const others = unanswered.length > 4 ? ` and ${spaced(unanswered.length - 4)} more` : '';
+  if (unanswered.length) words('', `Status 128, no device answered: statement ${places}${others}`);
+  editor.tell(signs, titles, note);
+}
+
+/** The bytes on the screen: letters as they are, a return as a line's end, any other byte as its number. */
+function showScreen(bytes) {
+  $('screen').hidden = bytes.length === 0;
+  const box = $('screen').querySelector('.crt');
+  box.replaceChildren();
+  let run = '';
+  for (const byte of bytes.subarray(0, 20000)) {
+    if (byte === 13 || (byte >= 32 && byte < 96)) { run += byte === 13 ? '\n' : String.fromCharCode(byte); continue; }
+    const number = document.createElement('b');
+    number.textContent = byte;
+    box.append(run, number);
+    run = '';
+  }
+  box.append(run, ...(bytes.length > 20000 ? [` … ${counted(bytes.length, 'byte')}`] : []));
+}
+

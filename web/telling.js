@@ -1,0 +1,160 @@
+// What a recording or a run's trace says, beside the wave: the facts, the intervals, and what is chosen.
+
+function cover(words, actions = []) {
+  const box = $('wire-cover'), text = document.createElement('p');
+  box.hidden = !words;
+  text.textContent = words || '';
+  box.replaceChildren(text, ...actions);
+}
+
+/** Makes the trace once nothing more is typed; a long one only when it is asked for. */
+function traceSoon(version, length) {
+  clearTimeout(waitingTrace);
+  if (length > AUTOMATIC) {
+    showWire(null);
+    const make = button('Make it', () => { cover('Making the trace …'); trace(version); });
+    return cover(`The trace of this listing is long (some ${counted(Math.round(length * 3e-4), 'megabyte')}).`, [make]);
+  }
+  waitingTrace = setTimeout(() => trace(version), 90);
+}
+
+async function trace(version) {
+  const { printers, status, delays } = state, lists = readLists();
+  if (!lists) return;
+  try {
+    const answer = await ask('trace', {
+      script: encode(editor.text), printers, status, delays: delays === 'lists' ? lists : [[], [], []].map(() => new Uint16Array(0)),
+      extreme: delays === 'least' || delays === 'greatest' ? delays : null,
+    });
+    if (version !== wanted || state.source) return;
+    traced = version;
+    state.taken = answer.delays;
+    cover('');
+    if (answer.code <= 1) showWire(answer);
+    else { showWire(null); cover(answer.code === 3 ? 'There was no memory for the trace.' : 'There is no trace.'); }
+  } catch (error) {
+    notice('failed', `The module failed: ${error.message}`);
+  }
+}
+
+/** Shows a trace with what is said of it, or none. */
+function showWire(answer) {
+  const { times, levels, frames, verdict } = answer || { times: new Float64Array(0), levels: new Uint8Array(0), frames: [], verdict: '' };
+  wave.show({ times, levels }, frames);
+  $('wire-facts').textContent = !answer ? '' : [
+    counted(frames.filter(frame => frame.kind !== 'glitch').length, 'byte'), counted(times.length, 'edge'),
+    times.length ? `${spaced(Math.round(times[times.length - 1] / 100) / 10)} ms` : '', verdict.split(':')[0],
+  ].filter(Boolean).join(' · ');
+  $('wire-facts').title = verdict;
+  tellUnder(null);
+  tellChosen(-1);
+  showIntervals(answer);
+  for (const tab of ['frames', 'edges']) {
+    readers[tab].stale = answer ? ++texts : 0;
+    if (!answer) readers[tab].show('');
+  }
+  fillReader(state.tabs.wire);
+}
+
+/** The intervals of a recording's bytes beside the profile's bounds. */
+function showIntervals(answer) {
+  const panel = $('intervals');
+  panel.replaceChildren();
+  if (!answer || !answer.intervals.length) return;
+  const table = document.createElement('table'), row = (kind, cells, name = '') => {
+    const line = table.insertRow();
+    line.className = name;
+    cells.forEach((cell, index) => {
+      const made = document.createElement(index && kind === 'td' ? 'td' : 'th');
+      made.scope = kind === 'th' ? 'col' : 'row';
+      made.textContent = cell;
+      line.append(made);
+    });
+  };
+  row('th', ['Interval, in µs', 'bytes', 'least', 'middle', 'greatest', 'the profile has', 'outside']);
+  for (const { name, count, least, middle, greatest, from, to, outside } of answer.intervals) {
+    if (!count) { row('td', [name, '–', '', '', '', '', '']); continue; }
+    const bounds = `${from} to ${to}`, beyond = outside ? spaced(outside) : '–';
+    row('td', [name, spaced(count), spaced(least), middle, spaced(greatest), bounds, beyond], outside ? 'bad' : '');
+  }
+  const counts = document.createElement('p');
+  counts.textContent = answer.counts.filter(({ count }) => count).map(({ name, count }) => `${name}: ${spaced(count)}`).join(' · ');
+  const verdict = document.createElement('p');
+  verdict.textContent = answer.verdict;
+  verdict.className = answer.verdict === 'lawful' ? 'lawful' : 'unlawful';
+  panel.append(table, counts, verdict);
+}
+
+const boundsWords = bounds => bounds ? ` (${bounds[0]} to ${bounds[1]})` : '';
+const named = ({ name, bit }) => bit ? `${name} of bit ${bit - 1}` : name;
+
+/** Tells what is under the pointer on the wave. */
+function tellUnder(under) {
+  const line = $('under');
+  line.className = '';
+  if (!under) { line.textContent = wave.frames.length ? 'Point at the wave for its intervals; click a frame for its marks.' : ''; return; }
+  const moment = `${spaced(Math.round(under.moment))} µs`, { part, level, wire } = under;
+  if (part) {
+    const long = part.to - part.from, bad = part.bounds && (long < part.bounds[0] || long > part.bounds[1]);
+    line.textContent = `${moment}: ${named(part)}, ${spaced(long)} µs${boundsWords(part.bounds)}${bad ? ', outside' : ''}`;
+    line.className = bad ? 'bad' : '';
+  } else if (level) {
+    const long = Number.isFinite(level.to) ? ` for ${spaced(level.to - level.from)} µs` : '';
+    line.textContent = `${moment}: ${wire.name} ${level.released ? 'released' : 'pulled'}${long}`;
+  } else line.textContent = moment;
+}
+
+/** Tells of a frame its byte, its moments and its intervals. */
+function tellChosen(index, more = '') {
+  const frame = wave.frames[index], line = $('chosen');
+  line.textContent = '';
+  if (!frame) return;
+  const ranges = new Map();
+  for (const { name, from, to, bounds } of intervalsIn(frame, wave.edges)) {
+    const long = to - from, range = ranges.get(name) || { least: long, greatest: long, bounds };
+    ranges.set(name, { least: Math.min(range.least, long), greatest: Math.max(range.greatest, long), bounds });
+  }
+  const says = frame.byte === null ? frame.name : `$${hexadecimal(frame.byte)} ${frame.name}${frame.eoi ? ', end-or-identify' : ''}`;
+  const strong = document.createElement('strong');
+  strong.textContent = says;
+  const end = Number.isFinite(frame.end) ? ` to ${spaced(frame.end)}` : '', fault = frame.fault ? `, ${frame.fault}` : '';
+  line.append(strong, `  ${spaced(frame.look)}${end} µs${fault}${more}`);
+  const list = document.createElement('span');
+  for (const [name, { least, greatest, bounds }] of ranges) {
+    const item = document.createElement('span');
+    item.className = least < bounds[0] || greatest > bounds[1] ? 'item bad' : 'item';
+    item.textContent = `${name} ${least === greatest ? spaced(least) : `${spaced(least)}–${spaced(greatest)}`} (${bounds[0]} to ${bounds[1]})`;
+    list.append(item);
+  }
+  line.append(list);
+}
+
+let asked = 0;
+
+/** A frame is chosen: its marks are shown on the sheets. */
+async function frameChosen(index) {
+  const turn = ++asked, frame = wave.frames[index];
+  readers.frames.mark(frame ? frame.line : -1);
+  tellChosen(index);
+  paper.find([]);
+  if (!frame || frame.fault || (frame.kind === 'command')) return;
+  const marks = await ask('marks', { frame: index });
+  if (turn !== asked) return;
+  paper.find(marks);
+  tellChosen(index, marks.length ? `, ${counted(marks.length, 'mark')}` : ', no mark that shows');
+}
+
+/** A mark is clicked: the frame of its byte is shown on the wave. */
+async function markClicked(mark) {
+  const turn = ++asked;
+  if (!mark) { wave.choose(-1); return; }
+  if (state.source?.kind === 'raw') {
+    const { byte } = await ask('byte', { mark });
+    if (turn === asked) tellOnce('byte', `This mark comes with byte ${byte + 1} of the file, ${state.source.bytes[byte]}.`);
+    return;
+  }
+  if (!wave.frames.length) return;
+  const { frame } = await ask('byte', { mark });
+  if (turn === asked && frame >= 0) wave.choose(frame);
+}
+

@@ -1,0 +1,437 @@
+// The wave of ATN, CLOCK and DATA on a canvas, with the frames named over it, a time axis, and the whole of it in a
+// strip below. What is drawn takes as long for a million edges as for a hundred: a column of pixels in which a line
+// turns more than once is one stroke.
+
+const WIRES = [{ name: 'ATN', bit: ATN }, { name: 'CLOCK', bit: CLOCK }, { name: 'DATA', bit: DATA }];
+const NAMES_WIDTH = 58, RIGHT = 10;
+
+/** A number with thin spaces between its thousands. */
+const spaced = number => String(number).replace(/\B(?=(\d{3})+$)/g, '\u2009');
+
+/** A byte in two hexadecimal digits. */
+const hexadecimal = byte => byte.toString(16).toUpperCase().padStart(2, '0');
+
+class Wave {
+  /** `onUnder` is told what is under the pointer, `onChoose` the index of the frame that is chosen, or -1. */
+  constructor(canvas, onUnder, onChoose) {
+    Object.assign(this, { canvas, onUnder, onChoose, frames: [], edges: null, turns: [] });
+    Object.assign(this, { begin: 0, end: 0, from: 0, to: 1, moved: false, chosen: -1, pointer: null });
+    new ResizeObserver(() => this.draw()).observe(canvas);
+    matchMedia('(prefers-color-scheme: dark)').addEventListener('change', () => this.draw());
+    canvas.addEventListener('keydown', event => this.key(event));
+    canvas.addEventListener('wheel', event => this.wheel(event), { passive: false });
+    this.listen();
+  }
+
+  /** Shows edges and frames. What was chosen is no longer; the place stays where somebody has moved it. */
+  show(edges, frames) {
+    this.edges = edges;
+    this.frames = frames;
+    this.chosen = -1;
+    this.intervals = null;
+    this.turns = WIRES.map(({ bit }) => {
+      const times = [];
+      let level = edges.levels.length ? edges.levels[0] & bit : bit;
+      for (let i = 1; i < edges.times.length; i++) {
+        if ((edges.levels[i] & bit) !== level) { level ^= bit; times.push(edges.times[i]); }
+      }
+      return { first: edges.levels.length ? (edges.levels[0] & bit) > 0 : true, times: Float64Array.from(times) };
+    });
+    const last = edges.times.length ? edges.times[edges.times.length - 1] : 0;
+    const begin = edges.times.length ? edges.times[0] : 0;
+    this.begin = Math.min(begin, 0);
+    this.end = Math.max(last + Math.max((last - begin) * .01, 100), this.begin + 1000);
+    if (!this.moved || this.from >= this.end) this.front();
+    else this.draw();
+  }
+
+  /** The beginning of a long wave, or all of a short one. */
+  front() {
+    const some = this.frames[Math.min(9, this.frames.length - 1)];
+    this.moved = false;
+    this.see(this.begin, this.frames.length > 14 ? Math.min(some.end + 400, this.end) : this.end, false);
+  }
+
+  all() { this.see(this.begin, this.end); }
+
+  /** Shows the time between two moments. */
+  see(from, to, moved = true) {
+    const width = Math.max(Math.min(to - from, this.end - this.begin), 20);
+    this.from = Math.min(Math.max(from, this.begin), this.end - width);
+    this.to = this.from + width;
+    this.moved ||= moved;
+    this.draw();
+  }
+
+  zoom(factor, at = (this.from + this.to) / 2) {
+    this.see(at - (at - this.from) / factor, at + (this.to - at) / factor);
+  }
+
+  pan(part) { const width = this.to - this.from; this.see(this.from + part * width, this.to + part * width); }
+
+  /** Chooses a frame, shows it, and tells. */
+  choose(index, tell = true) {
+    this.chosen = index;
+    const frame = this.frames[index];
+    if (frame) {
+      const end = Number.isFinite(frame.end) ? frame.end : frame.look + 1000, long = end - frame.look;
+      if (this.to - this.from > long * 60 || this.to - this.from < long * 1.2) this.see(frame.look - long * 1.5, end + long * 1.5);
+      else if (frame.look < this.from || end > this.to) this.see(frame.look + (long - this.to + this.from) / 2, frame.look + (long + this.to - this.from) / 2);
+    }
+    this.draw();
+    if (tell) this.onChoose(index);
+  }
+
+  // places
+
+  get width() { return this.canvas.clientWidth - NAMES_WIDTH - RIGHT; }
+  xOf(moment) { return NAMES_WIDTH + (moment - this.from) / (this.to - this.from) * this.width; }
+  momentAt(x) { return this.from + (x - NAMES_WIDTH) / this.width * (this.to - this.from); }
+  rows() {
+    const height = this.canvas.clientHeight, top = 40, bottom = Math.max(height - 44, top + 36), each = (bottom - top) / 3;
+    return { band: 8, top, bottom, each, axis: bottom + 4, strip: height - 14 };
+  }
+
+  /** The index of the frame at a moment, or -1. */
+  frameUnder(moment) {
+    const index = frameAt(this.frames, moment), frame = this.frames[index];
+    return frame && (moment <= frame.end) ? index : -1;
+  }
+
+  /** The named intervals around a moment. */
+  intervalsAt(moment) {
+    const index = frameAt(this.frames, moment), inside = this.frameUnder(moment) >= 0, key = `${index} ${inside}`;
+    if (this.intervals?.key !== key) {
+      const parts = inside ? intervalsIn(this.frames[index], this.edges) : intervalsBetween(this.frames[index], this.frames[index + 1], this.edges);
+      this.intervals = { key, parts };
+    }
+    return this.intervals.parts;
+  }
+
+  /** What is under the pointer: the moment, the frame, the named interval, or else how long the line under it keeps its level. */
+  under() {
+    if (!this.pointer || !this.edges) return null;
+    const { x, y } = this.pointer, { top, bottom, each } = this.rows();
+    if (x < NAMES_WIDTH || x > this.canvas.clientWidth - RIGHT || y > bottom + 20) return null;
+    const moment = this.momentAt(x), wire = y >= top && y < bottom ? WIRES[Math.floor((y - top) / each)] : null;
+    const around = this.intervalsAt(moment).filter(part => part.from <= moment && moment <= part.to);
+    around.sort((a, b) => (a.to - a.from) - (b.to - b.from));
+    const part = around.find(part => wire && part.line === wire.bit) || around[0] || null;
+    const under = { moment, frame: this.frameUnder(moment), part, wire };
+    if (!part && wire) {
+      const { first, times } = this.turns[WIRES.indexOf(wire)], next = edgeAt(times, moment) + 1;
+      under.level = { released: first === (next % 2 === 0), from: times[next - 1] ?? this.begin, to: times[next] ?? Infinity };
+    }
+    return under;
+  }
+
+  // what the hands do
+
+  key(event) {
+    const step = event.shiftKey ? .9 : .15, last = this.frames.length - 1;
+    const next = () => this.chosen >= 0 ? this.chosen + 1 : Math.max(frameAt(this.frames, this.from) + (this.from > this.begin ? 1 : 0), 0);
+    const before = () => this.chosen >= 0 ? this.chosen - 1 : next() - 1;
+    const keys = {
+      ArrowLeft: () => this.pan(-step),
+      ArrowRight: () => this.pan(step),
+      '+': () => this.zoom(1.5),
+      '=': () => this.zoom(1.5),
+      '-': () => this.zoom(1 / 1.5),
+      0: () => this.all(),
+      Home: () => this.all(),
+      End: () => this.see(this.end - (this.to - this.from), this.end),
+      Escape: () => this.choose(-1),
+      n: () => last >= 0 && this.choose(Math.min(next(), last)),
+      p: () => last >= 0 && this.choose(Math.max(before(), 0)),
+    };
+    const act = !event.ctrlKey && !event.metaKey && !event.altKey && (keys[event.key] || keys[event.key.toLowerCase()]);
+    if (!act) return;
+    event.preventDefault();
+    act();
+  }
+
+  wheel(event) {
+    const scrolls = document.scrollingElement.scrollHeight > document.scrollingElement.clientHeight + 1;
+    const across = event.shiftKey ? event.deltaX || event.deltaY : event.deltaX;
+    if (Math.abs(across) > Math.abs(event.deltaY) || event.shiftKey) { event.preventDefault(); this.pan(across / 800); return; }
+    if (scrolls && !event.ctrlKey && !event.metaKey) return;
+    event.preventDefault();
+    this.zoom(Math.exp(-event.deltaY / 250), this.momentAt(event.offsetX));
+  }
+
+  listen() {
+    const canvas = this.canvas, held = new Map();
+    let drag = null;
+    const stripTo = x => {
+      const middle = this.begin + (x - NAMES_WIDTH) / this.width * (this.end - this.begin), half = (this.to - this.from) / 2;
+      this.see(middle - half, middle + half);
+    };
+    canvas.addEventListener('pointerdown', event => {
+      canvas.setPointerCapture(event.pointerId);
+      held.set(event.pointerId, event.offsetX);
+      drag = { x: event.offsetX, from: this.from, to: this.to, far: false, strip: event.offsetY >= this.rows().strip - 4 };
+      if (drag.strip) stripTo(event.offsetX);
+    });
+    canvas.addEventListener('pointermove', event => {
+      this.pointer = { x: event.offsetX, y: event.offsetY };
+      if (held.has(event.pointerId)) {
+        if (held.size === 2) {
+          const before = [...held.values()];
+          held.set(event.pointerId, event.offsetX);
+          const behind = [...held.values()], span = list => Math.max(Math.abs(list[0] - list[1]), 10);
+          this.zoom(span(behind) / span(before), this.momentAt((behind[0] + behind[1]) / 2));
+          drag = null;
+          return;
+        }
+        held.set(event.pointerId, event.offsetX);
+        if (drag?.strip) stripTo(event.offsetX);
+        else if (drag && (drag.far || Math.abs(event.offsetX - drag.x) > 4)) {
+          drag.far = true;
+          const by = (drag.x - event.offsetX) / this.width * (drag.to - drag.from);
+          this.see(drag.from + by, drag.to + by);
+        }
+      }
+      this.draw();
+      this.onUnder(this.under());
+    });
+    const up = event => {
+      held.delete(event.pointerId);
+      if (event.type === 'pointerup' && drag && !drag.far && !drag.strip) this.choose(this.frameUnder(this.momentAt(event.offsetX)));
+      drag = null;
+    };
+    canvas.addEventListener('pointerup', up);
+    canvas.addEventListener('pointercancel', up);
+    canvas.addEventListener('pointerleave', () => { this.pointer = null; this.draw(); this.onUnder(null); });
+  }
+
+  // drawing
+
+  draw() {
+    if (this.waiting) return;
+    this.waiting = true;
+    requestAnimationFrame(() => { this.waiting = false; this.drawNow(); });
+  }
+
+  drawNow() {
+    const canvas = this.canvas, width = canvas.clientWidth, height = canvas.clientHeight, ratio = devicePixelRatio || 1;
+    if (!width || !height) return;
+    if (canvas.width !== Math.round(width * ratio) || canvas.height !== Math.round(height * ratio)) {
+      canvas.width = Math.round(width * ratio);
+      canvas.height = Math.round(height * ratio);
+    }
+    const pen = this.pen = canvas.getContext('2d');
+    pen.setTransform(ratio, 0, 0, ratio, 0, 0);
+    pen.clearRect(0, 0, width, height);
+    const style = getComputedStyle(canvas);
+    this.ink = name => style.getPropertyValue(`--${name}`).trim();
+    this.font = style.fontFamily;
+    if (!this.edges) return;
+    const places = this.rows();
+    pen.save();
+    pen.beginPath();
+    pen.rect(NAMES_WIDTH, 0, this.width, height);
+    pen.clip();
+    this.drawAttention(places);
+    this.drawAxis(places);
+    this.drawChosen(places);
+    WIRES.forEach((wire, number) => {
+      const top = places.top + number * places.each;
+      this.drawWire(this.turns[number], top + 8, top + places.each - 6);
+    });
+    this.drawFrames(places);
+    this.drawUnder(places);
+    this.drawStrip(places);
+    pen.restore();
+    pen.fillStyle = this.ink('muted');
+    pen.font = `600 11px ${this.font}`;
+    pen.textAlign = 'right';
+    pen.textBaseline = 'middle';
+    WIRES.forEach(({ name }, number) => pen.fillText(name, NAMES_WIDTH - 10, places.top + (number + .5) * places.each + 1));
+  }
+
+  /** The turns of a line in what can be seen, the first that is and the first that is no longer. */
+  seen(times) { return [edgeAt(times, this.from) + 1, edgeAt(times, this.to) + 1]; }
+
+  drawAttention({ top, bottom }) {
+    const pen = this.pen, { first, times } = this.turns[0];
+    let [i, to] = this.seen(times), right = -1;
+    pen.fillStyle = this.ink('attention');
+    if (first === (i % 2 !== 0)) i--;
+    for (; i < to; i++) {
+      if ((i % 2 === 0) !== first) continue;
+      const x = Math.max(this.xOf(times[i] ?? this.begin), right), end = this.xOf(times[i + 1] ?? this.end);
+      if (end - x < .5) continue;
+      pen.fillRect(x, top - 2, Math.max(end - x, 1), bottom - top + 2);
+      right = end;
+    }
+  }
+
+  drawAxis({ top, bottom, axis }) {
+    const pen = this.pen, rough = (this.to - this.from) / Math.max(this.width / 110, 1);
+    const power = 10 ** Math.floor(Math.log10(rough)), step = Math.max([1, 2, 5, 10].find(n => n * power >= rough) * power, 1);
+    const [unit, per] = step >= 1e6 ? ['s', 1e6] : step >= 1e3 ? ['ms', 1e3] : ['µs', 1];
+    pen.font = `11px ${this.font}`;
+    pen.textBaseline = 'top';
+    for (let moment = Math.ceil(this.from / step) * step; moment <= this.to; moment += step) {
+      const x = Math.round(this.xOf(moment)) + .5;
+      pen.strokeStyle = this.ink('line');
+      pen.lineWidth = 1;
+      pen.beginPath();
+      pen.moveTo(x, top - 2);
+      pen.lineTo(x, bottom + 3);
+      pen.stroke();
+      const words = `${spaced(moment / per)} ${unit}`, half = pen.measureText(words).width / 2;
+      pen.textAlign = 'center';
+      pen.fillStyle = this.ink('muted');
+      pen.fillText(words, Math.min(Math.max(x, NAMES_WIDTH + half), NAMES_WIDTH + this.width - half), axis + 2);
+    }
+  }
+
+  drawWire({ first, times }, high, low) {
+    const pen = this.pen, [from, to] = this.seen(times), right = NAMES_WIDTH + this.width;
+    const levelOf = turn => (first === (turn % 2 === 0)) ? high : low;
+    pen.strokeStyle = this.ink('wave');
+    pen.lineWidth = 1.5;
+    pen.lineJoin = 'round';
+    pen.beginPath();
+    let y = levelOf(from);
+    pen.moveTo(NAMES_WIDTH, y);
+    if (to - from <= this.width / 3) {
+      for (let i = from; i < to; i++) {
+        const x = this.xOf(times[i]);
+        pen.lineTo(x, y);
+        pen.lineTo(x, y = levelOf(i + 1));
+      }
+      pen.lineTo(right, y);
+      pen.stroke();
+      return;
+    }
+    const dense = [];
+    for (let x = NAMES_WIDTH, i = from; x < right; x++) {
+      const next = Math.min(edgeAt(times, this.momentAt(x + 1)) + 1, to);
+      if (next - i > 1) dense.push([x, next - i]);
+      pen.lineTo(x, y);
+      if (next > i) { pen.moveTo(x, high); pen.lineTo(x, low); pen.moveTo(x, y = levelOf(next)); }
+      i = next;
+    }
+    pen.globalAlpha = .55;
+    pen.stroke();
+    pen.globalAlpha = 1;
+  }
+
+  colourOf(frame) { return frame.fault ? this.ink('bad') : frame.kind === 'command' ? this.ink('command') : this.ink('data'); }
+
+  drawFrames({ band }) {
+    const pen = this.pen, first = Math.max(frameAt(this.frames, this.from), 0), last = frameAt(this.frames, this.to);
+    if (last - first > this.width / 4) {
+      for (let x = NAMES_WIDTH; x < NAMES_WIDTH + this.width; x++) {
+        const frame = this.frames[frameAt(this.frames, this.momentAt(x + 1))];
+        if (!frame || Math.min(frame.end, this.end) < this.momentAt(x)) continue;
+        pen.fillStyle = this.colourOf(frame);
+        pen.fillRect(x, band + 4, 1, 18);
+      }
+      return;
+    }
+    pen.textBaseline = 'middle';
+    pen.textAlign = 'center';
+    for (let index = first; index <= last; index++) {
+      const frame = this.frames[index], x = Math.max(this.xOf(frame.look), NAMES_WIDTH - 6);
+      const end = Math.min(this.xOf(Math.min(frame.end, this.end)), NAMES_WIDTH + this.width + 6);
+      if (end > x) this.drawFrame(frame, x, Math.max(end - x, 1.5), band, index === this.chosen);
+    }
+  }
+
+  drawFrame(frame, x, width, top, chosen) {
+    const pen = this.pen, colour = this.colourOf(frame), eoi = frame.eoi ? Math.min(5, width) : 0;
+    pen.beginPath();
+    pen.roundRect(x + .5, top + .5, Math.max(width - 1, 1), 24, Math.min(4, width / 3));
+    pen.fillStyle = colour;
+    pen.globalAlpha = chosen ? 1 : .16;
+    pen.fill();
+    pen.globalAlpha = 1;
+    pen.lineWidth = chosen ? 2 : 1;
+    pen.strokeStyle = colour;
+    pen.stroke();
+    if (eoi) { pen.fillStyle = this.ink('eoi'); pen.fillRect(x + width - eoi - .5, top + 1, eoi, 23); }
+    pen.font = `600 12px ${this.font}`;
+    const whole = frame.eoi ? `${frame.name} EOI` : frame.fault ? `${frame.name}, ${frame.fault}` : frame.name;
+    const words = [whole, frame.name, frame.name.replace(/^(['"])(.)\1$/, '$2')];
+    const fits = word => pen.measureText(word).width < width - eoi - 5;
+    let fitting = words.find(fits);
+    if (!fitting) {
+      pen.font = `600 10px ${this.font}`;
+      fitting = [frame.name, ...(frame.byte === null ? [] : [`$${hexadecimal(frame.byte)}`])].find(fits);
+    }
+    if (!fitting) return;
+    pen.fillStyle = chosen ? this.ink('ground') : this.ink('text');
+    pen.fillText(fitting, x + (width - eoi) / 2, top + 13);
+  }
+
+  drawChosen({ band, bottom }) {
+    const frame = this.frames[this.chosen];
+    if (!frame) return;
+    const x = this.xOf(frame.look), end = this.xOf(Math.min(frame.end, this.end));
+    this.pen.fillStyle = this.colourOf(frame);
+    this.pen.globalAlpha = .1;
+    this.pen.fillRect(x, band + 26, Math.max(end - x, 1), bottom - band - 24);
+    this.pen.globalAlpha = 1;
+  }
+
+  drawUnder({ top, bottom, each }) {
+    const under = this.under(), pen = this.pen;
+    if (!under) return;
+    const x = Math.round(this.xOf(under.moment)) + .5;
+    pen.strokeStyle = this.ink('muted');
+    pen.lineWidth = 1;
+    pen.setLineDash([2, 3]);
+    pen.beginPath();
+    pen.moveTo(x, top - 2);
+    pen.lineTo(x, bottom);
+    pen.stroke();
+    pen.setLineDash([]);
+    if (!under.part) return;
+    const { from, to, line, bounds } = under.part, number = WIRES.findIndex(({ bit }) => bit === line);
+    const left = this.xOf(from), right = this.xOf(to), y = top + (number + .5) * each + 1;
+    const bad = bounds && (to - from < bounds[0] || to - from > bounds[1]);
+    pen.strokeStyle = pen.fillStyle = this.ink(bad ? 'bad' : 'accent');
+    pen.lineWidth = 1.5;
+    pen.beginPath();
+    for (const end of [left, right]) { pen.moveTo(end, y - each * .34); pen.lineTo(end, y + each * .34); }
+    pen.moveTo(left, y);
+    pen.lineTo(right, y);
+    pen.stroke();
+    const words = `${spaced(to - from)} µs`;
+    pen.font = `600 12px ${this.font}`;
+    const wide = pen.measureText(words).width + 10;
+    const first = Math.max(left, NAMES_WIDTH), last = Math.min(right, NAMES_WIDTH + this.width), beside = last - first < wide + 6;
+    const wanted = !beside ? (first + last) / 2 : last + wide + 8 < NAMES_WIDTH + this.width ? last + 6 + wide / 2 : first - 6 - wide / 2;
+    const middle = Math.min(Math.max(wanted, NAMES_WIDTH + wide / 2), NAMES_WIDTH + this.width - wide / 2);
+    pen.beginPath();
+    pen.roundRect(middle - wide / 2, y - 9, wide, 18, 4);
+    pen.fill();
+    pen.fillStyle = this.ink('ground');
+    pen.textAlign = 'center';
+    pen.textBaseline = 'middle';
+    pen.fillText(words, middle, y + .5);
+  }
+
+  drawStrip({ strip }) {
+    const pen = this.pen, whole = this.end - this.begin;
+    pen.fillStyle = this.ink('line');
+    pen.fillRect(NAMES_WIDTH, strip, this.width, 8);
+    for (let x = 0; x < this.width; x++) {
+      const moment = this.begin + (x + 1) / this.width * whole, frame = this.frames[frameAt(this.frames, moment)];
+      if (!frame || Math.min(frame.end, this.end) < moment - whole / this.width) continue;
+      pen.fillStyle = this.colourOf(frame);
+      pen.globalAlpha = .5;
+      pen.fillRect(NAMES_WIDTH + x, strip, 1, 8);
+    }
+    pen.globalAlpha = 1;
+    const x = NAMES_WIDTH + (this.from - this.begin) / whole * this.width, width = Math.max((this.to - this.from) / whole * this.width, 4);
+    pen.strokeStyle = this.ink('accent');
+    pen.lineWidth = 2;
+    pen.beginPath();
+    pen.roundRect(x + 1, strip - 2, Math.max(width - 2, 2), 12, 3);
+    pen.stroke();
+  }
+}

@@ -1,0 +1,160 @@
+// Runs the module beside the page, so that nothing it does holds up typing. Each message is a job with what it is
+// asked; the answer goes back under the job's number. What was printed last is kept for the texts and the clicks.
+
+let print1525 = null;
+const shown = { kind: '', ask: null, svg: '', lines: null };   // what is on paper
+const wire = { bytes: null, input: 'text', edges: null, frames: [], readings: null };
+
+const text = bytes => new TextDecoder().decode(bytes);
+const lasting = () => [new Uint16Array(0), new Uint16Array(0), new Uint16Array(0)];
+
+/** What an answer says but for its text, with the stop or the fault in the program's words. */
+const answerOf = answer => {
+  const { code, fault, line, statement } = answer;
+  return { code, fault, line, statement, words: print1525.words(answer) };
+};
+
+/** What stands behind the papers in the lines of a run: each statement's status (1 where no device answered) and the screen's bytes. */
+function endOf(lines) {
+  const numbers = name => {
+    const from = `\n${lines}`.lastIndexOf(`\n${name}: `);        // a printed line has a sign in front
+    return from < 0 ? [] : lines.slice(from + name.length + 2, lines.indexOf('.', from)).split(/\s+/);
+  };
+  return { statuses: Uint8Array.from(numbers('Statuses'), status => status === '0' ? 0 : 1), screen: Uint8Array.from(numbers('Screen'), Number) };
+}
+
+/** Prints on paper by one of the module's calls, as a picture, and keeps it. */
+function picture(kind, ask, answer) {
+  shown.kind = kind;
+  shown.ask = ask;
+  shown.svg = text(answer.text);
+  shown.lines = null;
+  return answer.text;
+}
+
+/** The pages of what stands on the wire in front of an edge, as a picture. */
+async function pagesBefore(edge) {
+  const cut = wire.input === 'text' ? wire.bytes.subarray(0, wire.edges.starts[edge]) : textOfEdges(wire.edges, edge);
+  return text((await print1525.decode({ bytes: cut, input: 'text', output: 'svg' })).text);
+}
+
+/** The least number of some for which a question is answered with yes, where it is so for each greater one. */
+async function least(count, isSo) {
+  let low = 0, high = count;
+  while (low < high) {
+    const middle = (low + high) >> 1;
+    if (await isSo(middle)) high = middle; else low = middle + 1;
+  }
+  return low;
+}
+
+/** Keeps a recording, and gives its edges and what is said of it. */
+function keepWire(bytes, input, edges, readings) {
+  const { frames, counts, intervals, verdict } = readingsOf(text(readings));
+  Object.assign(wire, { bytes, input, edges, frames, readings });
+  return { times: edges.times.slice(), levels: edges.levels.slice(), frames, counts, intervals, verdict };
+}
+
+const jobs = {
+  /** Makes the module ready. */
+  async open({ bytes }) {
+    print1525 = await loadPrint1525(bytes);
+  },
+
+  /** One call of the module as it stands. */
+  async call({ method, ask }) {
+    const answer = await print1525[method](ask);
+    return { ...answer, words: print1525.words(answer) };
+  },
+
+  /** The pages of a script: the picture, the statuses, the screen's bytes, or why there are none. */
+  async print(ask) {
+    const began = performance.now();
+    const run = { script: ask.script, printers: ask.printers, status: ask.status, delays: lasting() };
+    const lines = await print1525.pages({ ...run, format: 'text' });
+    const answer = answerOf(lines);
+    if (lines.code <= 1) {
+      Object.assign(answer, endOf(text(lines.text)), { svg: picture('script', run, await print1525.pages({ ...run, format: 'svg' })) });
+      shown.lines = lines.text;
+    }
+    answer.milliseconds = performance.now() - began;
+    if (lines.code === 1) answer.told = text((await print1525.explainStop({ ...run, stop: lines.fault, statement: lines.statement })).text);
+    if (lines.code === 2) answer.told = text((await print1525.explainScript({ script: ask.script })).text);
+    return answer;
+  },
+
+  /** The trace of a script's run at some delays, and what it says. */
+  async trace({ script, printers, status, delays, extreme }) {
+    const run = { script, printers, status, delays: extreme ? lasting() : delays, format: 'text' };
+    const decode = async bytes => (await print1525.decode({ bytes, input: 'text', output: 'readings' })).text;
+    let bus = await print1525.bus(run);
+    if (bus.code > 1) return answerOf(bus);
+    if (extreme) {
+      const typical = edgesOfText(bus.text);
+      run.delays = delayNumbers(extreme === 'greatest', printers, readingsOf(text(await decode(bus.text))).frames, typical);
+      bus = await print1525.bus(run);
+      if (bus.code > 1) return answerOf(bus);
+    }
+    return { ...answerOf(bus), ...keepWire(bus.text, 'text', edgesOfText(bus.text), await decode(bus.text)), delays: run.delays };
+  },
+
+  /**
+   * What a recording says, with its edges and its pages: `ask` has its bytes and their format, and of a dump or a table the
+   * names of its signals, whether its levels are inverted, and the microsecond at which it begins.
+   */
+  async recording(ask) {
+    const said = await print1525.decode({ ...ask, output: 'readings' });
+    const answer = { ...answerOf(said), ...keepWire(ask.bytes, ask.input, edgesOf(ask), said.text) };
+    const pages = await print1525.decode({ ...ask, output: 'svg' });
+    if (pages.text.length) answer.svg = picture('recording', ask, pages);
+    if (said.code === 2) answer.told = text((await print1525.explainReading(ask)).text);
+    else if (answer.verdict !== 'lawful') answer.told = text((await print1525.explainTrace(ask)).text);
+    return answer;
+  },
+
+  /** The page of the bytes that a printer gets. */
+  async raw({ bytes, set }) {
+    const pages = await print1525.raw({ bytes, set, format: 'svg' });
+    return { ...answerOf(pages), svg: pages.code === 0 ? picture('raw', { bytes, set }, pages) : null };
+  },
+
+  /** A text of what is shown: `svg`, `list`, `text`; `trace`, `vcd`, `readings`. */
+  async text({ what, delays }) {
+    if (what === 'svg') return new TextEncoder().encode(shown.svg);
+    if (what === 'readings') return wire.readings.slice();
+    if (what === 'trace') return wire.input === 'text' ? wire.bytes.slice() : textOfEdges(wire.edges, wire.edges.times.length);
+    if (what === 'vcd') return (await print1525.bus({ ...shown.ask, delays, format: 'vcd' })).text;
+    if (what === 'text' && shown.lines) return shown.lines.slice();
+    if (shown.kind === 'script') return (await print1525.pages({ ...shown.ask, format: what })).text;
+    if (shown.kind === 'raw') return (await print1525.raw({ ...shown.ask, format: what })).text;
+    return (await print1525.decode({ ...shown.ask, output: what })).text;
+  },
+
+  /** The marks that a frame's byte makes: those that the pages have with its last edge and not without it. */
+  async marks({ frame }) {
+    const edge = edgeAt(wire.edges.times, wire.frames[frame].end);
+    return marksMore(await pagesBefore(edge), await pagesBefore(edge + 1));
+  },
+
+  /** The byte that made a mark: the first frame (or raw byte) with which the pages have the mark as often as they do in the end. */
+  async byte({ mark }) {
+    const count = svg => marksOf(svg, mark).get(mark.name) || 0;
+    const often = count(shown.svg);
+    if (shown.kind === 'raw') {
+      const { bytes, set } = shown.ask;
+      const raw = async end => text((await print1525.raw({ bytes: bytes.subarray(0, end), set, format: 'svg' })).text);
+      return { byte: await least(bytes.length, async end => count(await raw(end)) >= often) - 1 };
+    }
+    const heard = wire.frames.flatMap((frame, index) => frame.fault ? [] : [index]);
+    const found = await least(heard.length, async n => count(await pagesBefore(edgeAt(wire.edges.times, wire.frames[heard[n]].end) + 1)) >= often);
+    return { frame: heard[found] ?? -1 };
+  },
+};
+
+onmessage = async ({ data: { number, job, ask } }) => {
+  try {
+    postMessage({ number, answer: await jobs[job](ask) });
+  } catch (error) {
+    postMessage({ number, error: error instanceof Error ? error.message : String(error) });
+  }
+};
