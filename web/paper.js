@@ -3,7 +3,8 @@
 
 const PICA = 210;              // units of the picture
 const SHEET_AND_MARGINS = 13860;
-const WHOLE = 400000;          // a picture of so many characters stands in the page as a whole
+const WHOLE = 60000;           // a picture of so many characters stands in the page as a whole
+const SHADED = 30000;          // sheets of so many units have a shadow: on long ones it takes a browser too long
 
 class Paper {
   /** `onMark` is told the mark that is clicked, or null where there is none. */
@@ -24,6 +25,9 @@ class Paper {
       event.preventDefault();
       this.zoom(Math.exp(-event.deltaY / 300), event.clientX, event.clientY);
     }, { passive: false });
+    // what a printer of today gets is the whole picture
+    addEventListener('beforeprint', () => { if (this.part) this.put(this.text); });
+    addEventListener('afterprint', () => this.lay());
     this.room.addEventListener('click', event => {
       if (!this.picture || String(getSelection())) return;
       const place = this.placeAt(event.clientX, event.clientY);
@@ -40,7 +44,7 @@ class Paper {
     if (!text) { this.room.replaceChildren(); this.room.removeAttribute('style'); return; }
     if (text.length <= WHOLE) {
       this.put(text);
-      this.svg.classList.add('whole');
+      if (this.picture.height <= SHADED) this.svg.classList.add('shaded');
       this.part = null;
     } else this.part = { from: 0, to: 0 };
     this.lay();
