@@ -24,7 +24,7 @@ const loadPrint1525 = (() => {
   const PAGE = 65536;
   // An instance whose memory has grown beyond this many bytes is not kept for the next call.
   const KEPT = 2 ** 28;
-  // The room that a text gets at first. Where it is too small, the answer says how much it needs.
+  // The room that a text gets at first, if eight times the input is less. Where it is too small, the answer says how much it needs.
   const ROOM = 2 ** 20;
 
   // The heap that the module imports, and that the page's own buffers stand in: the memory above `__heap_base`.
@@ -61,7 +61,9 @@ const loadPrint1525 = (() => {
       if (free[c].length) return free[c].pop();
       const at = top + 16;
       const missing = at + 2 ** c - memory.buffer.byteLength;
-      if (missing > 0 && !grow(Math.ceil(Math.max(missing, 16 * PAGE) / PAGE))) return 0;
+      // A memory that cannot grow where it stands is copied: so it grows by half of what it is, if the browser gives that.
+      const pages = size => Math.ceil(size / PAGE);
+      if (missing > 0 && !grow(pages(Math.max(missing, memory.buffer.byteLength / 2))) && !grow(pages(missing))) return 0;
       top = at + 2 ** c;
       data().setUint8(at - 16, c);
       return at;
@@ -188,7 +190,7 @@ const loadPrint1525 = (() => {
       if (instance === null || instance.size() > KEPT) instance = makeInstance(compiled);
       let told;
       try {
-        told = instance.attempt(name, passed, Math.max(rooms[name] || 0, ROOM));
+        told = instance.attempt(name, passed, Math.max(rooms[name] || 0, ROOM, Math.min(8 * passed[0].byteLength, KEPT / 4)));
         if (told.code === 4) told = instance.attempt(name, passed, told.length);
       } catch (error) {
         // What a call that was cut off leaves behind is not used again.

@@ -1,5 +1,5 @@
 -- What a decoder keeps of edges is stored as the numbers of a decoder.
-use Rattle.std.proofs.Common.{◌≡◌, ℕ, zero, suc, ◌+◌, ◌*◌, ◌^◌, ◌<◌, ◌≤◌, Bool, true, false, List, [], ◌∷◌, ◌++◌, length, map, Option, Some, None, refl, sym, subst, ap, ◌∙◌, arith}
+use Rattle.std.proofs.Common.{◌≡◌, ℕ, zero, suc, ◌+◌, ◌^◌, ◌<◌, ◌≤◌, Bool, true, false, List, [], ◌∷◌, ◌++◌, length, map, Option, Some, None, refl, sym, subst, ap, ◌∙◌, arith}
 use Rattle.std.proofs.Math.Nat.{pow-succ'}
 use Rattle.std.specs.Prelude.{◌&&◌, not, min, max, if◌then◌else◌}
 use Rattle.pr_wire.specs.declared.Edge.{Edge}
@@ -10,8 +10,6 @@ use Rattle.pr_decode.specs.declared.reading.Opening.{Opening}
 use Rattle.pr_decode.specs.declared.reading.Pulse.{Pulse}
 use Rattle.pr_decode.specs.declared.reading.Reading.{Reading}
 use Rattle.pr_decode.specs.declared.reading.Transfer.{Transfer}
-use Rattle.pr_decode.specs.declared.stretch.Turns.{Turns}
-use Rattle.pr_decode.specs.declared.stretch.Turns.TheVariants.{Still, Once, Twice, Thrice, Often}
 use Rattle.pr_decode.specs.Readings.{Bit, acknowledgement, first_late, greatest, halves, high_half, is_none, least, level_of, low_half, transfer, turns, turns_of}
 use Rattle.pr_decode.specs.Stretches.{Stretch}
 use Rattle.pr_decode.specs.Taking.{AreBits, HasBegun, HasRead, IsBit, IsRight, IsRightSeen, Past, Seen, first_low, kept, noted, stretch_in, transfer_in, with_more}

@@ -1,5 +1,5 @@
 -- A decoder comes back from its numbers.
-use Rattle.std.proofs.Common.{◌≡◌, Bool, true, false, eqb, Option, Some, None, refl, sym, ap, ◌∙◌}
+use Rattle.std.proofs.Common.{◌≡◌, Bool, true, eqb, Option, Some, None, refl, ap, ◌∙◌}
 use Rattle.std.proofs.lemmas.Bool.{eqb-true}
 use Rattle.std.specs.Prelude.{◌&&◌, ◌==◌}
 use Rattle.pr_decode.specs.declared.decoder.Decoder.{Decoder}

@@ -10,7 +10,7 @@ use Rattle.pr_wire.specs.declared.WaveFault.TheVariants as fault
 use Rattle.pr_wire.specs.declared.place.Flaw.{Flaw}
 use Rattle.pr_wire.specs.declared.place.Flaw.TheVariants.{Order, TooEarly, TooLate, Shape}
 use Rattle.pr_wire.specs.declared.place.Place.{Place}
-use Rattle.pr_wire.specs.declared.place.Place.TheVariants.{Idle, Call, Ready, Free, Pulse, After, Bit, High, Last, Ack, Freed}
+use Rattle.pr_wire.specs.declared.place.Place.TheVariants.{Idle, Bit, High, Last}
 use Rattle.pr_wire.specs.declared.place.Step.{Step}
 use Rattle.pr_wire.specs.Reached.{indexed, step_of}
 use Rattle.pr_wire.specs.Table.{by_row, fault_at, is_start, verdict}

@@ -1,8 +1,7 @@
 -- Where an edge leads by the table, it can lead.
-use Rattle.std.proofs.Common.{◌≡◌, ℕ, ◌+◌, ◌<◌, ◌≤◌, Bool, true, false, List, [], ◌∷◌, ◌++◌, length, Option, Some, None, Result, Ok, Err, refl, sym, subst, ap, ◌∙◌, arith, length-append}
+use Rattle.std.proofs.Common.{◌≡◌, ℕ, ◌+◌, ◌≤◌, Bool, true, false, List, [], ◌∷◌, ◌++◌, length, Option, Some, None, Ok, Err, refl, sym, subst, arith, length-append}
 use Rattle.std.specs.Prelude.{◌&&◌, ◌==◌, nat_lt, if◌then◌else◌}
 use Rattle.pr_wire.specs.declared.Edge.{Edge}
-use Rattle.pr_wire.specs.declared.place.Flaw.{Flaw}
 use Rattle.pr_wire.specs.declared.place.Flaw.TheVariants.{TooEarly, TooLate, Shape}
 use Rattle.pr_wire.specs.declared.place.Place.{Place}
 use Rattle.pr_wire.specs.declared.place.Place.TheVariants.{Idle, Call, Ready, Free, Pulse, After, Bit, High, Last, Ack, Freed}
@@ -11,7 +10,7 @@ use Rattle.pr_wire.specs.declared.place.Sending.TheVariants.{First, Second, Data
 use Rattle.pr_wire.specs.declared.place.Step.{Step}
 use Rattle.pr_wire.specs.Levels.{edge_at}
 use Rattle.pr_wire.specs.Table.{Row, atn_of, by_row, is_late, row, same, timed, where_true}
-use Rattle.pr_ear.specs.EarNumbers.{CanLead, HasLevels, IsMarked, StandsAt}
+use Rattle.pr_ear.specs.EarNumbers.{CanLead, IsMarked, StandsAt}
 use Rattle.pr_ear.proofs.Stored.{both}
 
 -- an edge can lead to where a row leads, if it comes in the row's time

@@ -72,7 +72,8 @@ fn has_bits(byte: u8, bits: u8) -> bool
 
 /// Whether numbers are those of a byte without a bit, where they are of one.
 fn has_no_halves(byte: &WireByte) -> bool
-    ensures { result ≡ true ↔ (byte.now.bits ≡ 0 → (byte.now.longest_low ≡ 0) × (byte.now.longest_high ≡ 0) × (byte.now.last_pull ≡ byte.now.pull)) }
+    ensures { result ≡ true ↔
+        (byte.now.bits ≡ 0 → (byte.now.longest_low ≡ 0) × (byte.now.longest_high ≡ 0) × (byte.now.last_pull ≡ byte.now.pull)) }
 {
     byte.bits != 0
         || (byte.longest_low == 0 && byte.longest_high == 0 && byte.last_pull == byte.pull)
@@ -110,7 +111,8 @@ fn is_no_byte(byte: &WireByte) -> bool
 
 /// Whether the numbers of a stretch are those of none, where no edge was taken.
 fn has_none(numbers: &WireDecoder) -> bool
-    ensures { result ≡ true ↔ (numbers.now.begun ≡ 0 → (numbers.now.first ≡ no_edge) × (numbers.now.last ≡ no_edge) × (numbers.now.turns ≡ 0)) }
+    ensures { result ≡ true ↔
+        (numbers.now.begun ≡ 0 → (numbers.now.first ≡ no_edge) × (numbers.now.last ≡ no_edge) × (numbers.now.turns ≡ 0)) }
 {
     numbers.begun != 0
         || (is_no_edge(numbers.first) && is_no_edge(numbers.last) && numbers.turns == 0)
@@ -121,7 +123,8 @@ fn has_byte(numbers: &WireDecoder) -> bool
     ensures none { result ≡ true → numbers.now.sent ≡ 0 → numbers.now.byte ≡ no_byte }
     ensures some { result ≡ true → numbers.now.sent ≡ 1 → IsByte numbers.now.byte × IsGoingOn numbers.now }
     ensures few { result ≡ true → numbers.now.sent ≤ 1 }
-    ensures all { numbers.now.sent ≤ 1 → (numbers.now.sent ≡ 0 → numbers.now.byte ≡ no_byte) → (numbers.now.sent ≡ 1 → IsByte numbers.now.byte × IsGoingOn numbers.now) → result ≡ true }
+    ensures all { numbers.now.sent ≤ 1 → (numbers.now.sent ≡ 0 → numbers.now.byte ≡ no_byte)
+        → (numbers.now.sent ≡ 1 → IsByte numbers.now.byte × IsGoingOn numbers.now) → result ≡ true }
 {
     match numbers.sent {
         0 => is_no_byte(&numbers.byte),

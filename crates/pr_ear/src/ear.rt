@@ -170,7 +170,8 @@ pub extern "C" fn print1525_ear_begin(ear: &mut Ear, device: u8, answer: &mut Ea
 pub extern "C" fn print1525_ear_edge(ear: &mut Ear, edge: &WireEdge, answer: &mut EarAnswer)
     ensures tells { (device : ℕ) (edges : List WireEdge) → HasTaken device edges ear.old →
         (told : EarTold) × TellsEdge device edges edge.now told × (answer.new ≡ ear_answer_of told) }
-    ensures taken { (device : ℕ) (edges : List WireEdge) → HasTaken device edges ear.old → HasTaken device (edges ++ edge.now ∷ []) ear.new }
+    ensures taken { (device : ℕ) (edges : List WireEdge) →
+        HasTaken device edges ear.old → HasTaken device (edges ++ edge.now ∷ []) ear.new }
     ensures stays { IsEar ear.old → (told : EarTold) × (told ≢ NoEar) × (answer.new ≡ ear_answer_of told) × IsEar ear.new }
     ensures no_ear { (IsEar ear.old → ⊥) → (ear.new ≡ ear.old) × (answer.new ≡ ear_answer_of NoEar) }
 {

@@ -261,7 +261,8 @@ fn place_in_byte(numbers: &PlaceNumbers) -> Place
 
 /// The place of a byte of which these bits have come and CLOCK is pulled.
 fn with_bits(numbers: &PlaceNumbers) -> Place
-    ensures { result ≡ Place.Bit numbers.now.since (sending_by numbers.now.sending) (numbers.now.eoi == 1) (bits_by numbers.now) (numbers.now.bit == 1) }
+    ensures { result ≡ Place.Bit numbers.now.since (sending_by numbers.now.sending) (numbers.now.eoi == 1)
+        (bits_by numbers.now) (numbers.now.bit == 1) }
 {
     let mut place = without_bits(
         numbers.since,
