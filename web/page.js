@@ -104,8 +104,11 @@ async function printNow(version) {
     const answer = await ask('print', { script, printers: state.printers, status: state.status });
     if (version !== wanted && performance.now() - lastShown < 400) return;
     lastShown = performance.now();
-    showRun(answer, version === wanted);
-    if (version === wanted && answer.code <= 1) traceSoon(version, script.length);
+    showRun(answer, version);
+    if (answer.code <= 1) Object.assign(answer, await ask('end'));
+    if (version !== wanted) return;
+    showScript(answer);
+    if (answer.code <= 1) traceSoon(version, script.length);
     return;
   }
   const answer = source.kind === 'raw' ? await ask('raw', { bytes: source.bytes, set: source.set }) : await ask('recording', recordingOf(source));
@@ -113,14 +116,14 @@ async function printNow(version) {
   showSource(answer);
 }
 
-let lastShown = 0;
+let lastShown = 0, onPaper = 0;
 
-/** Shows what a script's run gives: its sheets, and beside the listing how it went, if that is still the listing. */
-function showRun(answer, isLatest) {
-  if (isLatest) showScript(answer);
-  if (answer.code > 1) { document.body.classList.add('stale'); return; }
-  document.body.classList.remove('stale');
+/** Shows the sheets of a script's run, which may be that of an earlier listing. */
+function showRun(answer, version) {
+  document.body.classList.toggle('stale', answer.code > 1);
+  if (answer.code > 1) return;
   showPaper(decode(answer.svg));
+  onPaper = version;
 }
 
 let texts = 0;     // how often a text of the tabs became another one

@@ -67,20 +67,23 @@ const jobs = {
     return { ...answer, words: print1525.words(answer) };
   },
 
-  /** The pages of a script: the picture, the statuses, the screen's bytes, or why there are none. */
+  /** The sheets of a script's run as a picture, or why there are none. */
   async print(ask) {
     const began = performance.now();
     const run = { script: ask.script, printers: ask.printers, status: ask.status, delays: lasting() };
-    const lines = await print1525.pages({ ...run, format: 'text' });
-    const answer = answerOf(lines);
-    if (lines.code <= 1) {
-      Object.assign(answer, endOf(text(lines.text)), { svg: picture('script', run, await print1525.pages({ ...run, format: 'svg' })) });
-      shown.lines = lines.text;
-    }
+    const pages = await print1525.pages({ ...run, format: 'svg' });
+    const answer = answerOf(pages);
+    if (pages.code <= 1) answer.svg = picture('script', run, pages);
     answer.milliseconds = performance.now() - began;
-    if (lines.code === 1) answer.told = text((await print1525.explainStop({ ...run, stop: lines.fault, statement: lines.statement })).text);
-    if (lines.code === 2) answer.told = text((await print1525.explainScript({ script: ask.script })).text);
+    if (pages.code === 1) answer.told = text((await print1525.explainStop({ ...run, stop: pages.fault, statement: pages.statement })).text);
+    if (pages.code === 2) answer.told = text((await print1525.explainScript({ script: ask.script })).text);
     return answer;
+  },
+
+  /** What stands behind the sheets of the script that is shown: each statement's status and the screen's bytes. */
+  async end() {
+    shown.lines = (await print1525.pages({ ...shown.ask, format: 'text' })).text;
+    return endOf(text(shown.lines));
   },
 
   /** The trace of a script's run at some delays, and what it says. */
