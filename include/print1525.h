@@ -35,7 +35,7 @@ extern "C" {
 
 /* How a call ended: `code` of an answer. 0 to 3 are the exit statuses of the program print1525. */
 enum print1525_code {
-    PRINT1525_DONE = 0,      /* the text stands in the buffer */
+    PRINT1525_DONE = 0,      /* what the call gives is there: of a text, it stands in the buffer */
     PRINT1525_STOPPED = 1,   /* the same, and a BASIC error stopped the run: `fault` is its number */
     PRINT1525_REFUSED = 2,   /* what was passed is refused: `fault` says why, and `place` where */
     PRINT1525_NO_MEMORY = 3, /* malloc or realloc gave none */
@@ -257,9 +257,10 @@ typedef struct {
 
 /* What is kept of a device between two edges: an ear on the wire. The numbers are the library's; the
  * caller only keeps them, and may copy them. Before a call uses them it tests each: a device of 4 to 30;
- * before the first edge nothing else but a fault; behind it an edge, a place to which that edge can lead by
- * the table with the numbers of this place and no others, and a count that so many microseconds have room
- * for. Other numbers are refused (26). Not tested is whether a trace has just these moments, this count, this
+ * `called` only with `listens`; before the first edge nothing else but the fault 11; behind it levels of 0 or
+ * 1, a place to which the last edge can lead by the table with the numbers of this place and no others, the
+ * fault 0 or 12 to 15, and `taken` + 98 at most the last moment (with one edge: at 0). Other numbers are
+ * refused (26). Not tested is whether a trace has just these moments, this count, this
  * byte and a device that listens: with numbers that pass and that no edges left the call goes on from there.
  * Nothing is promised of what it tells then, but that it returns, writes nothing else, and leaves numbers
  * that pass. */
