@@ -1,7 +1,7 @@
 //! A decoder of recordings that sits on the wire: what a recording says edge by edge, between calls in the
 //! caller's memory.
 
-ghost use Rattle.std.specs.Prelude.{◌≡◌, ◌++◌, ◌∷◌, [], ℕ, List, Option, None};
+ghost use Rattle.std.specs.Prelude.{◌≡◌, ◌≢◌, ◌++◌, ◌∷◌, [], ℕ, List, Option, None};
 ghost use Rattle.pr_decode.specs.declared.reading.Reading.{Reading};
 ghost use Rattle.pr_ear.specs.declared.WireEdge.{WireEdge};
 ghost use Rattle.pr_ear.specs.declared.decoding.DecoderTold.{DecoderTold};
@@ -39,6 +39,8 @@ pub fn decode_edge(decoder: &mut WireDecoder, edge: WireEdge) -> DecoderTold
     ensures tells { (edges : List WireEdge) (given : List Reading) → HasDecoded edges given decoder.old → TellsNext edges edge result }
     ensures takes { (edges : List WireEdge) (given : List Reading) → HasDecoded edges given decoder.old →
         LeavesOf edges given edge result decoder.old decoder.new }
+    ensures decoder { IsDecoder decoder.old → result ≢ NoDecoder }
+    ensures back { result ≡ DecoderTold.GoesBack → decoder.new ≡ decoder.old }
     ensures no_decoder { (IsDecoder decoder.old → ⊥) → (result ≡ NoDecoder) × (decoder.new ≡ decoder.old) }
 {
     readings_add_up();
@@ -58,6 +60,7 @@ pub fn decode_edge(decoder: &mut WireDecoder, edge: WireEdge) -> DecoderTold
 /// edges.
 pub fn end_decoder(decoder: &WireDecoder) -> DecoderTold
     ensures tells { (edges : List WireEdge) (given : List Reading) → HasDecoded edges given decoder.now → TellsCut edges given result }
+    ensures decoder { IsDecoder decoder.now → result ≢ NoDecoder }
     ensures no_decoder { (IsDecoder decoder.now → ⊥) → result ≡ NoDecoder }
 {
     match restore(decoder) {
@@ -113,6 +116,8 @@ pub extern "C" fn print1525_decode_edge(
     ensures tells { (edges : List WireEdge) (given : List Reading) → HasDecoded edges given decoder.old →
         (said : DecoderTold) × TellsNext edges edge.now said × LeavesOf edges given edge.now said decoder.old decoder.new
         × (out.new ≡ reading_of said) × (told.new ≡ decoder_answer_of said) }
+    ensures decoder { IsDecoder decoder.old → (said : DecoderTold) × (said ≢ NoDecoder) × (said ≡ DecoderTold.GoesBack → decoder.new ≡ decoder.old)
+        × (out.new ≡ reading_of said) × (told.new ≡ decoder_answer_of said) }
     ensures no_decoder { (IsDecoder decoder.old → ⊥) →
         (decoder.new ≡ decoder.old) × (out.new ≡ reading_of NoDecoder) × (told.new ≡ decoder_answer_of NoDecoder) }
 {
@@ -130,6 +135,8 @@ pub extern "C" fn print1525_decode_end(
 )
     ensures tells { (edges : List WireEdge) (given : List Reading) → HasDecoded edges given decoder.now →
         (said : DecoderTold) × TellsCut edges given said × (out.new ≡ reading_of said) × (told.new ≡ decoder_answer_of said) }
+    ensures decoder { IsDecoder decoder.now → (said : DecoderTold) × (said ≢ NoDecoder)
+        × (out.new ≡ reading_of said) × (told.new ≡ decoder_answer_of said) }
     ensures no_decoder { (IsDecoder decoder.now → ⊥) →
         (out.new ≡ reading_of NoDecoder) × (told.new ≡ decoder_answer_of NoDecoder) }
 {
