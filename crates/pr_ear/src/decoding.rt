@@ -116,7 +116,8 @@ pub extern "C" fn print1525_decode_edge(
     ensures tells { (edges : List WireEdge) (given : List Reading) → HasDecoded edges given decoder.old →
         (said : DecoderTold) × TellsNext edges edge.now said × LeavesOf edges given edge.now said decoder.old decoder.new
         × (out.new ≡ reading_of said) × (told.new ≡ decoder_answer_of said) }
-    ensures decoder { IsDecoder decoder.old → (said : DecoderTold) × (said ≢ NoDecoder) × (said ≡ DecoderTold.GoesBack → decoder.new ≡ decoder.old)
+    ensures decoder { IsDecoder decoder.old → (said : DecoderTold) × (said ≢ NoDecoder)
+        × (said ≡ DecoderTold.GoesBack → decoder.new ≡ decoder.old)
         × (out.new ≡ reading_of said) × (told.new ≡ decoder_answer_of said) }
     ensures no_decoder { (IsDecoder decoder.old → ⊥) →
         (decoder.new ≡ decoder.old) × (out.new ≡ reading_of NoDecoder) × (told.new ≡ decoder_answer_of NoDecoder) }
