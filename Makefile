@@ -92,8 +92,8 @@ peer: build lib
 # Not a part of the gate, which knows no WebAssembly. The module is made anew where a crate changed.
 web: $(MODULE)
 	@web/make $(MODULE)
-	@git diff --quiet HEAD -- web/print1525.html && echo 'web/print1525.html is the committed file.' || \
-		echo 'web/print1525.html is another file than the committed one.'
+	@if git diff --quiet HEAD -- web/print1525.html; then echo 'web/print1525.html is the committed file.'; else \
+		echo 'web/print1525.html is another file than the committed one.'; exit 1; fi
 
 $(MODULE): $(SOURCES) web/module
 	@mkdir -p $(@D)

@@ -22,7 +22,8 @@ class Editor {
   replace(text) {
     const plain = text.replace(/\r\n?/g, '\n');
     if (plain === this.text) return;
-    if (plain.length < 1e5 && this.text.length < 1e5) {
+    // (a browser takes seconds to insert a long text so that it can be undone)
+    if (plain.length < 4000 && this.text.length < 4000) {
       const focused = document.activeElement;
       this.area.focus({ preventScroll: true });
       this.area.select();
