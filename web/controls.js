@@ -120,8 +120,12 @@ const FILES = {
 for (const made of document.querySelectorAll('[data-save]')) {
   made.onclick = async () => {
     const what = made.dataset.save, [ending, type] = FILES[what];
-    const bytes = await ask('text', { what, delays: state.taken || [[], [], []].map(() => new Uint16Array(0)) });
-    download(bytes, `${(state.source?.name || 'listing').replace(/\.[^.]*$/, '')}.${ending}`, type);
+    try {
+      const bytes = await ask('text', { what, delays: state.taken || [[], [], []].map(() => new Uint16Array(0)) });
+      download(bytes, `${(state.source?.name || 'listing').replace(/\.[^.]*$/, '')}.${ending}`, type);
+    } catch (error) {
+      notice('failed', `The module failed: ${error.message}`);
+    }
   };
 }
 $('save').onclick = () => download(encode(editor.text), 'listing.bas', 'text/plain');

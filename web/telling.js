@@ -10,6 +10,7 @@ function cover(words, actions = []) {
 /** Makes the trace once nothing more is typed; a long one only when it is asked for. */
 function traceSoon(version, length) {
   clearTimeout(waitingTrace);
+  offerWire(false);
   if (length > AUTOMATIC) {
     showWire(null);
     const make = button('Make it', () => { cover('Making the trace …'); trace(version); });
@@ -20,7 +21,10 @@ function traceSoon(version, length) {
 
 async function trace(version) {
   const { printers, status, delays } = state, lists = readLists();
-  if (!lists) return;
+  if (!lists) {
+    showWire(null);
+    return cover('A list of delays cannot be read, so there is no trace.');
+  }
   try {
     const answer = await ask('trace', {
       script: encode(editor.text), printers, status, delays: delays === 'lists' ? lists : [[], [], []].map(() => new Uint16Array(0)),
@@ -37,8 +41,14 @@ async function trace(version) {
   }
 }
 
+/** Offers the texts of the wire, or not: before a run's own trace is made those of an earlier one stand there. */
+function offerWire(isThere) {
+  for (const what of ['trace', 'vcd', 'readings']) document.querySelector(`[data-save=${what}]`).disabled = !isThere;
+}
+
 /** Shows a trace with what is said of it, or none. */
 function showWire(answer) {
+  offerWire(Boolean(answer));
   const { times, levels, frames, verdict } = answer || { times: new Float64Array(0), levels: new Uint8Array(0), frames: [], verdict: '' };
   wave.show({ times, levels }, frames);
   $('wire-facts').textContent = !answer ? '' : [
