@@ -124,7 +124,7 @@ for (const made of document.querySelectorAll('[data-save]')) {
       const bytes = await ask('text', { what, delays: state.taken || [[], [], []].map(() => new Uint16Array(0)) });
       download(bytes, `${(state.source?.name || 'listing').replace(/\.[^.]*$/, '')}.${ending}`, type);
     } catch (error) {
-      notice('failed', `The module failed: ${error.message}`);
+      tellFailed(error);
     }
   };
 }
@@ -208,7 +208,8 @@ let ready = false;
 
 /** Begins with the listing of the address, or with the one that was kept, or with an example; then makes the module ready. */
 async function begin() {
-  const linked = await readAddress(location.hash), kept = store.get('listing');
+  const mine = own.get(), isMine = mine?.hash === location.hash;
+  const linked = isMine ? mine : await readAddress(location.hash), kept = store.get('listing');
   const first = { printers: 3, status: 0, delays: 'typical', lists: ['', '', ''] };
   const view = store.get('view');
   showTab('pages', view?.tabs?.pages || 'sheets');

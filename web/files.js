@@ -18,14 +18,21 @@ function take(bytes, name, kind = kindOf(bytes, name)) {
   if (kind === 'script') {
     leaveSource();
     keepEarlier();
-    let text;
-    try { text = new TextDecoder('utf-8', { fatal: true }).decode(bytes); } catch { text = new TextDecoder('latin1').decode(bytes); }
+    let text, words = '';
+    try {
+      text = new TextDecoder('utf-8', { fatal: true }).decode(bytes);
+    } catch {
+      text = new TextDecoder('latin1').decode(bytes);
+      words = 'The file has bytes above 127 that are no UTF-8: each is shown here as the Latin-1 character with its number. ';
+    }
+    if (/\r(?!\n)/.test(text)) words += 'The file had carriage returns alone between lines; they are line ends here.';
     editor.replace(text);
-    tellOnce('lines', /\r(?!\n)/.test(text) ? 'The file had carriage returns alone between lines; they are line ends here.' : '');
+    tellOnce('lines', words);
     return listingChanged();
   }
   state.source = { bytes, name, kind, set: 0, names: ['ATN', 'CLOCK', 'DATA'], inverted: false, start: 0 };
   wave.moved = false;
+  notice('lines', '');
   sourceNotice();
   print();
 }
@@ -78,6 +85,7 @@ function sourceNotice(words = '') {
 
 function leaveSource() {
   notice('byte', '');
+  notice('lines', '');
   if (!state.source) return;
   state.source = null;
   wave.moved = false;
@@ -99,7 +107,7 @@ function showSource(answer) {
     more.append(name, text);
     document.querySelector('[data-notice="source"]').append(more);
   }
-  if (answer.svg) showPaper(decode(answer.svg)); else { paper.show(''); $('no-sheet').hidden = true; }
+  if (answer.svg) showPaper(decode(answer.svg)); else { ofSource = true; paper.show(''); $('no-sheet').hidden = true; }
   if (source.kind === 'raw') { showWire(null); cover('A printer\'s bytes alone: nothing is known of the wire.'); return; }
   cover('');
   showWire(answer);

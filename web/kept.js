@@ -17,24 +17,46 @@ const store = {
   },
 };
 
+/** The listing of this tab alone, with the address beside which it was kept: a reload takes it before that address and other tabs' listings. */
+const own = {
+  get() { try { return JSON.parse(sessionStorage.getItem('print1525.listing')); } catch { return null; } },
+  set(listing) {
+    try { sessionStorage.setItem('print1525.listing', JSON.stringify({ ...listing, hash: location.hash })); } catch { sessionStorage.removeItem('print1525.listing'); }
+  },
+};
+
 /** Keeps the listing and the choices in this browser, and puts them into the address. */
 function save() {
   clearTimeout(saving);
   saving = 0;
-  const { printers, status, delays, lists } = state, kept = store.set('listing', { text: editor.text, printers, status, delays, lists });
+  const { printers, status, delays, lists } = state, listing = { text: editor.text, printers, status, delays, lists };
+  const kept = store.set('listing', listing);
+  own.set(listing);
   notice('kept', kept ? '' : 'This listing is too long to be kept by the browser: save it as a file.');
   return address().then(hash => {
     const plain = hash.length <= LINK_LIMIT ? hash : '';
     history.replaceState(null, '', `${location.pathname}${location.search}${plain ? `#${plain}` : ''}`);
     lastHash = location.hash;
+    own.set(listing);
     return plain;
   });
 }
 
 let lastHash = location.hash;
 
+/** What a stream makes of bytes; it throws where that is longer than a listing may be. */
 async function through(stream, bytes) {
-  return new Uint8Array(await new Response(new Blob([bytes]).stream().pipeThrough(stream)).arrayBuffer());
+  const parts = [], reader = new Blob([bytes]).stream().pipeThrough(stream).getReader();
+  let length = 0;
+  for (let part = await reader.read(); !part.done; part = await reader.read()) {
+    parts.push(part.value);
+    length += part.value.length;
+    if (length > LISTING_LIMIT) {
+      await reader.cancel();
+      throw new Error('too long');
+    }
+  }
+  return new Uint8Array(await new Blob(parts).arrayBuffer());
 }
 
 /** The state as the part of an address behind `#`: the choices by their letters, and the listing, deflated, in base64url; empty for a long one. */
@@ -50,7 +72,7 @@ async function address() {
   return parts.join('&');
 }
 
-/** Reads an address; null where it has no listing that can be read. */
+/** Reads an address; null where it has no listing, and where it has one that cannot be read, which is told. */
 async function readAddress(hash) {
   const parts = new Map(hash.replace(/^#/, '').split('&').map(part => [part[0], part.slice(2)]));
   if (!parts.has('t')) return null;
@@ -62,7 +84,10 @@ async function readAddress(hash) {
       text, printers: printers < 0 ? 3 : printers, status: parts.get('s') === 'kept' ? 1 : 0,
       delays: isWord ? delays : 'lists', lists: isWord ? ['', '', ''] : [...delays.split('/'), '', ''].slice(0, 3),
     };
-  } catch { return null; }
+  } catch {
+    tellOnce('link', 'The address holds a listing that cannot be read: a part of the link may be missing.');
+    return null;
+  }
 }
 
 /** Keeps the listing that another one is about to replace, unless it is an example as it came. */

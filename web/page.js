@@ -4,6 +4,7 @@ const $ = id => document.getElementById(id);
 const AUTOMATIC = 64 * 1024;       // a longer listing's trace is made only when it is asked for
 const LINK_LIMIT = 30000;          // characters of an address
 const EARLIER_LIMIT = 20;
+const LISTING_LIMIT = 16777216;    // bytes of a script, as the program has it
 
 /** The choices beside the listing, and what the paper and the wire show: the listing, or a file (`source`). */
 const state = { printers: 3, status: 0, delays: 'typical', lists: ['', '', ''], source: null, tabs: { pages: 'sheets', wire: 'wave' } };
@@ -31,6 +32,13 @@ worker.onmessage = ({ data: { number, answer, error } }) => {
 const decode = bytes => new TextDecoder().decode(bytes);
 const encode = text => new TextEncoder().encode(text);
 const fromBase64 = text => Uint8Array.from(atob(text), sign => sign.charCodeAt(0));
+
+// A worker that cannot go on answers nothing more: what it was asked fails.
+worker.onerror = event => {
+  event.preventDefault();
+  for (const { reject } of answers.values()) reject(new Error(event.message || 'its worker stopped'));
+  answers.clear();
+};
 
 /** Whether the browser has 64-bit memories, by a module that is nothing but one. */
 const has64BitMemory = () => WebAssembly.validate(Uint8Array.of(0, 97, 115, 109, 1, 0, 0, 0, 5, 3, 1, 4, 1));
@@ -65,6 +73,9 @@ function notice(name, words, actions = []) {
 /** A notice that goes when it is closed. */
 const tellOnce = (name, words) => notice(name, words, [button('Close', () => notice(name, ''))]);
 
+/** Tells that a call of the module failed. */
+const tellFailed = error => tellOnce('failed', `The module failed: ${error.message}`);
+
 function button(words, act) {
   const made = document.createElement('button');
   made.type = 'button';
@@ -90,7 +101,7 @@ async function print() {
       printed = version;
     }
   } catch (error) {
-    notice('failed', `The module failed: ${error.message}`);
+    tellFailed(error);
   }
   clearTimeout(slow);
   document.body.classList.remove('printing');
@@ -116,12 +127,24 @@ async function printNow(version) {
   showSource(answer);
 }
 
-let lastShown = 0, onPaper = 0;
+let lastShown = 0, onPaper = 0, ofSource = false;     // `ofSource`: a file is on paper
+
+/** Takes a file's sheets and wire away where the listing gives none. */
+function leavePaper() {
+  ofSource = false;
+  paper.show('');
+  $('no-sheet').hidden = true;
+  showWire(null);
+  cover('There is no trace of this listing.');
+}
 
 /** Shows the sheets of a script's run, which may be that of an earlier listing. */
 function showRun(answer, version) {
   document.body.classList.toggle('stale', answer.code > 1);
-  if (answer.code > 1) return;
+  if (answer.code > 1) {
+    if (ofSource) leavePaper();
+    return;
+  }
   showPaper(decode(answer.svg));
   onPaper = version;
 }
@@ -129,6 +152,7 @@ function showRun(answer, version) {
 let texts = 0;     // how often a text of the tabs became another one
 
 function showPaper(svg) {
+  ofSource = Boolean(state.source);
   paper.show(svg);
   $('no-sheet').hidden = !paper.picture || paper.picture.sheets.length > 0;
   $('no-sheet').textContent = state.source ? 'No printer hears a byte of this.' : 'No printer is on the bus: no sheet.';
@@ -140,7 +164,8 @@ function showPaper(svg) {
 async function fillReader(tab) {
   const what = { lines: 'text', list: 'list', edges: 'trace', frames: 'readings' }[tab], reader = readers[tab], version = reader?.stale;
   if (!what || !version || !ready) return;
-  const bytes = await ask('text', { what });
+  let bytes;
+  try { bytes = await ask('text', { what }); } catch (error) { return tellFailed(error); }
   if (reader.stale !== version) return;
   reader.stale = 0;
   reader.show(decode(bytes || new Uint8Array(0)));

@@ -37,7 +37,7 @@ async function trace(version) {
     if (answer.code <= 1) showWire(answer);
     else { showWire(null); cover(answer.code === 3 ? 'There was no memory for the trace.' : 'There is no trace.'); }
   } catch (error) {
-    notice('failed', `The module failed: ${error.message}`);
+    tellFailed(error);
   }
 }
 
@@ -148,7 +148,9 @@ async function frameChosen(index) {
   tellChosen(index);
   paper.find([]);
   if (!frame || frame.fault || (frame.kind === 'command')) return;
-  const marks = await ask('marks', { frame: index });
+  tellChosen(index, ', looking on the paper …');
+  let marks;
+  try { marks = await ask('marks', { frame: index }); } catch (error) { return tellFailed(error); }
   if (turn !== asked) return;
   paper.find(marks);
   tellChosen(index, marks.length ? `, ${counted(marks.length, 'mark')}` : ', no mark that shows');
@@ -158,13 +160,18 @@ async function frameChosen(index) {
 async function markClicked(mark) {
   const turn = ++asked;
   if (!mark) { wave.choose(-1); return; }
-  if (state.source?.kind === 'raw') {
-    const { byte } = await ask('byte', { mark });
-    if (turn === asked) tellOnce('byte', `This mark comes with byte ${byte + 1} of the file, ${state.source.bytes[byte]}.`);
-    return;
+  const { source } = state, isRaw = source?.kind === 'raw';
+  if (!isRaw && !wave.frames.length) return;
+  document.body.classList.add('searching');
+  try {
+    const { byte, frame } = await ask('byte', { mark });
+    if (turn !== asked) return;
+    if (isRaw) tellOnce('byte', `This mark comes with byte ${byte + 1} of the file, ${source.bytes[byte]}.`);
+    else if (frame >= 0) wave.choose(frame);
+  } catch (error) {
+    tellFailed(error);
+  } finally {
+    document.body.classList.remove('searching');
   }
-  if (!wave.frames.length) return;
-  const { frame } = await ask('byte', { mark });
-  if (turn === asked && frame >= 0) wave.choose(frame);
 }
 
