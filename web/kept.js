@@ -1,6 +1,6 @@
 // What is kept: the listing in this browser and in the address, and the listings before it; and the menu that brings them back.
 
-let saving = 0;
+let saving = 0, saves = 0;
 
 /** The listing changed: it is kept, and printed. */
 function listingChanged() {
@@ -33,8 +33,10 @@ function save() {
   const kept = store.set('listing', listing);
   own.set(listing);
   notice('kept', kept ? '' : 'This listing is too long to be kept by the browser: save it as a file.');
+  const turn = ++saves;
   return address().then(hash => {
     const plain = hash.length <= LINK_LIMIT ? hash : '';
+    if (turn !== saves) return plain;               // a later listing is kept by now
     history.replaceState(null, '', `${location.pathname}${location.search}${plain ? `#${plain}` : ''}`);
     lastHash = location.hash;
     own.set(listing);
