@@ -2,7 +2,7 @@
 # make try          prints that page within a minute or two, by a build of which nothing is proved
 # make test         the gate: every proof, test and must-fail edit, then the tests outside the prover
 # make cases        makes the inputs and answers of cases/ anew; make test says if the program's answers differ from them
-# make edits        tells of each wrong idea of the must-fail edits whether the prover refuses it: hours; tests/edits CRATE of one crate
+# make edits        tries each wrong idea of tests/ideas and writes down what refuses it: hours; tools/edits CRATE of one crate
 # make bench        speed and peak memory beside `wc -l`, with the aim of each
 # make peer         traces and pictures of runs, read by others: sigrok's decoder of the bus (sigrok-cli and libsigrokdecode4),
 #                   xmllint and rsvg-convert (libxml2-utils, librsvg2-bin and netpbm); and the calls for C watched by valgrind and
@@ -15,6 +15,7 @@
 #                   $(DESTDIR)$(PREFIX), where PREFIX is /usr/local unless it is given
 
 SHELL := /bin/bash
+export PYTHONDONTWRITEBYTECODE := 1
 PREFIX ?= /usr/local
 PROGRAM := crates/print1525/out/print1525
 LIBRARY := libprint1525.a
@@ -38,7 +39,7 @@ build: $(PROGRAM)
 
 # `rt run` proves, builds and runs. `rt ci` leaves the program too: it is built again only after a change.
 $(PROGRAM): $(SOURCES)
-	@cd crates/print1525 && set -o pipefail && rt run -- --help 2>&1 | tee out.log | ../../tests/progress || \
+	@cd crates/print1525 && set -o pipefail && rt run -- --help 2>&1 | tee out.log | ../../tools/progress || \
 		{ cat out.log; rm -f out.log; exit 1; }; rm -f out.log
 	@touch $@
 
@@ -47,13 +48,16 @@ try:
 	@cd crates/print1525 && rt try -- pages < ../../examples/hello.bas
 
 test:
+	@tools/library --before-gate
 	rt ci
-	-@tests/stamps
+	@tools/library --after-gate
 	@$(MAKE) --no-print-directory outside
+	@tools/edits --newer
 
 # The tests outside the prover: the built program, and the tests of crates that go on after a refusal.
 outside: build lib $(TESTS)
 	@tests/run $(PROGRAM)
+	@tests/cases/run $(PROGRAM)
 	@cases/run $(PROGRAM)
 	@cases/made --check
 	@cases/reach --check
@@ -65,10 +69,9 @@ $(TESTS): $(SOURCES)
 # The library for C programs: the archives of two crates and the part of the toolchain's that calls malloc, in one.
 lib: $(LIBRARY)
 
-$(LIBRARY): $(SOURCES) tests/archive
-	@for crate in pr_ear pr_c; do \
-		(cd crates/$$crate && rt lib > out.log 2>&1 || { cat out.log; exit 1; }; rm -f out.log) || exit 1; done
-	@tests/archive $@ pr_ear pr_c
+$(LIBRARY): $(SOURCES) tools/library tools/archive
+	@tools/library pr_ear pr_c
+	@tools/archive $@ pr_ear pr_c
 
 # What differs shows in `git diff`.
 cases: build
@@ -76,12 +79,12 @@ cases: build
 	@cases/run --make $(PROGRAM)
 	@cases/reach --write
 
-# Not a part of the gate, which tries the ideas of a file together.
+# Not a part of the gate, which tries the edits in must-fail alone.
 edits:
-	@tests/edits
+	@tools/edits --jobs 2
 
 bench: build $(TESTS)
-	@tests/bench $(PROGRAM)
+	@tools/bench $(PROGRAM)
 
 # Not a part of the gate.
 peer: build lib

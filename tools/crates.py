@@ -1,0 +1,92 @@
+"""The crates of this repository, for the tools: their order, their files, and the libraries that `rt ci` leaves."""
+
+import hashlib
+import os
+import subprocess
+
+ROOT = os.path.dirname(os.path.dirname(os.path.abspath(__file__)))
+PARTS = ("src", "specs", "proofs")
+# The sum of the sources that the last whole gate proved (tools/library).
+GATE_SUM = f"{ROOT}/out/gate.sum"
+
+
+def text_of(path):
+    """A file's text."""
+    with open(path, encoding="utf-8") as file:
+        return file.read()
+
+
+def said_by(*words):
+    """What a command prints."""
+    return subprocess.run(words, stdout=subprocess.PIPE, encoding="utf-8", check=True).stdout.strip()
+
+
+def kit():
+    """The folder of the kit."""
+    return os.path.dirname(said_by("rt", "doc"))
+
+
+def uses():
+    """What each crate is built on, in the order of crates.txt."""
+    found = {}
+    for line in text_of(f"{ROOT}/crates.txt").split("\n"):
+        name, colon, others = line.partition("#")[0].partition(":")
+        if colon:
+            found[name.split()[0]] = others.split()
+    return found
+
+
+def below(name, users=None):
+    """All crates of the repository below a crate, each after those that it is built on."""
+    users, found = users or uses(), []
+    for it in users[name]:
+        if it in users:
+            found += [lower for lower in [*below(it, users), it] if lower not in found]
+    return found
+
+
+def sources(crate, parts=PARTS):
+    """The source files of a crate, sorted."""
+    found = []
+    for part in parts:
+        for at, _, names in os.walk(f"{ROOT}/crates/{crate}/{part}"):
+            found += [f"{at}/{it}" for it in names if it.endswith((".rt", ".antt"))]
+    return sorted(found)
+
+
+def sum_of(files, text=text_of):
+    """The sum of files and their texts."""
+    found = hashlib.sha256()
+    for it in files:
+        found.update(repr((os.path.relpath(it, ROOT), text(it))).encode())
+    return found.hexdigest()[:16]
+
+
+def sum_of_all():
+    """The sum of all sources and of the kit."""
+    files = [f"{ROOT}/crates.txt", *[it for crate in uses() for it in sources(crate)]]
+    return f"{said_by('rt', 'version')} {sum_of(files)}"
+
+
+def has_gate_libraries(name):
+    """Whether the libraries below a crate are those of a whole gate over these very sources. Those have no stamp, by which
+    other commands know what they built themselves."""
+    if not os.path.exists(GATE_SUM) or text_of(GATE_SUM) != sum_of_all():
+        return False
+    places = [f"{ROOT}/crates/{it}/out/rlib" for it in below(name)]
+    return all(os.path.isdir(it) and not os.path.exists(f"{it}/stamp") for it in places)
+
+
+def build_words(name):
+    """The words by which the kit's compiler proves and builds a static library over the libraries below it."""
+    users, home = uses(), kit()
+    words = [f"{home}/bin/rattle", "build", "--crate-name", name, "src/lib.rt", "-L", f"dependency={home}/rlibs"]
+    words += ["--extern", f"std={home}/rlibs/std.rlib"]
+    for it in users[name]:
+        place = f"{ROOT}/crates/{it}/out/rlib" if it in users else f"{home}/rlibs"
+        words += ["--extern", f"{it}={place}/{it}.rlib"]
+    for it in below(name, users):
+        words += ["-L", f"dependency={ROOT}/crates/{it}/out/rlib"]
+    words += ["--antt-project", f"{home}/rattle/logic/antt-project.json", "--logic-built", f"{home}/logic_built"]
+    words += ["--incremental", "out/incremental", "--jobs", "1", "--links", f"{name}="]
+    return [*words, "--crate-type", "staticlib", "--backend", "llvm"]
