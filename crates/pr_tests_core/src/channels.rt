@@ -1,0 +1,296 @@
+//! The worked channel calls over a bus without wires.
+
+use crate::refusals::most_refusals;
+use pr_channels::{Channels, Fault, File, FileTable, Stop};
+use pr_serial::{Direct, Input, NoMemory, Present, Serial};
+use std::process::Abort;
+use std::test::Fail;
+
+/// A call.
+#[derive(Clone, Copy)]
+enum Call {
+    Open(u8, u8, Option<u8>),
+    Chkout(u8),
+    Chrout(u8),
+    Clrchn,
+    CloseFile(u8),
+    ClearStatus,
+    Forget,
+}
+
+/// A call, what it answers, and what is seen behind it: items, output device, status, and how many of
+/// the test's inputs printer 4 heard.
+type Row = (Call, Result<(), Fault>, u64, u8, u8, usize);
+
+/// Opens a file, where device and secondary address are ones that the call takes.
+fn open(
+    rt: &impl Abort,
+    channels: &mut Channels<Direct>,
+    file: u8,
+    device: u8,
+    second: Option<u8>,
+) -> Result<(), Fault> {
+    assert!(rt; device >= 4 && device <= 30 && (second.is_none() || second <= Some(15)));
+    match channels.open_file(file, device, second) {
+        Ok(()) => Ok(()),
+        Err(stop) => Err(Fault::Stop(stop)),
+    }
+}
+
+/// The answer of a call that memory alone can stop.
+fn told(given: Result<(), NoMemory>) -> Result<(), Fault> {
+    match given {
+        Ok(()) => Ok(()),
+        Err(_refused) => Err(Fault::NoMemory),
+    }
+}
+
+/// Makes a call.
+fn answer(rt: &impl Abort, channels: &mut Channels<Direct>, call: Call) -> Result<(), Fault> {
+    assert!(rt; channels.serial().items() < 1000);
+    match call {
+        Call::Open(file, device, second) => open(rt, channels, file, device, second),
+        Call::Chkout(file) => channels.chkout(file),
+        Call::Chrout(byte) => told(channels.chrout(byte)),
+        Call::Clrchn => told(channels.clrchn()),
+        Call::CloseFile(file) => told(channels.close_file(file)),
+        Call::ClearStatus => {
+            channels.clear_status();
+            Ok(())
+        }
+        Call::Forget => {
+            channels.forget();
+            Ok(())
+        }
+    }
+}
+
+/// Whether this is seen of the channels; printer 5 heard nothing.
+fn shows(channels: &Channels<Direct>, items: u64, output: u8, status: u8, heard: &[Input]) -> bool {
+    channels.serial().items() == items
+        && channels.output() == output
+        && channels.readst() == status
+        && channels.serial().heard(4) == heard
+        && channels.serial().heard(5).is_empty()
+}
+
+/// Makes calls over a bus on which nothing was sent, and compares what is seen behind each.
+fn plays(
+    rt: &(impl Abort + AllocGlobal),
+    present: Present,
+    rows: &[Row],
+    inputs: &[Input],
+) -> Channels<Direct> {
+    let mut channels = Channels::new(rt.alloc(), Direct::new(rt.alloc(), present));
+    for (number, &(call, wanted, items, output, status, heard)) in rows.iter().enumerate() {
+        let given = answer(rt, &mut channels, call);
+        assert!(rt; heard <= inputs.len());
+        let is_well = given == wanted && shows(&channels, items, output, status, &inputs[..heard]);
+        assert!(rt; is_well, "call {number}");
+    }
+    channels
+}
+
+const BOTH: Present = Present {
+    four: true,
+    five: true,
+};
+
+const ONLY_FOUR: Present = Present {
+    four: true,
+    five: false,
+};
+
+#[test]
+fn channel_calls_send_and_hold(rt: HostRuntime) {
+    const ROWS: [Row; 5] = [
+        (Call::Open(4, 4, None), Ok(()), 0, 3, 0, 0),
+        (Call::Chkout(4), Ok(()), 1, 4, 0, 1),
+        (Call::Chrout(72), Ok(()), 1, 4, 0, 1),
+        (Call::Chrout(73), Ok(()), 2, 4, 0, 2),
+        (Call::Clrchn, Ok(()), 4, 3, 0, 3),
+    ];
+    plays(
+        &rt,
+        BOTH,
+        &ROWS,
+        &[Input::Select(false), Input::Byte(72), Input::Byte(73)],
+    );
+}
+
+#[test]
+fn close_while_output_stays(rt: HostRuntime) {
+    const ROWS: [Row; 6] = [
+        (Call::Open(4, 4, Some(7)), Ok(()), 0, 3, 0, 0),
+        (Call::Chkout(4), Ok(()), 1, 4, 0, 2),
+        (Call::Chrout(65), Ok(()), 1, 4, 0, 2),
+        (Call::CloseFile(4), Ok(()), 4, 4, 0, 4),
+        (Call::Chrout(88), Ok(()), 4, 4, 0, 4),
+        (Call::Clrchn, Ok(()), 6, 3, 128, 4),
+    ];
+    plays(
+        &rt,
+        BOTH,
+        &ROWS,
+        &[
+            Input::Select(false),
+            Input::Select(true),
+            Input::Byte(65),
+            Input::Select(false),
+        ],
+    );
+}
+
+#[test]
+fn unanswered_byte_stops_the_next_chkout(rt: HostRuntime) {
+    const STOP: Fault = Fault::Stop(Stop::DeviceNotPresent);
+    const ROWS: [Row; 8] = [
+        (Call::Open(4, 4, None), Ok(()), 0, 3, 0, 0),
+        (Call::Open(5, 5, None), Ok(()), 0, 3, 0, 0),
+        (Call::Chkout(5), Ok(()), 1, 5, 0, 0),
+        (Call::Chrout(65), Ok(()), 1, 5, 0, 0),
+        (Call::Chrout(13), Ok(()), 2, 5, 128, 0),
+        (Call::ClearStatus, Ok(()), 2, 5, 0, 0),
+        (Call::Chkout(4), Err(STOP), 4, 5, 128, 1),
+        (Call::Clrchn, Ok(()), 5, 3, 128, 1),
+    ];
+    plays(&rt, ONLY_FOUR, &ROWS, &[Input::Select(false)]);
+}
+
+/// What a file that is not open does, what stays on the screen, and the parts in the end.
+#[test]
+fn screen_and_files_that_are_not_open(rt: HostRuntime) {
+    const STOP: Fault = Fault::Stop(Stop::FileNotOpen);
+    const ROWS: [Row; 6] = [
+        (Call::Chkout(4), Err(STOP), 0, 3, 0, 0),
+        (Call::CloseFile(4), Ok(()), 0, 3, 0, 0),
+        (Call::Clrchn, Ok(()), 0, 3, 0, 0),
+        (Call::Chrout(88), Ok(()), 0, 3, 0, 0),
+        (Call::Chrout(13), Ok(()), 0, 3, 0, 0),
+        (Call::Forget, Ok(()), 0, 3, 0, 0),
+    ];
+    let channels = plays(&rt, BOTH, &ROWS, &[]);
+    let wanted = [88, 13].as_slice();
+    let is_marked = channels.serial().mark() == Some(0);
+    let is_shown = channels.files().as_slice().is_empty() && channels.screen() == wanted;
+    let (bus, screen) = channels.into_parts();
+    assert!(rt; is_marked && is_shown && bus.items() == 0 && screen.as_slice() == wanted);
+}
+
+/// What stands against opening a file.
+#[test]
+fn stops_of_the_file_table(rt: HostRuntime) {
+    let mut files = FileTable::new();
+    let is_zero_refused = files.open(0, 4, None) == Err(Stop::NotInputFile);
+    let mut are_ten = true;
+    for number in 1..11 {
+        are_ten &= files.open(number, 4, None) == Ok(());
+    }
+    let is_full = files.open(11, 4, None) == Err(Stop::TooManyFiles);
+    let is_open = files.open(3, 5, None) == Err(Stop::FileOpen);
+    files.close(3);
+    let is_closed = files.get(3).is_none() && files.open(11, 5, Some(7)) == Ok(());
+    let file = File {
+        number: 11,
+        device: 5,
+        second: Some(7),
+    };
+    let is_found = files.get(11) == Some(file) && files.as_slice().len() == 10;
+    assert!(rt; is_zero_refused && are_ten && is_full && is_open && is_closed && is_found);
+}
+
+#[test]
+fn stops_have_numbers_and_texts(rt: HostRuntime) -> Result<(), Fail> {
+    const ROWS: [(Fault, u8, &str); 6] = [
+        (Fault::Stop(Stop::TooManyFiles), 1, "too many files"),
+        (Fault::Stop(Stop::FileOpen), 2, "file open"),
+        (Fault::Stop(Stop::FileNotOpen), 3, "file not open"),
+        (Fault::Stop(Stop::DeviceNotPresent), 5, "device not present"),
+        (Fault::Stop(Stop::NotInputFile), 6, "not input file"),
+        (Fault::NoMemory, 0, "out of memory"),
+    ];
+    for (fault, number, text) in ROWS {
+        let given = match fault {
+            Fault::Stop(stop) => stop.number(),
+            Fault::NoMemory => 0,
+        };
+        let said = format!(in rt.alloc(); "{fault}")?;
+        assert!(rt; given == number && said.as_str() == text, "{text}");
+    }
+    Ok(())
+}
+
+/// Writes bytes on the screen, and tells whether one was refused: it leaves the list as it was, and
+/// the next is taken again.
+fn is_byte_refused(rt: &(impl Abort + AllocGlobal)) -> bool {
+    let mut channels = Channels::new(rt.alloc(), Direct::new(rt.alloc(), BOTH));
+    let mut refused = None;
+    for byte in 0..10 {
+        if answer(rt, &mut channels, Call::Chrout(byte)).is_err() {
+            refused = Some(byte);
+        }
+        let mut wanted = (0..=byte).filter(|&it| Some(it) != refused);
+        let is_shown = channels
+            .screen()
+            .iter()
+            .all(|&it| wanted.next() == Some(it));
+        assert!(rt; is_shown && wanted.next().is_none());
+    }
+    refused.is_some()
+}
+
+/// Makes a call with file 4, which is open with a secondary address. It is refused, and this is
+/// true, exactly if it reaches a bus that has failed before it or in it.
+fn is_refused(rt: &impl Abort, channels: &mut Channels<Direct>, call: Call) -> bool {
+    let had_failed = channels.serial().failed();
+    let reaches = channels.output() > 3 || matches!(call, Call::Chkout(_) | Call::CloseFile(_));
+    let given = answer(rt, channels, call);
+    let refused = given == Err(Fault::NoMemory);
+    let is_well = refused == (reaches && (had_failed || channels.serial().failed()));
+    assert!(rt; is_well && (refused || given.is_ok()));
+    refused
+}
+
+/// LISTEN, bytes and UNLISTEN, and then CLOSE while a byte is held back.
+const SCRIPT: [Call; 8] = [
+    Call::Chkout(4),
+    Call::Chrout(65),
+    Call::Chrout(65),
+    Call::Clrchn,
+    Call::Chkout(4),
+    Call::Chrout(65),
+    Call::Chrout(65),
+    Call::CloseFile(4),
+];
+
+/// So many LISTENs and then the script, on a new bus. It tells whether a call was refused; if none
+/// was, printer 4 heard all of it.
+fn is_script_refused(rt: &(impl Abort + AllocGlobal), listens: u64) -> bool {
+    let mut channels = Channels::new(rt.alloc(), Direct::new(rt.alloc(), BOTH));
+    let is_open = open(rt, &mut channels, 4, 4, Some(7)).is_ok();
+    let mut refused = false;
+    for _ in 0..listens {
+        refused |= is_refused(rt, &mut channels, Call::Chkout(4));
+    }
+    for call in SCRIPT {
+        refused |= is_refused(rt, &mut channels, call);
+    }
+    let heard = channels.serial().heard(4).len() as u64;
+    let is_heard = channels.serial().items() == listens.saturating_add(9)
+        && heard == listens.saturating_mul(2).saturating_add(9);
+    assert!(rt; is_open && (refused || is_heard));
+    refused
+}
+
+/// Growths of the screen's list and of the bus. `tests/growths` runs this with each allocation
+/// refused in turn: at most one part then meets a refusal, and with no growth refused none does. A
+/// byte for the screen that is refused changes nothing, and each call that reaches the bus after a
+/// refusal by it is refused too.
+#[test]
+fn each_growth_refused(rt: HostRuntime) {
+    let mut refused = usize::from(is_byte_refused(&rt));
+    for listens in 0..8 {
+        refused = refused.saturating_add(usize::from(is_script_refused(&rt, listens)));
+    }
+    assert!(rt; refused <= most_refusals(&rt));
+}

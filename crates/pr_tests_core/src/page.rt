@@ -1,0 +1,245 @@
+//! Pages of inputs, also where a growth of the paper is refused.
+
+use crate::refusals::most_refusals;
+use pr_page::Input::{self, Byte, Select};
+use pr_page::{Mark, Paper, Placed, Printer, Sequence};
+use std::process::Abort;
+use std::test::Fail;
+
+/// A letter of the graphic/upper case set.
+const LETTER: Mark = Mark::Cell {
+    code: 65,
+    lower: false,
+    reverse: false,
+    wide: false,
+};
+
+/// The letter behind it.
+const NEXT_LETTER: Mark = Mark::Cell {
+    code: 66,
+    lower: false,
+    reverse: false,
+    wide: false,
+};
+
+/// A letter of the lower/upper case set.
+const LOWER_LETTER: Mark = Mark::Cell {
+    code: 65,
+    lower: true,
+    reverse: false,
+    wide: false,
+};
+
+/// A letter of double width.
+const WIDE_LETTER: Mark = Mark::Cell {
+    code: 65,
+    lower: false,
+    reverse: false,
+    wide: true,
+};
+
+/// All dots of a column.
+const BAR: Mark = Mark::Dots(127);
+
+/// All but the top one.
+const SHORT_BAR: Mark = Mark::Dots(126);
+
+/// The top dot and the bottom one.
+const ENDS: Mark = Mark::Dots(65);
+
+/// Marks, and the dots at which they stand.
+type Marks = &'static [(u16, Mark)];
+
+/// Inputs, the rows of their page with their distances from the top, and the marks that are held.
+#[derive(Clone, Copy)]
+struct Page {
+    name: &'static str,
+    inputs: &'static [Input],
+    rows: &'static [(u64, Marks)],
+    held: Marks,
+}
+
+static PAGES: [Page; 8] = [
+    Page {
+        name: "graphic_columns_and_a_repeat",
+        inputs: &[
+            Byte(8),
+            Byte(255),
+            Byte(26),
+            Byte(3),
+            Byte(193),
+            Byte(13),
+            Byte(15),
+            Byte(65),
+            Byte(13),
+        ],
+        rows: &[
+            (0, &[(0, BAR), (1, ENDS), (2, ENDS), (3, ENDS)]),
+            (14, &[(0, LETTER)]),
+        ],
+        held: &[],
+    },
+    Page {
+        name: "selections_between_bytes",
+        inputs: &[Select(true), Byte(65), Select(false), Byte(66), Byte(13)],
+        rows: &[(0, &[(0, LOWER_LETTER), (6, NEXT_LETTER)])],
+        held: &[],
+    },
+    Page {
+        name: "selection_inside_a_command",
+        inputs: &[
+            Byte(16),
+            Select(true),
+            Byte(48),
+            Byte(50),
+            Byte(65),
+            Byte(13),
+        ],
+        rows: &[(0, &[(12, LOWER_LETTER)])],
+        held: &[],
+    },
+    // The marks are copied, and the row is added.
+    Page {
+        name: "a line ends",
+        inputs: &[Byte(65), Byte(66), Byte(13)],
+        rows: &[(0, &[(0, LETTER), (6, NEXT_LETTER)])],
+        held: &[],
+    },
+    // A list for the new line is made, and the full row is added.
+    Page {
+        name: "a single mark wraps",
+        inputs: &[
+            Byte(8),
+            Byte(27),
+            Byte(16),
+            Byte(1),
+            Byte(223),
+            Byte(255),
+            Byte(254),
+        ],
+        rows: &[(0, &[(479, BAR)])],
+        held: &[(0, SHORT_BAR)],
+    },
+    // The list of the new line grows with it.
+    Page {
+        name: "a wide cell wraps where nothing stands before it",
+        inputs: &[Byte(16), Byte(55), Byte(57), Byte(14), Byte(65)],
+        rows: &[(0, &[])],
+        held: &[(0, WIDE_LETTER)],
+    },
+    // The list grows while the columns are added.
+    Page {
+        name: "a repeat within the line",
+        inputs: &[Byte(8), Byte(26), Byte(5), Byte(193)],
+        rows: &[],
+        held: &[(0, ENDS), (1, ENDS), (2, ENDS), (3, ENDS), (4, ENDS)],
+    },
+    // Both lists grow while the columns are added, and the full row is added.
+    Page {
+        name: "a repeat over the edge",
+        inputs: &[
+            Byte(8),
+            Byte(27),
+            Byte(16),
+            Byte(1),
+            Byte(214),
+            Byte(255),
+            Byte(26),
+            Byte(14),
+            Byte(193),
+        ],
+        rows: &[(
+            0,
+            &[
+                (470, BAR),
+                (471, ENDS),
+                (472, ENDS),
+                (473, ENDS),
+                (474, ENDS),
+                (475, ENDS),
+                (476, ENDS),
+                (477, ENDS),
+                (478, ENDS),
+                (479, ENDS),
+            ],
+        )],
+        held: &[(0, ENDS), (1, ENDS), (2, ENDS), (3, ENDS), (4, ENDS)],
+    },
+];
+
+/// Whether these marks stand at these dots, and no others.
+fn are_marks(given: &[Placed], wanted: Marks) -> bool {
+    given.len() == wanted.len()
+        && given
+            .iter()
+            .zip(wanted)
+            .all(|(placed, &(x, mark))| *placed == Placed { x, mark })
+}
+
+/// Whether the paper is that of the page.
+fn is_page(paper: &Paper, page: &Page) -> bool {
+    paper.rows.len() == page.rows.len()
+        && are_marks(paper.held.as_slice(), page.held)
+        && paper.rows.as_slice().iter().zip(page.rows).all(|(row, &(y, marks))| row.y == y
+            && are_marks(row.marks.as_slice(), marks))
+}
+
+/// Gives a printer an input, and tells whether it was refused: it is then taken when it is given
+/// again, and until then the printer is as `same`, where that one is given.
+fn is_refused(
+    rt: &impl Abort,
+    printer: &mut Printer,
+    input: Input,
+    same: Option<&Printer>,
+) -> bool {
+    assert!(rt; printer.taken() < 1000);
+    if printer.take(input).is_ok() {
+        return false;
+    }
+    let stays = match same {
+        Some(same) => printer.taken() == same.taken() && printer.paper() == same.paper(),
+        None => true,
+    };
+    assert!(rt; stays && printer.take(input).is_ok());
+    true
+}
+
+/// Prints a page, and tells how many inputs were refused. Another printer, which is one input behind,
+/// has the paper of one whose input is refused.
+fn refusals(rt: &(impl Abort + AllocGlobal), page: &Page) -> usize {
+    let mut refused: usize = 0;
+    let mut printer = Printer::new(rt.alloc());
+    let mut behind = Printer::new(rt.alloc());
+    for &input in page.inputs {
+        let first = is_refused(rt, &mut printer, input, Some(&behind));
+        let second = is_refused(rt, &mut behind, input, None);
+        refused = refused.saturating_add(usize::from(first) + usize::from(second));
+    }
+    let is_printed = printer.taken() == page.inputs.len() as u64
+        && is_page(printer.paper(), page)
+        && is_page(&printer.into_paper(), page);
+    assert!(rt; is_printed, "{}", page.name);
+    refused
+}
+
+/// `tests/growths` runs this with each allocation refused in turn: at most one input is then
+/// refused, and with no growth refused none is. Each printer is new, so that its first row makes the
+/// list of rows grow.
+#[test]
+fn refused_take_changes_nothing(rt: HostRuntime) {
+    let mut refused: usize = 0;
+    for page in &PAGES {
+        refused = refused.saturating_add(refusals(&rt, page));
+    }
+    assert!(rt; refused <= most_refusals(&rt));
+}
+
+#[test]
+fn list_made_from_a_vector(rt: HostRuntime) -> Result<(), Fail> {
+    let list = Sequence::from_vec([1u8, 2, 3].to_vec(rt.alloc())?);
+    let is_counted = list.len() == 3 && !list.is_empty();
+    let is_given_back = list.into_vec().as_slice() == [1, 2, 3].as_slice();
+    let is_new_one_empty = Sequence::<u8>::new(rt.alloc()).is_empty();
+    assert!(rt; is_counted && is_given_back && is_new_one_empty);
+    Ok(())
+}

@@ -1,0 +1,7 @@
+//! Whole runs. What the program shows of them is in tests/cases.
+
+mod device_left_out;
+mod growths;
+mod runs;
+mod steps;
+mod two_letters;
