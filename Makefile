@@ -22,10 +22,9 @@ LIBRARY := libprint1525.a
 MODULE := out/print1525.wasm
 VERSION := 0.1.0
 
-# The crates whose tests go on after a refused allocation (tests/growths).
-GROWTHS := pr_page pr_serial pr_wire pr_receiver pr_bus pr_channels pr_basic pr_system pr_picture pr_capture \
-	pr_story pr_measure pr_reprint pr_explain pr_cli
-TESTS := $(foreach crate,$(GROWTHS),crates/$(crate)/out/$(crate)_tests)
+# The tests that go on after a refused allocation (tests/growths).
+TEST_CRATES := pr_tests_core pr_tests_wires pr_tests_forms pr_tests_jobs
+TESTS := $(foreach crate,$(TEST_CRATES),crates/$(crate)/out/$(crate)_tests)
 
 # What the program and the tests are built from.
 SOURCES := crates.txt $(shell find crates -path '*/out' -prune -o \( -name '*.rt' -o -name '*.antt' \) -print)

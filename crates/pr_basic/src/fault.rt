@@ -106,6 +106,3 @@ impl LineFault {
         self.inside(rest, 0)
     }
 }
-
-#[cfg(test)]
-mod tests;

@@ -276,6 +276,3 @@ pub fn perform<S: Serial>(
     session.channel = channel;
     Ok(stop)
 }
-
-#[cfg(test)]
-mod tests;

@@ -85,6 +85,3 @@ pub fn faults_tell_their_line()
     ensures one_line { PlacesHaveOneLine }
     ensures told { FaultsTellTheirLine }
 {}
-
-#[cfg(test)]
-mod tests;

@@ -255,8 +255,3 @@ pub fn each_text_is_a_script_or_has_one_fault()
         ⊎ ((fault : ScriptFault) × IsFirstFault bytes fault) }
     ensures not_both { (bytes : List ℕ) (ss : List Statement) (fault : ScriptFault) → IsScript bytes ss → IsFirstFault bytes fault → ⊥ }
 {}
-
-#[cfg(test)]
-mod places;
-#[cfg(test)]
-mod tests;

@@ -197,6 +197,3 @@ impl Statement {
         }
     }
 }
-
-#[cfg(test)]
-mod tests;

@@ -16,6 +16,3 @@ pub use exports::{
 };
 pub use printing::{bytes_are_inputs, print};
 pub use told::{Answer, Told};
-
-#[cfg(test)]
-mod tests;

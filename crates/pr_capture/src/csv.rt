@@ -445,6 +445,3 @@ impl<'a> CsvReader<'a> {
         self.answer(sample)
     }
 }
-
-#[cfg(test)]
-mod tests;

@@ -123,6 +123,3 @@ impl Gatherer {
         edge_at_end(self.held, self.told)
     }
 }
-
-#[cfg(test)]
-mod tests;

@@ -177,6 +177,3 @@ pub fn write_vcd(alloc: Global, edges: &[Edge]) -> Result<Vec<u8>, NoMemory>
 pub fn vcd_adds_up()
     ensures { VcdAddsUp }
 {}
-
-#[cfg(test)]
-mod tests;

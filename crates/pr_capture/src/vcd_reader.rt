@@ -149,6 +149,3 @@ impl<'a> VcdReader<'a> {
 pub fn vcd_is_read_back()
     ensures { VcdIsReadBack }
 {}
-
-#[cfg(test)]
-mod tests;

@@ -308,6 +308,3 @@ impl<S: Serial> Channels<S> {
         (self.sender.into_bus(), self.screen)
     }
 }
-
-#[cfg(test)]
-mod tests;

@@ -113,6 +113,3 @@ fn find_file(files: &[File], number: u8) -> Option<File>
     }
     None
 }
-
-#[cfg(test)]
-mod tests;

@@ -130,6 +130,3 @@ pub fn own_fault(fault: CliFault) -> Result<CliFault, AllocError>
         own => Ok(own),
     }
 }
-
-#[cfg(test)]
-mod tests;

@@ -32,6 +32,3 @@ pub fn text_in_format(
     };
     Ok(Text::from_vec(alloc, text))
 }
-
-#[cfg(test)]
-mod tests;

@@ -70,6 +70,3 @@ impl<R: Read> Read for Kept<R> {
         answer
     }
 }
-
-#[cfg(test)]
-mod tests;

@@ -86,7 +86,11 @@ fn outcome_with(alloc: Global, paper: Paper) -> Outcome
 
 /// Reads at most `limit` bytes to their end, block by block, and gives the paper on which they are
 /// printed after the selection.
-fn print_input<R: Read>(
+///
+/// # Errors
+///
+/// Those of [`raw_over`] but a failed write, with `limit` in place of [`RAW_LIMIT`].
+pub fn print_input<R: Read>(
     alloc: Global,
     input: &mut Watched<R>,
     lower: bool,
@@ -129,6 +133,3 @@ fn take_bytes(printer: &mut Printer, bytes: &[u8]) -> Result<(), NoMemory>
     }
     Ok(())
 }
-
-#[cfg(test)]
-mod tests;

@@ -124,6 +124,3 @@ pub(crate) fn flush<W: Write>(output: &mut Watched<W>) -> Result<(), WriteFault>
         Err(_) => Err(WriteFault),
     }
 }
-
-#[cfg(test)]
-mod tests;

@@ -95,7 +95,13 @@ fn write_report<W: Write>(output: &mut Watched<W>, text: ReportText) -> Result<(
 
 /// Reads an input of at most `limit` bytes to its end or to its fault, block by block, and makes the
 /// report on it.
-fn report_input<R: Read>(
+///
+/// # Errors
+///
+/// Those of [`check_as_over`] but a failed write, with `limit` in place of
+/// [`CHECK_LIMIT`](crate::CHECK_LIMIT). A trace that is refused with lines before its fault is no error here: the
+/// report has the lines and the fault.
+pub fn report_input<R: Read>(
     alloc: Global,
     input: &mut Watched<R>,
     trace: TraceInput<'_>,
@@ -189,6 +195,3 @@ fn last_report(
         }
     }
 }
-
-#[cfg(test)]
-mod tests;

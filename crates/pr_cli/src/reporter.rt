@@ -18,7 +18,9 @@ use std::alloc::{AllocError, Global};
 /// The lines of a report, and why the trace is refused, if it is.
 #[derive(Drop)]
 pub struct ReportText {
+    /// The lines, each with its byte 10.
     pub lines: Vec<u8>,
+    /// Why the trace is refused after these lines.
     pub refused: Option<CliFault>,
 }
 

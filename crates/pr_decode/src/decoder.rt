@@ -209,6 +209,3 @@ impl Decoder {
         })
     }
 }
-
-#[cfg(test)]
-mod tests;

@@ -249,6 +249,3 @@ pub extern "C" fn print1525_hear(
 {
     *answer = numbered(hear(device, edges, out));
 }
-
-#[cfg(test)]
-mod tests;

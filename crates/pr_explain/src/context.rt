@@ -205,6 +205,3 @@ fn without_label(part: &[u8]) -> &[u8] {
 fn begins(bytes: &[u8], word: &[u8]) -> bool {
     bytes.len() >= word.len() && bytes[..word.len()].eq_ignore_ascii_case(word)
 }
-
-#[cfg(test)]
-mod tests;

@@ -366,6 +366,3 @@ pub fn rows_behind(place: &Place, last: Edge) -> [Option<Row>; 3]
         behind(third, last),
     ]
 }
-
-#[cfg(test)]
-mod tests;

@@ -235,6 +235,3 @@ fn push_word(text: &mut Vec<u8>, word: &[u8]) -> Result<(), NoMemory> {
     push_cut(text, word)?;
     push(text, "\"")
 }
-
-#[cfg(test)]
-mod tests;

@@ -301,6 +301,3 @@ fn statement_count(alloc: Global, line: &[u8]) -> Result<usize, NoMemory>
         Err(_) => Ok(0),
     }
 }
-
-#[cfg(test)]
-mod tests;

@@ -190,6 +190,3 @@ pub fn cut_line(text: &[u8]) -> (&[u8], &[u8])
     }
     (text, &[])
 }
-
-#[cfg(test)]
-mod tests;

@@ -65,8 +65,3 @@ pub fn explain_reading(
         None => Ok(Vec::new(alloc)),
     }
 }
-
-#[cfg(test)]
-mod recordings;
-#[cfg(test)]
-mod tests;

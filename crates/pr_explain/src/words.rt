@@ -245,6 +245,3 @@ fn blanks_behind(bytes: &[u8]) -> usize
     }
     count.min(bytes.len())
 }
-
-#[cfg(test)]
-mod tests;

@@ -250,6 +250,3 @@ pub fn push_reading(text: &mut Vec<u8>, behind: Behind, reading: &Reading) -> Re
     push_line(text, behind, reading)?;
     push_all_outside(text, &INTERVALS, reading)
 }
-
-#[cfg(test)]
-mod tests;

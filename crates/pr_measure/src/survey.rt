@@ -117,6 +117,3 @@ impl Survey {
         Ok(())
     }
 }
-
-#[cfg(test)]
-mod tests;

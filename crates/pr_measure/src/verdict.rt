@@ -45,6 +45,3 @@ pub fn push_verdict(text: &mut Vec<u8>, fault: Option<WaveFault>) -> Result<(), 
         Some(fault) => push_fault(text, fault),
     }
 }
-
-#[cfg(test)]
-mod tests;

@@ -329,6 +329,3 @@ fn fault_of(error: clap::Error) -> JobFault
         JobFault::Line(error)
     }
 }
-
-#[cfg(test)]
-mod tests;

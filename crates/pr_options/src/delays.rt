@@ -90,6 +90,3 @@ fn read_number(word: &str) -> Option<u16>
     }
     word.parse().ok()
 }
-
-#[cfg(test)]
-mod tests;

@@ -180,6 +180,3 @@ pub fn read_start(text: &str) -> Option<u64>
     }
     text.parse().ok()
 }
-
-#[cfg(test)]
-mod tests;

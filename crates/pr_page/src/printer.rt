@@ -98,6 +98,3 @@ pub fn each_list_has_one_page()
     ensures page { (inputs : List Input) → IsPage inputs (page_of inputs) }
     ensures only { (inputs : List Input) (paper : Paper) → IsPage inputs paper → paper ≡ page_of inputs }
 {}
-
-#[cfg(test)]
-mod tests;

@@ -11,8 +11,6 @@ mod marks;
 mod parts;
 mod plain;
 mod strokes;
-#[cfg(test)]
-mod tests;
 
 pub use drawing::svg;
 pub use plain::text;

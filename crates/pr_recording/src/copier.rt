@@ -17,7 +17,9 @@ use std::alloc::Global;
 /// What was printed of a recording, and why no more was.
 #[derive(Drop)]
 pub struct Printed {
+    /// The papers of printers 4 and 5.
     pub pages: Reprinted,
+    /// The fault of the recording after which nothing is printed.
     pub stop: Option<CliFault>,
 }
 

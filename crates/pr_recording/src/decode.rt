@@ -58,8 +58,12 @@ pub fn decode_over<R: Read, W: Write>(
     decode_input(alloc, input, output, trace, CHECK_LIMIT)
 }
 
-/// Tells an input of at most `limit` bytes, block by block.
-fn decode_input<R: Read, W: Write>(
+/// Writes what a recording of at most `limit` bytes says, block by block, as [`decode_over`] does.
+///
+/// # Errors
+///
+/// Those of [`decode_over`], with `limit` in place of [`CHECK_LIMIT`](pr_cli::CHECK_LIMIT).
+pub fn decode_input<R: Read, W: Write>(
     alloc: Global,
     input: &mut Watched<R>,
     output: &mut Watched<W>,
@@ -179,6 +183,3 @@ fn write_end<W: Write>(output: &mut Watched<W>, ended: Ended) -> Result<(), CliF
         Some(fault) => Err(fault),
     }
 }
-
-#[cfg(test)]
-mod tests;

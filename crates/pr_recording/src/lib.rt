@@ -14,5 +14,6 @@ mod narrator;
 mod pages;
 mod teller;
 
-pub use decode::decode_over;
-pub use pages::{PRINT_LIMIT, reprint_over};
+pub use copier::Printed;
+pub use decode::{decode_input, decode_over};
+pub use pages::{PRINT_LIMIT, print_input, reprint_over};

@@ -65,8 +65,13 @@ pub fn reprint_over<R: Read, W: Write>(
     write_pages(alloc, output, printed, format)
 }
 
-/// Prints an input of at most `limit` bytes, block by block.
-fn print_input<R: Read>(
+/// Prints a recording of at most `limit` bytes, block by block.
+///
+/// # Errors
+///
+/// Those of [`reprint_over`] but a failed write, with `limit` in place of [`PRINT_LIMIT`]. A fault of the recording is
+/// no error here: the answer has the pages of what is settled before it, and the fault.
+pub fn print_input<R: Read>(
     alloc: Global,
     input: &mut Watched<R>,
     trace: TraceInput<'_>,
@@ -186,6 +191,3 @@ fn write_pages<W: Write>(
         Some(fault) => Err(fault),
     }
 }
-
-#[cfg(test)]
-mod tests;

@@ -146,6 +146,3 @@ impl Reprint {
         }
     }
 }
-
-#[cfg(test)]
-mod tests;

@@ -147,6 +147,3 @@ impl Serial for Direct {
         self.failed
     }
 }
-
-#[cfg(test)]
-mod tests;

@@ -58,6 +58,3 @@ pub fn push_story(text: &mut Vec<u8>, edges: &[Edge]) -> Result<Option<WaveFault
         Err(fault) => Ok(Some(fault)),
     }
 }
-
-#[cfg(test)]
-mod tests;

@@ -77,6 +77,3 @@ pub fn allowed_traces()
     ensures fault { FaultIsReached }
     ensures step { OneEdgeMore }
 {}
-
-#[cfg(test)]
-mod tests;

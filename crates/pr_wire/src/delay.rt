@@ -120,6 +120,3 @@ impl Choices {
 pub fn delays_within_bounds()
     ensures { DelaysLieWithinBounds }
 {}
-
-#[cfg(test)]
-mod tests;

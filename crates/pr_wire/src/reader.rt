@@ -108,6 +108,3 @@ impl TraceReader {
 pub fn given_edges_come_first()
     ensures { GivenEdgesComeFirst }
 {}
-
-#[cfg(test)]
-mod tests;

@@ -81,6 +81,3 @@ pub fn trace_texts()
     ensures once { TextSpellsOnce }
     ensures some { TextSaysSomething }
 {}
-
-#[cfg(test)]
-mod tests;

@@ -1,0 +1,165 @@
+//! Worked Value Change Dumps, as simulators and logic analysers write them (dumps by hand, but for that of
+//! sigrok-cli).
+
+ghost use Rattle.std.specs.Prelude.{◌≤◌, length};
+
+use crate::tables::NAMES;
+use pr_capture::{CaptureFault, Gatherer, Signals, VcdReader, write_vcd};
+use pr_wire::{read_trace, write_trace};
+use std::alloc::Global;
+use std::process::Abort;
+use std::test::Fail;
+
+/// The edges of a text that comes in two blocks, as a trace text.
+pub fn read(
+    alloc: Global,
+    signals: Signals<'_>,
+    text: &[u8],
+    cut: usize,
+) -> Result<Vec<u8>, CaptureFault>
+    requires { cut ≤ length text.now }
+{
+    let mut reader = VcdReader::new(alloc, signals);
+    let mut gatherer = Gatherer::new(0);
+    let mut edges = Vec::new(alloc);
+    let mut at = 0;
+    for _step in 0..text.len() {
+        let end = if at < cut { cut } else { text.len() };
+        if at == end {
+            break;
+        }
+        let (len, sample) = reader.take_front(&text[at..end])?;
+        if let Some(sample) = sample
+            && let Some(edge) = gatherer.take(sample)
+        {
+            edges.push(edge)?;
+        }
+        at += len;
+    }
+    if let Some(sample) = reader.finish()?
+        && let Some(edge) = gatherer.take(sample)
+    {
+        edges.push(edge)?;
+    }
+    if let Some(edge) = gatherer.finish() {
+        edges.push(edge)?;
+    }
+    let trace = write_trace(alloc, edges.as_slice())?;
+    Ok(trace)
+}
+
+/// A text has these edges, wherever it is cut into two blocks.
+fn says(rt: &(impl Abort + AllocGlobal), signals: Signals<'_>, text: &str, wanted: &str) {
+    for cut in 0..text.len() {
+        let is_said = match read(rt.alloc(), signals, text.as_bytes(), cut) {
+            Ok(trace) => trace.as_slice() == wanted.as_bytes(),
+            Err(_fault) => false,
+        };
+        assert!(rt; is_said, "{text} cut at {cut}");
+    }
+}
+
+/// The usual names behind inverters.
+const INVERTED: Signals<'static> = Signals {
+    atn: b"ATN",
+    clock: b"CLOCK",
+    line: b"DATA",
+    is_inverted: true,
+};
+
+/// Names of one's own, and probes behind inverters.
+const OWN: Signals<'static> = Signals {
+    atn: b"D0",
+    clock: b"D1",
+    line: b"D2",
+    is_inverted: true,
+};
+
+/// Of a simulator: scopes, other signals, a section of first levels, one of them twice.
+const OF_A_SIMULATOR: &str =
+    "$date\n\tToday\n$end\n$version\n\tSimulator\n$end\n$timescale\n\t1ns\n$end\n$scope module bench $end\n$var wire 8 ! DATA [7:0] $end\n$var wire 1 \" atn $end\n$var reg 1 # Clock $end\n$attrbegin misc 07 name $end\n$scope module device $end\n$var wire 1 % DATA $end\n$var wire 1 $ DATA $end\n$var real 64 r ATN $end\n$upscope $end\n$upscope $end\n$enddefinitions $end\n#0\n$dumpvars\nbx !\nx$\nr0.5 r\n1%\n1#\n1\"\n$end\n#1000\n0\"\nb10100 !\n#1999\n0#\n$comment at 2 us\n0%\n$end\n#2000\n0%\nr1.5e-3 r\n#3000\nU$\nb0 $\n1#\n";
+
+/// Of a logic analyser: all on few lines, both ends of lines, a vector of one bit, no end of the last line.
+const OF_AN_ANALYSER: &str =
+    "$timescale 1 us $end\r\n$var wire 1 ! ATN $end $var wire 1 \" CLK $end\r\n$var wire 1 # DATA $end $enddefinitions $end\r\n#5 1! 1\" 1#\r\n#105 0! 0\"\r\n$dumpoff $end #205 b0 # B1 \"";
+
+/// One code for two wires.
+const OF_ONE_CODE: &str =
+    "$timescale 10 ms $end $var wire 1 a ATN $end $var wire 1 b CLOCK $end $var wire 1 b DATA $end $enddefinitions $end 1a 0b #1 1b #2";
+
+/// What sigrok-cli 0.7.2 wrote of five samples at 100 kHz, with the line that it puts in front.
+const OF_SIGROK_CLI: &str =
+    "META samplerate: 100000\n$date Mon Nov 23 16:13:32 2026 $end\n$version libsigrok 0.5.2 $end\n$comment\n  Acquisition with 3/3 channels at 100 kHz\n$end\n$timescale 10 us $end\n$scope module libsigrok $end\n$var wire 1 ! ATN $end\n$var wire 1 \" CLOCK $end\n$var wire 1 # DATA $end\n$upscope $end\n$enddefinitions $end\n#0 1! 1\" 1#\n#1 0! 0\"\n#2 0#\n#3 1\"\n#4 1! 1#\n#5\n";
+
+/// Levels that are not known before all three are: x in the section of first levels, z for a tristate line,
+/// and a level that is lost again. Behind inverters they are none too.
+const NOT_KNOWN_YET: &str =
+    "$timescale 1 us $end $var wire 1 a ATN $end $var wire 1 c CLOCK $end $var wire 1 d DATA $end $enddefinitions $end\n#0 $dumpvars xa Xc bx d $end\n#3 1a 1c\n#4 zc\n#5 0d bZ a\n#6 1c\n#7 0a\n#8 1d\n";
+
+/// CLOCK comes before CLK wherever they stand.
+const CLK_AND_CLOCK: &str =
+    "$timescale 1 us $end $var wire 1 k clk $end $var wire 1 a ATN $end $var wire 1 c Clock $end $var wire 1 d DATA $end $enddefinitions $end 1a 1d 1k 0c #3 1c";
+
+/// Of several signals called CLK the first counts, where none is called CLOCK.
+const CLK_TWICE: &str =
+    "$timescale 1 us $end $var wire 1 k clk $end $var wire 1 a ATN $end $var wire 1 c CLK $end $var wire 1 d DATA $end $enddefinitions $end 1a 1d 1k 0c #3 1c";
+
+/// Signals that are no wires whatever their name: numbers, texts and events.
+const KINDS_WITHOUT_LEVELS: &str =
+    "$timescale 1 us $end $var real 1 r ATN $end $var realtime 1 t CLOCK $end $var string 1 s DATA $end $var event 1 e ATN $end $var reg 1 a ATN $end $var tri 1 c CLOCK $end $var logic 1 d DATA $end $enddefinitions $end r0 r r5 t stext s 1e 1a 1c 1d #2 1e r1.5 t 0c";
+
+const OWN_NAMES: &str =
+    "$timescale 1 us $end $var wire 1 ! d2 $end $var wire 1 ' D1 $end $var wire 1 ( D10 $end $var wire 1 ) D0 $end $enddefinitions $end 0! 1' 0( 0) #9 1(";
+
+/// A dump that is blank behind its header says no edges.
+const BLANK: &str =
+    "$timescale 1 us $end $var wire 1 a ATN $end $var wire 1 c CLOCK $end $var wire 1 d DATA $end $enddefinitions $end #0 xa $dumpoff $end";
+
+/// Whose signals, a dump, and its edges.
+const DUMPS: [(Signals<'static>, &str, &str); 11] = [
+    (NAMES, OF_A_SIMULATOR, "0 111\n1 001\n2 000\n3 010\n"),
+    (NAMES, OF_AN_ANALYSER, "5 111\n105 001\n205 010\n"),
+    (NAMES, OF_ONE_CODE, "0 100\n10000 111\n"),
+    (
+        NAMES,
+        OF_SIGROK_CLI,
+        "0 111\n10 001\n20 000\n30 010\n40 111\n",
+    ),
+    (NAMES, NOT_KNOWN_YET, "7 010\n8 011\n"),
+    (INVERTED, NOT_KNOWN_YET, "7 101\n8 100\n"),
+    (NAMES, CLK_AND_CLOCK, "0 101\n3 111\n"),
+    (NAMES, CLK_TWICE, "0 111\n"),
+    (NAMES, KINDS_WITHOUT_LEVELS, "0 111\n2 101\n"),
+    (OWN, OWN_NAMES, "0 101\n"),
+    (NAMES, BLANK, ""),
+];
+
+#[test]
+fn dumps_say_edges(rt: HostRuntime) {
+    for &(signals, text, wanted) in &DUMPS {
+        says(&rt, signals, text, wanted);
+    }
+}
+
+/// The edges of a trace text are read again as they were written.
+fn is_read_again(rt: &(impl Abort + AllocGlobal), trace: &str) -> Result<(), Fail> {
+    let edges = read_trace(rt.alloc(), trace.as_bytes())?;
+    let text = write_vcd(rt.alloc(), edges.as_slice())?;
+    let again = read(rt.alloc(), NAMES, text.as_slice(), text.len() / 2)?;
+    assert!(rt; again.as_slice() == trace.as_bytes(), "{trace}");
+    Ok(())
+}
+
+/// What is written of edges is read as these edges.
+#[test]
+fn written_dumps_are_read(rt: HostRuntime) -> Result<(), Fail> {
+    for trace in [
+        "",
+        "0 111\n",
+        "7 010\n8 110\n9 100\n10 101\n11 010\n",
+        "0 000\n18446744073709550615 111\n",
+    ] {
+        is_read_again(&rt, trace)?;
+    }
+    Ok(())
+}

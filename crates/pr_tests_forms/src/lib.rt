@@ -1,0 +1,29 @@
+//! Tests of forms: pages as pictures, recordings in the formats of other tools, what recordings say, and stories.
+#![tactic(auto)]
+
+#[cfg(test)]
+mod decoder;
+#[cfg(test)]
+mod dumps;
+#[cfg(test)]
+mod growths;
+#[cfg(test)]
+mod picture;
+#[cfg(test)]
+mod readings;
+#[cfg(test)]
+mod refusals;
+#[cfg(test)]
+mod samples;
+#[cfg(test)]
+mod story;
+#[cfg(test)]
+mod surveys;
+#[cfg(test)]
+mod tables;
+#[cfg(test)]
+mod text;
+#[cfg(test)]
+mod verdicts;
+#[cfg(test)]
+mod written_dumps;

@@ -1,0 +1,460 @@
+//! Lines of readings, worked by hand: the profile's bounds are those of the table of lawful traces.
+
+use pr_decode::{FrameEnd, GlitchEnd, Halves, Opening, Pulse, Reading, Transfer};
+use pr_measure::{Behind, push_reading};
+use std::process::Abort;
+
+/// The opening of a data byte without end-or-identify: how long a listener takes lies within the profile's
+/// bounds.
+const OPENING: Opening = Opening {
+    command: false,
+    look: 1100,
+    ready: 1150,
+    pulse: None,
+};
+
+/// The same of a command.
+const OF_COMMAND: Opening = Opening {
+    command: true,
+    ..OPENING
+};
+
+/// A data byte of which all other intervals do so too, an acknowledgement at 1930 among them.
+const DATA: Transfer = Transfer {
+    opening: OPENING,
+    pull: 1190,
+    bits: 8,
+    byte: 0,
+    low: Halves {
+        shortest: 70,
+        longest: 70,
+    },
+    high: Halves {
+        shortest: 20,
+        longest: 20,
+    },
+    last_pull: 1910,
+};
+
+/// The same under ATN: a command.
+const ATN: Transfer = Transfer {
+    opening: OF_COMMAND,
+    ..DATA
+};
+
+const ACKNOWLEDGED: FrameEnd = FrameEnd::Acknowledged(1930);
+
+/// What stands before a reading, the reading, and its lines.
+type Row = (Behind, Reading, &'static str);
+
+/// The readings of these rows have their lines.
+fn are_told(rt: &(impl Abort + AllocGlobal), rows: &[Row]) {
+    for &(behind, reading, wanted) in rows {
+        let mut text = Vec::new(rt.alloc());
+        let pushed = push_reading(&mut text, behind, &reading);
+        assert!(rt;
+            pushed.is_ok() && text.as_slice() == wanted.as_bytes(),
+            "{wanted}"
+        );
+    }
+}
+
+/// Acknowledged bytes have the story's lines: what stands before decides on their headings.
+const ACKNOWLEDGED_BYTES: [Row; 13] = [
+    (
+        Behind::Nothing,
+        Reading::Frame(Transfer { byte: 36, ..ATN }, ACKNOWLEDGED),
+        "attention\n        1100         1930  $24  LISTEN 4\n",
+    ),
+    (
+        Behind::Command,
+        Reading::Frame(Transfer { byte: 103, ..ATN }, ACKNOWLEDGED),
+        "        1100         1930  $67  SECOND 7\n",
+    ),
+    (
+        Behind::Command,
+        Reading::Frame(Transfer { byte: 63, ..ATN }, ACKNOWLEDGED),
+        "attention\n        1100         1930  $3F  UNLISTEN\n",
+    ),
+    (
+        Behind::Data,
+        Reading::Frame(Transfer { byte: 36, ..ATN }, ACKNOWLEDGED),
+        "attention\n        1100         1930  $24  LISTEN 4\n",
+    ),
+    (
+        Behind::Command,
+        Reading::Frame(Transfer { byte: 32, ..ATN }, ACKNOWLEDGED),
+        "attention\n        1100         1930  $20  LISTEN 0\n",
+    ),
+    (
+        Behind::Command,
+        Reading::Frame(Transfer { byte: 62, ..ATN }, ACKNOWLEDGED),
+        "attention\n        1100         1930  $3E  LISTEN 30\n",
+    ),
+    (
+        Behind::Command,
+        Reading::Frame(Transfer { byte: 95, ..ATN }, ACKNOWLEDGED),
+        "attention\n        1100         1930  $5F  command 95\n",
+    ),
+    (
+        Behind::Command,
+        Reading::Frame(Transfer { byte: 96, ..ATN }, ACKNOWLEDGED),
+        "        1100         1930  $60  SECOND 0\n",
+    ),
+    (
+        Behind::Command,
+        Reading::Frame(Transfer { byte: 228, ..ATN }, ACKNOWLEDGED),
+        "        1100         1930  $E4  CLOSE 4\n",
+    ),
+    (
+        Behind::Nothing,
+        Reading::Frame(Transfer { byte: 103, ..ATN }, ACKNOWLEDGED),
+        "attention\n        1100         1930  $67  SECOND 7\n",
+    ),
+    (
+        Behind::Nothing,
+        Reading::Frame(Transfer { byte: 72, ..DATA }, ACKNOWLEDGED),
+        "data\n        1100         1930  $48  'H'\n",
+    ),
+    (
+        Behind::Command,
+        Reading::Frame(Transfer { byte: 63, ..DATA }, ACKNOWLEDGED),
+        "data\n        1100         1930  $3F  '?'\n",
+    ),
+    (
+        Behind::Data,
+        Reading::Frame(Transfer { byte: 13, ..DATA }, ACKNOWLEDGED),
+        "        1100         1930  $0D  return\n",
+    ),
+];
+
+/// The answer to end-or-identify, its length and the pull behind it, within the bounds and outside.
+const ANSWERS: [Row; 4] = [
+    (
+        Behind::Data,
+        Reading::Frame(
+            Transfer {
+                opening: Opening {
+                    pulse: Some(Pulse {
+                        pulled: 1400,
+                        released: 1480,
+                    }),
+                    ..OPENING
+                },
+                pull: 1510,
+                byte: 13,
+                ..DATA
+            },
+            ACKNOWLEDGED,
+        ),
+        "        1100         1930  $0D  return, end-or-identify\n",
+    ),
+    (
+        Behind::Data,
+        Reading::Frame(
+            Transfer {
+                opening: Opening {
+                    pulse: Some(Pulse {
+                        pulled: 1350,
+                        released: 1600,
+                    }),
+                    ..OPENING
+                },
+                pull: 1660,
+                byte: 13,
+                ..DATA
+            },
+            ACKNOWLEDGED,
+        ),
+        "        1100         1930  $0D  return, end-or-identify\n",
+    ),
+    (
+        Behind::Data,
+        Reading::Frame(
+            Transfer {
+                opening: Opening {
+                    pulse: Some(Pulse {
+                        pulled: 1401,
+                        released: 1652,
+                    }),
+                    ..OPENING
+                },
+                pull: 1713,
+                byte: 13,
+                ..DATA
+            },
+            ACKNOWLEDGED,
+        ),
+        "        1100         1930  $0D  return, end-or-identify\n    answer 251 us, the profile has 200 to 250\n    answer length 251 us, the profile has 80 to 250\n    pull after answer 61 us, the profile has 1 to 60\n",
+    ),
+    (
+        Behind::Data,
+        Reading::Frame(
+            Transfer {
+                opening: Opening {
+                    pulse: Some(Pulse {
+                        pulled: 1349,
+                        released: 1428,
+                    }),
+                    ..OPENING
+                },
+                pull: 1428,
+                byte: 13,
+                ..DATA
+            },
+            ACKNOWLEDGED,
+        ),
+        "        1100         1930  $0D  return, end-or-identify\n    answer 199 us, the profile has 200 to 250\n    answer length 79 us, the profile has 80 to 250\n    pull after answer 0 us, the profile has 1 to 60\n",
+    ),
+];
+
+/// Bytes that are not acknowledged, or not ended.
+const OTHER_BYTES: [Row; 6] = [
+    (
+        Behind::Nothing,
+        Reading::Frame(Transfer { byte: 36, ..ATN }, FrameEnd::Unacknowledged(2500)),
+        "command 36 at 1100 us, not acknowledged, given up at 2500 us\n",
+    ),
+    (
+        Behind::Nothing,
+        Reading::Frame(
+            Transfer { byte: 72, ..DATA },
+            FrameEnd::Unacknowledged(2500),
+        ),
+        "byte 72 at 1100 us, not acknowledged, given up at 2500 us\n",
+    ),
+    (
+        Behind::Nothing,
+        Reading::Frame(Transfer { byte: 72, ..DATA }, FrameEnd::Cut),
+        "byte 72 at 1100 us, cut by the recording's end\n",
+    ),
+    (
+        Behind::Nothing,
+        Reading::Glitch(Transfer { byte: 72, ..DATA }, GlitchEnd::Attention(1950)),
+        "glitch at 1100 us, bits 8, ended by ATN at 1950 us\n",
+    ),
+    (
+        Behind::Nothing,
+        Reading::Glitch(Transfer { byte: 72, ..DATA }, GlitchEnd::Silence(2950)),
+        "glitch at 1100 us, bits 8, CLOCK released too long at 2950 us\n",
+    ),
+    (
+        Behind::Nothing,
+        Reading::Glitch(Transfer { byte: 72, ..DATA }, GlitchEnd::Cut),
+        "glitch at 1100 us, bits 8, cut by the recording's end\n",
+    ),
+];
+
+/// Intervals at the profile's bounds are not told, and those that lie just outside are; a byte of no bit has
+/// no halves.
+const INTERVALS: [Row; 3] = [
+    (
+        Behind::Data,
+        Reading::Frame(
+            Transfer {
+                pull: 1349,
+                byte: 0,
+                low: Halves {
+                    shortest: 20,
+                    longest: 200,
+                },
+                high: Halves {
+                    shortest: 20,
+                    longest: 200,
+                },
+                last_pull: 2920,
+                ..DATA
+            },
+            FrameEnd::Acknowledged(3000),
+        ),
+        "        1100         3000  $00  byte 0\n",
+    ),
+    (
+        Behind::Data,
+        Reading::Frame(
+            Transfer {
+                pull: 1350,
+                byte: 0,
+                low: Halves {
+                    shortest: 19,
+                    longest: 201,
+                },
+                high: Halves {
+                    shortest: 19,
+                    longest: 201,
+                },
+                last_pull: 2919,
+                ..DATA
+            },
+            FrameEnd::Acknowledged(3000),
+        ),
+        "        1100         3000  $00  byte 0\n    first pull 200 us, the profile has 1 to 199\n    shortest low half 19 us, the profile has 20 to 200\n    longest low half 201 us, the profile has 20 to 200\n    shortest high half 19 us, the profile has 20 to 200\n    longest high half 201 us, the profile has 20 to 200\n    acknowledgement 81 us, the profile has 1 to 80\n",
+    ),
+    (
+        Behind::Data,
+        Reading::Glitch(
+            Transfer {
+                bits: 0,
+                byte: 0,
+                low: NONE,
+                high: NONE,
+                last_pull: 1190,
+                ..DATA
+            },
+            GlitchEnd::Attention(1260),
+        ),
+        "glitch at 1100 us, bits 0, ended by ATN at 1260 us\n",
+    ),
+];
+
+const NONE: Halves = Halves {
+    shortest: 0,
+    longest: 0,
+};
+
+/// LISTEN 4, acknowledged late.
+const LATE: Transfer = Transfer {
+    byte: 36,
+    last_pull: 40000,
+    ..ATN
+};
+
+/// A slow listener.
+pub const SLOW: Reading = Reading::Frame(
+    Transfer {
+        opening: Opening {
+            ready: 25410,
+            ..OF_COMMAND
+        },
+        pull: 25450,
+        ..LATE
+    },
+    FrameEnd::Acknowledged(40020),
+);
+
+/// A slow listener, one at the bound, and one that is ready at the look.
+const LISTENERS: [Row; 3] = [
+    (
+        Behind::Nothing,
+        SLOW,
+        "attention\n        1100        40020  $24  LISTEN 4\n    ready 24310 us, the profile has 1 to 10000\n",
+    ),
+    (
+        Behind::Nothing,
+        Reading::Frame(
+            Transfer {
+                opening: Opening {
+                    ready: 11100,
+                    ..OF_COMMAND
+                },
+                pull: 11140,
+                ..LATE
+            },
+            FrameEnd::Acknowledged(40020),
+        ),
+        "attention\n        1100        40020  $24  LISTEN 4\n",
+    ),
+    (
+        Behind::Nothing,
+        Reading::Frame(
+            Transfer {
+                opening: Opening {
+                    ready: 1100,
+                    ..OF_COMMAND
+                },
+                pull: 1140,
+                ..LATE
+            },
+            FrameEnd::Acknowledged(40020),
+        ),
+        "attention\n        1100        40020  $24  LISTEN 4\n    ready 0 us, the profile has 1 to 10000\n",
+    ),
+];
+
+#[test]
+fn readings_are_told(rt: HostRuntime) {
+    are_told(&rt, &ACKNOWLEDGED_BYTES);
+    are_told(&rt, &ANSWERS);
+    are_told(&rt, &OTHER_BYTES);
+    are_told(&rt, &INTERVALS);
+    are_told(&rt, &LISTENERS);
+}
+
+/// A call that several printers hear, each in an attention of its own, and an attention of a second command.
+const CALL: [Transfer; 7] = [
+    Transfer { byte: 36, ..ATN },
+    Transfer { byte: 37, ..ATN },
+    Transfer { byte: 103, ..ATN },
+    Transfer { byte: 96, ..ATN },
+    Transfer { byte: 65, ..DATA },
+    Transfer { byte: 63, ..ATN },
+    Transfer { byte: 103, ..ATN },
+];
+
+/// The lines of its bytes: the headings are the story's.
+const STORY: &str =
+    "attention\n        1100         1930  $24  LISTEN 4\nattention\n        1100         1930  $25  LISTEN 5\n        1100         1930  $67  SECOND 7\nattention\n        1100         1930  $60  SECOND 0\ndata\n        1100         1930  $41  'A'\nattention\n        1100         1930  $3F  UNLISTEN\nattention\n        1100         1930  $67  SECOND 7\n";
+
+#[test]
+fn attentions_one_after_another(rt: HostRuntime) {
+    let mut text = Vec::new(rt.alloc());
+    let mut behind = Behind::Nothing;
+    for byte in &CALL {
+        let reading = Reading::Frame(*byte, ACKNOWLEDGED);
+        let pushed = push_reading(&mut text, behind, &reading);
+        assert!(rt; pushed.is_ok());
+        behind = behind.after(&reading);
+    }
+    assert!(rt; text.as_slice() == STORY.as_bytes());
+}
+
+/// What stands before a reading, the reading, and what stands behind it.
+const BEHIND: [(Behind, Reading, Behind); 8] = [
+    (
+        Behind::Nothing,
+        Reading::Frame(Transfer { byte: 36, ..ATN }, ACKNOWLEDGED),
+        Behind::Command,
+    ),
+    (
+        Behind::Data,
+        Reading::Frame(Transfer { byte: 63, ..ATN }, ACKNOWLEDGED),
+        Behind::Nothing,
+    ),
+    (
+        Behind::Command,
+        Reading::Frame(Transfer { byte: 63, ..DATA }, ACKNOWLEDGED),
+        Behind::Data,
+    ),
+    (
+        Behind::Command,
+        Reading::Frame(Transfer { byte: 36, ..ATN }, ACKNOWLEDGED),
+        Behind::Command,
+    ),
+    (
+        Behind::Command,
+        Reading::Frame(Transfer { byte: 103, ..ATN }, ACKNOWLEDGED),
+        Behind::Nothing,
+    ),
+    (
+        Behind::Command,
+        Reading::Frame(Transfer { byte: 63, ..DATA }, FrameEnd::Cut),
+        Behind::Command,
+    ),
+    (
+        Behind::Nothing,
+        Reading::Frame(Transfer { byte: 36, ..ATN }, FrameEnd::Unacknowledged(1930)),
+        Behind::Nothing,
+    ),
+    (
+        Behind::Data,
+        Reading::Glitch(Transfer { byte: 36, ..ATN }, GlitchEnd::Cut),
+        Behind::Data,
+    ),
+];
+
+#[test]
+fn what_stands_behind(rt: HostRuntime) {
+    for &(before, reading, wanted) in &BEHIND {
+        assert!(rt; before.after(&reading) == wanted, "{reading:?}");
+    }
+}

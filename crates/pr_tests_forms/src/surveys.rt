@@ -1,0 +1,272 @@
+//! Surveys, worked by hand.
+
+use pr_decode::{FrameEnd, GlitchEnd, Halves, Opening, Pulse, Reading, Transfer};
+use pr_measure::Survey;
+use pr_wire::{Kind, NoMemory, bounds};
+use std::alloc::Global;
+use std::process::Abort;
+
+/// A data byte's opening with the look at 1000, ready 50 microseconds behind it.
+const OPENING: Opening = Opening {
+    command: false,
+    look: 1000,
+    ready: 1050,
+    pulse: None,
+};
+
+/// The same of a command.
+const OF_COMMAND: Opening = Opening {
+    command: true,
+    ..OPENING
+};
+
+const LOW: Halves = Halves {
+    shortest: 70,
+    longest: 70,
+};
+
+const HIGH: Halves = Halves {
+    shortest: 20,
+    longest: 20,
+};
+
+/// A byte with CLOCK's first pull 40 microseconds behind ready, and its last at 40000.
+const BYTE: Transfer = Transfer {
+    opening: OPENING,
+    pull: 1090,
+    bits: 8,
+    byte: 36,
+    low: LOW,
+    high: HIGH,
+    last_pull: 40000,
+};
+
+/// A command that is ready 24310 microseconds behind the look.
+const COMMAND: Transfer = Transfer {
+    opening: Opening {
+        ready: 25310,
+        ..OF_COMMAND
+    },
+    pull: 25350,
+    low: Halves {
+        shortest: 70,
+        longest: 90,
+    },
+    high: Halves {
+        shortest: 20,
+        longest: 21,
+    },
+    ..BYTE
+};
+
+/// A data byte that is ready at the look.
+const FIRST: Transfer = Transfer {
+    opening: Opening {
+        ready: 1000,
+        ..OPENING
+    },
+    pull: 1040,
+    low: Halves {
+        shortest: 19,
+        longest: 70,
+    },
+    high: Halves {
+        shortest: 10,
+        longest: 20,
+    },
+    ..BYTE
+};
+
+/// A data byte that is ready 10001 microseconds behind the look.
+const SECOND: Transfer = Transfer {
+    opening: Opening {
+        ready: 11001,
+        ..OPENING
+    },
+    pull: 11041,
+    low: Halves {
+        shortest: 20,
+        longest: 201,
+    },
+    high: Halves {
+        shortest: 30,
+        longest: 200,
+    },
+    ..BYTE
+};
+
+/// A byte that ends, by end-or-identify: an answer 199 microseconds behind ready, which lasts 80, and CLOCK's
+/// first pull 30 behind it.
+const LAST: Transfer = Transfer {
+    opening: Opening {
+        pulse: Some(Pulse {
+            pulled: 1249,
+            released: 1329,
+        }),
+        ..OPENING
+    },
+    pull: 1359,
+    byte: 13,
+    low: Halves {
+        shortest: 70,
+        longest: 71,
+    },
+    high: Halves {
+        shortest: 70,
+        longest: 71,
+    },
+    ..BYTE
+};
+
+/// The same with the answer 200 microseconds behind ready.
+const LAST_AT_200: Transfer = Transfer {
+    opening: Opening {
+        pulse: Some(Pulse {
+            pulled: 1250,
+            released: 1330,
+        }),
+        ..OPENING
+    },
+    pull: 1360,
+    ..LAST
+};
+
+const NONE: Halves = Halves {
+    shortest: 0,
+    longest: 0,
+};
+
+/// A byte begun and given up before its first bit.
+const BEGUN: Reading = Reading::Glitch(
+    Transfer {
+        opening: Opening {
+            ready: 1060,
+            ..OPENING
+        },
+        pull: 1100,
+        bits: 0,
+        byte: 0,
+        low: NONE,
+        high: NONE,
+        last_pull: 1100,
+    },
+    GlitchEnd::Cut,
+);
+
+/// A command that is ready 20000 microseconds behind the look.
+const READY_AT_20000: Reading = Reading::Frame(
+    Transfer {
+        opening: Opening {
+            ready: 21000,
+            ..OF_COMMAND
+        },
+        pull: 21040,
+        ..BYTE
+    },
+    FrameEnd::Cut,
+);
+
+const READY_AT_16383: Reading = Reading::Frame(
+    Transfer {
+        opening: Opening {
+            ready: 17383,
+            ..OF_COMMAND
+        },
+        pull: 17423,
+        ..BYTE
+    },
+    FrameEnd::Cut,
+);
+
+const READY_AT_16384: Reading = Reading::Frame(
+    Transfer {
+        opening: Opening {
+            ready: 17384,
+            ..OF_COMMAND
+        },
+        pull: 17424,
+        ..BYTE
+    },
+    FrameEnd::Cut,
+);
+
+/// The summary of readings.
+pub fn summary(alloc: Global, readings: &[Reading]) -> Result<Vec<u8>, NoMemory> {
+    let mut survey = Survey::new(alloc)?;
+    for reading in readings {
+        survey.take(reading);
+    }
+    let mut text = Vec::new(alloc);
+    survey.push_summary(&mut text)?;
+    Ok(text)
+}
+
+/// A command, two data bytes of which one is not acknowledged, one with end-or-identify, and a glitch.
+const FIVE: [Reading; 5] = [
+    Reading::Frame(COMMAND, FrameEnd::Acknowledged(40020)),
+    Reading::Frame(FIRST, FrameEnd::Unacknowledged(40500)),
+    Reading::Frame(SECOND, FrameEnd::Acknowledged(40081)),
+    Reading::Frame(LAST, FrameEnd::Acknowledged(40001)),
+    BEGUN,
+];
+
+/// Their whole summary. Of the five lengths of `ready`, 0, 50, 60, 10001 and 24310, three are at most 60.
+const OF_FIVE: &str =
+    "frames: 4\ncommands: 1\ndata bytes: 3\nnot acknowledged: 1\nglitches: 1\ncut by the recording's end: 1\nready: 5, least 0, middle 60, greatest 24310, outside 1 to 10000: 3\nfirst pull: 4, least 40, middle 40, greatest 40, outside 1 to 199: 0\nanswer: 1, least 199, middle 199, greatest 199, outside 200 to 250: 1\nanswer length: 1, least 80, middle 80, greatest 80, outside 80 to 250: 0\npull after answer: 1, least 30, middle 30, greatest 30, outside 1 to 60: 0\nshortest low half: 4, least 19, middle 20, greatest 70, outside 20 to 200: 1\nlongest low half: 4, least 70, middle 71, greatest 201, outside 20 to 200: 1\nshortest high half: 4, least 10, middle 20, greatest 70, outside 20 to 200: 1\nlongest high half: 4, least 20, middle 21, greatest 200, outside 20 to 200: 0\nacknowledgement: 3, least 1, middle 20, greatest 81, outside 1 to 80: 1\n";
+
+/// Readings, whether only the beginning of the summary is wanted, and that or all of it. A whole byte waits for its acknowledgement in vain, one until the
+/// recording's end, and a glitch is cut by that, 60 microseconds from its look to ready. The middle is told as it
+/// is up to 16383 microseconds. Of two lengths it is the lesser.
+const ROWS: [(&[Reading], bool, &str); 6] = [
+    (&FIVE, false, OF_FIVE),
+    (
+        &[Reading::Frame(LAST_AT_200, FrameEnd::Unacknowledged(40500))],
+        true,
+        "frames: 1\ncommands: 0\ndata bytes: 1\nnot acknowledged: 1\nglitches: 0\ncut by the recording's end: 0\n",
+    ),
+    (
+        &[Reading::Frame(LAST_AT_200, FrameEnd::Cut)],
+        true,
+        "frames: 1\ncommands: 0\ndata bytes: 1\nnot acknowledged: 0\nglitches: 0\ncut by the recording's end: 1\n",
+    ),
+    (
+        &[BEGUN],
+        true,
+        "frames: 0\ncommands: 0\ndata bytes: 0\nnot acknowledged: 0\nglitches: 1\ncut by the recording's end: 1\nready: 1, least 60, middle 60, greatest 60, outside 1 to 10000: 0\n",
+    ),
+    (
+        &[READY_AT_20000, READY_AT_16383],
+        true,
+        "frames: 2\ncommands: 2\ndata bytes: 0\nnot acknowledged: 0\nglitches: 0\ncut by the recording's end: 2\nready: 2, least 16383, middle 16383, greatest 20000, outside 1 to 10000: 2\n",
+    ),
+    (
+        &[READY_AT_20000, READY_AT_16384],
+        true,
+        "frames: 2\ncommands: 2\ndata bytes: 0\nnot acknowledged: 0\nglitches: 0\ncut by the recording's end: 2\nready: 2, least 16384, middle over 16383, greatest 20000, outside 1 to 10000: 2\n",
+    ),
+];
+
+#[test]
+fn summaries(rt: HostRuntime) {
+    for &(readings, is_beginning, wanted) in &ROWS {
+        let is_told = match summary(rt.alloc(), readings) {
+            Ok(text) => {
+                text.as_slice() == wanted.as_bytes()
+                    || is_beginning && text.as_slice().starts_with(wanted.as_bytes())
+            }
+            Err(_refused) => false,
+        };
+        assert!(rt; is_told, "{wanted}");
+    }
+}
+
+/// The laws, and the delay that bounds the acknowledgement.
+#[test]
+fn laws_and_bounds(rt: HostRuntime) {
+    pr_measure::lawful_traces_are_told();
+    pr_measure::lawful_traces_are_within();
+    pr_measure::lines_add_up();
+    pr_measure::middles_are_least();
+    let (least, _typical, greatest) = bounds(Kind::F);
+    assert!(rt; least == 1 && greatest == 80);
+}

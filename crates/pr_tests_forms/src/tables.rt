@@ -1,0 +1,107 @@
+//! Worked tables, as logic analysers export them (samples by hand).
+
+ghost use Rattle.std.specs.Prelude.{◌≤◌, length};
+
+use pr_capture::{CaptureFault, CsvReader, Signals};
+use pr_wire::write_trace;
+use std::alloc::Global;
+use std::process::Abort;
+
+/// The names that are looked for where none are given.
+pub const NAMES: Signals<'static> = Signals {
+    atn: b"ATN",
+    clock: b"CLOCK",
+    line: b"DATA",
+    is_inverted: false,
+};
+
+/// The samples of a text that comes in two blocks, as a trace text.
+pub fn read(
+    alloc: Global,
+    signals: Signals<'_>,
+    text: &[u8],
+    cut: usize,
+) -> Result<Vec<u8>, CaptureFault>
+    requires { cut ≤ length text.now }
+{
+    let mut reader = CsvReader::new(alloc, signals);
+    let mut samples = Vec::new(alloc);
+    let mut at = 0;
+    for _step in 0..text.len() {
+        let end = if at < cut { cut } else { text.len() };
+        if at == end {
+            break;
+        }
+        let (len, sample) = reader.take_front(&text[at..end])?;
+        if let Some(sample) = sample {
+            samples.push(sample)?;
+        }
+        at += len;
+    }
+    if let Some(sample) = reader.finish()? {
+        samples.push(sample)?;
+    }
+    let trace = write_trace(alloc, samples.as_slice())?;
+    Ok(trace)
+}
+
+/// A text has these samples, wherever it is cut into two blocks.
+fn says(rt: &(impl Abort + AllocGlobal), signals: Signals<'_>, text: &str, wanted: &str) {
+    for cut in 0..text.len() {
+        let is_said = match read(rt.alloc(), signals, text.as_bytes(), cut) {
+            Ok(trace) => trace.as_slice() == wanted.as_bytes(),
+            Err(_fault) => false,
+        };
+        assert!(rt; is_said, "{text} cut at {cut}");
+    }
+}
+
+/// Names of one's own, and probes behind inverters.
+const OWN: Signals<'static> = Signals {
+    atn: b"Channel 0",
+    clock: b"Channel 1",
+    line: b"Channel 2",
+    is_inverted: true,
+};
+
+/// Whose signals, a table, and its samples: other columns, lines without a word, quoted names, spaces, both
+/// ends of lines, CLK beside CLOCK, and whole microseconds of seconds.
+const TABLES: [(Signals<'static>, &str, &str); 10] = [
+    (
+        NAMES,
+        "Time [s],ATN,CLOCK,DATA\n0.000000000,1,1,1\n0.000100000,0,0,1\n0.000200000,0,0,0\n",
+        "0 111\n100 001\n200 000\n",
+    ),
+    (
+        NAMES,
+        "; made by hand, ATN\r\n\r\n\"Time(s)\", \"Data\", \"a,b\", \"Clk\", \"atn\"\r\n 0 , 1 , 0 , 0 , 1\r\n# a remark\r\n 2.5 , 0 , 1 , 1 , 0",
+        "0 101\n2500000 010\n",
+    ),
+    (
+        OWN,
+        "t,channel 1,channel 0,channel 10,CHANNEL 2\n0,0,1,1,0\n",
+        "0 011\n",
+    ),
+    (NAMES, "t,CLK,CLOCK,DATA,ATN\n0,0,1,1,1\n", "0 111\n"),
+    (NAMES, "t,ATN,CLOCK,DATA\n0,1,1,1\n", "0 111\n"),
+    (NAMES, "t,ATN,CLOCK,DATA\n7.,1,1,1\n", "7000000 111\n"),
+    (NAMES, "t,ATN,CLOCK,DATA\n0.0000019,1,1,1\n", "1 111\n"),
+    (NAMES, "t,ATN,CLOCK,DATA\n0.1,1,1,1\n", "100000 111\n"),
+    (
+        NAMES,
+        "t,ATN,CLOCK,DATA\n12.345678901,1,1,1\n",
+        "12345678 111\n",
+    ),
+    (
+        NAMES,
+        "t,ATN,CLOCK,DATA\n18446744073709.551615,1,1,1\n",
+        "18446744073709551615 111\n",
+    ),
+];
+
+#[test]
+fn tables_say_samples(rt: HostRuntime) {
+    for &(signals, text, wanted) in &TABLES {
+        says(&rt, signals, text, wanted);
+    }
+}

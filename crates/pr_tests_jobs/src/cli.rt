@@ -1,0 +1,9 @@
+//! The calls of the program's library over readers and writers in memory.
+
+mod calls;
+mod growths;
+mod limits;
+mod pictures;
+mod readers;
+mod reports;
+mod slow;

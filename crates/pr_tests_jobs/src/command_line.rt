@@ -1,0 +1,179 @@
+//! What is asked of a command line and shows in no output of the program.
+
+use pr_basic::StatusMode;
+use pr_bus::Delays;
+use pr_options::{DelayFault, Job, JobFault, explains, read_delays, read_job};
+use pr_wire::Kind;
+use std::alloc::Global;
+use std::fmt::Display;
+use std::process::Abort;
+
+/// The first delays of the computer and of printers 4 and 5: before an attention, and from ATN's
+/// pull to the answer.
+fn first_delays(delays: &mut Delays) -> [u16; 3] {
+    [
+        delays.computer.next(Kind::Bb),
+        delays.four.next(Kind::At),
+        delays.five.next(Kind::At),
+    ]
+}
+
+/// The job that words ask for, if they ask for one.
+fn job_of<'a>(alloc: Global, words: &'a [&'a str]) -> Option<Job<'a>> {
+    match read_job(alloc, words) {
+        Ok(job) => Some(job),
+        Err(_fault) => None,
+    }
+}
+
+/// Whether a job is a run with these first delays that handles the status so.
+fn is_run(job: Job<'_>, wanted: [u16; 3], status: StatusMode) -> bool {
+    match job {
+        Job::Pages(_present, mut delays, mode, _format) => {
+            first_delays(&mut delays) == wanted && mode == status
+        }
+        Job::Bus(_present, mut delays, mode, _format) => {
+            first_delays(&mut delays) == wanted && mode == status
+        }
+        Job::Check(..) | Job::Decode(..) | Job::Raw { .. } => false,
+    }
+}
+
+/// Whether a job is to check a recording by these names.
+fn is_check(job: Job<'_>, [atn, clock, line]: [&str; 3]) -> bool {
+    match job {
+        Job::Check(input, _report) => {
+            input.signals.atn == atn.as_bytes()
+                && input.signals.clock == clock.as_bytes()
+                && input.signals.line == line.as_bytes()
+        }
+        Job::Pages(..) | Job::Bus(..) | Job::Decode(..) | Job::Raw { .. } => false,
+    }
+}
+
+/// Pages do not tell the delays of their run, and without printers no run tells if a status is kept.
+#[test]
+fn delays_and_status_of_runs(rt: HostRuntime) {
+    const ROWS: [([&str; 6], [u16; 3], StatusMode); 4] = [
+        (
+            ["print1525", "pages", "--delays", "1/2/3", "--present", "4"],
+            [101, 3, 4],
+            StatusMode::Each,
+        ),
+        (
+            [
+                "print1525",
+                "pages",
+                "--present",
+                "both",
+                "--delays=",
+                "--as=svg",
+            ],
+            [100, 100, 100],
+            StatusMode::Each,
+        ),
+        (
+            ["print1525", "pages", "--present", "4", "--as", "text"],
+            [100, 100, 100],
+            StatusMode::Each,
+        ),
+        (
+            ["print1525", "bus", "--present", "none", "--status", "kept"],
+            [100, 100, 100],
+            StatusMode::Kept,
+        ),
+    ];
+    for (words, wanted, status) in ROWS {
+        let is_well = match job_of(rt.alloc(), &words) {
+            Some(job) => is_run(job, wanted, status),
+            None => false,
+        };
+        assert!(rt; is_well, "{words:?}");
+    }
+}
+
+/// A name keeps the blanks inside it, and none around it.
+#[test]
+fn names_of_signals(rt: HostRuntime) {
+    const ROWS: [(&str, [&str; 3]); 8] = [
+        ("ATN,CLOCK,DATA", ["ATN", "CLOCK", "DATA"]),
+        ("D0,D1,D2", ["D0", "D1", "D2"]),
+        ("ATN, CLOCK, DATA", ["ATN", "CLOCK", "DATA"]),
+        (" \ta b\n,c,  d ", ["a b", "c", "d"]),
+        (" a b, c ,d", ["a b", "c", "d"]),
+        ("a\"b,c\",'d'", ["a\"b", "c\"", "'d'"]),
+        ("a,aa,a b", ["a", "aa", "a b"]),
+        ("ä,Ä,ä ä", ["ä", "Ä", "ä ä"]),
+    ];
+    for (text, names) in ROWS {
+        let words = ["print1525", "check", "--from=csv", "--names", text];
+        let is_well = match job_of(rt.alloc(), &words) {
+            Some(job) => is_check(job, names),
+            None => false,
+        };
+        assert!(rt; is_well, "{text}");
+    }
+}
+
+/// Past a list's end a delay is the typical one, 100 in each case.
+#[test]
+fn option_texts(rt: HostRuntime) {
+    const ROWS: [(&str, [u16; 3], [u16; 3]); 6] = [
+        ("", [100, 100, 100], [100, 100, 100]),
+        ("/", [100, 100, 100], [100, 100, 100]),
+        ("//", [100, 100, 100], [100, 100, 100]),
+        ("//5", [100, 100, 6], [100, 100, 100]),
+        ("1,65535/0", [101, 1, 100], [763, 100, 100]),
+        ("00007/999,1000/8", [107, 1000, 9], [100, 1, 100]),
+    ];
+    for (text, first, second) in ROWS {
+        let is_well = match read_delays(rt.alloc(), text) {
+            Ok(mut delays) => {
+                first_delays(&mut delays) == first && first_delays(&mut delays) == second
+            }
+            Err(_fault) => false,
+        };
+        assert!(rt; is_well, "{text}");
+    }
+}
+
+#[test]
+fn explanations(rt: HostRuntime) {
+    const ROWS: [(&[&str], bool); 4] = [
+        (&["print1525", "pages", "--explain"], true),
+        (&["--explain"], true),
+        (&[], false),
+        (
+            &[
+                "print1525",
+                "pages",
+                "explain",
+                "--explain=",
+                "--Explain",
+                "--explai",
+            ],
+            false,
+        ),
+    ];
+    for (words, wanted) in ROWS {
+        assert!(rt; explains(words) == wanted, "{words:?}");
+    }
+}
+
+/// A fault is told so.
+fn tells(rt: &(impl Abort + AllocGlobal), fault: &impl Display, wanted: &str) {
+    let is_well = match format!(in rt.alloc(); "{fault}") {
+        Ok(text) => text.as_str() == wanted,
+        Err(_refused) => false,
+    };
+    assert!(rt; is_well, "{wanted}");
+}
+
+/// The program tells want of memory in words of its own.
+#[test]
+fn fault_texts(rt: HostRuntime) {
+    tells(&rt, &DelayFault::BadDelays, "bad --delays");
+    tells(&rt, &DelayFault::NoMemory, "out of memory");
+    tells(&rt, &JobFault::NoMemory, "out of memory");
+    assert!(rt; JobFault::NoMemory.values().is_none());
+}

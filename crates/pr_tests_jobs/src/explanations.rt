@@ -1,0 +1,332 @@
+//! What only callers of the library meet: errors that no script brings, a name that is no text, and refused memory. The
+//! lines that the program prints are in tests/explained.
+
+use crate::refusals::most_refusals;
+use pr_basic::StatusMode;
+use pr_capture::Signals;
+use pr_channels::Stop;
+use pr_explain::{explain_script, explain_stop, explain_trace};
+use pr_options::{Source, TraceInput};
+use pr_serial::Present;
+use pr_wire::NoMemory;
+use std::process::Abort;
+
+const BOTH: Present = Present {
+    four: true,
+    five: true,
+};
+
+const ONLY_FOUR: Present = Present {
+    four: true,
+    five: false,
+};
+
+const ONLY_FIVE: Present = Present {
+    four: false,
+    five: true,
+};
+
+const NONE: Present = Present {
+    four: false,
+    five: false,
+};
+
+/// The device is that of the file's last OPEN before the statement.
+const DEVICES: &str =
+    "OPEN 1,4:OPEN 2,30\nCLOSE 1\nOPEN 1,5\nCMD 1\nPRINT#2\nOPEN 2,9\nPRINT#3\nREM\n";
+
+/// A present printer answers each LISTEN, so it is the byte held back that nobody answers.
+const HELD_BACK: &str =
+    "OPEN 4,4,7:OPEN 5,5:OPEN 9,9\nCMD 4:CLOSE 4:PRINT \"X\"\nPRINT#5,\"Y\"\nCMD 9\nPRINT#9\nPRINT#3\n";
+
+/// A script, the status mode, the printers, an error, its statement, and the explanation.
+type Row = (&'static str, StatusMode, Present, Stop, usize, &'static str);
+
+const ROWS: [Row; 22] = [
+    (
+        "10 OPEN 4,4\n20 OPEN 7,7:PRINT#7,\"A:B\":REM :\n30 CLOSE 7\n",
+        StatusMode::Each,
+        NONE,
+        Stop::DeviceNotPresent,
+        3,
+        "?DEVICE NOT PRESENT  ERROR IN 20 (statement 3)\n  line 2: 20 OPEN 7,7:PRINT#7,\"A:B\":REM :\n  device 7 does not answer; --present says which printers there are\n",
+    ),
+    (
+        "OPEN 4,4\r\n\r\nPRINT#5,\"X\"",
+        StatusMode::Each,
+        NONE,
+        Stop::FileNotOpen,
+        2,
+        "?FILE NOT OPEN  ERROR (statement 2)\n  line 3: PRINT#5,\"X\"\n  the file is not open\n",
+    ),
+    (
+        "  63999  OPEN 4,4:OPEN 4,4\n",
+        StatusMode::Each,
+        NONE,
+        Stop::FileOpen,
+        2,
+        "?FILE OPEN  ERROR IN 63999 (statement 2)\n  line 1:   63999  OPEN 4,4:OPEN 4,4\n  the file is open already\n",
+    ),
+    (
+        "OPEN 4,4\nOPEN 5,5\nPRINT#5,\"A\"\nPRINT#4,\"B\"\n",
+        StatusMode::Kept,
+        NONE,
+        Stop::DeviceNotPresent,
+        4,
+        "?DEVICE NOT PRESENT  ERROR (statement 4)\n  line 4: PRINT#4,\"B\"\n  no printer has answered, here or at a statement before (--status kept); --present says which printers there are\n",
+    ),
+    (
+        "OPEN 4,4,7:OPEN 5,5:CMD 4:CLOSE 4:PRINT \"X\":CMD 5\n",
+        StatusMode::Kept,
+        BOTH,
+        Stop::DeviceNotPresent,
+        6,
+        "?DEVICE NOT PRESENT  ERROR (statement 6)\n  line 1: OPEN 4,4,7:OPEN 5,5:CMD 4:CLOSE 4:PRINT \"X\":CMD 5\n  no printer was listening to a byte that went out here or at a statement before (--status kept)\n",
+    ),
+    (
+        "0030 CLOSE 4:PRINT#4",
+        StatusMode::Each,
+        NONE,
+        Stop::FileNotOpen,
+        2,
+        "?FILE NOT OPEN  ERROR IN 30 (statement 2)\n  line 1: 0030 CLOSE 4:PRINT#4\n  the file is not open\n",
+    ),
+    (
+        "000PRINT#4",
+        StatusMode::Each,
+        NONE,
+        Stop::FileNotOpen,
+        1,
+        "?FILE NOT OPEN  ERROR IN 0 (statement 1)\n  line 1: 000PRINT#4\n  the file is not open\n",
+    ),
+    (
+        DEVICES,
+        StatusMode::Each,
+        NONE,
+        Stop::DeviceNotPresent,
+        5,
+        "?DEVICE NOT PRESENT  ERROR (statement 5)\n  line 4: CMD 1\n  device 5 does not answer; --present says which printers there are\n",
+    ),
+    (
+        DEVICES,
+        StatusMode::Each,
+        NONE,
+        Stop::DeviceNotPresent,
+        6,
+        "?DEVICE NOT PRESENT  ERROR (statement 6)\n  line 5: PRINT#2\n  device 30 does not answer; --present says which printers there are\n",
+    ),
+    (
+        DEVICES,
+        StatusMode::Each,
+        NONE,
+        Stop::DeviceNotPresent,
+        7,
+        "?DEVICE NOT PRESENT  ERROR (statement 7)\n  line 6: OPEN 2,9\n  device 9 does not answer; --present says which printers there are\n",
+    ),
+    (
+        DEVICES,
+        StatusMode::Each,
+        NONE,
+        Stop::DeviceNotPresent,
+        8,
+        "?DEVICE NOT PRESENT  ERROR (statement 8)\n  line 7: PRINT#3\n  no printer has answered; --present says which printers there are\n",
+    ),
+    (
+        DEVICES,
+        StatusMode::Each,
+        NONE,
+        Stop::DeviceNotPresent,
+        9,
+        "?DEVICE NOT PRESENT  ERROR (statement 9)\n  line 8: REM\n  no printer has answered; --present says which printers there are\n",
+    ),
+    (
+        HELD_BACK,
+        StatusMode::Each,
+        BOTH,
+        Stop::DeviceNotPresent,
+        7,
+        "?DEVICE NOT PRESENT  ERROR (statement 7)\n  line 3: PRINT#5,\"Y\"\n  no printer was listening to the byte printed last before this statement, which goes out only here\n",
+    ),
+    (
+        HELD_BACK,
+        StatusMode::Each,
+        ONLY_FIVE,
+        Stop::DeviceNotPresent,
+        7,
+        "?DEVICE NOT PRESENT  ERROR (statement 7)\n  line 3: PRINT#5,\"Y\"\n  no printer was listening to the byte printed last before this statement, which goes out only here\n",
+    ),
+    (
+        HELD_BACK,
+        StatusMode::Each,
+        ONLY_FOUR,
+        Stop::DeviceNotPresent,
+        7,
+        "?DEVICE NOT PRESENT  ERROR (statement 7)\n  line 3: PRINT#5,\"Y\"\n  no printer was listening to the byte printed last before this statement, which goes out only here; nor is device 5 there: --present says which printers there are\n",
+    ),
+    (
+        HELD_BACK,
+        StatusMode::Each,
+        BOTH,
+        Stop::DeviceNotPresent,
+        9,
+        "?DEVICE NOT PRESENT  ERROR (statement 9)\n  line 5: PRINT#9\n  no printer was listening to the byte printed last before this statement, which goes out only here; nor is device 9 there: --present says which printers there are\n",
+    ),
+    (
+        HELD_BACK,
+        StatusMode::Each,
+        BOTH,
+        Stop::DeviceNotPresent,
+        10,
+        "?DEVICE NOT PRESENT  ERROR (statement 10)\n  line 6: PRINT#3\n  no printer was listening to the byte printed last before this statement, which goes out only here\n",
+    ),
+    (
+        "REM",
+        StatusMode::Each,
+        NONE,
+        Stop::TooManyFiles,
+        1,
+        "?TOO MANY FILES  ERROR (statement 1)\n  line 1: REM\n  ten files are open already\n",
+    ),
+    (
+        "REM",
+        StatusMode::Each,
+        NONE,
+        Stop::FileOpen,
+        1,
+        "?FILE OPEN  ERROR (statement 1)\n  line 1: REM\n  the file is open already\n",
+    ),
+    (
+        "REM",
+        StatusMode::Each,
+        NONE,
+        Stop::FileNotOpen,
+        1,
+        "?FILE NOT OPEN  ERROR (statement 1)\n  line 1: REM\n  the file is not open\n",
+    ),
+    (
+        "REM",
+        StatusMode::Each,
+        NONE,
+        Stop::DeviceNotPresent,
+        1,
+        "?DEVICE NOT PRESENT  ERROR (statement 1)\n  line 1: REM\n  no printer has answered; --present says which printers there are\n",
+    ),
+    (
+        "REM",
+        StatusMode::Each,
+        NONE,
+        Stop::NotInputFile,
+        1,
+        "?NOT INPUT FILE  ERROR (statement 1)\n  line 1: REM\n  file 0 cannot be opened\n",
+    ),
+];
+
+#[test]
+fn errors_of_statements(rt: HostRuntime) {
+    for (script, mode, present, stop, statement, wanted) in ROWS {
+        let told = explain_stop(
+            rt.alloc(),
+            script.as_bytes(),
+            mode,
+            stop,
+            statement,
+            present,
+        );
+        let is_well = told.is_ok_and(|text| text.as_slice() == wanted.as_bytes());
+        assert!(rt; is_well, "statement {statement} of {script}");
+    }
+}
+
+const fn signals(clock: &'static [u8]) -> Signals<'static> {
+    Signals {
+        atn: b"ATN",
+        clock,
+        line: b"DATA",
+        is_inverted: false,
+    }
+}
+
+/// A name that is searched for is shown with its bytes escaped.
+#[test]
+fn names_that_are_no_text(rt: HostRuntime) {
+    let input = TraceInput {
+        source: Source::Csv,
+        signals: signals(b"D\xff"),
+        start: 0,
+    };
+    let wanted =
+        b"  line 1: t,ATN,D1,DATA\n  CLOCK is looked for as D\\xFF, and no signal has that name\n  \
+        the first column, called t, is the time in seconds\n  the recording has the signals ATN, D1, DATA\n  \
+        --names tells which signals are ATN, CLOCK and DATA, as in --names ATN,CLOCK,DATA\n";
+    let told = explain_trace(rt.alloc(), b"t,ATN,D1,DATA\n", input);
+    assert!(rt; told.is_ok_and(|text| text.as_slice() == wanted.as_slice()));
+}
+
+/// A script, a trace or a recording, and the end of its explanation.
+const EXPLAINED: [(&[u8], Option<Source>, &[u8]); 4] = [
+    (b"20 PRINT+", None, b"REM and CHR$\n"),
+    (
+        b"0 111\n0 001\n?\n",
+        Some(Source::Text),
+        b"  it is not later than the edge before it\n",
+    ),
+    (
+        b"$timescale 1 us $end $var wire 1 a ATN $end $var wire 1 c CLK $end $var wire 1 d DATA $end\n\
+          $enddefinitions $end #1 1a 1c 1d #3 0a 0c #9 1a 0a q",
+        Some(Source::Vcd),
+        b"too early\n",
+    ),
+    (
+        b"Time,ATN,CLOCK,DATA\n0.000001,1,1,1\n0.000003,0,0,1\n0.000009,1,0,0\n1,x,1,1",
+        Some(Source::Csv),
+        b"too early\n",
+    ),
+];
+
+/// The explanation of a script or of an input in a format.
+fn explained(
+    rt: &(impl Abort + AllocGlobal),
+    text: &[u8],
+    source: Option<Source>,
+) -> Result<Vec<u8>, NoMemory> {
+    let Some(source) = source else {
+        return explain_script(rt.alloc(), text);
+    };
+    let start = match source {
+        Source::Text => 0,
+        _ => 1,
+    };
+    let signals = signals(b"CLOCK");
+    let input = TraceInput {
+        source,
+        signals,
+        start,
+    };
+    explain_trace(rt.alloc(), text, input)
+}
+
+/// How many explanations are refused memory. The others are as with ample memory.
+fn refusals(rt: &(impl Abort + AllocGlobal)) -> usize {
+    let mut refused = 0_usize;
+    for (text, source, end) in EXPLAINED {
+        match explained(rt, text, source) {
+            Ok(told) => assert!(rt; told.as_slice().ends_with(end)),
+            Err(_refused) => refused = refused.saturating_add(1),
+        }
+    }
+    let script = b"10 OPEN 4,5\n20 PRINT#4,\"A\"";
+    let stop = Stop::DeviceNotPresent;
+    match explain_stop(rt.alloc(), script, StatusMode::Each, stop, 2, NONE) {
+        Ok(told) => assert!(rt; told.as_slice().ends_with(b"which printers there are\n")),
+        Err(_refused) => refused = refused.saturating_add(1),
+    }
+    refused
+}
+
+/// `make test` runs this with each allocation refused in turn. The call that is refused answers so, and the same call again
+/// answers as ever.
+#[test]
+fn each_growth_refused(rt: HostRuntime) {
+    let refused = refusals(&rt).saturating_add(refusals(&rt));
+    assert!(rt; refused <= most_refusals(&rt), "{refused} refusals");
+}

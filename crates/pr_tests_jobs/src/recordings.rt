@@ -1,0 +1,45 @@
+//! The limits of recordings, tried with small ones: the program's are 4,294,967,296 and 1,099,511,627,776 bytes.
+
+use pr_capture::Signals;
+use pr_cli::{CliFault, Watched};
+use pr_options::{Source, TraceInput};
+use pr_recording::{decode_input, print_input};
+
+const TEXT: TraceInput<'_> = TraceInput {
+    source: Source::Text,
+    signals: Signals {
+        atn: b"ATN",
+        clock: b"CLOCK",
+        line: b"DATA",
+        is_inverted: false,
+    },
+    start: 0,
+};
+
+/// What is written for no byte.
+const NOTHING: &str = "\
+    frames: 0\ncommands: 0\ndata bytes: 0\nnot acknowledged: 0\nglitches: 0\ncut by the recording's end: 0\n\
+    ready: none\nfirst pull: none\nanswer: none\nanswer length: none\npull after answer: none\n\
+    shortest low half: none\nlongest low half: none\nshortest high half: none\nlongest high half: none\n\
+    acknowledgement: none\nlawful\n";
+
+#[test]
+fn too_large(rt: HostRuntime) {
+    let rows = [(5, Some(CliFault::TooLarge), ""), (6, None, NOTHING)];
+    for (limit, wanted, written) in rows {
+        let mut input = Watched::new(b"0 111\n".as_slice());
+        let mut output = Watched::new(Vec::new(rt.alloc()));
+        let answer = decode_input(rt.alloc(), &mut input, &mut output, TEXT, limit).err();
+        let is_well = answer == wanted && output.into_inner().as_slice() == written.as_bytes();
+        assert!(rt; is_well, "limit {limit}");
+    }
+}
+
+#[test]
+fn too_large_for_pages(rt: HostRuntime) {
+    for (limit, wanted) in [(5, Some(CliFault::TooLarge)), (6, None)] {
+        let mut input = Watched::new(b"0 111\n".as_slice());
+        let answer = print_input(rt.alloc(), &mut input, TEXT, limit).err();
+        assert!(rt; answer == wanted, "limit {limit}");
+    }
+}

@@ -1,0 +1,12 @@
+//! How many refusals of memory a test may meet.
+
+use std::env::FillError;
+use std::rt::Env;
+
+/// How many calls may be refused: one where `tests/faults.c` refuses an allocation, else none.
+pub fn most_refusals(rt: &impl Env) -> usize {
+    match rt.var("FAULT_ALLOC", &mut [0; 8]) {
+        Err(FillError::NotPresent) => 0,
+        _ => 1,
+    }
+}

@@ -1,0 +1,6 @@
+//! The bus on wires.
+
+mod many_bytes;
+mod refusals;
+mod room;
+mod wires;

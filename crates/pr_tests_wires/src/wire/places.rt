@@ -1,0 +1,57 @@
+//! Places, asked edge by edge.
+
+use crate::same::same;
+use crate::traces::{FRAMES, example};
+use pr_wire::{Edge, Flaw, Frame, Levels, Place, WaveFault};
+use std::test::Fail;
+
+/// An edge to these levels.
+const fn edge(time: u64, atn: bool, clock: bool, line: bool) -> Edge {
+    Edge {
+        time,
+        levels: Levels { atn, clock, line },
+    }
+}
+
+/// Calls a printer that does not answer, and then pulls DATA. Gives the frame of the call, whether a
+/// trace may end behind the call and behind its end, and the fault of the last edge.
+fn unanswered_call() -> Result<(Option<Frame>, bool, bool, Option<WaveFault>), Flaw> {
+    let called = edge(100, false, false, true);
+    let released = edge(1100, true, true, true);
+    let pulled = edge(1101, true, true, false);
+    let call = Place::Idle(0).after(edge(0, true, true, true), called)?;
+    let idle = call.place.after(called, released)?;
+    let flaw = idle.place.after(released, pulled).err();
+    Ok((
+        call.frame,
+        call.place.may_end(),
+        idle.place.may_end(),
+        flaw.map(|flaw| flaw.at(3)),
+    ))
+}
+
+#[test]
+fn steps_of_an_unanswered_call(rt: HostRuntime) {
+    let wanted = (None, false, true, Some(WaveFault::Shape(3)));
+    same(&rt, "call", unanswered_call(), Ok(wanted));
+    assert!(rt; edge(0, true, true, true).is_start() && !edge(100, false, false, true).is_start());
+}
+
+/// A place goes on edge by edge, and gives each frame with the edge that acknowledges it.
+#[test]
+fn a_place_advances_over_the_example_trace(rt: HostRuntime) -> Result<(), Fail> {
+    let edges = example(&rt)?;
+    let mut place = Place::Idle(0);
+    let mut frames = Vec::new(rt.alloc());
+    for i in 1..edges.len() {
+        let Ok(frame) = place.advance(edges[i - 1], edges[i]) else {
+            return Err(Fail::new("a lawful edge"));
+        };
+        if let Some(frame) = frame {
+            frames.push((i, frame.byte))?;
+        }
+    }
+    let is_well = place.may_end() && frames.as_slice() == FRAMES.as_slice();
+    assert!(rt; is_well);
+    Ok(())
+}
