@@ -1,14 +1,15 @@
-//! What only callers of the library meet: errors that no script brings, a name that is no text, and refused memory. The
-//! lines that the program prints are in tests/explained.
+//! Explanations as callers of the library get them: of errors at any statement, of names that are no text, of what has no
+//! fault, and in want of memory. The lines that the program prints are in tests/explained.
 
 use crate::refusals::most_refusals;
 use pr_basic::StatusMode;
 use pr_capture::Signals;
 use pr_channels::Stop;
-use pr_explain::{explain_script, explain_stop, explain_trace};
+use pr_explain::{explain_reading, explain_script, explain_stop, explain_trace};
 use pr_options::{Source, TraceInput};
 use pr_serial::Present;
 use pr_wire::NoMemory;
+use pr_wire::example::TRACE_TEXT;
 use std::process::Abort;
 
 const BOTH: Present = Present {
@@ -260,6 +261,25 @@ fn names_that_are_no_text(rt: HostRuntime) {
         --names tells which signals are ATN, CLOCK and DATA, as in --names ATN,CLOCK,DATA\n";
     let told = explain_trace(rt.alloc(), b"t,ATN,D1,DATA\n", input);
     assert!(rt; told.is_ok_and(|text| text.as_slice() == wanted.as_slice()));
+}
+
+/// Nothing is said of a good script, a lawful trace, and a recording that is read to its end.
+#[test]
+fn nothing_to_explain(rt: HostRuntime) {
+    let input = TraceInput {
+        source: Source::Text,
+        signals: signals(b"CLOCK"),
+        start: 0,
+    };
+    let script = b"10 OPEN 4,4\r\n20 PRINT#4,\"A\";CHR$(65)\n";
+    let told = [
+        explain_script(rt.alloc(), script),
+        explain_trace(rt.alloc(), TRACE_TEXT.as_bytes(), input),
+        explain_reading(rt.alloc(), b"0 111\n0 001\n9 001\n", input),
+    ];
+    for (number, text) in told.into_iter().enumerate() {
+        assert!(rt; text.is_ok_and(|text| text.is_empty()), "{number}");
+    }
 }
 
 /// A script, a trace or a recording, and the end of its explanation.

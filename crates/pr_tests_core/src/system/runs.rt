@@ -1,9 +1,14 @@
 //! Whole runs, whose trace is kept.
 
-use crate::system::two_letters::{BOTH, are_of_the_example, is_outcome, statements_of, typical};
+use crate::system::two_letters::{
+    BOTH, are_of_the_example, is_outcome, is_page, statements_of, typical,
+};
 use pr_basic::StatusMode;
+use pr_bus::Delays;
 use pr_channels::Stop;
+use pr_serial::Present;
 use pr_system::{Outcome, run};
+use pr_wire::{Choices, Frame, analyse};
 use std::env::FillError;
 use std::process::Abort;
 use std::rt::Env;
@@ -26,6 +31,112 @@ fn run_up_to_a_stop(rt: HostRuntime) {
     let stop = Some((4, Stop::FileNotOpen));
     assert!(rt; is_outcome(&outcome, &[0; 4], stop, &[], 110));
     are_of_the_example(&rt, outcome.trace.as_slice(), 0, 110);
+}
+
+/// A run that prints nothing: its script, printers, status mode and delay numbers of the computer and of printer 4; then its
+/// statuses, stop, edges, the moment of the last one, and its frames, which are commands.
+#[derive(Clone, Copy)]
+struct Quiet {
+    script: &'static [u8],
+    present: Present,
+    mode: StatusMode,
+    numbers: [&'static [u16]; 2],
+    statuses: &'static [u8],
+    stop: Option<(usize, Stop)>,
+    edges: usize,
+    end: u64,
+    commands: &'static [u8],
+}
+
+const ONLY_FOUR: Present = Present {
+    four: true,
+    five: false,
+};
+
+const NOBODY: Present = Present {
+    four: false,
+    five: false,
+};
+
+static QUIET: [Quiet; 3] = [
+    Quiet {
+        script: b"OPEN 4,4\nOPEN 5,5\nPRINT#5,\"A\"\nPRINT#4,\"B\"",
+        present: ONLY_FOUR,
+        mode: StatusMode::Kept,
+        numbers: [&[], &[]],
+        statuses: &[0, 0, 128, 128],
+        stop: Some((4, Stop::DeviceNotPresent)),
+        edges: 74,
+        end: 6390,
+        commands: &[37, 63, 36],
+    },
+    Quiet {
+        script: b"OPEN 4,4\nCMD 4,\"\";",
+        present: ONLY_FOUR,
+        mode: StatusMode::Each,
+        numbers: [&[900, 999], &[9]],
+        statuses: &[0, 0],
+        stop: None,
+        edges: 24,
+        end: 3929,
+        commands: &[36],
+    },
+    Quiet {
+        script: b"OPEN 4,4\nPRINT#4,\"A\"",
+        present: NOBODY,
+        mode: StatusMode::Each,
+        numbers: [&[], &[]],
+        statuses: &[0, 128],
+        stop: Some((2, Stop::DeviceNotPresent)),
+        edges: 3,
+        end: 1100,
+        commands: &[],
+    },
+];
+
+/// A list of delay numbers.
+fn choices(rt: &(impl Abort + AllocGlobal), numbers: &[u16]) -> Choices {
+    let mut list = Vec::new(rt.alloc());
+    list.extend_from_slice(numbers).expect(rt, "memory");
+    Choices::new(list)
+}
+
+/// Whether the outcome is that of a quiet run.
+fn is_quiet(outcome: &Outcome, wanted: &Quiet) -> bool {
+    is_page(&outcome.paper4, &[])
+        && is_page(&outcome.paper5, &[])
+        && outcome.screen.as_slice().is_empty()
+        && outcome.statuses.as_slice() == wanted.statuses
+        && outcome.stop == wanted.stop
+        && outcome.trace.len() == wanted.edges
+        && outcome.trace.as_slice().last().map(|edge| edge.time) == Some(wanted.end)
+}
+
+/// Whether these frames are these commands.
+fn are_commands(frames: &[Frame], commands: &[u8]) -> bool {
+    frames.len() == commands.len()
+        && frames.iter().zip(commands).all(|(frame, byte)| {
+            frame.attention && !frame.eoi && frame.byte == *byte
+        })
+}
+
+/// The program steps through a run; these settings reach `run` here alone.
+#[test]
+fn runs_by_settings(rt: HostRuntime) {
+    for row in &QUIET {
+        let statements = statements_of(&rt, row.script);
+        let delays = Delays {
+            computer: choices(&rt, row.numbers[0]),
+            four: choices(&rt, row.numbers[1]),
+            five: choices(&rt, &[]),
+        };
+        let outcome = run(rt.alloc(), &statements, row.present, delays, row.mode).expect(
+            &rt, "memory",
+        );
+        let frames = analyse(rt.alloc(), outcome.trace.as_slice()).expect(&rt, "a lawful trace");
+        let is_well = is_quiet(&outcome, row) && are_commands(frames.as_slice(), row.commands);
+        assert!(rt; is_well, "{} edges", row.edges);
+    }
 }
 
 /// How many lines the variable RUN_LINES asks for, or 4.

@@ -566,13 +566,18 @@ fn take_all(bus: &Wires, present: Present, edges: usize) -> bool {
 /// Plays a run: whether each part shows what it says, and each printer that is there takes all edges.
 fn plays(rt: &(impl Abort + AllocGlobal), run: &Run) -> bool {
     let mut bus = wires(rt, run.present, run.numbers).expect(rt, "memory");
-    let mut is_well = bus.mark() == None;
+    let mut marked = None;
+    let mut is_well = bus.mark() == marked;
     let mut edges = 0usize;
     for (number, part) in run.parts.iter().enumerate() {
+        if number > 0 {
+            is_well = is_well && forgets(&mut bus);
+            marked = Some(bus.items());
+        }
         is_well = is_well
-            && (number == 0 || forgets(&mut bus))
             && sends(rt, &mut bus, part.steps)
-            && keeps(rt, &bus, part);
+            && keeps(rt, &bus, part)
+            && bus.mark() == marked;
         edges = edges.saturating_add(part.edges);
     }
     is_well && take_all(&bus, run.present, edges)
