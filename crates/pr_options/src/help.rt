@@ -114,8 +114,8 @@ Output: a line for each byte, as in a story of `print1525 check`; below it a
 line for each interval outside this project's bounds; unacknowledged and
 incomplete bytes (glitches); a summary of all intervals; and whether the
 recording is lawful. Or the pages that printers 4 and 5 print of the bytes.
-A recording that cannot be read is refused at its first fault, after what is
-said up to there.
+A recording that cannot be read is refused at its first fault, after the lines
+of what comes before it.
 
 Exit status: 0 read to its end, 2 refused, 3 memory ran out or a read or a
 write failed.
@@ -131,7 +131,7 @@ pub const RAW: Told = Told {
     more: "\
 Input: bytes as a printer gets them, such as an emulator's raw printer output.
 
-Output: the page that they print, as that of printer 4.
+Output: the page that they print, under the heading of printer 4.
 
 Exit status: 0 done, 2 refused, 3 memory ran out or a read or a write failed.
 
