@@ -57,6 +57,7 @@ test:
 outside: build lib $(TESTS)
 	@tests/run $(PROGRAM)
 	@tests/cases/run $(PROGRAM)
+	@tests/documents $(PROGRAM)
 	@cases/run $(PROGRAM)
 	@cases/made --check
 	@cases/reach --check

@@ -259,7 +259,7 @@ function intervalsBetween(before, behind, { times, levels }) {
     }
     if (turned & CLOCK && level & CLOCK && called === null && freed !== null && time < to) {
       const unlisten = before && before.name === 'UNLISTEN';
-      part(unlisten ? 'from ATN to CLOCK, behind UNLISTEN' : 'a byte that nobody hears', freed, time, CLOCK, unlisten ? 'Cr' : 'Bb');
+      part(unlisten ? 'from ATN to CLOCK, after UNLISTEN' : 'a byte that nobody hears', freed, time, CLOCK, unlisten ? 'Cr' : 'Bb');
       since = time;
     }
   }

@@ -8,7 +8,7 @@ use Rattle.pr_options.specs.OptionNames as option
 
 -- an option of this name with a value, and the value where it is not given
 abbrev pub value_rule : Text → Text → Rule
-value_rule name default = record (new_rule name) { long = Some name; defaults = default ∷ [] }
+value_rule name default = record (new_rule name) { long = Some name; value_names = 1; defaults = default ∷ [] }
 
 -- an option without a value
 abbrev pub flag_rule : Text → Rule

@@ -25,6 +25,7 @@ fn value_option<'a>(alloc: Global, option: Valued) -> Arg<'a>
 {
     Arg::new(alloc, option.name)
         .long(option.name)
+        .value_name(option.value)
         .default_value(option.default)
         .help(option.help)
         .hide_default_value(option.default.is_empty())

@@ -1,11 +1,13 @@
-//! The program's options: their names, what stands for those that are not given, and what the help
-//! says of them.
+//! The program's options: their names, their defaults, and what help says about them. Help has at
+//! most 80 columns, and its lines are broken here.
 
 /// An option with a value.
 #[derive(Clone, Copy)]
 pub struct Valued {
-    /// What stands behind `--`.
+    /// Its name, after `--`.
     pub name: &'static str,
+    /// What help calls its value.
+    pub value: &'static str,
     /// The value where none is given.
     pub default: &'static str,
     /// What its values are.
@@ -15,7 +17,7 @@ pub struct Valued {
 /// An option without a value.
 #[derive(Clone, Copy)]
 pub struct Flag {
-    /// What stands behind `--`.
+    /// Its name, after `--`.
     pub name: &'static str,
     /// What it asks for.
     pub help: &'static str,
@@ -23,86 +25,109 @@ pub struct Flag {
 
 pub const PRESENT: Valued = Valued {
     name: "present",
+    value: "PRINTERS",
     default: "both",
-    help: "The printers present: none, 4, 5 or both",
+    help: "The printers on the bus:\n\
+           none, 4, 5 or both",
 };
 
 pub const DELAYS: Valued = Valued {
     name: "delays",
+    value: "LISTS",
     default: "",
-    help: "The raw delay numbers, 0 to 65535 in at most five digits: at most three lists, for the \
-           computer, printer 4 and printer 5, as in 900,999/9 [default: every delay is the typical one]",
+    help: "How long each party waits, as in 900,999/9: lists\n\
+           of the computer, printer 4 and printer 5, each with\n\
+           numbers from 0 to 65535 in at most five digits\n\
+           [default: every delay is the typical one]",
 };
 
 pub const STATUS: Valued = Valued {
     name: "status",
+    value: "MODE",
     default: "each",
-    help: "The status: each (cleared before each statement) or kept",
+    help: "each (clears the status before each statement)\n\
+           or kept",
 };
 
 pub const SET: Valued = Valued {
     name: "set",
+    value: "SET",
     default: "upper",
-    help: "The character set selected first: upper (graphic/upper case) or lower (lower/upper case)",
+    help: "The character set selected before the first byte:\n\
+           upper (graphic/upper case) or\n\
+           lower (lower/upper case)",
 };
 
 /// The format of a page.
 pub const PAGE_AS: Valued = Valued {
     name: "as",
+    value: "FORMAT",
     default: "list",
-    help: "The format: list (rows and marks), text (lines, 80 columns behind a margin) or svg (a picture)",
+    help: "list (every mark with its place), text (lines for\n\
+           a terminal) or svg (a picture)",
 };
 
 /// The format of the trace of a run.
 pub const TRACE_AS: Valued = Valued {
     name: "as",
+    value: "FORMAT",
     default: "text",
-    help: "The format: text (a line for each edge) or vcd (a Value Change Dump)",
+    help: "text (a line for each edge) or\n\
+           vcd (a Value Change Dump)",
 };
 
 /// What is written of a trace that is checked.
 pub const REPORT_AS: Valued = Valued {
     name: "as",
+    value: "FORMAT",
     default: "frames",
-    help: "What is written: frames (a line for each) or story (with their moments, and what they say)",
+    help: "frames (a line for each) or story (with\n\
+           their times and meaning)",
 };
 
 /// What is written of a recording that is decoded.
 pub const READING_AS: Valued = Valued {
     name: "as",
+    value: "FORMAT",
     default: "list",
-    help: "What is written: list (what is said, byte by byte), text or svg (the pages that printers 4 and 5 \
-           print of it)",
+    help: "list (each byte with its times), or the pages\n\
+           that the bytes print:\n\
+           text or svg",
 };
 
 pub const FROM: Valued = Valued {
     name: "from",
+    value: "FORMAT",
     default: "text",
-    help: "The format of the trace: text (as `print1525 bus` writes it), vcd (a Value Change Dump) or \
-           csv (a table of a logic analyser)",
+    help: "text (a trace as bus writes it),\n\
+           vcd (a Value Change Dump) or\n\
+           csv (a table of samples)",
 };
 
 pub const NAMES: Valued = Valued {
     name: "names",
+    value: "NAMES",
     default: "ATN,CLOCK,DATA",
-    help: "The names of ATN, CLOCK and DATA in a recording, as in D0,D1,D2, without quotation marks, no \
-           two the same, capitals or not; for a name that is CLOCK the recording may have CLK, so not \
-           both are names",
+    help: "The signals that are ATN, CLOCK and DATA:\n\
+           no quotation marks, no two the same, and not\n\
+           both CLOCK and CLK",
 };
 
 pub const FROM_TIME: Valued = Valued {
     name: "from-time",
+    value: "MICROSECONDS",
     default: "0",
-    help: "The moment of the recording at which the trace starts, in microseconds: a whole number below \
-           2^64",
+    help: "The time of the recording at which the trace\n\
+           starts, a whole number below 2^64",
 };
 
 pub const INVERT: Flag = Flag {
     name: "invert",
-    help: "The probes stand behind inverters: 0 is released, 1 is pulled",
+    help: "The probes invert: 0 is released, 1 is pulled",
 };
 
 pub const EXPLAIN: Flag = Flag {
     name: "explain",
-    help: "Tells more of a refusal or of an error, in further lines on standard error",
+    help: "Says more about a fault or a BASIC error,\n\
+           on standard error",
 };
