@@ -69,7 +69,7 @@ $(TESTS): $(SOURCES)
 # The library for C programs: the archives of two crates and the part of the toolchain's that calls malloc, in one.
 lib: $(LIBRARY)
 
-$(LIBRARY): $(SOURCES) tools/library tools/archive
+$(LIBRARY): $(SOURCES) tools/crates.py tools/library tools/archive
 	@tools/library pr_ear pr_c
 	@tools/archive $@ pr_ear pr_c
 
@@ -98,7 +98,7 @@ web: $(MODULE)
 	@if git diff --quiet HEAD -- web/print1525.html; then echo 'web/print1525.html is the committed file.'; else \
 		echo 'web/print1525.html is another file than the committed one.'; exit 1; fi
 
-$(MODULE): $(SOURCES) web/module
+$(MODULE): $(SOURCES) tools/crates.py web/module
 	@mkdir -p $(@D)
 	web/module $@
 

@@ -68,13 +68,28 @@ def sum_of_all():
     return f"{said_by('rt', 'version')} {sum_of(files)}"
 
 
+def moments(*tops):
+    """The files and folders at and below some places: path, size and the moment of its last change, which no rename brings back."""
+    found = [top for top in tops if os.path.lexists(top)]
+    for top in tops:
+        for at, folders, files in os.walk(top):
+            found += [f"{at}/{it}" for it in (*folders, *files)]
+    seen = ((it, os.lstat(it)) for it in sorted(found))
+    return [(os.path.relpath(it, ROOT), how.st_size, how.st_ctime_ns) for it, how in seen]
+
+
+def library_sum(name):
+    """The sum of what lies in a crate's library, which is another one after each build."""
+    return hashlib.sha256(repr(moments(f"{ROOT}/crates/{name}/out/rlib/{name}.rlib")).encode()).hexdigest()[:16]
+
+
 def has_gate_libraries(name):
     """Whether the libraries below a crate are those of a whole gate over these very sources. Those have no stamp, by which
     other commands know what they built themselves."""
-    if not os.path.exists(GATE_SUM) or text_of(GATE_SUM) != sum_of_all():
+    if not os.path.exists(GATE_SUM):
         return False
-    places = [f"{ROOT}/crates/{it}/out/rlib" for it in below(name)]
-    return all(os.path.isdir(it) and not os.path.exists(f"{it}/stamp") for it in places)
+    lines = text_of(GATE_SUM).split("\n")
+    return lines[0] == sum_of_all() and all(f"{it} {library_sum(it)}" in lines[1:] for it in below(name))
 
 
 def build_words(name):
