@@ -8,7 +8,7 @@ use Rattle.pr_basic.specs.Faults.{IsFirstFault}
 use Rattle.pr_basic.specs.FaultsAlone.{ArePartsFaultAlone, GoesTooFarAlone, IsFaultOutsideListsAlone, IsFirstFaultAlone, IsItemFaultAlone, IsLineFaultAlone, IsPartFaultAlone, IsStatementFaultAlone}
 use Rattle.pr_basic.specs.FaultLaws.{PlacesChangeNoFault}
 use Rattle.pr_basic.specs.ReadingScripts.{Passed, column_of}
-use Rattle.pr_text.specs.Digits.{number_of}
+use Rattle.pr_base.specs.Digits.{number_of}
 use Rattle.pr_basic.specs.declared.lexemes.Keyword.TheVariants as word
 use Rattle.pr_basic.specs.declared.fault.LineFault.{LineFault}
 use Rattle.pr_basic.specs.declared.fault.LineFault.TheVariants.{UnknownWord, BadNumber, BadDevice, BadSecond, BadByte, TooLong}

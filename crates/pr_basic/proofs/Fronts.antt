@@ -7,7 +7,7 @@ use Rattle.std.proofs.lemmas.Grind.{common_steps}
 use Rattle.std.proofs.lemmas.List.{take-append-drop, take_all, drop_all}
 use Rattle.std.proofs.lemmas.Slice.Eq.{bytes_eq-Decides}
 use Rattle.pr_basic.specs.Lexemes.{Word, Remark, Digits, Quoted, Comma, Semicolon, Colon, OpenParen, CloseParen, Stray, is_no_quote, Spells, NoDigit, NoHash}
-use Rattle.pr_text.specs.Digits.{is_digit}
+use Rattle.pr_base.specs.Digits.{is_digit}
 use Rattle.pr_basic.specs.Lexing.{Front, begins, front, sign_or, text_front, word_front}
 use Rattle.pr_basic.specs.declared.lexemes.Keyword.TheVariants as word
 

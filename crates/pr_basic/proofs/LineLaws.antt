@@ -2,7 +2,7 @@
 use Rattle.std.proofs.Common.{◌≡◌, ℕ, zero, suc, ◌-◌, ◌<◌, ◌≤◌, List, [], ◌∷◌, length, get_or, take, drop, refl, arith}
 use Rattle.std.proofs.lemmas.Grind.{common_steps}
 use Rattle.pr_basic.specs.Grammar.{without_return}
-use Rattle.pr_text.specs.Lines.{lines_of}
+use Rattle.pr_base.specs.Lines.{lines_of}
 
 -- a line ends at its first byte 10
 pub first_line : (bs : List ℕ) (i : ℕ) → i < length bs → get_or bs i 0 ≡ 10 → ((k : ℕ) → k < i → get_or bs k 0 ≡ 10 → ⊥) → lines_of bs ≡ take i bs ∷ lines_of (drop (suc i) bs)

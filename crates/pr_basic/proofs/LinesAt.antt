@@ -1,8 +1,8 @@
 -- The line of a place, the number of a line and the lexeme at the front of bytes.
 use Rattle.std.proofs.Common.{◌≡◌, ℕ, suc, ◌+◌, ◌-◌, ◌<◌, ◌≤◌, List, [], ◌∷◌, ◌++◌, length, take, drop, min, refl, ap, Bor, subst, sym, ◌∙◌, arith, false, append_assoc, append-nil, get_or, length-append, ◌⊎◌, inl, inr}
 use Rattle.std.proofs.lemmas.List.{take-append-drop}
-use Rattle.pr_text.specs.Digits.{number_of}
-use Rattle.pr_text.specs.Lines.{lines_of}
+use Rattle.pr_base.specs.Digits.{number_of}
+use Rattle.pr_base.specs.Lines.{lines_of}
 use Rattle.pr_basic.specs.Grammar.{without_return}
 use Rattle.pr_basic.specs.Lexemes.{Digits, Lexeme, NoSpace, is_space}
 use Rattle.pr_basic.specs.Lexing.{front, lexemes_of}

@@ -5,7 +5,7 @@ use Rattle.std.specs.List.{list_all, prefix_len}
 use Rattle.std.proofs.lemmas.Grind.{common_steps}
 use Rattle.pr_basic.specs.Lexemes.{Lexeme, Word, Digits, Quoted, Semicolon, OpenParen, CloseParen}
 use Rattle.pr_basic.specs.Grammar.{Item, Semi, Quote, Code, AreItems, IsItem, is_printable, item_bytes, item_lexemes, items_bytes, items_lexemes}
-use Rattle.pr_text.specs.Digits.{number_of}
+use Rattle.pr_base.specs.Digits.{number_of}
 use Rattle.pr_basic.specs.FaultRules.{IsItemFault, IsListFault, Lacks, Placed, begins_item, start_of, within}
 use Rattle.pr_basic.specs.Reading.{byte_added, line_in, string_added, ◌>>=◌}
 use Rattle.pr_basic.specs.declared.lexemes.Keyword.TheVariants as word

@@ -1,7 +1,7 @@
 -- Laws of lists.
 use Rattle.std.proofs.Common.{◌≡◌, ℕ, List, [], ◌∷◌, refl, subst, ◌∙◌, arith, Bool, true, Result, Ok, Err}
 use Rattle.std.proofs.lemmas.Grind.{common_steps}
-use Rattle.pr_text.specs.Digits.{number_of}
+use Rattle.pr_base.specs.Digits.{number_of}
 use Rattle.pr_basic.specs.Lexemes.{CloseParen, Digits, Lexeme, OpenParen, Word}
 use Rattle.pr_basic.specs.FaultRules.{Placed}
 use Rattle.pr_basic.specs.Reading.{byte_added, chr_added, chr_in, closed_in, line_in, number_in, ◌>>=◌}

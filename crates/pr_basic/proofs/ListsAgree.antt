@@ -7,7 +7,7 @@ use Rattle.pr_basic.specs.Text.{Text}
 use Rattle.pr_basic.specs.Lexemes.{Lexeme, Word, Digits, Quoted, Semicolon, OpenParen, CloseParen}
 use Rattle.pr_basic.specs.Grammar.{Item, Semi, Quote, Code, AreItems, IsItem, ends_after, is_printable, item_bytes, item_lexemes, items_bytes, items_lexemes}
 use Rattle.pr_basic.specs.FaultRules.{within}
-use Rattle.pr_text.specs.Digits.{number_of}
+use Rattle.pr_base.specs.Digits.{number_of}
 use Rattle.pr_basic.specs.Reading.{byte_added, line_in, string_added, ◌>>=◌}
 use Rattle.pr_basic.specs.declared.lexemes.Keyword.TheVariants as word
 use Rattle.pr_basic.specs.declared.fault.LineFault.TheVariants.{BadByte, TooLong}

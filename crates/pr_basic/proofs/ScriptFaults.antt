@@ -7,8 +7,8 @@ use Rattle.pr_basic.specs.Limits.{statement_limit}
 use Rattle.pr_basic.specs.Lexemes.{Colon, Digits, Lexeme, Quoted}
 use Rattle.pr_basic.specs.Lexing.{after_part, lexemes_of, part_of, past, unspaced}
 use Rattle.pr_basic.specs.Grammar.{AreLines, AreParts, parts, without_return}
-use Rattle.pr_text.specs.Digits.{number_of}
-use Rattle.pr_text.specs.Lines.{lines_of}
+use Rattle.pr_base.specs.Digits.{number_of}
+use Rattle.pr_base.specs.Lines.{lines_of}
 use Rattle.pr_basic.specs.FaultRules.{BeginsStatement, IsPartFault, Placed, Spot, start_of, within}
 use Rattle.pr_basic.specs.FaultPlaces.{AreLinesFault, ArePartsFault, IsFaultOfLexemes, IsFirstFaultAt, IsLineFault, at_number, size_of, with_colons}
 use Rattle.pr_basic.specs.Reading.{◌>>=◌}

@@ -4,7 +4,7 @@ use Rattle.std.proofs.lemmas.Grind.{common_steps}
 use Rattle.std.proofs.Math.Seq.{take-append_seam}
 use Rattle.pr_basic.specs.FaultRules.{start_of, within}
 use Rattle.pr_basic.specs.Grammar.{parts}
-use Rattle.pr_text.specs.Lines.{lines_of, onto_first}
+use Rattle.pr_base.specs.Lines.{lines_of, onto_first}
 use Rattle.pr_basic.specs.Lexemes.{Colon, Lexeme, Remark, Word}
 use Rattle.pr_basic.specs.Lexing.{IsRest, after_part, here, later, lexemes_of, part_of, past, unspaced}
 use Rattle.pr_basic.specs.Limits.{statement_limit}

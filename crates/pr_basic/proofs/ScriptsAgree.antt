@@ -7,8 +7,8 @@ use Rattle.pr_basic.specs.Limits.{statement_limit}
 use Rattle.pr_basic.specs.Lexemes.{Colon, Digits, Lexeme}
 use Rattle.pr_basic.specs.Lexing.{lexemes_of}
 use Rattle.pr_basic.specs.Grammar.{AreLines, AreParts, HasNumber, IsLine, IsScript, parts, without_return}
-use Rattle.pr_text.specs.Digits.{number_of}
-use Rattle.pr_text.specs.Lines.{lines_of}
+use Rattle.pr_base.specs.Digits.{number_of}
+use Rattle.pr_base.specs.Lines.{lines_of}
 use Rattle.pr_basic.specs.Reading.{statement_in, ◌>>=◌}
 use Rattle.pr_basic.specs.ReadingScripts.{and_more, at_line, counted, is_begun, in_line, in_part, behind, line_statements, lines_statements, numbered, room_after, script_of, statements_in, statements_of, Passed}
 use Rattle.pr_basic.specs.declared.fault.LineFault.{LineFault}

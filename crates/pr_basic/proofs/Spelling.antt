@@ -8,7 +8,7 @@ use Rattle.std.proofs.lemmas.Grind.{common_steps}
 use Rattle.std.proofs.lemmas.List.{map-append, take-map, length-map, take_all}
 use Rattle.std.proofs.Math.Seq.{take-append_seam}
 use Rattle.pr_basic.specs.Lexemes.{Lexeme, Word, Remark, Digits, Quoted, Comma, Semicolon, Colon, OpenParen, CloseParen, Stray, is_no_quote, Spells, IsWord, NoDigit, NoHash, NoSpace}
-use Rattle.pr_text.specs.Digits.{is_digit}
+use Rattle.pr_base.specs.Digits.{is_digit}
 use Rattle.pr_basic.specs.Lexing.{begins, front, text_front, word_front}
 use Rattle.pr_basic.specs.declared.lexemes.Keyword.TheVariants as word
 

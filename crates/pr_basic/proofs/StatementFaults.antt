@@ -3,7 +3,7 @@ use Rattle.std.proofs.Common.{◌≡◌, ℕ, ◌≤◌, List, [], ◌∷◌, re
 use Rattle.std.specs.Prelude.{nat_le}
 use Rattle.std.proofs.lemmas.Grind.{common_steps}
 use Rattle.pr_basic.specs.Lexemes.{Lexeme, Word, Remark, Digits, Comma}
-use Rattle.pr_text.specs.Digits.{number_of}
+use Rattle.pr_base.specs.Digits.{number_of}
 use Rattle.pr_basic.specs.FaultRules.{AfterDevice, AfterFile, GoesTooFar, IsStatementFault, Lacks, NoNumber, Number, Placed, start_of, takes_file, takes_list}
 use Rattle.pr_basic.specs.Reading.{close_in, cmd_in, comma_in, ended, line_in, number_in, open_in, optional_line_in, print_in, print_to_in, second_in, statement_in, ◌>>=◌}
 use Rattle.pr_basic.specs.declared.lexemes.Keyword.{Keyword}

@@ -1,7 +1,7 @@
 -- The faults of the table are those that are read.
 use Rattle.std.proofs.Common.{◌≡◌, ℕ, List, [], ◌∷◌, refl, ◌∙◌, true, false, Option, Some, None, Result, Ok, Err, inl, inr}
 use Rattle.pr_basic.specs.Lexemes.{Lexeme, Word, Remark, Comma}
-use Rattle.pr_text.specs.Digits.{number_of}
+use Rattle.pr_base.specs.Digits.{number_of}
 use Rattle.pr_basic.specs.FaultRules.{AfterDevice, AfterFile, GoesTooFar, IsFaultOutsideLists, IsStatementFault, Lacks, NoNumber, Placed, begins_statement, start_of, takes_file, takes_list}
 use Rattle.pr_basic.specs.Reading.{close_in, cmd_in, comma_in, ended, line_in, number_in, open_in, optional_line_in, print_in, print_to_in, second_in, statement_in, ◌>>=◌}
 use Rattle.pr_basic.specs.declared.lexemes.Keyword.{Keyword}

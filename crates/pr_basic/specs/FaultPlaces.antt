@@ -5,8 +5,8 @@ use Rattle.pr_basic.specs.Limits.{statement_limit}
 use Rattle.pr_basic.specs.Lexemes.{AreLexemes, IsLexeme, Lexeme, Digits, Colon, NoSpace, is_space}
 use Rattle.pr_basic.specs.Grammar.{AreLines, AreParts, HasNumber, parts, without_return}
 use Rattle.pr_basic.specs.FaultRules.{IsPartFault, within}
-use Rattle.pr_text.specs.Digits.{number_of}
-use Rattle.pr_text.specs.Lines.{lines_of}
+use Rattle.pr_base.specs.Digits.{number_of}
+use Rattle.pr_base.specs.Lines.{lines_of}
 use Rattle.pr_basic.specs.declared.statement.Statement.{Statement}
 use Rattle.pr_basic.specs.declared.fault.LineFault.{LineFault}
 use Rattle.pr_basic.specs.declared.fault.LineFault.TheVariants.{UnknownWord, BadNumber, BadDevice, BadSecond, BadByte, TooLong, TooMany, NoMemory}

@@ -5,7 +5,7 @@ use Rattle.std.specs.List.{list_all}
 use Rattle.pr_basic.specs.ListLimit.{byte_limit}
 use Rattle.pr_basic.specs.Lexemes.{Lexeme, Word, Remark, Digits, Quoted, Comma, Semicolon, OpenParen, CloseParen}
 use Rattle.pr_basic.specs.Grammar.{Item, AreItems, is_printable, items_bytes, items_lexemes}
-use Rattle.pr_text.specs.Digits.{number_of}
+use Rattle.pr_base.specs.Digits.{number_of}
 use Rattle.pr_basic.specs.declared.lexemes.Keyword.{Keyword}
 use Rattle.pr_basic.specs.declared.lexemes.Keyword.TheVariants as word
 use Rattle.pr_basic.specs.declared.fault.LineFault.{LineFault}

@@ -8,8 +8,8 @@ use Rattle.pr_basic.specs.Lexemes.{AreLexemes, Lexeme, Word, Digits, Quoted, Com
 use Rattle.pr_basic.specs.Grammar.{Item, AreItems, AreLines, AreParts, HasNumber, is_printable, items_bytes, items_lexemes, parts, without_return}
 use Rattle.pr_basic.specs.FaultRules.{AfterDevice, AfterFile, AfterSecond, BeginsStatement, HasList, Lacks, NoNumber, begins_item, begins_statement, takes_file, takes_list}
 use Rattle.pr_basic.specs.FaultPlaces.{at_number}
-use Rattle.pr_text.specs.Digits.{number_of}
-use Rattle.pr_text.specs.Lines.{lines_of}
+use Rattle.pr_base.specs.Digits.{number_of}
+use Rattle.pr_base.specs.Lines.{lines_of}
 use Rattle.pr_basic.specs.declared.lexemes.Keyword.{Keyword}
 use Rattle.pr_basic.specs.declared.lexemes.Keyword.TheVariants as word
 use Rattle.pr_basic.specs.declared.statement.Statement.{Statement}

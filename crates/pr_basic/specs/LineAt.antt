@@ -2,8 +2,8 @@
 use Rattle.std.specs.Prelude.{◌≡◌, ℕ, suc, ◌+◌, ◌≤◌, List, ◌∷◌, ◌++◌, length}
 use Rattle.pr_basic.specs.Lexemes.{AreLexemes, Digits, IsLexeme, Lexeme}
 use Rattle.pr_basic.specs.FaultPlaces.{size_of}
-use Rattle.pr_text.specs.Digits.{number_of}
-use Rattle.pr_text.specs.Lines.{lines_of}
+use Rattle.pr_base.specs.Digits.{number_of}
+use Rattle.pr_base.specs.Lines.{lines_of}
 
 -- a place stands in a line of a text, or at its end: the line's bytes, its number from 1, and how many bytes stand before it
 pub record IsLineAt (text : List ℕ) (place start : ℕ) (line : List ℕ) (number : ℕ) : Type 0 where

@@ -7,7 +7,7 @@ use Rattle.pr_basic.specs.Text.{Text}
 use Rattle.pr_basic.specs.Lexemes.{Lexeme, Word, Remark, Digits, Quoted, Comma, Semicolon, OpenParen, CloseParen}
 use Rattle.pr_basic.specs.Grammar.{is_printable}
 use Rattle.pr_basic.specs.FaultRules.{Placed, start_of, within}
-use Rattle.pr_text.specs.Digits.{number_of}
+use Rattle.pr_base.specs.Digits.{number_of}
 use Rattle.pr_basic.specs.declared.lexemes.Keyword.TheVariants as word
 use Rattle.pr_basic.specs.declared.fault.LineFault.{LineFault}
 use Rattle.pr_basic.specs.declared.fault.LineFault.TheVariants.{UnknownWord, BadNumber, BadDevice, BadSecond, BadByte, TooLong}

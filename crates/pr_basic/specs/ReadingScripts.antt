@@ -5,8 +5,8 @@ use Rattle.pr_basic.specs.Limits.{statement_limit}
 use Rattle.pr_basic.specs.Lexemes.{Lexeme, Colon, Digits}
 use Rattle.pr_basic.specs.Lexing.{lexemes_of, past, unspaced}
 use Rattle.pr_basic.specs.Grammar.{parts, without_return}
-use Rattle.pr_text.specs.Digits.{number_of}
-use Rattle.pr_text.specs.Lines.{lines_of}
+use Rattle.pr_base.specs.Digits.{number_of}
+use Rattle.pr_base.specs.Lines.{lines_of}
 use Rattle.pr_basic.specs.FaultRules.{Placed, begins_statement, start_of}
 use Rattle.pr_basic.specs.Reading.{statement_in, ◌>>=◌}
 use Rattle.pr_basic.specs.declared.fault.LineFault.{LineFault}

@@ -1,7 +1,7 @@
 -- Laws: what follows from the definitions, in the manuals' words. The functions of src/laws.rt prove them, and callers take them from
 -- there.
 use Rattle.std.specs.Prelude.{◌≡◌, ℕ, ◌+◌, Bool, true, false, not, ◌||◌, Option, Some, None, List, [], ◌∷◌, ◌++◌, length, drop, if◌then◌else◌}
-use Rattle.pr_commands.specs.Bytes as command
+use Rattle.pr_base.specs.Bytes as command
 use Rattle.pr_serial.specs.declared.Present.{Present}
 use Rattle.pr_serial.specs.declared.Item.{Item}
 use Rattle.pr_serial.specs.declared.Item.TheVariants as item

@@ -3,12 +3,12 @@
 ghost use Rattle.std.specs.Prelude.{◌≡◌, ◌∷◌, [], ◌<◌, ◌≤◌, ◌+◌, length, map, suc, IfSome, MatchOption, IsTrue};
 ghost use Rattle.std.specs.List.{prefix_len};
 ghost use Rattle.pr_basic.specs.Lexemes.{NoSpace, is_no_quote, is_space};
-ghost use Rattle.pr_text.specs.Digits.{is_digit};
+ghost use Rattle.pr_base.specs.Digits.{is_digit};
 ghost use Rattle.pr_basic.specs.Lexing.{IsRest, after_first, begins, front, here, later, lexemes_of, past, text_front, unspaced, word_front};
 ghost use Rattle.std.specs.Char.{to_ascii_lowercase};
 ghost use Rattle.pr_basic.specs.Seen.{seen};
 
-use pr_text::{digit_count, is_digit};
+use pr_base::{digit_count, is_digit};
 
 /// A word of the language.
 #[derive(Clone, Copy, Debug, PartialEq, Eq)]

@@ -1,7 +1,7 @@
 //! Numbers and commas of a statement.
 
 ghost use Rattle.std.specs.Prelude.{◌≡◌, ◌<◌, ◌≤◌, min, length, IfOk, MatchResult};
-ghost use Rattle.pr_text.specs.Digits.{number_of};
+ghost use Rattle.pr_base.specs.Digits.{number_of};
 ghost use Rattle.pr_basic.specs.Lexing.{IsRest, here, later};
 ghost use Rattle.pr_basic.specs.Reading.{comma_in, number_in};
 ghost use Rattle.pr_basic.specs.Reads.{Passes, Reads, ReadsOn};

@@ -3,7 +3,7 @@
 ghost use Rattle.std.specs.Prelude.{◌≡◌, ℕ, suc, List, ◌∷◌, ◌++◌, [], ◌+◌, ◌-◌, ◌<◌, ◌≤◌, ◌⊎◌, length, Ok, Err, IfErr, IfOk, IfSome, MatchResult, OnOk};
 ghost use Rattle.pr_basic.specs.Limits.{statement_limit};
 ghost use Rattle.pr_basic.specs.Grammar.{IsScript, parts, without_return};
-ghost use Rattle.pr_text.specs.Lines.{lines_of};
+ghost use Rattle.pr_base.specs.Lines.{lines_of};
 ghost use Rattle.pr_basic.specs.Faults.{IsFirstFault};
 ghost use Rattle.pr_basic.specs.FaultPlaces.{IsFirstFaultAt};
 ghost use Rattle.pr_basic.specs.Lexing.{here, later, lexemes_of, past, unspaced};

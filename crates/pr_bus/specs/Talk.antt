@@ -1,6 +1,6 @@
 -- Machine steps: the talker as the wires of the timed trace, and what each of its steps does. No reader needs to believe it.
 use Rattle.std.specs.Prelude.{◌≡◌, ℕ, Bool, false, cond, List, ◌++◌, map, Option, Some, None, ◌+◌, ◌&&◌, ◌||◌, ◌==◌, drop, if◌then◌else◌}
-use Rattle.pr_commands.specs.Bytes as command
+use Rattle.pr_base.specs.Bytes as command
 use Rattle.pr_wire.specs.declared.delay.Kind.TheVariants.{Aw, R, Cr, Dr}
 use Rattle.pr_wire.specs.Delays.{delay_at}
 use Rattle.pr_serial.specs.declared.Item.{Item}

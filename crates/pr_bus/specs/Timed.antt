@@ -1,6 +1,6 @@
 -- Trusted: the trace of items under a presence and three lists of delay numbers: each act in its time, by sums, least and greatest.
 use Rattle.std.specs.Prelude.{ℕ, zero, suc, ◌+◌, ◌/◌, ◌%◌, min, max, Bool, true, false, cond, eqb, List, [], ◌∷◌, ◌++◌, map, drop, Option, Some, None}
-use Rattle.pr_commands.specs.Bytes as command
+use Rattle.pr_base.specs.Bytes as command
 use Rattle.pr_serial.specs.declared.Present.{Present}
 use Rattle.pr_serial.specs.declared.Item.{Item}
 use Rattle.pr_serial.specs.declared.Item.TheVariants.{Attention, Sent}

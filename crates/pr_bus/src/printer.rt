@@ -10,7 +10,7 @@ ghost use Rattle.pr_bus.specs.Talk.{tuned_to};
 ghost use Rattle.pr_bus.specs.Printers.{printer_list, heeding, after_byte, after_freed, IsSamePrinter};
 
 use crate::hearer::Hearer;
-use pr_commands::{LISTEN, UNLISTEN};
+use pr_base::{LISTEN, UNLISTEN};
 use pr_wire::{Choices, Kind};
 
 /// A printer of the bus, present or not.

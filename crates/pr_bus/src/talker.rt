@@ -16,7 +16,7 @@ use crate::frame::push_frame;
 use crate::hearer::joined;
 use crate::lines::{Lines, greatest, least, push, push_answer, push_call, push_due};
 use crate::printer::TimedPrinter;
-use pr_commands::UNLISTEN;
+use pr_base::UNLISTEN;
 use pr_serial::NoMemory;
 use pr_serial::laws::items_make_listeners;
 use pr_wire::{Choices, Edge, Kind};

@@ -7,7 +7,7 @@ use Rattle.std.specs.Prelude.{◌↔◌, map}
 use Rattle.std.specs.List.{All, position, position_or_len}
 use Rattle.pr_page.specs.Page.{IsPage}
 use Rattle.pr_page.specs.declared.input.Input.TheVariants.{Byte, Select}
-use Rattle.pr_options.specs.declared.format.Format.{Format}
+use Rattle.pr_render.specs.declared.format.Format.{Format}
 use Rattle.pr_cli.specs.Raw.{raw_inputs}
 use Rattle.pr_c.specs.Answers.{IsPaperText, Stopping}
 use Rattle.pr_c.specs.Laws.{selection_of}

@@ -1,7 +1,7 @@
 -- What is made in memory, and handed to the caller.
 use Rattle.std.proofs.Common.{◌≡◌, ℕ, List, [], Bool, Some, None, Result, Ok, Err, refl, sym, subst}
-use Rattle.pr_options.specs.declared.format.Format.{Format}
-use Rattle.pr_options.specs.declared.format.TraceFormat.{TraceFormat}
+use Rattle.pr_render.specs.declared.format.Format.{Format}
+use Rattle.pr_capture.specs.declared.format.TraceFormat.{TraceFormat}
 use Rattle.pr_basic.specs.Runs.{run_of}
 use Rattle.pr_cli.specs.Bus.{AnswersBus}
 use Rattle.pr_cli.specs.Check.{AnswersCheck}

@@ -14,8 +14,8 @@ use Rattle.pr_wire.specs.declared.text.TraceFault.TheVariants as trace
 use Rattle.pr_channels.specs.declared.faults.Stop.{Stop}
 use Rattle.pr_channels.specs.Stops.{stop_number}
 use Rattle.pr_system.specs.declared.outcome.Outcome.{Outcome}
-use Rattle.pr_options.specs.declared.format.Format.{Format}
-use Rattle.pr_options.specs.declared.format.TraceFormat.{TraceFormat}
+use Rattle.pr_render.specs.declared.format.Format.{Format}
+use Rattle.pr_capture.specs.declared.format.TraceFormat.{TraceFormat}
 use Rattle.pr_cli.specs.Bus.{bus_text}
 use Rattle.pr_cli.specs.Check.{IsBadText, IsFaultyText, IsLawfulText, trace_limit}
 use Rattle.pr_cli.specs.FrameText.{frame_lines}

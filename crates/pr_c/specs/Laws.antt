@@ -1,7 +1,7 @@
 -- Laws: what is printed of bytes in one character set is printed of inputs. src/printing.rt proves it.
 use Rattle.std.specs.Prelude.{ℕ, ◌<◌, ◌↔◌, Bool, true, false, List, ◌∷◌}
 use Rattle.std.specs.List.{All}
-use Rattle.pr_options.specs.declared.format.Format.{Format}
+use Rattle.pr_render.specs.declared.format.Format.{Format}
 use Rattle.pr_c.specs.Answers.{IsPaperText, Stopping}
 use Rattle.pr_c.specs.Printing.{IsPrintedText}
 

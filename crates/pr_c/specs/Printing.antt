@@ -5,7 +5,7 @@ use Rattle.pr_page.specs.Page.{IsPage}
 use Rattle.pr_page.specs.declared.input.Input.{Input}
 use Rattle.pr_page.specs.declared.input.Input.TheVariants.{Byte, Select}
 use Rattle.pr_page.specs.declared.paper.Paper.{Paper}
-use Rattle.pr_options.specs.declared.format.Format.{Format}
+use Rattle.pr_render.specs.declared.format.Format.{Format}
 use Rattle.pr_cli.specs.Formats.{text_in}
 use Rattle.pr_cli.specs.Raw.{four_alone, printed_on}
 use Rattle.pr_cli.specs.declared.fault.CliFault.{CliFault}

@@ -3,10 +3,10 @@ use Rattle.std.specs.Prelude.{ℕ, ◌==◌, Bool, true, false, if◌then◌else
 use Rattle.pr_serial.specs.declared.Present.{Present}
 use Rattle.pr_basic.specs.declared.session.StatusMode.{StatusMode}
 use Rattle.pr_basic.specs.declared.session.StatusMode.TheVariants as mode
-use Rattle.pr_options.specs.declared.format.Format.{Format}
-use Rattle.pr_options.specs.declared.format.Format.TheVariants as format
-use Rattle.pr_options.specs.declared.format.TraceFormat.{TraceFormat}
-use Rattle.pr_options.specs.declared.format.TraceFormat.TheVariants as trace
+use Rattle.pr_render.specs.declared.format.Format.{Format}
+use Rattle.pr_render.specs.declared.format.Format.TheVariants as format
+use Rattle.pr_capture.specs.declared.format.TraceFormat.{TraceFormat}
+use Rattle.pr_capture.specs.declared.format.TraceFormat.TheVariants as trace
 
 -- the printers present: none, printer 4, printer 5, both
 abbrev pub present_of : ℕ → Option Present

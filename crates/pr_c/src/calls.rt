@@ -9,8 +9,10 @@ use crate::stops::with_stop;
 use crate::told::{Told, give};
 use pr_basic::StatusMode;
 use pr_bus::Delays;
+use pr_capture::TraceFormat;
 use pr_channels::Stop;
-use pr_cli::{CliFault, Format, TraceFormat, Watched, bus_over, check_over, pages_over, raw_over};
+use pr_cli::{CliFault, Watched, bus_over, check_over, pages_over, raw_over};
+use pr_render::Format;
 use pr_serial::Present;
 use std::alloc::Global;
 

@@ -8,8 +8,9 @@ ghost use Rattle.pr_c.specs.Laws.{BytesAreInputs};
 ghost use Rattle.pr_c.specs.Printing.{IsInputsText, TellsInputs, input_of, is_no_input, inputs_limit};
 
 use crate::told::{Told, give};
-use pr_cli::{CliFault, Format, text_in_format};
+use pr_cli::{CliFault, text_in_format};
 use pr_page::{Input, NoMemory, Paper, Printer, Sequence};
+use pr_render::Format;
 use pr_serial::Present;
 use pr_system::Outcome;
 use std::alloc::{AllocError, Global};

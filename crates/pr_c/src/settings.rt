@@ -4,7 +4,8 @@ ghost use Rattle.std.specs.Prelude.{◌≡◌};
 ghost use Rattle.pr_c.specs.Settings.{format_of, lower_of, mode_of, present_of, trace_format_of};
 
 use pr_basic::StatusMode;
-use pr_cli::{Format, TraceFormat};
+use pr_capture::TraceFormat;
+use pr_render::Format;
 use pr_serial::Present;
 
 /// The printers present: 0 none, 1 printer 4, 2 printer 5, 3 both.

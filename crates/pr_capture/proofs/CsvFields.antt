@@ -1,7 +1,7 @@
 -- Fields of a line, one by one.
 use Rattle.std.proofs.Common.{◌≡◌, ℕ, zero, suc, ◌+◌, ◌-◌, ◌<◌, ◌≤◌, ◌==◌, Bool, true, false, List, [], ◌∷◌, length, take, drop, refl, ap, subst, ◌∙◌, arith, Some, None}
 use Rattle.std.specs.Prelude.{◌&&◌, not, if◌then◌else◌}
-use Rattle.pr_text.specs.Lines.{onto_first}
+use Rattle.pr_base.specs.Lines.{onto_first}
 use Rattle.pr_capture.specs.Csv.{field_at, fields_of}
 use Rattle.pr_capture.specs.CsvSteps.{field_len}
 

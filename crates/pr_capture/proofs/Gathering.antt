@@ -3,12 +3,12 @@ use Rattle.std.proofs.Common.{◌≡◌, ℕ, ◌-◌, ◌==◌, Bool, true, fal
 use Rattle.std.specs.Prelude.{map}
 use Rattle.pr_wire.specs.declared.Levels.{Levels}
 use Rattle.pr_wire.specs.declared.Edge.{Edge}
-use Rattle.pr_capture.specs.declared.gatherer.Gatherer.{Gatherer}
+use Rattle.pr_capture.specs.declared.edge_detector.EdgeDetector.{EdgeDetector}
 use Rattle.pr_capture.specs.Samples.{changes_after, counted_from, edges_of, is_new, last_at_each, listed}
 use Rattle.pr_capture.specs.Gathering.{edge_at_end, edge_before, still_to_come, told_with, GathersMore, HasGathered}
 
 -- nothing was taken
-pub gathered-none : (start : ℕ) (g : Gatherer) → g.start ≡ start → g.held ≡ None → g.told ≡ None → HasGathered start [] [] g
+pub gathered-none : (start : ℕ) (g : EdgeDetector) → g.start ≡ start → g.held ≡ None → g.told ≡ None → HasGathered start [] [] g
 unfolding edges_of
 gathered-none start g s h t = λ more. rw (s, h, t) refl
 
@@ -35,14 +35,14 @@ step None told n ns = refl
 step (Some h) told n ns = held-one h told (last_at_each (n ∷ ns)) (h.time == n.time)
 
 -- what is still to come, with one sample more
-still-one : (old new : Gatherer) (s : Edge) (result : Option Edge) → new.start ≡ old.start
+still-one : (old new : EdgeDetector) (s : Edge) (result : Option Edge) → new.start ≡ old.start
     → new.held ≡ Some (counted_from old.start s) → new.told ≡ told_with old.told result → result ≡ edge_before old.held old.told (s.time - old.start)
     → (more : List Edge) → still_to_come old (s ∷ more) ≡ listed result ++ still_to_come new more
 still-one old new s result a b c d more =
     rw (a, b, c, d) (step old.held old.told (counted_from old.start s) (map (counted_from old.start) more))
 
 -- one sample more
-pub gathered-more : (old new : Gatherer) (s : Edge) (result : Option Edge) → new.start ≡ old.start
+pub gathered-more : (old new : EdgeDetector) (s : Edge) (result : Option Edge) → new.start ≡ old.start
     → new.held ≡ Some (counted_from old.start s) → new.told ≡ told_with old.told result
     → result ≡ edge_before old.held old.told (s.time - old.start) → GathersMore (s ∷ []) (listed result) old new
 gathered-more old new s result a b c d = λ start samples edges h more.
@@ -62,7 +62,7 @@ last-one None told = refl
 last-one (Some h) told = at-end h (is_new told h.levels)
 
 -- the samples end
-pub gathered-all : (g : Gatherer) (result : Option Edge) → result ≡ edge_at_end g.held g.told
+pub gathered-all : (g : EdgeDetector) (result : Option Edge) → result ≡ edge_at_end g.held g.told
     → (start : ℕ) (samples edges : List Edge) → HasGathered start samples edges g → edges_of start samples ≡ edges ++ listed result
 gathered-all g result r start samples edges h =
     ap (edges_of start) (sym (append-nil samples)) ∙ (h [] ∙ ap (λ v. edges ++ v) (rw r (last-one g.held g.told)))

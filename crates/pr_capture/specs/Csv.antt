@@ -5,8 +5,8 @@ use Rattle.std.specs.Prelude.{ℕ, zero, suc, ◌+◌, ◌-◌, ◌*◌, ◌==�
 use Rattle.std.specs.List.{list_all, prefix_len}
 use Rattle.pr_wire.specs.declared.Edge.{Edge}
 use Rattle.pr_wire.specs.Levels.{edge_at}
-use Rattle.pr_text.specs.Digits.{is_digit}
-use Rattle.pr_text.specs.Lines.{lines_of, onto_first}
+use Rattle.pr_base.specs.Digits.{is_digit}
+use Rattle.pr_base.specs.Lines.{lines_of, onto_first}
 use Rattle.pr_capture.specs.declared.csv.Columns.{Columns}
 use Rattle.pr_capture.specs.declared.fault.Wire.{Wire}
 use Rattle.pr_capture.specs.declared.fault.Wire.TheVariants.{Atn, Clock, Data}

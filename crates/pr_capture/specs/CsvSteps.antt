@@ -3,7 +3,7 @@
 use Rattle.std.specs.Prelude.{◌≡◌, ◌⊎◌, ℕ, ◌+◌, ◌==◌, ◌&&◌, Bool, true, false, not, List, [], ◌∷◌, ◌++◌, if◌then◌else◌, Option, Some, None, Result, Ok, Err}
 use Rattle.std.specs.List.{list_all}
 use Rattle.pr_wire.specs.declared.Edge.{Edge}
-use Rattle.pr_text.specs.Lines.{lines_of}
+use Rattle.pr_base.specs.Lines.{lines_of}
 use Rattle.pr_capture.specs.declared.csv.RowPlace.{RowPlace}
 use Rattle.pr_capture.specs.declared.csv.RowPlace.TheVariants.{Names, Rows}
 use Rattle.pr_capture.specs.declared.csv.CsvReader.{CsvReader}

@@ -1,9 +1,9 @@
--- Linking words: which samples a gatherer has taken, and which edges it has given. The clauses of `Gatherer` say all that a
+-- Linking words: which samples a gatherer has taken, and which edges it has given. The clauses of `EdgeDetector` say all that a
 -- caller needs of them. No reader needs to believe them.
 use Rattle.std.specs.Prelude.{◌≡◌, ℕ, ◌==◌, List, ◌++◌, map, Option, Some, None, if◌then◌else◌}
 use Rattle.pr_wire.specs.declared.Levels.{Levels}
 use Rattle.pr_wire.specs.declared.Edge.{Edge}
-use Rattle.pr_capture.specs.declared.gatherer.Gatherer.{Gatherer}
+use Rattle.pr_capture.specs.declared.edge_detector.EdgeDetector.{EdgeDetector}
 use Rattle.pr_capture.specs.Samples.{changes_after, counted_from, edges_of, is_new, last_at_each, listed}
 
 -- a sample held makes an edge, if the next one stands elsewhere and its levels are new
@@ -22,20 +22,20 @@ told_with told None = told
 told_with told (Some e) = Some e.levels
 
 -- the edges that come yet, of the sample held and those that follow
-abbrev pub still_to_come : Gatherer → List Edge → List Edge
+abbrev pub still_to_come : EdgeDetector → List Edge → List Edge
 still_to_come g more = changes_after g.told (last_at_each (listed g.held ++ map (counted_from g.start) more))
 
 -- these samples were taken, and these edges were given: whatever samples follow, all edges are these and those that come yet
-abbrev pub HasGathered : (start : ℕ) (samples edges : List Edge) → Gatherer → Type 0
+abbrev pub HasGathered : (start : ℕ) (samples edges : List Edge) → EdgeDetector → Type 0
 HasGathered start samples edges g = (more : List Edge) → edges_of start (samples ++ more) ≡ edges ++ still_to_come g more
 
 -- the gatherer has taken these samples too, behind whatever it had taken, and has given these edges
-abbrev pub GathersMore : (samples edges : List Edge) (old new : Gatherer) → Type 0
+abbrev pub GathersMore : (samples edges : List Edge) (old new : EdgeDetector) → Type 0
 GathersMore samples edges old new =
     (start : ℕ) (before given : List Edge) → HasGathered start before given old → HasGathered start (before ++ samples) (given ++ edges) new
 
 -- whatever follows the samples that a gatherer has taken, the edges that it has given come first
 abbrev pub GivenEdgesComeFirst : Type 0
 GivenEdgesComeFirst =
-    (start : ℕ) (samples more given : List Edge) (g : Gatherer) → HasGathered start samples given g
+    (start : ℕ) (samples more given : List Edge) (g : EdgeDetector) → HasGathered start samples given g
     → (later : List Edge) × (edges_of start (samples ++ more) ≡ given ++ later)

@@ -2,13 +2,13 @@
 
 ghost use Rattle.std.specs.Prelude.{◌≡◌, if◌then◌else◌, None};
 ghost use Rattle.std.specs.List.{list_all};
-ghost use Rattle.pr_text.specs.Digits.{is_digit};
+ghost use Rattle.pr_base.specs.Digits.{is_digit};
 ghost use Rattle.pr_capture.specs.VcdReading.{all_known, is_blank, level_behind, level_if, sample_in, time_at, whole_micros, without_level};
 
 use crate::csv::number_from;
 use crate::fault::{CaptureFault, Wire};
 use crate::signals::level_in;
-use pr_text::is_digit;
+use pr_base::is_digit;
 use pr_wire::{Edge, Levels};
 
 /// A microsecond, in femtoseconds.

@@ -9,7 +9,7 @@ ghost use Rattle.pr_capture.specs.declared.fault.CaptureFault.TheVariants.{NoMem
 
 use crate::fault::{CaptureFault, Wire};
 use crate::signals::{Signals, are_framing, is_named, level_in, without_front};
-use pr_text::digit_count;
+use pr_base::digit_count;
 use pr_wire::{Edge, Levels};
 use std::alloc::Global;
 

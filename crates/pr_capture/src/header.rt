@@ -8,7 +8,7 @@ ghost use Rattle.pr_capture.specs.VcdSteps.{code_of, codes_of, words_in};
 
 use crate::entries::is_word;
 use crate::signals::{Signals, is_named};
-use pr_text::digit_count;
+use pr_base::digit_count;
 use pr_wire::NoMemory;
 use std::alloc::Global;
 

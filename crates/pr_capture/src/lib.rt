@@ -4,9 +4,10 @@
 
 mod changes;
 mod csv;
+mod edge_detector;
 mod entries;
 mod fault;
-mod gatherer;
+mod format;
 mod header;
 mod known;
 mod laws;
@@ -16,8 +17,9 @@ mod vcd;
 mod vcd_reader;
 
 pub use csv::CsvReader;
+pub use edge_detector::EdgeDetector;
 pub use fault::{CaptureFault, Wire};
-pub use gatherer::Gatherer;
+pub use format::{Source, TraceFormat, TraceInput};
 pub use laws::{given_edges_come_first, given_samples_come_first};
 pub use signals::Signals;
 pub use vcd::{VcdWriter, push_vcd_head, vcd_adds_up, write_vcd};

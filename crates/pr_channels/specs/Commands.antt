@@ -1,6 +1,6 @@
 -- Trusted: what is put on the bus for a file.
 use Rattle.std.specs.Prelude.{ℕ, ◌+◌, Option, Some, None, is_some, List, [], ◌∷◌, if◌then◌else◌}
-use Rattle.pr_commands.specs.Bytes as command
+use Rattle.pr_base.specs.Bytes as command
 use Rattle.pr_serial.specs.Elements.{Element, Attention}
 use Rattle.pr_channels.specs.declared.file.File.{File}
 

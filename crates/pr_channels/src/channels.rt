@@ -2,7 +2,7 @@
 
 ghost use Rattle.std.specs.Prelude.{◌≡◌, ◌+◌, ◌≤◌, ◌<◌, ◌^◌, ◌⊎◌, true, false, None, Some, [], ◌∷◌, ◌++◌, length, ◌≢◌, Err, IfErr, IsOk, OnOk, OnErr};
 ghost use Rattle.std.specs.Option.{ForSome};
-ghost use Rattle.pr_commands.specs.Bytes as command;
+ghost use Rattle.pr_base.specs.Bytes as command;
 ghost use Rattle.pr_channels.specs.Files.{file_at, open_stop, without_file};
 ghost use Rattle.pr_channels.specs.Calls.{adding};
 ghost use Rattle.pr_channels.specs.Commands.{second_from, closing};
@@ -11,7 +11,7 @@ use crate::faults::{Fault, Stop};
 use crate::file_table::FileTable;
 use crate::laws::elements_add_up;
 use crate::sender::Sender;
-use pr_commands::{LISTEN, SECONDARY};
+use pr_base::{LISTEN, SECONDARY};
 use pr_serial::{NoMemory, Serial};
 use std::alloc::Global;
 use std::marker::Model;

@@ -1,7 +1,7 @@
 //! What goes out on the bus: a byte is held back until it is known whether it is the last one.
 
 ghost use Rattle.std.specs.Prelude.{◌≡◌, ◌+◌, ◌≤◌, ◌<◌, ◌^◌, ◌⊎◌, false, true, None, Some, [], ◌∷◌, ◌++◌, length, OnOk, OnErr, IsSome, IsNone, if◌then◌else◌};
-ghost use Rattle.pr_commands.specs.Bytes as command;
+ghost use Rattle.pr_base.specs.Bytes as command;
 ghost use Rattle.pr_serial.specs.Sendable.{MaySend};
 ghost use Rattle.pr_serial.specs.declared.Item.TheVariants as item;
 ghost use Rattle.pr_serial.specs.Elements.{Attention, Byte};
@@ -9,7 +9,7 @@ ghost use Rattle.pr_serial.specs.Answers.{is_lacking};
 ghost use Rattle.pr_channels.specs.Commands.{unlisten};
 ghost use Rattle.pr_channels.specs.Sending.{putting, flushed_as, SenderKeepsBus};
 
-use pr_commands::{CLOSE, LISTEN, UNLISTEN};
+use pr_base::{CLOSE, LISTEN, UNLISTEN};
 use pr_serial::laws::{answers_add_up, elements_send_items};
 use pr_serial::{NoMemory, Serial};
 use std::alloc::AllocError;

@@ -7,9 +7,9 @@ use Rattle.std.proofs.KnownBytes.{Appends-nil, Consumes-nil, Consumes-trans}
 use Rattle.pr_wire.specs.declared.Edge.{Edge}
 use Rattle.pr_wire.specs.declared.WaveFault.{WaveFault}
 use Rattle.pr_wire.specs.Table.{fault_of}
-use Rattle.pr_options.specs.declared.format.Report.{Report}
-use Rattle.pr_options.specs.declared.format.Report.TheVariants as report
-use Rattle.pr_options.specs.declared.format.TraceInput.{TraceInput}
+use Rattle.pr_report.specs.declared.report.Report.{Report}
+use Rattle.pr_report.specs.declared.report.Report.TheVariants as report
+use Rattle.pr_capture.specs.declared.format.TraceInput.{TraceInput}
 use Rattle.pr_cli.specs.Check.{trace_limit}
 use Rattle.pr_cli.specs.Report.{edges_made, refusal, AnswersReport, IsReport, IsWhole, MayBeWritten, Reports, SaysSamples, WritesReport}
 use Rattle.pr_cli.specs.Reported.{AreLines, EndsInput, EndsNoted, EndsSamples, GivesMore, GivesReport, HasGiven, HasHeard, HasNoted, HearsMore, IsOwnFault, IsRefused, IsReportOf, IsTraceFault, NotesBlock, RefusesInput, WritesText}

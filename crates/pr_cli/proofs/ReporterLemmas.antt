@@ -11,15 +11,15 @@ use Rattle.pr_wire.specs.declared.text.TraceFault.TheVariants as trace
 use Rattle.pr_wire.specs.Laws.{LawfulIsFaultless}
 use Rattle.pr_wire.specs.Pieces.{frames_of, Spells}
 use Rattle.pr_wire.specs.Table.{fault_of}
-use Rattle.pr_story.specs.declared.storyteller.Storyteller.{Storyteller}
-use Rattle.pr_story.specs.declared.timed_frame.TimedFrame.{TimedFrame}
-use Rattle.pr_story.specs.Laws.{TracesTellWhatTheySpell}
-use Rattle.pr_story.specs.Moments.{frame_told, timed_frames}
-use Rattle.pr_story.specs.StoryText.{is_data, story_line, story_lines, story_of}
-use Rattle.pr_story.specs.Telling.{HasTold}
-use Rattle.pr_options.specs.declared.format.Report.{Report}
-use Rattle.pr_options.specs.declared.format.Report.TheVariants as report
-use Rattle.pr_options.specs.declared.format.TraceInput.{TraceInput}
+use Rattle.pr_report.specs.declared.frame_timer.FrameTimer.{FrameTimer}
+use Rattle.pr_report.specs.declared.timed_frame.TimedFrame.{TimedFrame}
+use Rattle.pr_report.specs.Laws.{TracesTellWhatTheySpell}
+use Rattle.pr_report.specs.Moments.{frame_told, timed_frames}
+use Rattle.pr_report.specs.StoryText.{is_data, story_line, story_lines, story_of}
+use Rattle.pr_report.specs.Telling.{HasTold}
+use Rattle.pr_report.specs.declared.report.Report.{Report}
+use Rattle.pr_report.specs.declared.report.Report.TheVariants as report
+use Rattle.pr_capture.specs.declared.format.TraceInput.{TraceInput}
 use Rattle.pr_cli.specs.FrameText.{frame_line, frame_lines}
 use Rattle.pr_cli.specs.Report.{refusal, IsReport}
 use Rattle.pr_cli.specs.Reported.{data_behind, last_line, lines_of_frame, lines_of_frames, AreLines, EndsReport, EndsSamples, HasEnded, HasHeard, HasMade, HasReported, IsOwnFault, IsTraceFault, MakesAll, MakesMore, ReportsMore, TellsSoFar}
@@ -66,7 +66,7 @@ data_with fs None = ap (data_behind false) (append-nil fs)
 data_with fs (Some f) = data_more false fs f
 
 -- an edge that the storyteller takes
-told_more : (edges : List Edge) (given : List TimedFrame) (e : Edge) (f : Option TimedFrame) (old new : Storyteller) (a b : Option WaveFault) → a ≡ None → b ≡ None
+told_more : (edges : List Edge) (given : List TimedFrame) (e : Edge) (f : Option TimedFrame) (old new : FrameTimer) (a b : Option WaveFault) → a ≡ None → b ≡ None
     → ((es : List Edge) (gs : List TimedFrame) → HasTold es gs old → HasTold (es ++ e ∷ []) (gs ++ option_to_list f) new)
     → TellsSoFar edges given old a → TellsSoFar (edges ++ e ∷ []) (given ++ option_to_list f) new b
 told_more edges given e f old new None None n m told t = told edges given t
@@ -97,7 +97,7 @@ edge_more old new e f n m r l b told = λ report edges h. record {
 }
 
 -- an edge that is refused
-told_refused : (edges : List Edge) (given : List TimedFrame) (e : Edge) (w : WaveFault) (old new : Storyteller) (a b : Option WaveFault) → a ≡ None → b ≡ Some w
+told_refused : (edges : List Edge) (given : List TimedFrame) (e : Edge) (w : WaveFault) (old new : FrameTimer) (a b : Option WaveFault) → a ≡ None → b ≡ Some w
     → ((es more : List Edge) (gs : List TimedFrame) → HasTold es gs old → fault_of (es ++ e ∷ more) ≡ Some w)
     → ((es more : List Edge) (gs : List TimedFrame) → HasTold es gs old → timed_frames (es ++ e ∷ more) ≡ gs)
     → TellsSoFar edges given old a → TellsSoFar (edges ++ e ∷ []) given new b
@@ -122,7 +122,7 @@ edge_refused old new e w n m r l b small fault ends = λ report edges h. record 
 }
 
 -- an edge behind a fault
-told_kept : (edges : List Edge) (given : List TimedFrame) (e : Edge) (t : Storyteller) (a : Option WaveFault) → (a ≡ None → ⊥) → TellsSoFar edges given t a → TellsSoFar (edges ++ e ∷ []) given t a
+told_kept : (edges : List Edge) (given : List TimedFrame) (e : Edge) (t : FrameTimer) (a : Option WaveFault) → (a ≡ None → ⊥) → TellsSoFar edges given t a → TellsSoFar (edges ++ e ∷ []) given t a
 told_kept edges given e t None n h = absurd (n refl)
 told_kept edges given e t (Some w) n h = λ more. rw (append_assoc edges (e ∷ []) more) (h (e ∷ more))
 
@@ -156,7 +156,7 @@ reported_none r new a l b n told = record {
     by report.Story = refl
 
 -- edges that have a fault
-fault_known : (edges : List Edge) (given : List TimedFrame) (t : Storyteller) (w : WaveFault) → TellsSoFar edges given t (Some w) → (fault_of edges ≡ Some w) × (timed_frames edges ≡ given)
+fault_known : (edges : List Edge) (given : List TimedFrame) (t : FrameTimer) (w : WaveFault) → TellsSoFar edges given t (Some w) → (fault_of edges ≡ Some w) × (timed_frames edges ≡ given)
 fault_known edges given t w h = let P : List Edge → Type 0 = λ es. (fault_of es ≡ Some w) × (timed_frames es ≡ given) in subst P (append-nil edges) (h [])
 
 pub ended_faulty : (r : FrameReporter) (w : WaveFault) → r.fault ≡ Some w → HasEnded r (Some w)
@@ -267,7 +267,7 @@ if_ok (Ok x) P Q p f = f x p
 if_ok (Err e) P Q p f = tt
 
 -- what a storyteller has taken, in other words
-pub told_as : (old mid new : Storyteller) (e : Edge) (f g : Option TimedFrame) → f ≡ g → new ≡ mid
+pub told_as : (old mid new : FrameTimer) (e : Edge) (f g : Option TimedFrame) → f ≡ g → new ≡ mid
     → ((es : List Edge) (gs : List TimedFrame) → HasTold es gs old → HasTold (es ++ e ∷ []) (gs ++ option_to_list f) mid)
     → (es : List Edge) (gs : List TimedFrame) → HasTold es gs old → HasTold (es ++ e ∷ []) (gs ++ option_to_list g) new
 told_as old mid new e f g a b h es gs k = rw (b, ← a) (h es gs k)

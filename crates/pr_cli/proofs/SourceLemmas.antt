@@ -18,9 +18,9 @@ use Rattle.pr_capture.specs.Recording.{ended, refused, told_behind, Told}
 use Rattle.pr_capture.specs.Samples.{listed}
 use Rattle.pr_capture.specs.VcdReading.{vcd_told}
 use Rattle.pr_capture.specs.VcdSteps as vcd
-use Rattle.pr_options.specs.declared.format.Source.{Source}
-use Rattle.pr_options.specs.declared.format.Source.TheVariants as source
-use Rattle.pr_options.specs.declared.format.TraceInput.{TraceInput}
+use Rattle.pr_capture.specs.declared.format.Source.{Source}
+use Rattle.pr_capture.specs.declared.format.Source.TheVariants as source
+use Rattle.pr_capture.specs.declared.format.TraceInput.{TraceInput}
 use Rattle.pr_cli.specs.Faults.{fault_of_capture, fault_of_trace}
 use Rattle.pr_cli.specs.Report.{IsTold, SaysSamples}
 use Rattle.pr_cli.specs.Reported.{EachTextSaysSamples, EndsInput, GivenSamplesComeFirst, GivesMore, HasGiven, IsOwnFault, RefusesInput}

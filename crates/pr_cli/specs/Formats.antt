@@ -2,11 +2,11 @@
 use Rattle.std.specs.Prelude.{ℕ, List}
 use Rattle.pr_serial.specs.declared.Present.{Present}
 use Rattle.pr_system.specs.declared.outcome.Outcome.{Outcome}
-use Rattle.pr_picture.specs.Plain.{text_of}
-use Rattle.pr_picture.specs.Svg.{svg_of}
+use Rattle.pr_render.specs.Plain.{text_of}
+use Rattle.pr_render.specs.Svg.{svg_of}
 use Rattle.pr_cli.specs.PageText.{page_text}
-use Rattle.pr_options.specs.declared.format.Format.{Format}
-use Rattle.pr_options.specs.declared.format.Format.TheVariants as format
+use Rattle.pr_render.specs.declared.format.Format.{Format}
+use Rattle.pr_render.specs.declared.format.Format.TheVariants as format
 
 -- the page text, lines of 80 columns, or the picture: the last two show the sheets of the printers that are present
 abbrev pub text_in : Format → Present → Outcome → List ℕ

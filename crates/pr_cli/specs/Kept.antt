@@ -1,15 +1,15 @@
 -- Trusted: a reader that keeps what it has read.
 use Rattle.std.specs.Prelude.{◌≡◌, ◌++◌, ℕ, List, Option, Some, option_map, IfSome}
-use Rattle.pr_cli.specs.declared.kept.Kept.{Kept}
+use Rattle.pr_cli.specs.declared.kept.Kept.{TeeReader}
 
 -- the reader inside
-abbrev pub read_from : {R : Type 0} → Kept R → R
+abbrev pub read_from : {R : Type 0} → TeeReader R → R
 read_from k = k.inner
 
 -- all the bytes that have come of it, if they are kept
-abbrev pub kept : {R : Type 0} → Kept R → Option (List ℕ)
+abbrev pub kept : {R : Type 0} → TeeReader R → Option (List ℕ)
 kept k = option_map (λ v. v.items) k.bytes
 
 -- more bytes are kept behind the others, or nothing is kept any more
-abbrev pub KeepsMore : {R : Type 0} → List ℕ → Kept R → Kept R → Type 0
+abbrev pub KeepsMore : {R : Type 0} → List ℕ → TeeReader R → TeeReader R → Type 0
 KeepsMore more before after = IfSome (kept after) (λ bytes. option_map (λ front. front ++ more) (kept before) ≡ Some bytes)

@@ -10,7 +10,7 @@ use Rattle.pr_system.specs.Headline.{empty_paper}
 use Rattle.pr_system.specs.declared.outcome.Outcome.{Outcome}
 use Rattle.pr_cli.specs.Formats.{text_in}
 use Rattle.pr_cli.specs.PartlyWritten.{AppendsFront}
-use Rattle.pr_options.specs.declared.format.Format.{Format}
+use Rattle.pr_render.specs.declared.format.Format.{Format}
 use Rattle.pr_cli.specs.declared.fault.CliFault.{CliFault}
 use Rattle.pr_cli.specs.declared.fault.CliFault.TheVariants.{Script, Trace, Wave, Capture, TooLarge, NoMemory, ReadFailed, WriteFailed}
 

@@ -15,13 +15,13 @@ use Rattle.pr_capture.specs.Csv.{csv_told}
 use Rattle.pr_capture.specs.Recording.{Told}
 use Rattle.pr_capture.specs.Samples.{edges_of}
 use Rattle.pr_capture.specs.VcdReading.{vcd_told}
-use Rattle.pr_story.specs.Moments.{timed_frames}
-use Rattle.pr_story.specs.StoryText.{story_lines, story_of}
-use Rattle.pr_options.specs.declared.format.Report.{Report}
-use Rattle.pr_options.specs.declared.format.Report.TheVariants as report
-use Rattle.pr_options.specs.declared.format.Source.{Source}
-use Rattle.pr_options.specs.declared.format.Source.TheVariants as source
-use Rattle.pr_options.specs.declared.format.TraceInput.{TraceInput}
+use Rattle.pr_report.specs.Moments.{timed_frames}
+use Rattle.pr_report.specs.StoryText.{story_lines, story_of}
+use Rattle.pr_report.specs.declared.report.Report.{Report}
+use Rattle.pr_report.specs.declared.report.Report.TheVariants as report
+use Rattle.pr_capture.specs.declared.format.Source.{Source}
+use Rattle.pr_capture.specs.declared.format.Source.TheVariants as source
+use Rattle.pr_capture.specs.declared.format.TraceInput.{TraceInput}
 use Rattle.pr_cli.specs.Check.{trace_limit}
 use Rattle.pr_cli.specs.FrameText.{frame_lines}
 use Rattle.pr_cli.specs.PartlyWritten.{AppendsFront}

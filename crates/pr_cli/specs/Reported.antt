@@ -10,20 +10,20 @@ use Rattle.pr_wire.specs.declared.text.TraceFault.TheVariants as trace
 use Rattle.pr_wire.specs.Table.{fault_of}
 use Rattle.pr_wire.specs.TraceReading as text
 use Rattle.pr_capture.specs.declared.fault.CaptureFault.TheVariants as capture
-use Rattle.pr_capture.specs.declared.gatherer.Gatherer.{Gatherer}
+use Rattle.pr_capture.specs.declared.edge_detector.EdgeDetector.{EdgeDetector}
 use Rattle.pr_capture.specs.CsvSteps as csv
 use Rattle.pr_capture.specs.VcdSteps as vcd
 use Rattle.pr_capture.specs.Gathering as gathering
 use Rattle.pr_capture.specs.Samples.{edges_of}
-use Rattle.pr_story.specs.declared.storyteller.Storyteller.{Storyteller}
-use Rattle.pr_story.specs.declared.timed_frame.TimedFrame.{TimedFrame}
-use Rattle.pr_story.specs.Moments.{frame_told, timed_frames}
-use Rattle.pr_story.specs.StoryText.{is_data, story_line, story_lines}
-use Rattle.pr_story.specs.Telling.{HasTold, number_taken}
-use Rattle.pr_options.specs.declared.format.Report.{Report}
-use Rattle.pr_options.specs.declared.format.Report.TheVariants as report
-use Rattle.pr_options.specs.declared.format.Source.TheVariants as source
-use Rattle.pr_options.specs.declared.format.TraceInput.{TraceInput}
+use Rattle.pr_report.specs.declared.frame_timer.FrameTimer.{FrameTimer}
+use Rattle.pr_report.specs.declared.timed_frame.TimedFrame.{TimedFrame}
+use Rattle.pr_report.specs.Moments.{frame_told, timed_frames}
+use Rattle.pr_report.specs.StoryText.{is_data, story_line, story_lines}
+use Rattle.pr_report.specs.Telling.{HasTold, number_taken}
+use Rattle.pr_report.specs.declared.report.Report.{Report}
+use Rattle.pr_report.specs.declared.report.Report.TheVariants as report
+use Rattle.pr_capture.specs.declared.format.Source.TheVariants as source
+use Rattle.pr_capture.specs.declared.format.TraceInput.{TraceInput}
 use Rattle.pr_cli.specs.FrameText.{frame_line}
 use Rattle.pr_cli.specs.Report.{edges_made, refusal, IsReport, IsWhole, SaysSamples}
 use Rattle.pr_cli.specs.PartlyWritten.{AppendsFront}
@@ -116,7 +116,7 @@ abbrev pub edges_taken : FrameReporter → ℕ
 edges_taken r = number_taken r.teller
 
 -- these edges end these frames, or have this fault, whatever follows
-abbrev pub TellsSoFar : (edges : List Edge) → (given : List TimedFrame) → Storyteller → Option WaveFault → Type 0
+abbrev pub TellsSoFar : (edges : List Edge) → (given : List TimedFrame) → FrameTimer → Option WaveFault → Type 0
 TellsSoFar edges given teller None = HasTold edges given teller
 TellsSoFar edges given teller (Some w) =
     (more : List Edge) → (fault_of (edges ++ more) ≡ Some w) × (timed_frames (edges ++ more) ≡ given)
@@ -170,7 +170,7 @@ pub record EndsReport (report : Report) (edges : List Edge) (own : Option CliFau
 -- Reports on samples.
 
 -- these edges were made of these samples
-abbrev pub HasGathered : TraceInput → (samples edges : List Edge) → Option Gatherer → Type 0
+abbrev pub HasGathered : TraceInput → (samples edges : List Edge) → Option EdgeDetector → Type 0
 HasGathered input samples edges None = (input.source ≡ source.Text) × (edges ≡ samples)
 HasGathered input samples edges (Some g) =
     ((ss : List Edge) → edges_made input.source input.start ss ≡ edges_of input.start ss)

@@ -3,8 +3,7 @@
 ghost use Rattle.std.specs.Prelude.{[]};
 ghost use Rattle.pr_cli.specs.Reported.{HasMade, MadeEdgesComeFirst, MakesAll, MakesMore};
 
-use pr_capture::{Gatherer, given_edges_come_first};
-use pr_options::{Source, TraceInput};
+use pr_capture::{EdgeDetector, Source, TraceInput, given_edges_come_first};
 use pr_wire::Edge;
 
 /// Makes the edges of an input of what its reader gives, without memory: of the samples of a recording,
@@ -12,7 +11,7 @@ use pr_wire::Edge;
 #[derive(Drop)]
 pub struct EdgeMaker {
     /// Makes edges of samples; None where the input has edges.
-    gatherer: Option<Gatherer>,
+    gatherer: Option<EdgeDetector>,
 }
 
 impl EdgeMaker {
@@ -22,7 +21,7 @@ impl EdgeMaker {
     {
         let gatherer = match input.source {
             Source::Text => None,
-            Source::Vcd | Source::Csv => Some(Gatherer::new(input.start)),
+            Source::Vcd | Source::Csv => Some(EdgeDetector::new(input.start)),
         };
         EdgeMaker { gatherer }
     }

@@ -5,8 +5,8 @@ ghost use Rattle.pr_cli.specs.Formats.{text_in};
 
 use crate::page_text::text_from;
 use crate::text::Text;
-use pr_options::Format;
 use pr_page::NoMemory;
+use pr_render::Format;
 use pr_serial::Present;
 use pr_system::Outcome;
 use std::alloc::Global;
@@ -27,8 +27,8 @@ pub fn text_in_format(
 {
     let text = match format {
         Format::List => return text_from(alloc, outcome),
-        Format::Lines => pr_picture::text(alloc, &outcome, present)?,
-        Format::Picture => pr_picture::svg(alloc, &outcome, present)?,
+        Format::Lines => pr_render::text(alloc, &outcome, present)?,
+        Format::Picture => pr_render::svg(alloc, &outcome, present)?,
     };
     Ok(Text::from_vec(alloc, text))
 }

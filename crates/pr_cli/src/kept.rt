@@ -14,21 +14,21 @@ use std::io::Read;
 /// They are kept while there is memory for them. A read answers as the reader inside does, whether
 /// they are kept or not.
 #[derive(Drop)]
-pub struct Kept<R> {
+pub struct TeeReader<R> {
     inner: R,
     /// All bytes that have come; None where they are not kept, or no longer.
     bytes: Option<Vec<u8>>,
 }
 
-impl<R> Kept<R> {
+impl<R> TeeReader<R> {
     /// A reader of which nothing has been read yet; its bytes will be kept if that is asked for. It
     /// takes no memory.
-    pub fn new(alloc: Global, inner: R, is_kept: bool) -> Kept<R>
+    pub fn new(alloc: Global, inner: R, is_kept: bool) -> TeeReader<R>
         ensures inner { read_from result ≡ inner }
         ensures bytes { kept result ≡ if is_kept then Some [] else None }
     {
         let bytes = if is_kept { Some(Vec::new(alloc)) } else { None };
-        Kept { inner, bytes }
+        TeeReader { inner, bytes }
     }
 
     /// Keeps more bytes behind the others, if those are kept and there is memory.
@@ -44,7 +44,7 @@ impl<R> Kept<R> {
     }
 }
 
-impl<R: Drop> Kept<R> {
+impl<R: Drop> TeeReader<R> {
     /// All the bytes that have come of the reader. None where they were not to be kept, or where memory
     /// was refused for them.
     pub fn into_bytes(self) -> Option<Vec<u8>>
@@ -54,7 +54,7 @@ impl<R: Drop> Kept<R> {
     }
 }
 
-impl<R: Read> Read for Kept<R> {
+impl<R: Read> Read for TeeReader<R> {
     ghost remaining = { λ k. R.remaining (read_from k) };
 
     fn read(&mut self, buf: &mut [u8]) -> io::Result<usize>

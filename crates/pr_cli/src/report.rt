@@ -2,7 +2,7 @@
 
 ghost use Rattle.std.specs.Prelude.{◌≡◌, ◌+◌, ◌^◌, ◌<◌, ◌≤◌, ◌↔◌, length, false, true, None, Some, IfErr, IfOk, IfSome, IsErrOf, OnErr, OnOk};
 ghost use Rattle.std.specs.Option.{option_to_list};
-ghost use Rattle.pr_options.specs.declared.format.Report.{Report};
+ghost use Rattle.pr_report.specs.declared.report.Report.{Report};
 ghost use Rattle.pr_cli.specs.Check.{trace_limit};
 ghost use Rattle.pr_cli.specs.Report.{AnswersReport, IsReportFault, ReadsAll, WritesNoReport};
 ghost use Rattle.pr_cli.specs.Reported.{EndsNoted, GivesReport, HasReadAll, HearsMore, IsNoReport, IsRefused, NotesBlock, WritesText, edges_heard, lines_read};
@@ -14,7 +14,8 @@ use crate::read_write::{BLOCK, WriteFault, write_whole};
 use crate::reporter::{ReportText, TraceReporter};
 use crate::source_reader::SourceReader;
 use crate::watched::Watched;
-use pr_options::{Report, TraceInput};
+use pr_capture::TraceInput;
+use pr_report::Report;
 use pr_wire::Edge;
 use std::alloc::{AllocError, Global};
 use std::io::{Read, Write};

@@ -3,15 +3,15 @@
 ghost use Rattle.std.specs.Prelude.{◌≡◌, ◌+◌, ◌^◌, ◌<◌, ◌≤◌, ◌∷◌, ◌++◌, [], List, IfOk, OnOk};
 ghost use Rattle.std.specs.Option.{option_to_list};
 ghost use Rattle.pr_wire.specs.declared.Edge.{Edge};
-ghost use Rattle.pr_options.specs.declared.format.Report.{Report};
+ghost use Rattle.pr_report.specs.declared.report.Report.{Report};
 ghost use Rattle.pr_cli.specs.Report.{refusal};
 ghost use Rattle.pr_cli.specs.Reported.{AddsLines, EndsReport, EndsSamples, HasEnded, HasHeard, HasReported, HearsMore, ReportsMore, edges_heard, edges_taken, last_line};
 
 use crate::edge_maker::EdgeMaker;
 use crate::fault::CliFault;
 use crate::frame_text::push_frame;
-use pr_options::{Report, TraceInput};
-use pr_story::{Storyteller, TimedFrame, frames_are_told, is_data, push_story_line};
+use pr_capture::TraceInput;
+use pr_report::{FrameTimer, Report, TimedFrame, frames_are_told, is_data, push_story_line};
 use pr_wire::{Edge, WaveFault, lawful_traces};
 use std::alloc::{AllocError, Global};
 
@@ -28,7 +28,7 @@ pub struct ReportText {
 #[derive(Drop)]
 pub struct FrameReporter {
     report: Report,
-    teller: Storyteller,
+    teller: FrameTimer,
     /// Whether the last frame is a data byte.
     behind_data: bool,
     fault: Option<WaveFault>,
@@ -43,7 +43,7 @@ impl FrameReporter {
     {
         FrameReporter {
             report,
-            teller: Storyteller::new(),
+            teller: FrameTimer::new(),
             behind_data: false,
             fault: None,
             lines: Vec::new(alloc),

@@ -4,8 +4,7 @@ ghost use Rattle.std.specs.Prelude.{◌+◌, ◌^◌, ◌<◌, ◌≤◌, [], le
 ghost use Rattle.pr_cli.specs.Reported.{EachTextSaysSamples, EndsInput, GivenSamplesComeFirst, GivesMore, HasGiven, RefusesInput, lines_read};
 
 use crate::fault::CliFault;
-use pr_capture::{CsvReader, VcdReader, given_samples_come_first};
-use pr_options::{Source, TraceInput};
+use pr_capture::{CsvReader, Source, TraceInput, VcdReader, given_samples_come_first};
 use pr_wire::{Edge, TraceReader, given_edges_come_first, trace_texts};
 use std::alloc::Global;
 

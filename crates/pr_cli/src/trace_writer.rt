@@ -3,8 +3,7 @@
 ghost use Rattle.std.specs.Prelude.{◌≡◌, None, IfOk, OnOk};
 ghost use Rattle.pr_cli.specs.Traced.{edges_in, end_in, format_of, head_in, last_in, last_of};
 
-use pr_capture::{VcdWriter, push_vcd_head};
-use pr_options::TraceFormat;
+use pr_capture::{TraceFormat, VcdWriter, push_vcd_head};
 use pr_wire::{Edge, NoMemory, write_trace};
 use std::alloc::Global;
 

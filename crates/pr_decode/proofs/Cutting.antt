@@ -3,26 +3,26 @@ use Rattle.std.proofs.Common.{◌≡◌, ℕ, Bool, true, false, not, ◌&&◌, 
 use Rattle.pr_wire.specs.declared.Edge.{Edge}
 use Rattle.pr_wire.specs.Table.{same}
 use Rattle.pr_decode.specs.Readings.{first_late, is_late}
-use Rattle.pr_decode.specs.Stretches.{Stretch, begun, calls, goes_on, longer, stretches_from}
+use Rattle.pr_decode.specs.Stretches.{ClockPhase, begun, calls, goes_on, longer, stretches_from}
 
 -- an edge goes on with a stretch, or ends it
-pub stretches-on : (s : Stretch) (last e : Edge) (es : List Edge) → goes_on s.first last e ≡ true
+pub stretches-on : (s : ClockPhase) (last e : Edge) (es : List Edge) → goes_on s.first last e ≡ true
     → stretches_from s last (e ∷ es) ≡ stretches_from (longer s e) e es
 stretches-on s last e es h =
     ap (λ v. if v then stretches_from (longer s e) e es else s ∷ stretches_from (begun (calls last e) e) e es) h
 
-pub stretches-off : (s : Stretch) (last e : Edge) (es : List Edge) → goes_on s.first last e ≡ false
+pub stretches-off : (s : ClockPhase) (last e : Edge) (es : List Edge) → goes_on s.first last e ≡ false
     → stretches_from s last (e ∷ es) ≡ s ∷ stretches_from (begun (calls last e) e) e es
 stretches-off s last e es h =
     ap (λ v. if v then stretches_from (longer s e) e es else s ∷ stretches_from (begun (calls last e) e) e es) h
 
 -- the first stretch is the one that has begun, with further edges
-pub record Head (s : Stretch) (ss : List Stretch) : Type 0 where
+pub record Head (s : ClockPhase) (ss : List ClockPhase) : Type 0 where
   pub more : List Edge
-  pub behind : List Stretch
+  pub behind : List ClockPhase
   pub is : ss ≡ record s { rest = s.rest ++ more } ∷ behind
 
-pub head-of : (s : Stretch) (last : Edge) (es : List Edge) → Head s (stretches_from s last es)
+pub head-of : (s : ClockPhase) (last : Edge) (es : List Edge) → Head s (stretches_from s last es)
 head-of s last [] =
     record { more = []; behind = []; is = ap (λ l. record s { rest = l } ∷ []) (sym (append-nil s.rest)) }
 head-of s last (e ∷ es) = by (goes_on s.first last e) refl (head-of (longer s e) e es)
@@ -41,7 +41,7 @@ head-of s last (e ∷ es) = by (goes_on s.first last e) refl (head-of (longer s 
     }
 
 -- a call ends a stretch
-pub calls-off : (s : Stretch) (last e : Edge) → calls last e ≡ true → goes_on s.first last e ≡ false
+pub calls-off : (s : ClockPhase) (last e : Edge) → calls last e ≡ true → goes_on s.first last e ≡ false
 calls-off s last e h = by (same e.levels.clock s.first.levels.clock) (calls last e) h
   where
     by : (x y : Bool) → y ≡ true → (x && not y) ≡ false
@@ -50,7 +50,7 @@ calls-off s last e h = by (same e.levels.clock s.first.levels.clock) (calls last
     by x false k = absurd (cc)
 
 -- where no call ends a stretch, CLOCK does
-pub clock-turns : (s : Stretch) (last e : Edge) → goes_on s.first last e ≡ false → calls last e ≡ false
+pub clock-turns : (s : ClockPhase) (last e : Edge) → goes_on s.first last e ≡ false → calls last e ≡ false
     → same e.levels.clock s.first.levels.clock ≡ false
 clock-turns s last e h k = by (same e.levels.clock s.first.levels.clock) (calls last e) h k
   where
@@ -59,7 +59,7 @@ clock-turns s last e h k = by (same e.levels.clock s.first.levels.clock) (calls 
     by true true p q = absurd (cc)
     by true false p q = absurd (cc)
 
-pub clock-rises : (s : Stretch) (last e : Edge) → goes_on s.first last e ≡ false → calls last e ≡ false → s.first.levels.clock ≡ false
+pub clock-rises : (s : ClockPhase) (last e : Edge) → goes_on s.first last e ≡ false → calls last e ≡ false → s.first.levels.clock ≡ false
     → e.levels.clock ≡ true
 clock-rises s last e h k m = by e.levels.clock s.first.levels.clock (clock-turns s last e h k) m
   where
@@ -68,7 +68,7 @@ clock-rises s last e h k m = by e.levels.clock s.first.levels.clock (clock-turns
     by false false p q = absurd (cc)
     by false true p q = absurd (cc)
 
-pub clock-falls : (s : Stretch) (last e : Edge) → goes_on s.first last e ≡ false → calls last e ≡ false → s.first.levels.clock ≡ true
+pub clock-falls : (s : ClockPhase) (last e : Edge) → goes_on s.first last e ≡ false → calls last e ≡ false → s.first.levels.clock ≡ true
     → e.levels.clock ≡ false
 clock-falls s last e h k m = by e.levels.clock s.first.levels.clock (clock-turns s last e h k) m
   where

@@ -13,7 +13,7 @@ use Rattle.pr_decode.specs.declared.reading.Reading.TheVariants.{Frame}
 use Rattle.pr_decode.specs.declared.reading.Transfer.{Transfer}
 use Rattle.pr_decode.specs.PieceReadings.{frame_read, high_times, low_times}
 use Rattle.pr_decode.specs.Readings.{Bit, ends_bit, halves, high_half, is_none, level_of, low_half, opening_of, readings}
-use Rattle.pr_decode.specs.Stretches.{Stretch, begun, calls, goes_on, longer, stretches_from}
+use Rattle.pr_decode.specs.Stretches.{ClockPhase, begun, calls, goes_on, longer, stretches_from}
 use Rattle.pr_decode.specs.Taking.{AreBits, HasBegun, first_low, stretched, to_come, with_more}
 use Rattle.pr_decode.specs.Taking.Past.{Waiting}
 use Rattle.pr_decode.proofs.Adding.{low-opens-nothing, nothing-begins}
@@ -35,10 +35,10 @@ bit-edges-first x c [] = refl
 bit-edges-first x c (b ∷ bs) = refl
 
 -- the stretches of bits
-abbrev low_at : Bool → ℕ → Bool → Stretch
+abbrev low_at : Bool → ℕ → Bool → ClockPhase
 low_at x c v = begun false (edge_at c x false v)
 
-abbrev high_at : Bool → BitTimes → Stretch
+abbrev high_at : Bool → BitTimes → ClockPhase
 high_at x b = begun false (edge_at b.up x true b.level)
 
 abbrev bits_read : Bool → ℕ → List BitTimes → List Bit
@@ -46,7 +46,7 @@ bits_read x c [] = []
 bits_read x c (b ∷ bs) =
     record { low = low_at x c b.level; high = high_at x b; down = edge_at b.down x false (first_level bs) } ∷ bits_read x b.down bs
 
-abbrev last_low : Bool → ℕ → List BitTimes → Stretch
+abbrev last_low : Bool → ℕ → List BitTimes → ClockPhase
 last_low x c bs = low_at x (last_pull c bs) true
 
 -- an edge with ATN as it was is no call
@@ -55,13 +55,13 @@ no-call true = refl
 no-call false = refl
 
 -- an edge with ATN as it was and CLOCK the other way ends a stretch
-turns-over : (x : Bool) (s : Stretch) (last e : Edge) (es : List Edge) → last.levels.atn ≡ x → e.levels.atn ≡ x → same e.levels.clock s.first.levels.clock ≡ false
+turns-over : (x : Bool) (s : ClockPhase) (last e : Edge) (es : List Edge) → last.levels.atn ≡ x → e.levels.atn ≡ x → same e.levels.clock s.first.levels.clock ≡ false
     → stretches_from s last (e ∷ es) ≡ s ∷ stretches_from (begun false e) e es
 turns-over x s last e es h m q =
     off-called s last e es false (ap (λ v. v && not (calls last e)) q) (ap (λ v. v && not e.levels.atn) h ∙ (ap (λ v. x && not v) m ∙ no-call x))
 
 -- and one with CLOCK as it was goes on with it
-goes-along : (x : Bool) (s : Stretch) (last e : Edge) (es : List Edge) → last.levels.atn ≡ x → e.levels.atn ≡ x → same e.levels.clock s.first.levels.clock ≡ true
+goes-along : (x : Bool) (s : ClockPhase) (last e : Edge) (es : List Edge) → last.levels.atn ≡ x → e.levels.atn ≡ x → same e.levels.clock s.first.levels.clock ≡ true
     → stretches_from s last (e ∷ es) ≡ stretches_from (longer s e) e es
 goes-along x s last e es h m q =
     stretches-on s last e es
@@ -75,7 +75,7 @@ bits-cut x c [] more = refl
 bits-cut x c (b ∷ bs) more =
     let up : Edge = edge_at b.up x true b.level in
     let down : Edge = edge_at b.down x false (first_level bs) in
-    let low : Stretch = low_at x c b.level in
+    let low : ClockPhase = low_at x c b.level in
     let at : Edge = edge_at c x false b.level in
     ap (λ l. stretches_from low at (up ∷ (l ++ more))) (bit-edges-first x b.down bs)
     ∙ (turns-over x low at up (down ∷ (tail_edges x bs ++ more)) refl refl refl
@@ -96,7 +96,7 @@ are-bits x c (b ∷ bs) (u, d, h) =
     let down : Edge = edge_at b.down x false (first_level bs) in (
       ap (ends_bit (high_at x b)) (first-low-is x b.down bs)
           ∙ ap (λ v. is_none (if v then Some b.down else None)) (not-late b.up b.down d.to),
-      ap (λ (s : Stretch). s.first) (sym (first-low-is x b.down bs)),
+      ap (λ (s : ClockPhase). s.first) (sym (first-low-is x b.down bs)),
       are-bits x b.down bs h,
     )
 
@@ -142,14 +142,14 @@ sent-is x o c bs h =
       last_pull = last_pull c bs;
     } in
     let read : List Bit = bits_read x c bs in
-    ap (λ (s : Stretch). make s.first.time (length read) (map level_of read) (map low_half read) (map high_half read)) (first-low-is x c bs)
+    ap (λ (s : ClockPhase). make s.first.time (length read) (map level_of read) (map low_half read) (map high_half read)) (first-low-is x c bs)
     ∙ (ap (λ n. make c n (map level_of read) (map low_half read) (map high_half read)) (number-read x c bs ∙ h)
     ∙ (ap (λ l. make c 8 l (map low_half read) (map high_half read)) (levels-read x c bs)
     ∙ (ap (λ l. make c 8 (levels_of bs) l (map high_half read)) (lows-read x c bs)
     ∙ ap (λ l. make c 8 (levels_of bs) (low_times c bs) l) (highs-read x c bs))))
 
 -- an opening with its bits and the acknowledgement
-bits-said : (x : Bool) (p : Stretch) (o : Opening) (c : ℕ) (bs : List BitTimes) (ack : ℕ) (more : List Edge) → opening_of p ≡ Some o
+bits-said : (x : Bool) (p : ClockPhase) (o : Opening) (c : ℕ) (bs : List BitTimes) (ack : ℕ) (more : List Edge) → opening_of p ≡ Some o
     → AreClocked c bs → length bs ≡ 8
     → readings 0 (p ∷ stretches_from (low_at x c (first_level bs)) (edge_at c x false (first_level bs)) (tail_edges x bs ++ edge_at ack x false false ∷ more))
     ≡ Frame (sent o (bits_read x c bs) (last_low x c bs)) (frame.Acknowledged ack)
@@ -157,10 +157,10 @@ bits-said : (x : Bool) (p : Stretch) (o : Opening) (c : ℕ) (bs : List BitTimes
 bits-said x p o c bs ack more h k n =
     let a : Edge = edge_at ack x false false in
     let at : Edge = edge_at (last_pull c bs) x false true in
-    let low : Stretch = last_low x c bs in
+    let low : ClockPhase = last_low x c bs in
     let has : HasBegun p o (bits_read x c bs) 0 low = record {
       opens = h;
-      uncalled = ap (λ (s : Stretch). s.called) (first-low-is x c bs);
+      uncalled = ap (λ (s : ClockPhase). s.called) (first-low-is x c bs);
       bits = are-bits x c bs k;
       eight = number-more (bits_read x c bs) ∙ (number-read x c bs ∙ n);
       pulled = refl;
@@ -171,11 +171,11 @@ bits-said x p o c bs ack more h k n =
     ∙ ap (λ l. Frame (sent o (bits_read x c bs) low) (frame.Acknowledged ack) ∷ readings 0 l) (stretches-on low at a more on))
 
 -- a walk over some edges, while no byte has begun: what they say, and where they lead
-pub record Walk (s : Stretch) (last : Edge) (es : List Edge) (said : List Reading) (t : Stretch) (at : Edge) : Type 0 where
+pub record Walk (s : ClockPhase) (last : Edge) (es : List Edge) (said : List Reading) (t : ClockPhase) (at : Edge) : Type 0 where
   pub comes : (more : List Edge) → to_come Waiting s last (es ++ more) ≡ said ++ to_come Waiting t at more
 
 -- an edge that begins a stretch behind one with CLOCK pulled
-pub walk-off : (s : Stretch) (last e : Edge) → s.first.levels.clock ≡ false → goes_on s.first last e ≡ false
+pub walk-off : (s : ClockPhase) (last e : Edge) → s.first.levels.clock ≡ false → goes_on s.first last e ≡ false
     → Walk s last (e ∷ []) [] (begun (calls last e) e) e
 walk-off s last e h k = record {
   comes = λ more.
@@ -184,11 +184,11 @@ walk-off s last e h k = record {
 }
 
 -- an edge that goes on
-pub walk-on : (s : Stretch) (last e : Edge) → goes_on s.first last e ≡ true → Walk s last (e ∷ []) [] (longer s e) e
+pub walk-on : (s : ClockPhase) (last e : Edge) → goes_on s.first last e ≡ true → Walk s last (e ∷ []) [] (longer s e) e
 walk-on s last e h = record { comes = λ more. ap (readings 0) (stretches-on s last e more h) }
 
 -- one walk behind another
-pub walk-both : (s t u : Stretch) (a b c : Edge) (es fs : List Edge) (rs qs : List Reading) → Walk s a es rs t b → Walk t b fs qs u c
+pub walk-both : (s t u : ClockPhase) (a b c : Edge) (es fs : List Edge) (rs qs : List Reading) → Walk s a es rs t b → Walk t b fs qs u c
     → Walk s a (es ++ fs) (rs ++ qs) u c
 walk-both s t u a b c es fs rs qs h k = record {
   comes = λ more.
@@ -197,11 +197,11 @@ walk-both s t u a b c es fs rs qs h k = record {
 }
 
 -- what stands behind a frame
-abbrev pub behind_frame : Bool → FrameTimes → Stretch
+abbrev pub behind_frame : Bool → FrameTimes → ClockPhase
 behind_frame x f = longer (last_low x f.pull f.bits) (edge_at f.ack x false false)
 
 -- the opening of a frame
-abbrev opened_by : Bool → ℕ → ℕ → Stretch
+abbrev opened_by : Bool → ℕ → ℕ → ClockPhase
 opened_by x look free = longer (begun false (edge_at look x true false)) (edge_at free x true true)
 
 -- a frame without a pulse, and with one
@@ -236,7 +236,7 @@ pulsed-frame look free pull ack p bits more k n =
     let a : Edge = edge_at ack true false false in
     let c : Edge = edge_at pull true false (first_level bits) in
     let o : Opening = record { command = false; look = look; ready = free; pulse = Some (record { pulled = p.pulled; released = p.released }) } in
-    let opened : Stretch = longer (longer (opened_by true look free) q) r in
+    let opened : ClockPhase = longer (longer (opened_by true look free) q) r in
     let rest : List Edge = tail_edges true bits ++ a ∷ more in
     ap (readings 0)
     (ap (λ y. stretches_from opened r (y ++ a ∷ more)) (bit-edges-first true pull bits)
@@ -245,7 +245,7 @@ pulsed-frame look free pull ack p bits more k n =
     ∙ ap (λ t. Frame t (frame.Acknowledged ack) ∷ to_come Waiting (longer (last_low true pull bits) a) a more) (sent-is true o pull bits n))
 
 -- a frame is read
-pub frame-walk : (x : Bool) (s : Stretch) (last : Edge) (look : ℕ) (f : FrameTimes) → s.first.levels.clock ≡ false → last.levels.atn ≡ x
+pub frame-walk : (x : Bool) (s : ClockPhase) (last : Edge) (look : ℕ) (f : FrameTimes) → s.first.levels.clock ≡ false → last.levels.atn ≡ x
     → IsFrame x look f
     → Walk s last (edge_at look x true false ∷ frame_edges x f) (frame_read x look f ∷ []) (behind_frame x f) (edge_at f.ack x false false)
 frame-walk x s last look f h m w = record {

@@ -8,24 +8,24 @@ use Rattle.pr_wire.specs.Levels.{byte_of}
 use Rattle.pr_wire.specs.Table.{same}
 use Rattle.pr_decode.specs.declared.reading.FrameEnd.{FrameEnd}
 use Rattle.pr_decode.specs.declared.reading.FrameEnd.TheVariants as frame
-use Rattle.pr_decode.specs.declared.reading.GlitchEnd.{GlitchEnd}
-use Rattle.pr_decode.specs.declared.reading.GlitchEnd.TheVariants as glitch
+use Rattle.pr_decode.specs.declared.reading.IncompleteEnd.{IncompleteEnd}
+use Rattle.pr_decode.specs.declared.reading.IncompleteEnd.TheVariants as glitch
 use Rattle.pr_decode.specs.declared.reading.Opening.{Opening}
 use Rattle.pr_decode.specs.declared.reading.Reading.{Reading}
-use Rattle.pr_decode.specs.declared.reading.Reading.TheVariants.{Frame, Glitch}
+use Rattle.pr_decode.specs.declared.reading.Reading.TheVariants.{Frame, IncompleteByte}
 use Rattle.pr_decode.specs.declared.reading.Transfer.{Transfer}
 use Rattle.pr_decode.specs.Laws.{OutlinesDecide}
 use Rattle.pr_decode.specs.Outlines.{Outline, Released, acknowledged_behind, openings, outline, taken_by, with_acknowledgement}
 use Rattle.pr_decode.specs.Readings.{Bit, Bits, acknowledgement, begins, begun_by, bits_from, ends_bit, first_late, frame_end, glitch_end, halves, high_end, high_half, is_called, is_late, is_none, level_of, longest_bit, low_half, number_of, opening_of, put_bit, reading, readings, said, silence_or, transfer, turns_of}
-use Rattle.pr_decode.specs.Stretches.{Stretch, begun, calls, goes_on, longer, stretches, stretches_from}
+use Rattle.pr_decode.specs.Stretches.{ClockPhase, begun, calls, goes_on, longer, stretches, stretches_from}
 use Rattle.pr_decode.proofs.Adding.{opening-released}
 use Rattle.pr_decode.proofs.Cutting.{clock-turns, stretches-off, stretches-on}
 
 -- CLOCK turns from stretch to stretch, but where ATN is pulled
-abbrev IsNext : (clock : Bool) → Stretch → Type 0
+abbrev IsNext : (clock : Bool) → ClockPhase → Type 0
 IsNext c s = s.called ≡ false → s.first.levels.clock ≡ not c
 
-abbrev AreNext : (clock : Bool) → List Stretch → Type 0
+abbrev AreNext : (clock : Bool) → List ClockPhase → Type 0
 AreNext c [] = Unit {0}
 AreNext c (s ∷ ss) = IsNext c s × AreNext s.first.levels.clock ss
 
@@ -35,7 +35,7 @@ turned-clock true false h = refl
 turned-clock false true h = refl
 turned-clock false false h = absurd (cc)
 
-cut-next : (c : Bool) (s : Stretch) (last : Edge) (es : List Edge) → IsNext c s → AreNext c (stretches_from s last es)
+cut-next : (c : Bool) (s : ClockPhase) (last : Edge) (es : List Edge) → IsNext c s → AreNext c (stretches_from s last es)
 cut-next c s last [] h = (h, tt)
 cut-next c s last (e ∷ es) h =
     by (goes_on s.first last e) refl (cut-next c (longer s e) e es h) (λ k. cut-next s.first.levels.clock (begun (calls last e) e) e es k)
@@ -82,17 +82,17 @@ abbrev late_in : Option Released → Option ℕ
 late_in None = None
 late_in (Some r) = r.late
 
-abbrev released : Stretch → Released
+abbrev released : ClockPhase → Released
 released s = record { level = s.first.levels.line; late = first_late s.first.time s.rest }
 
-is-released : (s : Stretch) → s.first.levels.clock ≡ true → (outline s).released ≡ Some (released s)
+is-released : (s : ClockPhase) → s.first.levels.clock ≡ true → (outline s).released ≡ Some (released s)
 is-released s h = ap (λ v. if v then Some (released s) else None) h
 
 -- a bit, by outlines
 abbrev ends_by : Outline → Outline → Bool
 ends_by h x = not h.called && not x.called && is_none (joined (late_in h.released) (late_at h.time x.time))
 
-ends-same : (h x : Stretch) → IsNext false h → ends_bit h x ≡ ends_by (outline h) (outline x)
+ends-same : (h x : ClockPhase) → IsNext false h → ends_bit h x ≡ ends_by (outline h) (outline x)
 ends-same h x k = by h.called refl
   where
     by : (v : Bool) → h.called ≡ v → ends_bit h x ≡ ends_by (outline h) (outline x)
@@ -104,7 +104,7 @@ ends-same h x k = by h.called refl
         ∙ sym (ap (λ v. not h.called && not x.called && is_none (joined (late_in v) (late_at h.first.time x.first.time))) (is-released h (k q)))
 
 -- the stretches of a bit that ends
-both-uncalled : (h x : Stretch) → ends_bit h x ≡ true → (h.called ≡ false) × (x.called ≡ false)
+both-uncalled : (h x : ClockPhase) → ends_bit h x ≡ true → (h.called ≡ false) × (x.called ≡ false)
 both-uncalled h x e = by h.called x.called e
   where
     by : (u v : Bool) → (not u && not v && is_none (first_late h.first.time (h.rest ++ x.first ∷ []))) ≡ true → (u ≡ false) × (v ≡ false)
@@ -112,14 +112,14 @@ both-uncalled h x e = by h.called x.called e
     by false true k = absurd (cc)
     by true v k = absurd (cc)
 
-next-pulled : (h x : Stretch) (ss : List Stretch) → AreNext false (h ∷ x ∷ ss) → ends_bit h x ≡ true → x.first.levels.clock ≡ false
+next-pulled : (h x : ClockPhase) (ss : List ClockPhase) → AreNext false (h ∷ x ∷ ss) → ends_bit h x ≡ true → x.first.levels.clock ≡ false
 next-pulled h x ss k e = let u = both-uncalled h x e in k.1.0 u.1 ∙ ap not (k.0 u.0)
 
-next-behind : (h x : Stretch) (ss : List Stretch) → AreNext false (h ∷ x ∷ ss) → ends_bit h x ≡ true → AreNext false ss
+next-behind : (h x : ClockPhase) (ss : List ClockPhase) → AreNext false (h ∷ x ∷ ss) → ends_bit h x ≡ true → AreNext false ss
 next-behind h x ss k e = subst (λ c. AreNext c ss) (next-pulled h x ss k e) k.1.1
 
 -- the bits from a stretch with CLOCK pulled on, if the next one ends, or not
-abbrev more_bits : ℕ → (l h x : Stretch) → List Stretch → Bool → Bits
+abbrev more_bits : ℕ → (l h x : ClockPhase) → List ClockPhase → Bool → Bits
 more_bits n l h x ss v =
     if v
     then put_bit (record { low = l; high = h; down = x.first }) (bits_from n x ss)
@@ -159,7 +159,7 @@ parts_from (suc n) t (h ∷ x ∷ os) =
     if ends_by h x then put_part t (level_in h.released) h.time x.time (parts_from n x.time os) else no_part t (h ∷ x ∷ os)
 parts_from n t os = no_part t os
 
-parts-same : (n : ℕ) (l : Stretch) (ss : List Stretch) → AreNext false ss → parts (bits_from n l ss) ≡ parts_from n l.first.time (map outline ss)
+parts-same : (n : ℕ) (l : ClockPhase) (ss : List ClockPhase) → AreNext false ss → parts (bits_from n l ss) ≡ parts_from n l.first.time (map outline ss)
 parts-same zero l [] k = refl
 parts-same zero l (h ∷ []) k = refl
 parts-same zero l (h ∷ x ∷ ss) k = refl
@@ -187,7 +187,7 @@ parts-same (suc n) l (h ∷ x ∷ ss) k =
         ∙ sym (ap one q)))
 
 -- the stretches behind bits
-bits-behind : (n : ℕ) (l : Stretch) (ss : List Stretch) → AreNext false ss → AreNext false (bits_from n l ss).behind
+bits-behind : (n : ℕ) (l : ClockPhase) (ss : List ClockPhase) → AreNext false ss → AreNext false (bits_from n l ss).behind
 bits-behind zero l [] k = k
 bits-behind zero l (h ∷ []) k = k
 bits-behind zero l (h ∷ x ∷ ss) k = k
@@ -205,7 +205,7 @@ abbrev twice : ℕ → ℕ
 twice zero = 0
 twice (suc n) = suc (suc (twice n))
 
-whole-last : (n : ℕ) (l : Stretch) (ss : List Stretch) → length (bits_from n l ss).bits ≡ n
+whole-last : (n : ℕ) (l : ClockPhase) (ss : List ClockPhase) → length (bits_from n l ss).bits ≡ n
     → acknowledgement (turns_of (bits_from n l ss).last) ≡ acknowledged_behind (twice n) (l ∷ ss)
 whole-last zero l [] e = refl
 whole-last zero l (h ∷ []) e = refl
@@ -236,26 +236,26 @@ abbrev frame_by : Option ℕ → List Outline → FrameEnd
 frame_by (Some t) os = frame.Acknowledged t
 frame_by None os = waiting_by os
 
-frame-same : (a : Option ℕ) (ss : List Stretch) → frame_end a ss ≡ frame_by a (map outline ss)
+frame-same : (a : Option ℕ) (ss : List ClockPhase) → frame_end a ss ≡ frame_by a (map outline ss)
 frame-same (Some t) ss = refl
 frame-same None [] = refl
 frame-same None (s ∷ ss) = refl
 
-abbrev high_by : Outline → List Outline → GlitchEnd
+abbrev high_by : Outline → List Outline → IncompleteEnd
 high_by o [] = silence_or (late_in o.released) glitch.Cut
 high_by o (n ∷ os) = silence_or (joined (late_in o.released) (late_at o.time n.time)) (glitch.Attention n.time)
 
-abbrev glitch_by : List Outline → GlitchEnd
+abbrev glitch_by : List Outline → IncompleteEnd
 glitch_by [] = glitch.Cut
 glitch_by (o ∷ os) = if o.called then glitch.Attention o.time else high_by o os
 
-high-same : (s : Stretch) (ss : List Stretch) → s.first.levels.clock ≡ true → high_end s ss ≡ high_by (outline s) (map outline ss)
+high-same : (s : ClockPhase) (ss : List ClockPhase) → s.first.levels.clock ≡ true → high_end s ss ≡ high_by (outline s) (map outline ss)
 high-same s [] h = ap (λ v. silence_or (late_in v) glitch.Cut) (sym (is-released s h))
 high-same s (n ∷ ss) h =
     ap (λ v. silence_or v (glitch.Attention n.first.time)) (late-joined s.first.time s.rest n.first)
     ∙ ap (λ v. silence_or (joined (late_in v) (late_at s.first.time n.first.time)) (glitch.Attention n.first.time)) (sym (is-released s h))
 
-glitch-same : (ss : List Stretch) → AreNext false ss → glitch_end ss ≡ glitch_by (map outline ss)
+glitch-same : (ss : List ClockPhase) → AreNext false ss → glitch_end ss ≡ glitch_by (map outline ss)
 glitch-same [] k = refl
 glitch-same (s ∷ ss) k = by s.called refl
   where
@@ -279,12 +279,12 @@ transfer_by o p n q = record {
 
 abbrev counted_by : Opening → Option ℕ → ℕ → (count : ℕ) → Parts → Reading
 counted_by o a p n q =
-    if n == 8 then Frame (transfer_by o p n q) (frame_by a q.behind) else Glitch (transfer_by o p n q) (glitch_by q.behind)
+    if n == 8 then Frame (transfer_by o p n q) (frame_by a q.behind) else IncompleteByte (transfer_by o p n q) (glitch_by q.behind)
 
 abbrev reading_by : Opening → Option ℕ → ℕ → Parts → Reading
 reading_by o a p q = counted_by o a p (length q.levels) q
 
-reading-same : (o : Opening) (l : Stretch) (ss : List Stretch) → AreNext false ss
+reading-same : (o : Opening) (l : ClockPhase) (ss : List ClockPhase) → AreNext false ss
     → (let b : Bits = bits_from 8 l ss in
     reading o l.first.time b ≡ reading_by o (acknowledged_behind 16 (l ∷ ss)) l.first.time (parts b))
 reading-same o l ss k = by (length b.bits == 8) refl ∙ ap (λ n. counted_by o a l.first.time n (parts b)) (sym (length-map b.bits level_of))
@@ -299,17 +299,17 @@ reading-same o l ss k = by (length b.bits == 8) refl ∙ ap (λ n. counted_by o 
     t = transfer o l.first.time b.bits b.last.first.time
 
     theirs : Bool → Reading
-    theirs v = if v then Frame t (frame_end (acknowledgement (turns_of b.last)) b.behind) else Glitch t (glitch_end b.behind)
+    theirs v = if v then Frame t (frame_end (acknowledgement (turns_of b.last)) b.behind) else IncompleteByte t (glitch_end b.behind)
 
     ours : Bool → Reading
-    ours v = if v then Frame t (frame_by a (map outline b.behind)) else Glitch t (glitch_by (map outline b.behind))
+    ours v = if v then Frame t (frame_by a (map outline b.behind)) else IncompleteByte t (glitch_by (map outline b.behind))
 
     by : (v : Bool) → (length b.bits == 8) ≡ v → theirs (length b.bits == 8) ≡ ours (length b.bits == 8)
     by true q =
         ap theirs q
         ∙ (ap (λ u. Frame t (frame_end u b.behind)) (whole-last 8 l ss (eqb-true (length b.bits) 8 q))
         ∙ (ap (Frame t) (frame-same a b.behind) ∙ sym (ap ours q)))
-    by false q = ap theirs q ∙ (ap (Glitch t) (glitch-same b.behind (bits-behind 8 l ss k)) ∙ sym (ap ours q))
+    by false q = ap theirs q ∙ (ap (IncompleteByte t) (glitch-same b.behind (bits-behind 8 l ss k)) ∙ sym (ap ours q))
 
 abbrev number_by : List Bool → ℕ
 number_by [] = 0
@@ -324,7 +324,7 @@ abbrev called_by : List Outline → Bool
 called_by [] = false
 called_by (o ∷ os) = o.called
 
-called-same : (ss : List Stretch) → is_called ss ≡ called_by (map outline ss)
+called-same : (ss : List ClockPhase) → is_called ss ≡ called_by (map outline ss)
 called-same [] = refl
 called-same (s ∷ ss) = refl
 
@@ -336,7 +336,7 @@ begins_by e [] = None
 begins_by None (l ∷ os) = None
 begins_by (Some o) (l ∷ os) = told_by (l.called || called_by os) o.0 o.1 l.time (parts_from 8 l.time os)
 
-begun-same : (o : Opening) (l : Stretch) (ss : List Stretch) → AreNext false ss
+begun-same : (o : Opening) (l : ClockPhase) (ss : List ClockPhase) → AreNext false ss
     → begun_by (Some o) l ss ≡ begins_by (with_acknowledgement (Some o) (l ∷ ss)) (map outline (l ∷ ss))
 begun-same o l ss k =
     let b : Bits = bits_from 8 l ss in
@@ -349,7 +349,7 @@ begun-same o l ss k =
     ∙ ap (λ v. told_by (l.called || v) o a l.first.time (parts_from 8 l.first.time (map outline ss))) (called-same ss)))
 
 -- a call begins nothing
-begun-called : (o : Opening) (l : Stretch) (ss : List Stretch) → l.called ≡ true
+begun-called : (o : Opening) (l : ClockPhase) (ss : List ClockPhase) → l.called ≡ true
     → begun_by (Some o) l ss ≡ begins_by (with_acknowledgement (Some o) (l ∷ ss)) (map outline (l ∷ ss))
 begun-called o l ss h =
     let b : Bits = bits_from 8 l ss in
@@ -358,7 +358,7 @@ begun-called o l ss h =
     ap (λ c. if c || is_called ss then None else some) h
     ∙ sym (ap (λ c. told_by (c || called_by (map outline ss)) o a l.first.time (parts_from 8 l.first.time (map outline ss))) h)
 
-begins-same : (s : Stretch) (ss : List Stretch) → AreNext s.first.levels.clock ss
+begins-same : (s : ClockPhase) (ss : List ClockPhase) → AreNext s.first.levels.clock ss
     → begins s ss ≡ begins_by (with_acknowledgement (opening_of s) ss) (map outline ss)
 begins-same s [] k = refl
 begins-same s (l ∷ ss) k = by (opening_of s) refl
@@ -386,7 +386,7 @@ readings_by (suc n) (o ∷ os) es = readings_by n os es
 readings_by zero (o ∷ os) [] = []
 readings_by zero (o ∷ os) (e ∷ es) = said (begins_by e os) (λ n. readings_by n os es)
 
-readings-same : (n : ℕ) (c : Bool) (ss : List Stretch) → AreNext c ss → readings n ss ≡ readings_by n (map outline ss) (openings n ss)
+readings-same : (n : ℕ) (c : Bool) (ss : List ClockPhase) → AreNext c ss → readings n ss ≡ readings_by n (map outline ss) (openings n ss)
 readings-same zero c [] k = refl
 readings-same (suc n) c [] k = refl
 readings-same (suc n) c (s ∷ ss) k = readings-same n s.first.levels.clock ss k.1

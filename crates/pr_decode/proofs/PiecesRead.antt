@@ -12,7 +12,7 @@ use Rattle.pr_decode.specs.declared.reading.Reading.TheVariants as read
 use Rattle.pr_decode.specs.Laws.{TracesSayTheirPieces, TracesSayWhatTheySpell}
 use Rattle.pr_decode.specs.PieceReadings.{frame_read, frames_in, is_answered, piece_read, pieces_read, pulse_read, second_read}
 use Rattle.pr_decode.specs.Readings.{readings, readings_of}
-use Rattle.pr_decode.specs.Stretches.{Stretch, begun, calls, goes_on, longer}
+use Rattle.pr_decode.specs.Stretches.{ClockPhase, begun, calls, goes_on, longer}
 use Rattle.pr_decode.specs.Taking.{to_come}
 use Rattle.pr_decode.specs.Taking.Past.{Waiting}
 use Rattle.pr_decode.proofs.Cutting.{calls-off}
@@ -20,17 +20,17 @@ use Rattle.pr_decode.proofs.FrameRead.{Walk, behind_frame, frame-walk, walk-both
 use Rattle.pr_decode.proofs.Stepping.{off-called, skips-call}
 
 -- a call
-walk-call : (s : Stretch) (last e : Edge) → last.levels.atn ≡ true → e.levels.atn ≡ false → Walk s last (e ∷ []) [] (begun true e) e
+walk-call : (s : ClockPhase) (last e : Edge) → last.levels.atn ≡ true → e.levels.atn ≡ false → Walk s last (e ∷ []) [] (begun true e) e
 walk-call s last e h k =
     let c : calls last e ≡ true = ap (λ v. v && not e.levels.atn) h ∙ ap not k in
     record { comes = λ more. ap (readings 0) (off-called s last e more true (calls-off s last e c) c) ∙ skips-call s e more }
 
 -- no edge
-walk-none : (s : Stretch) (last : Edge) → Walk s last [] [] s last
+walk-none : (s : ClockPhase) (last : Edge) → Walk s last [] [] s last
 walk-none s last = record { comes = λ more. refl }
 
 -- the answer to a call, and the first frame
-walk-first : (s : Stretch) (last : Edge) (answer : Option ℕ) (look : ℕ) (f : FrameTimes) → s.first.levels.clock ≡ false → last.levels.atn ≡ false
+walk-first : (s : ClockPhase) (last : Edge) (answer : Option ℕ) (look : ℕ) (f : FrameTimes) → s.first.levels.clock ≡ false → last.levels.atn ≡ false
     → IsFrame false look f
     → Walk s last (answer_edges answer look ++ frame_edges false f) (frame_read false look f ∷ []) (behind_frame false f) (edge_at f.ack false false false)
 walk-first s last None look f h k w = frame-walk false s last look f h k w
@@ -48,27 +48,27 @@ walk-first s last (Some d) look f h k w = by (d == look)
         (walk-on s last e on) (frame-walk false (longer s e) e look f h refl w)
 
 -- what stands between two pieces
-abbrev Stands : Between → Stretch → Edge → Type 0
+abbrev Stands : Between → ClockPhase → Edge → Type 0
 Stands (Resting i) s last = last.levels.atn ≡ true
 Stands (Held k) s last = (s.first.levels.clock ≡ false) × (last.levels.atn ≡ true)
 Stands (Loose r) s last = (s.first.levels.clock ≡ false) × (last.levels.atn ≡ true)
 
 -- a walk leads to what stands behind it
-record Leads (s : Stretch) (last : Edge) (es : List Edge) (said : List Reading) (b : Between) : Type 0 where
-  to : Stretch
+record Leads (s : ClockPhase) (last : Edge) (es : List Edge) (said : List Reading) (b : Between) : Type 0 where
+  to : ClockPhase
   at : Edge
   walk : Walk s last es said to at
   stands : Stands b to at
 
 -- a second frame, if there is one
-record Seconds (s : Stretch) (last : Edge) (es : List Edge) (said : List Reading) : Type 0 where
-  to : Stretch
+record Seconds (s : ClockPhase) (last : Edge) (es : List Edge) (said : List Reading) : Type 0 where
+  to : ClockPhase
   at : Edge
   walk : Walk s last es said to at
   pulled : to.first.levels.clock ≡ false
   called : at.levels.atn ≡ false
 
-walk-second : (s : Stretch) (last : Edge) (k : ℕ) (second : Option SecondFrame) → s.first.levels.clock ≡ false → last.levels.atn ≡ false
+walk-second : (s : ClockPhase) (last : Edge) (k : ℕ) (second : Option SecondFrame) → s.first.levels.clock ≡ false → last.levels.atn ≡ false
     → IsSecond k second → Seconds s last (second_edges second) (second_read second)
 walk-second s last k None h c w = record { to = s; at = last; walk = walk-none s last; pulled = h; called = c }
 walk-second s last k (Some m) h c (t, w) = record {
@@ -80,7 +80,7 @@ walk-second s last k (Some m) h c (t, w) = record {
 }
 
 -- the end of an attention
-walk-end : (s : Stretch) (last : Edge) (e : Ending) → s.first.levels.clock ≡ false → last.levels.atn ≡ false
+walk-end : (s : ClockPhase) (last : Edge) (e : Ending) → s.first.levels.clock ≡ false → last.levels.atn ≡ false
     → Leads s last (ending_edges e) [] (after_ending e)
 walk-end s last e h c = by e.line e.clock
   where
@@ -96,7 +96,7 @@ walk-end s last e h c = by e.line e.clock
         walk-both s (longer s a) (longer (longer s a) f) last a f (a ∷ []) (f ∷ []) [] [] one
         (walk-on (longer s a) a f (ap (λ v. same false v && true) h))
 
-    off : (t : Stretch) (l : Edge) (es : List Edge) (k : ℕ) → t.first.levels.clock ≡ false → Walk s last es [] t l
+    off : (t : ClockPhase) (l : Edge) (es : List Edge) (k : ℕ) → t.first.levels.clock ≡ false → Walk s last es [] t l
         → Walk s last (es ++ edge_at k true true true ∷ []) [] (begun (calls l (edge_at k true true true)) (edge_at k true true true)) (edge_at k true true true)
     off t l es k m w =
         let f : Edge = edge_at k true true true in
@@ -124,13 +124,13 @@ called-edge (Resting i) a = (true, refl)
 called-edge (Held k) a = (false, refl)
 called-edge (Loose r) a = (true, refl)
 
-stands-released : (b : Between) (s : Stretch) (last : Edge) → Stands b s last → last.levels.atn ≡ true
+stands-released : (b : Between) (s : ClockPhase) (last : Edge) → Stands b s last → last.levels.atn ≡ true
 stands-released (Resting i) s last h = h
 stands-released (Held k) s last (h, m) = m
 stands-released (Loose r) s last (h, m) = m
 
 -- an attention
-walk-attention : (b : Between) (s : Stretch) (last : Edge) (a : ℕ) (answer : Option ℕ) (look : ℕ) (first : FrameTimes) (second : Option SecondFrame)
+walk-attention : (b : Between) (s : ClockPhase) (last : Edge) (a : ℕ) (answer : Option ℕ) (look : ℕ) (first : FrameTimes) (second : Option SecondFrame)
     (end : Ending) → Stands b s last → IsFrame false look first → IsSecond first.ack second
     → Leads s last (piece_edges b (Attention a answer look first second end)) (piece_read (Attention a answer look first second end)) (after_ending end)
 walk-attention b s last a answer look first second end h w z = by (called-edge b a).0 (called-edge b a).1
@@ -139,8 +139,8 @@ walk-attention b s last a answer look first second end h w z = by (called-edge b
         → Leads s last (piece_edges b (Attention a answer look first second end)) (piece_read (Attention a answer look first second end)) (after_ending end)
     by v q =
         let e : Edge = edge_at a false false v in
-        let t : Stretch = begun true e in
-        let f : Stretch = behind_frame false first in
+        let t : ClockPhase = begun true e in
+        let f : ClockPhase = behind_frame false first in
         let k : Edge = edge_at first.ack false false false in
         let m = walk-second f k first.ack second refl refl z in
         let n = walk-end m.to m.at end m.pulled m.called in
@@ -161,7 +161,7 @@ walk-attention b s last a answer look first second end h w z = by (called-edge b
         })
 
 -- a piece
-walk-piece : (b : Between) (p : Piece) (s : Stretch) (last : Edge) → IsPiece b p → Stands b s last → Leads s last (piece_edges b p) (piece_read p) (after_piece p)
+walk-piece : (b : Between) (p : Piece) (s : ClockPhase) (last : Edge) → IsPiece b p → Stands b s last → Leads s last (piece_edges b p) (piece_read p) (after_piece p)
 walk-piece b (Attention a answer look first second end) s last (c, d, w, z, e) h = walk-attention b s last a answer look first second end h w z
 walk-piece b (Unanswered a release) s last (r, c, d) h = by (called-edge b a).0 (called-edge b a).1
   where
@@ -196,7 +196,7 @@ walk-piece (Resting i) (Dropped look) s last c h = absurd c
 walk-piece (Held k) (Dropped look) s last c h = absurd c
 
 -- pieces
-walk-pieces : (b : Between) (ps : List Piece) (s : Stretch) (last : Edge) → AreLawful b ps → Stands b s last
+walk-pieces : (b : Between) (ps : List Piece) (s : ClockPhase) (last : Edge) → AreLawful b ps → Stands b s last
     → to_come Waiting s last (edges_of b ps) ≡ pieces_read ps
 walk-pieces b [] s last h k = refl
 walk-pieces b (p ∷ ps) s last (h, m) k =
@@ -212,7 +212,7 @@ frames-append : (rs qs : List Reading) → frames_in (rs ++ qs) ≡ frames_in rs
 frames-append [] qs = refl
 frames-append (read.Frame t e ∷ rs) qs =
     ap (λ l. record { attention = t.opening.command; byte = t.byte; eoi = is_answered t.opening.pulse } ∷ l) (frames-append rs qs)
-frames-append (read.Glitch t e ∷ rs) qs = frames-append rs qs
+frames-append (read.IncompleteByte t e ∷ rs) qs = frames-append rs qs
 
 answered-is : (p : Option EoiAnswer) → is_answered (pulse_read p) ≡ has_pulse p
 answered-is None = refl

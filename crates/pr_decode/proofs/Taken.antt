@@ -7,15 +7,15 @@ use Rattle.std.specs.Option.{option_to_list}
 use Rattle.pr_wire.specs.declared.Edge.{Edge}
 use Rattle.pr_decode.specs.declared.decoder.Decoder.{Decoder}
 use Rattle.pr_decode.specs.declared.reading.FrameEnd.TheVariants as frame
-use Rattle.pr_decode.specs.declared.reading.GlitchEnd.TheVariants as glitch
+use Rattle.pr_decode.specs.declared.reading.IncompleteEnd.TheVariants as glitch
 use Rattle.pr_decode.specs.declared.reading.Reading.{Reading}
-use Rattle.pr_decode.specs.declared.reading.Reading.TheVariants.{Frame, Glitch}
+use Rattle.pr_decode.specs.declared.reading.Reading.TheVariants.{Frame, IncompleteByte}
 use Rattle.pr_decode.specs.declared.reading.Transfer.{Transfer}
-use Rattle.pr_decode.specs.declared.stretch.Stretch as declared
+use Rattle.pr_decode.specs.declared.stretch.ClockPhase as declared
 use Rattle.pr_decode.specs.Laws.{MoreEdgesAddReadings, OnlyTheLastIsCut}
 use Rattle.pr_decode.specs.Readings.{frame_end, is_late, is_settled, readings_of, settled_of, silence_or}
 use Rattle.pr_decode.specs.Steps.{acknowledged_at, acknowledged_in, after, after_edge, began, cut_in, ended_by, kept_of, turned}
-use Rattle.pr_decode.specs.Stretches.{Stretch, begun, calls, goes_on}
+use Rattle.pr_decode.specs.Stretches.{ClockPhase, begun, calls, goes_on}
 use Rattle.pr_decode.specs.Taking.{HasRead, IsRight, IsRightSeen, Past, Seen, kept, stretch_in, to_come, to_come_behind, transfer_in}
 use Rattle.pr_decode.specs.Taking.Past.{High, Low, Waiting}
 use Rattle.pr_decode.proofs.Adding.{low-opens-nothing, nothing-begins, uncalled-behind}
@@ -24,10 +24,10 @@ use Rattle.pr_decode.proofs.Stepping.{Next, eight-bits, frame-comes, glitch-come
 
 -- what an edge ends of a byte with CLOCK released, by its tests
 abbrev high_by : Bool → Bool → Transfer → Edge → Option Reading
-high_by late called t e = if late then Some (Glitch t (glitch.Silence e.time)) else (if called then Some (Glitch t (glitch.Attention e.time)) else None)
+high_by late called t e = if late then Some (IncompleteByte t (glitch.ClockTimeout e.time)) else (if called then Some (IncompleteByte t (glitch.Attention e.time)) else None)
 
 -- an edge that ends nothing goes on
-moves : (p : Past) (s : Stretch) (last e : Edge) → IsRight p s → ended_by (transfer_in p s) (stretch_in s last) e ≡ None → Next p s last e
+moves : (p : Past) (s : ClockPhase) (last e : Edge) → IsRight p s → ended_by (transfer_in p s) (stretch_in s last) e ≡ None → Next p s last e
 moves Waiting s last e h k = waits s last e
 moves (Low p o bs zero) s last e (h, a) k =
     frame-waits p o bs s last e (h, a) (sym (ended-frame (sent o bs s) s last e h.pulled (eight-bits bs h.eight)) ∙ k)
@@ -39,7 +39,7 @@ moves (Low p o [] (suc n)) s last e h k = by (calls last e) refl
 moves (Low p o (b ∷ bs) (suc n)) s last e h k =
     by (calls last e) refl (sym (ended-some o b bs s last e h.pulled (not-eight (b ∷ bs) n h.eight)) ∙ k)
   where
-    by : (v : Bool) → calls last e ≡ v → (if v then Some (Glitch (sent o (b ∷ bs) s) (glitch.Attention e.time)) else None) ≡ None
+    by : (v : Bool) → calls last e ≡ v → (if v then Some (IncompleteByte (sent o (b ∷ bs) s) (glitch.Attention e.time)) else None) ≡ None
         → Next (Low p o (b ∷ bs) (suc n)) s last e
     by true c q = absurd (cc)
     by false c q = low-moves p o (b ∷ bs) n s last e h c
@@ -52,7 +52,7 @@ moves (High p o bs n l) s last e (h, b) k =
     by false i false c q = high-moves p o bs n l s last e (h, b) i c
 
 -- an edge that ends something gives it
-gives : (p : Past) (s : Stretch) (last e : Edge) (r : Reading) → IsRight p s → ended_by (transfer_in p s) (stretch_in s last) e ≡ Some r
+gives : (p : Past) (s : ClockPhase) (last e : Edge) (r : Reading) → IsRight p s → ended_by (transfer_in p s) (stretch_in s last) e ≡ Some r
     → Gives p s last e r
 gives Waiting s last e r h k = absurd (cc)
 gives (Low p o bs zero) s last e r (h, a) k =
@@ -63,11 +63,11 @@ gives (Low p o [] (suc n)) s last e r h k =
 gives (Low p o (b ∷ bs) (suc n)) s last e r h k =
     by (calls last e) refl (sym (ended-some o b bs s last e h.pulled (not-eight (b ∷ bs) n h.eight)) ∙ k)
   where
-    by : (v : Bool) → calls last e ≡ v → (if v then Some (Glitch (sent o (b ∷ bs) s) (glitch.Attention e.time)) else None) ≡ Some r
+    by : (v : Bool) → calls last e ≡ v → (if v then Some (IncompleteByte (sent o (b ∷ bs) s) (glitch.Attention e.time)) else None) ≡ Some r
         → Gives (Low p o (b ∷ bs) (suc n)) s last e r
     by false c q = absurd (cc)
     by true c q =
-        let given : Glitch (sent o (b ∷ bs) s) (glitch.Attention e.time) ≡ r = cc in
+        let given : IncompleteByte (sent o (b ∷ bs) s) (glitch.Attention e.time) ≡ r = cc in
         rw (← given) (called-low-gives p o b bs n s last e h c)
 gives (High p o bs n l) s last e r (h, b) k =
     by (is_late s.first.time e) refl (calls last e) refl (sym (ended-high (sent o bs l) s last e b.released) ∙ k)
@@ -75,15 +75,15 @@ gives (High p o bs n l) s last e r (h, b) k =
     by : (u : Bool) → is_late s.first.time e ≡ u → (v : Bool) → calls last e ≡ v → high_by u v (sent o bs l) e ≡ Some r
         → Gives (High p o bs n l) s last e r
     by true i v c q =
-        let given : Glitch (sent o bs l) (glitch.Silence e.time) ≡ r = cc in
+        let given : IncompleteByte (sent o bs l) (glitch.ClockTimeout e.time) ≡ r = cc in
         rw (← given) (late-gives p o bs n l s last e (h, b) i)
     by false i true c q =
-        let given : Glitch (sent o bs l) (glitch.Attention e.time) ≡ r = cc in
+        let given : IncompleteByte (sent o bs l) (glitch.Attention e.time) ≡ r = cc in
         rw (← given) (called-high-gives p o bs n l s last e (h, b) i c)
     by false i false c q = absurd (cc)
 
 -- what an edge ends is settled
-settles : (t : Option Transfer) (s : declared.Stretch) (e : Edge) (r : Reading) → ended_by t s e ≡ Some r → is_settled r ≡ true
+settles : (t : Option Transfer) (s : declared.ClockPhase) (e : Edge) (r : Reading) → ended_by t s e ≡ Some r → is_settled r ≡ true
 settles None s e r h = absurd (cc)
 settles (Some t) s e r h =
     by s.first.levels.clock (t.bits == 8) (t.bits == 0) (is_late s.first.time e) (calls s.last e) (goes_on s.first s.last e)
@@ -92,39 +92,39 @@ settles (Some t) s e r h =
     by : (a b z c d g : Bool) (v : Option ℕ)
         → (if a then high_by c d t e
         else (if b then (if g then acknowledged_at t v else Some (Frame t (frame.Unacknowledged e.time)))
-        else (if z then None else (if d then Some (Glitch t (glitch.Attention e.time)) else None)))) ≡ Some r
+        else (if z then None else (if d then Some (IncompleteByte t (glitch.Attention e.time)) else None)))) ≡ Some r
         → is_settled r ≡ true
-    by true b z true d g v k = let q : Glitch t (glitch.Silence e.time) ≡ r = cc in rw (← q) refl
-    by true b z false true g v k = let q : Glitch t (glitch.Attention e.time) ≡ r = cc in rw (← q) refl
+    by true b z true d g v k = let q : IncompleteByte t (glitch.ClockTimeout e.time) ≡ r = cc in rw (← q) refl
+    by true b z false true g v k = let q : IncompleteByte t (glitch.Attention e.time) ≡ r = cc in rw (← q) refl
     by true b z false false g v k = absurd (cc)
     by false true z c d true (Some u) k = let q : Frame t (frame.Acknowledged u) ≡ r = cc in rw (← q) refl
     by false true z c d true None k = absurd (cc)
     by false true z c d false v k = let q : Frame t (frame.Unacknowledged e.time) ≡ r = cc in rw (← q) refl
     by false false true c d g v k = absurd (cc)
-    by false false false c true g v k = let q : Glitch t (glitch.Attention e.time) ≡ r = cc in rw (← q) refl
+    by false false false c true g v k = let q : IncompleteByte t (glitch.Attention e.time) ≡ r = cc in rw (← q) refl
     by false false false c false g v k = absurd (cc)
 
 -- what the end of a recording leaves
-ends : (p : Past) (s : Stretch) (last : Edge) → IsRight p s → to_come p s last [] ≡ option_to_list (cut_in (transfer_in p s))
+ends : (p : Past) (s : ClockPhase) (last : Edge) → IsRight p s → to_come p s last [] ≡ option_to_list (cut_in (transfer_in p s))
 ends Waiting s last h = refl
 ends (Low p o bs zero) s last (h, a) =
     frame-comes p o bs s [] frame.Cut h (ap (λ v. frame_end v []) a)
-    ∙ ap (λ v. (if v then Frame (sent o bs s) frame.Cut else Glitch (sent o bs s) glitch.Cut) ∷ []) (sym (eight-bits bs h.eight))
+    ∙ ap (λ v. (if v then Frame (sent o bs s) frame.Cut else IncompleteByte (sent o bs s) glitch.Cut) ∷ []) (sym (eight-bits bs h.eight))
 ends (Low p o bs (suc n)) s last h =
     glitch-comes p o bs n s [] glitch.Cut h (uncalled-behind bs [] refl) refl refl
-    ∙ ap (λ v. (if v then Frame (sent o bs s) frame.Cut else Glitch (sent o bs s) glitch.Cut) ∷ []) (sym (not-eight bs n h.eight))
+    ∙ ap (λ v. (if v then Frame (sent o bs s) frame.Cut else IncompleteByte (sent o bs s) glitch.Cut) ∷ []) (sym (not-eight bs n h.eight))
 ends (High p o bs n l) s last (h, b) =
     glitch-comes p o bs n l (s ∷ []) glitch.Cut h (uncalled-behind bs (s ∷ []) b.uncalled) refl
     (high-ends s [] b.uncalled ∙ ap (λ v. silence_or v glitch.Cut) b.in_time)
-    ∙ (ap (λ x. Glitch (sent o bs l) glitch.Cut ∷ x) (nothing-begins l (s ∷ []) (low-opens-nothing l h.pulled))
-    ∙ ap (λ v. (if v then Frame (sent o bs l) frame.Cut else Glitch (sent o bs l) glitch.Cut) ∷ []) (sym (not-eight bs n h.eight)))
+    ∙ (ap (λ x. IncompleteByte (sent o bs l) glitch.Cut ∷ x) (nothing-begins l (s ∷ []) (low-opens-nothing l h.pulled))
+    ∙ ap (λ v. (if v then Frame (sent o bs l) frame.Cut else IncompleteByte (sent o bs l) glitch.Cut) ∷ []) (sym (not-eight bs n h.eight)))
 
 -- and that is not settled
 cut-unsettled : (t : Option Transfer) → filter is_settled (option_to_list (cut_in t)) ≡ []
 cut-unsettled None = refl
 cut-unsettled (Some t) = by (t.bits == 8)
   where
-    by : (v : Bool) → filter is_settled ((if v then Frame t frame.Cut else Glitch t glitch.Cut) ∷ []) ≡ []
+    by : (v : Bool) → filter is_settled ((if v then Frame t frame.Cut else IncompleteByte t glitch.Cut) ∷ []) ≡ []
     by true = refl
     by false = refl
 
@@ -188,7 +188,7 @@ seen-more edges given d e k s right told (Some r) h =
     (ap (λ v. if v then r ∷ [] else []) (settles (transfer_in s.past s.current) (stretch_in s.current s.last) e r h))
     (waits s.current s.last e)
 
-pub more-taken : (edges : List Edge) (given : List Reading) (d new : Decoder) (e : Edge) (s : declared.Stretch) (r : Option Reading) → d.stretch ≡ Some s
+pub more-taken : (edges : List Edge) (given : List Reading) (d new : Decoder) (e : Edge) (s : declared.ClockPhase) (r : Option Reading) → d.stretch ≡ Some s
     → r ≡ ended_by d.transfer s e → new ≡ after_edge d.transfer s e → HasRead edges given d
     → HasRead (edges ++ e ∷ []) (given ++ option_to_list r) new
 more-taken edges given d new e s r h m n k = by k.seen k.keeps k.right k.told
@@ -235,14 +235,14 @@ pub frame-left : (edges : List Edge) (given : List Reading) (d : Decoder) (t : T
 frame-left edges given d t k h m =
     all-read edges given d k
     ∙ (ap (λ x. given ++ option_to_list (cut_in x)) h
-    ∙ ap (λ n. given ++ (if n == 8 then Frame t frame.Cut else Glitch t glitch.Cut) ∷ []) m)
+    ∙ ap (λ n. given ++ (if n == 8 then Frame t frame.Cut else IncompleteByte t glitch.Cut) ∷ []) m)
 
 pub glitch-left : (edges : List Edge) (given : List Reading) (d : Decoder) (t : Transfer) → HasRead edges given d → d.transfer ≡ Some t
-    → (t.bits ≡ 8 → ⊥) → readings_of edges ≡ given ++ Glitch t glitch.Cut ∷ []
+    → (t.bits ≡ 8 → ⊥) → readings_of edges ≡ given ++ IncompleteByte t glitch.Cut ∷ []
 glitch-left edges given d t k h m =
     all-read edges given d k
     ∙ (ap (λ x. given ++ option_to_list (cut_in x)) h
-    ∙ ap (λ v. given ++ (if v then Frame t frame.Cut else Glitch t glitch.Cut) ∷ []) (ne_eqb t.bits 8 m))
+    ∙ ap (λ v. given ++ (if v then Frame t frame.Cut else IncompleteByte t glitch.Cut) ∷ []) (ne_eqb t.bits 8 m))
 
 -- those given are the settled ones
 pub all-settled : (edges : List Edge) (given : List Reading) (d : Decoder) → HasRead edges given d → settled_of edges ≡ given
@@ -261,7 +261,7 @@ record Read (edges : List Edge) : Type 0 where
 one-more : (edges : List Edge) (e : Edge) → Read edges → Read (edges ++ e ∷ [])
 one-more edges e r = by r.decoder.stretch refl
   where
-    by : (v : Option declared.Stretch) → r.decoder.stretch ≡ v → Read (edges ++ e ∷ [])
+    by : (v : Option declared.ClockPhase) → r.decoder.stretch ≡ v → Read (edges ++ e ∷ [])
     by None h = record {
       given = r.given ++ [];
       decoder = record { stretch = Some (began false e); transfer = r.decoder.transfer };

@@ -2,10 +2,10 @@
 use Rattle.std.proofs.Common.{◌≡◌, ℕ, Bool, true, false, not, List, [], ◌∷◌, ◌++◌, Some, None, if◌then◌else◌, refl, ap, ◌∙◌}
 use Rattle.pr_wire.specs.declared.Edge.{Edge}
 use Rattle.pr_wire.specs.Table.{same}
-use Rattle.pr_decode.specs.declared.stretch.Turns.TheVariants.{Still, Once, Twice, Thrice, Often}
+use Rattle.pr_decode.specs.declared.stretch.DataTransitions.TheVariants.{Still, Once, Twice, Thrice, Often}
 use Rattle.pr_decode.specs.Readings.{acknowledgement, opening, turns, turns_of}
 use Rattle.pr_decode.specs.Steps.{acknowledged_in, opened, turned}
-use Rattle.pr_decode.specs.Stretches.{Stretch, edges_in, longer, begun}
+use Rattle.pr_decode.specs.Stretches.{ClockPhase, edges_in, longer, begun}
 use Rattle.pr_decode.specs.Taking.{noted}
 
 -- the level that DATA turns to next, behind some turns
@@ -59,7 +59,7 @@ noted-more b (x ∷ y ∷ z ∷ []) e = by e.levels.line b
 noted-more b (x ∷ y ∷ z ∷ w ∷ ts) e = refl
 
 -- the turns of a stretch with one edge more
-pub turns-longer : (s : Stretch) (e : Edge) → noted (turns_of (longer s e)) ≡ turned (not s.first.levels.clock) (noted (turns_of s)) e
+pub turns-longer : (s : ClockPhase) (e : Edge) → noted (turns_of (longer s e)) ≡ turned (not s.first.levels.clock) (noted (turns_of s)) e
 turns-longer s e =
     ap noted (turns-append (not s.first.levels.clock) (edges_in s) (e ∷ [])) ∙ noted-more (not s.first.levels.clock) (turns_of s) e
 
@@ -88,7 +88,7 @@ acknowledged-stays [] us t h = absurd (cc)
 acknowledged-stays (a ∷ []) us t h = absurd (cc)
 acknowledged-stays (a ∷ b ∷ ts) us t h = h
 
-pub acknowledged-longer : (s : Stretch) (r : List Edge) (t : ℕ) → acknowledgement (turns_of s) ≡ Some t
+pub acknowledged-longer : (s : ClockPhase) (r : List Edge) (t : ℕ) → acknowledgement (turns_of s) ≡ Some t
     → acknowledgement (turns_of (record s { rest = s.rest ++ r })) ≡ Some t
 acknowledged-longer s r t h =
     let level : Bool = not s.first.levels.clock in

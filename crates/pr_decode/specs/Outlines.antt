@@ -5,7 +5,7 @@ use Rattle.std.specs.Prelude.{ℕ, zero, suc, Bool, List, [], ◌∷◌, Option,
 use Rattle.pr_decode.specs.declared.reading.Opening.{Opening}
 use Rattle.pr_decode.specs.declared.reading.Reading.{Reading}
 use Rattle.pr_decode.specs.Readings.{acknowledgement, begins, first_late, opening_of, turns_of}
-use Rattle.pr_decode.specs.Stretches.{Stretch}
+use Rattle.pr_decode.specs.Stretches.{ClockPhase}
 
 -- what counts where CLOCK is released
 pub record Released : Type 0 where
@@ -17,7 +17,7 @@ pub record Outline : Type 0 where
   pub time : ℕ
   pub released : Option Released
 
-abbrev pub outline : Stretch → Outline
+abbrev pub outline : ClockPhase → Outline
 outline s = record {
   called = s.called;
   time = s.first.time;
@@ -25,13 +25,13 @@ outline s = record {
 }
 
 -- the acknowledgement in the stretch behind so many
-abbrev pub acknowledged_behind : ℕ → List Stretch → Option ℕ
+abbrev pub acknowledged_behind : ℕ → List ClockPhase → Option ℕ
 acknowledged_behind n [] = None
 acknowledged_behind zero (s ∷ ss) = acknowledgement (turns_of s)
 acknowledged_behind (suc n) (s ∷ ss) = acknowledged_behind n ss
 
 -- an opening with the acknowledgement behind eight bits, each of two stretches
-abbrev pub with_acknowledgement : Option Opening → List Stretch → Option (Opening × Option ℕ)
+abbrev pub with_acknowledgement : Option Opening → List ClockPhase → Option (Opening × Option ℕ)
 with_acknowledgement None ss = None
 with_acknowledgement (Some o) ss = Some (o, acknowledged_behind 16 ss)
 
@@ -41,7 +41,7 @@ taken_by None = 0
 taken_by (Some r) = r.1
 
 -- the openings among stretches, behind so many that belong to a byte
-abbrev pub openings : (taken : ℕ) → List Stretch → List (Option (Opening × Option ℕ))
+abbrev pub openings : (taken : ℕ) → List ClockPhase → List (Option (Opening × Option ℕ))
 openings n [] = []
 openings (suc n) (s ∷ ss) = openings n ss
 openings zero (s ∷ ss) = with_acknowledgement (opening_of s) ss ∷ openings (taken_by (begins s ss)) ss

@@ -59,4 +59,4 @@ abbrev pub frames_in : List Reading → List Frame
 frames_in [] = []
 frames_in (read.Frame t end ∷ rs) =
     record { attention = t.opening.command; byte = t.byte; eoi = is_answered t.opening.pulse } ∷ frames_in rs
-frames_in (read.Glitch t end ∷ rs) = frames_in rs
+frames_in (read.IncompleteByte t end ∷ rs) = frames_in rs

@@ -10,11 +10,11 @@ use Rattle.pr_decode.specs.declared.reading.Halves.{Halves}
 use Rattle.pr_decode.specs.declared.reading.Transfer.{Transfer}
 use Rattle.pr_decode.specs.declared.reading.FrameEnd.{FrameEnd}
 use Rattle.pr_decode.specs.declared.reading.FrameEnd.TheVariants as frame
-use Rattle.pr_decode.specs.declared.reading.GlitchEnd.{GlitchEnd}
-use Rattle.pr_decode.specs.declared.reading.GlitchEnd.TheVariants as glitch
+use Rattle.pr_decode.specs.declared.reading.IncompleteEnd.{IncompleteEnd}
+use Rattle.pr_decode.specs.declared.reading.IncompleteEnd.TheVariants as glitch
 use Rattle.pr_decode.specs.declared.reading.Reading.{Reading}
-use Rattle.pr_decode.specs.declared.reading.Reading.TheVariants.{Frame, Glitch}
-use Rattle.pr_decode.specs.Stretches.{Stretch, edges_in, stretches}
+use Rattle.pr_decode.specs.declared.reading.Reading.TheVariants.{Frame, IncompleteByte}
+use Rattle.pr_decode.specs.Stretches.{ClockPhase, edges_in, stretches}
 
 -- for how many microseconds CLOCK may be released in a bit
 abbrev pub longest_bit : ℕ
@@ -26,7 +26,7 @@ turns level [] = []
 turns level (e ∷ es) = if same e.levels.line level then e ∷ turns (not level) es else turns level es
 
 -- where DATA turns in a stretch: where CLOCK is released it is pulled first, and where CLOCK is pulled it is released first
-abbrev pub turns_of : Stretch → List Edge
+abbrev pub turns_of : ClockPhase → List Edge
 turns_of s = turns (not s.first.levels.clock) (edges_in s)
 
 -- an opening: DATA is pulled (the look), and released (ready); perhaps pulled and released again (end-or-identify)
@@ -41,7 +41,7 @@ opening (l ∷ r ∷ es) = Some (record { command = not r.levels.atn; look = l.t
 opening es = None
 
 -- a stretch is one where CLOCK is released; none is where ATN's pull begins it
-abbrev pub opening_of : Stretch → Option Opening
+abbrev pub opening_of : ClockPhase → Option Opening
 opening_of s = if s.called then None else (if s.first.levels.clock then opening (turns_of s) else None)
 
 -- an edge comes too late for a bit since CLOCK was released
@@ -59,27 +59,27 @@ is_none (Some t) = false
 
 -- a stretch with CLOCK released ends a bit, if the next one follows in time and ATN is pulled by neither; CLOCK is then pulled in
 -- that one, since it is not as it was
-abbrev pub ends_bit : (high next : Stretch) → Bool
+abbrev pub ends_bit : (high next : ClockPhase) → Bool
 ends_bit high next = not high.called && not next.called && is_none (first_late high.first.time (high.rest ++ next.first ∷ []))
 
 -- a bit: CLOCK pulled, CLOCK released, and the edge that pulls it again
 pub record Bit : Type 0 where
-  pub low : Stretch
-  pub high : Stretch
+  pub low : ClockPhase
+  pub high : ClockPhase
   pub down : Edge
 
 -- the bits of a byte, the stretch with CLOCK pulled behind them, and what follows that
 pub record Bits : Type 0 where
   pub bits : List Bit
-  pub last : Stretch
-  pub behind : List Stretch
+  pub last : ClockPhase
+  pub behind : List ClockPhase
 
 -- a bit in front of others
 abbrev pub put_bit : Bit → Bits → Bits
 put_bit b more = record more { bits = b ∷ more.bits }
 
 -- as many bits as come from a stretch with CLOCK pulled on, at most so many
-abbrev pub bits_from : (most : ℕ) → Stretch → List Stretch → Bits
+abbrev pub bits_from : (most : ℕ) → ClockPhase → List ClockPhase → Bits
 bits_from (suc n) low (high ∷ next ∷ ss) =
     if ends_bit high next
     then put_bit (record { low = low; high = high; down = next.first }) (bits_from n next ss)
@@ -128,24 +128,24 @@ acknowledgement (r ∷ a ∷ es) = Some a.time
 acknowledgement es = None
 
 -- what ends the waiting for it: the next stretch, if there is one
-abbrev pub waiting_end : List Stretch → FrameEnd
+abbrev pub waiting_end : List ClockPhase → FrameEnd
 waiting_end [] = frame.Cut
 waiting_end (s ∷ ss) = frame.Unacknowledged s.first.time
 
-abbrev pub frame_end : Option ℕ → List Stretch → FrameEnd
+abbrev pub frame_end : Option ℕ → List ClockPhase → FrameEnd
 frame_end (Some t) behind = frame.Acknowledged t
 frame_end None behind = waiting_end behind
 
 -- what ends a byte too soon: CLOCK stays released, or ATN is pulled, or the recording ends
-abbrev pub silence_or : Option ℕ → GlitchEnd → GlitchEnd
-silence_or (Some t) otherwise = glitch.Silence t
+abbrev pub silence_or : Option ℕ → IncompleteEnd → IncompleteEnd
+silence_or (Some t) otherwise = glitch.ClockTimeout t
 silence_or None otherwise = otherwise
 
-abbrev pub high_end : Stretch → List Stretch → GlitchEnd
+abbrev pub high_end : ClockPhase → List ClockPhase → IncompleteEnd
 high_end s [] = silence_or (first_late s.first.time s.rest) glitch.Cut
 high_end s (n ∷ ss) = silence_or (first_late s.first.time (s.rest ++ n.first ∷ [])) (glitch.Attention n.first.time)
 
-abbrev pub glitch_end : List Stretch → GlitchEnd
+abbrev pub glitch_end : List ClockPhase → IncompleteEnd
 glitch_end [] = glitch.Cut
 glitch_end (s ∷ ss) = if s.called then glitch.Attention s.first.time else high_end s ss
 
@@ -154,7 +154,7 @@ abbrev pub reading : Opening → (pull : ℕ) → Bits → Reading
 reading o pull b =
     if length b.bits == 8
     then Frame (transfer o pull b.bits b.last.first.time) (frame_end (acknowledgement (turns_of b.last)) b.behind)
-    else Glitch (transfer o pull b.bits b.last.first.time) (glitch_end b.behind)
+    else IncompleteByte (transfer o pull b.bits b.last.first.time) (glitch_end b.behind)
 
 -- how many stretches bits are
 abbrev pub number_of : List Bit → ℕ
@@ -162,19 +162,19 @@ number_of [] = 0
 number_of (b ∷ bs) = suc (suc (number_of bs))
 
 -- ATN's pull begins the first of some stretches
-abbrev pub is_called : List Stretch → Bool
+abbrev pub is_called : List ClockPhase → Bool
 is_called [] = false
 is_called (s ∷ ss) = s.called
 
 -- what an opening begins with the stretch behind it: a byte, and how many stretches its bits are. Nothing where ATN is pulled with
 -- CLOCK's first pull, or before CLOCK is released for a first bit: no bit has come then, and it was the computer that pulled CLOCK,
 -- to call. (Behind a talker's last byte CLOCK is let go, and then DATA, as if one more were to come.)
-abbrev pub begun_by : Option Opening → Stretch → List Stretch → Option (Reading × ℕ)
+abbrev pub begun_by : Option Opening → ClockPhase → List ClockPhase → Option (Reading × ℕ)
 begun_by None low ss = None
 begun_by (Some o) low ss =
     if low.called || is_called ss then None else (let b = bits_from 8 low ss in Some (reading o low.first.time b, number_of b.bits))
 
-abbrev pub begins : Stretch → List Stretch → Option (Reading × ℕ)
+abbrev pub begins : ClockPhase → List ClockPhase → Option (Reading × ℕ)
 begins s [] = None
 begins s (low ∷ ss) = begun_by (opening_of s) low ss
 
@@ -184,7 +184,7 @@ said None behind = behind 0
 said (Some r) behind = r.0 ∷ behind r.1
 
 -- what stretches say, from the front, behind so many that belong to a byte
-abbrev pub readings : (taken : ℕ) → List Stretch → List Reading
+abbrev pub readings : (taken : ℕ) → List ClockPhase → List Reading
 readings n [] = []
 readings (suc n) (s ∷ ss) = readings n ss
 readings zero (s ∷ ss) = said (begins s ss) (λ n. readings n ss)
@@ -196,7 +196,7 @@ readings_of edges = readings 0 (stretches edges)
 -- a reading that the end of the recording does not cut
 abbrev pub is_settled : Reading → Bool
 is_settled (Frame t frame.Cut) = false
-is_settled (Glitch t glitch.Cut) = false
+is_settled (IncompleteByte t glitch.Cut) = false
 is_settled r = true
 
 -- what edges say, whatever may follow

@@ -9,12 +9,12 @@ use Rattle.pr_decode.specs.declared.reading.Opening.{Opening}
 use Rattle.pr_decode.specs.declared.reading.Halves.{Halves}
 use Rattle.pr_decode.specs.declared.reading.Transfer.{Transfer}
 use Rattle.pr_decode.specs.declared.reading.FrameEnd.TheVariants as frame
-use Rattle.pr_decode.specs.declared.reading.GlitchEnd.TheVariants as glitch
+use Rattle.pr_decode.specs.declared.reading.IncompleteEnd.TheVariants as glitch
 use Rattle.pr_decode.specs.declared.reading.Reading.{Reading}
-use Rattle.pr_decode.specs.declared.reading.Reading.TheVariants.{Frame, Glitch}
-use Rattle.pr_decode.specs.declared.stretch.Stretch.{Stretch}
-use Rattle.pr_decode.specs.declared.stretch.Turns.{Turns}
-use Rattle.pr_decode.specs.declared.stretch.Turns.TheVariants.{Still, Once, Twice, Thrice, Often}
+use Rattle.pr_decode.specs.declared.reading.Reading.TheVariants.{Frame, IncompleteByte}
+use Rattle.pr_decode.specs.declared.stretch.ClockPhase.{ClockPhase}
+use Rattle.pr_decode.specs.declared.stretch.DataTransitions.{DataTransitions}
+use Rattle.pr_decode.specs.declared.stretch.DataTransitions.TheVariants.{Still, Once, Twice, Thrice, Often}
 use Rattle.pr_decode.specs.Readings.{is_late}
 use Rattle.pr_decode.specs.Stretches.{calls, goes_on}
 
@@ -60,7 +60,7 @@ with_bit t up down = record {
 }
 
 -- the turns with the next edge
-abbrev pub turned : Bool → Turns → Edge → Turns
+abbrev pub turned : Bool → DataTransitions → Edge → DataTransitions
 turned level Still e = if same e.levels.line level then Once e else Still
 turned level (Once a) e = if same e.levels.line level then Once a else Twice a e
 turned level (Twice a b) e = if same e.levels.line level then Thrice a b e else Twice a b
@@ -68,14 +68,14 @@ turned level (Thrice a b c) e = if same e.levels.line level then Thrice a b c el
 turned level (Often a b c d) e = Often a b c d
 
 -- a stretch that begins, and one with an edge more
-abbrev pub began : (called : Bool) → Edge → Stretch
+abbrev pub began : (called : Bool) → Edge → ClockPhase
 began called e = record { called = called; first = e; last = e; turns = turned (not e.levels.clock) Still e }
 
-abbrev pub with_edge : Stretch → Edge → Stretch
+abbrev pub with_edge : ClockPhase → Edge → ClockPhase
 with_edge s e = record { called = s.called; first = s.first; last = e; turns = turned (not s.first.levels.clock) s.turns e }
 
 -- the opening that turns are
-abbrev pub opened : Turns → Option Opening
+abbrev pub opened : DataTransitions → Option Opening
 opened Still = None
 opened (Once a) = None
 opened (Twice a b) = Some (record { command = not b.levels.atn; look = a.time; ready = b.time; pulse = None })
@@ -87,11 +87,11 @@ opened (Often a b c d) = Some (record {
   pulse = Some (record { pulled = c.time; released = d.time });
 })
 
-abbrev pub opening_in : Stretch → Option Opening
+abbrev pub opening_in : ClockPhase → Option Opening
 opening_in s = if s.called then None else (if s.first.levels.clock then opened s.turns else None)
 
 -- the acknowledgement among turns
-abbrev pub acknowledged_in : Turns → Option ℕ
+abbrev pub acknowledged_in : DataTransitions → Option ℕ
 acknowledged_in Still = None
 acknowledged_in (Once a) = None
 acknowledged_in (Twice a b) = Some b.time
@@ -103,24 +103,24 @@ abbrev pub acknowledged_at : Transfer → Option ℕ → Option Reading
 acknowledged_at t (Some time) = Some (Frame t (frame.Acknowledged time))
 acknowledged_at t None = None
 
-abbrev pub frame_ended : Transfer → Stretch → Edge → Option Reading
+abbrev pub frame_ended : Transfer → ClockPhase → Edge → Option Reading
 frame_ended t s e =
     if goes_on s.first s.last e then acknowledged_at t (acknowledged_in (turned (not s.first.levels.clock) s.turns e))
     else Some (Frame t (frame.Unacknowledged e.time))
 
-abbrev pub called_at : Transfer → Stretch → Edge → Option Reading
-called_at t s e = if calls s.last e then Some (Glitch t (glitch.Attention e.time)) else None
+abbrev pub called_at : Transfer → ClockPhase → Edge → Option Reading
+called_at t s e = if calls s.last e then Some (IncompleteByte t (glitch.Attention e.time)) else None
 
-abbrev pub bits_ended : Transfer → Stretch → Edge → Option Reading
+abbrev pub bits_ended : Transfer → ClockPhase → Edge → Option Reading
 bits_ended t s e = if t.bits == 0 then None else called_at t s e
 
-abbrev pub low_ended : Transfer → Stretch → Edge → Option Reading
+abbrev pub low_ended : Transfer → ClockPhase → Edge → Option Reading
 low_ended t s e = if t.bits == 8 then frame_ended t s e else bits_ended t s e
 
-abbrev pub high_ended : Transfer → Stretch → Edge → Option Reading
-high_ended t s e = if is_late s.first.time e then Some (Glitch t (glitch.Silence e.time)) else called_at t s e
+abbrev pub high_ended : Transfer → ClockPhase → Edge → Option Reading
+high_ended t s e = if is_late s.first.time e then Some (IncompleteByte t (glitch.ClockTimeout e.time)) else called_at t s e
 
-abbrev pub ended_by : Option Transfer → Stretch → Edge → Option Reading
+abbrev pub ended_by : Option Transfer → ClockPhase → Edge → Option Reading
 ended_by None s e = None
 ended_by (Some t) s e = if s.first.levels.clock then high_ended t s e else low_ended t s e
 
@@ -129,22 +129,22 @@ abbrev pub ended_as : Option Transfer → Option Ending → Option Reading
 ended_as t None = None
 ended_as None (Some e) = None
 ended_as (Some t) (Some (Whole end)) = Some (Frame t end)
-ended_as (Some t) (Some (Broken end)) = Some (Glitch t end)
+ended_as (Some t) (Some (Broken end)) = Some (IncompleteByte t end)
 
 -- the byte begun, once an edge has ended a stretch
 abbrev pub begun_behind : Option Opening → Edge → Option Transfer
 begun_behind None e = None
 begun_behind (Some o) e = Some (begun_transfer o e)
 
-abbrev pub advanced : Option Transfer → Stretch → Edge → Option Transfer
+abbrev pub advanced : Option Transfer → ClockPhase → Edge → Option Transfer
 advanced None s e = begun_behind (opening_in s) e
 advanced (Some t) s e = Some (if s.first.levels.clock then with_bit t s.first e else t)
 
-abbrev pub moved : Option Transfer → Stretch → Edge → Option Transfer
+abbrev pub moved : Option Transfer → ClockPhase → Edge → Option Transfer
 moved t s e = if calls s.last e then None else advanced t s e
 
 -- a decoder behind an edge that goes on with a stretch, or ends it
-abbrev pub after : Option Transfer → Stretch → Edge → Decoder
+abbrev pub after : Option Transfer → ClockPhase → Edge → Decoder
 after t s e =
     if goes_on s.first s.last e then record { stretch = Some (with_edge s e); transfer = t }
     else record { stretch = Some (began (calls s.last e) e); transfer = moved t s e }
@@ -154,10 +154,10 @@ abbrev pub kept_of : Option Reading → Option Transfer → Option Transfer
 kept_of None t = t
 kept_of (Some r) t = None
 
-abbrev pub after_edge : Option Transfer → Stretch → Edge → Decoder
+abbrev pub after_edge : Option Transfer → ClockPhase → Edge → Decoder
 after_edge t s e = after (kept_of (ended_by t s e) t) s e
 
 -- what the recording's end cuts
 abbrev pub cut_in : Option Transfer → Option Reading
 cut_in None = None
-cut_in (Some t) = Some (if t.bits == 8 then Frame t frame.Cut else Glitch t glitch.Cut)
+cut_in (Some t) = Some (if t.bits == 8 then Frame t frame.Cut else IncompleteByte t glitch.Cut)

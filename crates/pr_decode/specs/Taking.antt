@@ -7,14 +7,14 @@ use Rattle.pr_decode.specs.declared.decoder.Decoder.{Decoder}
 use Rattle.pr_decode.specs.declared.reading.Opening.{Opening}
 use Rattle.pr_decode.specs.declared.reading.Transfer.{Transfer}
 use Rattle.pr_decode.specs.declared.reading.Reading.{Reading}
-use Rattle.pr_decode.specs.declared.stretch.Stretch as declared
-use Rattle.pr_decode.specs.declared.stretch.Turns.{Turns}
-use Rattle.pr_decode.specs.declared.stretch.Turns.TheVariants.{Still, Once, Twice, Thrice, Often}
+use Rattle.pr_decode.specs.declared.stretch.ClockPhase as declared
+use Rattle.pr_decode.specs.declared.stretch.DataTransitions.{DataTransitions}
+use Rattle.pr_decode.specs.declared.stretch.DataTransitions.TheVariants.{Still, Once, Twice, Thrice, Often}
 use Rattle.pr_decode.specs.Readings.{Bit, acknowledgement, ends_bit, first_late, is_settled, opening_of, readings, readings_of, settled_of, transfer, turns_of}
-use Rattle.pr_decode.specs.Stretches.{Stretch, stretches_from}
+use Rattle.pr_decode.specs.Stretches.{ClockPhase, stretches_from}
 
 -- the edges at which DATA has turned, the first four
-abbrev pub noted : List Edge → Turns
+abbrev pub noted : List Edge → DataTransitions
 noted [] = Still
 noted (a ∷ []) = Once a
 noted (a ∷ b ∷ []) = Twice a b
@@ -22,17 +22,17 @@ noted (a ∷ b ∷ c ∷ []) = Thrice a b c
 noted (a ∷ b ∷ c ∷ d ∷ es) = Often a b c d
 
 -- the stretches of bits
-abbrev pub stretched : List Bit → List Stretch
+abbrev pub stretched : List Bit → List ClockPhase
 stretched [] = []
 stretched (b ∷ bs) = b.low ∷ b.high ∷ stretched bs
 
 -- the first stretch with CLOCK pulled
-abbrev pub first_low : List Bit → Stretch → Stretch
+abbrev pub first_low : List Bit → ClockPhase → ClockPhase
 first_low [] last = last
 first_low (b ∷ bs) last = b.low
 
 -- bits behind one another, and so many bits with others
-abbrev pub AreBits : List Bit → Stretch → Type 0
+abbrev pub AreBits : List Bit → ClockPhase → Type 0
 AreBits [] last = Unit {0}
 AreBits (b ∷ bs) last = (ends_bit b.high (first_low bs last) ≡ true) × (b.down ≡ (first_low bs last).first) × AreBits bs last
 
@@ -45,24 +45,24 @@ pub data Past : Type 0 where
   -- no byte
   Waiting : Past
   -- a byte: its opening, its bits, how many are left; CLOCK is pulled
-  Low : (opened : Stretch) (o : Opening) (bits : List Bit) (left : ℕ) → Past
+  Low : (opened : ClockPhase) (o : Opening) (bits : List Bit) (left : ℕ) → Past
   -- a byte: likewise, and the stretch with CLOCK pulled before it; CLOCK is released, for a bit
-  High : (opened : Stretch) (o : Opening) (bits : List Bit) (left : ℕ) (low : Stretch) → Past
+  High : (opened : ClockPhase) (o : Opening) (bits : List Bit) (left : ℕ) (low : ClockPhase) → Past
 
 -- what has been seen: what has begun, the stretch that is not ended yet, and the last edge
 pub record Seen : Type 0 where
   pub past : Past
-  pub current : Stretch
+  pub current : ClockPhase
   pub last : Edge
 
 -- the stretches since a byte began
-abbrev pub whole : Past → List Stretch → List Stretch
+abbrev pub whole : Past → List ClockPhase → List ClockPhase
 whole Waiting ss = ss
 whole (Low s o bs n) ss = s ∷ (stretched bs ++ ss)
 whole (High s o bs n l) ss = s ∷ (stretched bs ++ l ∷ ss)
 
 -- the readings that come yet
-abbrev pub to_come : Past → Stretch → Edge → List Edge → List Reading
+abbrev pub to_come : Past → ClockPhase → Edge → List Edge → List Reading
 to_come p s last es = readings 0 (whole p (stretches_from s last es))
 
 abbrev pub to_come_behind : Option Seen → List Edge → List Reading
@@ -70,12 +70,12 @@ to_come_behind None es = readings_of es
 to_come_behind (Some s) es = to_come s.past s.current s.last es
 
 -- what is kept of it
-abbrev pub transfer_in : Past → Stretch → Option Transfer
+abbrev pub transfer_in : Past → ClockPhase → Option Transfer
 transfer_in Waiting s = None
 transfer_in (Low p o bs n) s = Some (transfer o (first_low bs s).first.time bs s.first.time)
 transfer_in (High p o bs n l) s = Some (transfer o (first_low bs l).first.time bs l.first.time)
 
-abbrev pub stretch_in : Stretch → Edge → declared.Stretch
+abbrev pub stretch_in : ClockPhase → Edge → declared.ClockPhase
 stretch_in s last = record { called = s.called; first = s.first; last = last; turns = noted (turns_of s) }
 
 abbrev pub kept : Option Seen → Decoder
@@ -83,20 +83,20 @@ kept None = record { stretch = None; transfer = None }
 kept (Some s) = record { stretch = Some (stretch_in s.current s.last); transfer = transfer_in s.past s.current }
 
 -- a byte has begun with an opening, and has these bits before a stretch with CLOCK pulled
-pub record HasBegun (s : Stretch) (o : Opening) (bs : List Bit) (left : ℕ) (low : Stretch) : Type 0 where
+pub record HasBegun (s : ClockPhase) (o : Opening) (bs : List Bit) (left : ℕ) (low : ClockPhase) : Type 0 where
   pub opens : opening_of s ≡ Some o
   pub uncalled : (first_low bs low).called ≡ false
   pub bits : AreBits bs low
   pub eight : with_more bs left ≡ 8
   pub pulled : low.first.levels.clock ≡ false
 
-pub record IsBit (high : Stretch) : Type 0 where
+pub record IsBit (high : ClockPhase) : Type 0 where
   pub released : high.first.levels.clock ≡ true
   pub uncalled : high.called ≡ false
   pub in_time : first_late high.first.time high.rest ≡ None
 
 -- what has begun has begun rightly
-abbrev pub IsRight : Past → Stretch → Type 0
+abbrev pub IsRight : Past → ClockPhase → Type 0
 IsRight Waiting s = Unit {0}
 IsRight (Low p o bs zero) s = HasBegun p o bs zero s × (acknowledgement (turns_of s) ≡ None)
 IsRight (Low p o bs (suc n)) s = HasBegun p o bs (suc n) s
@@ -115,7 +115,7 @@ pub record HasRead (edges : List Edge) (given : List Reading) (d : Decoder) : Ty
   pub settled : filter is_settled given ≡ given
 
 -- the moment of the edge taken last, if one was
-abbrev pub time_in : Option declared.Stretch → Option ℕ
+abbrev pub time_in : Option declared.ClockPhase → Option ℕ
 time_in None = None
 time_in (Some s) = Some s.last.time
 

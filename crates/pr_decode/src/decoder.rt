@@ -9,8 +9,8 @@ ghost use Rattle.pr_decode.specs.Readings.{readings_of, settled_of};
 ghost use Rattle.pr_decode.specs.Steps.{after, after_edge, ended_as, ended_by, frame_ended, high_ended, low_ended, moved};
 ghost use Rattle.pr_decode.specs.Taking.{HasRead, IsBefore, last_time};
 
-use crate::reading::{FrameEnd, GlitchEnd, Reading, Transfer};
-use crate::stretch::{Stretch, calls, is_late};
+use crate::reading::{FrameEnd, IncompleteEnd, Reading, Transfer};
+use crate::stretch::{ClockPhase, calls, is_late};
 use pr_wire::Edge;
 use thiserror::Error;
 
@@ -30,7 +30,7 @@ pub struct GoesBack;
 #[derive(Drop)]
 pub struct Decoder {
     /// The stretch that is not ended yet, once an edge has come.
-    pub stretch: Option<Stretch>,
+    pub stretch: Option<ClockPhase>,
     /// The byte that has begun, as far as it came.
     pub transfer: Option<Transfer>,
 }
@@ -39,11 +39,11 @@ pub struct Decoder {
 #[derive(Clone, Copy)]
 enum Ending {
     Whole(FrameEnd),
-    Broken(GlitchEnd),
+    Broken(IncompleteEnd),
 }
 
 /// How an edge ends a byte that has its eight bits, while CLOCK is pulled.
-fn whole_end(stretch: &Stretch, edge: Edge) -> Option<Ending>
+fn whole_end(stretch: &ClockPhase, edge: Edge) -> Option<Ending>
     ensures { (transfer : Transfer) → ended_as (Some transfer) result ≡ frame_ended transfer stretch.now edge }
 {
     if !stretch.goes_on(edge) {
@@ -56,26 +56,26 @@ fn whole_end(stretch: &Stretch, edge: Edge) -> Option<Ending>
 /// How an edge ends a byte that has begun and has so many bits, behind a stretch with CLOCK pulled. Where
 /// ATN is pulled before the first bit, it does not.
 #[inline(always)]
-fn low_end(bits: u8, stretch: &Stretch, edge: Edge) -> Option<Ending>
+fn low_end(bits: u8, stretch: &ClockPhase, edge: Edge) -> Option<Ending>
     ensures { (transfer : Transfer) → transfer.bits ≡ bits → ended_as (Some transfer) result ≡ low_ended transfer stretch.now edge }
 {
     match bits {
         0 => None,
         8 => whole_end(stretch, edge),
-        _ if calls(stretch.last, edge) => Some(Ending::Broken(GlitchEnd::Attention(edge.time))),
+        _ if calls(stretch.last, edge) => Some(Ending::Broken(IncompleteEnd::Attention(edge.time))),
         _ => None,
     }
 }
 
 /// How an edge ends a byte that has begun, behind a stretch with CLOCK released.
 #[inline(always)]
-fn high_end(stretch: &Stretch, edge: Edge) -> Option<Ending>
+fn high_end(stretch: &ClockPhase, edge: Edge) -> Option<Ending>
     ensures { (transfer : Transfer) → ended_as (Some transfer) result ≡ high_ended transfer stretch.now edge }
 {
     if is_late(stretch.first.time, edge) {
-        Some(Ending::Broken(GlitchEnd::Silence(edge.time)))
+        Some(Ending::Broken(IncompleteEnd::ClockTimeout(edge.time)))
     } else if calls(stretch.last, edge) {
-        Some(Ending::Broken(GlitchEnd::Attention(edge.time)))
+        Some(Ending::Broken(IncompleteEnd::Attention(edge.time)))
     } else {
         None
     }
@@ -83,7 +83,7 @@ fn high_end(stretch: &Stretch, edge: Edge) -> Option<Ending>
 
 /// How an edge ends the byte that has begun, if one has, behind a stretch.
 #[inline(always)]
-fn ended_now(transfer: &Option<Transfer>, stretch: &Stretch, edge: Edge) -> Option<Ending>
+fn ended_now(transfer: &Option<Transfer>, stretch: &ClockPhase, edge: Edge) -> Option<Ending>
     ensures { ended_as transfer.now result ≡ ended_by transfer.now stretch.now edge }
 {
     let Some(transfer) = transfer else {
@@ -104,14 +104,14 @@ fn end(transfer: &mut Option<Transfer>, ending: Ending) -> Option<Reading>
     let transfer = transfer.take()?;
     Some(match ending {
         Ending::Whole(end) => Reading::Frame(transfer, end),
-        Ending::Broken(end) => Reading::Glitch(transfer, end),
+        Ending::Broken(end) => Reading::IncompleteByte(transfer, end),
     })
 }
 
 /// An edge has ended a stretch: the byte that has begun goes on, or one begins. Behind ATN's pull there is
 /// none.
 #[inline(always)]
-fn advance(transfer: &mut Option<Transfer>, stretch: &Stretch, edge: Edge)
+fn advance(transfer: &mut Option<Transfer>, stretch: &ClockPhase, edge: Edge)
     ensures { transfer.new ≡ moved transfer.old stretch.now edge }
 {
     if calls(stretch.last, edge) {
@@ -131,7 +131,7 @@ fn advance(transfer: &mut Option<Transfer>, stretch: &Stretch, edge: Edge)
 
 /// Goes on behind a stretch.
 #[inline(always)]
-fn go_on(transfer: &mut Option<Transfer>, stretch: &mut Stretch, edge: Edge)
+fn go_on(transfer: &mut Option<Transfer>, stretch: &mut ClockPhase, edge: Edge)
     ensures { record { stretch = Some stretch.new; transfer = transfer.new } ≡ after transfer.old stretch.old edge }
 {
     if stretch.goes_on(edge) {
@@ -145,7 +145,7 @@ fn go_on(transfer: &mut Option<Transfer>, stretch: &mut Stretch, edge: Edge)
 
 /// Takes the next edge, and gives what it ends.
 #[inline(always)]
-fn step(transfer: &mut Option<Transfer>, stretch: &mut Stretch, edge: Edge) -> Option<Reading>
+fn step(transfer: &mut Option<Transfer>, stretch: &mut ClockPhase, edge: Edge) -> Option<Reading>
     ensures reading { result ≡ ended_by transfer.old stretch.old edge }
     ensures new { record { stretch = Some stretch.new; transfer = transfer.new } ≡ after_edge transfer.old stretch.old edge }
 {
@@ -185,7 +185,7 @@ impl Decoder {
         ensures stays { OnErr result (self.new ≡ self.old) }
     {
         let Some(stretch) = &mut self.stretch else {
-            self.stretch = Some(Stretch::begun(false, edge));
+            self.stretch = Some(ClockPhase::begun(false, edge));
             return Ok(None);
         };
         if edge.time < stretch.last.time {
@@ -205,7 +205,7 @@ impl Decoder {
         Some(if transfer.bits == 8 {
             Reading::Frame(transfer, FrameEnd::Cut)
         } else {
-            Reading::Glitch(transfer, GlitchEnd::Cut)
+            Reading::IncompleteByte(transfer, IncompleteEnd::Cut)
         })
     }
 }

@@ -12,5 +12,5 @@ mod stretch;
 
 pub use decoder::{Decoder, GoesBack};
 pub use laws::{moments_decide, readings_add_up, traces_are_read};
-pub use reading::{FrameEnd, GlitchEnd, Halves, Opening, Pulse, Reading, Transfer};
-pub use stretch::{Stretch, Turns};
+pub use reading::{FrameEnd, Halves, IncompleteEnd, Opening, Pulse, Reading, Transfer};
+pub use stretch::{ClockPhase, DataTransitions};

@@ -66,11 +66,11 @@ pub enum FrameEnd {
 
 /// What ends a byte before its eight bits.
 #[derive(Clone, Copy, Debug, PartialEq, Eq)]
-pub enum GlitchEnd {
+pub enum IncompleteEnd {
     /// ATN is pulled, and CLOCK was released for a first bit: before that nothing is said.
     Attention(u64),
     /// CLOCK is released for more than 1000 microseconds (profile); this is the first edge after that.
-    Silence(u64),
+    ClockTimeout(u64),
     /// The recording ends.
     Cut,
 }
@@ -81,7 +81,7 @@ pub enum Reading {
     /// A whole byte.
     Frame(Transfer, FrameEnd),
     /// A byte begun and not ended.
-    Glitch(Transfer, GlitchEnd),
+    IncompleteByte(Transfer, IncompleteEnd),
 }
 
 /// What the number of the next bit counts for, behind so many bits.

@@ -14,7 +14,7 @@ const LONGEST_BIT: u64 = 1000;
 /// The edges at which DATA has turned in a stretch, the first four at most. Where CLOCK is released the first
 /// of them pulls DATA, where CLOCK is pulled it releases DATA.
 #[derive(Clone, Copy, Debug, PartialEq, Eq)]
-pub enum Turns {
+pub enum DataTransitions {
     Still,
     Once(Edge),
     Twice(Edge, Edge),
@@ -22,7 +22,7 @@ pub enum Turns {
     Often(Edge, Edge, Edge, Edge),
 }
 
-impl Turns {
+impl DataTransitions {
     /// The next edge comes, where DATA's first turn is to this level.
     #[inline(always)]
     fn push(&mut self, level: bool, edge: Edge)
@@ -30,10 +30,12 @@ impl Turns {
     {
         let is_level = edge.levels.line == level;
         match *self {
-            Turns::Still if is_level => *self = Turns::Once(edge),
-            Turns::Once(a) if !is_level => *self = Turns::Twice(a, edge),
-            Turns::Twice(a, b) if is_level => *self = Turns::Thrice(a, b, edge),
-            Turns::Thrice(a, b, c) if !is_level => *self = Turns::Often(a, b, c, edge),
+            DataTransitions::Still if is_level => *self = DataTransitions::Once(edge),
+            DataTransitions::Once(a) if !is_level => *self = DataTransitions::Twice(a, edge),
+            DataTransitions::Twice(a, b) if is_level => *self = DataTransitions::Thrice(a, b, edge),
+            DataTransitions::Thrice(a, b, c) if !is_level => *self = DataTransitions::Often(
+                a, b, c, edge,
+            ),
             _ => {}
         }
     }
@@ -41,14 +43,14 @@ impl Turns {
 
 /// A stretch as far as it came: edges over which CLOCK stays as it is.
 #[derive(Clone, Copy, Debug, PartialEq, Eq)]
-pub struct Stretch {
+pub struct ClockPhase {
     /// Whether its first edge pulls ATN.
     pub called: bool,
     /// Its first edge.
     pub first: Edge,
     /// The edge taken last.
     pub last: Edge,
-    pub turns: Turns,
+    pub turns: DataTransitions,
 }
 
 /// Whether an edge pulls ATN behind the edge before it.
@@ -65,14 +67,14 @@ pub(crate) fn is_late(since: u64, edge: Edge) -> bool
     edge.time.saturating_sub(since) > LONGEST_BIT
 }
 
-impl Stretch {
+impl ClockPhase {
     /// A stretch that begins with this edge, which pulls ATN or does not.
-    pub(crate) fn begun(called: bool, edge: Edge) -> Stretch
+    pub(crate) fn begun(called: bool, edge: Edge) -> ClockPhase
         ensures { result ≡ began called edge }
     {
-        let mut turns = Turns::Still;
+        let mut turns = DataTransitions::Still;
         turns.push(!edge.levels.clock, edge);
-        Stretch {
+        ClockPhase {
             called,
             first: edge,
             last: edge,
@@ -88,7 +90,7 @@ impl Stretch {
         self.called = called;
         self.first = edge;
         self.last = edge;
-        self.turns = Turns::Still;
+        self.turns = DataTransitions::Still;
         self.turns.push(!edge.levels.clock, edge);
     }
 
@@ -117,9 +119,9 @@ impl Stretch {
             return None;
         }
         let (look, ready, pulse) = match self.turns {
-            Turns::Still | Turns::Once(_) => return None,
-            Turns::Twice(a, b) | Turns::Thrice(a, b, _) => (a, b, None),
-            Turns::Often(a, b, c, d) => (
+            DataTransitions::Still | DataTransitions::Once(_) => return None,
+            DataTransitions::Twice(a, b) | DataTransitions::Thrice(a, b, _) => (a, b, None),
+            DataTransitions::Often(a, b, c, d) => (
                 a,
                 b,
                 Some(Pulse {
@@ -143,8 +145,10 @@ impl Stretch {
         let mut turns = self.turns;
         turns.push(!self.first.levels.clock, edge);
         match turns {
-            Turns::Still | Turns::Once(_) => None,
-            Turns::Twice(_, b) | Turns::Thrice(_, b, _) | Turns::Often(_, b, _, _) => Some(b.time),
+            DataTransitions::Still | DataTransitions::Once(_) => None,
+            DataTransitions::Twice(_, b)
+            | DataTransitions::Thrice(_, b, _)
+            | DataTransitions::Often(_, b, _, _) => Some(b.time),
         }
     }
 }

@@ -11,7 +11,7 @@ use Rattle.pr_decode.specs.declared.reading.Pulse.{Pulse}
 use Rattle.pr_decode.specs.declared.reading.Reading.{Reading}
 use Rattle.pr_decode.specs.declared.reading.Transfer.{Transfer}
 use Rattle.pr_decode.specs.Readings.{Bit, acknowledgement, first_late, greatest, halves, high_half, is_none, least, level_of, low_half, transfer, turns, turns_of}
-use Rattle.pr_decode.specs.Stretches.{Stretch}
+use Rattle.pr_decode.specs.Stretches.{ClockPhase}
 use Rattle.pr_decode.specs.Taking.{AreBits, HasBegun, HasRead, IsBit, IsRight, IsRightSeen, Past, Seen, first_low, kept, noted, stretch_in, transfer_in, with_more}
 use Rattle.pr_decode.specs.Taking.Past.{Waiting, Low, High}
 use Rattle.pr_ear.specs.DecoderNumbers.{no_edge, HasTurns, IsByte, IsDecoder, IsEdge, IsGoingOn, IsTurn}
@@ -110,11 +110,11 @@ twice true = refl
 twice false = refl
 
 -- a decoder of a stretch, and of the byte that has begun
-abbrev of_parts : Stretch → Edge → Option Transfer → Decoder
+abbrev of_parts : ClockPhase → Edge → Option Transfer → Decoder
 of_parts s last t = record { stretch = Some (stretch_in s last); transfer = t }
 
 -- its turns
-turns-fit : (s : Stretch) (last : Edge) (t : Option Transfer) → HasTurns (stored (of_parts s last t))
+turns-fit : (s : ClockPhase) (last : Edge) (t : Option Transfer) → HasTurns (stored (of_parts s last t))
 turns-fit s last t =
     let level : Bool = not s.first.levels.clock in
     let es : List Edge = turns_of s in
@@ -159,7 +159,7 @@ unanswered None h = (refl, refl)
 unanswered (Some p) h = absurd (omega (arith, h))
 
 -- what a byte has without bits
-without-bits : (bs : List Bit) (low : Stretch) → length bs ≡ 0
+without-bits : (bs : List Bit) (low : ClockPhase) → length bs ≡ 0
     → ((halves (map low_half bs)).longest ≡ 0) × ((halves (map high_half bs)).longest ≡ 0) × (low.first.time ≡ (first_low bs low).first.time)
 without-bits [] low h = (refl, refl, refl)
 without-bits (b ∷ bs) low h = absurd (omega (arith, h))
@@ -173,7 +173,7 @@ length-of-levels [] = refl
 length-of-levels (b ∷ bs) = ap suc (length-of-levels bs)
 
 -- a byte as far as it came
-byte-fits : (o : Opening) (bs : List Bit) (left : ℕ) (low : Stretch) → with_more bs left ≡ 8
+byte-fits : (o : Opening) (bs : List Bit) (left : ℕ) (low : ClockPhase) → with_more bs left ≡ 8
     → IsByte (byte_numbers (transfer o (first_low bs low).first.time bs low.first.time))
 byte-fits o bs left low h = record {
   command = bit-few o.command;
@@ -187,7 +187,7 @@ byte-fits o bs left low h = record {
 }
 
 -- ATN was not pulled in the stretch behind the bits
-last-uncalled : (bs : List Bit) (low : Stretch) → AreBits bs low → (first_low bs low).called ≡ false → low.called ≡ false
+last-uncalled : (bs : List Bit) (low : ClockPhase) → AreBits bs low → (first_low bs low).called ≡ false → low.called ≡ false
 last-uncalled [] low h k = k
 last-uncalled (b ∷ bs) low h k = last-uncalled bs low h.2 (by b.high.called (first_low bs low).called (is_none (first_late b.high.first.time (b.high.rest ++ (first_low bs low).first ∷ []))) h.0)
   where
@@ -203,7 +203,7 @@ few-unacknowledged (a ∷ []) h = omega arith
 few-unacknowledged (a ∷ b ∷ es) h = absurd (let x : Some b.time ≡ None = h in cc)
 
 -- one without a byte
-waiting-is : (s : Stretch) (last : Edge) → IsDecoder (stored (of_parts s last None))
+waiting-is : (s : ClockPhase) (last : Edge) → IsDecoder (stored (of_parts s last None))
 waiting-is s last = record {
   begun = omega arith;
   called = bit-few s.called;
@@ -217,7 +217,7 @@ waiting-is s last = record {
 }
 
 -- one with a byte
-begun-is : (s : Stretch) (last : Edge) (t : Transfer) → IsByte (byte_numbers t) → IsGoingOn (stored (of_parts s last (Some t))) → IsDecoder (stored (of_parts s last (Some t)))
+begun-is : (s : ClockPhase) (last : Edge) (t : Transfer) → IsByte (byte_numbers t) → IsGoingOn (stored (of_parts s last (Some t))) → IsDecoder (stored (of_parts s last (Some t)))
 begun-is s last t b g = record {
   begun = omega arith;
   called = bit-few s.called;
@@ -231,7 +231,7 @@ begun-is s last t b g = record {
 }
 
 -- while CLOCK is pulled
-low-is : (p : Stretch) (o : Opening) (bs : List Bit) (left : ℕ) (s : Stretch) (last : Edge) → HasBegun p o bs left s → (left ≡ 0 → acknowledgement (turns_of s) ≡ None)
+low-is : (p : ClockPhase) (o : Opening) (bs : List Bit) (left : ℕ) (s : ClockPhase) (last : Edge) → HasBegun p o bs left s → (left ≡ 0 → acknowledgement (turns_of s) ≡ None)
     → IsDecoder (stored (of_parts s last (Some (transfer o (first_low bs s).first.time bs s.first.time))))
 low-is p o bs left s last h unacknowledged =
     begun-is s last (transfer o (first_low bs s).first.time bs s.first.time) (byte-fits o bs left s h.eight) (record {
@@ -241,7 +241,7 @@ low-is p o bs left s last h unacknowledged =
     })
 
 -- while it is released
-high-is : (p : Stretch) (o : Opening) (bs : List Bit) (n : ℕ) (l s : Stretch) (last : Edge) → HasBegun p o bs (suc n) l → IsBit s
+high-is : (p : ClockPhase) (o : Opening) (bs : List Bit) (n : ℕ) (l s : ClockPhase) (last : Edge) → HasBegun p o bs (suc n) l → IsBit s
     → IsDecoder (stored (of_parts s last (Some (transfer o (first_low bs l).first.time bs l.first.time))))
 high-is p o bs n l s last h b =
     begun-is s last (transfer o (first_low bs l).first.time bs l.first.time) (byte-fits o bs (suc n) l h.eight) (record {
@@ -251,7 +251,7 @@ high-is p o bs n l s last h b =
     })
 
 -- whatever has begun before the stretch
-past-is : (p : Past) (s : Stretch) (last : Edge) → IsRight p s → IsDecoder (stored (of_parts s last (transfer_in p s)))
+past-is : (p : Past) (s : ClockPhase) (last : Edge) → IsRight p s → IsDecoder (stored (of_parts s last (transfer_in p s)))
 past-is Waiting s last r = waiting-is s last
 past-is (Low p o bs zero) s last r = low-is p o bs zero s last r.0 (λ _. r.1)
 past-is (Low p o bs (suc n)) s last r = low-is p o bs (suc n) s last r (λ k. absurd (omega (arith, k)))

@@ -5,9 +5,9 @@ use Rattle.std.specs.Prelude.{◌&&◌, ◌==◌}
 use Rattle.pr_decode.specs.declared.decoder.Decoder.{Decoder}
 use Rattle.pr_decode.specs.declared.reading.Pulse.{Pulse}
 use Rattle.pr_decode.specs.declared.reading.Transfer.{Transfer}
-use Rattle.pr_decode.specs.declared.stretch.Stretch.{Stretch}
-use Rattle.pr_decode.specs.declared.stretch.Turns.{Turns}
-use Rattle.pr_decode.specs.declared.stretch.Turns.TheVariants.{Still, Once, Twice, Thrice, Often}
+use Rattle.pr_decode.specs.declared.stretch.ClockPhase.{ClockPhase}
+use Rattle.pr_decode.specs.declared.stretch.DataTransitions.{DataTransitions}
+use Rattle.pr_decode.specs.declared.stretch.DataTransitions.TheVariants.{Still, Once, Twice, Thrice, Often}
 use Rattle.pr_ear.specs.declared.decoder_numbers.WireByte.{WireByte}
 use Rattle.pr_ear.specs.Decoding.{answer_ended, answered, byte_numbers, eoi_number}
 use Rattle.pr_ear.specs.DecoderTaken.{begun_in, byte_from, byte_in, called_in, decoder_by, first_in, last_in, pulse_from, sent_in, stored, stretch_from, transfer_from, turn1, turn2, turn3, turn4, turns_from, turns_in, turns_number}
@@ -15,7 +15,7 @@ use Rattle.pr_ear.specs.Hearing.{edge_of}
 use Rattle.pr_ear.proofs.Stored.{bit-back, both, edge-back, same-number}
 
 -- turns come back
-turns-back : (t : Turns) → turns_from (turns_number t) (edge_of (turn1 t)) (edge_of (turn2 t)) (edge_of (turn3 t)) (edge_of (turn4 t)) ≡ t
+turns-back : (t : DataTransitions) → turns_from (turns_number t) (edge_of (turn1 t)) (edge_of (turn2 t)) (edge_of (turn3 t)) (edge_of (turn4 t)) ≡ t
 turns-back Still = refl
 turns-back (Once a) = ap (λ x. Once x) (edge-back a)
 turns-back (Twice a b) = rw (edge-back a, edge-back b) refl
@@ -23,7 +23,7 @@ turns-back (Thrice a b c) = rw (edge-back a, edge-back b, edge-back c) refl
 turns-back (Often a b c d) = rw (edge-back a, edge-back b, edge-back c, edge-back d) refl
 
 -- and a stretch, if there is one
-stretch-back : (o : Option Stretch)
+stretch-back : (o : Option ClockPhase)
     → stretch_from (begun_in o) (called_in o == 1) (edge_of (first_in o)) (edge_of (last_in o))
     (turns_from (turns_number (turns_in o)) (edge_of (turn1 (turns_in o))) (edge_of (turn2 (turns_in o))) (edge_of (turn3 (turns_in o))) (edge_of (turn4 (turns_in o)))) ≡ o
 stretch-back None = refl

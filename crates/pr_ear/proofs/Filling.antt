@@ -5,7 +5,7 @@ use Rattle.std.proofs.lemmas.List.{get_or-map, length-append, length-map, map-ap
 use Rattle.std.specs.Option.{option_to_list}
 use Rattle.pr_wire.specs.declared.Edge.{Edge}
 use Rattle.pr_wire.specs.declared.WaveFault.{WaveFault}
-use Rattle.pr_wire.specs.declared.place.Step.{Step}
+use Rattle.pr_wire.specs.declared.bus_state.Step.{Step}
 use Rattle.pr_wire.specs.Pieces.{IsLawful, frames_of}
 use Rattle.pr_wire.specs.Table.{fault_of, IsAllowed}
 use Rattle.pr_wire.specs.Reached.{Reached, begin, reached, step_of, onto, led, fault_by}

@@ -7,11 +7,11 @@ use Rattle.pr_wire.specs.declared.Edge.{Edge}
 use Rattle.pr_wire.specs.declared.Frame.{Frame}
 use Rattle.pr_wire.specs.declared.WaveFault.{WaveFault}
 use Rattle.pr_wire.specs.declared.WaveFault.TheVariants as fault
-use Rattle.pr_wire.specs.declared.place.Flaw.{Flaw}
-use Rattle.pr_wire.specs.declared.place.Flaw.TheVariants.{Order, TooEarly, TooLate, Shape}
-use Rattle.pr_wire.specs.declared.place.Place.{Place}
-use Rattle.pr_wire.specs.declared.place.Place.TheVariants.{Idle, Bit, High, Last}
-use Rattle.pr_wire.specs.declared.place.Step.{Step}
+use Rattle.pr_wire.specs.declared.bus_state.EdgeError.{EdgeError}
+use Rattle.pr_wire.specs.declared.bus_state.EdgeError.TheVariants.{Order, TooEarly, TooLate, Shape}
+use Rattle.pr_wire.specs.declared.bus_state.BusState.{BusState}
+use Rattle.pr_wire.specs.declared.bus_state.BusState.TheVariants.{Idle, Bit, High, Last}
+use Rattle.pr_wire.specs.declared.bus_state.Step.{Step}
 use Rattle.pr_wire.specs.Reached.{indexed, step_of}
 use Rattle.pr_wire.specs.Table.{by_row, fault_at, is_start, verdict}
 use Rattle.pr_ear.specs.declared.WireEdge.{WireEdge}
@@ -99,7 +99,7 @@ stored-is-ear s h = by s.last refl h.fits
     }
 
 -- a place to which an edge can lead has no more bits than a byte
-pub few-bits : (e : Edge) (p : Place) → CanLead e p → HasFewBits p
+pub few-bits : (e : Edge) (p : BusState) → CanLead e p → HasFewBits p
 few-bits e (Bit i s eoi seen b) h = omega (arith, h.1)
 few-bits e (High i s eoi seen b) h = omega (arith, h.1)
 few-bits e (Last i s eoi seen) h = omega (arith, h.1)
@@ -160,7 +160,7 @@ behind-of : (ear : Ear) → HasSome ear → IsBehind (edge_of ear.last) (standin
 behind-of ear h =
     let p = place-of ear.last ear.place h.place in record {
       some = h.some;
-      first = λ k. (let f = h.first k in (f.0, ap (λ (q : Place). (stored_place q).place) p ∙ (ap (λ (n : PlaceNumbers). n.place) (sym h.place.numbers) ∙ f.1)));
+      first = λ k. (let f = h.first k in (f.0, ap (λ (q : BusState). (stored_place q).place) p ∙ (ap (λ (n : PlaceNumbers). n.place) (sym h.place.numbers) ∙ f.1)));
       further = h.further;
       leads = subst (λ q. CanLead (edge_of ear.last) q) (sym p) h.place.leads;
       refused = later-refusal ear.refused h.refused;
@@ -176,7 +176,7 @@ ear-stands ear h =
     by false e = before-of ear (h.none (grind (arith, h.begun)))
 
 -- in the first place, at the first moment, no time has passed
-idle-at : (last : Edge) (p : Place) → CanLead last p → (stored_place p).place ≡ 0 → last.time ≡ 0 → p ≡ Idle 0
+idle-at : (last : Edge) (p : BusState) → CanLead last p → (stored_place p).place ≡ 0 → last.time ≡ 0 → p ≡ Idle 0
 idle-at last (Idle i) h k j = ap (λ t. Idle t) (h.0 ∙ j)
 idle-at last p h k j = absurd (omega (arith, k))
 
@@ -216,7 +216,7 @@ next-first s e t h k = by (is_start e) refl k
               let q : new.place ≡ Idle 0 = p ∙ sym (ap (λ (z : Step). z.place) y) in
               let behind : IsBehind e new = record {
                 some = omega (arith, n);
-                first = λ one. (time, ap (λ (z : Place). (stored_place z).place) q);
+                first = λ one. (time, ap (λ (z : BusState). (stored_place z).place) q);
                 further = λ more. absurd (omega (arith, more, n, h.taken));
                 leads = subst (λ z. CanLead e z) (sym q) (sym time, record { atn_is = atn.0; clock_is = clock.0; line_is = clock.1 });
                 refused = subst IsLaterRefusal (sym r) tt;
@@ -274,7 +274,7 @@ moves-on old mid e frame h m = by (step_of old.last old.place old.taken e) refl 
         }
 
 -- which faults refusals are
-not-first : (f : Flaw) (n : ℕ) → fault_at f n ≡ fault.Start 0 → ⊥
+not-first : (f : EdgeError) (n : ℕ) → fault_at f n ≡ fault.Start 0 → ⊥
 not-first Order n h = (let x : fault.Order n ≡ fault.Start 0 = h in cc)
 not-first TooEarly n h = (let x : fault.TooEarly n ≡ fault.Start 0 = h in cc)
 not-first TooLate n h = (let x : fault.TooLate n ≡ fault.Start 0 = h in cc)
@@ -284,7 +284,7 @@ refused-first : (r : Refusal) (n : ℕ) → refused_at r n ≡ fault.Start 0 →
 refused-first Start n h = tt
 refused-first (Flawed f) n h = not-first f n h
 
-refused-later : (r : Refusal) (n : ℕ) (f : Flaw) → refused_at r n ≡ fault_at f n → IsLaterRefusal (Some r)
+refused-later : (r : Refusal) (n : ℕ) (f : EdgeError) → refused_at r n ≡ fault_at f n → IsLaterRefusal (Some r)
 refused-later Start n f h = not-first f n (sym h)
 refused-later (Flawed g) n f h = tt
 
@@ -307,7 +307,7 @@ stands-refused old mid e r h m = by old.last refl h.fits m
     first true f j = absurd (let x : IsMoved (Err r) (Ok None) = j.0 in cc)
     first false f j = j
 
-    later : (v : Result Step Flaw)
+    later : (v : Result Step EdgeError)
         → MatchResult (indexed old.taken v) (λ (s : Step). IsMoved (Err r) (Ok s.frame) × (mid ≡ record old { place = s.place })) (λ (w : WaveFault). RefusesAs old.taken w (Err r) × (mid ≡ old))
         → IsLaterRefusal (Some r) × (mid ≡ old)
     later (Ok s) j = absurd (let x : IsMoved (Err r) (Ok s.frame) = j.0 in cc)

@@ -2,12 +2,12 @@
 use Rattle.std.proofs.Common.{◌≡◌, ℕ, ◌+◌, ◌≤◌, Bool, true, false, List, [], ◌∷◌, ◌++◌, length, Option, Some, None, Ok, Err, refl, sym, subst, arith, length-append}
 use Rattle.std.specs.Prelude.{◌&&◌, ◌==◌, nat_lt, if◌then◌else◌}
 use Rattle.pr_wire.specs.declared.Edge.{Edge}
-use Rattle.pr_wire.specs.declared.place.Flaw.TheVariants.{TooEarly, TooLate, Shape}
-use Rattle.pr_wire.specs.declared.place.Place.{Place}
-use Rattle.pr_wire.specs.declared.place.Place.TheVariants.{Idle, Call, Ready, Free, Pulse, After, Bit, High, Last, Ack, Freed}
-use Rattle.pr_wire.specs.declared.place.Sending.{Sending}
-use Rattle.pr_wire.specs.declared.place.Sending.TheVariants.{First, Second, Data}
-use Rattle.pr_wire.specs.declared.place.Step.{Step}
+use Rattle.pr_wire.specs.declared.bus_state.EdgeError.TheVariants.{TooEarly, TooLate, Shape}
+use Rattle.pr_wire.specs.declared.bus_state.BusState.{BusState}
+use Rattle.pr_wire.specs.declared.bus_state.BusState.TheVariants.{Idle, Call, Ready, Free, Pulse, After, Bit, High, Last, Ack, Freed}
+use Rattle.pr_wire.specs.declared.bus_state.ByteRole.{ByteRole}
+use Rattle.pr_wire.specs.declared.bus_state.ByteRole.TheVariants.{First, Second, Data}
+use Rattle.pr_wire.specs.declared.bus_state.Step.{Step}
 use Rattle.pr_wire.specs.Levels.{edge_at}
 use Rattle.pr_wire.specs.Table.{Row, atn_of, by_row, is_late, row, same, timed, where_true}
 use Rattle.pr_ear.specs.EarNumbers.{CanLead, IsMarked, StandsAt}
@@ -57,11 +57,11 @@ one-bit-more : (seen : List Bool) (b : Bool) (n : ℕ) → length seen ≡ n →
 one-bit-more seen b n h = omega (arith, h, length-append seen (b ∷ []))
 
 -- without end-or-identify there is no mark
-unmarked : (s : Sending) → IsMarked false s
+unmarked : (s : ByteRole) → IsMarked false s
 unmarked s = λ k. absurd (let x : false ≡ true = k in cc)
 
 -- each row leads where its edge can lead
-row-leads : (last : Edge) (p : Place) (t : ℕ) (a c l : Bool) → CanLead last p → RowLeads (edge_at t a c l) (row p t a c l)
+row-leads : (last : Edge) (p : BusState) (t : ℕ) (a c l : Bool) → CanLead last p → RowLeads (edge_at t a c l) (row p t a c l)
 row-leads last (Idle i) t false false true h = λ low high. stands t false false false false true true refl refl refl
 row-leads last (Idle i) t a c l h = tt
 row-leads last (Call i false) t false false false h = λ low high. (record { atn_is = refl; clock_is = refl; line_is = refl }, omega (arith, low), grind arith)
@@ -112,5 +112,5 @@ row-leads last (Freed i false true) t false false true h = λ low high. stands t
 row-leads last (Freed i u b) t a c l h = tt
 
 -- where an edge leads by its row, it can lead
-pub leads-next : (last : Edge) (p : Place) (e : Edge) (s : Step) → CanLead last p → by_row p e ≡ Ok s → CanLead e s.place
+pub leads-next : (last : Edge) (p : BusState) (e : Edge) (s : Step) → CanLead last p → by_row p e ≡ Ok s → CanLead e s.place
 leads-next last p e s h k = timed-leads e (row p e.time e.levels.atn e.levels.clock e.levels.line) s (row-leads last p e.time e.levels.atn e.levels.clock e.levels.line h) k

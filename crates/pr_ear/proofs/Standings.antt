@@ -10,11 +10,11 @@ use Rattle.pr_wire.specs.declared.Edge.{Edge}
 use Rattle.pr_wire.specs.declared.Frame.{Frame}
 use Rattle.pr_wire.specs.declared.WaveFault.{WaveFault}
 use Rattle.pr_wire.specs.declared.WaveFault.TheVariants as fault
-use Rattle.pr_wire.specs.declared.place.Flaw.{Flaw}
-use Rattle.pr_wire.specs.declared.place.Flaw.TheVariants.{Order, TooEarly, Shape}
-use Rattle.pr_wire.specs.declared.place.Place.{Place}
-use Rattle.pr_wire.specs.declared.place.Place.TheVariants.{Idle, Call}
-use Rattle.pr_wire.specs.declared.place.Step.{Step}
+use Rattle.pr_wire.specs.declared.bus_state.EdgeError.{EdgeError}
+use Rattle.pr_wire.specs.declared.bus_state.EdgeError.TheVariants.{Order, TooEarly, Shape}
+use Rattle.pr_wire.specs.declared.bus_state.BusState.{BusState}
+use Rattle.pr_wire.specs.declared.bus_state.BusState.TheVariants.{Idle, Call}
+use Rattle.pr_wire.specs.declared.bus_state.Step.{Step}
 use Rattle.pr_wire.specs.Reached.{Reached, begin, reached, one_more, indexed, step_of, onto, add, led, fault_by}
 use Rattle.pr_wire.specs.Laws.{AllowedIsReached, FaultIsReached, OneEdgeMore}
 use Rattle.pr_wire.specs.Table.{by_row, differ, fault_at, fault_of, is_start, verdict, IsAllowed}
@@ -49,16 +49,16 @@ frame_led (Ok r) e = frame_of_step (step_of r.last r.place r.count e)
 frame_led (Err w) e = None
 
 -- behind an edge in its place, the frame that the table says is the one where the edges lead
-frame-behind : (es : List Edge) (last : Edge) (p : Place) (before : List Frame) (n : ℕ) (e : Edge)
+frame-behind : (es : List Edge) (last : Edge) (p : BusState) (before : List Frame) (n : ℕ) (e : Edge)
     → frame_from last p es e ≡ frame_led (reached (record { last = Some last; place = p; before = before; count = n }) es) e
 frame-behind [] last p before n e = by (verdict last p e)
   where
-    by : (v : Result Step Flaw) → if_allowed v (λ s. s.frame) ≡ frame_of_step (indexed n v)
+    by : (v : Result Step EdgeError) → if_allowed v (λ s. s.frame) ≡ frame_of_step (indexed n v)
     by (Ok s) = refl
     by (Err f) = refl
 frame-behind (x ∷ es) last p before n e = by (verdict last p x) (λ s. frame-behind es x s.place (add s.frame before) (n + 1) e)
   where
-    by : (v : Result Step Flaw)
+    by : (v : Result Step EdgeError)
         → ((s : Step) → frame_from x s.place es e ≡ frame_led (reached (record { last = Some x; place = s.place; before = add s.frame before; count = n + 1 }) es) e)
         → if_allowed v (λ s. frame_from x s.place es e)
         ≡ frame_led (led (λ s. reached (record { last = Some x; place = s.place; before = add s.frame before; count = n + 1 }) es) (indexed n v)) e
@@ -110,10 +110,10 @@ idle-late e s h = by e.levels.atn e.levels.clock e.levels.line h
     by true c l k = absurd (let x : Err Shape ≡ Ok s = k in cc)
 
 -- an edge that is allowed comes later, by its row
-pub verdict-later : (last : Edge) (p : Place) (n : ℕ) (e : Edge) (s : Step) → indexed n (verdict last p e) ≡ Ok s → (last.time < e.time) × (by_row p e ≡ Ok s)
+pub verdict-later : (last : Edge) (p : BusState) (n : ℕ) (e : Edge) (s : Step) → indexed n (verdict last p e) ≡ Ok s → (last.time < e.time) × (by_row p e ≡ Ok s)
 verdict-later last p n e s h = by (nat_lt last.time e.time) (differ last.levels e.levels) refl h
   where
-    row : (v : Result Step Flaw) → indexed n v ≡ Ok s → v ≡ Ok s
+    row : (v : Result Step EdgeError) → indexed n v ≡ Ok s → v ≡ Ok s
     row (Ok t) k = cc
     row (Err f) k = absurd (let x : Err (fault_at f n) ≡ Ok s = k in cc)
 
@@ -123,7 +123,7 @@ verdict-later last p n e s h = by (nat_lt last.time e.time) (differ last.levels 
     by false b k j = absurd (let x : Err (fault.Order n) ≡ Ok s = j in cc)
 
 -- there is room for one edge more
-room-next : (last : Option Edge) (p : Place) (n : ℕ) (e : Edge) (s : Step) → HasRoom last p n → step_of last p n e ≡ Ok s → HasRoom (Some e) s.place (n + 1)
+room-next : (last : Option Edge) (p : BusState) (n : ℕ) (e : Edge) (s : Step) → HasRoom last p n → step_of last p n e ≡ Ok s → HasRoom (Some e) s.place (n + 1)
 room-next None p n e s h k = by (is_start e) k
   where
     by : (b : Bool) → start_step b ≡ Ok s → HasRoom (Some e) s.place (n + 1)

@@ -3,11 +3,11 @@ use Rattle.std.proofs.Common.{◌≡◌, ℕ, suc, ◌+◌, ◌-◌, ◌*◌, �
 use Rattle.std.proofs.lemmas.Bool.{eq-eqb, eqb-true}
 use Rattle.std.specs.Prelude.{◌&&◌, ◌==◌, if◌then◌else◌}
 use Rattle.pr_wire.specs.declared.Edge.{Edge}
-use Rattle.pr_wire.specs.declared.place.Flaw.TheVariants.{Order, TooEarly, TooLate, Shape}
-use Rattle.pr_wire.specs.declared.place.Place.{Place}
-use Rattle.pr_wire.specs.declared.place.Place.TheVariants.{Idle, Call, Ready, Free, Pulse, After, Bit, High, Last, Ack, Freed}
-use Rattle.pr_wire.specs.declared.place.Sending.{Sending}
-use Rattle.pr_wire.specs.declared.place.Sending.TheVariants.{First, Second, Data}
+use Rattle.pr_wire.specs.declared.bus_state.EdgeError.TheVariants.{Order, TooEarly, TooLate, Shape}
+use Rattle.pr_wire.specs.declared.bus_state.BusState.{BusState}
+use Rattle.pr_wire.specs.declared.bus_state.BusState.TheVariants.{Idle, Call, Ready, Free, Pulse, After, Bit, High, Last, Ack, Freed}
+use Rattle.pr_wire.specs.declared.bus_state.ByteRole.{ByteRole}
+use Rattle.pr_wire.specs.declared.bus_state.ByteRole.TheVariants.{First, Second, Data}
 use Rattle.pr_wire.specs.Levels.{byte_of}
 use Rattle.pr_wire.specs.Packed.{bits_in}
 use Rattle.pr_ear.specs.declared.WireEdge.{WireEdge}
@@ -48,13 +48,13 @@ pub level-back : (b : Bool) → is_released (bit_of b) ≡ b
 level-back true = refl
 level-back false = refl
 
-sending-back : (s : Sending) → sending_by (sending_number s) ≡ s
+sending-back : (s : ByteRole) → sending_by (sending_number s) ≡ s
 sending-back First = refl
 sending-back Second = refl
 sending-back Data = refl
 
 -- a place comes back
-pub place-back : (p : Place) → HasFewBits p → place_by (stored_place p) ≡ p
+pub place-back : (p : BusState) → HasFewBits p → place_by (stored_place p) ≡ p
 place-back (Idle since) h = refl
 place-back (Call since pulled) h = ap (λ b. Call since b) (bit-back pulled)
 place-back (Ready since sending) h = ap (λ s. Ready since s) (sending-back sending)
@@ -110,22 +110,22 @@ standing-back s h =
     rw (a, b, c, d, e) refl
 
 -- so many bits have been put into a place, and the rest of the byte has the others
-pub record HasBits (n : PlaceNumbers) (i : ℕ) (place : Place) (rest : ℕ) : Type 0 where
+pub record HasBits (n : PlaceNumbers) (i : ℕ) (place : BusState) (rest : ℕ) : Type 0 where
   pub seen : List Bool
   pub place_is : place ≡ Bit n.since (sending_by n.sending) (n.eoi == 1) seen (n.bit == 1)
   pub count : length seen ≡ i
   pub others : seen ++ bits_in (few n.count - i) rest ≡ bits_by n
 
 -- no bit has been put
-pub no-bits : (n : PlaceNumbers) (place : Place) → place ≡ Bit n.since (sending_by n.sending) (n.eoi == 1) [] (n.bit == 1) → HasBits n 0 place n.byte
+pub no-bits : (n : PlaceNumbers) (place : BusState) → place ≡ Bit n.since (sending_by n.sending) (n.eoi == 1) [] (n.bit == 1) → HasBits n 0 place n.byte
 no-bits n place h =
     let z : few n.count - 0 ≡ few n.count = omega arith in
     record { seen = []; place_is = h; count = refl; others = ap (λ k. bits_in k n.byte) z }
 
 -- one bit more
-pub one-bit : (n : PlaceNumbers) (i : ℕ) (place new : Place) (rest next : ℕ) (b : Bool) → HasBits n i place rest → i < few n.count → few n.count ≤ 8
+pub one-bit : (n : PlaceNumbers) (i : ℕ) (place new : BusState) (rest next : ℕ) (b : Bool) → HasBits n i place rest → i < few n.count → few n.count ≤ 8
     → b ≡ eqb (rest % 2) 1 → next ≡ rest / 2
-    → ((since : ℕ) (sending : Sending) (eoi : Bool) (seen : List Bool) (bit : Bool) → place ≡ Bit since sending eoi seen bit → length seen < 8
+    → ((since : ℕ) (sending : ByteRole) (eoi : Bool) (seen : List Bool) (bit : Bool) → place ≡ Bit since sending eoi seen bit → length seen < 8
     → new ≡ Bit since sending eoi (seen ++ b ∷ []) bit)
     → HasBits n (i + 1) new next
 one-bit n i place new rest next b h l m j k p =
@@ -142,7 +142,7 @@ one-bit n i place new rest next b h l m j k p =
     }
 
 -- all bits have been put
-pub all-bits : (n : PlaceNumbers) (i : ℕ) (place : Place) (rest : ℕ) → HasBits n i place rest → few n.count ≤ i
+pub all-bits : (n : PlaceNumbers) (i : ℕ) (place : BusState) (rest : ℕ) → HasBits n i place rest → few n.count ≤ i
     → place ≡ Bit n.since (sending_by n.sending) (n.eoi == 1) (bits_by n) (n.bit == 1)
 all-bits n i place rest h l =
     let d : few n.count - i ≡ 0 = omega arith in

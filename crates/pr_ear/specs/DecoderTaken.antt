@@ -7,9 +7,9 @@ use Rattle.pr_decode.specs.declared.decoder.Decoder.{Decoder}
 use Rattle.pr_decode.specs.declared.reading.Pulse.{Pulse}
 use Rattle.pr_decode.specs.declared.reading.Reading.{Reading}
 use Rattle.pr_decode.specs.declared.reading.Transfer.{Transfer}
-use Rattle.pr_decode.specs.declared.stretch.Stretch.{Stretch}
-use Rattle.pr_decode.specs.declared.stretch.Turns.{Turns}
-use Rattle.pr_decode.specs.declared.stretch.Turns.TheVariants.{Still, Once, Twice, Thrice, Often}
+use Rattle.pr_decode.specs.declared.stretch.ClockPhase.{ClockPhase}
+use Rattle.pr_decode.specs.declared.stretch.DataTransitions.{DataTransitions}
+use Rattle.pr_decode.specs.declared.stretch.DataTransitions.TheVariants.{Still, Once, Twice, Thrice, Often}
 use Rattle.pr_decode.specs.Taking.{HasRead, last_time}
 use Rattle.pr_ear.specs.declared.WireEdge.{WireEdge}
 use Rattle.pr_ear.specs.declared.decoder_numbers.WireByte.{WireByte}
@@ -22,35 +22,35 @@ use Rattle.pr_ear.specs.Hearing.{bit_of, edge_of}
 use Rattle.pr_ear.specs.Numbers.{wire_of}
 
 -- how many edges at which DATA has turned are kept, and each of them
-abbrev pub turns_number : Turns → ℕ
+abbrev pub turns_number : DataTransitions → ℕ
 turns_number Still = 0
 turns_number (Once a) = 1
 turns_number (Twice a b) = 2
 turns_number (Thrice a b c) = 3
 turns_number (Often a b c d) = 4
 
-abbrev pub turn1 : Turns → WireEdge
+abbrev pub turn1 : DataTransitions → WireEdge
 turn1 Still = no_edge
 turn1 (Once a) = wire_of a
 turn1 (Twice a b) = wire_of a
 turn1 (Thrice a b c) = wire_of a
 turn1 (Often a b c d) = wire_of a
 
-abbrev pub turn2 : Turns → WireEdge
+abbrev pub turn2 : DataTransitions → WireEdge
 turn2 Still = no_edge
 turn2 (Once a) = no_edge
 turn2 (Twice a b) = wire_of b
 turn2 (Thrice a b c) = wire_of b
 turn2 (Often a b c d) = wire_of b
 
-abbrev pub turn3 : Turns → WireEdge
+abbrev pub turn3 : DataTransitions → WireEdge
 turn3 Still = no_edge
 turn3 (Once a) = no_edge
 turn3 (Twice a b) = no_edge
 turn3 (Thrice a b c) = wire_of c
 turn3 (Often a b c d) = wire_of c
 
-abbrev pub turn4 : Turns → WireEdge
+abbrev pub turn4 : DataTransitions → WireEdge
 turn4 Still = no_edge
 turn4 (Once a) = no_edge
 turn4 (Twice a b) = no_edge
@@ -58,43 +58,43 @@ turn4 (Thrice a b c) = no_edge
 turn4 (Often a b c d) = wire_of d
 
 -- the turns by their numbers
-abbrev pub turns_from : ℕ → (a b c d : Edge) → Turns
+abbrev pub turns_from : ℕ → (a b c d : Edge) → DataTransitions
 turns_from n a b c d =
     if n == 0 then Still
     else (if n == 1 then Once a
     else (if n == 2 then Twice a b
     else (if n == 3 then Thrice a b c else Often a b c d)))
 
-abbrev pub turns_by : WireDecoder → Turns
+abbrev pub turns_by : WireDecoder → DataTransitions
 turns_by w = turns_from w.turns (edge_of w.turn1) (edge_of w.turn2) (edge_of w.turn3) (edge_of w.turn4)
 
 -- the numbers of a stretch, if there is one
-abbrev pub begun_in : Option Stretch → ℕ
+abbrev pub begun_in : Option ClockPhase → ℕ
 begun_in None = 0
 begun_in (Some s) = 1
 
-abbrev pub called_in : Option Stretch → ℕ
+abbrev pub called_in : Option ClockPhase → ℕ
 called_in None = 0
 called_in (Some s) = bit_of s.called
 
-abbrev pub first_in : Option Stretch → WireEdge
+abbrev pub first_in : Option ClockPhase → WireEdge
 first_in None = no_edge
 first_in (Some s) = wire_of s.first
 
-abbrev pub last_in : Option Stretch → WireEdge
+abbrev pub last_in : Option ClockPhase → WireEdge
 last_in None = no_edge
 last_in (Some s) = wire_of s.last
 
-abbrev pub turns_in : Option Stretch → Turns
+abbrev pub turns_in : Option ClockPhase → DataTransitions
 turns_in None = Still
 turns_in (Some s) = s.turns
 
 -- a stretch by its numbers
-abbrev pub stretch_from : (begun : ℕ) → (called : Bool) → (first last : Edge) → Turns → Option Stretch
+abbrev pub stretch_from : (begun : ℕ) → (called : Bool) → (first last : Edge) → DataTransitions → Option ClockPhase
 stretch_from begun called first last turns =
     if begun == 1 then Some (record { called = called; first = first; last = last; turns = turns }) else None
 
-abbrev pub stretch_by : WireDecoder → Option Stretch
+abbrev pub stretch_by : WireDecoder → Option ClockPhase
 stretch_by w = stretch_from w.begun (w.called == 1) (edge_of w.first) (edge_of w.last) (turns_by w)
 
 -- the numbers of a byte, if one has begun

@@ -2,10 +2,10 @@
 use Rattle.std.specs.Prelude.{◌≡◌, ℕ, ◌<◌, List, [], ◌∷◌, ◌++◌, map, Option, Some, None}
 use Rattle.std.specs.Option.{option_to_list}
 use Rattle.pr_decode.specs.declared.reading.FrameEnd.TheVariants as frame
-use Rattle.pr_decode.specs.declared.reading.GlitchEnd.TheVariants as glitch
+use Rattle.pr_decode.specs.declared.reading.IncompleteEnd.TheVariants as glitch
 use Rattle.pr_decode.specs.declared.reading.Pulse.{Pulse}
 use Rattle.pr_decode.specs.declared.reading.Reading.{Reading}
-use Rattle.pr_decode.specs.declared.reading.Reading.TheVariants.{Frame, Glitch}
+use Rattle.pr_decode.specs.declared.reading.Reading.TheVariants.{Frame, IncompleteByte}
 use Rattle.pr_decode.specs.declared.reading.Transfer.{Transfer}
 use Rattle.pr_decode.specs.Readings.{readings_of, settled_of}
 use Rattle.pr_ear.specs.declared.Answer.{Answer}
@@ -105,9 +105,9 @@ reading_numbers None = record { byte = no_byte; end = 0; kind = 0 }
 reading_numbers (Some (Frame t (frame.Acknowledged time))) = record { byte = byte_numbers t; end = time; kind = 1 }
 reading_numbers (Some (Frame t (frame.Unacknowledged time))) = record { byte = byte_numbers t; end = time; kind = 2 }
 reading_numbers (Some (Frame t frame.Cut)) = record { byte = byte_numbers t; end = 0; kind = 3 }
-reading_numbers (Some (Glitch t (glitch.Attention time))) = record { byte = byte_numbers t; end = time; kind = 4 }
-reading_numbers (Some (Glitch t (glitch.Silence time))) = record { byte = byte_numbers t; end = time; kind = 5 }
-reading_numbers (Some (Glitch t glitch.Cut)) = record { byte = byte_numbers t; end = 0; kind = 6 }
+reading_numbers (Some (IncompleteByte t (glitch.Attention time))) = record { byte = byte_numbers t; end = time; kind = 4 }
+reading_numbers (Some (IncompleteByte t (glitch.ClockTimeout time))) = record { byte = byte_numbers t; end = time; kind = 5 }
+reading_numbers (Some (IncompleteByte t glitch.Cut)) = record { byte = byte_numbers t; end = 0; kind = 6 }
 
 -- what is told, as numbers: the reading, and the answer
 abbrev pub reading_of : DecoderTold → WireReading

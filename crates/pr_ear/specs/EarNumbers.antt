@@ -3,10 +3,10 @@
 -- leave them: so many edges, this moment of the last one, this byte and these bits, and a device that listens or not, may never meet.)
 use Rattle.std.specs.Prelude.{◌≡◌, ◌≢◌, ℕ, ◌+◌, ◌<◌, ◌≤◌, Bool, true, false, List, length}
 use Rattle.pr_wire.specs.declared.Edge.{Edge}
-use Rattle.pr_wire.specs.declared.place.Place.{Place}
-use Rattle.pr_wire.specs.declared.place.Place.TheVariants.{Idle, Call, Ready, Free, Pulse, After, Bit, High, Last, Ack, Freed}
-use Rattle.pr_wire.specs.declared.place.Sending.{Sending}
-use Rattle.pr_wire.specs.declared.place.Sending.TheVariants.{First, Second, Data}
+use Rattle.pr_wire.specs.declared.bus_state.BusState.{BusState}
+use Rattle.pr_wire.specs.declared.bus_state.BusState.TheVariants.{Idle, Call, Ready, Free, Pulse, After, Bit, High, Last, Ack, Freed}
+use Rattle.pr_wire.specs.declared.bus_state.ByteRole.{ByteRole}
+use Rattle.pr_wire.specs.declared.bus_state.ByteRole.TheVariants.{First, Second, Data}
 use Rattle.pr_wire.specs.Levels.{byte_of}
 use Rattle.pr_wire.specs.Table.{atn_of}
 use Rattle.pr_ear.specs.declared.WireEdge.{WireEdge}
@@ -15,7 +15,7 @@ use Rattle.pr_ear.specs.declared.numbers.PlaceNumbers.{PlaceNumbers}
 use Rattle.pr_ear.specs.Hearing.{bit_of, edge_of, IsDevice}
 
 -- which byte is sent, as a number
-abbrev pub sending_number : Sending → ℕ
+abbrev pub sending_number : ByteRole → ℕ
 sending_number First = 0
 sending_number Second = 1
 sending_number Data = 2
@@ -26,7 +26,7 @@ plain_place place since =
     record { since = since; released = 0; place = place; sending = 0; eoi = 0; count = 0; byte = 0; bit = 0; unlistened = 0 }
 
 -- the numbers of a place in which a byte is sent
-abbrev pub byte_place : (place since : ℕ) → Sending → Bool → List Bool → (bit : ℕ) → PlaceNumbers
+abbrev pub byte_place : (place since : ℕ) → ByteRole → Bool → List Bool → (bit : ℕ) → PlaceNumbers
 byte_place place since sending eoi seen bit = record (plain_place place since) {
   sending = sending_number sending;
   eoi = bit_of eoi;
@@ -36,7 +36,7 @@ byte_place place since sending eoi seen bit = record (plain_place place since) {
 }
 
 -- the numbers of a place
-abbrev pub stored_place : Place → PlaceNumbers
+abbrev pub stored_place : BusState → PlaceNumbers
 stored_place (Idle since) = plain_place 0 since
 stored_place (Call since pulled) = record (plain_place 1 since) { bit = bit_of pulled }
 stored_place (Ready since sending) = record (plain_place 2 since) { sending = sending_number sending }
@@ -60,11 +60,11 @@ abbrev pub StandsAt : Edge → ℕ → (atn clock line : Bool) → Type 0
 StandsAt e since atn clock line = (since ≡ e.time) × HasLevels e atn clock line
 
 -- end-or-identify is answered before a data byte alone
-abbrev pub IsMarked : Bool → Sending → Type 0
+abbrev pub IsMarked : Bool → ByteRole → Type 0
 IsMarked eoi sending = eoi ≡ true → sending ≡ Data
 
 -- an edge can lead to a place: its levels and its moment are those that the table's rows to this place have
-abbrev pub CanLead : Edge → Place → Type 0
+abbrev pub CanLead : Edge → BusState → Type 0
 CanLead e (Idle since) = StandsAt e since true true true
 CanLead e (Call since false) = StandsAt e since false false true
 CanLead e (Call since true) = HasLevels e false false false × (since ≤ e.time) × (e.time ≤ since + 1000)
@@ -81,7 +81,7 @@ CanLead e (Freed since unlistened true) = HasLevels e true false true × (since 
 
 -- the numbers are those of a place to which an edge can lead
 pub record IsPlace (last : WireEdge) (n : PlaceNumbers) : Type 0 where
-  pub place : Place
+  pub place : BusState
   pub numbers : n ≡ stored_place place
   pub leads : CanLead (edge_of last) place
 

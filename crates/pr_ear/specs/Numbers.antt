@@ -2,11 +2,11 @@
 -- is proved.
 use Rattle.std.specs.Prelude.{ℕ, ◌≤◌, Bool, ◌==◌, nat_lt, if◌then◌else◌, List, length, Option, Some, None}
 use Rattle.pr_wire.specs.declared.Edge.{Edge}
-use Rattle.pr_wire.specs.declared.place.Flaw.TheVariants.{Order, TooEarly, TooLate, Shape}
-use Rattle.pr_wire.specs.declared.place.Place.{Place}
-use Rattle.pr_wire.specs.declared.place.Place.TheVariants.{Idle, Call, Ready, Free, Pulse, After, Bit, High, Last, Ack, Freed}
-use Rattle.pr_wire.specs.declared.place.Sending.{Sending}
-use Rattle.pr_wire.specs.declared.place.Sending.TheVariants.{First, Second, Data}
+use Rattle.pr_wire.specs.declared.bus_state.EdgeError.TheVariants.{Order, TooEarly, TooLate, Shape}
+use Rattle.pr_wire.specs.declared.bus_state.BusState.{BusState}
+use Rattle.pr_wire.specs.declared.bus_state.BusState.TheVariants.{Idle, Call, Ready, Free, Pulse, After, Bit, High, Last, Ack, Freed}
+use Rattle.pr_wire.specs.declared.bus_state.ByteRole.{ByteRole}
+use Rattle.pr_wire.specs.declared.bus_state.ByteRole.TheVariants.{First, Second, Data}
 use Rattle.pr_wire.specs.Packed.{bits_in}
 use Rattle.pr_ear.specs.declared.WireEdge.{WireEdge}
 use Rattle.pr_ear.specs.declared.numbers.Ear.{Ear}
@@ -18,7 +18,7 @@ use Rattle.pr_ear.specs.EarNumbers.{stored_place}
 use Rattle.pr_ear.specs.Hearing.{bit_of, edge_of}
 
 -- which byte is sent, by its number
-abbrev pub sending_by : ℕ → Sending
+abbrev pub sending_by : ℕ → ByteRole
 sending_by n = if n == 0 then First else (if n == 1 then Second else Data)
 
 -- an edge in a caller's numbers
@@ -34,14 +34,14 @@ abbrev pub bits_by : PlaceNumbers → List Bool
 bits_by n = bits_in (few n.count) n.byte
 
 -- a place in which a byte is sent, by its numbers
-abbrev pub byte_place_by : PlaceNumbers → Place
+abbrev pub byte_place_by : PlaceNumbers → BusState
 byte_place_by n =
     if n.place == 6 then Bit n.since (sending_by n.sending) (n.eoi == 1) (bits_by n) (n.bit == 1)
     else (if n.place == 7 then High n.since (sending_by n.sending) (n.eoi == 1) (bits_by n) (n.bit == 1)
     else Last n.since (sending_by n.sending) (n.eoi == 1) (bits_by n))
 
 -- a place by its numbers
-abbrev pub place_by : PlaceNumbers → Place
+abbrev pub place_by : PlaceNumbers → BusState
 place_by n =
     if n.place == 0 then Idle n.since
     else (if n.place == 1 then Call n.since (n.bit == 1)
@@ -106,7 +106,7 @@ standing_by ear =
     }
 
 -- a place has no more bits than a byte
-abbrev pub HasFewBits : Place → Type 0
+abbrev pub HasFewBits : BusState → Type 0
 HasFewBits (Bit since sending eoi seen bit) = length seen ≤ 8
 HasFewBits (High since sending eoi seen bit) = length seen ≤ 8
 HasFewBits (Last since sending eoi seen) = length seen ≤ 8

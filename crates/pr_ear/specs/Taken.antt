@@ -6,8 +6,8 @@ use Rattle.pr_wire.specs.declared.Frame.{Frame}
 use Rattle.pr_wire.specs.Pieces.{IsLawful}
 use Rattle.pr_wire.specs.declared.WaveFault.{WaveFault}
 use Rattle.pr_wire.specs.declared.WaveFault.TheVariants as fault
-use Rattle.pr_wire.specs.declared.place.Place.{Place}
-use Rattle.pr_wire.specs.declared.place.Place.TheVariants.{Idle}
+use Rattle.pr_wire.specs.declared.bus_state.BusState.{BusState}
+use Rattle.pr_wire.specs.declared.bus_state.BusState.TheVariants.{Idle}
 use Rattle.pr_wire.specs.Reached.{Reached, begin, reached}
 use Rattle.pr_wire.specs.Table.{fault_at, fault_of, IsAllowed}
 use Rattle.pr_receiver.specs.Given.{frames_ended, input_at}
@@ -28,7 +28,7 @@ refused_at Start n = fault.Start 0
 refused_at (Flawed flaw) n = fault_at flaw n
 
 -- so many edges have come, and no more than microseconds; only behind the first is it otherwise
-abbrev pub HasRoom : Option Edge → Place → ℕ → Type 0
+abbrev pub HasRoom : Option Edge → BusState → ℕ → Type 0
 HasRoom None place n = n ≡ 0
 HasRoom (Some last) place n = last.time < n → (n ≡ 1) × (place ≡ Idle 0)
 

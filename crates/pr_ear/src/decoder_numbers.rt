@@ -9,7 +9,8 @@ use crate::decoder_fits::is_decoder;
 use crate::numbers::{NO_EDGE, bit, wire_for};
 use crate::{WireEdge, edge_for};
 use pr_decode::{
-    Decoder, FrameEnd, GlitchEnd, Halves, Opening, Pulse, Reading, Stretch, Transfer, Turns,
+    ClockPhase, DataTransitions, Decoder, FrameEnd, Halves, IncompleteEnd, Opening, Pulse, Reading,
+    Transfer,
 };
 
 /// A byte on the wires as far as it came, with its moments in microseconds. What it has not is 0.
@@ -162,9 +163,9 @@ pub fn numbers_of_reading(reading: Option<Reading>) -> WireReading
         Reading::Frame(transfer, FrameEnd::Acknowledged(time)) => (transfer, 1, time),
         Reading::Frame(transfer, FrameEnd::Unacknowledged(time)) => (transfer, 2, time),
         Reading::Frame(transfer, FrameEnd::Cut) => (transfer, 3, 0),
-        Reading::Glitch(transfer, GlitchEnd::Attention(time)) => (transfer, 4, time),
-        Reading::Glitch(transfer, GlitchEnd::Silence(time)) => (transfer, 5, time),
-        Reading::Glitch(transfer, GlitchEnd::Cut) => (transfer, 6, 0),
+        Reading::IncompleteByte(transfer, IncompleteEnd::Attention(time)) => (transfer, 4, time),
+        Reading::IncompleteByte(transfer, IncompleteEnd::ClockTimeout(time)) => (transfer, 5, time),
+        Reading::IncompleteByte(transfer, IncompleteEnd::Cut) => (transfer, 6, 0),
     };
     WireReading {
         byte: numbers_of_byte(&transfer),
@@ -174,7 +175,7 @@ pub fn numbers_of_reading(reading: Option<Reading>) -> WireReading
 }
 
 /// The numbers with those of the turns.
-fn with_turns(numbers: WireDecoder, turns: &Turns) -> WireDecoder
+fn with_turns(numbers: WireDecoder, turns: &DataTransitions) -> WireDecoder
     requires { (numbers.turn1 ≡ no_edge) × (numbers.turn2 ≡ no_edge) × (numbers.turn3 ≡ no_edge) × (numbers.turn4 ≡ no_edge) }
     ensures { result ≡ record numbers {
       turns = turns_number turns.now;
@@ -185,29 +186,29 @@ fn with_turns(numbers: WireDecoder, turns: &Turns) -> WireDecoder
     } }
 {
     match turns {
-        Turns::Still => WireDecoder {
+        DataTransitions::Still => WireDecoder {
             turns: 0,
             ..numbers
         },
-        Turns::Once(a) => WireDecoder {
+        DataTransitions::Once(a) => WireDecoder {
             turns: 1,
             turn1: wire_for(*a),
             ..numbers
         },
-        Turns::Twice(a, b) => WireDecoder {
+        DataTransitions::Twice(a, b) => WireDecoder {
             turns: 2,
             turn1: wire_for(*a),
             turn2: wire_for(*b),
             ..numbers
         },
-        Turns::Thrice(a, b, c) => WireDecoder {
+        DataTransitions::Thrice(a, b, c) => WireDecoder {
             turns: 3,
             turn1: wire_for(*a),
             turn2: wire_for(*b),
             turn3: wire_for(*c),
             ..numbers
         },
-        Turns::Often(a, b, c, d) => WireDecoder {
+        DataTransitions::Often(a, b, c, d) => WireDecoder {
             turns: 4,
             turn1: wire_for(*a),
             turn2: wire_for(*b),
@@ -246,26 +247,26 @@ pub fn store(decoder: &Decoder) -> WireDecoder
 }
 
 /// The turns that numbers mean.
-fn turns_for(numbers: &WireDecoder) -> Turns
+fn turns_for(numbers: &WireDecoder) -> DataTransitions
     ensures { result ≡ turns_by numbers.now }
 {
     let (a, b) = (edge_for(numbers.turn1), edge_for(numbers.turn2));
     let (c, d) = (edge_for(numbers.turn3), edge_for(numbers.turn4));
     match numbers.turns {
-        0 => Turns::Still,
-        1 => Turns::Once(a),
-        2 => Turns::Twice(a, b),
-        3 => Turns::Thrice(a, b, c),
-        _ => Turns::Often(a, b, c, d),
+        0 => DataTransitions::Still,
+        1 => DataTransitions::Once(a),
+        2 => DataTransitions::Twice(a, b),
+        3 => DataTransitions::Thrice(a, b, c),
+        _ => DataTransitions::Often(a, b, c, d),
     }
 }
 
 /// The stretch that numbers mean, if an edge was taken.
-fn stretch_for(numbers: &WireDecoder) -> Option<Stretch>
+fn stretch_for(numbers: &WireDecoder) -> Option<ClockPhase>
     ensures { result ≡ stretch_by numbers.now }
 {
     if numbers.begun == 1 {
-        Some(Stretch {
+        Some(ClockPhase {
             called: numbers.called == 1,
             first: edge_for(numbers.first),
             last: edge_for(numbers.last),

@@ -1,12 +1,12 @@
 //! Whether numbers are those of an ear.
 
 ghost use Rattle.std.specs.Prelude.{true, ◌≡◌, ◌↔◌, ◌≤◌, ◌+◌, ◌<◌};
-ghost use Rattle.pr_wire.specs.declared.place.Place.{Place};
+ghost use Rattle.pr_wire.specs.declared.bus_state.BusState.{BusState};
 ghost use Rattle.pr_ear.specs.EarNumbers.{CanLead, HasLevels, HasNone, HasSome, IsEar, IsMarked, IsPlace, StandsAt};
 
 use crate::numbers::{Ear, NO_EDGE, PlaceNumbers, numbers_of_place, place_for, plain};
 use crate::{WireEdge, edge_for, is_device};
-use pr_wire::{Edge, Place, Sending};
+use pr_wire::{BusState, ByteRole, Edge};
 
 /// How many microseconds more the last moment has at least than edges were accepted, once there are two: the
 /// second stands at 100 or later.
@@ -27,15 +27,15 @@ fn stands_at(edge: Edge, since: u64, atn: bool, clock: bool, line: bool) -> bool
 }
 
 /// Whether a byte may be sent so after end-or-identify was answered, or was not.
-fn is_marked(eoi: bool, sending: Sending) -> bool
+fn is_marked(eoi: bool, sending: ByteRole) -> bool
     ensures { result ≡ true ↔ IsMarked eoi sending }
 {
-    !eoi || sending == Sending::Data
+    !eoi || sending == ByteRole::Data
 }
 
 /// Whether an edge can lead to a call.
 fn can_call(edge: Edge, since: u64, pulled: bool) -> bool
-    ensures { result ≡ true ↔ CanLead edge (Place.Call since pulled) }
+    ensures { result ≡ true ↔ CanLead edge (BusState.Call since pulled) }
 {
     if pulled {
         has_levels(edge, false, false, false) && since <= edge.time && edge.time - since <= 1000
@@ -46,7 +46,7 @@ fn can_call(edge: Edge, since: u64, pulled: bool) -> bool
 
 /// Whether an edge can lead to the place behind an attention.
 fn can_free(edge: Edge, since: u64, unlistened: bool, released: bool) -> bool
-    ensures { result ≡ true ↔ CanLead edge (Place.Freed since unlistened released) }
+    ensures { result ≡ true ↔ CanLead edge (BusState.Freed since unlistened released) }
 {
     if released {
         has_levels(edge, true, false, true) && since < edge.time && edge.time - since <= 60
@@ -56,20 +56,20 @@ fn can_free(edge: Edge, since: u64, unlistened: bool, released: bool) -> bool
 }
 
 /// Whether an edge can lead to a place.
-fn can_lead(edge: Edge, place: &Place) -> bool
+fn can_lead(edge: Edge, place: &BusState) -> bool
     ensures { result ≡ true ↔ CanLead edge place.now }
 {
     match place {
-        Place::Idle(since) => stands_at(edge, *since, true, true, true),
-        Place::Call(since, pulled) => can_call(edge, *since, *pulled),
-        Place::Ready(since, sending) => stands_at(edge, *since, sending.atn(), true, false),
-        Place::Free(since, sending) => stands_at(edge, *since, sending.atn(), true, true),
-        Place::Pulse(since, released) => {
+        BusState::Idle(since) => stands_at(edge, *since, true, true, true),
+        BusState::Call(since, pulled) => can_call(edge, *since, *pulled),
+        BusState::Ready(since, sending) => stands_at(edge, *since, sending.atn(), true, false),
+        BusState::Free(since, sending) => stands_at(edge, *since, sending.atn(), true, true),
+        BusState::Pulse(since, released) => {
             let wait = since.saturating_sub(*released);
             stands_at(edge, *since, true, true, false) && 200 <= wait && wait <= 250
         }
-        Place::After(since) => stands_at(edge, *since, true, true, true),
-        Place::Bit {
+        BusState::After(since) => stands_at(edge, *since, true, true, true),
+        BusState::Bit {
             since,
             sending,
             eoi,
@@ -80,7 +80,7 @@ fn can_lead(edge: Edge, place: &Place) -> bool
                 && seen.len() <= 7
                 && is_marked(*eoi, *sending)
         }
-        Place::High {
+        BusState::High {
             since,
             sending,
             eoi,
@@ -91,13 +91,13 @@ fn can_lead(edge: Edge, place: &Place) -> bool
                 && seen.len() <= 7
                 && is_marked(*eoi, *sending)
         }
-        Place::Last(since, sending, eoi, seen) => {
+        BusState::Last(since, sending, eoi, seen) => {
             stands_at(edge, *since, sending.atn(), false, true)
                 && seen.len() == 8
                 && is_marked(*eoi, *sending)
         }
-        Place::Ack(since, sending, _) => stands_at(edge, *since, sending.atn(), false, false),
-        Place::Freed {
+        BusState::Ack(since, sending, _) => stands_at(edge, *since, sending.atn(), false, false),
+        BusState::Freed {
             since,
             unlistened,
             data_released,

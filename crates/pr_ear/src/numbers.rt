@@ -2,8 +2,8 @@
 
 ghost use Rattle.std.specs.Prelude.{◌==◌, ◌≡◌, ◌≤◌, ◌<◌, ◌++◌, ◌∷◌, [], length, Bool, List, ℕ, None, IfSome};
 ghost use Rattle.pr_wire.specs.Packed.{bits_in};
-ghost use Rattle.pr_wire.specs.declared.place.Place.{Place};
-ghost use Rattle.pr_wire.specs.declared.place.Sending.{Sending};
+ghost use Rattle.pr_wire.specs.declared.bus_state.BusState.{BusState};
+ghost use Rattle.pr_wire.specs.declared.bus_state.ByteRole.{ByteRole};
 ghost use Rattle.pr_ear.specs.Hearing.{bit_of};
 ghost use Rattle.pr_ear.specs.EarNumbers.{byte_place, plain_place, sending_number, stored_place, IsEar};
 ghost use Rattle.pr_ear.specs.Taken.{CanStand};
@@ -13,7 +13,7 @@ use crate::fits::is_ear;
 use crate::standing::{Refusal, Standing};
 use crate::{WireEdge, edge_for};
 use pr_receiver::Listener;
-use pr_wire::{Edge, Flaw, Levels, Place, Sending, Step};
+use pr_wire::{BusState, ByteRole, Edge, EdgeError, Levels, Step};
 
 /// A place of the table of lawful traces. What a place has not is 0.
 #[repr(C)]
@@ -23,7 +23,7 @@ pub struct PlaceNumbers {
     pub since: u64,
     /// In the answer to end-or-identify the moment of DATA's release before.
     pub released: u64,
-    /// Which place: 0 to 10, in the order of [`Place`].
+    /// Which place: 0 to 10, in the order of [`BusState`].
     pub place: u8,
     /// Which byte is sent: 0 the first of an attention, 1 its second, 2 a data byte.
     pub sending: u8,
@@ -72,24 +72,24 @@ pub fn bit(value: bool) -> u8
 }
 
 /// Which byte is sent, as a number.
-fn number_of_sending(sending: Sending) -> u8
+fn number_of_sending(sending: ByteRole) -> u8
     ensures { result ≡ sending_number sending }
 {
     match sending {
-        Sending::First => 0,
-        Sending::Second => 1,
-        Sending::Data => 2,
+        ByteRole::First => 0,
+        ByteRole::Second => 1,
+        ByteRole::Data => 2,
     }
 }
 
 /// Which byte is sent, by its number.
-fn sending_for(number: u8) -> Sending
+fn sending_for(number: u8) -> ByteRole
     ensures { result ≡ sending_by number }
 {
     match number {
-        0 => Sending::First,
-        1 => Sending::Second,
-        _ => Sending::Data,
+        0 => ByteRole::First,
+        1 => ByteRole::Second,
+        _ => ByteRole::Data,
     }
 }
 
@@ -111,7 +111,7 @@ pub fn plain(place: u8, since: u64) -> PlaceNumbers
 }
 
 /// The numbers of a place in which a byte is sent or waited for.
-fn sent(place: u8, since: u64, sending: Sending) -> PlaceNumbers
+fn sent(place: u8, since: u64, sending: ByteRole) -> PlaceNumbers
     ensures { result ≡ record (plain_place place since) { sending = sending_number sending } }
 {
     PlaceNumbers {
@@ -121,28 +121,28 @@ fn sent(place: u8, since: u64, sending: Sending) -> PlaceNumbers
 }
 
 /// The numbers of a place.
-pub fn numbers_of_place(place: &Place) -> PlaceNumbers
+pub fn numbers_of_place(place: &BusState) -> PlaceNumbers
     ensures value { result ≡ stored_place place.now }
     ensures few { HasFewBits place.now }
 {
     match place {
-        Place::Idle(since) => plain(0, *since),
-        Place::Call(since, pulled) => PlaceNumbers {
+        BusState::Idle(since) => plain(0, *since),
+        BusState::Call(since, pulled) => PlaceNumbers {
             bit: bit(*pulled),
             ..plain(1, *since)
         },
-        Place::Ready(since, sending) => sent(2, *since, *sending),
-        Place::Free(since, sending) => sent(3, *since, *sending),
-        Place::Pulse(since, released) => PlaceNumbers {
+        BusState::Ready(since, sending) => sent(2, *since, *sending),
+        BusState::Free(since, sending) => sent(3, *since, *sending),
+        BusState::Pulse(since, released) => PlaceNumbers {
             released: *released,
             ..plain(4, *since)
         },
-        Place::After(since) => plain(5, *since),
-        Place::Ack(since, sending, byte) => PlaceNumbers {
+        BusState::After(since) => plain(5, *since),
+        BusState::Ack(since, sending, byte) => PlaceNumbers {
             byte: *byte,
             ..sent(9, *since, *sending)
         },
-        Place::Freed {
+        BusState::Freed {
             since,
             unlistened,
             data_released,
@@ -156,16 +156,16 @@ pub fn numbers_of_place(place: &Place) -> PlaceNumbers
 }
 
 /// The numbers of a place in which the bits of a byte come.
-fn numbers_in_byte(place: &Place) -> PlaceNumbers
-    ensures bit { (since : ℕ) (sending : Sending) (eoi : Bool) (seen : List Bool) (bit : Bool) →
-        place.now ≡ Place.Bit since sending eoi seen bit → (result ≡ stored_place place.now) × (length seen ≤ 8) }
-    ensures high { (since : ℕ) (sending : Sending) (eoi : Bool) (seen : List Bool) (bit : Bool) →
-        place.now ≡ Place.High since sending eoi seen bit → (result ≡ stored_place place.now) × (length seen ≤ 8) }
-    ensures last { (since : ℕ) (sending : Sending) (eoi : Bool) (seen : List Bool) →
-        place.now ≡ Place.Last since sending eoi seen → (result ≡ stored_place place.now) × (length seen ≤ 8) }
+fn numbers_in_byte(place: &BusState) -> PlaceNumbers
+    ensures bit { (since : ℕ) (sending : ByteRole) (eoi : Bool) (seen : List Bool) (bit : Bool) →
+        place.now ≡ BusState.Bit since sending eoi seen bit → (result ≡ stored_place place.now) × (length seen ≤ 8) }
+    ensures high { (since : ℕ) (sending : ByteRole) (eoi : Bool) (seen : List Bool) (bit : Bool) →
+        place.now ≡ BusState.High since sending eoi seen bit → (result ≡ stored_place place.now) × (length seen ≤ 8) }
+    ensures last { (since : ℕ) (sending : ByteRole) (eoi : Bool) (seen : List Bool) →
+        place.now ≡ BusState.Last since sending eoi seen → (result ≡ stored_place place.now) × (length seen ≤ 8) }
 {
     match place {
-        Place::Bit {
+        BusState::Bit {
             since,
             sending,
             eoi,
@@ -175,7 +175,7 @@ fn numbers_in_byte(place: &Place) -> PlaceNumbers
             bit: bit(*level),
             ..some_bits(sent(6, *since, *sending), *eoi, seen.len(), seen.byte())
         },
-        Place::High {
+        BusState::High {
             since,
             sending,
             eoi,
@@ -185,7 +185,7 @@ fn numbers_in_byte(place: &Place) -> PlaceNumbers
             bit: bit(*level),
             ..some_bits(sent(7, *since, *sending), *eoi, seen.len(), seen.byte())
         },
-        Place::Last(since, sending, eoi, seen) => {
+        BusState::Last(since, sending, eoi, seen) => {
             some_bits(sent(8, *since, *sending), *eoi, seen.len(), seen.byte())
         }
         _ => plain(0, 0),
@@ -206,19 +206,19 @@ fn some_bits(numbers: PlaceNumbers, eoi: bool, count: usize, byte: u8) -> PlaceN
 }
 
 /// A place by its numbers.
-pub fn place_for(numbers: &PlaceNumbers) -> Place
+pub fn place_for(numbers: &PlaceNumbers) -> BusState
     ensures { result ≡ place_by numbers.now }
 {
     let since = numbers.since;
     match numbers.place {
-        0 => Place::Idle(since),
-        1 => Place::Call(since, numbers.bit == 1),
-        2 => Place::Ready(since, sending_for(numbers.sending)),
-        3 => Place::Free(since, sending_for(numbers.sending)),
-        4 => Place::Pulse(since, numbers.released),
-        5 => Place::After(since),
-        9 => Place::Ack(since, sending_for(numbers.sending), numbers.byte),
-        10 => Place::Freed {
+        0 => BusState::Idle(since),
+        1 => BusState::Call(since, numbers.bit == 1),
+        2 => BusState::Ready(since, sending_for(numbers.sending)),
+        3 => BusState::Free(since, sending_for(numbers.sending)),
+        4 => BusState::Pulse(since, numbers.released),
+        5 => BusState::After(since),
+        9 => BusState::Ack(since, sending_for(numbers.sending), numbers.byte),
+        10 => BusState::Freed {
             since,
             unlistened: numbers.unlistened == 1,
             data_released: numbers.bit == 1,
@@ -228,40 +228,40 @@ pub fn place_for(numbers: &PlaceNumbers) -> Place
 }
 
 /// A place in which the bits of a byte come, by its numbers.
-fn place_in_byte(numbers: &PlaceNumbers) -> Place
+fn place_in_byte(numbers: &PlaceNumbers) -> BusState
     ensures { result ≡ byte_place_by numbers.now }
 {
     match with_bits(numbers) {
-        Place::Bit {
+        BusState::Bit {
             since,
             sending,
             eoi,
             seen,
             bit,
         } => match numbers.place {
-            6 => Place::Bit {
+            6 => BusState::Bit {
                 since,
                 sending,
                 eoi,
                 seen,
                 bit,
             },
-            7 => Place::High {
+            7 => BusState::High {
                 since,
                 sending,
                 eoi,
                 seen,
                 bit,
             },
-            _ => Place::Last(since, sending, eoi, seen),
+            _ => BusState::Last(since, sending, eoi, seen),
         },
         place => place,
     }
 }
 
 /// The place of a byte of which these bits have come and CLOCK is pulled.
-fn with_bits(numbers: &PlaceNumbers) -> Place
-    ensures { result ≡ Place.Bit numbers.now.since (sending_by numbers.now.sending) (numbers.now.eoi == 1)
+fn with_bits(numbers: &PlaceNumbers) -> BusState
+    ensures { result ≡ BusState.Bit numbers.now.since (sending_by numbers.now.sending) (numbers.now.eoi == 1)
         (bits_by numbers.now) (numbers.now.bit == 1) }
 {
     let mut place = without_bits(
@@ -288,8 +288,8 @@ fn few(count: u8) -> u8
 
 /// The place of a byte of which no bit has come and CLOCK is pulled. Its empty list of bits comes
 /// from the table, by the pull of CLOCK.
-fn without_bits(since: u64, sending: Sending, eoi: bool, bit: bool) -> Place
-    ensures { result ≡ Place.Bit since sending eoi [] bit }
+fn without_bits(since: u64, sending: ByteRole, eoi: bool, bit: bool) -> BusState
+    ensures { result ≡ BusState.Bit since sending eoi [] bit }
 {
     let released = Levels {
         atn: true,
@@ -300,7 +300,7 @@ fn without_bits(since: u64, sending: Sending, eoi: bool, bit: bool) -> Place
         clock: false,
         ..released
     };
-    let free = Place::Free(0, Sending::Data);
+    let free = BusState::Free(0, ByteRole::Data);
     let step = free.after(
         Edge {
             time: 0,
@@ -314,27 +314,27 @@ fn without_bits(since: u64, sending: Sending, eoi: bool, bit: bool) -> Place
     match step {
         Ok(
             Step {
-                place: Place::Bit { seen, .. },
+                place: BusState::Bit { seen, .. },
                 ..
             },
-        ) => Place::Bit {
+        ) => BusState::Bit {
             since,
             sending,
             eoi,
             seen,
             bit,
         },
-        _ => Place::Idle(since),
+        _ => BusState::Idle(since),
     }
 }
 
 /// One bit more comes.
-fn push(place: &mut Place, level: bool)
-    ensures { (since : ℕ) (sending : Sending) (eoi : Bool) (seen : List Bool) (bit : Bool) →
-        place.old ≡ Place.Bit since sending eoi seen bit → length seen < 8 →
-        place.new ≡ Place.Bit since sending eoi (seen ++ level ∷ []) bit }
+fn push(place: &mut BusState, level: bool)
+    ensures { (since : ℕ) (sending : ByteRole) (eoi : Bool) (seen : List Bool) (bit : Bool) →
+        place.old ≡ BusState.Bit since sending eoi seen bit → length seen < 8 →
+        place.new ≡ BusState.Bit since sending eoi (seen ++ level ∷ []) bit }
 {
-    if let Place::Bit { seen, .. } = place {
+    if let BusState::Bit { seen, .. } = place {
         if seen.len() < 8 {
             seen.push(level);
         }
@@ -348,10 +348,10 @@ fn number_of_refusal(refused: Option<Refusal>) -> u8
     match refused {
         None => 0,
         Some(Refusal::Start) => 11,
-        Some(Refusal::Flawed(Flaw::Order)) => 12,
-        Some(Refusal::Flawed(Flaw::TooEarly)) => 13,
-        Some(Refusal::Flawed(Flaw::TooLate)) => 14,
-        Some(Refusal::Flawed(Flaw::Shape)) => 15,
+        Some(Refusal::Flawed(EdgeError::Order)) => 12,
+        Some(Refusal::Flawed(EdgeError::TooEarly)) => 13,
+        Some(Refusal::Flawed(EdgeError::TooLate)) => 14,
+        Some(Refusal::Flawed(EdgeError::Shape)) => 15,
     }
 }
 
@@ -361,10 +361,10 @@ fn refusal_for(number: u8) -> Option<Refusal>
 {
     match number {
         11 => Some(Refusal::Start),
-        12 => Some(Refusal::Flawed(Flaw::Order)),
-        13 => Some(Refusal::Flawed(Flaw::TooEarly)),
-        14 => Some(Refusal::Flawed(Flaw::TooLate)),
-        15 => Some(Refusal::Flawed(Flaw::Shape)),
+        12 => Some(Refusal::Flawed(EdgeError::Order)),
+        13 => Some(Refusal::Flawed(EdgeError::TooEarly)),
+        14 => Some(Refusal::Flawed(EdgeError::TooLate)),
+        15 => Some(Refusal::Flawed(EdgeError::Shape)),
         _ => None,
     }
 }

@@ -15,7 +15,7 @@ ghost use Rattle.pr_ear.specs.Taken.{refused_at, CanListen, CanStand, HasCome, I
 
 use pr_page::Input;
 use pr_receiver::{Listener, frames_are_heard_in_turn};
-use pr_wire::{Edge, Flaw, Frame, Place, WaveFault, allowed_traces, lawful_traces};
+use pr_wire::{BusState, Edge, EdgeError, Frame, WaveFault, allowed_traces, lawful_traces};
 
 /// Why an edge was refused.
 #[derive(Clone, Copy, Debug, PartialEq, Eq)]
@@ -23,7 +23,7 @@ pub enum Refusal {
     /// It is the first and not `0 111`.
     Start,
     /// The table of lawful traces does not allow it.
-    Flawed(Flaw),
+    Flawed(EdgeError),
 }
 
 impl Refusal {
@@ -47,7 +47,7 @@ pub struct Standing {
     /// The last of them.
     pub last: Option<Edge>,
     /// The place that they have reached.
-    pub place: Place,
+    pub place: BusState,
     /// What the device keeps of the frames that they have ended.
     pub listener: Listener,
     /// Why the next edge was refused, if it was.
@@ -72,7 +72,7 @@ impl Standing {
         Standing {
             taken: 0,
             last: None,
-            place: Place::Idle(0),
+            place: BusState::Idle(0),
             listener: Listener::new(device),
             refused: None,
         }
@@ -89,7 +89,7 @@ impl Standing {
             if !edge.is_start() {
                 return Err(Refusal::Start);
             }
-            self.place = Place::Idle(0);
+            self.place = BusState::Idle(0);
             return Ok(None);
         };
         match self.place.advance(last, edge) {

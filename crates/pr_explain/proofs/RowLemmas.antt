@@ -1,13 +1,13 @@
 -- The row of a bit that stands, against the table.
 use Rattle.std.proofs.Common.{◌≡◌, ◌+◌, ◌++◌, ◌∷◌, [], length, ℕ, Bool, true, false, not, ◌&&◌, ◌||◌, List, Option, Some, None, IfSome, Result, Ok, Err, refl, ap, ◌∙◌, arith, get_or}
 use Rattle.std.specs.Prelude.{if◌then◌else◌, nat_lt}
-use Rattle.pr_wire.specs.declared.place.Sending.{Sending}
-use Rattle.pr_wire.specs.declared.place.Place.{Place}
-use Rattle.pr_wire.specs.declared.place.Place.TheVariants.{Bit, High}
+use Rattle.pr_wire.specs.declared.bus_state.ByteRole.{ByteRole}
+use Rattle.pr_wire.specs.declared.bus_state.BusState.{BusState}
+use Rattle.pr_wire.specs.declared.bus_state.BusState.TheVariants.{Bit, High}
 use Rattle.pr_wire.specs.declared.Levels.{Levels}
-use Rattle.pr_wire.specs.declared.place.Step.{Step}
-use Rattle.pr_wire.specs.declared.place.Flaw.{Flaw}
-use Rattle.pr_wire.specs.declared.place.Flaw.TheVariants.{Order, TooEarly, TooLate}
+use Rattle.pr_wire.specs.declared.bus_state.Step.{Step}
+use Rattle.pr_wire.specs.declared.bus_state.EdgeError.{EdgeError}
+use Rattle.pr_wire.specs.declared.bus_state.EdgeError.TheVariants.{Order, TooEarly, TooLate}
 use Rattle.pr_wire.specs.Table.{atn_of, differ, is_late, same, timed, where_true, within}
 use Rattle.pr_explain.specs.declared.rows.Row.{Row}
 use Rattle.std.specs.List.{list_any}
@@ -19,7 +19,7 @@ abbrev inside : ℕ → ℕ → ℕ → Bool
 inside low high t = not (nat_lt t low) && not (is_late t (Some high))
 
 -- an edge is taken exactly in the interval of its row, where a test holds
-in_row : (t low high : ℕ) (place : Place) (p : Bool) → p && inside low high t ≡ is_step (timed t (where_true p (within low high place)))
+in_row : (t low high : ℕ) (place : BusState) (p : Bool) → p && inside low high t ≡ is_step (timed t (where_true p (within low high place)))
 in_row t low high place false = refl
 in_row t low high place true = by (nat_lt t low) (nat_lt high t)
   where
@@ -46,7 +46,7 @@ tests true false r = refl
 tests false q r = refl
 
 -- the row of a bit that stands takes what the table takes
-pub bit_row : (c t : ℕ) (s : Sending) (eoi : Bool) (seen : List Bool) (b x k l : Bool)
+pub bit_row : (c t : ℕ) (s : ByteRole) (eoi : Bool) (seen : List Bool) (b x k l : Bool)
     → lies (record { atn = atn_of s; clock = true; line = b }) (c + 20) (Some (c + 200)) (record { time = t; levels = record { atn = x; clock = k; line = l } }) || false
     ≡ is_taken (Bit c s eoi seen b) (record { time = t; levels = record { atn = x; clock = k; line = l } })
 bit_row c t s eoi seen b x false l = nothing (same (atn_of s) x)
@@ -67,7 +67,7 @@ neither true = refl
 neither false = refl
 
 -- the rows behind a bit that is not the last take what the table takes
-pub high_rows : (u t : ℕ) (s : Sending) (eoi : Bool) (seen : List Bool) (b x k l : Bool) → nat_lt (length seen) 7 ≡ true
+pub high_rows : (u t : ℕ) (s : ByteRole) (eoi : Bool) (seen : List Bool) (b x k l : Bool) → nat_lt (length seen) 7 ≡ true
     → lies (record { atn = atn_of s; clock = false; line = false }) (u + 20) (Some (u + 200)) (record { time = t; levels = record { atn = x; clock = k; line = l } })
     || (lies (record { atn = atn_of s; clock = false; line = true }) (u + 20) (Some (u + 200)) (record { time = t; levels = record { atn = x; clock = k; line = l } }) || false)
     ≡ is_taken (High u s eoi seen b) (record { time = t; levels = record { atn = x; clock = k; line = l } })
@@ -98,12 +98,12 @@ distribute false false true false = refl
 distribute false false false false = refl
 
 -- an edge out of order is not taken
-in_order : (f : Bool) (s : Result Step Flaw) → f && is_step s ≡ is_step (if f then s else Err Order)
+in_order : (f : Bool) (s : Result Step EdgeError) → f && is_step s ≡ is_step (if f then s else Err Order)
 in_order true s = refl
 in_order false s = refl
 
 -- three rows behind the last edge take what the rows do, where the order is kept
-pub behind_rows : (a b c p q r f : Bool) (s : Result Step Flaw) → a ≡ p && f → b ≡ q && f → c ≡ r && f → p || (q || (r || false)) ≡ is_step s
+pub behind_rows : (a b c p q r f : Bool) (s : Result Step EdgeError) → a ≡ p && f → b ≡ q && f → c ≡ r && f → p || (q || (r || false)) ≡ is_step s
     → a || (b || (c || false)) ≡ is_step (if f then s else Err Order)
 behind_rows a b c p q r f s x y z h = rw (x, y, z) (distribute p q r f ∙ (ap (λ t. f && t) h ∙ in_order f s))
 

@@ -1,7 +1,7 @@
 -- The line in which a statement stands, and the words for an error.
 use Rattle.std.proofs.Common.{◌≡◌, ℕ, zero, suc, ◌+◌, ◌-◌, ◌<◌, ◌≤◌, List, [], ◌∷◌, ◌++◌, length, get_or, take, drop, refl, ap, subst, sym, ◌∙◌, arith, append_assoc, append-nil, length-append, Option}
 use Rattle.std.proofs.lemmas.Grind.{common_steps}
-use Rattle.pr_text.specs.Lines.{lines_of}
+use Rattle.pr_base.specs.Lines.{lines_of}
 use Rattle.pr_basic.specs.Limits.{statement_limit}
 use Rattle.pr_basic.specs.Grammar.{AreLines, IsLine, IsScript, without_return}
 use Rattle.pr_basic.specs.declared.statement.Statement.{Statement}

@@ -3,10 +3,10 @@ use Rattle.std.specs.Prelude.{◌≡◌, ◌⊎◌, ℕ, Bool, true, false, ◌+
 use Rattle.pr_wire.specs.declared.Edge.{Edge}
 use Rattle.pr_wire.specs.declared.WaveFault.{WaveFault}
 use Rattle.pr_wire.specs.declared.WaveFault.TheVariants as wave
-use Rattle.pr_wire.specs.declared.place.Place.TheVariants.{Idle}
+use Rattle.pr_wire.specs.declared.bus_state.BusState.TheVariants.{Idle}
 use Rattle.pr_wire.specs.Table.{fault_at, fault_from, fault_of, may_end}
-use Rattle.pr_options.specs.declared.format.Source.TheVariants as source
-use Rattle.pr_options.specs.declared.format.TraceInput.{TraceInput}
+use Rattle.pr_capture.specs.declared.format.Source.TheVariants as source
+use Rattle.pr_capture.specs.declared.format.TraceInput.{TraceInput}
 use Rattle.pr_cli.specs.declared.fault.CliFault.{CliFault}
 use Rattle.pr_explain.specs.declared.edges.Back.{Back}
 use Rattle.pr_explain.specs.declared.edges.Led.{Led}

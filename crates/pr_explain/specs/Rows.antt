@@ -3,9 +3,9 @@ use Rattle.std.specs.Prelude.{◌≡◌, ℕ, ◌<◌, ◌^◌, List, [], ◌∷
 use Rattle.std.specs.List.{list_all, list_any}
 use Rattle.pr_wire.specs.declared.Levels.{Levels}
 use Rattle.pr_wire.specs.declared.Edge.{Edge}
-use Rattle.pr_wire.specs.declared.place.Step.{Step}
-use Rattle.pr_wire.specs.declared.place.Flaw.{Flaw}
-use Rattle.pr_wire.specs.declared.place.Place.{Place}
+use Rattle.pr_wire.specs.declared.bus_state.Step.{Step}
+use Rattle.pr_wire.specs.declared.bus_state.EdgeError.{EdgeError}
+use Rattle.pr_wire.specs.declared.bus_state.BusState.{BusState}
 use Rattle.pr_wire.specs.Table.{by_row, differ, is_late, same, verdict}
 use Rattle.pr_explain.specs.declared.rows.Row.{Row}
 
@@ -36,16 +36,16 @@ all_lead_apart [] = true
 all_lead_apart (r ∷ rs) = list_all (lead_apart r) rs && all_lead_apart rs
 
 -- it is taken
-abbrev pub is_step : Result Step Flaw → Bool
+abbrev pub is_step : Result Step EdgeError → Bool
 is_step (Ok step) = true
 is_step (Err flaw) = false
 
 -- an edge is taken at a place, by the table
-abbrev pub is_taken : Place → Edge → Bool
+abbrev pub is_taken : BusState → Edge → Bool
 is_taken p e = is_step (by_row p e)
 
 -- these are the rows at a place: an edge is taken there exactly if one of them takes it
-abbrev pub AreRows : List (Option Row) → Place → Type 0
+abbrev pub AreRows : List (Option Row) → BusState → Type 0
 AreRows rows p = (e : Edge) → e.time < 2 ^ 64 → list_any (λ row. takes row e) rows ≡ is_taken p e
 
 -- an edge is later than the last one, and has other levels
@@ -53,5 +53,5 @@ abbrev pub comes_after : Edge → Edge → Bool
 comes_after last e = nat_lt last.time e.time && differ last.levels e.levels
 
 -- these are the rows at a place behind the last edge: an edge may follow it there exactly if one of them takes it
-abbrev pub AreRowsBehind : List (Option Row) → Edge → Place → Type 0
+abbrev pub AreRowsBehind : List (Option Row) → Edge → BusState → Type 0
 AreRowsBehind rows last p = (e : Edge) → e.time < 2 ^ 64 → list_any (λ row. takes row e) rows ≡ is_step (verdict last p e)

@@ -1,7 +1,7 @@
 -- Trusted: how the BASIC error is told that stopped a script: its name, the number of the BASIC line, the statement and the line in which
 -- it stands.
 use Rattle.std.specs.Prelude.{◌≡◌, ℕ, suc, ◌+◌, ◌<◌, ◌≤◌, List, [], ◌∷◌, ◌++◌, length, Option, Some, None, codes, decimal}
-use Rattle.pr_text.specs.Lines.{lines_of}
+use Rattle.pr_base.specs.Lines.{lines_of}
 use Rattle.pr_basic.specs.declared.statement.Statement.{Statement}
 use Rattle.pr_basic.specs.Grammar.{AreLines, IsLine, without_return}
 use Rattle.pr_channels.specs.declared.faults.Stop.{Stop}

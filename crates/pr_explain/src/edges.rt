@@ -8,14 +8,14 @@ ghost use Rattle.pr_explain.specs.TraceTold.{AreInOrder};
 use crate::places::{LAST_MOMENT, push_place, push_rows};
 use crate::rows::{Row, rows_behind};
 use crate::texts::{Origin, push, push_edge, push_number};
-use pr_wire::{Edge, Flaw, Levels, NoMemory, Place};
+use pr_wire::{BusState, Edge, EdgeError, Levels, NoMemory};
 use std::alloc::Global;
 
 /// Where edges lead that are all lawful.
 #[derive(Drop)]
 struct Led {
     last: Edge,
-    place: Place,
+    place: BusState,
 }
 
 /// The first edge that is not lawful, with its index, the edge before it and the place there.
@@ -24,8 +24,8 @@ struct Refused {
     index: usize,
     last: Edge,
     edge: Edge,
-    flaw: Flaw,
-    place: Place,
+    flaw: EdgeError,
+    place: BusState,
 }
 
 /// Follows the edges behind the first one of a trace.
@@ -34,7 +34,7 @@ fn follow(first: Edge, others: &[Edge]) -> Result<Led, Refused>
     ensures within { IfErr result (λ refused. refused.index ≤ length others.now) }
 {
     let mut last = first;
-    let mut place = Place::Idle(0);
+    let mut place = BusState::Idle(0);
     let mut index: usize = 1;
     let mut rest = others;
     while let [edge, more @ ..] = rest {
@@ -275,7 +275,7 @@ fn with_index(
 fn push_behind(
     text: &mut Vec<u8>,
     last: Edge,
-    place: &Place,
+    place: &BusState,
     origin: Origin,
 ) -> Result<(), NoMemory> {
     push_edge(text, last, origin)?;
@@ -293,18 +293,23 @@ fn refused_told(alloc: Global, refused: &Refused, origin: Origin) -> Result<Vec<
     push(&mut text, "\n  the edge before it: ")?;
     push_behind(&mut text, last, &refused.place, origin)?;
     match refused.flaw {
-        Flaw::Order if edge.time <= last.time => {
+        EdgeError::Order if edge.time <= last.time => {
             push(&mut text, "  it is not later than the edge before it\n")?;
         }
-        Flaw::Order => push(&mut text, "  it has the levels of the edge before it\n")?,
-        Flaw::Shape => push(&mut text, "  no edge to its levels may follow\n")?,
-        Flaw::TooEarly | Flaw::TooLate => push_miss(&mut text, last, edge, &refused.place)?,
+        EdgeError::Order => push(&mut text, "  it has the levels of the edge before it\n")?,
+        EdgeError::Shape => push(&mut text, "  no edge to its levels may follow\n")?,
+        EdgeError::TooEarly | EdgeError::TooLate => push_miss(
+            &mut text,
+            last,
+            edge,
+            &refused.place,
+        )?,
     }
     Ok(text)
 }
 
 /// The row to these levels behind the last edge at a place.
-fn row_to(levels: Levels, place: &Place, last: Edge) -> Option<Row> {
+fn row_to(levels: Levels, place: &BusState, last: Edge) -> Option<Row> {
     for row in rows_behind(place, last) {
         if row.is_some_and(|row| row.levels == levels) {
             return row;
@@ -314,7 +319,7 @@ fn row_to(levels: Levels, place: &Place, last: Edge) -> Option<Row> {
 }
 
 /// Adds by how much an edge missed the interval of its levels.
-fn push_miss(text: &mut Vec<u8>, last: Edge, edge: Edge, place: &Place) -> Result<(), NoMemory> {
+fn push_miss(text: &mut Vec<u8>, last: Edge, edge: Edge, place: &BusState) -> Result<(), NoMemory> {
     let Some(row) = row_to(edge.levels, place, last) else {
         push(
             text,

@@ -8,9 +8,8 @@ ghost use Rattle.pr_explain.specs.TraceTold.{capture_line, fault_line};
 
 use crate::names::{begins_with_number, no_signal, push_names, push_time_column};
 use crate::texts::{has_comma, line_with, push, push_cut, push_number, without_end};
-use pr_capture::{CaptureFault, Signals, Wire};
+use pr_capture::{CaptureFault, Signals, Source, TraceInput, Wire};
 use pr_cli::CliFault;
-use pr_options::{Source, TraceInput};
 use pr_wire::{NoMemory, TraceFault};
 use std::alloc::Global;
 

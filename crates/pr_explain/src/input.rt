@@ -5,8 +5,8 @@ ghost use Rattle.pr_cli.specs.Report.{Says};
 ghost use Rattle.pr_cli.specs.Reported.{IsOwnFault};
 ghost use Rattle.pr_explain.specs.Reading.{EndsEdges, TakesSample};
 
+use pr_capture::TraceInput;
 use pr_cli::{CliFault, EdgeMaker, SourceReader, own_fault};
-use pr_options::TraceInput;
 use pr_wire::{Edge, NoMemory};
 use std::alloc::Global;
 

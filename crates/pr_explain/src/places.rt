@@ -2,17 +2,17 @@
 
 use crate::rows::{Row, rows_behind};
 use crate::texts::{Origin, push, push_levels, push_moment, push_number};
-use pr_wire::{Edge, NoMemory, Place, Sending};
+use pr_wire::{BusState, ByteRole, Edge, NoMemory};
 
 /// The greatest moment, in microseconds, and the end of a line about it.
 pub const LAST_MOMENT: &str = "18446744073709551615, the last moment that an edge can have\n";
 
 /// What is sent.
-fn name_of(sending: Sending) -> &'static str {
+fn name_of(sending: ByteRole) -> &'static str {
     match sending {
-        Sending::First => "a first command",
-        Sending::Second => "a second command",
-        Sending::Data => "a data byte",
+        ByteRole::First => "a first command",
+        ByteRole::Second => "a second command",
+        ByteRole::Data => "a data byte",
     }
 }
 
@@ -27,7 +27,7 @@ fn push_since(text: &mut Vec<u8>, words: &str, since: u64, origin: Origin) -> Re
 fn push_sending(
     text: &mut Vec<u8>,
     words: &str,
-    sending: Sending,
+    sending: ByteRole,
     since: u64,
     origin: Origin,
 ) -> Result<(), NoMemory> {
@@ -40,7 +40,7 @@ fn push_bit(
     text: &mut Vec<u8>,
     words: &str,
     bit: usize,
-    sending: Sending,
+    sending: ByteRole,
     since: u64,
     origin: Origin,
 ) -> Result<(), NoMemory> {
@@ -52,22 +52,22 @@ fn push_bit(
 }
 
 /// Adds a place in words.
-pub fn push_place(text: &mut Vec<u8>, place: &Place, origin: Origin) -> Result<(), NoMemory> {
+pub fn push_place(text: &mut Vec<u8>, place: &BusState, origin: Origin) -> Result<(), NoMemory> {
     match place {
-        Place::Idle(since) => push_since(text, "idle, all lines are released", *since, origin),
-        Place::Call(since, false) => push_since(
+        BusState::Idle(since) => push_since(text, "idle, all lines are released", *since, origin),
+        BusState::Call(since, false) => push_since(
             text,
             "attention, no printer answers yet",
             *since,
             origin,
         ),
-        Place::Call(since, true) => push_since(
+        BusState::Call(since, true) => push_since(
             text,
             "attention, a printer answers",
             *since,
             origin,
         ),
-        Place::Ready(since, sending) => {
+        BusState::Ready(since, sending) => {
             push_sending(
                 text,
                 "the computer is ready to send ",
@@ -76,7 +76,7 @@ pub fn push_place(text: &mut Vec<u8>, place: &Place, origin: Origin) -> Result<(
                 origin,
             )
         }
-        Place::Free(since, sending) => {
+        BusState::Free(since, sending) => {
             push_sending(
                 text,
                 "the printers are ready for ",
@@ -85,14 +85,19 @@ pub fn push_place(text: &mut Vec<u8>, place: &Place, origin: Origin) -> Result<(
                 origin,
             )
         }
-        Place::Pulse(since, _) => push_since(text, "end-or-identify is answered", *since, origin),
-        Place::After(since) => push_since(
+        BusState::Pulse(since, _) => push_since(
+            text,
+            "end-or-identify is answered",
+            *since,
+            origin,
+        ),
+        BusState::After(since) => push_since(
             text,
             "end-or-identify has been answered",
             *since,
             origin,
         ),
-        Place::Bit {
+        BusState::Bit {
             since,
             sending,
             seen,
@@ -105,7 +110,7 @@ pub fn push_place(text: &mut Vec<u8>, place: &Place, origin: Origin) -> Result<(
             *since,
             origin,
         ),
-        Place::High {
+        BusState::High {
             since,
             sending,
             seen,
@@ -118,10 +123,10 @@ pub fn push_place(text: &mut Vec<u8>, place: &Place, origin: Origin) -> Result<(
             *since,
             origin,
         ),
-        Place::Last(since, sending, _, _) => {
+        BusState::Last(since, sending, _, _) => {
             push_sending(text, "all bits have come of ", *sending, *since, origin)
         }
-        Place::Ack(since, sending, _) => {
+        BusState::Ack(since, sending, _) => {
             push_sending(
                 text,
                 "a printer has acknowledged ",
@@ -130,12 +135,12 @@ pub fn push_place(text: &mut Vec<u8>, place: &Place, origin: Origin) -> Result<(
                 origin,
             )
         }
-        Place::Freed {
+        BusState::Freed {
             since,
             unlistened: false,
             ..
         } => push_since(text, "attention has ended", *since, origin),
-        Place::Freed { since, .. } => {
+        BusState::Freed { since, .. } => {
             push_since(text, "attention has ended with UNLISTEN", *since, origin)
         }
     }
@@ -144,7 +149,7 @@ pub fn push_place(text: &mut Vec<u8>, place: &Place, origin: Origin) -> Result<(
 /// Adds a line for each edge that may follow at a place behind the last one.
 pub fn push_rows(
     text: &mut Vec<u8>,
-    place: &Place,
+    place: &BusState,
     last: Edge,
     origin: Origin,
 ) -> Result<(), NoMemory> {

@@ -2,12 +2,12 @@
 
 ghost use Rattle.std.specs.Prelude.{◌≡◌, ◌+◌, ◌^◌, ◌<◌, ◌&&◌, IfSome, Some, false, true, length, List, Bool, ℕ};
 ghost use Rattle.pr_wire.specs.declared.Edge.{Edge};
-ghost use Rattle.pr_wire.specs.declared.place.Sending.{Sending};
+ghost use Rattle.pr_wire.specs.declared.bus_state.ByteRole.{ByteRole};
 ghost use Rattle.pr_wire.specs.Delays.{bounds_of};
 ghost use Rattle.std.specs.List.{list_all};
 ghost use Rattle.pr_explain.specs.Rows.{AreRows, AreRowsBehind, all_lead_apart, comes_after, has_moment, lies, takes};
 
-use pr_wire::{Edge, Kind, Levels, Place, Sending, bounds};
+use pr_wire::{BusState, ByteRole, Edge, Kind, Levels, bounds};
 
 /// The index of a byte's last bit, the highest.
 const LAST_BIT: usize = 7;
@@ -60,7 +60,7 @@ fn by_kind(atn: bool, clock: bool, line: bool, since: u64, kind: Kind) -> Option
 
 /// All lines are released: ATN is pulled.
 fn after_idle(since: u64) -> [Option<Row>; 3]
-    ensures rows { AreRows result (Place.Idle since) }
+    ensures rows { AreRows result (BusState.Idle since) }
     ensures moments { list_all has_moment result ≡ true }
     ensures levels { all_lead_apart result ≡ true }
     ensures three { length result ≡ 3 }
@@ -83,7 +83,7 @@ fn after_idle(since: u64) -> [Option<Row>; 3]
 /// ATN is pulled, and no printer pulls DATA: one answers, or the computer looks, and goes on or gives
 /// up.
 fn after_call(since: u64) -> [Option<Row>; 3]
-    ensures rows { AreRows result (Place.Call since false) }
+    ensures rows { AreRows result (BusState.Call since false) }
     ensures moments { list_all has_moment result ≡ true }
     ensures levels { all_lead_apart result ≡ true }
     ensures three { length result ≡ 3 }
@@ -104,7 +104,7 @@ fn after_call(since: u64) -> [Option<Row>; 3]
 
 /// ATN is pulled, and a printer pulls DATA: the computer looks.
 fn after_answered_call(since: u64) -> [Option<Row>; 3]
-    ensures rows { AreRows result (Place.Call since true) }
+    ensures rows { AreRows result (BusState.Call since true) }
     ensures moments { list_all has_moment result ≡ true }
     ensures levels { all_lead_apart result ≡ true }
     ensures three { length result ≡ 3 }
@@ -114,8 +114,8 @@ fn after_answered_call(since: u64) -> [Option<Row>; 3]
 }
 
 /// Each hearer is to release DATA.
-fn after_ready(since: u64, sending: Sending) -> [Option<Row>; 3]
-    ensures rows { AreRows result (Place.Ready since sending) }
+fn after_ready(since: u64, sending: ByteRole) -> [Option<Row>; 3]
+    ensures rows { AreRows result (BusState.Ready since sending) }
     ensures moments { list_all has_moment result ≡ true }
     ensures levels { all_lead_apart result ≡ true }
     ensures three { length result ≡ 3 }
@@ -126,8 +126,8 @@ fn after_ready(since: u64, sending: Sending) -> [Option<Row>; 3]
 
 /// CLOCK is pulled with the first bit, or before a data byte DATA is pulled in answer to
 /// end-or-identify.
-fn after_free(since: u64, sending: Sending) -> [Option<Row>; 3]
-    ensures rows { AreRows result (Place.Free since sending) }
+fn after_free(since: u64, sending: ByteRole) -> [Option<Row>; 3]
+    ensures rows { AreRows result (BusState.Free since sending) }
     ensures moments { list_all has_moment result ≡ true }
     ensures levels { all_lead_apart result ≡ true }
     ensures three { length result ≡ 3 }
@@ -136,8 +136,8 @@ fn after_free(since: u64, sending: Sending) -> [Option<Row>; 3]
     let low = by_kind(atn, false, false, since, Kind::Ne);
     let high = by_kind(atn, false, true, since, Kind::Ne);
     let answer = match sending {
-        Sending::First | Sending::Second => None,
-        Sending::Data => by_kind(true, true, false, since, Kind::Ye),
+        ByteRole::First | ByteRole::Second => None,
+        ByteRole::Data => by_kind(true, true, false, since, Kind::Ye),
     };
     [low, high, answer]
 }
@@ -145,7 +145,7 @@ fn after_free(since: u64, sending: Sending) -> [Option<Row>; 3]
 /// DATA is released again, at the latest the greatest wait and the greatest answer after its release
 /// before.
 fn after_pulse(since: u64, free: u64) -> [Option<Row>; 3]
-    ensures rows { AreRows result (Place.Pulse since free) }
+    ensures rows { AreRows result (BusState.Pulse since free) }
     ensures moments { list_all has_moment result ≡ true }
     ensures levels { all_lead_apart result ≡ true }
     ensures three { length result ≡ 3 }
@@ -164,7 +164,7 @@ fn after_pulse(since: u64, free: u64) -> [Option<Row>; 3]
 
 /// CLOCK is pulled with the first bit.
 fn after_answer(since: u64) -> [Option<Row>; 3]
-    ensures rows { AreRows result (Place.After since) }
+    ensures rows { AreRows result (BusState.After since) }
     ensures moments { list_all has_moment result ≡ true }
     ensures levels { all_lead_apart result ≡ true }
     ensures three { length result ≡ 3 }
@@ -175,8 +175,8 @@ fn after_answer(since: u64) -> [Option<Row>; 3]
 }
 
 /// CLOCK is released, and DATA keeps the bit.
-fn after_bit(since: u64, sending: Sending, bit: bool) -> [Option<Row>; 3]
-    ensures rows { (eoi : Bool) (seen : List Bool) → AreRows result (Place.Bit since sending eoi seen bit) }
+fn after_bit(since: u64, sending: ByteRole, bit: bool) -> [Option<Row>; 3]
+    ensures rows { (eoi : Bool) (seen : List Bool) → AreRows result (BusState.Bit since sending eoi seen bit) }
     ensures moments { list_all has_moment result ≡ true }
     ensures levels { all_lead_apart result ≡ true }
     ensures three { length result ≡ 3 }
@@ -186,8 +186,8 @@ fn after_bit(since: u64, sending: Sending, bit: bool) -> [Option<Row>; 3]
 }
 
 /// CLOCK is pulled with the next bit.
-fn after_high(since: u64, sending: Sending) -> [Option<Row>; 3]
-    ensures rows { (eoi : Bool) (seen : List Bool) (bit : Bool) → length seen < 7 → AreRows result (Place.High since sending eoi seen bit) }
+fn after_high(since: u64, sending: ByteRole) -> [Option<Row>; 3]
+    ensures rows { (eoi : Bool) (seen : List Bool) (bit : Bool) → length seen < 7 → AreRows result (BusState.High since sending eoi seen bit) }
     ensures moments { list_all has_moment result ≡ true }
     ensures levels { all_lead_apart result ≡ true }
     ensures three { length result ≡ 3 }
@@ -198,8 +198,8 @@ fn after_high(since: u64, sending: Sending) -> [Option<Row>; 3]
 }
 
 /// CLOCK is pulled behind the last bit, and DATA is released.
-fn after_last_bit(since: u64, sending: Sending) -> [Option<Row>; 3]
-    ensures rows { (eoi : Bool) (seen : List Bool) (bit : Bool) → length seen ≡ 7 → AreRows result (Place.High since sending eoi seen bit) }
+fn after_last_bit(since: u64, sending: ByteRole) -> [Option<Row>; 3]
+    ensures rows { (eoi : Bool) (seen : List Bool) (bit : Bool) → length seen ≡ 7 → AreRows result (BusState.High since sending eoi seen bit) }
     ensures moments { list_all has_moment result ≡ true }
     ensures levels { all_lead_apart result ≡ true }
     ensures three { length result ≡ 3 }
@@ -210,8 +210,8 @@ fn after_last_bit(since: u64, sending: Sending) -> [Option<Row>; 3]
 
 /// More bits than a byte has.
 fn after_too_many() -> [Option<Row>; 3]
-    ensures rows { (since : ℕ) (sending : Sending) (eoi : Bool) (seen : List Bool) (bit : Bool) → 7 < length seen →
-        AreRows result (Place.High since sending eoi seen bit) }
+    ensures rows { (since : ℕ) (sending : ByteRole) (eoi : Bool) (seen : List Bool) (bit : Bool) → 7 < length seen →
+        AreRows result (BusState.High since sending eoi seen bit) }
     ensures moments { list_all has_moment result ≡ true }
     ensures levels { all_lead_apart result ≡ true }
     ensures three { length result ≡ 3 }
@@ -220,8 +220,8 @@ fn after_too_many() -> [Option<Row>; 3]
 }
 
 /// DATA is pulled: the byte is acknowledged.
-fn after_last(since: u64, sending: Sending) -> [Option<Row>; 3]
-    ensures rows { (eoi : Bool) (seen : List Bool) → AreRows result (Place.Last since sending eoi seen) }
+fn after_last(since: u64, sending: ByteRole) -> [Option<Row>; 3]
+    ensures rows { (eoi : Bool) (seen : List Bool) → AreRows result (BusState.Last since sending eoi seen) }
     ensures moments { list_all has_moment result ≡ true }
     ensures levels { all_lead_apart result ≡ true }
     ensures three { length result ≡ 3 }
@@ -231,19 +231,19 @@ fn after_last(since: u64, sending: Sending) -> [Option<Row>; 3]
 }
 
 /// The computer goes on with the next byte, or ATN is released or pulled.
-fn after_ack(since: u64, sending: Sending) -> [Option<Row>; 3]
-    ensures rows { (byte : ℕ) → AreRows result (Place.Ack since sending byte) }
+fn after_ack(since: u64, sending: ByteRole) -> [Option<Row>; 3]
+    ensures rows { (byte : ℕ) → AreRows result (BusState.Ack since sending byte) }
     ensures moments { list_all has_moment result ≡ true }
     ensures levels { all_lead_apart result ≡ true }
     ensures three { length result ≡ 3 }
 {
     let (next, other) = match sending {
-        Sending::First => (
+        ByteRole::First => (
             by_kind(false, true, false, since, Kind::Aw),
             by_kind(true, false, false, since, Kind::R),
         ),
-        Sending::Second => (None, by_kind(true, false, false, since, Kind::R)),
-        Sending::Data => (
+        ByteRole::Second => (None, by_kind(true, false, false, since, Kind::R)),
+        ByteRole::Data => (
             by_kind(true, true, false, since, Kind::Bb),
             by_kind(false, false, false, since, Kind::Bb),
         ),
@@ -253,7 +253,7 @@ fn after_ack(since: u64, sending: Sending) -> [Option<Row>; 3]
 
 /// ATN is released behind an attention, and DATA is still pulled.
 fn after_freed(since: u64, unlistened: bool) -> [Option<Row>; 3]
-    ensures rows { AreRows result (Place.Freed since unlistened false) }
+    ensures rows { AreRows result (BusState.Freed since unlistened false) }
     ensures moments { list_all has_moment result ≡ true }
     ensures levels { all_lead_apart result ≡ true }
     ensures three { length result ≡ 3 }
@@ -269,7 +269,7 @@ fn after_freed(since: u64, unlistened: bool) -> [Option<Row>; 3]
 
 /// ATN is released behind an attention, and DATA too.
 fn after_released(since: u64, unlistened: bool) -> [Option<Row>; 3]
-    ensures rows { AreRows result (Place.Freed since unlistened true) }
+    ensures rows { AreRows result (BusState.Freed since unlistened true) }
     ensures moments { list_all has_moment result ≡ true }
     ensures levels { all_lead_apart result ≡ true }
     ensures three { length result ≡ 3 }
@@ -286,27 +286,27 @@ fn after_released(since: u64, unlistened: bool) -> [Option<Row>; 3]
 /// The rows of the table of lawful traces at a place: at most three edges may follow there. An edge is
 /// taken at the place exactly if one of the rows has its levels and its moment lies within. Each row has
 /// a moment: its earliest is no later than its latest. No two rows have the same levels.
-pub fn rows_from(place: &Place) -> [Option<Row>; 3]
+pub fn rows_from(place: &BusState) -> [Option<Row>; 3]
     ensures rows { AreRows result place.now }
     ensures moments { list_all has_moment result ≡ true }
     ensures levels { all_lead_apart result ≡ true }
     ensures three { length result ≡ 3 }
 {
     match place {
-        Place::Idle(since) => after_idle(*since),
-        Place::Call(since, false) => after_call(*since),
-        Place::Call(since, true) => after_answered_call(*since),
-        Place::Ready(since, sending) => after_ready(*since, *sending),
-        Place::Free(since, sending) => after_free(*since, *sending),
-        Place::Pulse(since, free) => after_pulse(*since, *free),
-        Place::After(since) => after_answer(*since),
-        Place::Bit {
+        BusState::Idle(since) => after_idle(*since),
+        BusState::Call(since, false) => after_call(*since),
+        BusState::Call(since, true) => after_answered_call(*since),
+        BusState::Ready(since, sending) => after_ready(*since, *sending),
+        BusState::Free(since, sending) => after_free(*since, *sending),
+        BusState::Pulse(since, free) => after_pulse(*since, *free),
+        BusState::After(since) => after_answer(*since),
+        BusState::Bit {
             since,
             sending,
             bit,
             ..
         } => after_bit(*since, *sending, *bit),
-        Place::High {
+        BusState::High {
             since,
             sending,
             seen,
@@ -320,14 +320,14 @@ pub fn rows_from(place: &Place) -> [Option<Row>; 3]
                 after_too_many()
             }
         }
-        Place::Last(since, sending, _, _) => after_last(*since, *sending),
-        Place::Ack(since, sending, _) => after_ack(*since, *sending),
-        Place::Freed {
+        BusState::Last(since, sending, _, _) => after_last(*since, *sending),
+        BusState::Ack(since, sending, _) => after_ack(*since, *sending),
+        BusState::Freed {
             since,
             unlistened,
             data_released: false,
         } => after_freed(*since, *unlistened),
-        Place::Freed {
+        BusState::Freed {
             since,
             unlistened,
             data_released: true,
@@ -355,7 +355,7 @@ fn behind(row: Option<Row>, last: Edge) -> Option<Row>
 /// The rows of the table of lawful traces at a place behind the edge that came last: [`rows_from`], but for
 /// the moments that are not later than that edge, and for a row with its levels. An edge may follow there
 /// exactly if one of the rows has its levels and its moment lies within. Each row has a moment.
-pub fn rows_behind(place: &Place, last: Edge) -> [Option<Row>; 3]
+pub fn rows_behind(place: &BusState, last: Edge) -> [Option<Row>; 3]
     ensures rows { AreRowsBehind result last place.now }
     ensures moments { list_all has_moment result ≡ true }
 {

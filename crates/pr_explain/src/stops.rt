@@ -1,7 +1,7 @@
 //! The BASIC error that stopped a run, in BASIC's own words.
 
 ghost use Rattle.std.specs.Prelude.{◌≡◌, ℕ, List, ◌∷◌, [], ◌++◌, ◌<◌, ◌≤◌, length, IfOk, OnOk, Some};
-ghost use Rattle.pr_text.specs.Lines.{lines_of};
+ghost use Rattle.pr_base.specs.Lines.{lines_of};
 ghost use Rattle.pr_basic.specs.Grammar.{IsScript};
 ghost use Rattle.pr_explain.specs.StopTold.{IsStatementLine, TellsStop, in_words, place_words, stop_name, stop_words};
 

@@ -5,7 +5,7 @@ ghost use Rattle.pr_explain.specs.Places.{IsOriginOf};
 ghost use Rattle.pr_explain.specs.Shown.{AddsShown};
 
 use itoa::Buffer;
-use pr_options::{Source, TraceInput};
+use pr_capture::{Source, TraceInput};
 use pr_wire::{Edge, Levels, NoMemory};
 
 /// Where the moments of edges come from.

@@ -7,7 +7,7 @@ use crate::edges::{back_in, back_told, edges_told};
 use crate::faults::fault_told;
 use crate::input::read_input;
 use crate::texts::origin_of;
-use pr_options::TraceInput;
+use pr_capture::TraceInput;
 use pr_wire::NoMemory;
 use std::alloc::Global;
 

@@ -9,7 +9,7 @@ use Rattle.std.proofs.lemmas.Bool.Decides.{leb_tells}
 use Rattle.std.proofs.lemmas.List.{drop_all}
 use Rattle.std.proofs.lemmas.List.Splits.{length-slice_split, slice_split_first}
 use Rattle.std.proofs.lemmas.Str.Parse.{IsNumeralModel, numerals_by_fold, parse_digits}
-use Rattle.pr_text.specs.Digits.{is_digit, number_after, number_of}
+use Rattle.pr_base.specs.Digits.{is_digit, number_after, number_of}
 use Rattle.pr_serial.specs.Bus.{DelayNumbers}
 use Rattle.pr_options.proofs.PartLemmas.{empty_rest, is_mark, one_part, place}
 use Rattle.pr_options.specs.DelayLists.{delays_of, is_number_list, is_raw_number, numbers_in, three_lists, up_to_three, words_of}

@@ -1,7 +1,7 @@
 -- Trusted: the value of --delays: at most three lists of raw delay numbers, for the computer, printer 4 and printer 5.
 use Rattle.std.specs.Prelude.{◌≡◌, ℕ, ◌==◌, ◌&&◌, Bool, List, [], ◌∷◌, length, map, Option, Some, None, nat_le, if◌then◌else◌}
 use Rattle.std.specs.List.{list_all, slice_split}
-use Rattle.pr_text.specs.Digits.{is_digit, number_of}
+use Rattle.pr_base.specs.Digits.{is_digit, number_of}
 use Rattle.pr_serial.specs.Bus.{DelayNumbers}
 use Rattle.pr_wire.specs.Choices.{left}
 use Rattle.pr_bus.specs.declared.wires.Delays.{Delays}

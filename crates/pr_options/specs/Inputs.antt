@@ -5,9 +5,9 @@ use Rattle.pr_options.specs.Options.{source_of, start_of}
 use Rattle.pr_options.specs.OptionNames as option
 use Rattle.pr_options.specs.SignalNames.{Names, names_of, names_told}
 use Rattle.pr_options.specs.Given.{is_given, value_in}
-use Rattle.pr_options.specs.declared.format.Source.{Source}
-use Rattle.pr_options.specs.declared.format.Source.TheVariants.{Text, Vcd, Csv}
-use Rattle.pr_options.specs.declared.format.TraceInput.{TraceInput}
+use Rattle.pr_capture.specs.declared.format.Source.{Source}
+use Rattle.pr_capture.specs.declared.format.Source.TheVariants.{Text, Vcd, Csv}
+use Rattle.pr_capture.specs.declared.format.TraceInput.{TraceInput}
 
 -- what goes with a recording alone is given
 abbrev pub wants_recording : List Row → Bool

@@ -11,10 +11,10 @@ use Rattle.pr_options.specs.Options.{format_of, mode_of, present_of, report_of, 
 use Rattle.pr_options.specs.OptionNames as option
 use Rattle.pr_options.specs.Given.{value_in}
 use Rattle.pr_options.specs.Inputs.{AsksToRead, IsBadFrom, IsBadNames, IsBadStart, IsUnfit}
-use Rattle.pr_options.specs.declared.format.Format.{Format}
-use Rattle.pr_options.specs.declared.format.TraceFormat.{TraceFormat}
-use Rattle.pr_options.specs.declared.format.Report.{Report}
-use Rattle.pr_options.specs.declared.format.TraceInput.{TraceInput}
+use Rattle.pr_render.specs.declared.format.Format.{Format}
+use Rattle.pr_capture.specs.declared.format.TraceFormat.{TraceFormat}
+use Rattle.pr_report.specs.declared.report.Report.{Report}
+use Rattle.pr_capture.specs.declared.format.TraceInput.{TraceInput}
 use Rattle.pr_options.specs.declared.command_line.Job.{Job}
 use Rattle.pr_options.specs.declared.command_line.Job.TheVariants.{Pages, Bus, Check, Decode, Raw}
 use Rattle.pr_options.specs.declared.command_line.JobFault.{JobFault}

@@ -2,18 +2,18 @@
 use Rattle.std.specs.Prelude.{ℕ, ◌^◌, ◌&&◌, Bool, List, length, nat_lt, Option, Some, None, true, false, codes, if◌then◌else◌}
 use Rattle.std.specs.List.{list_all}
 use Rattle.std.specs.Str.{bytes_eq}
-use Rattle.pr_text.specs.Digits.{is_digit, number_of}
+use Rattle.pr_base.specs.Digits.{is_digit, number_of}
 use Rattle.pr_serial.specs.declared.Present.{Present}
 use Rattle.pr_basic.specs.declared.session.StatusMode.{StatusMode}
 use Rattle.pr_basic.specs.declared.session.StatusMode.TheVariants.{Each, Kept}
-use Rattle.pr_options.specs.declared.format.Format.{Format}
-use Rattle.pr_options.specs.declared.format.Format.TheVariants as format
-use Rattle.pr_options.specs.declared.format.TraceFormat.{TraceFormat}
-use Rattle.pr_options.specs.declared.format.TraceFormat.TheVariants as trace
-use Rattle.pr_options.specs.declared.format.Source.{Source}
-use Rattle.pr_options.specs.declared.format.Source.TheVariants as source
-use Rattle.pr_options.specs.declared.format.Report.{Report}
-use Rattle.pr_options.specs.declared.format.Report.TheVariants as report
+use Rattle.pr_render.specs.declared.format.Format.{Format}
+use Rattle.pr_render.specs.declared.format.Format.TheVariants as format
+use Rattle.pr_capture.specs.declared.format.TraceFormat.{TraceFormat}
+use Rattle.pr_capture.specs.declared.format.TraceFormat.TheVariants as trace
+use Rattle.pr_capture.specs.declared.format.Source.{Source}
+use Rattle.pr_capture.specs.declared.format.Source.TheVariants as source
+use Rattle.pr_report.specs.declared.report.Report.{Report}
+use Rattle.pr_report.specs.declared.report.Report.TheVariants as report
 
 -- which printers are present: none, 4, 5 or both
 abbrev pub present_of : List ℕ → Option Present

@@ -14,7 +14,6 @@ ghost use Rattle.pr_options.specs.Values.{values_of};
 
 use crate::clap_command::make_command;
 use crate::delays::{DelayFault, read_delays};
-use crate::format::{Format, Report, Source, TraceFormat, TraceInput};
 use crate::option_values::{
     read_format, read_present, read_report, read_set, read_signals, read_source, read_start,
     read_status, read_trace_format,
@@ -28,6 +27,9 @@ use clap::error::ErrorKind;
 use clap::parser::ValueSource;
 use pr_basic::StatusMode;
 use pr_bus::Delays;
+use pr_capture::{Source, TraceFormat, TraceInput};
+use pr_render::Format;
+use pr_report::Report;
 use pr_serial::Present;
 use std::alloc::Global;
 use thiserror::Error;

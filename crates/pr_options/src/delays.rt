@@ -1,7 +1,7 @@
 //! The value of `--delays`.
 
 ghost use Rattle.std.specs.Prelude.{◌≡◌, Some, None, false, true, IfOk, MatchOption, IsErrOf};
-ghost use Rattle.pr_text.specs.Digits.{number_of};
+ghost use Rattle.pr_base.specs.Digits.{number_of};
 ghost use Rattle.pr_wire.specs.Choices.{left};
 ghost use Rattle.pr_bus.specs.DelaysLeft.{numbers_left};
 ghost use Rattle.pr_options.specs.DelayLists.{IsFresh, delays_of, is_number_list, is_raw_number, numbers_in};

@@ -10,7 +10,6 @@
 mod clap_command;
 mod command_line;
 mod delays;
-mod format;
 mod help;
 mod option_values;
 mod options;
@@ -18,5 +17,4 @@ mod parts;
 
 pub use command_line::{Job, JobFault, explains, read_job};
 pub use delays::{DelayFault, read_delays};
-pub use format::{Format, Report, Source, TraceFormat, TraceInput};
 pub use option_values::{read_present, read_status};

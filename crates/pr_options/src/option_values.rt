@@ -4,10 +4,11 @@ ghost use Rattle.std.specs.Prelude.{◌≡◌, ◌∷◌, [], option_map, IfSome
 ghost use Rattle.pr_options.specs.Options.{format_of, mode_of, present_of, report_of, set_of, source_of, start_of, trace_format_of};
 ghost use Rattle.pr_options.specs.SignalNames.{are_names, differ, is_clock_twice, is_name, names_of, names_told, three_names};
 
-use crate::format::{Format, Report, Source, TraceFormat};
 use crate::parts::{all_digits, cut};
 use pr_basic::StatusMode;
-use pr_capture::Signals;
+use pr_capture::{Signals, Source, TraceFormat};
+use pr_render::Format;
+use pr_report::Report;
 use pr_serial::Present;
 
 /// Which printers are present: `none`, `4`, `5` or `both` (profile). None for any other text.

@@ -2,9 +2,9 @@
 
 ghost use Rattle.std.specs.Prelude.{◌≡◌, ◌==◌, ◌<◌};
 ghost use Rattle.std.specs.List.{after_first, before_first, list_all};
-ghost use Rattle.pr_text.specs.Digits.{is_digit};
+ghost use Rattle.pr_base.specs.Digits.{is_digit};
 
-use pr_text::is_digit;
+use pr_base::is_digit;
 
 /// What stands before the first mark, a character of ASCII, and behind it; behind it nothing, where
 /// there is none.

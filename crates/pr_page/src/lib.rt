@@ -16,6 +16,6 @@ mod state;
 
 pub use input::Input;
 pub use paper::{Mark, Paper, Placed, Row, Sequence};
-pub use pr_text::NoMemory;
+pub use pr_base::NoMemory;
 pub use printer::{Printer, each_list_has_one_page};
 pub use sheet::LINE_DOTS;

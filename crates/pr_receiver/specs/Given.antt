@@ -4,23 +4,23 @@ use Rattle.std.specs.List.{flat_map}
 use Rattle.std.specs.Option.{option_to_list}
 use Rattle.pr_wire.specs.declared.Edge.{Edge}
 use Rattle.pr_wire.specs.declared.Frame.{Frame}
-use Rattle.pr_wire.specs.declared.place.Flaw.{Flaw}
-use Rattle.pr_wire.specs.declared.place.Place.{Place}
-use Rattle.pr_wire.specs.declared.place.Place.TheVariants.{Idle}
-use Rattle.pr_wire.specs.declared.place.Step.{Step}
+use Rattle.pr_wire.specs.declared.bus_state.EdgeError.{EdgeError}
+use Rattle.pr_wire.specs.declared.bus_state.BusState.{BusState}
+use Rattle.pr_wire.specs.declared.bus_state.BusState.TheVariants.{Idle}
+use Rattle.pr_wire.specs.declared.bus_state.Step.{Step}
 use Rattle.pr_wire.specs.Table.{verdict, is_start}
 use Rattle.pr_page.specs.Before.{with_before}
 use Rattle.pr_page.specs.declared.input.Input.{Input}
 use Rattle.pr_receiver.specs.Heard.{input_of}
 
 -- what comes of an edge that the table allows; of another nothing
-abbrev pub if_allowed : Result Step Flaw → (Step → Option Frame) → Option Frame
+abbrev pub if_allowed : Result Step EdgeError → (Step → Option Frame) → Option Frame
 if_allowed (Ok step) next = next step
 if_allowed (Err flaw) next = None
 
 -- the frame that an edge ends behind these edges, which come after the edge `last` in the place `p`: that of the table's row by which it
 -- comes
-abbrev pub frame_from : Edge → Place → List Edge → Edge → Option Frame
+abbrev pub frame_from : Edge → BusState → List Edge → Edge → Option Frame
 frame_from last p [] edge = if_allowed (verdict last p edge) (λ step. step.frame)
 frame_from last p (e ∷ es) edge = if_allowed (verdict last p e) (λ step. frame_from e step.place es edge)
 

@@ -2,7 +2,7 @@
 use Rattle.std.specs.Prelude.{ℕ, ◌+◌, Bool, true, false, not, ◌&&◌, ◌==◌, if◌then◌else◌, List, [], Option, Some, None}
 use Rattle.std.specs.List.{after_last, last_or, list_any, flat_map}
 use Rattle.std.specs.Option.{option_to_list}
-use Rattle.pr_commands.specs.Bytes as command
+use Rattle.pr_base.specs.Bytes as command
 use Rattle.pr_wire.specs.declared.Frame.{Frame}
 use Rattle.pr_page.specs.Before.{with_before}
 use Rattle.pr_page.specs.declared.input.Input.{Input}

@@ -6,7 +6,7 @@ ghost use Rattle.pr_receiver.specs.Heard.{input_of};
 ghost use Rattle.pr_receiver.specs.Kept.{kept_of};
 ghost use Rattle.pr_receiver.specs.Steps.{input_by, kept_by};
 
-use pr_commands::{LISTEN, LOWER_CASE, UNLISTEN};
+use pr_base::{LISTEN, LOWER_CASE, UNLISTEN};
 use pr_page::Input;
 use pr_wire::Frame;
 

@@ -1,21 +1,21 @@
 -- Readings and their lines, as more of them come.
 use Rattle.std.proofs.Common.{◌≡◌, ℕ, List, [], ◌∷◌, ◌++◌, refl, ap, sym, subst, ◌∙◌, append-nil, append_assoc}
 use Rattle.pr_decode.specs.declared.reading.Reading.{Reading}
-use Rattle.pr_measure.specs.declared.line.Behind.{Behind}
-use Rattle.pr_measure.specs.declared.line.Behind.TheVariants.{Nothing}
-use Rattle.pr_measure.specs.ReadingText.{after_reading, all_lines, behind_all, reading_lines}
-use Rattle.pr_measure.specs.Taking as survey
+use Rattle.pr_report.specs.declared.line.Preceding.{Preceding}
+use Rattle.pr_report.specs.declared.line.Preceding.TheVariants.{Nothing}
+use Rattle.pr_report.specs.ReadingText.{after_reading, all_lines, behind_all, reading_lines}
+use Rattle.pr_report.specs.Taking as survey
 use Rattle.pr_recording.specs.Narrated.{AccountsMore, HasAccounted}
 use Rattle.pr_recording.specs.declared.account.Account.{Account}
 
 -- the lines of readings behind others
-pub lines_add : (b : Behind) (rs qs : List Reading) → all_lines b (rs ++ qs) ≡ all_lines b rs ++ all_lines (behind_all b rs) qs
+pub lines_add : (b : Preceding) (rs qs : List Reading) → all_lines b (rs ++ qs) ≡ all_lines b rs ++ all_lines (behind_all b rs) qs
 lines_add b [] qs = refl
 lines_add b (r ∷ rs) qs =
     ap (λ t. reading_lines b r ++ t) (lines_add (after_reading b r) rs qs) ∙ sym (append_assoc (reading_lines b r) (all_lines (after_reading b r) rs) (all_lines (behind_all b (r ∷ rs)) qs))
 
 -- what stands behind them
-pub behind_add : (b : Behind) (rs qs : List Reading) → behind_all b (rs ++ qs) ≡ behind_all (behind_all b rs) qs
+pub behind_add : (b : Preceding) (rs qs : List Reading) → behind_all b (rs ++ qs) ≡ behind_all (behind_all b rs) qs
 behind_add b [] qs = refl
 behind_add b (r ∷ rs) qs = behind_add (after_reading b r) rs qs
 

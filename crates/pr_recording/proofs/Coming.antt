@@ -7,11 +7,11 @@ use Rattle.pr_decode.specs.declared.reading.Reading.{Reading}
 use Rattle.pr_decode.specs.Laws.{MoreEdgesAddReadings, OnlyTheLastIsCut}
 use Rattle.pr_decode.specs.Readings.{readings_of, settled_of}
 use Rattle.pr_decode.specs.Taking.{GivenAreSettled}
-use Rattle.pr_measure.specs.declared.line.Behind.TheVariants.{Nothing}
-use Rattle.pr_measure.specs.ReadingText.{all_lines, behind_all}
-use Rattle.pr_measure.specs.Summary.{summary}
-use Rattle.pr_measure.specs.Verdict.{verdict_text}
-use Rattle.pr_options.specs.declared.format.TraceInput.{TraceInput}
+use Rattle.pr_report.specs.declared.line.Preceding.TheVariants.{Nothing}
+use Rattle.pr_report.specs.ReadingText.{all_lines, behind_all}
+use Rattle.pr_report.specs.Summary.{summary}
+use Rattle.pr_report.specs.Verdict.{verdict_text}
+use Rattle.pr_capture.specs.declared.format.TraceInput.{TraceInput}
 use Rattle.pr_cli.specs.Report.{edges_made, Says}
 use Rattle.pr_cli.specs.Reported.{EachTextSaysSamples, GivenSamplesComeFirst, MadeEdgesComeFirst}
 use Rattle.pr_cli.specs.declared.fault.CliFault.{CliFault}

@@ -6,11 +6,11 @@ use Rattle.pr_wire.specs.declared.Edge.{Edge}
 use Rattle.pr_decode.specs.declared.reading.Reading.{Reading}
 use Rattle.pr_decode.specs.Readings.{readings_of}
 use Rattle.pr_decode.specs.Taking.{GivenAreSettled, HasRead, IsBefore, StandsBefore, last_time}
-use Rattle.pr_reprint.specs.declared.reprint.BusPrinters.{BusPrinters}
-use Rattle.pr_reprint.specs.declared.reprint.Reprinted.{Reprinted}
-use Rattle.pr_reprint.specs.Reprinted.{ArePapers}
-use Rattle.pr_reprint.specs.Taking.{HasReprinted}
-use Rattle.pr_options.specs.declared.format.TraceInput.{TraceInput}
+use Rattle.pr_recording.specs.declared.printer_pair.BusPrinters.{BusPrinters}
+use Rattle.pr_recording.specs.declared.printer_pair.PrintedPages.{PrintedPages}
+use Rattle.pr_recording.specs.PrintedPages.{ArePapers}
+use Rattle.pr_recording.specs.Taking.{HasReprinted}
+use Rattle.pr_capture.specs.declared.format.TraceInput.{TraceInput}
 use Rattle.pr_cli.specs.Reported.{HasMade, MakesAll, MakesMore}
 use Rattle.pr_cli.specs.declared.fault.CliFault.{CliFault}
 use Rattle.pr_recording.specs.declared.copier.Copier.{Copier}
@@ -104,7 +104,7 @@ pub prints_none : (b : BusPrinters) → PrintsReading None b b
 prints_none b = λ readings h. let P : List Reading → Type 0 = λ l. HasReprinted l b in subst P (sym (append-nil readings)) h
 
 -- papers of readings, and of the same ones
-same_papers : (rs ss : List Reading) (p : Reprinted) → rs ≡ ss → ArePapers rs p → ArePapers ss p
+same_papers : (rs ss : List Reading) (p : PrintedPages) → rs ≡ ss → ArePapers rs p → ArePapers ss p
 same_papers rs ss p e h = subst (λ (l : List Reading). ArePapers l p) e h
 
 -- the end of edges that stop

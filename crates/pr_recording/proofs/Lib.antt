@@ -8,3 +8,7 @@ pub mod Noting
 pub mod Answering
 pub mod Copies
 pub mod Printing
+pub mod Adding
+pub mod BusPrinting
+pub mod Taken
+pub mod Traces

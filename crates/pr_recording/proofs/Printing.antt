@@ -5,8 +5,8 @@ use Rattle.std.specs.Option.{option_to_list}
 use Rattle.std.specs.Io.KnownBytes.{Consumes, IsAtEnd, Keeps}
 use Rattle.std.proofs.KnownBytes.{Consumes-nil, Consumes-trans}
 use Rattle.pr_wire.specs.declared.Edge.{Edge}
-use Rattle.pr_options.specs.declared.format.Format.{Format}
-use Rattle.pr_options.specs.declared.format.TraceInput.{TraceInput}
+use Rattle.pr_render.specs.declared.format.Format.{Format}
+use Rattle.pr_capture.specs.declared.format.TraceInput.{TraceInput}
 use Rattle.pr_cli.specs.PartlyWritten.{AppendsFront}
 use Rattle.pr_cli.specs.Report.{edges_made, SaysSamples}
 use Rattle.pr_cli.specs.Reported.{EachTextSaysSamples, EndsInput, GivesMore, HasGiven, IsOwnFault, RefusesInput}

@@ -4,10 +4,10 @@ use Rattle.std.specs.Option.{option_to_list}
 use Rattle.pr_wire.specs.declared.Edge.{Edge}
 use Rattle.pr_decode.specs.declared.reading.Reading.{Reading}
 use Rattle.pr_decode.specs.Taking.{HasRead, last_time}
-use Rattle.pr_reprint.specs.declared.reprint.BusPrinters.{BusPrinters}
-use Rattle.pr_reprint.specs.Reprinted.{ArePapers}
-use Rattle.pr_reprint.specs.Taking as reprint
-use Rattle.pr_options.specs.declared.format.TraceInput.{TraceInput}
+use Rattle.pr_recording.specs.declared.printer_pair.BusPrinters.{BusPrinters}
+use Rattle.pr_recording.specs.PrintedPages.{ArePapers}
+use Rattle.pr_recording.specs.Taking as reprint
+use Rattle.pr_capture.specs.declared.format.TraceInput.{TraceInput}
 use Rattle.pr_cli.specs.Report.{edges_made, SaysSamples}
 use Rattle.pr_cli.specs.Reported.{HasGiven, HasMade, IsOwnFault}
 use Rattle.pr_cli.specs.declared.fault.CliFault.{CliFault}

@@ -2,8 +2,8 @@
 use Rattle.std.specs.Prelude.{◌≡◌, ℕ, ◌<◌, ◌≤◌, List, length, Option, Some, None, Result, Ok, Err}
 use Rattle.std.specs.Io.KnownBytes.{Appends, IsAtEnd, Keeps}
 use Rattle.pr_wire.specs.declared.WaveFault.TheVariants as wave
-use Rattle.pr_options.specs.declared.format.Format.{Format}
-use Rattle.pr_options.specs.declared.format.TraceInput.{TraceInput}
+use Rattle.pr_render.specs.declared.format.Format.{Format}
+use Rattle.pr_capture.specs.declared.format.TraceInput.{TraceInput}
 use Rattle.pr_cli.specs.Formats.{text_in}
 use Rattle.pr_cli.specs.PartlyWritten.{AppendsFront}
 use Rattle.pr_cli.specs.Reported.{IsOwnFault}

@@ -3,3 +3,6 @@ pub mod Narrated
 pub mod Pages
 pub mod Copied
 pub mod Copying
+pub mod Laws
+pub mod PrintedPages
+pub mod Taking

@@ -5,15 +5,15 @@ use Rattle.pr_wire.specs.declared.Edge.{Edge}
 use Rattle.pr_wire.specs.declared.WaveFault.{WaveFault}
 use Rattle.pr_wire.specs.declared.WaveFault.TheVariants as wave
 use Rattle.pr_wire.specs.Table.{fault_of}
-use Rattle.pr_story.specs.declared.storyteller.Storyteller.{Storyteller}
-use Rattle.pr_story.specs.declared.timed_frame.TimedFrame.{TimedFrame}
-use Rattle.pr_story.specs.Telling as story
+use Rattle.pr_report.specs.declared.frame_timer.FrameTimer.{FrameTimer}
+use Rattle.pr_report.specs.declared.timed_frame.TimedFrame.{TimedFrame}
+use Rattle.pr_report.specs.Telling as story
 use Rattle.pr_decode.specs.declared.reading.Reading.{Reading}
 use Rattle.pr_decode.specs.Taking.{HasRead, last_time}
-use Rattle.pr_measure.specs.declared.line.Behind.TheVariants.{Nothing}
-use Rattle.pr_measure.specs.ReadingText.{all_lines, behind_all}
-use Rattle.pr_measure.specs.Taking as survey
-use Rattle.pr_options.specs.declared.format.TraceInput.{TraceInput}
+use Rattle.pr_report.specs.declared.line.Preceding.TheVariants.{Nothing}
+use Rattle.pr_report.specs.ReadingText.{all_lines, behind_all}
+use Rattle.pr_report.specs.Taking as survey
+use Rattle.pr_capture.specs.declared.format.TraceInput.{TraceInput}
 use Rattle.pr_cli.specs.PartlyWritten.{AppendsFront}
 use Rattle.pr_cli.specs.Report.{edges_made, SaysSamples}
 use Rattle.pr_cli.specs.Reported.{HasGiven, HasMade, IsOwnFault}
@@ -30,7 +30,7 @@ use Rattle.pr_recording.specs.Decoded.{back_in, in_front, stop_at, told_of}
 -- Judges.
 
 -- these edges were taken: they have no fault yet, or this one whatever follows
-abbrev pub HasTaken : (edges : List Edge) → Storyteller → Option WaveFault → Type 0
+abbrev pub HasTaken : (edges : List Edge) → FrameTimer → Option WaveFault → Type 0
 HasTaken edges t None = (given : List TimedFrame) × story.HasTold edges given t
 HasTaken edges t (Some w) = (more : List Edge) → fault_of (edges ++ more) ≡ Some w
 

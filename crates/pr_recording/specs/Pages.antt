@@ -4,11 +4,11 @@ use Rattle.std.specs.Io.KnownBytes.{Appends, Keeps}
 use Rattle.pr_wire.specs.declared.Edge.{Edge}
 use Rattle.pr_decode.specs.declared.reading.Reading.{Reading}
 use Rattle.pr_decode.specs.Readings.{readings_of, settled_of}
-use Rattle.pr_reprint.specs.declared.reprint.Reprinted.{Reprinted}
-use Rattle.pr_reprint.specs.Reprinted.{ArePapers}
+use Rattle.pr_recording.specs.declared.printer_pair.PrintedPages.{PrintedPages}
+use Rattle.pr_recording.specs.PrintedPages.{ArePapers}
 use Rattle.pr_system.specs.declared.outcome.Outcome.{Outcome}
-use Rattle.pr_options.specs.declared.format.Format.{Format}
-use Rattle.pr_options.specs.declared.format.TraceInput.{TraceInput}
+use Rattle.pr_render.specs.declared.format.Format.{Format}
+use Rattle.pr_capture.specs.declared.format.TraceInput.{TraceInput}
 use Rattle.pr_cli.specs.Formats.{text_in}
 use Rattle.pr_cli.specs.PartlyWritten.{AppendsFront}
 use Rattle.pr_cli.specs.Report.{Says}
@@ -26,12 +26,12 @@ readings_up_to None edges = readings_of edges
 readings_up_to (Some fault) edges = settled_of (in_front (back_in edges) edges)
 
 -- an outcome that is these papers and nothing else
-abbrev pub papers_alone : Reprinted → Outcome
+abbrev pub papers_alone : PrintedPages → Outcome
 papers_alone r = record { paper4 = r.paper4; paper5 = r.paper5; statuses = []; stop = None; screen = []; trace = [] }
 
 -- the text of the pages that readings make: those of the printers that hear a byte
 pub record IsPagesOf (format : Format) (readings : List Reading) (text : List ℕ) : Type 0 where
-  pub reprinted : Reprinted
+  pub reprinted : PrintedPages
   pub are_papers : ArePapers readings reprinted
   pub is_text : text ≡ text_in format reprinted.present (papers_alone reprinted)
 

@@ -3,14 +3,14 @@
 ghost use Rattle.std.specs.Prelude.{◌≡◌, ◌+◌, ◌^◌, ◌<◌, ◌≤◌, ◌∷◌, ◌++◌, [], List, ℕ, IfOk, OnOk};
 ghost use Rattle.std.specs.Option.{option_to_list};
 ghost use Rattle.pr_decode.specs.declared.reading.Reading.{Reading};
-ghost use Rattle.pr_measure.specs.declared.line.Behind.TheVariants.{Nothing};
-ghost use Rattle.pr_measure.specs.ReadingText.{all_lines};
-ghost use Rattle.pr_measure.specs.Summary.{summary};
-ghost use Rattle.pr_measure.specs.Verdict.{verdict_text};
+ghost use Rattle.pr_report.specs.declared.line.Preceding.TheVariants.{Nothing};
+ghost use Rattle.pr_report.specs.ReadingText.{all_lines};
+ghost use Rattle.pr_report.specs.Summary.{summary};
+ghost use Rattle.pr_report.specs.Verdict.{verdict_text};
 ghost use Rattle.pr_recording.specs.Narrated.{AccountsMore, HasAccounted, readings_told};
 
 use pr_decode::Reading;
-use pr_measure::{Behind, Survey, push_reading, push_verdict};
+use pr_report::{Preceding, Survey, push_reading, push_verdict};
 use pr_wire::WaveFault;
 use std::alloc::{AllocError, Global};
 
@@ -18,7 +18,7 @@ use std::alloc::{AllocError, Global};
 #[derive(Drop)]
 pub struct Account {
     /// What stands before the next reading.
-    behind: Behind,
+    behind: Preceding,
     survey: Survey,
     lines: Vec<u8>,
 }
@@ -30,7 +30,7 @@ impl Account {
         ensures count { IfOk result (λ account. readings_told account ≡ 0) }
     {
         Ok(Account {
-            behind: Behind::Nothing,
+            behind: Preceding::Nothing,
             survey: Survey::new(alloc)?,
             lines: Vec::new(alloc),
         })

@@ -3,14 +3,15 @@
 ghost use Rattle.std.specs.Prelude.{◌≡◌, ◌+◌, ◌^◌, ◌<◌, ◌≤◌, ◌∷◌, [], List, IfOk, OnOk};
 ghost use Rattle.std.specs.Option.{option_to_list};
 ghost use Rattle.pr_wire.specs.declared.Edge.{Edge};
-ghost use Rattle.pr_reprint.specs.Taking.{number_taken};
+ghost use Rattle.pr_recording.specs.Taking.{number_taken};
 ghost use Rattle.pr_recording.specs.Copied.{CopiesMore, EndsCopy, EndsPages, HasCopied, HasPaged, PagesMore, PrintsReading, edges_copied, edges_paged, inputs_paged, inputs_printed};
 
 use crate::narrator::stop_at;
-use pr_cli::{CliFault, EdgeMaker, TraceInput};
+use crate::printer_pair::{PrintedPages, PrinterPair};
+use pr_capture::TraceInput;
+use pr_cli::{CliFault, EdgeMaker};
 use pr_decode::{Decoder, GoesBack, Reading, readings_add_up};
 use pr_page::NoMemory;
-use pr_reprint::{Reprint, Reprinted};
 use pr_wire::Edge;
 use std::alloc::Global;
 
@@ -18,13 +19,13 @@ use std::alloc::Global;
 #[derive(Drop)]
 pub struct Printed {
     /// The papers of printers 4 and 5.
-    pub pages: Reprinted,
+    pub pages: PrintedPages,
     /// The fault of the recording after which nothing is printed.
     pub stop: Option<CliFault>,
 }
 
 /// Prints a reading, if there is one.
-fn print_if(reprint: &mut Reprint, reading: Option<Reading>) -> Result<(), NoMemory>
+fn print_if(reprint: &mut PrinterPair, reading: Option<Reading>) -> Result<(), NoMemory>
     requires room { number_taken reprint.old < 2 ^ 32 }
     ensures printed { OnOk result (PrintsReading reading reprint.old reprint.new) }
     ensures inputs { number_taken reprint.new ≤ number_taken reprint.old + 1 }
@@ -39,7 +40,7 @@ fn print_if(reprint: &mut Reprint, reading: Option<Reading>) -> Result<(), NoMem
 #[derive(Drop)]
 pub struct Copier {
     decoder: Decoder,
-    reprint: Reprint,
+    reprint: PrinterPair,
     /// How many edges were taken.
     taken: usize,
     /// The index of the edge at which time goes back.
@@ -55,13 +56,13 @@ impl Copier {
     {
         Copier {
             decoder: Decoder::new(),
-            reprint: Reprint::new(alloc),
+            reprint: PrinterPair::new(alloc),
             taken: 0,
             back: None,
         }
     }
 
-    /// Takes the next edge. Behind one at which time goes back it takes none.
+    /// Takes the next edge. Preceding one at which time goes back it takes none.
     pub fn take(&mut self, edge: Edge) -> Result<(), NoMemory>
         requires room { inputs_printed self.old < 2 ^ 32 }
         requires few { edges_copied self.old + 1 < 2 ^ 64 }

@@ -11,16 +11,17 @@ ghost use Rattle.pr_recording.specs.Narrated.{EndsNoted, GivesUp, NotesBlock, Wr
 
 use crate::narrator::Ended;
 use crate::teller::Teller;
+use pr_capture::TraceInput;
 use pr_cli::{
-    BLOCK, CHECK_LIMIT, CliFault, SourceReader, TraceInput, Watched, WriteFault,
-    made_edges_come_first, own_fault, texts_say_samples, write_piece, write_whole,
+    BLOCK, CHECK_LIMIT, CliFault, SourceReader, Watched, WriteFault, made_edges_come_first,
+    own_fault, texts_say_samples, write_piece, write_whole,
 };
 use pr_decode::readings_add_up;
 use std::alloc::{AllocError, Global};
 use std::io::{Read, Write};
 
 /// Reads any recording of the bus, in any format, and writes what it says: the lines of its readings, as
-/// [`pr_measure::push_reading`] makes them, their summary, and whether the recording is lawful by this
+/// [`pr_report::push_reading`] makes them, their summary, and whether the recording is lawful by this
 /// project's profile.
 ///
 /// The recording may begin anywhere and have any levels. It is read block by block; what a block settles

@@ -5,13 +5,13 @@ ghost use Rattle.pr_wire.specs.declared.Edge.{Edge};
 ghost use Rattle.pr_wire.specs.Table.{fault_of};
 ghost use Rattle.pr_recording.specs.Narrated.{HasJudged, edges_judged};
 
-use pr_story::Storyteller;
+use pr_report::FrameTimer;
 use pr_wire::{Edge, WaveFault};
 
 /// Judges edges one by one, without memory, by the table of lawful traces.
 #[derive(Drop)]
 pub struct Judge {
-    teller: Storyteller,
+    teller: FrameTimer,
     /// The first fault of the edges, if they have one whatever follows.
     fault: Option<WaveFault>,
 }
@@ -23,7 +23,7 @@ impl Judge {
         ensures count { edges_judged result ≡ 0 }
     {
         Judge {
-            teller: Storyteller::new(),
+            teller: FrameTimer::new(),
             fault: None,
         }
     }

@@ -7,13 +7,19 @@
 #![tactic(auto)]
 
 mod account;
+mod bus_printer;
 mod copier;
 mod decode;
+mod frame;
 mod judge;
+mod laws;
 mod narrator;
 mod pages;
+mod printer_pair;
 mod teller;
 
 pub use copier::Printed;
 pub use decode::{decode_input, decode_over};
+pub use laws::{readings_are_heard_in_turn, traces_are_heard_as_spelled};
 pub use pages::{PRINT_LIMIT, print_input, reprint_over};
+pub use printer_pair::{PrintedPages, PrinterPair};

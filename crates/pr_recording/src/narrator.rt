@@ -47,7 +47,7 @@ impl Narrator {
         })
     }
 
-    /// Takes the next edge. Behind one at which time goes back it takes none.
+    /// Takes the next edge. Preceding one at which time goes back it takes none.
     pub fn take(&mut self, edge: Edge) -> Result<(), AllocError>
         requires room { load self.old + 3 < 2 ^ 64 }
         ensures narrated { OnOk result (NarratesMore (edge ∷ []) self.old self.new) }

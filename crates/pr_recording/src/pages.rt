@@ -10,12 +10,14 @@ ghost use Rattle.pr_recording.specs.Decoded.{IsDecodeFault, ReadsAll};
 ghost use Rattle.pr_recording.specs.Pages.{AnswersPages, papers_alone, print_limit};
 
 use crate::copier::{PageMaker, Printed};
+use crate::printer_pair::PrintedPages;
+use pr_capture::TraceInput;
 use pr_cli::{
-    BLOCK, CliFault, Format, SourceReader, TraceInput, Watched, WriteFault, own_fault,
-    text_in_format, texts_say_samples,
+    BLOCK, CliFault, SourceReader, Watched, WriteFault, own_fault, text_in_format,
+    texts_say_samples,
 };
 use pr_page::Sequence;
-use pr_reprint::Reprinted;
+use pr_render::Format;
 use pr_system::Outcome;
 use std::alloc::{AllocError, Global};
 use std::io::{Read, Write};
@@ -153,7 +155,7 @@ fn end_print(reader: SourceReader<'_>, mut maker: PageMaker) -> Result<Printed, 
 }
 
 /// The outcome that is these papers and nothing else.
-fn papers_alone(alloc: Global, pages: Reprinted) -> Outcome
+fn papers_alone(alloc: Global, pages: PrintedPages) -> Outcome
     ensures { result ≡ papers_alone pages }
 {
     Outcome {

@@ -5,7 +5,8 @@ ghost use Rattle.std.specs.Option.{option_to_list};
 ghost use Rattle.pr_recording.specs.Narrated.{EndsSamples, GivesUp, HasHeard, HearsMore, edges_heard, lines_in};
 
 use crate::narrator::{Ended, Narrator};
-use pr_cli::{CliFault, EdgeMaker, TraceInput};
+use pr_capture::TraceInput;
+use pr_cli::{CliFault, EdgeMaker};
 use pr_wire::Edge;
 use std::alloc::{AllocError, Global};
 

@@ -1,7 +1,7 @@
 -- Trusted: who listens, and what is answered.
 use Rattle.std.specs.Prelude.{ℕ, Bool, false, not, ◌&&◌, ◌||◌, ◌==◌, ◌+◌, List, [], map, drop}
 use Rattle.std.specs.List.{after_last, list_any}
-use Rattle.pr_commands.specs.Bytes as command
+use Rattle.pr_base.specs.Bytes as command
 use Rattle.pr_serial.specs.declared.Present.{Present}
 use Rattle.pr_serial.specs.declared.Item.{Item}
 use Rattle.pr_serial.specs.declared.Item.TheVariants.{Attention, Sent}

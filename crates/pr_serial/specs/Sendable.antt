@@ -1,6 +1,6 @@
 -- Linking words: what a bus may be asked to send. A caller that asks for more is refused by the prover. No reader needs to believe them.
 use Rattle.std.specs.Prelude.{ℕ, ◌+◌, ◌≤◌, ◌<◌, ◌⊎◌, Option, Some, None}
-use Rattle.pr_commands.specs.Bytes as command
+use Rattle.pr_base.specs.Bytes as command
 
 -- a secondary address: a number of 0 to 15 selects a channel or closes it
 abbrev pub IsSecondary : ℕ → Type 0

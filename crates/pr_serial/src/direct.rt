@@ -6,7 +6,7 @@ ghost use Rattle.pr_serial.specs.Hearing.{IsSameEar, HasRoom};
 use crate::ear::Ear;
 use crate::serial::Serial;
 use crate::{Item, NoMemory, Present};
-use pr_commands::{FIRST_PRINTER, SECOND_PRINTER};
+use pr_base::{FIRST_PRINTER, SECOND_PRINTER};
 use pr_page::Input;
 use std::alloc::{AllocError, Global};
 use std::marker::Model;

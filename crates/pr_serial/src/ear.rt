@@ -3,13 +3,13 @@
 ghost use Rattle.std.specs.Prelude.{◌≡◌, ◌+◌, ◌<◌, ◌==◌, ◌||◌, ◌&&◌, Bool, false, List, [], ◌++◌, OnOk, if◌then◌else◌};
 ghost use Rattle.pr_serial.specs.declared.Item.{Item};
 ghost use Rattle.pr_serial.specs.declared.Item.TheVariants.{Attention, Sent};
-ghost use Rattle.pr_commands.specs.Bytes as command;
+ghost use Rattle.pr_base.specs.Bytes as command;
 ghost use Rattle.pr_serial.specs.Answers.{is_listener};
 ghost use Rattle.pr_serial.specs.Heard.{inputs_at};
 ghost use Rattle.pr_serial.specs.Hearing.{IsSameEar, HasRoom};
 
 use crate::NoMemory;
-use pr_commands::{LISTEN, LOWER_CASE, UNLISTEN};
+use pr_base::{LISTEN, LOWER_CASE, UNLISTEN};
 use pr_page::Input;
 use std::alloc::Global;
 

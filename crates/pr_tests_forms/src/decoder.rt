@@ -2,9 +2,9 @@
 //! them, put together by hand. Moments are those at which the edges were put.
 
 use crate::text::joined;
-use End::{Attention, Cut, GivenUp, Last, PulseCut, Silence, Whole, WholeCut};
+use End::{Attention, ClockTimeout, Cut, GivenUp, Last, PulseCut, Whole, WholeCut};
 use pr_decode::{
-    Decoder, FrameEnd, GlitchEnd, GoesBack, Halves, Opening, Pulse, Reading, Transfer,
+    Decoder, FrameEnd, GoesBack, Halves, IncompleteEnd, Opening, Pulse, Reading, Transfer,
 };
 use pr_wire::example::TRACE_TEXT;
 use pr_wire::{Edge, Levels, read_trace};
@@ -24,10 +24,10 @@ enum End {
     /// Behind so many bits ATN is pulled.
     Attention(u8, u64),
     /// Behind so many bits CLOCK is released for too long.
-    Silence(u8, u64),
+    ClockTimeout(u8, u64),
     /// Behind so many bits the recording ends.
     Cut(u8),
-    /// Behind DATA's pull and its release, and no bit, the recording ends.
+    /// Preceding DATA's pull and its release, and no bit, the recording ends.
     PulseCut(u64, u64),
 }
 
@@ -232,7 +232,7 @@ static RECORDINGS: [Recording; 29] = [
             "585 100\n650 110\n5650 111\n5690 101\n5760 111\n5820 101\n",
         ],
         &[
-            (false, [100, 150, 190, 580], 5, SIXTY, Silence(3, 5650)),
+            (false, [100, 150, 190, 580], 5, SIXTY, ClockTimeout(3, 5650)),
             (false, [650, 5650, 5690, 5820], 1, SIXTY, Cut(1)),
         ],
     ),
@@ -250,14 +250,20 @@ static RECORDINGS: [Recording; 29] = [
             "0 100\n100 110\n150 111\n190 101\n260 111\n",
             "1261 101\n1281 001\n",
         ],
-        &[(false, [100, 150, 190, 190], 0, NO_BIT, Silence(0, 1261))],
+        &[(
+            false,
+            [100, 150, 190, 190],
+            0,
+            NO_BIT,
+            ClockTimeout(0, 1261),
+        )],
     ),
     (
         [
             "0 100\n100 110\n150 111\n190 101\n260 111\n",
             "320 101\n390 111\n1390 110\n1391 111\n",
         ],
-        &[(false, [100, 150, 190, 320], 1, SIXTY, Silence(1, 1391))],
+        &[(false, [100, 150, 190, 320], 1, SIXTY, ClockTimeout(1, 1391))],
     ),
     // A recording that begins while the listener holds DATA has its look at its first edge.
     (
@@ -326,7 +332,7 @@ fn bits_and_pulse(end: End) -> (u8, Option<Pulse>) {
     match end {
         Last(pulled, released, _) => (8, Some(Pulse { pulled, released })),
         PulseCut(pulled, released) => (0, Some(Pulse { pulled, released })),
-        Attention(bits, _) | Silence(bits, _) | Cut(bits) => (bits, None),
+        Attention(bits, _) | ClockTimeout(bits, _) | Cut(bits) => (bits, None),
         Whole(_) | GivenUp(_) | WholeCut => (8, None),
     }
 }
@@ -367,9 +373,12 @@ fn reading(row: Row) -> Reading {
         Whole(time) | Last(_, _, time) => Reading::Frame(transfer, FrameEnd::Acknowledged(time)),
         GivenUp(time) => Reading::Frame(transfer, FrameEnd::Unacknowledged(time)),
         WholeCut => Reading::Frame(transfer, FrameEnd::Cut),
-        Attention(_, time) => Reading::Glitch(transfer, GlitchEnd::Attention(time)),
-        Silence(_, time) => Reading::Glitch(transfer, GlitchEnd::Silence(time)),
-        Cut(_) | PulseCut(_, _) => Reading::Glitch(transfer, GlitchEnd::Cut),
+        Attention(_, time) => Reading::IncompleteByte(transfer, IncompleteEnd::Attention(time)),
+        ClockTimeout(_, time) => Reading::IncompleteByte(
+            transfer,
+            IncompleteEnd::ClockTimeout(time),
+        ),
+        Cut(_) | PulseCut(_, _) => Reading::IncompleteByte(transfer, IncompleteEnd::Cut),
     }
 }
 

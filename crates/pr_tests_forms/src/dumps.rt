@@ -4,7 +4,7 @@
 ghost use Rattle.std.specs.Prelude.{◌≤◌, length};
 
 use crate::tables::NAMES;
-use pr_capture::{CaptureFault, Gatherer, Signals, VcdReader, write_vcd};
+use pr_capture::{CaptureFault, EdgeDetector, Signals, VcdReader, write_vcd};
 use pr_wire::{read_trace, write_trace};
 use std::alloc::Global;
 use std::process::Abort;
@@ -20,7 +20,7 @@ pub fn read(
     requires { cut ≤ length text.now }
 {
     let mut reader = VcdReader::new(alloc, signals);
-    let mut gatherer = Gatherer::new(0);
+    let mut gatherer = EdgeDetector::new(0);
     let mut edges = Vec::new(alloc);
     let mut at = 0;
     for _step in 0..text.len() {

@@ -7,7 +7,7 @@ use crate::tables::NAMES;
 use crate::written_dumps::HEAD;
 use crate::{dumps, surveys, tables};
 use pr_capture::{CaptureFault, write_vcd};
-use pr_measure::{Behind, push_reading};
+use pr_report::{Preceding, push_reading};
 use pr_wire::{Edge, Levels};
 use std::process::Abort;
 
@@ -65,7 +65,7 @@ fn is_refused_to_read_a_table(rt: &(impl Abort + AllocGlobal)) -> bool {
 
 fn is_refused_to_tell(rt: &(impl Abort + AllocGlobal)) -> bool {
     let mut text = Vec::new(rt.alloc());
-    if push_reading(&mut text, Behind::Nothing, &SLOW).is_err() {
+    if push_reading(&mut text, Preceding::Nothing, &SLOW).is_err() {
         return true;
     }
     let end = b"    ready 24310 us, the profile has 1 to 10000\n";

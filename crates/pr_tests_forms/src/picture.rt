@@ -1,7 +1,7 @@
 //! Pictures and lines of papers that no run of the program gives.
 
 use pr_page::{Mark, Paper, Placed, Row, Sequence};
-use pr_picture::{svg, text};
+use pr_render::{svg, text};
 use pr_serial::Present;
 use pr_system::Outcome;
 use std::process::Abort;

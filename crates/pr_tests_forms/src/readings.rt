@@ -1,7 +1,7 @@
 //! Lines of readings, worked by hand: the profile's bounds are those of the table of lawful traces.
 
-use pr_decode::{FrameEnd, GlitchEnd, Halves, Opening, Pulse, Reading, Transfer};
-use pr_measure::{Behind, push_reading};
+use pr_decode::{FrameEnd, Halves, IncompleteEnd, Opening, Pulse, Reading, Transfer};
+use pr_report::{Preceding, push_reading};
 use std::process::Abort;
 
 /// The opening of a data byte without end-or-identify: how long a listener takes lies within the profile's
@@ -45,7 +45,7 @@ const ATN: Transfer = Transfer {
 const ACKNOWLEDGED: FrameEnd = FrameEnd::Acknowledged(1930);
 
 /// What stands before a reading, the reading, and its lines.
-type Row = (Behind, Reading, &'static str);
+type Row = (Preceding, Reading, &'static str);
 
 /// The readings of these rows have their lines.
 fn are_told(rt: &(impl Abort + AllocGlobal), rows: &[Row]) {
@@ -62,67 +62,67 @@ fn are_told(rt: &(impl Abort + AllocGlobal), rows: &[Row]) {
 /// Acknowledged bytes have the story's lines: what stands before decides on their headings.
 const ACKNOWLEDGED_BYTES: [Row; 13] = [
     (
-        Behind::Nothing,
+        Preceding::Nothing,
         Reading::Frame(Transfer { byte: 36, ..ATN }, ACKNOWLEDGED),
         "attention\n        1100         1930  $24  LISTEN 4\n",
     ),
     (
-        Behind::Command,
+        Preceding::Command,
         Reading::Frame(Transfer { byte: 103, ..ATN }, ACKNOWLEDGED),
         "        1100         1930  $67  SECOND 7\n",
     ),
     (
-        Behind::Command,
+        Preceding::Command,
         Reading::Frame(Transfer { byte: 63, ..ATN }, ACKNOWLEDGED),
         "attention\n        1100         1930  $3F  UNLISTEN\n",
     ),
     (
-        Behind::Data,
+        Preceding::Data,
         Reading::Frame(Transfer { byte: 36, ..ATN }, ACKNOWLEDGED),
         "attention\n        1100         1930  $24  LISTEN 4\n",
     ),
     (
-        Behind::Command,
+        Preceding::Command,
         Reading::Frame(Transfer { byte: 32, ..ATN }, ACKNOWLEDGED),
         "attention\n        1100         1930  $20  LISTEN 0\n",
     ),
     (
-        Behind::Command,
+        Preceding::Command,
         Reading::Frame(Transfer { byte: 62, ..ATN }, ACKNOWLEDGED),
         "attention\n        1100         1930  $3E  LISTEN 30\n",
     ),
     (
-        Behind::Command,
+        Preceding::Command,
         Reading::Frame(Transfer { byte: 95, ..ATN }, ACKNOWLEDGED),
         "attention\n        1100         1930  $5F  command 95\n",
     ),
     (
-        Behind::Command,
+        Preceding::Command,
         Reading::Frame(Transfer { byte: 96, ..ATN }, ACKNOWLEDGED),
         "        1100         1930  $60  SECOND 0\n",
     ),
     (
-        Behind::Command,
+        Preceding::Command,
         Reading::Frame(Transfer { byte: 228, ..ATN }, ACKNOWLEDGED),
         "        1100         1930  $E4  CLOSE 4\n",
     ),
     (
-        Behind::Nothing,
+        Preceding::Nothing,
         Reading::Frame(Transfer { byte: 103, ..ATN }, ACKNOWLEDGED),
         "attention\n        1100         1930  $67  SECOND 7\n",
     ),
     (
-        Behind::Nothing,
+        Preceding::Nothing,
         Reading::Frame(Transfer { byte: 72, ..DATA }, ACKNOWLEDGED),
         "data\n        1100         1930  $48  'H'\n",
     ),
     (
-        Behind::Command,
+        Preceding::Command,
         Reading::Frame(Transfer { byte: 63, ..DATA }, ACKNOWLEDGED),
         "data\n        1100         1930  $3F  '?'\n",
     ),
     (
-        Behind::Data,
+        Preceding::Data,
         Reading::Frame(Transfer { byte: 13, ..DATA }, ACKNOWLEDGED),
         "        1100         1930  $0D  return\n",
     ),
@@ -131,7 +131,7 @@ const ACKNOWLEDGED_BYTES: [Row; 13] = [
 /// The answer to end-or-identify, its length and the pull behind it, within the bounds and outside.
 const ANSWERS: [Row; 4] = [
     (
-        Behind::Data,
+        Preceding::Data,
         Reading::Frame(
             Transfer {
                 opening: Opening {
@@ -150,7 +150,7 @@ const ANSWERS: [Row; 4] = [
         "        1100         1930  $0D  return, end-or-identify\n",
     ),
     (
-        Behind::Data,
+        Preceding::Data,
         Reading::Frame(
             Transfer {
                 opening: Opening {
@@ -169,7 +169,7 @@ const ANSWERS: [Row; 4] = [
         "        1100         1930  $0D  return, end-or-identify\n",
     ),
     (
-        Behind::Data,
+        Preceding::Data,
         Reading::Frame(
             Transfer {
                 opening: Opening {
@@ -188,7 +188,7 @@ const ANSWERS: [Row; 4] = [
         "        1100         1930  $0D  return, end-or-identify\n    answer 251 us, the profile has 200 to 250\n    answer length 251 us, the profile has 80 to 250\n    pull after answer 61 us, the profile has 1 to 60\n",
     ),
     (
-        Behind::Data,
+        Preceding::Data,
         Reading::Frame(
             Transfer {
                 opening: Opening {
@@ -211,12 +211,12 @@ const ANSWERS: [Row; 4] = [
 /// Bytes that are not acknowledged, or not ended.
 const OTHER_BYTES: [Row; 6] = [
     (
-        Behind::Nothing,
+        Preceding::Nothing,
         Reading::Frame(Transfer { byte: 36, ..ATN }, FrameEnd::Unacknowledged(2500)),
         "command 36 at 1100 us, not acknowledged, given up at 2500 us\n",
     ),
     (
-        Behind::Nothing,
+        Preceding::Nothing,
         Reading::Frame(
             Transfer { byte: 72, ..DATA },
             FrameEnd::Unacknowledged(2500),
@@ -224,23 +224,29 @@ const OTHER_BYTES: [Row; 6] = [
         "byte 72 at 1100 us, not acknowledged, given up at 2500 us\n",
     ),
     (
-        Behind::Nothing,
+        Preceding::Nothing,
         Reading::Frame(Transfer { byte: 72, ..DATA }, FrameEnd::Cut),
         "byte 72 at 1100 us, cut by the recording's end\n",
     ),
     (
-        Behind::Nothing,
-        Reading::Glitch(Transfer { byte: 72, ..DATA }, GlitchEnd::Attention(1950)),
+        Preceding::Nothing,
+        Reading::IncompleteByte(
+            Transfer { byte: 72, ..DATA },
+            IncompleteEnd::Attention(1950),
+        ),
         "glitch at 1100 us, bits 8, ended by ATN at 1950 us\n",
     ),
     (
-        Behind::Nothing,
-        Reading::Glitch(Transfer { byte: 72, ..DATA }, GlitchEnd::Silence(2950)),
+        Preceding::Nothing,
+        Reading::IncompleteByte(
+            Transfer { byte: 72, ..DATA },
+            IncompleteEnd::ClockTimeout(2950),
+        ),
         "glitch at 1100 us, bits 8, CLOCK released too long at 2950 us\n",
     ),
     (
-        Behind::Nothing,
-        Reading::Glitch(Transfer { byte: 72, ..DATA }, GlitchEnd::Cut),
+        Preceding::Nothing,
+        Reading::IncompleteByte(Transfer { byte: 72, ..DATA }, IncompleteEnd::Cut),
         "glitch at 1100 us, bits 8, cut by the recording's end\n",
     ),
 ];
@@ -249,7 +255,7 @@ const OTHER_BYTES: [Row; 6] = [
 /// no halves.
 const INTERVALS: [Row; 3] = [
     (
-        Behind::Data,
+        Preceding::Data,
         Reading::Frame(
             Transfer {
                 pull: 1349,
@@ -270,7 +276,7 @@ const INTERVALS: [Row; 3] = [
         "        1100         3000  $00  byte 0\n",
     ),
     (
-        Behind::Data,
+        Preceding::Data,
         Reading::Frame(
             Transfer {
                 pull: 1350,
@@ -291,8 +297,8 @@ const INTERVALS: [Row; 3] = [
         "        1100         3000  $00  byte 0\n    first pull 200 us, the profile has 1 to 199\n    shortest low half 19 us, the profile has 20 to 200\n    longest low half 201 us, the profile has 20 to 200\n    shortest high half 19 us, the profile has 20 to 200\n    longest high half 201 us, the profile has 20 to 200\n    acknowledgement 81 us, the profile has 1 to 80\n",
     ),
     (
-        Behind::Data,
-        Reading::Glitch(
+        Preceding::Data,
+        Reading::IncompleteByte(
             Transfer {
                 bits: 0,
                 byte: 0,
@@ -301,7 +307,7 @@ const INTERVALS: [Row; 3] = [
                 last_pull: 1190,
                 ..DATA
             },
-            GlitchEnd::Attention(1260),
+            IncompleteEnd::Attention(1260),
         ),
         "glitch at 1100 us, bits 0, ended by ATN at 1260 us\n",
     ),
@@ -335,12 +341,12 @@ pub const SLOW: Reading = Reading::Frame(
 /// A slow listener, one at the bound, and one that is ready at the look.
 const LISTENERS: [Row; 3] = [
     (
-        Behind::Nothing,
+        Preceding::Nothing,
         SLOW,
         "attention\n        1100        40020  $24  LISTEN 4\n    ready 24310 us, the profile has 1 to 10000\n",
     ),
     (
-        Behind::Nothing,
+        Preceding::Nothing,
         Reading::Frame(
             Transfer {
                 opening: Opening {
@@ -355,7 +361,7 @@ const LISTENERS: [Row; 3] = [
         "attention\n        1100        40020  $24  LISTEN 4\n",
     ),
     (
-        Behind::Nothing,
+        Preceding::Nothing,
         Reading::Frame(
             Transfer {
                 opening: Opening {
@@ -398,7 +404,7 @@ const STORY: &str =
 #[test]
 fn attentions_one_after_another(rt: HostRuntime) {
     let mut text = Vec::new(rt.alloc());
-    let mut behind = Behind::Nothing;
+    let mut behind = Preceding::Nothing;
     for byte in &CALL {
         let reading = Reading::Frame(*byte, ACKNOWLEDGED);
         let pushed = push_reading(&mut text, behind, &reading);
@@ -409,46 +415,46 @@ fn attentions_one_after_another(rt: HostRuntime) {
 }
 
 /// What stands before a reading, the reading, and what stands behind it.
-const BEHIND: [(Behind, Reading, Behind); 8] = [
+const BEHIND: [(Preceding, Reading, Preceding); 8] = [
     (
-        Behind::Nothing,
+        Preceding::Nothing,
         Reading::Frame(Transfer { byte: 36, ..ATN }, ACKNOWLEDGED),
-        Behind::Command,
+        Preceding::Command,
     ),
     (
-        Behind::Data,
+        Preceding::Data,
         Reading::Frame(Transfer { byte: 63, ..ATN }, ACKNOWLEDGED),
-        Behind::Nothing,
+        Preceding::Nothing,
     ),
     (
-        Behind::Command,
+        Preceding::Command,
         Reading::Frame(Transfer { byte: 63, ..DATA }, ACKNOWLEDGED),
-        Behind::Data,
+        Preceding::Data,
     ),
     (
-        Behind::Command,
+        Preceding::Command,
         Reading::Frame(Transfer { byte: 36, ..ATN }, ACKNOWLEDGED),
-        Behind::Command,
+        Preceding::Command,
     ),
     (
-        Behind::Command,
+        Preceding::Command,
         Reading::Frame(Transfer { byte: 103, ..ATN }, ACKNOWLEDGED),
-        Behind::Nothing,
+        Preceding::Nothing,
     ),
     (
-        Behind::Command,
+        Preceding::Command,
         Reading::Frame(Transfer { byte: 63, ..DATA }, FrameEnd::Cut),
-        Behind::Command,
+        Preceding::Command,
     ),
     (
-        Behind::Nothing,
+        Preceding::Nothing,
         Reading::Frame(Transfer { byte: 36, ..ATN }, FrameEnd::Unacknowledged(1930)),
-        Behind::Nothing,
+        Preceding::Nothing,
     ),
     (
-        Behind::Data,
-        Reading::Glitch(Transfer { byte: 36, ..ATN }, GlitchEnd::Cut),
-        Behind::Data,
+        Preceding::Data,
+        Reading::IncompleteByte(Transfer { byte: 36, ..ATN }, IncompleteEnd::Cut),
+        Preceding::Data,
     ),
 ];
 

@@ -1,6 +1,6 @@
 //! Worked samples, as trace texts.
 
-use pr_capture::Gatherer;
+use pr_capture::EdgeDetector;
 use pr_wire::{Edge, NoMemory, read_trace, write_trace};
 use std::alloc::Global;
 use std::process::Abort;
@@ -8,7 +8,7 @@ use std::test::Fail;
 
 /// The edges that samples make from this start.
 fn edges_from(alloc: Global, start: u64, samples: &[Edge]) -> Result<Vec<Edge>, NoMemory> {
-    let mut gatherer = Gatherer::new(start);
+    let mut gatherer = EdgeDetector::new(start);
     let mut edges = Vec::new(alloc);
     for sample in samples {
         if let Some(edge) = gatherer.take(*sample) {

@@ -2,11 +2,11 @@
 
 use crate::refusals::most_refusals;
 use crate::text::joined;
-use Sending::{Data, First, Second};
+use ByteRole::{Data, First, Second};
 use WaveFault::{Start, TooLate, Truncated};
-use pr_story::{TimedFrame, push_story, push_story_line};
+use pr_report::{TimedFrame, push_story, push_story_line};
 use pr_wire::example::TRACE_TEXT;
-use pr_wire::{Frame, Sending, WaveFault, read_trace};
+use pr_wire::{ByteRole, Frame, WaveFault, read_trace};
 use std::process::Abort;
 
 /// LISTEN 4 and, a millisecond behind it, the secondary address 7.
@@ -80,7 +80,7 @@ const MOMENTS: &str = "           7 1234567890123  ";
 
 /// Frames, each by how it is sent, its byte and whether a data byte stands before it; perhaps a heading of its
 /// line, and what the line says behind the moments.
-static LINES: [(Sending, u8, bool, &str, &str); 31] = [
+static LINES: [(ByteRole, u8, bool, &str, &str); 31] = [
     // command bytes
     (Second, 32, true, "", "$20  LISTEN 0"),
     (Second, 62, true, "", "$3E  LISTEN 30"),
@@ -118,7 +118,12 @@ static LINES: [(Sending, u8, bool, &str, &str); 31] = [
 ];
 
 /// The line of a frame.
-fn line(rt: &(impl Abort + AllocGlobal), sending: Sending, byte: u8, behind_data: bool) -> Vec<u8> {
+fn line(
+    rt: &(impl Abort + AllocGlobal),
+    sending: ByteRole,
+    byte: u8,
+    behind_data: bool,
+) -> Vec<u8> {
     let frame = TimedFrame {
         look: 7,
         acknowledged: 1_234_567_890_123,
@@ -160,8 +165,8 @@ fn frames_without_moments(rt: HostRuntime) {
 /// The laws, with nothing to run.
 #[test]
 fn laws(_rt: HostRuntime) {
-    pr_story::frames_are_told();
-    pr_story::stories_add_up();
+    pr_report::frames_are_told();
+    pr_report::stories_add_up();
 }
 
 /// Whether a call is refused memory. If not, it gives what it gives with ample memory.

@@ -1,7 +1,7 @@
 //! Surveys, worked by hand.
 
-use pr_decode::{FrameEnd, GlitchEnd, Halves, Opening, Pulse, Reading, Transfer};
-use pr_measure::Survey;
+use pr_decode::{FrameEnd, Halves, IncompleteEnd, Opening, Pulse, Reading, Transfer};
+use pr_report::Survey;
 use pr_wire::{Kind, NoMemory, bounds};
 use std::alloc::Global;
 use std::process::Abort;
@@ -137,7 +137,7 @@ const NONE: Halves = Halves {
 };
 
 /// A byte begun and given up before its first bit.
-const BEGUN: Reading = Reading::Glitch(
+const BEGUN: Reading = Reading::IncompleteByte(
     Transfer {
         opening: Opening {
             ready: 1060,
@@ -150,7 +150,7 @@ const BEGUN: Reading = Reading::Glitch(
         high: NONE,
         last_pull: 1100,
     },
-    GlitchEnd::Cut,
+    IncompleteEnd::Cut,
 );
 
 /// A command that is ready 20000 microseconds behind the look.
@@ -263,10 +263,10 @@ fn summaries(rt: HostRuntime) {
 /// The laws, and the delay that bounds the acknowledgement.
 #[test]
 fn laws_and_bounds(rt: HostRuntime) {
-    pr_measure::lawful_traces_are_told();
-    pr_measure::lawful_traces_are_within();
-    pr_measure::lines_add_up();
-    pr_measure::middles_are_least();
+    pr_report::lawful_traces_are_told();
+    pr_report::lawful_traces_are_within();
+    pr_report::lines_add_up();
+    pr_report::middles_are_least();
     let (least, _typical, greatest) = bounds(Kind::F);
     assert!(rt; least == 1 && greatest == 80);
 }

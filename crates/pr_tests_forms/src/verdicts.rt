@@ -1,6 +1,6 @@
 //! Verdicts, in the words of `check`.
 
-use pr_measure::push_verdict;
+use pr_report::push_verdict;
 use pr_wire::WaveFault;
 use std::process::Abort;
 

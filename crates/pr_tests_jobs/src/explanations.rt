@@ -3,10 +3,9 @@
 
 use crate::refusals::most_refusals;
 use pr_basic::StatusMode;
-use pr_capture::Signals;
+use pr_capture::{Signals, Source, TraceInput};
 use pr_channels::Stop;
 use pr_explain::{explain_reading, explain_script, explain_stop, explain_trace};
-use pr_options::{Source, TraceInput};
 use pr_serial::Present;
 use pr_wire::NoMemory;
 use pr_wire::example::TRACE_TEXT;

@@ -1,8 +1,7 @@
 //! The limits of recordings, tried with small ones: the program's are 4,294,967,296 and 1,099,511,627,776 bytes.
 
-use pr_capture::Signals;
+use pr_capture::{Signals, Source, TraceInput};
 use pr_cli::{CliFault, Watched};
-use pr_options::{Source, TraceInput};
 use pr_recording::{decode_input, print_input};
 
 const TEXT: TraceInput<'_> = TraceInput {

@@ -2,7 +2,7 @@
 
 use pr_explain::{Row, rows_from};
 use pr_wire::example::TRACE_TEXT;
-use pr_wire::{Edge, Levels, Place, Sending, read_trace};
+use pr_wire::{BusState, ByteRole, Edge, Levels, read_trace};
 use std::process::Abort;
 use std::test::Fail;
 
@@ -19,7 +19,7 @@ fn is_in_row(row: Row, edge: Edge) -> bool {
 
 /// Edges to all levels at this moment are taken at the place exactly if a row takes them. The edge before
 /// them is earlier and has other levels.
-fn agrees_at(rt: &impl Abort, place: &Place, time: u64) {
+fn agrees_at(rt: &impl Abort, place: &BusState, time: u64) {
     for number in 0..8 {
         let levels = Levels {
             atn: number >= 4,
@@ -50,7 +50,7 @@ fn agrees_at(rt: &impl Abort, place: &Place, time: u64) {
 }
 
 /// So they are at both ends of each interval, and beside them.
-fn agrees(rt: &impl Abort, place: &Place) {
+fn agrees(rt: &impl Abort, place: &BusState) {
     for row in rows_from(place) {
         let Some(row) = row else {
             continue;
@@ -80,7 +80,7 @@ fn places_of_the_example(rt: HostRuntime) -> Result<(), Fail> {
         assert!(rt; false, "the example has edges");
         return Ok(());
     };
-    let mut place = Place::Idle(0);
+    let mut place = BusState::Idle(0);
     let mut last = *first;
     for edge in others {
         agrees(&rt, &place);
@@ -93,18 +93,18 @@ fn places_of_the_example(rt: HostRuntime) -> Result<(), Fail> {
 
 #[test]
 fn other_places(rt: HostRuntime) {
-    for sending in [Sending::First, Sending::Second, Sending::Data] {
-        agrees(&rt, &Place::Ready(5, sending));
-        agrees(&rt, &Place::Free(5, sending));
-        agrees(&rt, &Place::Ack(5, sending, 36));
-        agrees(&rt, &Place::Ack(5, sending, 63));
+    for sending in [ByteRole::First, ByteRole::Second, ByteRole::Data] {
+        agrees(&rt, &BusState::Ready(5, sending));
+        agrees(&rt, &BusState::Free(5, sending));
+        agrees(&rt, &BusState::Ack(5, sending, 36));
+        agrees(&rt, &BusState::Ack(5, sending, 63));
     }
     for is_pulled in [false, true] {
-        agrees(&rt, &Place::Call(7, is_pulled));
+        agrees(&rt, &BusState::Call(7, is_pulled));
         for data_released in [false, true] {
             agrees(
                 &rt,
-                &Place::Freed {
+                &BusState::Freed {
                     since: 9,
                     unlistened: is_pulled,
                     data_released,
@@ -112,9 +112,9 @@ fn other_places(rt: HostRuntime) {
             );
         }
     }
-    agrees(&rt, &Place::Pulse(300, 50));
-    agrees(&rt, &Place::Pulse(400, 50));
-    agrees(&rt, &Place::After(11));
+    agrees(&rt, &BusState::Pulse(300, 50));
+    agrees(&rt, &BusState::Pulse(400, 50));
+    agrees(&rt, &BusState::After(11));
 }
 
 /// A moment past 2^64 - 1 is no edge's: a row that begins there is left out, and one that ends there has
@@ -122,10 +122,10 @@ fn other_places(rt: HostRuntime) {
 #[test]
 fn the_last_moments(rt: HostRuntime) {
     let end = u64::MAX;
-    assert!(rt; rows_from(&Place::Idle(end - 99))[0].is_none());
-    assert!(rt; rows_from(&Place::Idle(end - 100))[0].is_some_and(|row| row.earliest == end));
-    let row = rows_from(&Place::After(end - 1))[0];
+    assert!(rt; rows_from(&BusState::Idle(end - 99))[0].is_none());
+    assert!(rt; rows_from(&BusState::Idle(end - 100))[0].is_some_and(|row| row.earliest == end));
+    let row = rows_from(&BusState::After(end - 1))[0];
     assert!(rt; row.is_some_and(|row| row.earliest == end && row.latest == Some(end)));
-    agrees_at(&rt, &Place::Idle(end - 100), end);
-    agrees_at(&rt, &Place::Call(end - 1000, false), end);
+    agrees_at(&rt, &BusState::Idle(end - 100), end);
+    agrees_at(&rt, &BusState::Call(end - 1000, false), end);
 }

@@ -1,11 +1,11 @@
 //! Each allocation refused in turn: `tests/growths` runs these tests so.
 
+use crate::printer_pair::{HELD_H, Said, has_page, reading};
 use crate::refusals::most_refusals;
-use crate::reprint::{HELD_H, Said, has_page, reading};
 use crate::traces::{LOWER_CASE_INPUTS, LOWER_CASE_TEXT, SPELLED};
-use pr_commands::LISTEN;
+use pr_base::LISTEN;
 use pr_receiver::replay;
-use pr_reprint::Reprint;
+use pr_recording::PrinterPair;
 use pr_wire::example::TRACE_TEXT;
 use pr_wire::{Edge, TraceFault, WaveFault, analyse, read_trace, write_trace};
 use std::process::Abort;
@@ -65,7 +65,7 @@ fn try_receiver(rt: &(impl Abort + AllocGlobal)) -> Option<()> {
 /// Prints a letter, unless a printer is refused memory. Then each later reading is refused too, even
 /// one that says nothing.
 fn try_reprint(rt: &(impl Abort + AllocGlobal)) -> Option<()> {
-    let mut reprint = Reprint::new(rt.alloc());
+    let mut reprint = PrinterPair::new(rt.alloc());
     for said in [Said::Command(LISTEN + 4), Said::Sent(b'H')] {
         assert!(rt; reprint.taken() < 1000);
         if reprint.take(reading(said)).is_err() {

@@ -1,10 +1,12 @@
 //! Recordings through both printers, worked by hand.
 
 use crate::traces::example;
-use pr_commands::{LISTEN, LOWER_CASE, UNLISTEN};
-use pr_decode::{Decoder, FrameEnd, GlitchEnd, Halves, Opening, Pulse, Reading, Transfer};
+use pr_base::{LISTEN, LOWER_CASE, UNLISTEN};
+use pr_decode::{Decoder, FrameEnd, Halves, IncompleteEnd, Opening, Pulse, Reading, Transfer};
 use pr_page::{Mark, Paper, Placed};
-use pr_reprint::{Reprint, Reprinted, readings_are_heard_in_turn, traces_are_heard_as_spelled};
+use pr_recording::{
+    PrintedPages, PrinterPair, readings_are_heard_in_turn, traces_are_heard_as_spelled,
+};
 use pr_serial::Present;
 use std::process::Abort;
 use std::test::Fail;
@@ -64,7 +66,10 @@ pub fn reading(said: Said) -> Reading {
         Said::Last(code) => Reading::Frame(byte(false, code, true), TAKEN),
         Said::Unheard(code) => Reading::Frame(byte(true, code, false), NOT_TAKEN),
         Said::Lost(code) => Reading::Frame(byte(false, code, false), NOT_TAKEN),
-        Said::Begun(code) => Reading::Glitch(byte(false, code, false), GlitchEnd::Silence(2700)),
+        Said::Begun(code) => Reading::IncompleteByte(
+            byte(false, code, false),
+            IncompleteEnd::ClockTimeout(2700),
+        ),
         Said::Cut(code) => Reading::Frame(byte(false, code, false), FrameEnd::Cut),
     }
 }
@@ -256,8 +261,8 @@ pub fn has_page(paper: &Paper, page: Page, lower: bool) -> bool {
 }
 
 /// What the printers print of a recording.
-fn reprinted(rt: &(impl Abort + AllocGlobal), said: &[Said]) -> Reprinted {
-    let mut reprint = Reprint::new(rt.alloc());
+fn reprinted(rt: &(impl Abort + AllocGlobal), said: &[Said]) -> PrintedPages {
+    let mut reprint = PrinterPair::new(rt.alloc());
     for byte in said {
         assert!(rt; reprint.taken() < 1000);
         reprint.take(reading(*byte)).expect(rt, "memory");
@@ -285,7 +290,7 @@ fn a_recording(rt: HostRuntime) -> Result<(), Fail> {
     };
     let edges = example(&rt)?;
     let mut decoder = Decoder::new();
-    let mut reprint = Reprint::new(rt.alloc());
+    let mut reprint = PrinterPair::new(rt.alloc());
     for edge in edges.as_slice() {
         if let Some(reading) = decoder.take(*edge).expect(&rt, "in order") {
             assert!(rt; reprint.taken() < 1000);

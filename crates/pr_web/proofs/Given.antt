@@ -1,8 +1,8 @@
 -- What is made in memory, and handed to the page.
 use Rattle.std.proofs.Common.{ℕ, List, [], Some, None, Ok, refl}
 use Rattle.pr_cli.specs.Check.{trace_limit}
-use Rattle.pr_options.specs.declared.format.Format.{Format}
-use Rattle.pr_options.specs.declared.format.TraceInput.{TraceInput}
+use Rattle.pr_render.specs.declared.format.Format.{Format}
+use Rattle.pr_capture.specs.declared.format.TraceInput.{TraceInput}
 use Rattle.pr_recording.specs.Decoded.{AnswersDecode}
 use Rattle.pr_recording.specs.Pages.{AnswersPages}
 use Rattle.pr_web.specs.Giving.{Gives, GivesPages, GivesReadings, Hands, Made}

@@ -5,8 +5,8 @@ use Rattle.pr_basic.specs.Grammar.{IsScript}
 use Rattle.pr_channels.specs.declared.faults.Stop.{Stop}
 use Rattle.pr_explain.specs.StopTold.{TellsStop}
 use Rattle.pr_explain.specs.TraceTold.{IsReadingTold, IsTraceTold}
-use Rattle.pr_options.specs.declared.format.Source.{Source}
-use Rattle.pr_options.specs.declared.format.TraceInput.{TraceInput}
+use Rattle.pr_capture.specs.declared.format.Source.{Source}
+use Rattle.pr_capture.specs.declared.format.TraceInput.{TraceInput}
 use Rattle.pr_web.specs.Answers.{answer_of, refusal}
 use Rattle.pr_web.specs.Giving.{GivesPages, GivesReadings, Hands}
 use Rattle.pr_web.specs.Settings.{IsInput, is_yes, page_format_of}

@@ -3,8 +3,8 @@ use Rattle.std.specs.Prelude.{◌≡◌, ℕ, ◌<◌, ◌≤◌, Bool, true, fa
 use Rattle.pr_cli.specs.Check.{trace_limit}
 use Rattle.pr_cli.specs.declared.fault.CliFault.{CliFault}
 use Rattle.pr_cli.specs.declared.fault.CliFault.TheVariants.{Trace, Wave, Capture, NoMemory}
-use Rattle.pr_options.specs.declared.format.Format.{Format}
-use Rattle.pr_options.specs.declared.format.TraceInput.{TraceInput}
+use Rattle.pr_render.specs.declared.format.Format.{Format}
+use Rattle.pr_capture.specs.declared.format.TraceInput.{TraceInput}
 use Rattle.pr_recording.specs.Decoded.{AnswersDecode}
 use Rattle.pr_recording.specs.Pages.{AnswersPages}
 use Rattle.pr_web.specs.declared.answer.Told.{Told}

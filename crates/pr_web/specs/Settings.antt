@@ -4,11 +4,11 @@ use Rattle.pr_basic.specs.declared.session.StatusMode.{StatusMode}
 use Rattle.pr_basic.specs.declared.session.StatusMode.TheVariants as mode
 use Rattle.pr_channels.specs.declared.faults.Stop.{Stop}
 use Rattle.pr_channels.specs.declared.faults.Stop.TheVariants as stop
-use Rattle.pr_options.specs.declared.format.Format.{Format}
-use Rattle.pr_options.specs.declared.format.Format.TheVariants as format
-use Rattle.pr_options.specs.declared.format.Source.{Source}
-use Rattle.pr_options.specs.declared.format.Source.TheVariants as source
-use Rattle.pr_options.specs.declared.format.TraceInput.{TraceInput}
+use Rattle.pr_render.specs.declared.format.Format.{Format}
+use Rattle.pr_render.specs.declared.format.Format.TheVariants as format
+use Rattle.pr_capture.specs.declared.format.Source.{Source}
+use Rattle.pr_capture.specs.declared.format.Source.TheVariants as source
+use Rattle.pr_capture.specs.declared.format.TraceInput.{TraceInput}
 
 -- the format of a recording: a trace text, a Value Change Dump, a table of comma separated values
 abbrev pub source_of : ℕ → Option Source

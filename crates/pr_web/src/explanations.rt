@@ -9,8 +9,9 @@ ghost use Rattle.pr_web.specs.Settings.{source_of, stop_of};
 
 use crate::answer::{Answer, Told, give, numbered, refused};
 use crate::settings::{input_for, mode_for, source_for, stop_for};
+use pr_capture::TraceInput;
 use pr_channels::Stop;
-use pr_cli::{CliFault, TraceInput};
+use pr_cli::CliFault;
 use pr_explain::{explain_reading, explain_script, explain_stop, explain_trace};
 use pr_serial::Present;
 use std::alloc::Global;

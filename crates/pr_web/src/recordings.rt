@@ -7,8 +7,10 @@ ghost use Rattle.pr_web.specs.Settings.{page_format_of, source_of};
 
 use crate::answer::{Answer, Told, give, numbered, refused};
 use crate::settings::{input_for, page_format_for, source_for};
-use pr_cli::{Format, TraceInput, Watched};
+use pr_capture::TraceInput;
+use pr_cli::Watched;
 use pr_recording::{decode_over, reprint_over};
+use pr_render::Format;
 use std::alloc::Global;
 
 /// Reads a recording, and puts what it says at the front of a buffer.

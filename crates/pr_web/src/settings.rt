@@ -4,9 +4,9 @@ ghost use Rattle.std.specs.Prelude.{◌≡◌};
 ghost use Rattle.pr_web.specs.Settings.{IsInput, mode_of, page_format_of, source_of, stop_of};
 
 use pr_basic::StatusMode;
-use pr_capture::Signals;
+use pr_capture::{Signals, Source, TraceInput};
 use pr_channels::Stop;
-use pr_options::{Format, Source, TraceInput};
+use pr_render::Format;
 
 /// The format of a recording: 0 a trace text, 1 a Value Change Dump, 2 a table of comma separated values.
 pub fn source_for(number: u8) -> Option<Source>

@@ -7,7 +7,7 @@ use Rattle.pr_wire.specs.declared.Edge.{Edge}
 use Rattle.pr_wire.specs.declared.Frame.{Frame}
 use Rattle.pr_wire.specs.declared.line.EdgeLine.{EdgeLine}
 use Rattle.pr_wire.specs.declared.first_lines.FirstLines.{FirstLines}
-use Rattle.pr_wire.specs.declared.place.Place.{Place}
+use Rattle.pr_wire.specs.declared.bus_state.BusState.{BusState}
 use Rattle.pr_wire.specs.declared.line_part.LinePart.{LinePart}
 use Rattle.pr_wire.specs.declared.checker.Verdict.{Verdict}
 use Rattle.pr_wire.specs.declared.checker.Verdict.TheVariants.{Allowed}
@@ -19,7 +19,7 @@ use Rattle.pr_wire.specs.Reached.{begin, reached, led}
 use Rattle.pr_wire.specs.Checking.{with_frame}
 use Rattle.pr_wire.specs.TextSteps.{ended_line_in}
 use Rattle.pr_wire.specs.TraceText.{AreEdgeLines}
-use Rattle.pr_text.specs.Lines.{lines_of}
+use Rattle.pr_base.specs.Lines.{lines_of}
 use Rattle.pr_wire.proofs.ScanLaws.{nothing_is}
 use Rattle.pr_wire.proofs.LineLaws.{ended_line-is}
 use Rattle.pr_wire.proofs.PartLaws.{nothing_empty}
@@ -55,7 +55,7 @@ more_lines text f g l n k e c len h =
     }
 
 -- the lines of a whole frame come
-pub taken_frame : (text rest : List ℕ) (frames : List Frame) (part q : LinePart) (count n : ℕ) (last : Edge) (old new : Place) (f : FirstLines) (frame : Frame) (v : Verdict)
+pub taken_frame : (text rest : List ℕ) (frames : List Frame) (part q : LinePart) (count n : ℕ) (last : Edge) (old new : BusState) (f : FirstLines) (frame : Frame) (v : Verdict)
     → is_nothing part ≡ true → q ≡ part → AreFirstLines rest f → f.count ≤ 22 → n ≡ count + f.count → PassesFrame last old f.edges f.count new frame
     → v ≡ Allowed (last_of f.edges f.count) new
     → IsTaken false text frames part count (Allowed last old) → IsTaken false (text ++ take f.len rest) (with_frame frames (Some frame)) q n v

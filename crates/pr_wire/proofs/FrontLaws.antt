@@ -6,7 +6,7 @@ use Rattle.std.proofs.lemmas.List.{ext_get_or, get_or-take, get_or-drop}
 use Rattle.std.proofs.lemmas.List.Sums.{prefix_len_is, prefix_len_passes, prefix_len-le-length}
 use Rattle.std.specs.Prelude.{IfSome}
 use Rattle.pr_wire.specs.declared.line.EdgeLine.{EdgeLine}
-use Rattle.pr_text.specs.Digits.{is_digit, number_after}
+use Rattle.pr_base.specs.Digits.{is_digit, number_after}
 use Rattle.pr_wire.specs.TextSteps.{ended_in, ended_line_in, time_in}
 use Rattle.pr_wire.specs.Fronts.{word_at, IsFront}
 use Rattle.pr_wire.proofs.LineLaws.{ended_parts, time_parts, time_read, front-number, digit-value}

@@ -5,11 +5,11 @@ use Rattle.pr_wire.specs.declared.Edge.{Edge}
 use Rattle.pr_wire.specs.declared.Frame.{Frame}
 use Rattle.pr_wire.specs.declared.WaveFault.{WaveFault}
 use Rattle.pr_wire.specs.declared.WaveFault.TheVariants.{Truncated, Start}
-use Rattle.pr_wire.specs.declared.place.Flaw.TheVariants.{Shape}
-use Rattle.pr_wire.specs.declared.place.Flaw.{Flaw}
-use Rattle.pr_wire.specs.declared.place.Step.{Step}
-use Rattle.pr_wire.specs.declared.place.Place.{Place}
-use Rattle.pr_wire.specs.declared.place.Place.TheVariants.{Idle}
+use Rattle.pr_wire.specs.declared.bus_state.EdgeError.TheVariants.{Shape}
+use Rattle.pr_wire.specs.declared.bus_state.EdgeError.{EdgeError}
+use Rattle.pr_wire.specs.declared.bus_state.Step.{Step}
+use Rattle.pr_wire.specs.declared.bus_state.BusState.{BusState}
+use Rattle.pr_wire.specs.declared.bus_state.BusState.TheVariants.{Idle}
 use Rattle.pr_wire.specs.Levels.{start, edge_at}
 use Rattle.pr_wire.specs.Table.{Row, row, differ, is_late, timed, fault_or, fault_from, fault_of, fault_at, may_end, is_start}
 use Rattle.pr_wire.specs.Pieces.{edges_of, frames_of, IsLawful, Spells}
@@ -29,11 +29,11 @@ emit-emits None fs next h = h
 emit-emits (Some f) fs next h = (refl, h)
 
 -- no fault: a test was passed
-passed : (c : Bool) (w : Flaw) (y : Result Step Flaw) (n : ℕ) (next : Step → Option WaveFault) → fault_or (cond c (Err w) y) n next ≡ None → (c ≡ false) × (fault_or y n next ≡ None)
+passed : (c : Bool) (w : EdgeError) (y : Result Step EdgeError) (n : ℕ) (next : Step → Option WaveFault) → fault_or (cond c (Err w) y) n next ≡ None → (c ≡ false) × (fault_or y n next ≡ None)
 passed true w y n next h = absurd (let k : Some (fault_at w n) ≡ None = h in cc)
 passed false w y n next h = (refl, h)
 
-ordered : (a b : Bool) (y : Result Step Flaw) (w : Flaw) (n : ℕ) (next : Step → Option WaveFault) → fault_or (cond (a && b) y (Err w)) n next ≡ None → (a ≡ true) × (b ≡ true) × (fault_or y n next ≡ None)
+ordered : (a b : Bool) (y : Result Step EdgeError) (w : EdgeError) (n : ℕ) (next : Step → Option WaveFault) → fault_or (cond (a && b) y (Err w)) n next ≡ None → (a ≡ true) × (b ≡ true) × (fault_or y n next ≡ None)
 ordered true true y w n next h = (refl, refl, h)
 ordered true false y w n next h = absurd (let k : Some (fault_at w n) ≡ None = h in cc)
 ordered false b y w n next h = absurd (let k : Some (fault_at w n) ≡ None = h in cc)
@@ -46,7 +46,7 @@ pub in_time : (t : ℕ) (high : Option ℕ) → IsInTime t high → is_late t hi
 in_time t None h = refl
 in_time t (Some high) h = le-ltb high t h
 
-fits : (o : Option Row) (t n : ℕ) (next : Step → Option WaveFault) (goes : Place → List Frame → Type 0)
+fits : (o : Option Row) (t n : ℕ) (next : Step → Option WaveFault) (goes : BusState → List Frame → Type 0)
     → fault_or (timed t o) n next ≡ None
     → ((s : Step) → next s ≡ None → (fs : List Frame) × goes s.place fs)
     → (fs : List Frame) × FitsRow o t fs goes
@@ -58,7 +58,7 @@ fits (Some r) t n next goes h k =
     (emit r.frame g.0, (ltb-false t r.earliest a.0, not_late t r.latest b.0, emit-emits r.frame g.0 (goes r.place) g.1))
 
 -- edges without a fault walk, and spell something
-pub walk-of_fault : (es : List Edge) (n : ℕ) (last : Edge) (p : Place) → fault_from n last p es ≡ None → (fs : List Frame) × Walks last p es fs
+pub walk-of_fault : (es : List Edge) (n : ℕ) (last : Edge) (p : BusState) → fault_from n last p es ≡ None → (fs : List Frame) × Walks last p es fs
 walk-of_fault [] n last p h = ([], (ends (may_end p) n h, refl))
   where
     ends : (b : Bool) (n : ℕ) → cond b None (Some (Truncated n)) ≡ None → b ≡ true
@@ -70,8 +70,8 @@ walk-of_fault (e ∷ es) n last p h =
     (λ s k. walk-of_fault es (n + 1) e s.place k) in
     (g.0, (ltb-true last.time e.time o.0, o.1, g.1))
 
-no_fault : (o : Option Row) (t n : ℕ) (fs : List Frame) (next : Step → Option WaveFault) (goes : Place → List Frame → Type 0)
-    → FitsRow o t fs goes → ((q : Place) (f : Option Frame) (gs : List Frame) → goes q gs → next (record { place = q; frame = f }) ≡ None) → fault_or (timed t o) n next ≡ None
+no_fault : (o : Option Row) (t n : ℕ) (fs : List Frame) (next : Step → Option WaveFault) (goes : BusState → List Frame → Type 0)
+    → FitsRow o t fs goes → ((q : BusState) (f : Option Frame) (gs : List Frame) → goes q gs → next (record { place = q; frame = f }) ≡ None) → fault_or (timed t o) n next ≡ None
 no_fault None t n fs next goes h k = absurd h
 no_fault (Some r) t n fs next goes h k =
     rw (le-ltb t r.earliest h.0, in_time t r.latest h.1) (from-emits r.frame fs h.2)
@@ -82,7 +82,7 @@ no_fault (Some r) t n fs next goes h k =
     from-emits (Some f) [] h = absurd h
 
 -- edges that walk have no fault
-pub fault-of_walk : (es : List Edge) (n : ℕ) (last : Edge) (p : Place) (fs : List Frame) → Walks last p es fs → fault_from n last p es ≡ None
+pub fault-of_walk : (es : List Edge) (n : ℕ) (last : Edge) (p : BusState) (fs : List Frame) → Walks last p es fs → fault_from n last p es ≡ None
 fault-of_walk [] n last p fs h = rw h.0 refl
 fault-of_walk (e ∷ es) n last p fs h =
     rw (lt-ltb last.time e.time h.0, h.1)
@@ -120,18 +120,18 @@ pub no_fault-of_lawful : (es : List Edge) → IsLawful es → fault_of es ≡ No
 no_fault-of_lawful es (ps, cut) = subst (λ l. fault_of l ≡ None) (sym cut.edges_are) (fault-of_walk (edges_of (Resting 0) ps) 1 start (Idle 0) (frames_of ps) (pieces-walk (Resting 0) ps cut.lawful))
 
 -- a walk spells one list of frames
-walks-one : (es : List Edge) (last : Edge) (p : Place) (fs gs : List Frame) → Walks last p es fs → Walks last p es gs → fs ≡ gs
+walks-one : (es : List Edge) (last : Edge) (p : BusState) (fs gs : List Frame) → Walks last p es fs → Walks last p es gs → fs ≡ gs
 walks-one [] last p fs gs v w = v.1 ∙ sym w.1
 walks-one (e ∷ es) last p fs gs v w = by-row (row p e.time e.levels.atn e.levels.clock e.levels.line) fs gs (λ q fs gs. walks-one es e q fs gs) v.2 w.2
   where
-    by-frame : (q : Place) (f : Option Frame) (fs gs : List Frame) → ((q : Place) (fs gs : List Frame) → Walks e q es fs → Walks e q es gs → fs ≡ gs)
+    by-frame : (q : BusState) (f : Option Frame) (fs gs : List Frame) → ((q : BusState) (fs gs : List Frame) → Walks e q es fs → Walks e q es gs → fs ≡ gs)
         → Emits f fs (λ hs. Walks e q es hs) → Emits f gs (λ hs. Walks e q es hs) → fs ≡ gs
     by-frame q None fs gs k v w = k q fs gs v w
     by-frame q (Some f) [] gs k v w = absurd v
     by-frame q (Some f) (g ∷ fs) [] k v w = absurd w
     by-frame q (Some f) (g ∷ fs) (h ∷ gs) k v w = rw (v.0, w.0, k q fs gs v.1 w.1) refl
 
-    by-row : (o : Option Row) (fs gs : List Frame) → ((q : Place) (fs gs : List Frame) → Walks e q es fs → Walks e q es gs → fs ≡ gs)
+    by-row : (o : Option Row) (fs gs : List Frame) → ((q : BusState) (fs gs : List Frame) → Walks e q es fs → Walks e q es gs → fs ≡ gs)
         → FitsRow o e.time fs (λ q hs. Walks e q es hs) → FitsRow o e.time gs (λ q hs. Walks e q es hs) → fs ≡ gs
     by-row None fs gs k v w = absurd v
     by-row (Some r) fs gs k v w = by-frame r.place r.frame fs gs k v.2 w.2

@@ -11,7 +11,7 @@ use Rattle.pr_wire.specs.LineParts.{time_after, level_byte_after, part_after, pa
 use Rattle.pr_wire.specs.Levels.{edge_at}
 use Rattle.pr_wire.specs.TextSteps.{level_in}
 use Rattle.pr_wire.specs.TraceText.{level_digit, levels_text, Return, return_text, IsEdgeLine}
-use Rattle.pr_text.specs.Digits.{is_digit, number_after}
+use Rattle.pr_base.specs.Digits.{is_digit, number_after}
 use Rattle.pr_wire.specs.TraceText.Return.{WithReturn, Without}
 use Rattle.pr_wire.proofs.LineLaws.{grows, level_read, level_digit_of}
 

@@ -9,7 +9,7 @@ use Rattle.pr_wire.specs.declared.line_part.LinePart.TheVariants.{Nothing}
 use Rattle.pr_wire.specs.declared.reader.TraceReader.{TraceReader}
 use Rattle.pr_wire.specs.declared.text.TraceFault.{TraceFault}
 use Rattle.pr_wire.specs.declared.text.TraceFault.TheVariants.{BadLine, NoMemory}
-use Rattle.pr_text.specs.Lines.{lines_of}
+use Rattle.pr_base.specs.Lines.{lines_of}
 use Rattle.pr_wire.specs.LineParts.{part_after, edge_of_part, is_nothing}
 use Rattle.pr_wire.specs.TextSteps.{ended_line_in}
 use Rattle.pr_wire.specs.TraceReading.{EndsText, FaultsIn, HasRead, ReadsMore}

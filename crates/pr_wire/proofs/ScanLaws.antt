@@ -11,7 +11,7 @@ use Rattle.pr_wire.specs.Checked.{is_inner, IsScanned}
 use Rattle.pr_wire.specs.LineParts.{part_after, edge_of_part, is_nothing}
 use Rattle.pr_wire.specs.TextSteps.{ended_line_in}
 use Rattle.pr_wire.specs.TraceText.{AreEdgeLines, IsTraceText, IsFirstBad, SaysEdges}
-use Rattle.pr_text.specs.Lines.{lines_of}
+use Rattle.pr_base.specs.Lines.{lines_of}
 use Rattle.pr_wire.proofs.LineLaws.{ended_line-is, on_line, alone, at_end, no_line}
 use Rattle.pr_wire.proofs.PartLaws.{part_more, part_line, line_part, nothing_empty, something_some}
 use Rattle.pr_wire.proofs.TextLaws.{one_line_more, as_many}

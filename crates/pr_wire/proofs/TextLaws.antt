@@ -10,8 +10,8 @@ use Rattle.pr_wire.specs.declared.Edge.{Edge}
 use Rattle.pr_wire.specs.declared.line.EdgeLine.{EdgeLine}
 use Rattle.pr_wire.specs.declared.line_part.LinePart.TheVariants as Part
 use Rattle.pr_wire.specs.TraceText.{levels_text, edge_text, trace_text, IsEdgeLine, AreEdgeLines, IsTraceText, IsFirstBad, SaysEdges}
-use Rattle.pr_text.specs.Digits.{is_digit, number_after}
-use Rattle.pr_text.specs.Lines.{lines_of}
+use Rattle.pr_base.specs.Digits.{is_digit, number_after}
+use Rattle.pr_base.specs.Lines.{lines_of}
 use Rattle.pr_wire.specs.TraceText.Return.{Without}
 use Rattle.pr_wire.specs.LineParts.{edge_of_part, part_with}
 use Rattle.pr_wire.specs.TextSteps.{line_in}

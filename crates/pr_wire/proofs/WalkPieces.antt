@@ -5,10 +5,10 @@ use Rattle.std.proofs.lemmas.Bool.{eqb-true, eq-eqb}
 use Rattle.std.proofs.lemmas.Bool.Decides.{eqb_tells}
 use Rattle.pr_wire.specs.declared.Edge.{Edge}
 use Rattle.pr_wire.specs.declared.Frame.{Frame}
-use Rattle.pr_wire.specs.declared.place.Sending.{Sending}
-use Rattle.pr_wire.specs.declared.place.Sending.TheVariants.{First, Second, Data}
-use Rattle.pr_wire.specs.declared.place.Place.{Place}
-use Rattle.pr_wire.specs.declared.place.Place.TheVariants.{Idle, Call, Ready, Free, Pulse, After, Bit, High, Last, Ack, Freed}
+use Rattle.pr_wire.specs.declared.bus_state.ByteRole.{ByteRole}
+use Rattle.pr_wire.specs.declared.bus_state.ByteRole.TheVariants.{First, Second, Data}
+use Rattle.pr_wire.specs.declared.bus_state.BusState.{BusState}
+use Rattle.pr_wire.specs.declared.bus_state.BusState.TheVariants.{Idle, Call, Ready, Free, Pulse, After, Bit, High, Last, Ack, Freed}
 use Rattle.pr_wire.specs.Levels.{edge_at, byte_of}
 use Rattle.pr_wire.specs.Table.{row, atn_of, frame_of, same, may_end}
 use Rattle.pr_wire.specs.Pieces.{IsWithin, BitTimes, EoiAnswer, FrameTimes, Ending, SecondFrame, Between, last_pull, AreClocked, IsOpened, IsFrame, levels_of, byte_sent, has_pulse, frame_sent, bit_edges, pulse_edges, frame_edges, IsCalled, IsAnswered, IsReleased, IsSecond, last_ack, last_byte, AreReleased, IsEnded, after_lines, after_ending, call_edge, answer_edges, second_edges, line_edges, clock_edges, ending_edges, edges_of, second_frames}
@@ -36,13 +36,13 @@ pub record Goes (byte k : ℕ) (es : List Edge) (fs : List Frame) : Type 0 where
   pub ends : Ends (last_byte byte second) (last_ack k second) tail frames_after
 
 -- the rest after an acknowledgement
-abbrev pub Acked : Sending → ℕ → ℕ → List Edge → List Frame → Type 0
+abbrev pub Acked : ByteRole → ℕ → ℕ → List Edge → List Frame → Type 0
 Acked First byte k es fs = Goes byte k es fs
 Acked Second byte k es fs = Ends byte k es fs
 Acked Data byte k es fs = Onwards (Held k) es fs
 
 -- the rest is a frame from the pull of CLOCK that brings its first bit, and what follows it
-pub record Pulled (s : Sending) (eoi : Bool) (c : ℕ) (es : List Edge) (fs : List Frame) : Type 0 where
+pub record Pulled (s : ByteRole) (eoi : Bool) (c : ℕ) (es : List Edge) (fs : List Frame) : Type 0 where
   pub bits : List BitTimes
   pub ack : ℕ
   pub tail : List Edge
@@ -55,7 +55,7 @@ pub record Pulled (s : Sending) (eoi : Bool) (c : ℕ) (es : List Edge) (fs : Li
   pub goes : Acked s (byte_of (levels_of bits)) ack tail frames_after
 
 -- the rest after the pull of CLOCK that brings a bit, behind the bits seen
-pub record AtBit (c : ℕ) (s : Sending) (eoi : Bool) (seen : List Bool) (b : Bool) (es : List Edge) (fs : List Frame) : Type 0 where
+pub record AtBit (c : ℕ) (s : ByteRole) (eoi : Bool) (seen : List Bool) (b : Bool) (es : List Edge) (fs : List Frame) : Type 0 where
   pub up : ℕ
   pub down : ℕ
   pub bits : List BitTimes
@@ -72,7 +72,7 @@ pub record AtBit (c : ℕ) (s : Sending) (eoi : Bool) (seen : List Bool) (b : Bo
   pub goes : Acked s (byte_of (seen ++ b ∷ levels_of bits)) ack tail frames_after
 
 -- the rest after a bit's release of CLOCK
-pub record AtHigh (u : ℕ) (s : Sending) (eoi : Bool) (seen : List Bool) (b : Bool) (es : List Edge) (fs : List Frame) : Type 0 where
+pub record AtHigh (u : ℕ) (s : ByteRole) (eoi : Bool) (seen : List Bool) (b : Bool) (es : List Edge) (fs : List Frame) : Type 0 where
   pub down : ℕ
   pub bits : List BitTimes
   pub ack : ℕ
@@ -87,7 +87,7 @@ pub record AtHigh (u : ℕ) (s : Sending) (eoi : Bool) (seen : List Bool) (b : B
   pub goes : Acked s (byte_of (seen ++ b ∷ levels_of bits)) ack tail frames_after
 
 -- the rest after the last pull of CLOCK
-pub record AtLast (z : ℕ) (s : Sending) (eoi : Bool) (seen : List Bool) (es : List Edge) (fs : List Frame) : Type 0 where
+pub record AtLast (z : ℕ) (s : ByteRole) (eoi : Bool) (seen : List Bool) (es : List Edge) (fs : List Frame) : Type 0 where
   pub ack : ℕ
   pub tail : List Edge
   pub frames_after : List Frame
@@ -111,7 +111,7 @@ pub record AtPulse (p d : ℕ) (es : List Edge) (fs : List Frame) : Type 0 where
   pub after : AtAfter released tail fs
 
 -- the rest after DATA's release
-pub record AtFree (d : ℕ) (s : Sending) (es : List Edge) (fs : List Frame) : Type 0 where
+pub record AtFree (d : ℕ) (s : ByteRole) (es : List Edge) (fs : List Frame) : Type 0 where
   pub pulse : Option EoiAnswer
   pub pull : ℕ
   pub tail : List Edge
@@ -120,7 +120,7 @@ pub record AtFree (d : ℕ) (s : Sending) (es : List Edge) (fs : List Frame) : T
   pub pulled : Pulled s (has_pulse pulse) pull tail fs
 
 -- the rest after the look
-pub record AtReady (look : ℕ) (s : Sending) (es : List Edge) (fs : List Frame) : Type 0 where
+pub record AtReady (look : ℕ) (s : ByteRole) (es : List Edge) (fs : List Frame) : Type 0 where
   pub sent : FrameTimes
   pub tail : List Edge
   pub frames_after : List Frame
@@ -174,7 +174,7 @@ pub record AtClosed (r : ℕ) (es : List Edge) (fs : List Frame) : Type 0 where
   pub onwards : Onwards (Resting clock) tail fs
 
 -- the rest is what a place of the table still lacks of its piece, and whole pieces after it
-abbrev pub Rest : Edge → Place → List Edge → List Frame → Type 0
+abbrev pub Rest : Edge → BusState → List Edge → List Frame → Type 0
 Rest last (Idle i) es fs = Onwards (Resting i) es fs
 Rest last (Call a false) es fs = AtUnanswered a es fs ⊎ AtCalled a es fs
 Rest last (Call a true) es fs = AtAnswered last.time a es fs
@@ -191,7 +191,7 @@ Rest last (Freed r true true) es fs = AtClosed r es fs
 Rest last (Freed r false true) es fs = Onwards (Loose r) es fs
 
 -- where a list may end
-at-end : (last : Edge) (p : Place) (fs : List Frame) → may_end p ≡ true → fs ≡ [] → Rest last p [] fs
+at-end : (last : Edge) (p : BusState) (fs : List Frame) → may_end p ≡ true → fs ≡ [] → Rest last p [] fs
 at-end last (Idle i) fs m e = record { pieces = []; lawful = tt; edges = refl; frames = e }
 at-end last (Ack k Data byte) fs m e = record { pieces = []; lawful = tt; edges = refl; frames = e }
 at-end last (Freed r false false) fs m e = record { line = None; clock = None; tail = []; released = tt; edges = refl; onwards = record { pieces = []; lawful = tt; edges = refl; frames = e } }
@@ -211,7 +211,7 @@ at-end last (Last c s eoi seen) fs m e = absurd (let k : false ≡ true = m in c
 
 -- the rest after an edge, for whatever place it reaches
 abbrev pub Next : Edge → List Edge → Type 0
-Next e es = (q : Place) (gs : List Frame) → Walks e q es gs → Rest e q es gs
+Next e es = (q : BusState) (gs : List Frame) → Walks e q es gs → Rest e q es gs
 
 -- a piece before whole pieces
 unanswered-piece : (b : Between) (a : ℕ) (es : List Edge) (fs : List Frame) → IsReleased b → IsCalled b a → AtUnanswered a es fs → Onwards b (call_edge b a ∷ es) fs
@@ -270,7 +270,7 @@ held-piece : (k a : ℕ) (es : List Edge) (fs : List Frame) → IsWithin a (k + 
 held-piece k a es fs w h = attention-piece (Held k) a None h.look h.tail es fs w h.looked h.edges h.ready
 
 -- a frame's first bit, at the pull of CLOCK that brings it
-first-bit : (s : Sending) (eoi : Bool) (t : ℕ) (x b : Bool) (es : List Edge) (fs : List Frame) → x ≡ atn_of s → AtBit t s eoi [] b es fs → Pulled s eoi t (edge_at t x false b ∷ es) fs
+first-bit : (s : ByteRole) (eoi : Bool) (t : ℕ) (x b : Bool) (es : List Edge) (fs : List Frame) → x ≡ atn_of s → AtBit t s eoi [] b es fs → Pulled s eoi t (edge_at t x false b ∷ es) fs
 first-bit s eoi t x b es fs e h = record {
   bits = record { level = b; up = h.up; down = h.down } ∷ h.bits;
   ack = h.ack;
@@ -331,7 +331,7 @@ step-call last a true t false true true es fs next w = absurd w.2
 put-together : {A : Type 0} (p b : List A) (a : A) (t : List A) → p ++ (b ++ (a ∷ t)) ≡ ((p ++ b) ++ (a ∷ [])) ++ t
 put-together p b a t = simp append_assoc
 
-ready-of : (l : ℕ) (s : Sending) (t : ℕ) (x : Bool) (es : List Edge) (fs : List Frame) → x ≡ atn_of s → IsWithin t (l + 1) (l + 10000) → AtFree t s es fs → AtReady l s (edge_at t x true true ∷ es) fs
+ready-of : (l : ℕ) (s : ByteRole) (t : ℕ) (x : Bool) (es : List Edge) (fs : List Frame) → x ≡ atn_of s → IsWithin t (l + 1) (l + 10000) → AtFree t s es fs → AtReady l s (edge_at t x true true ∷ es) fs
 ready-of l s t x es fs e k h =
     let p = h.pulled in
     record {
@@ -345,17 +345,17 @@ ready-of l s t x es fs e k h =
       goes = p.goes;
     }
 
-step-ready : (last : Edge) (l : ℕ) (s : Sending) (t : ℕ) (x c d : Bool) (es : List Edge) (fs : List Frame) → Next (edge_at t x c d) es → Walks last (Ready l s) (edge_at t x c d ∷ es) fs → Rest last (Ready l s) (edge_at t x c d ∷ es) fs
+step-ready : (last : Edge) (l : ℕ) (s : ByteRole) (t : ℕ) (x c d : Bool) (es : List Edge) (fs : List Frame) → Next (edge_at t x c d) es → Walks last (Ready l s) (edge_at t x c d ∷ es) fs → Rest last (Ready l s) (edge_at t x c d ∷ es) fs
 step-ready last l s t x true true es fs next w =
     let v = where_fits (same x (atn_of s)) _ _ _ _ w.2 in
     ready-of l s t x es fs (same-eq x (atn_of s) v.0) (record { from = v.1.0; to = v.1.1 }) (next (Free t s) fs v.1.2)
 step-ready last l s t x false d es fs next w = absurd w.2
 step-ready last l s t x true false es fs next w = absurd w.2
 
-plain-free : (d t : ℕ) (s : Sending) (x b : Bool) (es : List Edge) (fs : List Frame) → x ≡ atn_of s → IsWithin t (d + 1) (d + 199) → AtBit t s false [] b es fs → AtFree d s (edge_at t x false b ∷ es) fs
+plain-free : (d t : ℕ) (s : ByteRole) (x b : Bool) (es : List Edge) (fs : List Frame) → x ≡ atn_of s → IsWithin t (d + 1) (d + 199) → AtBit t s false [] b es fs → AtFree d s (edge_at t x false b ∷ es) fs
 plain-free d t s x b es fs e h k = record { pulse = None; pull = t; tail = edge_at t x false b ∷ es; opened = h; edges = refl; pulled = first-bit s false t x b es fs e k }
 
-step-free : (last : Edge) (f : ℕ) (s : Sending) (t : ℕ) (x c d : Bool) (es : List Edge) (fs : List Frame) → Next (edge_at t x c d) es → Walks last (Free f s) (edge_at t x c d ∷ es) fs → Rest last (Free f s) (edge_at t x c d ∷ es) fs
+step-free : (last : Edge) (f : ℕ) (s : ByteRole) (t : ℕ) (x c d : Bool) (es : List Edge) (fs : List Frame) → Next (edge_at t x c d) es → Walks last (Free f s) (edge_at t x c d ∷ es) fs → Rest last (Free f s) (edge_at t x c d ∷ es) fs
 step-free last f First t false false d es fs next w = plain-free f t First false d es fs refl (record { from = w.2.0; to = w.2.1 }) (next (Bit t First false [] d) fs w.2.2)
 step-free last f Second t false false d es fs next w = plain-free f t Second false d es fs refl (record { from = w.2.0; to = w.2.1 }) (next (Bit t Second false [] d) fs w.2.2)
 step-free last f Data t true false d es fs next w = plain-free f t Data true d es fs refl (record { from = w.2.0; to = w.2.1 }) (next (Bit t Data false [] d) fs w.2.2)
@@ -400,7 +400,7 @@ step-after last q t true false d es fs next w = record { pull = t; opened = reco
 step-after last q t false c d es fs next w = absurd w.2
 step-after last q t true true d es fs next w = absurd w.2
 
-bit-of : (c t : ℕ) (s : Sending) (eoi : Bool) (seen : List Bool) (b b' x : Bool) (es : List Edge) (fs : List Frame) → x ≡ atn_of s → b ≡ b' → IsWithin t (c + 20) (c + 200)
+bit-of : (c t : ℕ) (s : ByteRole) (eoi : Bool) (seen : List Bool) (b b' x : Bool) (es : List Edge) (fs : List Frame) → x ≡ atn_of s → b ≡ b' → IsWithin t (c + 20) (c + 200)
     → AtHigh t s eoi seen b es fs → AtBit c s eoi seen b (edge_at t x true b' ∷ es) fs
 bit-of c t s eoi seen b b' x es fs e g k h = record {
   up = t;
@@ -419,7 +419,7 @@ bit-of c t s eoi seen b b' x es fs e g k h = record {
   goes = h.goes;
 }
 
-step-bit : (last : Edge) (k : ℕ) (s : Sending) (eoi : Bool) (seen : List Bool) (b : Bool) (t : ℕ) (x c d : Bool) (es : List Edge) (fs : List Frame) → Next (edge_at t x c d) es
+step-bit : (last : Edge) (k : ℕ) (s : ByteRole) (eoi : Bool) (seen : List Bool) (b : Bool) (t : ℕ) (x c d : Bool) (es : List Edge) (fs : List Frame) → Next (edge_at t x c d) es
     → Walks last (Bit k s eoi seen b) (edge_at t x c d ∷ es) fs → Rest last (Bit k s eoi seen b) (edge_at t x c d ∷ es) fs
 step-bit last k s eoi seen b t x true d es fs next w =
     let v = where_fits (same x (atn_of s) && same b d) _ _ _ _ w.2 in
@@ -427,7 +427,7 @@ step-bit last k s eoi seen b t x true d es fs next w =
     bit-of k t s eoi seen b d x es fs (same-eq x (atn_of s) e.0) (same-eq b d e.1) (record { from = v.1.0; to = v.1.1 }) (next (High t s eoi seen b) fs v.1.2)
 step-bit last k s eoi seen b t x false d es fs next w = absurd w.2
 
-high-bit : (u t : ℕ) (s : Sending) (eoi : Bool) (seen : List Bool) (b b' x : Bool) (es : List Edge) (fs : List Frame) → x ≡ atn_of s → IsWithin t (u + 20) (u + 200)
+high-bit : (u t : ℕ) (s : ByteRole) (eoi : Bool) (seen : List Bool) (b b' x : Bool) (es : List Edge) (fs : List Frame) → x ≡ atn_of s → IsWithin t (u + 20) (u + 200)
     → AtBit t s eoi (seen ++ b ∷ []) b' es fs → AtHigh u s eoi seen b (edge_at t x false b' ∷ es) fs
 high-bit u t s eoi seen b b' x es fs e k h = record {
   down = t;
@@ -444,7 +444,7 @@ high-bit u t s eoi seen b b' x es fs e k h = record {
   goes = rw append_assoc at h.goes;
 }
 
-high-last : (u t : ℕ) (s : Sending) (eoi : Bool) (seen : List Bool) (b b' x : Bool) (es : List Edge) (fs : List Frame) → x ≡ atn_of s → b' ≡ true → length seen ≡ 7 → IsWithin t (u + 20) (u + 200)
+high-last : (u t : ℕ) (s : ByteRole) (eoi : Bool) (seen : List Bool) (b b' x : Bool) (es : List Edge) (fs : List Frame) → x ≡ atn_of s → b' ≡ true → length seen ≡ 7 → IsWithin t (u + 20) (u + 200)
     → AtLast t s eoi (seen ++ b ∷ []) es fs → AtHigh u s eoi seen b (edge_at t x false b' ∷ es) fs
 high-last u t s eoi seen b b' x es fs e g n k h = record {
   down = t;
@@ -461,7 +461,7 @@ high-last u t s eoi seen b b' x es fs e g n k h = record {
   goes = h.goes;
 }
 
-step-high : (last : Edge) (k : ℕ) (s : Sending) (eoi : Bool) (seen : List Bool) (b : Bool) (t : ℕ) (x c d : Bool) (es : List Edge) (fs : List Frame) → Next (edge_at t x c d) es
+step-high : (last : Edge) (k : ℕ) (s : ByteRole) (eoi : Bool) (seen : List Bool) (b : Bool) (t : ℕ) (x c d : Bool) (es : List Edge) (fs : List Frame) → Next (edge_at t x c d) es
     → Walks last (High k s eoi seen b) (edge_at t x c d ∷ es) fs → Rest last (High k s eoi seen b) (edge_at t x c d ∷ es) fs
 step-high last k s eoi seen b t x false d es fs next w =
     let v = where_fits (same x (atn_of s)) _ _ _ _ w.2 in
@@ -474,11 +474,11 @@ step-high last k s eoi seen b t x false d es fs next w =
     ]
 step-high last k s eoi seen b t x true d es fs next w = absurd w.2
 
-last-of : (z t : ℕ) (s : Sending) (eoi : Bool) (seen : List Bool) (x : Bool) (es : List Edge) (f : Frame) (fs : List Frame) → x ≡ atn_of s → IsWithin t (z + 1) (z + 80) → f ≡ frame_of s eoi seen
+last-of : (z t : ℕ) (s : ByteRole) (eoi : Bool) (seen : List Bool) (x : Bool) (es : List Edge) (f : Frame) (fs : List Frame) → x ≡ atn_of s → IsWithin t (z + 1) (z + 80) → f ≡ frame_of s eoi seen
     → Acked s (byte_of seen) t es fs → AtLast z s eoi seen (edge_at t x false false ∷ es) (f ∷ fs)
 last-of z t s eoi seen x es f fs e k g h = record { ack = t; tail = es; frames_after = fs; acked = k; edges = rw e refl; frames = rw g refl; goes = h }
 
-step-last : (last : Edge) (k : ℕ) (s : Sending) (eoi : Bool) (seen : List Bool) (t : ℕ) (x c d : Bool) (es : List Edge) (fs : List Frame) → Next (edge_at t x c d) es
+step-last : (last : Edge) (k : ℕ) (s : ByteRole) (eoi : Bool) (seen : List Bool) (t : ℕ) (x c d : Bool) (es : List Edge) (fs : List Frame) → Next (edge_at t x c d) es
     → Walks last (Last k s eoi seen) (edge_at t x c d ∷ es) fs → Rest last (Last k s eoi seen) (edge_at t x c d ∷ es) fs
 step-last last k s eoi seen t x false false es (f ∷ fs) next w =
     let v = where_fits (same x (atn_of s)) _ _ _ _ w.2 in
@@ -491,7 +491,7 @@ step-last last k s eoi seen t x false true es fs next w = absurd w.2
 ends-of : (k t byte : ℕ) (es : List Edge) (fs : List Frame) → IsWithin t (k + 100) (k + 200) → AtFreed t (eqb byte 63) es fs → Ends byte k (edge_at t true false false ∷ es) fs
 ends-of k t byte es fs w h = record { ending = record { atn = t; line = h.line; clock = h.clock }; tail = h.tail; ended = record { atn = w; lines = h.released }; edges = rw h.edges refl; onwards = h.onwards }
 
-step-ack : (last : Edge) (k : ℕ) (s : Sending) (byte : ℕ) (t : ℕ) (x c d : Bool) (es : List Edge) (fs : List Frame) → Next (edge_at t x c d) es
+step-ack : (last : Edge) (k : ℕ) (s : ByteRole) (byte : ℕ) (t : ℕ) (x c d : Bool) (es : List Edge) (fs : List Frame) → Next (edge_at t x c d) es
     → Walks last (Ack k s byte) (edge_at t x c d ∷ es) fs → Rest last (Ack k s byte) (edge_at t x c d ∷ es) fs
 step-ack last k First byte t false true false es fs next w =
     let h : AtReady t Second es fs = next (Ready t Second) fs w.2.2 in
@@ -559,7 +559,7 @@ step-freed last r false true t true false d es fs next w = absurd w.2
 step-freed last r false true t false true d es fs next w = absurd w.2
 step-freed last r false true t false false false es fs next w = absurd w.2
 
-step : (last : Edge) (p : Place) (t : ℕ) (x c d : Bool) (es : List Edge) (fs : List Frame) → Next (edge_at t x c d) es → Walks last p (edge_at t x c d ∷ es) fs → Rest last p (edge_at t x c d ∷ es) fs
+step : (last : Edge) (p : BusState) (t : ℕ) (x c d : Bool) (es : List Edge) (fs : List Frame) → Next (edge_at t x c d) es → Walks last p (edge_at t x c d ∷ es) fs → Rest last p (edge_at t x c d ∷ es) fs
 step last (Idle i) = step-idle last i
 step last (Call a b) = step-call last a b
 step last (Ready l s) = step-ready last l s
@@ -573,9 +573,9 @@ step last (Ack k s byte) = step-ack last k s byte
 step last (Freed r u l) = step-freed last r u l
 
 -- what walks from a place to an end is what the place lacks of its piece, and whole pieces
-pub rest : (es : List Edge) (last : Edge) (p : Place) (fs : List Frame) → Walks last p es fs → Rest last p es fs
+pub rest : (es : List Edge) (last : Edge) (p : BusState) (fs : List Frame) → Walks last p es fs → Rest last p es fs
 rest [] last p fs w = at-end-of last p fs w
   where
-    at-end-of : (last : Edge) (p : Place) (fs : List Frame) → Walks last p [] fs → Rest last p [] fs
+    at-end-of : (last : Edge) (p : BusState) (fs : List Frame) → Walks last p [] fs → Rest last p [] fs
     at-end-of last p fs w = at-end last p fs w.0 w.1
 rest (e ∷ es) last p fs w = step last p e.time e.levels.atn e.levels.clock e.levels.line es fs (λ q gs v. rest es e q gs v) w

@@ -5,11 +5,11 @@ use Rattle.pr_wire.specs.declared.Edge.{Edge}
 use Rattle.pr_wire.specs.declared.Levels.{Levels}
 use Rattle.pr_wire.specs.declared.Frame.{Frame}
 use Rattle.pr_wire.specs.declared.WaveFault.{WaveFault}
-use Rattle.pr_wire.specs.declared.place.Sending.{Sending}
-use Rattle.pr_wire.specs.declared.place.Sending.TheVariants.{Data}
-use Rattle.pr_wire.specs.declared.place.Step.{Step}
-use Rattle.pr_wire.specs.declared.place.Place.{Place}
-use Rattle.pr_wire.specs.declared.place.Place.TheVariants.{Ready, Free, Pulse, After, Bit, Ack}
+use Rattle.pr_wire.specs.declared.bus_state.ByteRole.{ByteRole}
+use Rattle.pr_wire.specs.declared.bus_state.ByteRole.TheVariants.{Data}
+use Rattle.pr_wire.specs.declared.bus_state.Step.{Step}
+use Rattle.pr_wire.specs.declared.bus_state.BusState.{BusState}
+use Rattle.pr_wire.specs.declared.bus_state.BusState.TheVariants.{Ready, Free, Pulse, After, Bit, Ack}
 use Rattle.pr_wire.specs.declared.ahead.Start.{Start}
 use Rattle.pr_wire.specs.Levels.{edge_at}
 use Rattle.pr_wire.specs.Table.{atn_of}
@@ -21,12 +21,12 @@ use Rattle.pr_wire.proofs.Reached.{reached-append}
 use Rattle.pr_wire.proofs.BitPairs.{edge-is}
 
 -- DATA is released
-frees : (s : Sending) (l f : ℕ) (before : List Frame) (n : ℕ) → l + 1 ≤ f → f ≤ l + 10000
+frees : (s : ByteRole) (l f : ℕ) (before : List Frame) (n : ℕ) → l + 1 ≤ f → f ≤ l + 10000
     → one_more (behind (edge_at l (atn_of s) true false) (Ready l s) before n) (edge_at f (atn_of s) true true) ≡ Ok (behind (edge_at f (atn_of s) true true) (Free f s) before (n + 1))
 frees s l f before n h m = rw (lt-ltb l f (omega arith), same-self (atn_of s), le-ltb f (l + 1) h, le-ltb (l + 10000) f m) refl
 
 -- CLOCK is pulled, and brings the first bit
-pulls : (s : Sending) (f p : ℕ) (b : Bool) (before : List Frame) (n : ℕ) → f + 1 ≤ p → p ≤ f + 199
+pulls : (s : ByteRole) (f p : ℕ) (b : Bool) (before : List Frame) (n : ℕ) → f + 1 ≤ p → p ≤ f + 199
     → one_more (behind (edge_at f (atn_of s) true true) (Free f s) before n) (edge_at p (atn_of s) false b) ≡ Ok (behind (edge_at p (atn_of s) false b) (Bit p s false [] b) before (n + 1))
 pulls s f p b before n h m = rw (lt-ltb f p (omega arith), same-self (atn_of s), le-ltb p (f + 1) h, le-ltb (f + 199) p m) refl
 
@@ -64,7 +64,7 @@ pub record AreEdges (old : Edge) (x c l : Bool) (new : Edge) (y d m : Bool) : Ty
   pub old_is : old ≡ edge_at old.time x c l
   pub new_is : new ≡ edge_at new.time y d m
 
-behind-both : (p q : Place) (x c l y d m : Bool) (old new : Edge) (before : List Frame) (n : ℕ) → AreEdges old x c l new y d m
+behind-both : (p q : BusState) (x c l y d m : Bool) (old new : Edge) (before : List Frame) (n : ℕ) → AreEdges old x c l new y d m
     → one_more (behind (edge_at old.time x c l) p before n) (edge_at new.time y d m) ≡ Ok (behind (edge_at new.time y d m) q before (n + 1))
     → one_more (behind old p before n) new ≡ Ok (behind new q before (n + 1))
 behind-both p q x c l y d m old new before n a h =
@@ -76,7 +76,7 @@ in-is : (e : Edge) (l : Levels) (since least greatest : ℕ) → IsEdgeIn e l si
 in-is e l since least greatest k = edge-is e l.atn l.clock l.line k.atn k.clock k.line
 
 -- the first two edges of a frame
-begun : (old : Place) (s : Start) (last look free : Edge) (before : List Frame) (n : ℕ) → Begins old s → IsBegunBy last s look free
+begun : (old : BusState) (s : Start) (last look free : Edge) (before : List Frame) (n : ℕ) → Begins old s → IsBegunBy last s look free
     → reached (behind last old before n) (look ∷ free ∷ []) ≡ Ok (behind free (Free free.time s.sending) before (n + 1 + 1))
 begun old s last look free before n b o =
     let x = atn_of s.sending in
@@ -88,7 +88,7 @@ begun old s last look free before n b o =
     (frees s.sending look.time free.time before (n + 1) o.frees.from o.frees.to))
 
 -- the three edges that open a frame without end-or-identify
-opens : (old : Place) (s : Start) (last look free pull : Edge) (before : List Frame) (n : ℕ) → Begins old s → IsBegunBy last s look free → IsPulledBy s.sending free pull
+opens : (old : BusState) (s : Start) (last look free pull : Edge) (before : List Frame) (n : ℕ) → Begins old s → IsBegunBy last s look free → IsPulledBy s.sending free pull
     → reached (behind last old before n) (look ∷ free ∷ pull ∷ []) ≡ Ok (behind pull (Bit pull.time s.sending false [] pull.levels.line) before (n + 1 + 1 + 1))
 opens old s last look free pull before n b o k =
     let x = atn_of s.sending in
@@ -98,7 +98,7 @@ opens old s last look free pull before n b o k =
     (pulls s.sending free.time pull.time pull.levels.line before (n + 1 + 1) k.from k.to))
 
 -- the five edges that open a data frame with it
-opens-answered : (old : Place) (s : Start) (last look free pulse release pull : Edge) (before : List Frame) (n : ℕ) → s.sending ≡ Data → Begins old s → IsBegunBy last s look free → IsAnsweredBy free pulse release pull
+opens-answered : (old : BusState) (s : Start) (last look free pulse release pull : Edge) (before : List Frame) (n : ℕ) → s.sending ≡ Data → Begins old s → IsBegunBy last s look free → IsAnsweredBy free pulse release pull
     → reached (behind last old before n) (look ∷ free ∷ pulse ∷ release ∷ pull ∷ []) ≡ Ok (behind pull (Bit pull.time Data true [] pull.levels.line) before (n + 1 + 1 + 1 + 1 + 1))
 opens-answered old s last look free pulse release pull before n d b o k =
     let r : Reached = behind last old before n in
@@ -151,7 +151,7 @@ passes-answered last s byte (look ∷ free ∷ []) d w h o k g = absurd (omega a
 passes-answered last s byte (look ∷ free ∷ pulse ∷ []) d w h o k g = absurd (omega arith)
 passes-answered last s byte (look ∷ free ∷ pulse ∷ release ∷ []) d w h o k g = absurd (omega arith)
 passes-answered last s byte (look ∷ free ∷ pulse ∷ release ∷ pull ∷ rest) d w h o k g =
-    let f : Sending → Frame = λ z. record { attention = not (atn_of z); byte = byte; eoi = true } in
+    let f : ByteRole → Frame = λ z. record { attention = not (atn_of z); byte = byte; eoi = true } in
     record {
       passes = λ old b before n.
           let e : n + 1 + 1 + 1 + 1 + 1 + 17 ≡ n + 22 = omega arith in

@@ -3,9 +3,9 @@ use Rattle.std.specs.Prelude.{◌≡◌, ℕ, ◌+◌, ◌<◌, ◌≤◌, Bool,
 use Rattle.pr_wire.specs.declared.Edge.{Edge}
 use Rattle.pr_wire.specs.declared.Levels.{Levels}
 use Rattle.pr_wire.specs.declared.Frame.{Frame}
-use Rattle.pr_wire.specs.declared.place.Sending.{Sending}
-use Rattle.pr_wire.specs.declared.place.Place.{Place}
-use Rattle.pr_wire.specs.declared.place.Place.TheVariants.{Ready, Bit, Ack}
+use Rattle.pr_wire.specs.declared.bus_state.ByteRole.{ByteRole}
+use Rattle.pr_wire.specs.declared.bus_state.BusState.{BusState}
+use Rattle.pr_wire.specs.declared.bus_state.BusState.TheVariants.{Ready, Bit, Ack}
 use Rattle.pr_wire.specs.declared.ahead.Ahead.{Ahead}
 use Rattle.pr_wire.specs.declared.ahead.Start.{Start}
 use Rattle.pr_wire.specs.Reached.{reached, one_more}
@@ -39,11 +39,11 @@ pub record IsAcknowledged (pull ack : Edge) : Type 0 where
 
 -- the first 17 edges behind a pull of CLOCK that brings a first bit send and acknowledge this byte, the last of them ending the frame
 pub record BringsByte (pull : Edge) (edges : List Edge) (byte : ℕ) : Type 0 where
-  pub leads : (s : Sending) (eoi : Bool) (before : List Frame) (count : ℕ) → atn_of s ≡ pull.levels.atn
+  pub leads : (s : ByteRole) (eoi : Bool) (before : List Frame) (count : ℕ) → atn_of s ≡ pull.levels.atn
       → let ack : Edge = last_of edges 17 in
       reached (behind pull (Bit pull.time s eoi [] pull.levels.line) before count) (take 17 edges)
       ≡ Ok (behind ack (Ack ack.time s byte) (record { attention = not (atn_of s); byte = byte; eoi = eoi } ∷ before) (count + 17))
-  pub sooner : (s : Sending) (eoi : Bool) → atn_of s ≡ pull.levels.atn
+  pub sooner : (s : ByteRole) (eoi : Bool) → atn_of s ≡ pull.levels.atn
       → EndsNoneSooner pull (Bit pull.time s eoi [] pull.levels.line) edges 17
 
 -- an edge has these levels, and comes so long after a moment
@@ -62,7 +62,7 @@ pub record IsBegunBy (last : Edge) (s : Start) (look free : Edge) : Type 0 where
   pub frees : IsEdgeIn free (record { atn = atn_of s.sending; clock = true; line = true }) look.time 1 10000
 
 -- CLOCK is pulled, and brings the first bit of a frame without end-or-identify
-abbrev pub IsPulledBy : Sending → Edge → Edge → Type 0
+abbrev pub IsPulledBy : ByteRole → Edge → Edge → Type 0
 IsPulledBy s free pull = IsEdgeIn pull (record { atn = atn_of s; clock = false; line = pull.levels.line }) free.time 1 199
 
 -- end-or-identify is answered, and CLOCK is pulled and brings the first bit
@@ -73,7 +73,7 @@ pub record IsAnsweredBy (free pulse release pull : Edge) : Type 0 where
   pub pulls : IsEdgeIn pull (record { atn = true; clock = false; line = pull.levels.line }) release.time 1 60
 
 -- from a place a release of CLOCK in time leads into a frame
-abbrev pub Begins : Place → Start → Type 0
+abbrev pub Begins : BusState → Start → Type 0
 Begins p s =
     (last look : Edge) (before : List Frame) (n : ℕ) → last.time < look.time → last.levels.clock ≡ false
     → IsEdgeIn look (record { atn = atn_of s.sending; clock = true; line = false }) s.since s.least s.greatest
@@ -81,7 +81,7 @@ Begins p s =
 
 -- from any place where a frame may begin so, so many edges lead to its acknowledgement, the last of them
 pub record PassesTo (last : Edge) (s : Start) (edges : List Edge) (len : ℕ) (a : Ahead) : Type 0 where
-  pub passes : (old : Place) → Begins old s
+  pub passes : (old : BusState) → Begins old s
       → PassesFrame last old edges len (Ack (last_of edges len).time s.sending a.byte)
       (record { attention = not (atn_of s.sending); byte = a.byte; eoi = a.eoi })
-  pub sooner : (old : Place) → Begins old s → EndsNoneSooner last old edges len
+  pub sooner : (old : BusState) → Begins old s → EndsNoneSooner last old edges len

@@ -8,7 +8,7 @@ use Rattle.pr_wire.specs.declared.WaveFault.{WaveFault}
 use Rattle.pr_wire.specs.declared.WaveFault.TheVariants.{Start}
 use Rattle.pr_wire.specs.declared.line_part.LinePart.{LinePart}
 use Rattle.pr_wire.specs.declared.line_part.LinePart.TheVariants.{Nothing}
-use Rattle.pr_wire.specs.declared.place.Place.TheVariants.{Idle}
+use Rattle.pr_wire.specs.declared.bus_state.BusState.TheVariants.{Idle}
 use Rattle.pr_wire.specs.declared.checker.Checker.{Checker}
 use Rattle.pr_wire.specs.declared.checker.Verdict.{Verdict}
 use Rattle.pr_wire.specs.declared.checker.Verdict.TheVariants.{Before, Allowed, NoStart, Flawed}
@@ -17,7 +17,7 @@ use Rattle.pr_wire.specs.LineParts.{part_with}
 use Rattle.pr_wire.specs.Reached.{Reached, begin, reached, add, led, one_more}
 use Rattle.pr_wire.specs.Table.{fault_at}
 use Rattle.pr_wire.specs.TraceText.{AreEdgeLines, IsFirstBad}
-use Rattle.pr_text.specs.Lines.{lines_of}
+use Rattle.pr_base.specs.Lines.{lines_of}
 
 -- how many lines have spelled an edge
 abbrev pub line_count : Checker → ℕ

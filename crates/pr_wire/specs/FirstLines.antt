@@ -3,7 +3,7 @@ use Rattle.std.specs.Prelude.{◌≡◌, List, ◌++◌, ℕ, length, take}
 use Rattle.pr_wire.specs.declared.first_lines.FirstLines.{FirstLines}
 use Rattle.pr_wire.specs.AheadSteps.{answered_edges}
 use Rattle.pr_wire.specs.TraceText.{AreEdgeLines}
-use Rattle.pr_text.specs.Lines.{lines_of}
+use Rattle.pr_base.specs.Lines.{lines_of}
 
 -- the first lines of a text spell these edges, whatever stands behind them; there is room for those of a frame
 pub record AreFirstLines (text : List ℕ) (f : FirstLines) : Type 0 where

@@ -1,7 +1,7 @@
 -- Machine steps: lines whose times share all digits but the last three. No reader needs to believe them.
 use Rattle.std.specs.Prelude.{◌≡◌, ℕ, ◌+◌, ◌-◌, ◌*◌, ◌<◌, ◌≤◌, List, [], ◌∷◌, true, length, take, slice_index_or}
 use Rattle.std.specs.Int.{w32, from_le_bytes}
-use Rattle.pr_text.specs.Digits.{is_digit, number_after}
+use Rattle.pr_base.specs.Digits.{is_digit, number_after}
 
 -- the four bytes from a place on, as one number
 abbrev pub word_at : List ℕ → ℕ → ℕ

@@ -5,7 +5,7 @@ use Rattle.pr_wire.specs.declared.line_part.LinePart.{LinePart}
 use Rattle.pr_wire.specs.declared.line_part.LinePart.TheVariants.{Nothing, Time, Space, Atn, Clock, Whole, Returned, Bad}
 use Rattle.pr_wire.specs.Levels.{edge_at}
 use Rattle.pr_wire.specs.TextSteps.{level_in}
-use Rattle.pr_text.specs.Digits.{is_digit}
+use Rattle.pr_base.specs.Digits.{is_digit}
 
 -- a time with one digit more
 abbrev pub time_after : ℕ → ℕ → LinePart

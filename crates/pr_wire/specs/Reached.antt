@@ -5,17 +5,17 @@ use Rattle.pr_wire.specs.declared.Edge.{Edge}
 use Rattle.pr_wire.specs.declared.Frame.{Frame}
 use Rattle.pr_wire.specs.declared.WaveFault.{WaveFault}
 use Rattle.pr_wire.specs.declared.WaveFault.TheVariants.{Start, Truncated}
-use Rattle.pr_wire.specs.declared.place.Flaw.{Flaw}
-use Rattle.pr_wire.specs.declared.place.Step.{Step}
-use Rattle.pr_wire.specs.declared.place.Place.{Place}
-use Rattle.pr_wire.specs.declared.place.Place.TheVariants.{Idle}
+use Rattle.pr_wire.specs.declared.bus_state.EdgeError.{EdgeError}
+use Rattle.pr_wire.specs.declared.bus_state.Step.{Step}
+use Rattle.pr_wire.specs.declared.bus_state.BusState.{BusState}
+use Rattle.pr_wire.specs.declared.bus_state.BusState.TheVariants.{Idle}
 use Rattle.pr_wire.specs.Pieces.{Between, Piece, AreLawful, edges_of, frames_of}
 use Rattle.pr_wire.specs.Table.{verdict, fault_at, is_start, may_end}
 
 -- how far a list of edges has come: its last edge, the place reached, the frames come by, the latest first, and its length
 pub record Reached : Type 0 where
   pub last : Option Edge
-  pub place : Place
+  pub place : BusState
   pub before : List Frame
   pub count : ℕ
 
@@ -28,12 +28,12 @@ abbrev pub first_step : Edge → Result Step WaveFault
 first_step e = if is_start e then Ok (record { place = Idle 0; frame = None }) else Err (Start 0)
 
 -- a flaw, as the fault of the edge at an index
-abbrev pub indexed : ℕ → Result Step Flaw → Result Step WaveFault
+abbrev pub indexed : ℕ → Result Step EdgeError → Result Step WaveFault
 indexed n (Ok s) = Ok s
 indexed n (Err f) = Err (fault_at f n)
 
 -- what an edge comes to behind the last one, with its index
-abbrev pub step_of : Option Edge → Place → ℕ → Edge → Result Step WaveFault
+abbrev pub step_of : Option Edge → BusState → ℕ → Edge → Result Step WaveFault
 step_of None p n e = first_step e
 step_of (Some last) p n e = indexed n (verdict last p e)
 
@@ -61,12 +61,12 @@ reached r [] = Ok r
 reached r (e ∷ es) = led (λ s. reached (onto r e s) es) (step_of r.last r.place r.count e)
 
 -- a trace may end behind the last edge, in the place reached; none ends before its first edge
-abbrev pub may_stop : Option Edge → Place → Bool
+abbrev pub may_stop : Option Edge → BusState → Bool
 may_stop None p = false
 may_stop (Some last) p = may_end p
 
 -- the fault of a list that ends behind its last edge, in the place reached, and has so many edges
-abbrev pub fault_at_stop : Option Edge → Place → ℕ → Option WaveFault
+abbrev pub fault_at_stop : Option Edge → BusState → ℕ → Option WaveFault
 fault_at_stop None p n = Some (Start 0)
 fault_at_stop (Some last) p n = if may_end p then None else Some (Truncated n)
 

@@ -1,36 +1,36 @@
 -- Trusted: the table of lawful traces: which edge may follow in each place, when, and the place that it reaches; and the first fault of a
 -- list of edges by it.
 use Rattle.std.specs.Prelude.{ℕ, ◌+◌, Bool, true, false, not, ◌&&◌, ◌==◌, nat_lt, if◌then◌else◌, List, [], ◌∷◌, ◌++◌, length, Option, Some, None, Result, Ok, Err}
-use Rattle.pr_commands.specs.Bytes as command
+use Rattle.pr_base.specs.Bytes as command
 use Rattle.pr_wire.specs.declared.Levels.{Levels}
 use Rattle.pr_wire.specs.declared.Edge.{Edge}
 use Rattle.pr_wire.specs.declared.Frame.{Frame}
-use Rattle.pr_wire.specs.declared.place.Sending.{Sending}
-use Rattle.pr_wire.specs.declared.place.Sending.TheVariants.{First, Second, Data}
+use Rattle.pr_wire.specs.declared.bus_state.ByteRole.{ByteRole}
+use Rattle.pr_wire.specs.declared.bus_state.ByteRole.TheVariants.{First, Second, Data}
 use Rattle.pr_wire.specs.declared.WaveFault.{WaveFault}
 use Rattle.pr_wire.specs.declared.WaveFault.TheVariants as fault
-use Rattle.pr_wire.specs.declared.place.Step.{Step}
-use Rattle.pr_wire.specs.declared.place.Flaw.{Flaw}
-use Rattle.pr_wire.specs.declared.place.Flaw.TheVariants.{Order, TooEarly, TooLate, Shape}
-use Rattle.pr_wire.specs.declared.place.Place.{Place}
-use Rattle.pr_wire.specs.declared.place.Place.TheVariants.{Idle, Call, Ready, Free, Pulse, After, Bit, High, Last, Ack, Freed}
+use Rattle.pr_wire.specs.declared.bus_state.Step.{Step}
+use Rattle.pr_wire.specs.declared.bus_state.EdgeError.{EdgeError}
+use Rattle.pr_wire.specs.declared.bus_state.EdgeError.TheVariants.{Order, TooEarly, TooLate, Shape}
+use Rattle.pr_wire.specs.declared.bus_state.BusState.{BusState}
+use Rattle.pr_wire.specs.declared.bus_state.BusState.TheVariants.{Idle, Call, Ready, Free, Pulse, After, Bit, High, Last, Ack, Freed}
 use Rattle.pr_wire.specs.Levels.{byte_of}
 
 -- a row of the table at an edge: the first and the last moment allowed, the place reached, and the frame that the edge ends
 pub record Row : Type 0 where
   pub earliest : ℕ
   pub latest : Option ℕ
-  pub place : Place
+  pub place : BusState
   pub frame : Option Frame
 
-abbrev pub within : ℕ → ℕ → Place → Option Row
+abbrev pub within : ℕ → ℕ → BusState → Option Row
 within low high p = Some (record { earliest = low; latest = Some high; place = p; frame = None })
 
-abbrev pub from : ℕ → Place → Option Row
+abbrev pub from : ℕ → BusState → Option Row
 from low p = Some (record { earliest = low; latest = None; place = p; frame = None })
 
 -- ATN's level while a byte is sent
-abbrev pub atn_of : Sending → Bool
+abbrev pub atn_of : ByteRole → Bool
 atn_of First = false
 atn_of Second = false
 atn_of Data = true
@@ -46,11 +46,11 @@ where_true true r = r
 where_true false r = None
 
 -- the frame of a byte that was sent
-abbrev pub frame_of : Sending → Bool → List Bool → Frame
+abbrev pub frame_of : ByteRole → Bool → List Bool → Frame
 frame_of s eoi bits = record { attention = not (atn_of s); byte = byte_of bits; eoi = eoi }
 
 -- the row of the table for an edge, by its moment and its levels of ATN, CLOCK and DATA
-abbrev pub row : Place → ℕ → Bool → Bool → Bool → Option Row
+abbrev pub row : BusState → ℕ → Bool → Bool → Bool → Option Row
 row (Idle i) t false false true = from (i + 100) (Call t false)
 row (Idle i) t _ _ _ = None
 row (Call a false) t false false false = within (a + 1) (a + 1000) (Call a true)
@@ -94,7 +94,7 @@ row (Freed r false true) t false false true = within (r + 100) (r + 1000) (Call 
 row (Freed r unlisten line) t _ _ _ = None
 
 -- a trace may end in Idle, after an attention whose last command was not UNLISTEN, and after a data byte
-abbrev pub may_end : Place → Bool
+abbrev pub may_end : BusState → Bool
 may_end (Idle i) = true
 may_end (Ack k Data byte) = true
 may_end (Freed r unlisten line) = not unlisten
@@ -110,35 +110,35 @@ is_late t None = false
 is_late t (Some high) = nat_lt high t
 
 -- what an edge at a moment comes to by its row: the place reached and the frame that it ends, or what is wrong with it
-abbrev pub timed : ℕ → Option Row → Result Step Flaw
+abbrev pub timed : ℕ → Option Row → Result Step EdgeError
 timed t None = Err Shape
 timed t (Some r) =
     if nat_lt t r.earliest then Err TooEarly
     else (if is_late t r.latest then Err TooLate else Ok (record { place = r.place; frame = r.frame }))
 
 -- what an edge comes to in a place by its row
-abbrev pub by_row : Place → Edge → Result Step Flaw
+abbrev pub by_row : BusState → Edge → Result Step EdgeError
 by_row p e = timed e.time (row p e.time e.levels.atn e.levels.clock e.levels.line)
 
 -- what an edge comes to in a place, after the edge before it
-abbrev pub verdict : Edge → Place → Edge → Result Step Flaw
+abbrev pub verdict : Edge → BusState → Edge → Result Step EdgeError
 verdict last p e =
     if (nat_lt last.time e.time && differ last.levels e.levels) then by_row p e else Err Order
 
 -- a flaw of the edge at an index
-abbrev pub fault_at : Flaw → ℕ → WaveFault
+abbrev pub fault_at : EdgeError → ℕ → WaveFault
 fault_at Order n = fault.Order n
 fault_at TooEarly n = fault.TooEarly n
 fault_at TooLate n = fault.TooLate n
 fault_at Shape n = fault.Shape n
 
 -- the fault of an edge at an index, or that of what comes after it
-abbrev pub fault_or : Result Step Flaw → ℕ → (Step → Option WaveFault) → Option WaveFault
+abbrev pub fault_or : Result Step EdgeError → ℕ → (Step → Option WaveFault) → Option WaveFault
 fault_or (Err flaw) n next = Some (fault_at flaw n)
 fault_or (Ok step) n next = next step
 
 -- the first fault of edges from a place on, after the edge before them, by the index of the first of them
-abbrev pub fault_from : ℕ → Edge → Place → List Edge → Option WaveFault
+abbrev pub fault_from : ℕ → Edge → BusState → List Edge → Option WaveFault
 fault_from n last p [] = if may_end p then None else Some (fault.Truncated n)
 fault_from n last p (e ∷ es) = fault_or (verdict last p e) n (λ step. fault_from (n + 1) e step.place es)
 

@@ -3,7 +3,7 @@ use Rattle.std.specs.Prelude.{ℕ, ◌+◌, ◌==◌, ◌&&◌, Bool, true, fals
 use Rattle.std.specs.List.{prefix_len}
 use Rattle.pr_wire.specs.declared.Levels.{Levels}
 use Rattle.pr_wire.specs.declared.line.EdgeLine.{EdgeLine}
-use Rattle.pr_text.specs.Digits.{is_digit, number_after}
+use Rattle.pr_base.specs.Digits.{is_digit, number_after}
 
 -- the time that some digits spell, where there are any and it is below 2^64
 unfoldable pub time_in : List ℕ → Option ℕ

@@ -1,8 +1,8 @@
 -- Trusted: traces as text: which texts spell which edges, which line is the first bad one, and the text that is written.
 use Rattle.std.specs.Prelude.{◌≡◌, ℕ, ◌+◌, ◌^◌, ◌<◌, Bool, true, false, List, [], ◌∷◌, ◌++◌, length, flat_map, decimal, Option, Some, None}
 use Rattle.std.specs.List.{list_all}
-use Rattle.pr_text.specs.Digits.{is_digit, number_after}
-use Rattle.pr_text.specs.Lines.{lines_of}
+use Rattle.pr_base.specs.Digits.{is_digit, number_after}
+use Rattle.pr_base.specs.Lines.{lines_of}
 use Rattle.pr_wire.specs.declared.Edge.{Edge}
 
 -- a level's digit: 1 is released

@@ -6,7 +6,7 @@ ghost use Rattle.pr_wire.specs.Laws.{LawfulIsFaultless, SpellsOnce, SpellsTheFra
 ghost use Rattle.pr_wire.specs.Table.{fault_of};
 ghost use Rattle.pr_wire.specs.Checking.{with_frame};
 
-use crate::place::Place;
+use crate::bus_state::BusState;
 use crate::{Edge, Frame, WaveFault};
 use std::alloc::Global;
 
@@ -31,7 +31,7 @@ pub fn analyse(alloc: Global, edges: &[Edge]) -> Result<Vec<Frame>, WaveFault>
     }
     let mut frames = Vec::new(alloc);
     let mut last = *first;
-    let mut place = Place::Idle(0);
+    let mut place = BusState::Idle(0);
     for i in 1..edges.len() {
         let edge = edges[i];
         let step = match place.after(last, edge) {

@@ -5,7 +5,7 @@ ghost use Rattle.pr_wire.specs.TextSteps.{ended_line_in};
 ghost use Rattle.pr_wire.specs.Fronts.{IsFront, word_at};
 
 use crate::line::{EdgeLine, read_ended, read_ended_line};
-use pr_text::is_digit;
+use pr_base::is_digit;
 
 /// The fewest and the most digits of a front: two words of four digits, which may overlap.
 const LEAST: usize = 4;

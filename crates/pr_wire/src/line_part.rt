@@ -5,7 +5,7 @@ ghost use Rattle.pr_wire.specs.LineParts.{edge_of_part, is_nothing, level_after,
 
 use crate::line::read_level;
 use crate::{Edge, Levels};
-use pr_text::is_digit;
+use pr_base::is_digit;
 
 /// What has come of a line. Times are in microseconds.
 #[derive(Clone, Copy)]

@@ -6,11 +6,12 @@ ghost use Rattle.pr_cli.specs.Watched.{has_failed};
 use crate::cli::pictures::{drawn, sheet_alone};
 use pr_basic::StatusMode;
 use pr_bus::Delays;
-use pr_capture::{Signals, write_vcd};
+use pr_capture::{Signals, Source, TraceFormat, TraceInput, write_vcd};
 use pr_cli::{
-    CliFault, Ending, Format, Report, Source, TraceFormat, TraceInput, Watched, bus_over,
-    check_as_over, check_over, pages_over, raw_over,
+    CliFault, Ending, Watched, bus_over, check_as_over, check_over, pages_over, raw_over,
 };
+use pr_render::Format;
+use pr_report::Report;
 use pr_serial::Present;
 use pr_wire::example::TRACE_TEXT;
 use pr_wire::{Choices, read_trace};
@@ -107,7 +108,7 @@ pub const PAGES: Call = Call::Pages(BOTH, Format::List);
 pub enum Wanted {
     /// This one.
     Text(&'static str),
-    /// The picture of the script's pages, as `pr_picture` draws it.
+    /// The picture of the script's pages, as `pr_render` draws it.
     Picture,
     /// The picture of the script's page of printer 4, and of nothing else.
     Sheet,

@@ -5,9 +5,9 @@ ghost use Rattle.pr_cli.specs.Watched.{has_failed};
 
 use crate::cli::calls::{EXAMPLE_LINES, HI, HI_BYTES, usual};
 use crate::cli::slow::SlowReader;
-use pr_cli::{
-    BLOCK, CliFault, Report, Source, Watched, check_input, print_input, read_whole, report_input,
-};
+use pr_capture::Source;
+use pr_cli::{BLOCK, CliFault, Watched, check_input, print_input, read_whole, report_input};
+use pr_report::Report;
 use pr_wire::example::TRACE_TEXT;
 use std::alloc::Global;
 use std::io;

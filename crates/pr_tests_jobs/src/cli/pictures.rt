@@ -2,8 +2,9 @@
 
 use crate::cli::calls::{BOTH, Call, HI, NONE, typical};
 use pr_basic::{StatusMode, read_script};
-use pr_cli::{Ending, Format, pages_text};
+use pr_cli::{Ending, pages_text};
 use pr_page::Sequence;
+use pr_render::Format;
 use pr_serial::Present;
 use pr_system::{Outcome, run};
 use std::alloc::Global;
@@ -29,13 +30,13 @@ fn outcome(alloc: Global, script: &str, present: Present) -> Option<Outcome> {
 /// The picture of a script's pages.
 pub fn drawn(alloc: Global, script: &str, present: Present) -> Option<Vec<u8>> {
     let outcome = outcome(alloc, script, present)?;
-    pr_picture::svg(alloc, &outcome, present).ok()
+    pr_render::svg(alloc, &outcome, present).ok()
 }
 
 /// The picture of a script's page of printer 4, and of nothing else of its outcome.
 pub fn sheet_alone(alloc: Global, script: &str) -> Option<Vec<u8>> {
     let outcome = only_paper(alloc, outcome(alloc, script, BOTH)?);
-    pr_picture::svg(alloc, &outcome, FOUR).ok()
+    pr_render::svg(alloc, &outcome, FOUR).ok()
 }
 
 /// The paper of an outcome, and nothing else of it.

@@ -2,7 +2,7 @@
 
 use crate::cli::calls::{Call, HI, PAGES, Row, rows};
 use crate::cli::slow::{SlowReader, SlowWriter};
-use pr_cli::{BLOCK, CliFault, Ending, Kept, Watched};
+use pr_cli::{BLOCK, CliFault, Ending, TeeReader, Watched};
 use std::alloc::{AllocError, Global};
 use std::io::Read;
 use std::process::Abort;
@@ -130,7 +130,7 @@ fn long_text(rt: HostRuntime) {
 /// What is kept of the script where this read fails, and whether it was read whole.
 fn kept_of(alloc: Global, fail_at: usize, is_kept: bool) -> (Option<Vec<u8>>, bool) {
     let reader = SlowReader::new(HI.as_bytes(), fail_at);
-    let mut input = Watched::new(Kept::new(alloc, reader, is_kept));
+    let mut input = Watched::new(TeeReader::new(alloc, reader, is_kept));
     let mut output = Watched::new(Vec::new(alloc));
     let is_whole = PAGES.make(alloc, &mut input, &mut output).is_ok();
     (input.into_inner().into_bytes(), is_whole)

@@ -1,8 +1,9 @@
 //! Traces and recordings that are refused: the story up to there is written, and of frames nothing.
 
 use crate::cli::calls::{Call, ONE_ATTENTION, ONE_ATTENTION_TABLE};
-use pr_capture::{CaptureFault, Wire};
-use pr_cli::{CliFault, Report, Source};
+use pr_capture::{CaptureFault, Source, Wire};
+use pr_cli::CliFault;
+use pr_report::Report;
 use pr_wire::{TraceFault, WaveFault};
 use std::alloc::Global;
 

@@ -2,7 +2,7 @@
 
 use crate::same::same;
 use crate::traces::{FRAMES, example};
-use pr_wire::{Edge, Flaw, Frame, Levels, Place, WaveFault};
+use pr_wire::{BusState, Edge, EdgeError, Frame, Levels, WaveFault};
 use std::test::Fail;
 
 /// An edge to these levels.
@@ -15,11 +15,11 @@ const fn edge(time: u64, atn: bool, clock: bool, line: bool) -> Edge {
 
 /// Calls a printer that does not answer, and then pulls DATA. Gives the frame of the call, whether a
 /// trace may end behind the call and behind its end, and the fault of the last edge.
-fn unanswered_call() -> Result<(Option<Frame>, bool, bool, Option<WaveFault>), Flaw> {
+fn unanswered_call() -> Result<(Option<Frame>, bool, bool, Option<WaveFault>), EdgeError> {
     let called = edge(100, false, false, true);
     let released = edge(1100, true, true, true);
     let pulled = edge(1101, true, true, false);
-    let call = Place::Idle(0).after(edge(0, true, true, true), called)?;
+    let call = BusState::Idle(0).after(edge(0, true, true, true), called)?;
     let idle = call.place.after(called, released)?;
     let flaw = idle.place.after(released, pulled).err();
     Ok((
@@ -41,7 +41,7 @@ fn steps_of_an_unanswered_call(rt: HostRuntime) {
 #[test]
 fn a_place_advances_over_the_example_trace(rt: HostRuntime) -> Result<(), Fail> {
     let edges = example(&rt)?;
-    let mut place = Place::Idle(0);
+    let mut place = BusState::Idle(0);
     let mut frames = Vec::new(rt.alloc());
     for i in 1..edges.len() {
         let Ok(frame) = place.advance(edges[i - 1], edges[i]) else {

@@ -4,7 +4,7 @@ ghost use Rattle.std.specs.Prelude.{◌≡◌, ◌<◌, ◌≤◌, true, length,
 ghost use Rattle.pr_wire.specs.Ahead.{PassesFrame, EndsNoneSooner};
 
 use super::{Ahead, Start, WholeFrame, frame_ahead};
-use crate::place::Place;
+use crate::bus_state::BusState;
 use crate::{Edge, Frame};
 
 impl Start {
@@ -20,14 +20,14 @@ impl Start {
     }
 }
 
-impl Place {
+impl BusState {
     /// Goes over the edges of a whole frame at once from two places, behind the same edge, where it
-    /// begins in both in the same way: as [`Place::pass_frame`] from each of them, with one test of
+    /// begins in both in the same way: as [`BusState::pass_frame`] from each of them, with one test of
     /// the edges. Otherwise both places stay as they are. It may go over none.
     #[inline(always)]
     pub fn pass_frame_with(
         &mut self,
-        other: &mut Place,
+        other: &mut BusState,
         last: Edge,
         edges: &[Edge],
     ) -> Option<WholeFrame>
@@ -48,8 +48,8 @@ impl Place {
         }
         let Ahead { byte, eoi } = frame_ahead(last, start, edges, len)?;
         let ack = edges[len - 1].time;
-        *self = Place::Ack(ack, start.sending, byte);
-        *other = Place::Ack(ack, start.sending, byte);
+        *self = BusState::Ack(ack, start.sending, byte);
+        *other = BusState::Ack(ack, start.sending, byte);
         let attention = !start.sending.atn();
         let frame = Frame {
             attention,

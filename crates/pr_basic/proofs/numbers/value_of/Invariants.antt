@@ -1,5 +1,5 @@
 use Rattle.std.proofs.Common.{◌≡◌, ◌≤◌, drop, min}
-use Rattle.pr_text.specs.Digits.{number_after, number_of}
+use Rattle.pr_base.specs.Digits.{number_after, number_of}
 use Rattle.pr_basic.proofs.numbers.value_of.Given as goal
 
 -- the number so far leads to the number of all, as far as it is told

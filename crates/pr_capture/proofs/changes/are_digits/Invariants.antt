@@ -1,6 +1,6 @@
 use Rattle.std.proofs.Common.{◌≡◌, drop}
 use Rattle.std.specs.List.{list_all}
-use Rattle.pr_text.specs.Digits.{is_digit}
+use Rattle.pr_base.specs.Digits.{is_digit}
 use Rattle.pr_capture.proofs.changes.are_digits.Given as goal
 
 -- the bytes left decide

@@ -1,5 +1,5 @@
 use Rattle.std.proofs.Common.{◌≡◌, ◌+◌, length}
-use Rattle.pr_wire.specs.declared.place.Place.TheVariants.{Idle}
+use Rattle.pr_wire.specs.declared.bus_state.BusState.TheVariants.{Idle}
 use Rattle.pr_wire.specs.Table.{fault_from}
 use Rattle.pr_explain.proofs.edges.follow.Given as goal
 

@@ -5,7 +5,7 @@ use Rattle.std.proofs.lemmas.Bool.{eqb-false}
 use Rattle.std.proofs.lemmas.Iterator.Consumers.{YieldsList-turn, YieldsList-end}
 use Rattle.std.proofs.lemmas.Iterator.Splits.{YieldsList-from_str_split}
 use Rattle.std.proofs.lemmas.List.{length_push}
-use Rattle.pr_text.specs.Digits.{number_of}
+use Rattle.pr_base.specs.Digits.{number_of}
 use Rattle.pr_options.specs.DelayLists.{is_raw_number}
 use Rattle.pr_options.proofs.DelayLemmas.{IsRead, all_read, cut_at, numbers_kept, words_bad, words_cut, words_kept}
 use Rattle.pr_options.proofs.delays.read_list.Goals as goal

@@ -1,6 +1,6 @@
 use Rattle.std.proofs.Common.{sym, ◌∙◌, arith, ap}
 use Rattle.std.specs.List.{list_all}
-use Rattle.pr_text.specs.Digits.{is_digit}
+use Rattle.pr_base.specs.Digits.{is_digit}
 use Rattle.pr_options.proofs.DelayLemmas.{number_given}
 use Rattle.pr_options.proofs.delays.read_number.Goals as goal
 

@@ -1,5 +1,5 @@
 use Rattle.std.proofs.Common.{◌≡◌}
-use Rattle.pr_measure.specs.Taking.{number_taken}
+use Rattle.pr_report.specs.Taking.{number_taken}
 use Rattle.pr_tests_forms.proofs.surveys.summary.Given as goal
 
 -- so many were taken as the loop has passed

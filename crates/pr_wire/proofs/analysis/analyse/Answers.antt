@@ -1,6 +1,6 @@
 use Rattle.std.proofs.Common.{List, Some, sym, subst, ap, ◌∙◌}
 use Rattle.pr_wire.specs.declared.Frame.{Frame}
-use Rattle.pr_wire.specs.declared.place.Place.TheVariants.{Idle}
+use Rattle.pr_wire.specs.declared.bus_state.BusState.TheVariants.{Idle}
 use Rattle.pr_wire.proofs.Reached.{HasCome, come-start, come-step, come-flaw, come-end, come-cut, faulty}
 use Rattle.pr_wire.proofs.analysis.analyse.Goals as goal
 

@@ -1,5 +1,5 @@
 use Rattle.std.proofs.Common.{◌≡◌, ◌<◌, ◌^◌, drop}
-use Rattle.pr_text.specs.Digits.{number_after}
+use Rattle.pr_base.specs.Digits.{number_after}
 use Rattle.pr_wire.proofs.line.read_time.Given as goal
 
 -- the number so far leads to the number of all

@@ -1,5 +1,0 @@
-use Rattle.pr_capture.proofs.Gathering.{gathered-all}
-use Rattle.pr_capture.proofs.gatherer.Gatherer.finish.Goals as goal
-
-pub returns : goal.returns
-returns c = gathered-all c.args.self _ c.edge_at_end.ensures

@@ -1,0 +1,35 @@
+//! The formats of traces: how one is written, and how an input says one.
+
+use crate::signals::Signals;
+
+/// How the trace of a run is written (profile).
+#[derive(Clone, Copy, Debug, PartialEq, Eq)]
+pub enum TraceFormat {
+    /// The trace text, a line for each edge.
+    Text,
+    /// A Value Change Dump, for viewers of waves and for sigrok.
+    Vcd,
+}
+
+/// The format of a trace that is checked (profile).
+#[derive(Clone, Copy, Debug, PartialEq, Eq)]
+pub enum Source {
+    /// The trace text, as `print1525 bus` writes it.
+    Text,
+    /// A Value Change Dump.
+    Vcd,
+    /// A table of comma separated values, as logic analysers export them.
+    Csv,
+}
+
+/// The trace that is checked, and how it is to be read.
+#[derive(Clone, Copy)]
+pub struct TraceInput<'a> {
+    pub source: Source,
+    /// Which signals of a recording are the lines of the bus. With [`Source::Text`] they are those of
+    /// no option.
+    pub signals: Signals<'a>,
+    /// The moment of the recording at which the trace starts, in microseconds. With [`Source::Text`]
+    /// it is 0.
+    pub start: u64,
+}

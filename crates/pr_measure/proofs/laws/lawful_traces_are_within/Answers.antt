@@ -1,5 +1,0 @@
-use Rattle.pr_measure.proofs.Lawful.{lawful-within}
-use Rattle.pr_measure.proofs.laws.lawful_traces_are_within.Goals as goal
-
-pub returns : goal.returns
-returns c = lawful-within c.traces_are_read.ensures.moments

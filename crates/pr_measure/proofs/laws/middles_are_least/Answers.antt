@@ -1,5 +1,0 @@
-use Rattle.pr_measure.proofs.Middle.{middle-least}
-use Rattle.pr_measure.proofs.laws.middles_are_least.Goals as goal
-
-pub returns : goal.returns
-returns c = middle-least

@@ -1,6 +1,0 @@
-use Rattle.std.proofs.Common.{◌≡◌, ◌++◌}
-use Rattle.std.specs.Prelude.{replicate}
-use Rattle.pr_picture.proofs.adding.push_blanks.Given as goal
-
-abbrev pub invariant-loop-blank : goal.invariant-loop-blank
-invariant-loop-blank l = l.text.items ≡ l.fn.text.items ++ replicate l._blank 32

@@ -1,6 +1,0 @@
-use Rattle.std.proofs.Common.{◌≡◌, ◌++◌}
-use Rattle.pr_picture.specs.Plain.{empty_lines}
-use Rattle.pr_picture.proofs.plain.push_empty_lines.Given as goal
-
-abbrev pub invariant-loop-line : goal.invariant-loop-line
-invariant-loop-line l = l.text.items ≡ l.fn.text.items ++ empty_lines l._line

@@ -1,0 +1,12 @@
+//! The formats of pages.
+
+/// How a page is written (profile).
+#[derive(Clone, Copy, Debug, PartialEq, Eq)]
+pub enum Format {
+    /// The page text, a line for each row and each mark.
+    List,
+    /// Lines of 80 columns behind a margin of one, for a terminal, mail and `diff`.
+    Lines,
+    /// An SVG document, for a browser.
+    Picture,
+}

@@ -1,0 +1,121 @@
+//! Pages as plain text: lines of 80 columns, and sentences. All of the format is this project's own
+//! choice (profile).
+
+ghost use Rattle.std.specs.Prelude.{◌≡◌, ◌++◌, OnOk, IfOk};
+ghost use Rattle.pr_render.specs.Words.{text_if};
+ghost use Rattle.pr_render.specs.Plain.{empty_lines, held_line, rows_text, sentence, sheet_text, stop_sentence, text_of};
+
+use crate::adding::{push_numbers, push_small, stop_name};
+use crate::columns::push_line;
+use pr_channels::Stop;
+use pr_page::{NoMemory, Paper, Placed, Row};
+use pr_serial::Present;
+use pr_system::Outcome;
+use std::alloc::{AllocError, Global};
+
+/// Adds lines without marks.
+fn push_empty_lines(text: &mut Vec<u8>, count: u128) -> Result<(), AllocError>
+    ensures { OnOk result (text.new.items ≡ text.old.items ++ empty_lines count) }
+{
+    for _line in 0..count {
+        text.extend_from_slice(b"|\n")?;
+    }
+    Ok(())
+}
+
+/// Adds the lines of rows, and the empty lines between them.
+fn push_rows(text: &mut Vec<u8>, rows: &[Row]) -> Result<(), AllocError>
+    ensures { OnOk result (text.new.items ≡ text.old.items ++ rows_text 0 rows.now) }
+{
+    let mut empty = 0;
+    for row in rows {
+        let y = u128::from(row.y);
+        push_empty_lines(text, y.saturating_sub(empty) / 21)?;
+        push_line(text, b"|", row.marks.as_slice())?;
+        empty = y + 21;
+    }
+    Ok(())
+}
+
+/// Adds the line of the marks held, if there are any.
+fn push_held(text: &mut Vec<u8>, held: &[Placed]) -> Result<(), AllocError>
+    ensures { OnOk result (text.new.items ≡ text.old.items ++ held_line held.now) }
+{
+    if held.is_empty() {
+        return Ok(());
+    }
+    push_line(text, b":", held)
+}
+
+/// Adds a printer's sheet.
+#[tactic(auto, unfolding(crate::specs::Plain::sheet_text))]
+fn push_sheet(text: &mut Vec<u8>, device: u64, paper: &Paper) -> Result<(), AllocError>
+    ensures { OnOk result (text.new.items ≡ text.old.items ++ sheet_text device paper.now) }
+{
+    text.extend_from_slice(b"Printer ")?;
+    push_small(text, device)?;
+    text.push(b'\n')?;
+    push_rows(text, paper.rows.as_slice())?;
+    push_held(text, paper.held.as_slice())
+}
+
+/// Adds a printer's sheet if the printer is there.
+fn push_sheet_if(
+    text: &mut Vec<u8>,
+    present: bool,
+    device: u64,
+    paper: &Paper,
+) -> Result<(), AllocError>
+    ensures { OnOk result (text.new.items ≡ text.old.items ++ text_if present (sheet_text device paper.now)) }
+{
+    if present {
+        push_sheet(text, device, paper)?;
+    }
+    Ok(())
+}
+
+/// Adds a sentence of numbers, if there are any.
+#[tactic(auto, unfolding(crate::specs::Plain::sentence))]
+fn push_sentence(text: &mut Vec<u8>, name: &[u8], numbers: &[u8]) -> Result<(), AllocError>
+    ensures { OnOk result (text.new.items ≡ text.old.items ++ sentence name.now numbers.now) }
+{
+    if numbers.is_empty() {
+        return Ok(());
+    }
+    text.extend_from_slice(name)?;
+    push_numbers(text, b"\n", numbers)?;
+    text.extend_from_slice(b".\n")
+}
+
+/// Adds the sentence of a stop, if there is one.
+#[tactic(auto, unfolding(crate::specs::Plain::stop_sentence))]
+fn push_stop(text: &mut Vec<u8>, stop: Option<(usize, Stop)>) -> Result<(), AllocError>
+    ensures { OnOk result (text.new.items ≡ text.old.items ++ stop_sentence stop) }
+{
+    let Some((place, stop)) = stop else {
+        return Ok(());
+    };
+    text.extend_from_slice(stop_name(stop))?;
+    text.extend_from_slice(b" in statement ")?;
+    push_small(text, place as u64)?;
+    text.extend_from_slice(b".\n")
+}
+
+/// The pages of the printers that are there as UTF-8 lines of 80 columns behind a margin of one, a row
+/// a line and empty paper in lines, and then the statuses, the screen's bytes and the stop as sentences.
+///
+/// # Errors
+///
+/// [`NoMemory`] where memory was refused.
+#[tactic(auto, unfolding(crate::specs::Plain::text_of))]
+pub fn text(alloc: Global, outcome: &Outcome, present: Present) -> Result<Vec<u8>, NoMemory>
+    ensures { IfOk result (λ text. text.items ≡ text_of outcome.now present) }
+{
+    let mut text = Vec::new(alloc);
+    push_sheet_if(&mut text, present.four, 4, &outcome.paper4)?;
+    push_sheet_if(&mut text, present.five, 5, &outcome.paper5)?;
+    push_sentence(&mut text, b"Statuses:", outcome.statuses.as_slice())?;
+    push_sentence(&mut text, b"Screen:", outcome.screen.as_slice())?;
+    push_stop(&mut text, outcome.stop)?;
+    Ok(text)
+}

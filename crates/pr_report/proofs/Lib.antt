@@ -1,0 +1,12 @@
+pub mod Told
+pub mod Spelled
+pub mod PiecesTold
+pub mod WholeStory
+pub mod Sums
+pub mod Middle
+pub mod Tallied
+pub mod Parts
+pub mod Surveyed
+pub mod Lines
+pub mod Lawful
+pub mod Stories

@@ -1,0 +1,12 @@
+pub mod Moments
+pub mod PieceMoments
+pub mod StoryText
+pub mod Telling
+pub mod StoryLaws
+pub mod Intervals
+pub mod ReadingText
+pub mod Summary
+pub mod Steps
+pub mod Taking
+pub mod ReadingLaws
+pub mod Verdict

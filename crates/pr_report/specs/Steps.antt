@@ -1,0 +1,41 @@
+-- Machine steps: what a tally keeps of lengths, and what one length more comes to. No reader needs to believe them.
+use Rattle.std.specs.Prelude.{◌≡◌, ℕ, ◌+◌, ◌-◌, ◌^◌, ◌<◌, ◌==◌, cond, min, max, nat_le, Bool, List, [], ◌∷◌, length, get_or, Option, Some, None, codes, if◌then◌else◌}
+use Rattle.pr_report.specs.declared.tally.Tally.{Tally}
+use Rattle.pr_report.specs.Intervals.{is_outside}
+use Rattle.pr_report.specs.Summary.{figures_text}
+
+-- a count, with one more where a test holds
+abbrev pub counted : Bool → ℕ → ℕ
+counted test n = min (n + cond test 1 0) (2 ^ 64 - 1)
+
+-- the counter of n, with a length more
+abbrev pub counter_with : (more n : ℕ) → ℕ → ℕ
+counter_with more n counter = if n == more then min (counter + 1) (2 ^ 64 - 1) else counter
+
+-- the least of some lengths and one more, by how many they are
+abbrev pub least_with : (count : ℕ) → ℕ → ℕ → ℕ
+least_with count low more = if count == 0 then more else min low more
+
+-- the first length at which the counters make at least half, from n on, behind so many
+abbrev pub first_half : (count so_far n : ℕ) → List ℕ → Option ℕ
+first_half count so_far n [] = None
+first_half count so_far n (c ∷ cs) =
+    if nat_le (count - min (so_far + c) (2 ^ 64 - 1)) (min (so_far + c) (2 ^ 64 - 1)) then Some n
+    else first_half count (min (so_far + c) (2 ^ 64 - 1)) (n + 1) cs
+
+-- a tally takes a length
+pub record Adds (n : ℕ) (old new : Tally) : Type 0 where
+  pub interval : new.interval ≡ old.interval
+  pub count : new.count ≡ min (old.count + 1) (2 ^ 64 - 1)
+  pub least : new.least ≡ least_with old.count old.least n
+  pub greatest : new.greatest ≡ max old.greatest n
+  pub outside : new.outside ≡ counted (is_outside old.interval n) old.outside
+  pub room : length new.counters.items ≡ length old.counters.items
+  pub counters : (k : ℕ) → k < length old.counters.items
+      → get_or new.counters.items k 0 ≡ counter_with n k (get_or old.counters.items k 0)
+
+-- what a tally tells
+abbrev pub known_text : Tally → List ℕ
+known_text t =
+    if t.count == 0 then codes ": none"
+    else figures_text t.interval t.count t.least (first_half t.count 0 0 t.counters.items) t.greatest t.outside

@@ -1,0 +1,110 @@
+-- Trusted: the story of edges as text: a line for each frame that they end, and `lawful` where they are a lawful trace.
+use Rattle.std.specs.Prelude.{ℕ, ◌+◌, ◌/◌, ◌%◌, ◌==◌, ◌&&◌, Bool, true, false, nat_lt, drop, length, List, [], ◌∷◌, ◌++◌, Option, Some, None, codes, decimal, if◌then◌else◌}
+use Rattle.pr_base.specs.Bytes as command
+use Rattle.pr_wire.specs.declared.Edge.{Edge}
+use Rattle.pr_wire.specs.declared.WaveFault.{WaveFault}
+use Rattle.pr_wire.specs.declared.bus_state.ByteRole.{ByteRole}
+use Rattle.pr_wire.specs.declared.bus_state.ByteRole.TheVariants.{First, Second, Data}
+use Rattle.pr_wire.specs.Table.{fault_of}
+use Rattle.pr_report.specs.declared.timed_frame.TimedFrame.{TimedFrame}
+use Rattle.pr_report.specs.Moments.{timed_frames}
+
+-- the blanks before a number of so many digits in a column of 12; before a longer number there are none
+abbrev pub blanks : (digits : ℕ) → List ℕ
+blanks digits = drop digits (codes "            ")
+
+-- a moment in microseconds, in decimal at the right of a column
+abbrev pub moment : ℕ → List ℕ
+moment time = blanks (length (decimal time)) ++ decimal time
+
+-- a hexadecimal digit
+abbrev pub hex_digit : ℕ → ℕ
+hex_digit n = if nat_lt n 10 then n + 48 else n + 55
+
+-- a byte in hexadecimal, between two blanks on each side
+abbrev pub hex_column : ℕ → List ℕ
+hex_column byte = codes "  $" ++ hex_digit (byte / 16) ∷ hex_digit (byte % 16) ∷ codes "  "
+
+-- what a command says
+abbrev pub command_text : ℕ → List ℕ
+command_text byte =
+    if byte == command.unlisten then codes "UNLISTEN"
+    else (if byte / 32 == 1 then codes "LISTEN " ++ decimal (byte % 32)
+    else (if byte / 16 == 6 then codes "SECOND " ++ decimal (byte % 16)
+    else (if byte / 16 == 14 then codes "CLOSE " ++ decimal (byte % 16)
+    else codes "command " ++ decimal byte)))
+
+-- the name of one of the printer's control codes; other bytes have none
+abbrev pub control_name : ℕ → List ℕ
+control_name byte =
+    if byte == 8 then codes "graphic mode"
+    else (if byte == 10 then codes "line feed"
+    else (if byte == 13 then codes "return"
+    else (if byte == 14 then codes "double width"
+    else (if byte == 15 then codes "standard width"
+    else (if byte == 16 then codes "column"
+    else (if byte == 17 then codes "lower case"
+    else (if byte == 18 then codes "reverse on"
+    else (if byte == 26 then codes "repeat"
+    else (if byte == 27 then codes "escape"
+    else (if byte == 145 then codes "upper case"
+    else (if byte == 146 then codes "reverse off"
+    else [])))))))))))
+
+-- a byte by its name, or by its number where it has none
+abbrev pub name_or_number : List ℕ → ℕ → List ℕ
+name_or_number [] byte = codes "byte " ++ decimal byte
+name_or_number (c ∷ cs) byte = c ∷ cs
+
+-- what a data byte says: a character of ASCII in apostrophes, and an apostrophe in quotation marks
+abbrev pub data_text : ℕ → List ℕ
+data_text byte =
+    if byte == 39 then codes "\"'\""
+    else (if (nat_lt 31 byte && nat_lt byte 127) then 39 ∷ byte ∷ 39 ∷ []
+    else name_or_number (control_name byte) byte)
+
+-- what a frame says
+abbrev pub saying : ByteRole → ℕ → List ℕ
+saying First byte = command_text byte
+saying Second byte = command_text byte
+saying Data byte = data_text byte
+
+-- the end of a line
+abbrev pub line_end : (eoi : Bool) → List ℕ
+line_end true = codes ", end-or-identify\n"
+line_end false = codes "\n"
+
+-- a frame's line
+unfoldable pub frame_line : TimedFrame → List ℕ
+frame_line f = moment f.look ++ codes " " ++ moment f.acknowledged ++ hex_column f.byte ++ saying f.sending f.byte ++ line_end f.eoi
+
+-- what sets attentions apart: a word before each, and one before data bytes that follow no data byte
+abbrev pub heading : (behind_data : Bool) → ByteRole → List ℕ
+heading behind_data First = codes "attention\n"
+heading behind_data Second = []
+heading true Data = []
+heading false Data = codes "data\n"
+
+-- a frame's lines, by whether it follows a data byte
+unfoldable pub story_line : (behind_data : Bool) → TimedFrame → List ℕ
+story_line behind_data f = heading behind_data f.sending ++ frame_line f
+
+-- a frame is a data byte
+abbrev pub is_data : ByteRole → Bool
+is_data First = false
+is_data Second = false
+is_data Data = true
+
+-- the lines of frames
+abbrev pub story_lines : (behind_data : Bool) → List TimedFrame → List ℕ
+story_lines behind_data [] = []
+story_lines behind_data (f ∷ fs) = story_line behind_data f ++ story_lines (is_data f.sending) fs
+
+-- the last line, by the fault of the edges: only where they have none
+abbrev pub last_line : Option WaveFault → List ℕ
+last_line None = codes "lawful\n"
+last_line (Some fault) = []
+
+-- the story of edges
+unfoldable pub story_of : List Edge → List ℕ
+story_of edges = story_lines false (timed_frames edges) ++ last_line (fault_of edges)

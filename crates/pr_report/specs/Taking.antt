@@ -1,0 +1,64 @@
+-- Linking words: which readings a survey has taken. The clauses of `Survey` say all that a caller needs of them. No reader needs to
+-- believe them.
+use Rattle.std.specs.Prelude.{◌≡◌, ℕ, ◌==◌, ◌<◌, ◌^◌, List, [], ◌∷◌, length, get_or}
+use Rattle.std.specs.List.{count_by}
+use Rattle.pr_decode.specs.declared.reading.Reading.{Reading}
+use Rattle.pr_decode.specs.Readings.{greatest}
+use Rattle.pr_report.specs.declared.interval.Interval.{Interval}
+use Rattle.pr_report.specs.declared.interval.Interval.TheVariants.{Ready, FirstPull, Answer, AnswerLength, PullAfterAnswer, ShortestLow, LongestLow, ShortestHigh, LongestHigh, Acknowledgement}
+use Rattle.pr_report.specs.declared.counts.Counts.{Counts}
+use Rattle.pr_report.specs.declared.survey.Survey.{Survey}
+use Rattle.pr_report.specs.declared.tally.Tally.{Tally}
+use Rattle.pr_report.specs.Intervals.{is_outside}
+use Rattle.pr_report.specs.Summary.{is_command, is_cut, is_data, is_frame, is_glitch, is_unacknowledged, least_of, lengths, told_exactly}
+
+-- the greatest of some lengths, 0 of none
+abbrev pub greatest_of : List ℕ → ℕ
+greatest_of [] = 0
+greatest_of (n ∷ ns) = greatest n ns
+
+-- how many of some lengths are n
+abbrev pub equal_to : ℕ → List ℕ → ℕ
+equal_to n ns = count_by (λ m. m == n) ns
+
+-- a tally of lengths of an interval
+pub record HasTallied (i : Interval) (ns : List ℕ) (t : Tally) : Type 0 where
+  pub interval : t.interval ≡ i
+  pub count : t.count ≡ length ns
+  pub least : t.least ≡ least_of ns
+  pub greatest : t.greatest ≡ greatest_of ns
+  pub outside : t.outside ≡ count_by (is_outside i) ns
+  pub room : length t.counters.items ≡ told_exactly
+  pub counters : (n : ℕ) → n < told_exactly → get_or t.counters.items n 0 ≡ equal_to n ns
+
+-- a tally of an interval in readings
+abbrev pub Tallies : Interval → List Reading → Tally → Type 0
+Tallies i rs t = HasTallied i (lengths i rs) t
+
+pub record HasCounted (rs : List Reading) (c : Counts) : Type 0 where
+  pub frames : c.frames ≡ count_by is_frame rs
+  pub commands : c.commands ≡ count_by is_command rs
+  pub data_bytes : c.data_bytes ≡ count_by is_data rs
+  pub unacknowledged : c.unacknowledged ≡ count_by is_unacknowledged rs
+  pub glitches : c.glitches ≡ count_by is_glitch rs
+  pub cut : c.cut ≡ count_by is_cut rs
+
+-- how many readings a survey has taken
+abbrev pub number_taken : Survey → ℕ
+number_taken s = s.taken
+
+-- these readings were taken
+pub record HasTaken (rs : List Reading) (s : Survey) : Type 0 where
+  pub taken : s.taken ≡ length rs
+  pub few : length rs < 2 ^ 64
+  pub counts : HasCounted rs s.counts
+  pub ready : Tallies Ready rs s.ready
+  pub first_pull : Tallies FirstPull rs s.first_pull
+  pub answer : Tallies Answer rs s.answer
+  pub answer_length : Tallies AnswerLength rs s.answer_length
+  pub pull_after_answer : Tallies PullAfterAnswer rs s.pull_after_answer
+  pub shortest_low : Tallies ShortestLow rs s.shortest_low
+  pub longest_low : Tallies LongestLow rs s.longest_low
+  pub shortest_high : Tallies ShortestHigh rs s.shortest_high
+  pub longest_high : Tallies LongestHigh rs s.longest_high
+  pub acknowledgement : Tallies Acknowledgement rs s.acknowledgement

@@ -1,0 +1,150 @@
+//! How many readings of each kind there are.
+
+ghost use Rattle.std.specs.Prelude.{◌≡◌, ◌+◌, ◌^◌, ◌<◌, ◌++◌, ◌∷◌, [], List, length, OnOk};
+ghost use Rattle.pr_decode.specs.declared.reading.Reading.{Reading};
+ghost use Rattle.pr_report.specs.Steps.{counted};
+ghost use Rattle.pr_report.specs.Summary.{count_line, counts_text, is_command, is_cut, is_data, is_frame, is_glitch, is_unacknowledged};
+ghost use Rattle.pr_report.specs.Taking.{HasCounted};
+
+use crate::adding::push_numbered;
+use pr_decode::{FrameEnd, IncompleteEnd, Reading};
+use pr_wire::NoMemory;
+
+/// A count, with one more where a test holds. It stays at its greatest.
+pub(crate) fn counted(count: u64, test: bool) -> u64
+    ensures { result ≡ counted test count }
+{
+    count.saturating_add(if test { 1 } else { 0 })
+}
+
+/// Whether a reading is a whole byte.
+fn is_frame(reading: &Reading) -> bool
+    ensures { result ≡ is_frame reading.now }
+{
+    match reading {
+        Reading::Frame(_, _) => true,
+        Reading::IncompleteByte(_, _) => false,
+    }
+}
+
+/// Whether a reading is a command.
+fn is_command(reading: &Reading) -> bool
+    ensures { result ≡ is_command reading.now }
+{
+    match reading {
+        Reading::Frame(transfer, _) => transfer.opening.command,
+        Reading::IncompleteByte(_, _) => false,
+    }
+}
+
+/// Whether a reading is a data byte.
+fn is_data(reading: &Reading) -> bool
+    ensures { result ≡ is_data reading.now }
+{
+    match reading {
+        Reading::Frame(transfer, _) => !transfer.opening.command,
+        Reading::IncompleteByte(_, _) => false,
+    }
+}
+
+/// Whether a reading is a whole byte that is not acknowledged.
+fn is_unacknowledged(reading: &Reading) -> bool
+    ensures { result ≡ is_unacknowledged reading.now }
+{
+    match reading {
+        Reading::Frame(_, FrameEnd::Acknowledged(_)) => false,
+        Reading::Frame(_, FrameEnd::Unacknowledged(_)) => true,
+        Reading::Frame(_, FrameEnd::Cut) => false,
+        Reading::IncompleteByte(_, _) => false,
+    }
+}
+
+/// Whether a reading is a byte begun and not ended.
+fn is_glitch(reading: &Reading) -> bool
+    ensures { result ≡ is_glitch reading.now }
+{
+    match reading {
+        Reading::Frame(_, _) => false,
+        Reading::IncompleteByte(_, _) => true,
+    }
+}
+
+/// Whether a reading is a byte, whole or not, that the end of the recording cuts.
+fn is_cut(reading: &Reading) -> bool
+    ensures { result ≡ is_cut reading.now }
+{
+    match reading {
+        Reading::Frame(_, FrameEnd::Cut) | Reading::IncompleteByte(_, IncompleteEnd::Cut) => true,
+        _ => false,
+    }
+}
+
+/// Adds the line of a count.
+fn push_count(text: &mut Vec<u8>, word: &[u8], count: u64) -> Result<(), NoMemory>
+    ensures { OnOk result (text.new.items ≡ text.old.items ++ count_line word.now count) }
+{
+    push_numbered(text, word, count)?;
+    text.extend_from_slice(b"\n")
+}
+
+/// How many readings of each kind there are.
+#[derive(Clone, Copy)]
+pub(crate) struct Counts {
+    frames: u64,
+    commands: u64,
+    data_bytes: u64,
+    unacknowledged: u64,
+    glitches: u64,
+    cut: u64,
+}
+
+impl Counts {
+    /// No reading.
+    pub fn new() -> Counts
+        ensures { HasCounted [] result }
+    {
+        Counts {
+            frames: 0,
+            commands: 0,
+            data_bytes: 0,
+            unacknowledged: 0,
+            glitches: 0,
+            cut: 0,
+        }
+    }
+
+    /// With one reading more.
+    pub fn with(self, reading: &Reading) -> Counts
+        ensures { (readings : List Reading) → length readings + 1 < 2 ^ 64 → HasCounted readings self →
+            HasCounted (readings ++ reading.now ∷ []) result }
+    {
+        let frames = counted(self.frames, is_frame(reading));
+        let commands = counted(self.commands, is_command(reading));
+        let data_bytes = counted(self.data_bytes, is_data(reading));
+        let unacknowledged = counted(self.unacknowledged, is_unacknowledged(reading));
+        let glitches = counted(self.glitches, is_glitch(reading));
+        let cut = counted(self.cut, is_cut(reading));
+        Counts {
+            frames,
+            commands,
+            data_bytes,
+            unacknowledged,
+            glitches,
+            cut,
+        }
+    }
+
+    /// Adds the lines of the counts.
+    pub fn push_lines(self, text: &mut Vec<u8>) -> Result<(), NoMemory>
+        ensures { OnOk result (text.new.items ≡ text.old.items
+            ++ counts_text self.frames self.commands self.data_bytes self.unacknowledged self.glitches self.cut) }
+    {
+        push_count(text, b"frames: ", self.frames)?;
+        push_count(text, b"commands: ", self.commands)?;
+        push_count(text, b"data bytes: ", self.data_bytes)?;
+        push_count(text, b"not acknowledged: ", self.unacknowledged)?;
+        push_count(text, b"glitches: ", self.glitches)?;
+        push_count(text, b"cut by the recording's end: ", self.cut)?;
+        Ok(())
+    }
+}

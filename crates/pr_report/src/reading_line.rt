@@ -1,0 +1,261 @@
+//! The lines of a reading. Their form is this project's own choice (profile); that of an acknowledged byte
+//! is the story's.
+
+ghost use Rattle.std.specs.Prelude.{◌≡◌, ◌++◌, OnOk};
+ghost use Rattle.pr_report.specs.Intervals.{length_of};
+ghost use Rattle.pr_report.specs.ReadingText.{after_frame, after_reading, byte_place, byte_word, cut_end, frame_text, glitch_end_text, glitch_place, is_behind_data, line_of, moment_end, outside_line, outside_lines, outside_text, reading_lines, sending_of, timed_frame};
+
+use crate::adding::push_numbered;
+use crate::interval::{INTERVALS, Interval};
+use crate::story_line::push_story_line;
+use crate::timed_frame::TimedFrame;
+use pr_base::{SECONDARY, UNLISTEN};
+use pr_decode::{FrameEnd, IncompleteEnd, Reading, Transfer};
+use pr_wire::{ByteRole, NoMemory};
+
+/// What stands before a reading, of the acknowledged bytes: it decides whether a command begins an
+/// attention, and whether a line of data bytes goes on.
+#[derive(Clone, Copy, Debug, PartialEq, Eq)]
+pub enum Preceding {
+    /// Nothing, UNLISTEN, or an attention's second command: the next command begins an attention.
+    Nothing,
+    /// Another command that began an attention: this one's second may follow.
+    Command,
+    /// A data byte.
+    Data,
+}
+
+impl Preceding {
+    /// What stands behind a reading that has this before it. A byte that is not acknowledged changes
+    /// nothing.
+    pub fn after(self, reading: &Reading) -> Preceding
+        ensures { result ≡ after_reading self reading.now }
+    {
+        match reading {
+            Reading::Frame(transfer, FrameEnd::Acknowledged(_)) => {
+                let sending = self.sending(transfer.opening.command, transfer.byte);
+                after_frame(sending, transfer.byte)
+            }
+            _ => self,
+        }
+    }
+
+    /// Which byte of the bus a frame is.
+    fn sending(self, command: bool, byte: u8) -> ByteRole
+        ensures { result ≡ sending_of self command byte }
+    {
+        if !command {
+            return ByteRole::Data;
+        }
+        match self {
+            Preceding::Nothing | Preceding::Data => ByteRole::First,
+            Preceding::Command => {
+                if byte < SECONDARY {
+                    ByteRole::First
+                } else {
+                    ByteRole::Second
+                }
+            }
+        }
+    }
+
+    /// Whether a data byte stands before.
+    fn is_data(self) -> bool
+        ensures { result ≡ is_behind_data self }
+    {
+        match self {
+            Preceding::Nothing | Preceding::Command => false,
+            Preceding::Data => true,
+        }
+    }
+
+    /// An acknowledged byte as a frame of the story.
+    fn frame(self, transfer: Transfer, acknowledged: u64) -> TimedFrame
+        ensures { result ≡ timed_frame self transfer acknowledged }
+    {
+        TimedFrame {
+            look: transfer.opening.look,
+            acknowledged,
+            sending: self.sending(transfer.opening.command, transfer.byte),
+            byte: transfer.byte,
+            eoi: transfer.opening.pulse.is_some(),
+        }
+    }
+}
+
+/// What stands behind an acknowledged byte.
+fn after_frame(sending: ByteRole, byte: u8) -> Preceding
+    ensures { result ≡ after_frame sending byte }
+{
+    match sending {
+        ByteRole::First => {
+            if byte == UNLISTEN {
+                Preceding::Nothing
+            } else {
+                Preceding::Command
+            }
+        }
+        ByteRole::Second => Preceding::Nothing,
+        ByteRole::Data => Preceding::Data,
+    }
+}
+
+/// The word for a command or a data byte.
+fn byte_word(command: bool) -> &'static [u8]
+    ensures { result.now ≡ byte_word command }
+{
+    if command { b"command " } else { b"byte " }
+}
+
+/// Adds what a byte is that is not acknowledged, and its look.
+fn push_byte_place(text: &mut Vec<u8>, transfer: Transfer) -> Result<(), NoMemory>
+    ensures { OnOk result (text.new.items ≡ text.old.items ++ byte_place transfer) }
+{
+    let word = byte_word(transfer.opening.command);
+    push_numbered(text, word, transfer.byte as u64)?;
+    push_numbered(text, b" at ", transfer.opening.look)?;
+    text.extend_from_slice(b" us")
+}
+
+/// Adds where a byte was begun and not ended, and how many bits came.
+fn push_glitch_place(text: &mut Vec<u8>, transfer: Transfer) -> Result<(), NoMemory>
+    ensures { OnOk result (text.new.items ≡ text.old.items ++ glitch_place transfer) }
+{
+    push_numbered(text, b"glitch at ", transfer.opening.look)?;
+    push_numbered(text, b" us, bits ", transfer.bits as u64)
+}
+
+/// Ends a line by a word and a moment in microseconds.
+fn push_moment_end(text: &mut Vec<u8>, word: &[u8], time: u64) -> Result<(), NoMemory>
+    ensures { OnOk result (text.new.items ≡ text.old.items ++ moment_end word.now time) }
+{
+    push_numbered(text, word, time)?;
+    text.extend_from_slice(b" us\n")
+}
+
+/// Ends a line that the end of the recording cuts.
+fn push_cut_end(text: &mut Vec<u8>) -> Result<(), NoMemory>
+    ensures { OnOk result (text.new.items ≡ text.old.items ++ cut_end) }
+{
+    text.extend_from_slice(b", cut by the recording's end\n")
+}
+
+/// Adds the line of a frame.
+fn push_frame(
+    text: &mut Vec<u8>,
+    behind: Preceding,
+    transfer: Transfer,
+    end: FrameEnd,
+) -> Result<(), NoMemory>
+    ensures { OnOk result (text.new.items ≡ text.old.items ++ frame_text behind transfer end) }
+{
+    match end {
+        FrameEnd::Acknowledged(time) => push_story_line(
+            text,
+            behind.is_data(),
+            behind.frame(transfer, time),
+        ),
+        FrameEnd::Unacknowledged(time) => {
+            push_byte_place(text, transfer)?;
+            push_moment_end(text, b", not acknowledged, given up at ", time)
+        }
+        FrameEnd::Cut => {
+            push_byte_place(text, transfer)?;
+            push_cut_end(text)
+        }
+    }
+}
+
+/// Adds what ended a byte too soon.
+fn push_glitch_end(text: &mut Vec<u8>, end: IncompleteEnd) -> Result<(), NoMemory>
+    ensures { OnOk result (text.new.items ≡ text.old.items ++ glitch_end_text end) }
+{
+    match end {
+        IncompleteEnd::Attention(time) => push_moment_end(text, b", ended by ATN at ", time),
+        IncompleteEnd::ClockTimeout(time) => push_moment_end(
+            text,
+            b", CLOCK released too long at ",
+            time,
+        ),
+        IncompleteEnd::Cut => push_cut_end(text),
+    }
+}
+
+/// Adds the line of a reading.
+fn push_line(text: &mut Vec<u8>, behind: Preceding, reading: &Reading) -> Result<(), NoMemory>
+    ensures { OnOk result (text.new.items ≡ text.old.items ++ line_of behind reading.now) }
+{
+    match reading {
+        Reading::Frame(transfer, end) => push_frame(text, behind, *transfer, *end),
+        Reading::IncompleteByte(transfer, end) => {
+            push_glitch_place(text, *transfer)?;
+            push_glitch_end(text, *end)
+        }
+    }
+}
+
+/// Adds the line of an interval that lies outside the profile's bounds.
+fn push_outside(text: &mut Vec<u8>, interval: Interval, length: u64) -> Result<(), NoMemory>
+    ensures { OnOk result (text.new.items ≡ text.old.items ++ outside_text interval length) }
+{
+    text.extend_from_slice(b"    ")?;
+    text.extend_from_slice(interval.name())?;
+    push_numbered(text, b" ", length)?;
+    push_numbered(text, b" us, the profile has ", interval.lowest())?;
+    push_numbered(text, b" to ", interval.highest())?;
+    text.extend_from_slice(b"\n")?;
+    Ok(())
+}
+
+/// Adds the line of an interval, where a reading has it and it lies outside the profile's bounds.
+fn push_if_outside(
+    text: &mut Vec<u8>,
+    interval: Interval,
+    reading: &Reading,
+) -> Result<(), NoMemory>
+    ensures { OnOk result (text.new.items ≡ text.old.items ++ outside_line interval (length_of interval reading.now)) }
+{
+    let Some(length) = interval.length(reading) else {
+        return Ok(());
+    };
+    if interval.is_outside(length) {
+        push_outside(text, interval, length)
+    } else {
+        Ok(())
+    }
+}
+
+/// Adds the lines of those of some intervals of a reading that lie outside the profile's bounds.
+fn push_all_outside(
+    text: &mut Vec<u8>,
+    intervals: &[Interval],
+    reading: &Reading,
+) -> Result<(), NoMemory>
+    ensures { OnOk result (text.new.items ≡ text.old.items ++ outside_lines intervals.now reading.now) }
+{
+    for interval in intervals {
+        push_if_outside(text, *interval, reading)?;
+    }
+    Ok(())
+}
+
+/// Adds the lines of a reading. An acknowledged byte has the story's line: the moments of its look and of
+/// its acknowledgement in microseconds, the byte in hexadecimal and what it says. A byte that is not
+/// acknowledged, and a byte begun and not ended, have lines of their own, which tell the look and what
+/// ended them, and when. Below stands a line for each interval that lies outside the profile's bounds, with its
+/// length and these bounds. `behind` tells what stands before; [`Preceding::after`] tells it of the next.
+///
+/// # Errors
+///
+/// [`NoMemory`] where a growth of the text was refused. Nothing is promised of the text then.
+#[tactic(auto, unfolding(crate::specs::ReadingText::reading_lines))]
+pub fn push_reading(
+    text: &mut Vec<u8>,
+    behind: Preceding,
+    reading: &Reading,
+) -> Result<(), NoMemory>
+    ensures { OnOk result (text.new.items ≡ text.old.items ++ reading_lines behind reading.now) }
+{
+    push_line(text, behind, reading)?;
+    push_all_outside(text, &INTERVALS, reading)
+}

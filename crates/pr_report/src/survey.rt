@@ -1,0 +1,119 @@
+//! A survey of readings: how many there are, and of each interval how many, the least, the middle, the
+//! greatest, and how many lie outside the profile's bounds.
+
+ghost use Rattle.std.specs.Prelude.{◌≡◌, ◌+◌, ◌^◌, ◌<◌, ◌++◌, ◌∷◌, [], List, IfOk, OnOk};
+ghost use Rattle.pr_decode.specs.declared.reading.Reading.{Reading};
+ghost use Rattle.pr_report.specs.Intervals.{intervals};
+ghost use Rattle.pr_report.specs.Summary.{interval_lines, summary};
+ghost use Rattle.pr_report.specs.Taking.{HasTaken, number_taken};
+
+use crate::counts::Counts;
+use crate::interval::Interval;
+use crate::tally::Tally;
+use pr_decode::Reading;
+use pr_wire::NoMemory;
+use std::alloc::Global;
+
+/// A survey of the readings of a recording. It keeps none of them: what it needs, 1.3 megabytes, it takes
+/// at first, however long the recording is.
+///
+/// Its contracts say "these readings were taken"; every call answers by all lists of which that can be
+/// said.
+#[derive(Drop)]
+pub struct Survey {
+    /// How many readings were taken.
+    taken: u64,
+    counts: Counts,
+    ready: Tally,
+    first_pull: Tally,
+    answer: Tally,
+    answer_length: Tally,
+    pull_after_answer: Tally,
+    shortest_low: Tally,
+    longest_low: Tally,
+    shortest_high: Tally,
+    longest_high: Tally,
+    acknowledgement: Tally,
+}
+
+impl Survey {
+    /// A survey that has taken no reading.
+    ///
+    /// # Errors
+    ///
+    /// [`NoMemory`] where memory was refused.
+    pub fn new(alloc: Global) -> Result<Survey, NoMemory>
+        ensures taken { IfOk result (λ survey. HasTaken [] survey) }
+        ensures count { IfOk result (λ survey. number_taken survey ≡ 0) }
+    {
+        Ok(Survey {
+            taken: 0,
+            counts: Counts::new(),
+            ready: Tally::new(alloc, Interval::Ready)?,
+            first_pull: Tally::new(alloc, Interval::FirstPull)?,
+            answer: Tally::new(alloc, Interval::Answer)?,
+            answer_length: Tally::new(alloc, Interval::AnswerLength)?,
+            pull_after_answer: Tally::new(alloc, Interval::PullAfterAnswer)?,
+            shortest_low: Tally::new(alloc, Interval::ShortestLow)?,
+            longest_low: Tally::new(alloc, Interval::LongestLow)?,
+            shortest_high: Tally::new(alloc, Interval::ShortestHigh)?,
+            longest_high: Tally::new(alloc, Interval::LongestHigh)?,
+            acknowledgement: Tally::new(alloc, Interval::Acknowledgement)?,
+        })
+    }
+
+    /// Takes one reading more. It takes no memory.
+    pub fn take(&mut self, reading: &Reading)
+        requires room { number_taken self.old + 1 < 2 ^ 64 }
+        ensures taken { (readings : List Reading) → HasTaken readings self.old → HasTaken (readings ++ reading.now ∷ []) self.new }
+        ensures count { number_taken self.new ≡ number_taken self.old + 1 }
+    {
+        self.taken += 1;
+        self.counts = self.counts.with(reading);
+        self.ready.take(reading);
+        self.first_pull.take(reading);
+        self.answer.take(reading);
+        self.answer_length.take(reading);
+        self.pull_after_answer.take(reading);
+        self.shortest_low.take(reading);
+        self.longest_low.take(reading);
+        self.shortest_high.take(reading);
+        self.longest_high.take(reading);
+        self.acknowledgement.take(reading);
+    }
+
+    /// Adds the lines of the intervals.
+    fn push_intervals(&self, text: &mut Vec<u8>) -> Result<(), NoMemory>
+        ensures { OnOk result ((readings : List Reading) → HasTaken readings self.now →
+            text.new.items ≡ text.old.items ++ interval_lines intervals readings) }
+    {
+        self.ready.push_line(text)?;
+        self.first_pull.push_line(text)?;
+        self.answer.push_line(text)?;
+        self.answer_length.push_line(text)?;
+        self.pull_after_answer.push_line(text)?;
+        self.shortest_low.push_line(text)?;
+        self.longest_low.push_line(text)?;
+        self.shortest_high.push_line(text)?;
+        self.longest_high.push_line(text)?;
+        self.acknowledgement.push_line(text)?;
+        Ok(())
+    }
+
+    /// Adds the summary of the readings taken: a line for each count, and one for each interval with how
+    /// many readings have it, its least, middle and greatest length in microseconds, and how many lie
+    /// outside the profile's bounds. The middle is the least length that at least half of them do not
+    /// exceed; from 16384 microseconds on it is told as `over 16383`.
+    ///
+    /// # Errors
+    ///
+    /// [`NoMemory`] where a growth of the text was refused. Nothing is promised of the text then.
+    pub fn push_summary(&self, text: &mut Vec<u8>) -> Result<(), NoMemory>
+        ensures { OnOk result ((readings : List Reading) → HasTaken readings self.now →
+            text.new.items ≡ text.old.items ++ summary readings) }
+    {
+        self.counts.push_lines(text)?;
+        self.push_intervals(text)?;
+        Ok(())
+    }
+}

@@ -1,0 +1,47 @@
+//! Whether a recording is lawful, in a line.
+
+ghost use Rattle.std.specs.Prelude.{◌≡◌, ◌++◌, OnOk};
+ghost use Rattle.pr_report.specs.Verdict.{fault_line, flaw_line, verdict_text};
+
+use crate::adding::push_numbered;
+use pr_wire::{NoMemory, WaveFault};
+
+/// Adds the line of an edge, and of what is wrong with it.
+fn push_flaw(text: &mut Vec<u8>, edge: usize, reason: &[u8]) -> Result<(), NoMemory>
+    ensures { OnOk result (text.new.items ≡ text.old.items ++ flaw_line edge reason.now) }
+{
+    push_numbered(text, b"not lawful: edge ", edge as u64)?;
+    text.extend_from_slice(reason)?;
+    Ok(())
+}
+
+/// Adds the line of a fault.
+fn push_fault(text: &mut Vec<u8>, fault: WaveFault) -> Result<(), NoMemory>
+    ensures { OnOk result (text.new.items ≡ text.old.items ++ fault_line fault) }
+{
+    match fault {
+        WaveFault::Start(edge) => push_flaw(text, edge, b": bad start\n"),
+        WaveFault::Order(edge) => push_flaw(text, edge, b": bad order\n"),
+        WaveFault::TooEarly(edge) => push_flaw(text, edge, b": too early\n"),
+        WaveFault::TooLate(edge) => push_flaw(text, edge, b": too late\n"),
+        WaveFault::Shape(edge) => push_flaw(text, edge, b": bad shape\n"),
+        WaveFault::Truncated(edge) => push_flaw(text, edge, b": truncated\n"),
+        WaveFault::NoMemory => text.extend_from_slice(b"not lawful: out of memory\n"),
+    }
+}
+
+/// Adds the line that says whether edges are a lawful trace, by their first fault if they have one:
+/// `lawful`, or `not lawful: edge 3: too early`, where edges count from 0 and the words are those of
+/// [`WaveFault`].
+///
+/// # Errors
+///
+/// [`NoMemory`] where a growth of the text was refused. Nothing is promised of the text then.
+pub fn push_verdict(text: &mut Vec<u8>, fault: Option<WaveFault>) -> Result<(), NoMemory>
+    ensures { OnOk result (text.new.items ≡ text.old.items ++ verdict_text fault) }
+{
+    match fault {
+        None => text.extend_from_slice(b"lawful\n"),
+        Some(fault) => push_fault(text, fault),
+    }
+}

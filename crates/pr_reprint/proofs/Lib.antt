@@ -1,4 +1,0 @@
-pub mod Adding
-pub mod Printing
-pub mod Taken
-pub mod Traces

@@ -1,3 +1,0 @@
-pub mod Reprinted
-pub mod Taking
-pub mod Laws

@@ -1,4 +1,0 @@
-pub mod Told
-pub mod Spelled
-pub mod PiecesTold
-pub mod WholeStory

@@ -1,6 +1,0 @@
-use Rattle.std.proofs.Common.{refl}
-use Rattle.pr_story.proofs.Told.{told-none}
-use Rattle.pr_story.proofs.storyteller.Storyteller.new.Goals as goal
-
-pub returns-clause-told : goal.returns-clause-told
-returns-clause-told c = told-none _ refl refl refl refl
