@@ -2,7 +2,7 @@
 """tests/readings.py [--frames|--fields] [--sigrok RULE..] < TRACE: what a recording says, by the definitions and not by the program's code.
 
 It goes through whole stretches (crates/pr_decode/specs/Readings.antt) and writes the lines of `print1525 decode`
-(crates/pr_measure/specs) but for the last, the verdict. With --frames it writes of each whole byte when it was ready, CLOCK's last
+(crates/pr_report/specs) but for the last, the verdict. With --frames it writes of each whole byte when it was ready, CLOCK's last
 pull, and the byte. The times of the trace do not go back.
 
 With --fields it writes of each reading how it ends and when, and all of its moments and bits, as `tests/calls.c` does.
