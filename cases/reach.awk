@@ -201,7 +201,7 @@ function decoded(text,   n, part, name) {
     if (text ~ /^glitch .*, CLOCK released/) ended["a glitch by CLOCK"]++
     if (text ~ /^glitch .*, cut by/) ended["a glitch cut"]++
     if (text ~ /^glitch .*, bits 0/) ended["a glitch without bits"]++
-    if (text ~ /, middle over/) ended["a middle that is not told"]++
+    if (text ~ /, middle over/) ended["a middle that is not shown"]++
     if (text !~ /^    .*, the profile has/) return
     name = text
     sub(/^    /, "", name)
@@ -368,7 +368,7 @@ END {
         "column of dots that wraps|mark over another|row 14/126 inch high|row 21/126 inch high", page)
     line_of("Cells", "plain|lower|reverse|wide|lower reverse|lower wide|reverse wide|lower reverse wide", style)
     line_of("Unfinished commands", "16|16 n|26|26 n|27|27 16|27 16 n", unfinished_by)
-    line_of("Selections inside a command, behind", "16|16 n|26|26 n|27|27 16|27 16 n", selected_behind)
+    line_of("Selections inside a command, after", "16|16 n|26|26 n|27|27 16|27 16 n", selected_behind)
     print ""
     two("stop, by status", "each", "kept")
     n = split("1 2 3 5 6", list, " ")
@@ -393,6 +393,6 @@ END {
             number(beyond[list[i], "above"], 1, list[i] " above its bounds"))
     print ""
     line_of("Bytes of recordings", "acknowledged|a byte not acknowledged|a command not acknowledged|whole and cut|" \
-        "a glitch by ATN|a glitch by CLOCK|a glitch cut|a glitch without bits|a middle that is not told", ended)
+        "a glitch by ATN|a glitch by CLOCK|a glitch cut|a glitch without bits|a middle that is not shown", ended)
     exit bad
 }
