@@ -1,4 +1,5 @@
-# Makes the inputs of the cases named made-*, always the same. usage: awk -v into=FOLDER -f generate.awk
+# Makes the inputs of the cases named made-*, always the same.
+# usage: awk -v into=FOLDER -v bounds=Delays.antt -f bounds.awk -f generate.awk
 # FOLDER has the folders page, script, delays and trace. `cases/run --make PROGRAM` then writes the answers.
 
 # Small random numbers, alike in every awk.
@@ -301,8 +302,7 @@ function delays(name, shows, statements, items, present, manner,   i, n, part, p
     end_case()
 }
 function all_delays(   i, j, n, there, manners, told, text, items, shows) {
-    split("BB 901 AW 1001 NE 199 RY 60 S 181 V 181 R 101 CR 101 AT 1000 H 10000 YE 51 EI 121 F 80 DR 60", there, " ")
-    for (i = 1; i < 28; i += 2) span[there[i]] = there[i + 1]
+    for (i in bound_least) span[i] = bound_greatest[i] - bound_least[i] + 1
     text = "OPEN 4,4:OPEN 5,5,7|CMD 4,\"A\";|PRINT#5,\"B\""
     items = "@36 65! @37,103 66 13! @63"
     split("4 5 both", there, " ")
@@ -417,16 +417,26 @@ function trace(name, shows, last,   i) {
     put("$ check")
     end_case()
 }
-# Both ends of an interval (or one of them, where the other is empty), and one microsecond outside each.
-function interval(name, shows, scenery, kind, low, high, also) {
-    lawful_ends(name, shows, scenery, kind, low, high, also)
-    refused_ends(name, shows, scenery, kind, low, high, also)
+# Both ends of an interval, and one microsecond outside each; with an end named only that one. The bounds are those of
+# the kind, unless the one end allowed is given.
+function interval(name, shows, scenery, kind, also, end, only) {
+    lawful_ends(name, shows, scenery, kind, also, end, only)
+    refused_ends(name, shows, scenery, kind, also, end, only)
 }
-function lawful_ends(name, shows, scenery, kind, low, high, also) {
+function bounds_of(kind, end, only) {
+    sub(/[0-9]+$/, "", kind)
+    low = only != "" ? only : bound_least[kind]
+    high = only != "" ? only : bound_greatest[kind]
+    if (end == "greatest") low = ""
+    if (end == "least") high = ""
+}
+function lawful_ends(name, shows, scenery, kind, also, end, only) {
+    bounds_of(kind, end, only)
     if (low != "") one_end(name "-least", shows ", " low " microseconds: the least.", scenery, kind, low, also, 0)
     if (high != "" && high != low) one_end(name "-greatest", shows ", " high " microseconds: the greatest.", scenery, kind, high, also, 0)
 }
-function refused_ends(name, shows, scenery, kind, low, high, also) {
+function refused_ends(name, shows, scenery, kind, also, end, only) {
+    bounds_of(kind, end, only)
     if (low != "" && low > 1) one_end(name "-early", shows ", " low - 1 " microseconds: too early.", scenery, kind, low - 1, also, 1)
     if (high != "") one_end(name "-late", shows ", " high + 1 " microseconds: too late.", scenery, kind, high + 1, also, 1)
 }
@@ -471,40 +481,39 @@ function faults(place, scenery, wrong, why, may_end,   i, kept, name) {
     if (!may_end) trace(name "-truncated", "In the place " place " a trace may not end.", i - 1)
 }
 function traces(   i, part) {
-    split("BB 100 AW 1000 NE 40 RY 30 S 70 V 20 R 100 CR 100 AT 100 H 50 YE 250 EI 80 F 20 DR 20", part, " ")
-    for (i = 1; i < 28; i += 2) typical[part[i]] = part[i + 1]
-    interval("idle-call", "From rest to ATN's pull", "nobody", "BB1", 100, "", "")
-    interval("call-answer", "From ATN's pull to DATA's pull", "listen", "AT1", 1, 1000, "AW1 1500")
-    interval("call-answer-at-the-look", "From ATN's pull to DATA's pull and CLOCK's release in one microsecond", "listen", "AT1", 1000, 1000, "look")
-    interval("call-nobody", "From ATN's pull to its release, where nobody answers", "nobody", "AW1", 1000, 2000, "")
-    interval("call-look", "From ATN's pull to CLOCK's release", "listen", "AW1", 1000, 2000, "")
-    lawful_ends("ready-first", "In a command, from CLOCK's release to DATA's", "listen", "H1", 1, 10000, "")
-    refused_ends("ready-data", "In a data byte, from CLOCK's release to DATA's", "data", "H2", 1, 10000, "")
-    refused_ends("free-first", "In a command, from DATA's release to CLOCK's pull", "listen", "NE1", 1, 199, "")
-    lawful_ends("free-data", "In a data byte, from DATA's release to CLOCK's pull", "letter", "NE2", 1, 199, "")
-    interval("free-pulse", "From DATA's release to the answer to end-or-identify", "data", "YE1", 200, 250, "")
-    interval("pulse", "The answer to end-or-identify, behind a wait of 250", "data", "EI1", 80, "", "")
-    interval("pulse", "The answer to end-or-identify, behind a wait of 200", "data", "EI1", "", 250, "YE1 200")
-    interval("after", "From the end of the answer to CLOCK's pull", "data", "RY1", 1, 60, "")
-    lawful_ends("bit-command", "In a command, from CLOCK's pull to its release for the third bit", "listen", "S3", 20, 200, "")
-    refused_ends("bit-data", "In a data byte, from CLOCK's pull to its release for the first bit", "letter", "S9", 20, 200, "")
-    refused_ends("high-command", "In a command, from CLOCK's release to its pull behind the first bit", "listen", "V1", 20, 200, "")
-    lawful_ends("high-data", "In a data byte, from CLOCK's release to its pull behind the seventh bit", "letter", "V15", 20, 200, "")
-    interval("high-7", "From CLOCK's release to its pull behind the last bit", "listen", "V8", 20, 200, "")
-    lawful_ends("last-first", "In a command, from CLOCK's last pull to the acknowledgement", "listen", "F1", 1, 80, "")
-    refused_ends("last-data", "In a data byte, from CLOCK's last pull to the acknowledgement", "letter", "F2", 1, 80, "")
-    interval("ack-second", "From the first command's acknowledgement to the second look", "second", "AW2", 1000, 2000, "")
-    interval("ack-first-freed", "From the command's acknowledgement to ATN's release", "listen", "R1", 100, 200, "")
-    interval("ack-second-freed", "From the second command's acknowledgement to ATN's release", "second", "R1", 100, 200, "")
-    interval("ack-data-byte", "From a data byte's acknowledgement to the next look", "two", "BB3", 100, 1000, "")
-    interval("ack-data-call", "From a data byte's acknowledgement to ATN's pull", "print", "BB3", 100, 1000, "")
-    lawful_ends("freed-released", "From ATN's release to DATA's, where no printer listens", "other", "DR1", 1, 60, "")
-    interval("freed-unlistened", "From ATN's release to DATA's behind UNLISTEN", "unlisten", "DR1", 1, 60, "")
-    interval("freed-rest", "From ATN's release to CLOCK's behind UNLISTEN", "unlisten", "CR1", 100, 200, "")
-    interval("freed-byte", "From ATN's release to the look before a byte", "letter", "BB2", 100, 1000, "")
-    interval("freed-call", "From ATN's release to its next pull, where DATA is pulled", "again", "BB2", 100, 1000, "")
-    interval("freed-dropped", "From ATN's release to CLOCK's for a byte that nobody hears", "other", "BB2", 100, 1000, "")
-    interval("freed-loose-call", "From ATN's release to its next pull, where DATA is released", "otherlisten", "BB2", 100, 1000, "")
+    for (i in bound_typical) typical[i] = bound_typical[i]
+    interval("idle-call", "From rest to ATN's pull", "nobody", "BB1", "", "least")
+    interval("call-answer", "From ATN's pull to DATA's pull", "listen", "AT1", "AW1 1500")
+    interval("call-answer-at-the-look", "From ATN's pull to DATA's pull and CLOCK's release in one microsecond", "listen", "AT1", "look", "", bound_least["AW"])
+    interval("call-nobody", "From ATN's pull to its release, where nobody answers", "nobody", "AW1", "")
+    interval("call-look", "From ATN's pull to CLOCK's release", "listen", "AW1", "")
+    lawful_ends("ready-first", "In a command, from CLOCK's release to DATA's", "listen", "H1", "")
+    refused_ends("ready-data", "In a data byte, from CLOCK's release to DATA's", "data", "H2", "")
+    refused_ends("free-first", "In a command, from DATA's release to CLOCK's pull", "listen", "NE1", "")
+    lawful_ends("free-data", "In a data byte, from DATA's release to CLOCK's pull", "letter", "NE2", "")
+    interval("free-pulse", "From DATA's release to the answer to end-or-identify", "data", "YE1", "")
+    interval("pulse", "The answer to end-or-identify, behind a wait of 250", "data", "EI1", "", "least")
+    interval("pulse", "The answer to end-or-identify, behind a wait of 200", "data", "EI1", "YE1 200", "greatest", bound_greatest["YE"] + bound_greatest["EI"] - 200)
+    interval("after", "From the end of the answer to CLOCK's pull", "data", "RY1", "")
+    lawful_ends("bit-command", "In a command, from CLOCK's pull to its release for the third bit", "listen", "S3", "")
+    refused_ends("bit-data", "In a data byte, from CLOCK's pull to its release for the first bit", "letter", "S9", "")
+    refused_ends("high-command", "In a command, from CLOCK's release to its pull behind the first bit", "listen", "V1", "")
+    lawful_ends("high-data", "In a data byte, from CLOCK's release to its pull behind the seventh bit", "letter", "V15", "")
+    interval("high-7", "From CLOCK's release to its pull behind the last bit", "listen", "V8", "")
+    lawful_ends("last-first", "In a command, from CLOCK's last pull to the acknowledgement", "listen", "F1", "")
+    refused_ends("last-data", "In a data byte, from CLOCK's last pull to the acknowledgement", "letter", "F2", "")
+    interval("ack-second", "From the first command's acknowledgement to the second look", "second", "AW2", "")
+    interval("ack-first-freed", "From the command's acknowledgement to ATN's release", "listen", "R1", "")
+    interval("ack-second-freed", "From the second command's acknowledgement to ATN's release", "second", "R1", "")
+    interval("ack-data-byte", "From a data byte's acknowledgement to the next look", "two", "BB3", "")
+    interval("ack-data-call", "From a data byte's acknowledgement to ATN's pull", "print", "BB3", "")
+    lawful_ends("freed-released", "From ATN's release to DATA's, where no printer listens", "other", "DR1", "")
+    interval("freed-unlistened", "From ATN's release to DATA's behind UNLISTEN", "unlisten", "DR1", "")
+    interval("freed-rest", "From ATN's release to CLOCK's behind UNLISTEN", "unlisten", "CR1", "")
+    interval("freed-byte", "From ATN's release to the look before a byte", "letter", "BB2", "")
+    interval("freed-call", "From ATN's release to its next pull, where DATA is pulled", "again", "BB2", "")
+    interval("freed-dropped", "From ATN's release to CLOCK's for a byte that nobody hears", "other", "BB2", "")
+    interval("freed-loose-call", "From ATN's release to its next pull, where DATA is released", "otherlisten", "BB2", "")
     split("", chosen)
     scene("othernobody")
     trace("loose-call-nobody", "Nobody answers a second attention: no frame for it.", edges - 1)
@@ -537,6 +546,7 @@ function traces(   i, part) {
     faults("Freed by UNLISTEN, released", "unlisten", "001", "ATN is pulled before CLOCK was released", 0)
 }
 BEGIN {
+    read_bounds()
     seed = 1525
     codes()
     commands()

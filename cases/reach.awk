@@ -1,43 +1,44 @@
-# What the cases reach. usage: awk [-v names=--names] -f reach.awk Table.antt CASES
+# What the cases reach. usage: awk [-v names=--names] -v bounds=Delays.antt -f bounds.awk -f reach.awk Table.antt CASES
 # It goes through each trace by a table of its own, and says if an answer is another than its own.
 
 # The table: of each row (the left side of a clause of Table.antt, where High has two) its place, the levels of the edge,
-# the first and the last moment from the place's own, and the place reached; `?` is any bit, `x` ATN's level.
-function add(left, place, edge, low, high, next_place) {
+# the delay from the place's moment to the edge (`at`: the least one exactly; `least`: no greatest one), and the place
+# reached; `?` is any bit, `x` ATN's level.
+function add(left, place, edge, kind, how, next_place) {
     rows++
     clause[rows] = left
     at[rows] = place
     wants[rows] = edge
-    least[rows] = low
-    greatest[rows] = high
+    least[rows] = bound_least[kind]
+    greatest[rows] = how == "least" ? "" : how == "at" ? bound_least[kind] : bound_greatest[kind]
     reached[rows] = next_place
 }
 function table() {
-    add("(Idle i) t false false true", "Idle", "001", 100, "", "Call released")
-    add("(Call a false) t false false false", "Call released", "000", 1, 1000, "Call pulled")
-    add("(Call a false) t false true false", "Call released", "010", 1000, 1000, "Ready")
-    add("(Call a false) t true true true", "Call released", "111", 1000, 2000, "Idle")
-    add("(Call a true) t false true false", "Call pulled", "010", 1000, 2000, "Ready")
-    add("(Ready l s) t x true true", "Ready", "x11", 1, 10000, "Free")
-    add("(Free d s) t x false b", "Free", "x0?", 1, 199, "Bit")
-    add("(Free d Data) t true true false", "Free", "110", 200, 250, "Pulse")
-    add("(Pulse p d) t true true true", "Pulse", "111", 80, "", "After")
-    add("(After q) t true false b", "After", "10?", 1, 60, "Bit")
-    add("(Bit c s eoi seen b) t x true b'", "Bit", "x1b", 20, 200, "High")
-    add("(High u s eoi seen b) t x false b'", "High", "x0?", 20, 200, "Bit")
-    add("(High u s eoi seen b) t x false b', last", "High 7", "x01", 20, 200, "Last")
-    add("(Last z s eoi seen) t x false false", "Last", "x00", 1, 80, "Ack")
-    add("(Ack k First byte) t false true false", "Ack First", "010", 1000, 2000, "Ready")
-    add("(Ack k First byte) t true false false", "Ack First", "100", 100, 200, "Freed")
-    add("(Ack k Second byte) t true false false", "Ack Second", "100", 100, 200, "Freed")
-    add("(Ack k Data byte) t true true false", "Ack Data", "110", 100, 1000, "Ready")
-    add("(Ack k Data byte) t false false false", "Ack Data", "000", 100, 1000, "Call pulled")
-    add("(Freed r unlisten false) t true false true", "Freed pulled", "101", 1, 60, "Freed released")
-    add("(Freed r true true) t true true true", "UNLISTEN released", "111", 100, 200, "Idle")
-    add("(Freed r false false) t true true false", "Freed pulled", "110", 100, 1000, "Ready")
-    add("(Freed r false false) t false false false", "Freed pulled", "000", 100, 1000, "Call pulled")
-    add("(Freed r false true) t true true true", "Freed released", "111", 100, 1000, "Idle")
-    add("(Freed r false true) t false false true", "Freed released", "001", 100, 1000, "Call released")
+    add("(Idle i) t false false true", "Idle", "001", "BB", "least", "Call released")
+    add("(Call a false) t false false false", "Call released", "000", "AT", "", "Call pulled")
+    add("(Call a false) t false true false", "Call released", "010", "AW", "at", "Ready")
+    add("(Call a false) t true true true", "Call released", "111", "AW", "", "Idle")
+    add("(Call a true) t false true false", "Call pulled", "010", "AW", "", "Ready")
+    add("(Ready l s) t x true true", "Ready", "x11", "H", "", "Free")
+    add("(Free d s) t x false b", "Free", "x0?", "NE", "", "Bit")
+    add("(Free d Data) t true true false", "Free", "110", "YE", "", "Pulse")
+    add("(Pulse p d) t true true true", "Pulse", "111", "EI", "least", "After")
+    add("(After q) t true false b", "After", "10?", "RY", "", "Bit")
+    add("(Bit c s eoi seen b) t x true b'", "Bit", "x1b", "S", "", "High")
+    add("(High u s eoi seen b) t x false b'", "High", "x0?", "V", "", "Bit")
+    add("(High u s eoi seen b) t x false b', last", "High 7", "x01", "V", "", "Last")
+    add("(Last z s eoi seen) t x false false", "Last", "x00", "F", "", "Ack")
+    add("(Ack k First byte) t false true false", "Ack First", "010", "AW", "", "Ready")
+    add("(Ack k First byte) t true false false", "Ack First", "100", "R", "", "Freed")
+    add("(Ack k Second byte) t true false false", "Ack Second", "100", "R", "", "Freed")
+    add("(Ack k Data byte) t true true false", "Ack Data", "110", "BB", "", "Ready")
+    add("(Ack k Data byte) t false false false", "Ack Data", "000", "BB", "", "Call pulled")
+    add("(Freed r unlisten false) t true false true", "Freed pulled", "101", "DR", "", "Freed released")
+    add("(Freed r true true) t true true true", "UNLISTEN released", "111", "CR", "", "Idle")
+    add("(Freed r false false) t true true false", "Freed pulled", "110", "BB", "", "Ready")
+    add("(Freed r false false) t false false false", "Freed pulled", "000", "BB", "", "Call pulled")
+    add("(Freed r false true) t true true true", "Freed released", "111", "BB", "", "Idle")
+    add("(Freed r false true) t false false true", "Freed released", "001", "BB", "", "Call released")
 }
 # The row of an edge's levels in the place, or 0.
 function row_of(edge,   i, want) {
@@ -58,7 +59,7 @@ function step(time, edge,   i, low, high) {
     i = row_of(edge)
     if (!i) return "bad shape"
     low = since + least[i]
-    high = place == "Pulse" ? free + 450 : (greatest[i] == "" ? "" : since + greatest[i])
+    high = place == "Pulse" ? free + bound_greatest["YE"] + bound_greatest["EI"] : (greatest[i] == "" ? "" : since + greatest[i])
     if (time < low) { outside[i, "early"]++; shows[i, "early"] = shows[i, "early"] " " case_name; return "too early" }
     if (high != "" && time > high) { outside[i, "late"]++; shows[i, "late"] = shows[i, "late"] " " case_name; return "too late" }
     note(i, "lawful")
@@ -309,6 +310,7 @@ function tell_names(   i, j, n, told_as) {
     }
 }
 BEGIN {
+    read_bounds()
     table()
     split("8 10 13 14 15 17 18 145 146", list, " ")
     for (i in list) code[list[i]] = 1

@@ -12,23 +12,29 @@ With --sigrok the named rules are those of sigrok's decoder `ieee488`, all where
   call      ATN's pull may begin an opening, where CLOCK is released
   answer    DATA's third turn is end-or-identify, though it is not released again before CLOCK's first pull"""
 
+import os
+import re
 import sys
 
 LONGEST_BIT = 1000
 SIGROK = ("silence", "call", "answer")
 
-# The intervals, with the profile's bounds.
+# The intervals, with the profile's bounds: those of the delays, as the definitions say them.
+DELAYS = {}
+with open(os.path.dirname(os.path.abspath(__file__)) + "/../crates/pr_wire/specs/Delays.antt", encoding="utf-8") as file:
+    for kind, least, greatest in re.findall(r"^bounds_of (\w+) = \((\d+), \d+, (\d+)\)$", file.read(), re.M):
+        DELAYS[kind] = (int(least), int(greatest))
 BOUNDS = {
-    "ready": (1, 10000),
-    "first pull": (1, 199),
-    "answer": (200, 250),
-    "answer length": (80, 250),
-    "pull after answer": (1, 60),
-    "shortest low half": (20, 200),
-    "longest low half": (20, 200),
-    "shortest high half": (20, 200),
-    "longest high half": (20, 200),
-    "acknowledgement": (1, 80),
+    "ready": DELAYS["H"],
+    "first pull": DELAYS["Ne"],
+    "answer": DELAYS["Ye"],
+    "answer length": (DELAYS["Ei"][0], DELAYS["Ye"][1] + DELAYS["Ei"][1] - DELAYS["Ye"][0]),
+    "pull after answer": DELAYS["Ry"],
+    "shortest low half": DELAYS["S"],
+    "longest low half": DELAYS["S"],
+    "shortest high half": DELAYS["V"],
+    "longest high half": DELAYS["V"],
+    "acknowledgement": DELAYS["F"],
 }
 CODES = {
     8: "graphic mode", 10: "line feed", 13: "return", 14: "double width", 15: "standard width", 16: "column", 17: "lower case",
