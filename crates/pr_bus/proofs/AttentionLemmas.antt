@@ -16,7 +16,7 @@ use Rattle.pr_wire.specs.Pieces.{FrameTimes, SecondFrame, Ending, frame_edges, c
 use Rattle.pr_bus.specs.declared.printer.TimedPrinter.{TimedPrinter}
 use Rattle.pr_bus.specs.declared.talker.Talker.{Talker}
 use Rattle.pr_bus.specs.Timed as all
-use Rattle.pr_bus.specs.Timed.{Lines, Free, Pulled, Due, BusState, Done, taking, listening, between, frame_times, command_hearers, done, answered, unanswered, answer_at, second_frame, commands_take, printer_takes, item_edges, due_edges, edges_done}
+use Rattle.pr_bus.specs.Timed.{Lines, Free, Pulled, Due, TimedBus, Done, taking, listening, between, frame_times, command_hearers, done, answered, unanswered, answer_at, second_frame, commands_take, printer_takes, item_edges, due_edges, edges_done}
 use Rattle.pr_bus.specs.Printers.{printer_list, heeding, after_freed, IsSamePrinter}
 use Rattle.pr_bus.specs.Talking.{lines_of}
 use Rattle.pr_bus.specs.Talk.{state_of, IsTuned, printers_of, command_frame, second_of, second_takes, second_taking, freed_at, due_at, closed_at, ending_of, end_of, rest_of, tuned_to}
@@ -24,10 +24,10 @@ use Rattle.pr_bus.proofs.FrameLemmas.{drop-twice}
 use Rattle.pr_bus.proofs.PrinterLemmas.{commands-taking, releases-taking, taking-twice}
 use Rattle.pr_bus.proofs.TalkLemmas.{one, tuned-listening, map-listening, heeding-is}
 
--- an attention is answered if a printer is there
-pub done-answered : (before : List Item) (t : Talker) (first : ℕ) (second : Option ℕ) → (t.four.there || t.five.there) ≡ true
+-- an attention is answered if a printer is present
+pub done-answered : (before : List Item) (t : Talker) (first : ℕ) (second : Option ℕ) → (t.four.present || t.five.present) ≡ true
     → done (state_of before t) (Attention first second) ≡ answered (state_of before t) first second
-done-answered before t first second h = by t.four.there t.five.there h
+done-answered before t first second h = by t.four.present t.five.present h
   where
     by : (u v : Bool) → (u || v) ≡ true
         → elim (cond u (one t.four) [] ++ cond v (one t.five) []) [ [] ↦ unanswered (state_of before t) (Attention first second) | p ∷ ps ↦ answered (state_of before t) first second ] ≡ answered (state_of before t) first second
@@ -51,11 +51,11 @@ lines-taking before n (q ∷ qs) x y = by (is_listener q.device before) (lines-t
     by false k = k
 
 -- the lines after an attention, by whether one of the two printers listens
-lines-heeding : (p q : TimedPrinter) (x y : Lines) → rests x y (heeding p ++ heeding q) ≡ cond ((p.there && p.listens) || (q.there && q.listens)) y x
+lines-heeding : (p q : TimedPrinter) (x y : Lines) → rests x y (heeding p ++ heeding q) ≡ cond ((p.present && p.listens) || (q.present && q.listens)) y x
 lines-heeding p q x y =
     ap (λ (l : List all.TimedPrinter). rests x y (l ++ heeding q)) (heeding-is p)
-    ∙ ap (λ (l : List all.TimedPrinter). rests x y (cond (p.there && p.listens) (one p) [] ++ l)) (heeding-is q)
-    ∙ by (p.there && p.listens) (q.there && q.listens)
+    ∙ ap (λ (l : List all.TimedPrinter). rests x y (cond (p.present && p.listens) (one p) [] ++ l)) (heeding-is q)
+    ∙ by (p.present && p.listens) (q.present && q.listens)
   where
     by : (u v : Bool) → rests x y (cond u (one p) [] ++ cond v (one q) []) ≡ cond (u || v) y x
     by true v = refl
@@ -108,14 +108,14 @@ state-is before t v u first second ack kt kl kc kp kd ka =
     let ps : List all.TimedPrinter = map (λ (q : all.TimedPrinter). cond (is_listener q.device after) q (taking 1 q)) (map (taking (printer_takes second)) (printers_of t)) in
     let rest : List ℕ = drop (2 + commands_take second) (left t.computer) in
     let dr : ℕ = all.greatest (map (λ (p : all.TimedPrinter). delay_at Dr p.numbers (printer_takes second)) (printers_of t)) in
-    ap {B = BusState} (λ (x : ℕ). record { before = after; now = x; lines = lines_of u.lines; computer = left u.computer; printers = printers_of u }) kt
-    ∙ ap {B = BusState} (λ (x : Lines). record { before = after; now = cond unlisten (ack + delay_at R rest 0 + delay_at Cr rest 1) (ack + delay_at R rest 0); lines = x; computer = left u.computer; printers = printers_of u }) (kl ∙ ap (λ d. cond unlisten Free (rests (Due d) Pulled (listening after (printers_of t)))) kd)
-    ∙ ap {B = BusState} (λ (x : List ℕ). record { before = after; now = cond unlisten (ack + delay_at R rest 0 + delay_at Cr rest 1) (ack + delay_at R rest 0); lines = cond unlisten Free (rests (Due (ack + delay_at R rest 0 + dr)) Pulled (listening after (printers_of t))); computer = x; printers = printers_of u }) kc
-    ∙ ap {B = BusState} (λ (x : List all.TimedPrinter). record { before = after; now = cond unlisten (ack + delay_at R rest 0 + delay_at Cr rest 1) (ack + delay_at R rest 0); lines = cond unlisten Free (rests (Due (ack + delay_at R rest 0 + dr)) Pulled (listening after (printers_of t))); computer = drop (cond unlisten 2 1) rest; printers = x }) kp
-    ∙ ap {B = BusState} (λ (x : ℕ). record { before = after; now = cond unlisten (x + delay_at R rest 0 + delay_at Cr rest 1) (x + delay_at R rest 0); lines = cond unlisten Free (rests (Due (x + delay_at R rest 0 + dr)) Pulled (listening after (printers_of t))); computer = drop (cond unlisten 2 1) rest; printers = ps }) ka
+    ap {B = TimedBus} (λ (x : ℕ). record { before = after; now = x; lines = lines_of u.lines; computer = left u.computer; printers = printers_of u }) kt
+    ∙ ap {B = TimedBus} (λ (x : Lines). record { before = after; now = cond unlisten (ack + delay_at R rest 0 + delay_at Cr rest 1) (ack + delay_at R rest 0); lines = x; computer = left u.computer; printers = printers_of u }) (kl ∙ ap (λ d. cond unlisten Free (rests (Due d) Pulled (listening after (printers_of t)))) kd)
+    ∙ ap {B = TimedBus} (λ (x : List ℕ). record { before = after; now = cond unlisten (ack + delay_at R rest 0 + delay_at Cr rest 1) (ack + delay_at R rest 0); lines = cond unlisten Free (rests (Due (ack + delay_at R rest 0 + dr)) Pulled (listening after (printers_of t))); computer = x; printers = printers_of u }) kc
+    ∙ ap {B = TimedBus} (λ (x : List all.TimedPrinter). record { before = after; now = cond unlisten (ack + delay_at R rest 0 + delay_at Cr rest 1) (ack + delay_at R rest 0); lines = cond unlisten Free (rests (Due (ack + delay_at R rest 0 + dr)) Pulled (listening after (printers_of t))); computer = drop (cond unlisten 2 1) rest; printers = x }) kp
+    ∙ ap {B = TimedBus} (λ (x : ℕ). record { before = after; now = cond unlisten (x + delay_at R rest 0 + delay_at Cr rest 1) (x + delay_at R rest 0); lines = cond unlisten Free (rests (Due (x + delay_at R rest 0 + dr)) Pulled (listening after (printers_of t))); computer = drop (cond unlisten 2 1) rest; printers = ps }) ka
 
 -- an attention leaves the talker where it leaves the wires
-pub attention-state : (before : List Item) (t v u : Talker) (first : ℕ) (second : Option ℕ) (ack : ℕ) → MaySend first second → (t.four.there || t.five.there) ≡ true → IsCommanded before t v first second
+pub attention-state : (before : List Item) (t v u : Talker) (first : ℕ) (second : Option ℕ) (ack : ℕ) → MaySend first second → (t.four.present || t.five.present) ≡ true → IsCommanded before t v first second
     → ack ≡ last_of t first second
     → u.time ≡ end_of v ack (first == 63) → lines_of u.lines ≡ rest_of v ack (first == 63) → left u.computer ≡ drop (cond (first == 63) 2 1) (left v.computer)
     → printer_list u.four ≡ after_freed v.four → printer_list u.five ≡ after_freed v.five
@@ -124,7 +124,7 @@ attention-state before t v u first second ack m h i ka kt kl kc k4 k5 =
     let after : List Item = before ++ Attention first second ∷ [] in
     let unl = unlisten-is first second m in
     let lines : rest_of v ack (first == 63) ≡ cond (eqb (elim second [ None ↦ first | Some b ↦ b ]) 63) Free (rests (Due (due_at v ack)) Pulled (listening after (printers_of t))) =
-    ap (λ b. cond b Free (cond ((v.four.there && v.four.listens) || (v.five.there && v.five.listens)) Pulled (Due (due_at v ack)))) unl
+    ap (λ b. cond b Free (cond ((v.four.present && v.four.listens) || (v.five.present && v.five.listens)) Pulled (Due (due_at v ack)))) unl
     ∙ ap (λ l. cond (eqb (elim second [ None ↦ first | Some b ↦ b ]) 63) Free l)
     (sym (lines-heeding v.four v.five (Due (due_at v ack)) Pulled)
     ∙ ap (λ (l : List all.TimedPrinter). rests (Due (due_at v ack)) Pulled l) (sym (tuned-listening after v i.tuned))
@@ -149,7 +149,7 @@ chain due call a f s e = simp append_assoc
 
 -- the edges that the talker makes of an attention are those of the item
 pub attention-edges : (before : List Item) (t v : Talker) (first : ℕ) (second : Option ℕ) (time ack : ℕ) (f : FrameTimes) (m : Option SecondFrame) (due call answer frame more new : List Edge)
-    → MaySend first second → (t.four.there || t.five.there) ≡ true → IsCommanded before t v first second
+    → MaySend first second → (t.four.present || t.five.present) ≡ true → IsCommanded before t v first second
     → ack ≡ last_of t first second
     → time ≡ t.time + delay_at Bb (left t.computer) 0
     → f ≡ first_of t first → m ≡ second_frame (first_of t first).ack second (drop 19 (left t.computer)) (printers_of t)
@@ -185,7 +185,7 @@ attention-edges before t v first second time ack f m due call answer frame more 
 
 -- a printer that stays the same twice stays the same
 pub same-then : {p q r : TimedPrinter} → IsSamePrinter p q → IsSamePrinter q r → IsSamePrinter p r
-same-then a b = record { device = b.device ∙ a.device; there = b.there ∙ a.there; numbers = b.numbers ∙ a.numbers }
+same-then a b = record { device = b.device ∙ a.device; present = b.present ∙ a.present; numbers = b.numbers ∙ a.numbers }
 
 -- the edges of a second command, as the talker adds them
 pub second-edges-of : (t : Talker) (ack aw byte : ℕ) (second : Option ℕ) (rest : List ℕ) (old push new : List Edge) → second ≡ Some byte → aw ≡ delay_at Aw (left t.computer) 0 → rest ≡ drop 1 (left t.computer)

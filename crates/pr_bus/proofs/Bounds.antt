@@ -3,11 +3,11 @@ use Rattle.std.proofs.Common.{◌≡◌, ℕ, ◌+◌, ◌*◌, ◌≤◌, Bool,
 use Rattle.std.proofs.lemmas.List.{append_assoc, length-append}
 use Rattle.pr_serial.specs.declared.Item.{Item}
 use Rattle.pr_wire.specs.Pieces.{IsWithin, BitTimes, EoiAnswer, FrameTimes, IsFrame, IsOpened, AreClocked, last_pull, bit_edges, frame_edges, pulse_edges}
-use Rattle.pr_bus.specs.Timed.{BusState, done, item_edges, timed_edges}
+use Rattle.pr_bus.specs.Timed.{TimedBus, done, item_edges, timed_edges}
 use Rattle.pr_bus.specs.WiresState.{wires_after}
 
 -- the edges of items and more items: those of the first, and those of the others on the wires after them
-pub edges-more : (w : BusState) (xs ys : List Item) → timed_edges w (xs ++ ys) ≡ timed_edges w xs ++ timed_edges (wires_after w xs) ys
+pub edges-more : (w : TimedBus) (xs ys : List Item) → timed_edges w (xs ++ ys) ≡ timed_edges w xs ++ timed_edges (wires_after w xs) ys
 edges-more w [] ys = refl
 edges-more w (x ∷ xs) ys = ap (λ l. item_edges w x ++ l) (edges-more (done w x).wires xs ys) ∙ sym (append_assoc (item_edges w x) (timed_edges (done w x).wires xs) (timed_edges (wires_after (done w x).wires xs) ys))
 

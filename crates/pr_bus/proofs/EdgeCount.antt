@@ -10,7 +10,7 @@ use Rattle.pr_wire.specs.declared.Edge.{Edge}
 use Rattle.pr_wire.specs.Levels.{edge_at}
 use Rattle.pr_wire.specs.Pieces.{FrameTimes, SecondFrame, Ending, answer_edges, frame_edges, second_edges, ending_edges}
 use Rattle.pr_wire.specs.Pieces.Piece.{Unanswered, Attention as Attended, DataByte}
-use Rattle.pr_bus.specs.Timed.{Lines, Free, Pulled, Due, Hearer, TimedPrinter, BusState, Done, greatest, bits_of, frame_times, command_hearers, data_hearers, done, answered, unanswered, heard_byte, dropped_byte, answer_at, dropped_piece, due_edges, edges_done, item_edges, timed_edges}
+use Rattle.pr_bus.specs.Timed.{Lines, Free, Pulled, Due, ListenerTiming, TimedPrinter, TimedBus, Done, greatest, bits_of, frame_times, command_hearers, data_hearers, done, answered, unanswered, heard_byte, dropped_byte, answer_at, dropped_piece, due_edges, edges_done, item_edges, timed_edges}
 use Rattle.pr_bus.specs.WiresState.{wires_after}
 use Rattle.pr_bus.specs.Laws.{IsItem, AreItems}
 use Rattle.pr_bus.specs.Sums.{edge_share, edge_bound}
@@ -19,11 +19,11 @@ use Rattle.pr_bus.proofs.Bounds.{frame-count, bit-count}
 use Rattle.pr_bus.proofs.TimedLawful.{IsSound, done-sound, one_listens, devices, listening-none, listening-some, pulled-is, second-not}
 
 -- a frame has eight bits
-eight-bits : (look : ℕ) (eoi : Bool) (byte : ℕ) (numbers : List ℕ) (hs : List Hearer) → length (frame_times look eoi byte numbers hs).bits ≡ 8
+eight-bits : (look : ℕ) (eoi : Bool) (byte : ℕ) (numbers : List ℕ) (hs : List ListenerTiming) → length (frame_times look eoi byte numbers hs).bits ≡ 8
 eight-bits look eoi byte numbers hs = bits-length (frame_times look eoi byte numbers hs).pull (drop 1 numbers) (bits_of 8 byte)
 
 -- a command's frame has 19 edges
-command-count : (look byte : ℕ) (numbers : List ℕ) (hs : List Hearer) → length (frame_edges false (frame_times look false byte numbers hs)) ≤ 19
+command-count : (look byte : ℕ) (numbers : List ℕ) (hs : List ListenerTiming) → length (frame_edges false (frame_times look false byte numbers hs)) ≤ 19
 command-count look byte numbers hs =
     let f = frame_times look false byte numbers hs in
     simp length-append (omega (arith, bit-count false f.pull f.bits, eight-bits look false byte numbers hs))
@@ -81,7 +81,7 @@ heard-count : (l : Lines) (look : ℕ) (f : FrameTimes) → l ≡ Pulled → len
 heard-count l look f e h = subst (λ (m : Lines). length (due_edges m ++ edges_done m (Some (DataByte look f))) ≤ 22) (sym e) (omega (arith, frame-count true f h))
 
 -- the edges of an attention with one command, and with two of which the second is not UNLISTEN
-attended-edges : (w : BusState) (byte : ℕ) (second : Option ℕ) → IsItem (Attention byte second) → length (due_edges w.lines ++ edges_done w.lines (answered w byte second).piece) ≤ 44
+attended-edges : (w : TimedBus) (byte : ℕ) (second : Option ℕ) → IsItem (Attention byte second) → length (due_edges w.lines ++ edges_done w.lines (answered w byte second).piece) ≤ 44
 attended-edges w byte None h =
     let look : ℕ = w.now + delay_at Bb w.computer 0 + delay_at Aw w.computer 1 in
     let hs = command_hearers 1 w.printers in
@@ -107,7 +107,7 @@ attended-edges w byte (Some s) h =
     omega (arith, attended-count w.lines (w.now + delay_at Bb w.computer 0) w.printers look f (Some m) (ending_at (eqb s 63) r due closed), command-count look byte (drop 2 w.computer) hs, command-count look2 s (drop 1 (drop 19 w.computer)) hs2, c, one)
 
 -- each item makes no more edges than its share
-pub item-count : (present : Present) (w : BusState) (x : Item) → IsItem x → IsSound present w → length (item_edges w x) ≤ edge_share x
+pub item-count : (present : Present) (w : TimedBus) (x : Item) → IsItem x → IsSound present w → length (item_edges w x) ≤ edge_share x
 item-count present w (Sent b eoi) h s = by (one_listens w.before (devices w.printers)) refl
   where
     by : (v : Bool) → one_listens w.before (devices w.printers) ≡ v → length (item_edges w (Sent b eoi)) ≤ 22
@@ -124,12 +124,12 @@ item-count present w (Attention byte second) h s = by w.printers
     by (p ∷ ps) = attended-edges w byte second h
 
 -- the edges of items are no more than their bound
-pub edges-count : (present : Present) (w : BusState) (xs : List Item) → AreItems xs → IsSound present w → length (timed_edges w xs) ≤ edge_bound xs
+pub edges-count : (present : Present) (w : TimedBus) (xs : List Item) → AreItems xs → IsSound present w → length (timed_edges w xs) ≤ edge_bound xs
 edges-count present w [] h s = omega arith
 edges-count present w (x ∷ xs) h s = omega (arith, length-append (item_edges w x) (timed_edges (done w x).wires xs), item-count present w x h.0 s, edges-count present (done w x).wires xs h.1 (done-sound present w x h.0 s))
 
 -- the wires are sound after items
-pub after-sound : (present : Present) (w : BusState) (xs : List Item) → AreItems xs → IsSound present w → IsSound present (wires_after w xs)
+pub after-sound : (present : Present) (w : TimedBus) (xs : List Item) → AreItems xs → IsSound present w → IsSound present (wires_after w xs)
 after-sound present w [] h s = s
 after-sound present w (x ∷ xs) h s = after-sound present (done w x).wires xs h.1 (done-sound present w x h.0 s)
 

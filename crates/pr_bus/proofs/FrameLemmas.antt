@@ -7,7 +7,7 @@ use Rattle.pr_wire.specs.declared.delay.Kind.TheVariants.{Ne, Ry, S, V}
 use Rattle.pr_wire.specs.Levels.{edge_at}
 use Rattle.pr_wire.specs.Delays.{delay_at, delay_of, bounds_of}
 use Rattle.pr_wire.specs.Pieces.{bit_edges, last_pull, frame_edges}
-use Rattle.pr_bus.specs.Timed.{Hearer, bit_times, bits_of, frame_times, greatest, least}
+use Rattle.pr_bus.specs.Timed.{ListenerTiming, bit_times, bits_of, frame_times, greatest, least}
 
 -- a number of those that are left
 get-drop : (i : ℕ) (xs : List ℕ) (j : ℕ) → slice_get (drop i xs) j ≡ slice_get xs (i + j)
@@ -77,9 +77,9 @@ last-of-eoi : (old bits : List Edge) (a b c d : Edge) → ((((old ++ a ∷ []) +
 last-of-eoi old bits a b c d = simp append_assoc
 
 -- the edges of a frame
-pub frame-plain : (x : Bool) (eoi : Bool) (look byte : ℕ) (numbers rest : List ℕ) (hs : List Hearer) (hold ne accept pull last : ℕ) (old mid bits new : List Edge)
+pub frame-plain : (x : Bool) (eoi : Bool) (look byte : ℕ) (numbers rest : List ℕ) (hs : List ListenerTiming) (hold ne accept pull last : ℕ) (old mid bits new : List Edge)
     → eoi ≡ false
-    → hold ≡ greatest (map (λ (h : Hearer). h.hold) hs) → accept ≡ least (map (λ (h : Hearer). h.accept) hs)
+    → hold ≡ greatest (map (λ (h : ListenerTiming). h.hold) hs) → accept ≡ least (map (λ (h : ListenerTiming). h.accept) hs)
     → ne ≡ delay_at Ne numbers 0 → rest ≡ drop 1 numbers → pull ≡ look + hold + ne
     → mid ≡ old ++ edge_at (look + hold) x true true ∷ []
     → bits ≡ mid ++ bit_edges x pull (bit_times pull rest (bits_of 8 byte))
@@ -90,10 +90,10 @@ frame-plain x eoi look byte numbers rest hs hold ne accept pull last old mid bit
     rw (e1, hn, hb, hm, hl, ep, en, er, h, k) (last-of old _ _ _)
 
 -- a frame with end-or-identify, as the talker makes it
-pub frame-eoi : (x : Bool) (eoi : Bool) (look byte : ℕ) (numbers rest : List ℕ) (hs : List Hearer) (hold wait end ry accept pull last : ℕ) (old one two three bits new : List Edge)
+pub frame-eoi : (x : Bool) (eoi : Bool) (look byte : ℕ) (numbers rest : List ℕ) (hs : List ListenerTiming) (hold wait end ry accept pull last : ℕ) (old one two three bits new : List Edge)
     → x ≡ true → eoi ≡ true
-    → hold ≡ greatest (map (λ (h : Hearer). h.hold) hs) → accept ≡ least (map (λ (h : Hearer). h.accept) hs)
-    → wait ≡ least (map (λ (h : Hearer). h.wait) hs) → end ≡ greatest (map (λ (h : Hearer). h.wait + h.answer) hs)
+    → hold ≡ greatest (map (λ (h : ListenerTiming). h.hold) hs) → accept ≡ least (map (λ (h : ListenerTiming). h.accept) hs)
+    → wait ≡ least (map (λ (h : ListenerTiming). h.wait) hs) → end ≡ greatest (map (λ (h : ListenerTiming). h.wait + h.answer) hs)
     → ry ≡ delay_at Ry numbers 0 → rest ≡ drop 1 numbers → pull ≡ look + hold + end + ry
     → one ≡ old ++ edge_at (look + hold) x true true ∷ [] → two ≡ one ++ edge_at (look + hold + wait) x true false ∷ [] → three ≡ two ++ edge_at (look + hold + end) x true true ∷ []
     → bits ≡ three ++ bit_edges x pull (bit_times pull rest (bits_of 8 byte))

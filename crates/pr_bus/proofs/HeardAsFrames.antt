@@ -50,14 +50,14 @@ apart-below a b h = elim (eqb_tells a b) [
   | inr p ↦ p.0
 ]
 
--- a device is neither printer that is there
+-- a device is neither present printer
 device-none : (f g a b : Bool) → a ≡ false → b ≡ false → ((f && a) || (g && b)) ≡ true → ⊥
 device-none true true a b e k h = let j : false ≡ true = sym (ap (λ v. v || b) e ∙ k) ∙ h in cc
 device-none true false a b e k h = let j : false ≡ true = sym (ap (λ v. v || false) e) ∙ h in cc
 device-none false true a b e k h = let j : false ≡ true = sym k ∙ h in cc
 device-none false false a b e k h = let j : false ≡ true = h in cc
 
--- a printer that is there has a small number, so that no secondary address calls it
+-- a present printer has a small number, so that no secondary address calls it
 device-small : (present : Present) (d : ℕ) → is_present present d ≡ true → d < 31
 device-small present d h = elim (eqb_tells d 4) [
   | inl p ↦ omega (arith, p.1)
@@ -67,7 +67,7 @@ device-small present d h = elim (eqb_tells d 4) [
   ]
 ]
 
--- a printer that is there answers an attention
+-- a present printer answers an attention
 present-answers : (present : Present) (d : ℕ) → is_present present d ≡ true → (present.four || present.five) ≡ true
 present-answers present d h = by present.four present.five h
   where
@@ -76,7 +76,7 @@ present-answers present d h = by present.four present.five h
     by false true h = refl
     by false false h = h
 
--- a printer that is there and listens answers a byte
+-- a present printer that listens answers a byte
 listener-answers : (present : Present) (d : ℕ) (items : List Item) → is_present present d ≡ true → is_listener d items ≡ true
     → ((present.four && is_listener 4 items) || (present.five && is_listener 5 items)) ≡ true
 listener-answers present d items h l = elim (eqb_tells d 4) [
@@ -103,7 +103,7 @@ pub record IsHeard (present : Present) (d : ℕ) (items : List Item) : Type 0 wh
   pub same : heard_by present d items ≡ heard_of d (answered_frames present items)
   pub listening : is_listening d (answered_frames present items) ≡ is_listener d items
 
--- what a device that is there hears of one item more
+-- what a device that is present hears of one item more
 heard-more : HearingLaws → (present : Present) (d : ℕ) (items : List Item) (x : Item) → is_present present d ≡ true → heard_by present d (items ++ x ∷ []) ≡ heard_by present d items ++ inputs_at d items x
 heard-more laws present d items x p = laws.item present d items x ∙ ap (λ v. heard_by present d items ++ cond v (inputs_at d items x) []) p
 
@@ -166,7 +166,7 @@ second-input laws d fs first second s k =
     ap (λ v. cond v (Some (Select false)) (cond (second == 103 && is_called d (fs ++ record { attention = true; byte = first; eoi = false } ∷ [])) (Some (Select true)) None)) (apart second (32 + d) (omega (arith, s, k)))
     ∙ ap (λ v. cond (second == 103 && v) (Some (Select true)) None) (laws.called d fs (record { attention = true; byte = first; eoi = false }))
 
--- an attention is answered by a printer that is there
+-- an attention is answered by a present printer
 attention-heard : HearingLaws → (present : Present) (d : ℕ) (items : List Item) (first : ℕ) (second : Option ℕ) → IsItem (Attention first second) → is_present present d ≡ true → IsHeard present d items
     → IsHeard present d (items ++ Attention first second ∷ [])
 attention-heard laws present d items first None i p h =

@@ -9,7 +9,7 @@ use Rattle.pr_wire.specs.declared.delay.Kind.TheVariants.{Bb, Aw, Ne, Ry, S, V, 
 use Rattle.pr_wire.specs.Levels.{byte_of}
 use Rattle.pr_wire.specs.Delays.{bounds_of, delay_of, delay_at}
 use Rattle.pr_wire.specs.Pieces.{IsWithin, AreClocked, IsFrame, levels_of, byte_sent}
-use Rattle.pr_bus.specs.Timed.{Hearer, greatest, least, bits_of, bit_times, frame_times}
+use Rattle.pr_bus.specs.Timed.{ListenerTiming, greatest, least, bits_of, bit_times, frame_times}
 
 -- a delay lies within the bounds of its kind, with a number and without
 by_number : (k : Kind) (o : Option ℕ) → IsWithin (elim o [ None ↦ (bounds_of k).1 | Some r ↦ delay_of k r ]) (bounds_of k).0 (bounds_of k).2
@@ -80,43 +80,43 @@ bits-byte (suc n) b h =
     omega (arith, e, low_bit b)
 
 -- what a hearer waits lies within the bounds
-pub record IsHearer (eoi : Bool) (h : Hearer) : Type 0 where
+pub record IsHearer (eoi : Bool) (h : ListenerTiming) : Type 0 where
   pub hold : IsWithin h.hold 1 10000
   pub accept : IsWithin h.accept 1 80
   pub wait : eoi ≡ true → IsWithin h.wait 200 250
   pub answer : eoi ≡ true → IsWithin h.answer 80 200
 
 -- what each of them waits lies within the bounds
-abbrev pub AreHearers : Bool → List Hearer → Type 0
+abbrev pub AreHearers : Bool → List ListenerTiming → Type 0
 AreHearers eoi [] = Unit {0}
 AreHearers eoi (h ∷ hs) = IsHearer eoi h × AreHearers eoi hs
 
 -- the greatest and the least lie where each does
-greatest_in : (f : Hearer → ℕ) (low high : ℕ) (eoi : Bool) → ((h : Hearer) → IsHearer eoi h → IsWithin (f h) low high) → (h : Hearer) (hs : List Hearer) → AreHearers eoi (h ∷ hs) → IsWithin (greatest (map f (h ∷ hs))) low high
+greatest_in : (f : ListenerTiming → ℕ) (low high : ℕ) (eoi : Bool) → ((h : ListenerTiming) → IsHearer eoi h → IsWithin (f h) low high) → (h : ListenerTiming) (hs : List ListenerTiming) → AreHearers eoi (h ∷ hs) → IsWithin (greatest (map f (h ∷ hs))) low high
 greatest_in f low high eoi k h [] a = let w = k h a.0 in record { from = omega (arith, w.from); to = omega (arith, w.to) }
 greatest_in f low high eoi k h (g ∷ hs) a =
     let w = k h a.0 in let v = greatest_in f low high eoi k g hs a.1 in record { from = omega (arith, w.from, v.from); to = omega (arith, w.to, v.to) }
 
 -- the least lies where each does
-least_in : (f : Hearer → ℕ) (low high : ℕ) (eoi : Bool) → ((h : Hearer) → IsHearer eoi h → IsWithin (f h) low high) → (h : Hearer) (hs : List Hearer) → AreHearers eoi (h ∷ hs) → IsWithin (least (map f (h ∷ hs))) low high
+least_in : (f : ListenerTiming → ℕ) (low high : ℕ) (eoi : Bool) → ((h : ListenerTiming) → IsHearer eoi h → IsWithin (f h) low high) → (h : ListenerTiming) (hs : List ListenerTiming) → AreHearers eoi (h ∷ hs) → IsWithin (least (map f (h ∷ hs))) low high
 least_in f low high eoi k h [] a = k h a.0
 least_in f low high eoi k h (g ∷ hs) a =
     let w = k h a.0 in let v = least_in f low high eoi k g hs a.1 in record { from = omega (arith, w.from, v.from); to = omega (arith, w.to, v.to) }
 
 -- the least is no greater than the first
-least_head : (f : Hearer → ℕ) (h : Hearer) (hs : List Hearer) → least (map f (h ∷ hs)) ≤ f h
+least_head : (f : ListenerTiming → ℕ) (h : ListenerTiming) (hs : List ListenerTiming) → least (map f (h ∷ hs)) ≤ f h
 least_head f h [] = omega arith
 least_head f h (g ∷ hs) = omega arith
 
 -- a frame of the talker is lawful
-pub frame-lawful : (x : Bool) (look : ℕ) (eoi : Bool) (byte : ℕ) (numbers : List ℕ) (h : Hearer) (hs : List Hearer) → AreHearers eoi (h ∷ hs) → (eoi ≡ true → x ≡ true)
+pub frame-lawful : (x : Bool) (look : ℕ) (eoi : Bool) (byte : ℕ) (numbers : List ℕ) (h : ListenerTiming) (hs : List ListenerTiming) → AreHearers eoi (h ∷ hs) → (eoi ≡ true → x ≡ true)
     → IsFrame x look (frame_times look eoi byte numbers (h ∷ hs))
 frame-lawful x look true byte numbers h hs a e =
-    let free = greatest_in (λ (h : Hearer). h.hold) 1 10000 true (λ g k. k.hold) h hs a in
-    let accept = least_in (λ (h : Hearer). h.accept) 1 80 true (λ g k. k.accept) h hs a in
-    let wait = least_in (λ (h : Hearer). h.wait) 200 250 true (λ g k. k.wait refl) h hs a in
-    let all = greatest_in (λ (h : Hearer). h.wait + h.answer) 280 450 true (λ g k. let u = k.wait refl in let v = k.answer refl in record { from = omega (arith, u.from, v.from); to = omega (arith, u.to, v.to) }) h hs a in
-    let head : least (map (λ (h : Hearer). h.wait) (h ∷ hs)) ≤ h.wait = least_head (λ (h : Hearer). h.wait) h hs in
+    let free = greatest_in (λ (h : ListenerTiming). h.hold) 1 10000 true (λ g k. k.hold) h hs a in
+    let accept = least_in (λ (h : ListenerTiming). h.accept) 1 80 true (λ g k. k.accept) h hs a in
+    let wait = least_in (λ (h : ListenerTiming). h.wait) 200 250 true (λ g k. k.wait refl) h hs a in
+    let all = greatest_in (λ (h : ListenerTiming). h.wait + h.answer) 280 450 true (λ g k. let u = k.wait refl in let v = k.answer refl in record { from = omega (arith, u.from, v.from); to = omega (arith, u.to, v.to) }) h hs a in
+    let head : least (map (λ (h : ListenerTiming). h.wait) (h ∷ hs)) ≤ h.wait = least_head (λ (h : ListenerTiming). h.wait) h hs in
     let answer = a.0.answer refl in
     let ry = delay_in Ry numbers 0 in
     record {
@@ -132,8 +132,8 @@ frame-lawful x look true byte numbers h hs a e =
       ack = record { from = omega (arith, accept.from); to = omega (arith, accept.to) };
     }
 frame-lawful x look false byte numbers h hs a e =
-    let free = greatest_in (λ (h : Hearer). h.hold) 1 10000 false (λ g k. k.hold) h hs a in
-    let accept = least_in (λ (h : Hearer). h.accept) 1 80 false (λ g k. k.accept) h hs a in
+    let free = greatest_in (λ (h : ListenerTiming). h.hold) 1 10000 false (λ g k. k.hold) h hs a in
+    let accept = least_in (λ (h : ListenerTiming). h.accept) 1 80 false (λ g k. k.accept) h hs a in
     let ne = delay_in Ne numbers 0 in
     record {
       free = record { from = omega (arith, free.from); to = omega (arith, free.to) };
@@ -144,5 +144,5 @@ frame-lawful x look false byte numbers h hs a e =
     }
 
 -- and spells its byte
-pub frame-spells : (look : ℕ) (eoi : Bool) (byte : ℕ) (numbers : List ℕ) (hs : List Hearer) → byte < 2 ^ 8 → byte_sent (frame_times look eoi byte numbers hs) ≡ byte
+pub frame-spells : (look : ℕ) (eoi : Bool) (byte : ℕ) (numbers : List ℕ) (hs : List ListenerTiming) → byte < 2 ^ 8 → byte_sent (frame_times look eoi byte numbers hs) ≡ byte
 frame-spells look eoi byte numbers hs h = ap byte_of (bits-levels (frame_times look eoi byte numbers hs).pull (drop 1 numbers) (bits_of 8 byte)) ∙ bits-byte 8 byte h

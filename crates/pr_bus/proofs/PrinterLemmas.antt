@@ -5,15 +5,15 @@ use Rattle.pr_wire.specs.Delays.{delay_at}
 use Rattle.pr_wire.specs.Choices.{left}
 use Rattle.pr_bus.specs.declared.printer.TimedPrinter.{TimedPrinter}
 use Rattle.pr_bus.specs.Timed as all
-use Rattle.pr_bus.specs.Timed.{Hearer, taking, data_hearers, command_hearers}
+use Rattle.pr_bus.specs.Timed.{ListenerTiming, taking, data_hearers, command_hearers}
 use Rattle.pr_bus.specs.Printers.{printer_list, heeding}
 use Rattle.pr_bus.proofs.FrameLemmas.{delay-drop, drop-twice}
 
 -- a printer that listens hears a data byte with its next numbers
-pub byte-hearers : (eoi : Bool) (p : TimedPrinter) (hold wait answer accept : ℕ) → p.there ≡ true → p.listens ≡ true
+pub byte-hearers : (eoi : Bool) (p : TimedPrinter) (hold wait answer accept : ℕ) → p.present ≡ true → p.listens ≡ true
     → hold ≡ delay_at H (left p.choices) 0 → wait ≡ delay_at Ye (left p.choices) 1
     → answer ≡ cond eoi (delay_at Ei (left p.choices) 2) 0 → accept ≡ delay_at F (left p.choices) (cond eoi 3 2)
-    → (◌≡◌ {A = List Hearer} (record { hold = hold; wait = wait; answer = answer; accept = accept } ∷ []) (data_hearers eoi (heeding p)))
+    → (◌≡◌ {A = List ListenerTiming} (record { hold = hold; wait = wait; answer = answer; accept = accept } ∷ []) (data_hearers eoi (heeding p)))
 byte-hearers eoi p hold wait answer accept t l h w a c =
     rw (h, w, a, c) (sym (ap (λ v. data_hearers eoi (cond v (printer_list p) [])) l ∙ ap (λ v. data_hearers eoi (cond v (record { device = p.device; numbers = left p.choices } ∷ []) [])) t))
 

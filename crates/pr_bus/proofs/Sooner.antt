@@ -4,7 +4,7 @@ use Rattle.pr_serial.specs.declared.Item.{Item}
 use Rattle.pr_serial.specs.declared.Item.TheVariants.{Attention, Sent}
 use Rattle.pr_wire.specs.declared.delay.Kind.TheVariants.{Bb, Aw, R, Cr}
 use Rattle.pr_wire.specs.Delays.{delay_at}
-use Rattle.pr_bus.specs.Timed.{TimedPrinter, BusState, Done, listening, frame_times, command_hearers, data_hearers, done, answered, unanswered, heard_byte, dropped_byte}
+use Rattle.pr_bus.specs.Timed.{TimedPrinter, TimedBus, Done, listening, frame_times, command_hearers, data_hearers, done, answered, unanswered, heard_byte, dropped_byte}
 use Rattle.pr_bus.specs.WiresState.{wires_after}
 use Rattle.pr_bus.specs.Laws.{IsItem, AreItems}
 use Rattle.pr_bus.specs.Sums.{time_share, time_bound}
@@ -13,7 +13,7 @@ use Rattle.pr_bus.proofs.Bounds.{command-lasts, data-lasts}
 use Rattle.pr_bus.proofs.TimedLawful.{command-hearers, data-hearers, second-not}
 
 -- a byte ends within its share
-sent-soon : (w : BusState) (b : ℕ) (eoi : Bool) (ls : List TimedPrinter) → (elim ls as (λ l. Done) [ [] ↦ dropped_byte w (Sent b eoi) | p ∷ ps ↦ heard_byte w b eoi (p ∷ ps) ]).wires.now ≤ w.now + 14790
+sent-soon : (w : TimedBus) (b : ℕ) (eoi : Bool) (ls : List TimedPrinter) → (elim ls as (λ l. Done) [ [] ↦ dropped_byte w (Sent b eoi) | p ∷ ps ↦ heard_byte w b eoi (p ∷ ps) ]).wires.now ≤ w.now + 14790
 sent-soon w b eoi [] = let h = delay_in Bb w.computer 0 in omega (arith, h.to)
 sent-soon w b eoi (p ∷ ps) =
     let h = delay_in Bb w.computer 0 in
@@ -27,7 +27,7 @@ cond_le true a b n h k = h
 cond_le false a b n h k = k
 
 -- an attention ends within its share
-attention-soon : (before : List Item) (now : ℕ) (w : BusState) (ps : List TimedPrinter) (first : ℕ) (second : Option ℕ) → IsItem (Attention first second) → w.printers ≡ ps
+attention-soon : (before : List Item) (now : ℕ) (w : TimedBus) (ps : List TimedPrinter) (first : ℕ) (second : Option ℕ) → IsItem (Attention first second) → w.printers ≡ ps
     → (elim ps as (λ l. Done) [ [] ↦ unanswered w (Attention first second) | p ∷ qs ↦ answered w first second ]).wires.now ≤ w.now + 32158
 attention-soon before now w [] first second h e = let b = delay_in Bb w.computer 0 in let a = delay_in Aw w.computer 1 in omega (arith, a.to, b.to)
 attention-soon before now w (p ∷ ps) first None h e =
@@ -53,12 +53,12 @@ attention-soon before now w (p ∷ ps) first (Some s) h e =
     subst (λ u. cond u (second_ack + delay_at R (drop 37 w.computer) 0 + delay_at Cr (drop 37 w.computer) 1) (second_ack + delay_at R (drop 37 w.computer) 0) ≤ w.now + 32158) (sym (second-not first s h)) end
 
 -- an item ends within its share
-pub done-soon : (w : BusState) (x : Item) → IsItem x → (done w x).wires.now ≤ w.now + time_share x
+pub done-soon : (w : TimedBus) (x : Item) → IsItem x → (done w x).wires.now ≤ w.now + time_share x
 done-soon w (Sent b eoi) h = sent-soon w b eoi (listening w.before w.printers)
 done-soon w (Attention first second) h = attention-soon [] 0 w w.printers first second h refl
 
 -- items end within their bound
-pub after-soon : (w : BusState) (xs : List Item) → AreItems xs → (wires_after w xs).now ≤ w.now + time_bound xs
+pub after-soon : (w : TimedBus) (xs : List Item) → AreItems xs → (wires_after w xs).now ≤ w.now + time_bound xs
 after-soon w [] h = omega arith
 after-soon w (x ∷ xs) h = omega (arith, done-soon w x h.0, after-soon (done w x).wires xs h.1)
 

@@ -5,11 +5,11 @@ use Rattle.pr_bus.specs.declared.printer.TimedPrinter.{TimedPrinter}
 use Rattle.pr_bus.specs.Timed as all
 use Rattle.pr_bus.specs.Timed.{taking}
 
--- the printer, if it is there
+-- the printer, if it is present
 abbrev pub printer_list : TimedPrinter → List all.TimedPrinter
-printer_list p = cond p.there (record { device = p.device; numbers = left p.choices } ∷ []) []
+printer_list p = cond p.present (record { device = p.device; numbers = left p.choices } ∷ []) []
 
--- the printer, if it is there and listens
+-- the printer, if it is present and listens
 abbrev pub heeding : TimedPrinter → List all.TimedPrinter
 heeding p = cond p.listens (printer_list p) []
 
@@ -24,5 +24,5 @@ after_freed p = map (λ (q : all.TimedPrinter). cond p.listens q (taking 1 q)) (
 -- it is the printer that it was, with its numbers
 pub record IsSamePrinter (p q : TimedPrinter) : Type 0 where
   pub device : q.device ≡ p.device
-  pub there : q.there ≡ p.there
+  pub present : q.present ≡ p.present
   pub numbers : q.choices.numbers ≡ p.choices.numbers

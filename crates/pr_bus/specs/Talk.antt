@@ -9,12 +9,12 @@ use Rattle.pr_wire.specs.Choices.{left}
 use Rattle.pr_wire.specs.Pieces.{FrameTimes, SecondFrame, Ending}
 use Rattle.pr_bus.specs.declared.talker.Talker.{Talker}
 use Rattle.pr_bus.specs.declared.printer.TimedPrinter as one
-use Rattle.pr_bus.specs.Timed.{Lines, Free, Pulled, Due, taking, BusState, TimedPrinter, greatest, frame_times, data_hearers, command_hearers}
+use Rattle.pr_bus.specs.Timed.{Lines, Free, Pulled, Due, taking, TimedBus, TimedPrinter, greatest, frame_times, data_hearers, command_hearers}
 use Rattle.pr_bus.specs.Printers.{printer_list, heeding, IsSamePrinter}
 use Rattle.pr_bus.specs.Talking.{lines_of}
 
 -- the wires, after these items
-abbrev pub state_of : List Item → Talker → BusState
+abbrev pub state_of : List Item → Talker → TimedBus
 state_of before t = record {
   before = before;
   now = t.time;
@@ -44,7 +44,7 @@ pub record IsSameTuned (t u : Talker) : Type 0 where
 abbrev pub heard_frame : Talker → ℕ → Bool → ℕ → FrameTimes
 heard_frame t look eoi byte = frame_times look eoi byte (left t.computer) (data_hearers eoi (heeding t.four ++ heeding t.five))
 
--- the printers that are there
+-- the printers that are present
 abbrev pub printers_of : Talker → List TimedPrinter
 printers_of t = printer_list t.four ++ printer_list t.five
 
@@ -76,7 +76,7 @@ end_of t ack unlisten = cond unlisten (closed_at t ack) (freed_at t ack)
 -- the lines after an attention
 abbrev pub rest_of : Talker → ℕ → Bool → Lines
 rest_of t ack unlisten =
-    cond unlisten Free (cond ((t.four.there && t.four.listens) || (t.five.there && t.five.listens)) Pulled (Due (due_at t ack)))
+    cond unlisten Free (cond ((t.four.present && t.four.listens) || (t.five.present && t.five.listens)) Pulled (Due (due_at t ack)))
 
 -- a second command's frame, after the first acknowledgement
 abbrev pub second_of : Talker → ℕ → Option ℕ → Option SecondFrame

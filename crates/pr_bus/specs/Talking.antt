@@ -2,8 +2,8 @@
 use Rattle.std.specs.Prelude.{◌≡◌, ℕ, ◌+◌, List, [], ◌∷◌, map, Option, Some, None}
 use Rattle.pr_bus.specs.declared.lines.Lines as talker
 use Rattle.pr_bus.specs.declared.lines.Lines.TheVariants as kept
-use Rattle.pr_bus.specs.declared.hearer.Together.{Together}
-use Rattle.pr_bus.specs.Timed.{Lines, Free, Pulled, Due, Hearer, greatest, least}
+use Rattle.pr_bus.specs.declared.timing.LineTiming.{LineTiming}
+use Rattle.pr_bus.specs.Timed.{Lines, Free, Pulled, Due, ListenerTiming, greatest, least}
 
 -- what stands on the lines, by what the talker keeps of them
 abbrev pub lines_of : talker.Lines → Lines
@@ -17,11 +17,11 @@ option_list None = []
 option_list (Some x) = x ∷ []
 
 -- what hearers wait together
-pub record IsTogether (hs : List Hearer) (t : Together) : Type 0 where
-  pub hold : t.hold ≡ greatest (map (λ (h : Hearer). h.hold) hs)
-  pub wait : t.wait ≡ least (map (λ (h : Hearer). h.wait) hs)
-  pub end : t.end ≡ greatest (map (λ (h : Hearer). h.wait + h.answer) hs)
-  pub accept : t.accept ≡ least (map (λ (h : Hearer). h.accept) hs)
+pub record IsLineTiming (hs : List ListenerTiming) (t : LineTiming) : Type 0 where
+  pub hold : t.hold ≡ greatest (map (λ (h : ListenerTiming). h.hold) hs)
+  pub wait : t.wait ≡ least (map (λ (h : ListenerTiming). h.wait) hs)
+  pub end : t.end ≡ greatest (map (λ (h : ListenerTiming). h.wait + h.answer) hs)
+  pub accept : t.accept ≡ least (map (λ (h : ListenerTiming). h.accept) hs)
 
 -- DATA is pulled in answer to ATN at a moment, unless it is pulled
 abbrev pub answer_moment : Lines → ℕ → Option ℕ

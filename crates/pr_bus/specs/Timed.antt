@@ -27,14 +27,14 @@ pub data Lines : Type 0 where
   Due : ℕ → Lines
 
 -- how long a hearer of a frame waits: before it releases DATA, before its EOI answer, for how long that lasts, before it acknowledges
-pub record Hearer : Type 0 where
+pub record ListenerTiming : Type 0 where
   pub hold : ℕ
   pub wait : ℕ
   pub answer : ℕ
   pub accept : ℕ
 
 -- the wires between two items: the items before, the end of the last one, the lines, and who takes numbers
-pub record BusState : Type 0 where
+pub record TimedBus : Type 0 where
   pub before : List Item
   pub now : ℕ
   pub lines : Lines
@@ -66,11 +66,11 @@ bit_times c numbers (b ∷ bs) =
     record { level = b; up = up; down = down } ∷ bit_times down (drop 2 numbers) bs
 
 -- the moments of a frame after the look, by the computer's numbers and the hearers' delays
-abbrev pub frame_times : ℕ → Bool → ℕ → List ℕ → List Hearer → FrameTimes
+abbrev pub frame_times : ℕ → Bool → ℕ → List ℕ → List ListenerTiming → FrameTimes
 frame_times look eoi byte numbers hearers =
-    let free = look + greatest (map (λ (h : Hearer). h.hold) hearers) in
-    let pulled = free + least (map (λ (h : Hearer). h.wait) hearers) in
-    let released = free + greatest (map (λ (h : Hearer). h.wait + h.answer) hearers) in
+    let free = look + greatest (map (λ (h : ListenerTiming). h.hold) hearers) in
+    let pulled = free + least (map (λ (h : ListenerTiming). h.wait) hearers) in
+    let released = free + greatest (map (λ (h : ListenerTiming). h.wait + h.answer) hearers) in
     let pull = cond eoi (released + delay_at Ry numbers 0) (free + delay_at Ne numbers 0) in
     let bits = bit_times pull (drop 1 numbers) (bits_of 8 byte) in
     record {
@@ -78,11 +78,11 @@ frame_times look eoi byte numbers hearers =
       pulse = cond eoi (Some (record { pulled = pulled; released = released })) None;
       pull = pull;
       bits = bits;
-      ack = last_pull pull bits + least (map (λ (h : Hearer). h.accept) hearers);
+      ack = last_pull pull bits + least (map (λ (h : ListenerTiming). h.accept) hearers);
     }
 
 -- each present printer hears a command; its numbers for it begin at an index
-abbrev pub command_hearers : ℕ → List TimedPrinter → List Hearer
+abbrev pub command_hearers : ℕ → List TimedPrinter → List ListenerTiming
 command_hearers i printers =
     map (λ (p : TimedPrinter). record { hold = delay_at H p.numbers i; wait = 0; answer = 0; accept = delay_at F p.numbers (i + 1) }) printers
 
@@ -92,7 +92,7 @@ listening before [] = []
 listening before (p ∷ ps) = cond (is_listener p.device before) (p ∷ []) [] ++ listening before ps
 
 -- the printers that listen hear a data byte
-abbrev pub data_hearers : Bool → List TimedPrinter → List Hearer
+abbrev pub data_hearers : Bool → List TimedPrinter → List ListenerTiming
 data_hearers eoi printers =
     map (λ (p : TimedPrinter). record {
       hold = delay_at H p.numbers 0;
@@ -114,10 +114,10 @@ between (Due d) = Loose 0
 -- an item on the wires: its piece, if it makes an edge, and the wires after it
 pub record Done : Type 0 where
   pub piece : Option Piece
-  pub wires : BusState
+  pub wires : TimedBus
 
 -- an attention that nobody answers
-abbrev pub unanswered : BusState → Item → Done
+abbrev pub unanswered : TimedBus → Item → Done
 unanswered w x =
     let a = w.now + delay_at Bb w.computer 0 in
     let look = a + delay_at Aw w.computer 1 in
@@ -148,7 +148,7 @@ printer_takes None = 3
 printer_takes (Some byte) = 5
 
 -- an attention that is answered
-abbrev pub answered : BusState → ℕ → Option ℕ → Done
+abbrev pub answered : TimedBus → ℕ → Option ℕ → Done
 answered w byte second =
     let a = w.now + delay_at Bb w.computer 0 in
     let look = a + delay_at Aw w.computer 1 in
@@ -175,7 +175,7 @@ answered w byte second =
     }
 
 -- a byte that a present printer hears
-abbrev pub heard_byte : BusState → ℕ → Bool → List TimedPrinter → Done
+abbrev pub heard_byte : TimedBus → ℕ → Bool → List TimedPrinter → Done
 heard_byte w byte eoi hearers =
     let look = w.now + delay_at Bb w.computer 0 in
     let sent = frame_times look eoi byte (drop 1 w.computer) (data_hearers eoi hearers) in
@@ -196,7 +196,7 @@ dropped_piece Free look = None
 dropped_piece _ look = Some (Dropped look)
 
 -- a byte that nobody hears
-abbrev pub dropped_byte : BusState → Item → Done
+abbrev pub dropped_byte : TimedBus → Item → Done
 dropped_byte w x =
     let look = w.now + delay_at Bb w.computer 0 in
     record {
@@ -205,7 +205,7 @@ dropped_byte w x =
     }
 
 -- an item
-abbrev pub done : BusState → Item → Done
+abbrev pub done : TimedBus → Item → Done
 done w (Attention byte second) = elim w.printers [ [] ↦ unanswered w (Attention byte second) | p ∷ ps ↦ answered w byte second ]
 done w (Sent byte eoi) =
     elim (listening w.before w.printers) [ [] ↦ dropped_byte w (Sent byte eoi) | p ∷ ps ↦ heard_byte w byte eoi (p ∷ ps) ]
@@ -221,11 +221,11 @@ edges_done l None = []
 edges_done l (Some p) = piece_edges (between l) p
 
 -- the edges of an item: what was due before it, and its own
-abbrev pub item_edges : BusState → Item → List Edge
+abbrev pub item_edges : TimedBus → Item → List Edge
 item_edges w x = due_edges w.lines ++ edges_done w.lines (done w x).piece
 
 -- the edges of items
-abbrev pub timed_edges : BusState → List Item → List Edge
+abbrev pub timed_edges : TimedBus → List Item → List Edge
 timed_edges w [] = []
 timed_edges w (x ∷ xs) = item_edges w x ++ timed_edges (done w x).wires xs
 
@@ -235,7 +235,7 @@ present_printers present four five =
     cond present.four (record { device = 4; numbers = four } ∷ []) [] ++ cond present.five (record { device = 5; numbers = five } ∷ []) []
 
 -- the wires before the first item
-abbrev pub wires : Present → List ℕ → List ℕ → List ℕ → BusState
+abbrev pub wires : Present → List ℕ → List ℕ → List ℕ → TimedBus
 wires present computer four five =
     record { before = []; now = 0; lines = Free; computer = computer; printers = present_printers present four five }
 

@@ -3,11 +3,11 @@ use Rattle.std.specs.Prelude.{◌≡◌, ℕ, ◌++◌, false, Option, List, dro
 use Rattle.pr_serial.specs.declared.Item.{Item}
 use Rattle.pr_serial.specs.Bus.{DelayNumbers}
 use Rattle.pr_serial.specs.declared.Present.{Present}
-use Rattle.pr_serial.specs.Telling.{IsReached}
+use Rattle.pr_serial.specs.HeardSinceMark.{IsReached}
 use Rattle.pr_bus.specs.declared.log.Log.{Log}
 use Rattle.pr_bus.specs.declared.talker.Talker.{Talker}
-use Rattle.pr_bus.specs.EarState.{Hears}
-use Rattle.pr_bus.specs.declared.wires.Begun.{Begun}
+use Rattle.pr_bus.specs.PortState.{Hears}
+use Rattle.pr_bus.specs.declared.wires.DelayOffsets.{DelayOffsets}
 use Rattle.pr_bus.specs.declared.wires.Wires.TheInside.{Inside}
 use Rattle.pr_bus.specs.WiresState.{WiresState, state_from, trace_until}
 use Rattle.pr_bus.specs.Timed.{trace_from}
@@ -15,7 +15,7 @@ use Rattle.pr_bus.specs.Talk.{state_of, IsTuned}
 use Rattle.pr_bus.specs.Laws.{AreItems}
 
 -- the delay numbers that were not taken before the first item
-abbrev pub numbers_of : Begun → Talker → DelayNumbers
+abbrev pub numbers_of : DelayOffsets → Talker → DelayNumbers
 numbers_of b t = record {
   computer = drop b.computer t.computer.numbers;
   four = drop b.four t.four.choices.numbers;
@@ -25,7 +25,7 @@ numbers_of b t = record {
 abbrev pub state_shown : Inside → WiresState
 state_shown w = record {
   present = w.present;
-  delays = numbers_of w.begun w.talker;
+  delays = numbers_of w.offsets w.talker;
   items = w.log.items.items;
   mark = w.mark;
   failed = w.failed;
@@ -45,10 +45,10 @@ pub record AreHearing (present : Present) (delays : DelayNumbers) (mark : Option
 pub record IsWired (w : Inside) : Type 0 where
   pub items : AreItems w.log.items.items
   pub within : IsReached w.mark w.log.items.items
-  pub trace : trace_until w.present (numbers_of w.begun w.talker) w.mark w.log.items.items ++ w.log.trace.items
-      ≡ trace_from w.present (numbers_of w.begun w.talker) w.log.items.items
-  pub time : w.time ≡ (state_from w.present (numbers_of w.begun w.talker) w.log.items.items).now
-  pub four : w.talker.four.there ≡ w.present.four
-  pub five : w.talker.five.there ≡ w.present.five
-  pub ears : AreHearing w.present (numbers_of w.begun w.talker) w.mark w.log.items.items w.log
+  pub trace : trace_until w.present (numbers_of w.offsets w.talker) w.mark w.log.items.items ++ w.log.trace.items
+      ≡ trace_from w.present (numbers_of w.offsets w.talker) w.log.items.items
+  pub time : w.time ≡ (state_from w.present (numbers_of w.offsets w.talker) w.log.items.items).now
+  pub four : w.talker.four.present ≡ w.present.four
+  pub five : w.talker.five.present ≡ w.present.five
+  pub ports : AreHearing w.present (numbers_of w.offsets w.talker) w.mark w.log.items.items w.log
   pub at : w.failed ≡ false → IsAt (state_shown w) w.talker

@@ -5,9 +5,9 @@ use Rattle.pr_serial.specs.declared.Present.{Present}
 use Rattle.pr_serial.specs.declared.Item.{Item}
 use Rattle.pr_serial.specs.Bus.{DelayNumbers}
 use Rattle.pr_wire.specs.declared.Edge.{Edge}
-use Rattle.pr_bus.specs.Timed.{BusState, wires, done, trace_from}
+use Rattle.pr_bus.specs.Timed.{TimedBus, wires, done, trace_from}
 
--- the printers that are there, the delay numbers, what was sent, the number of items at the last `forget`, and whether it has failed
+-- the printers that are present, the delay numbers, what was sent, the number of items at the last `forget`, and whether it has failed
 pub record WiresState : Type 0 where
   pub present : Present
   pub delays : DelayNumbers
@@ -16,15 +16,15 @@ pub record WiresState : Type 0 where
   pub failed : Bool
 
 -- the wires after items
-abbrev pub wires_after : BusState → List Item → BusState
+abbrev pub wires_after : TimedBus → List Item → TimedBus
 wires_after w [] = w
 wires_after w (x ∷ xs) = wires_after (done w x).wires xs
 
 -- the wires after items, from the first on
-abbrev pub state_from : Present → DelayNumbers → List Item → BusState
+abbrev pub state_from : Present → DelayNumbers → List Item → TimedBus
 state_from present delays items = wires_after (wires present delays.computer delays.four delays.five) items
 
-abbrev pub state_after : WiresState → BusState
+abbrev pub state_after : WiresState → TimedBus
 state_after w = state_from w.present w.delays w.items
 
 -- the timed trace of all that was sent, forgotten edges included

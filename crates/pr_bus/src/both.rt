@@ -2,19 +2,19 @@
 
 ghost use Rattle.std.specs.Prelude.{◌≡◌, ◌+◌, ◌≤◌, ◌<◌, ◌^◌, true, length};
 ghost use Rattle.pr_receiver.specs.Taken.{number_taken};
-ghost use Rattle.pr_bus.specs.EarState.{MayHear};
+ghost use Rattle.pr_bus.specs.PortState.{MayHear};
 ghost use Rattle.pr_bus.specs.Together.{HearsMore, Listens};
 
-use crate::ear::{WiredEar, push_given};
+use crate::port::{WiredPort, push_given};
 use pr_receiver::{fronts_are_allowed, inputs_add_up};
 use pr_wire::Edge;
 
-impl WiredEar {
+impl WiredPort {
     /// Hears edges from the front, and so does another printer: for their inputs there is room.
     /// Returns how many: the edges of a whole frame at once, tested once for both, where both find
     /// it next, and else one.
     #[inline(always)]
-    fn hear_front_with(&mut self, other: &mut WiredEar, edges: &[Edge]) -> usize
+    fn hear_front_with(&mut self, other: &mut WiredPort, edges: &[Edge]) -> usize
         requires some { 0 < length edges.now }
         requires taken { number_taken self.old.receiver + length edges.now < 2 ^ 63 }
         requires other_taken { number_taken other.old.receiver + length edges.now < 2 ^ 63 }
@@ -39,7 +39,7 @@ impl WiredEar {
     }
 
     /// Hears edges, and so does another printer: for their inputs there is room.
-    fn hear_with(&mut self, other: &mut WiredEar, edges: &[Edge])
+    fn hear_with(&mut self, other: &mut WiredPort, edges: &[Edge])
         requires taken { number_taken self.old.receiver + length edges.now < 2 ^ 63 }
         requires other_taken { number_taken other.old.receiver + length edges.now < 2 ^ 63 }
         requires may { MayHear edges.now self.old }
@@ -54,16 +54,16 @@ impl WiredEar {
         }
     }
 
-    /// Hears edges as [`WiredEar::listen`] does, and so does another printer.
-    pub fn listen_with(&mut self, other: &mut WiredEar, edges: &[Edge])
+    /// Hears edges as [`WiredPort::listen`] does, and so does another printer.
+    pub fn listen_with(&mut self, other: &mut WiredPort, edges: &[Edge])
         requires taken { number_taken self.old.receiver + length edges.now < 2 ^ 63 }
         requires other_taken { number_taken other.old.receiver + length edges.now < 2 ^ 63 }
-        requires may { self.old.there ≡ true → MayHear edges.now self.old }
-        requires other_may { other.old.there ≡ true → MayHear edges.now other.old }
+        requires may { self.old.present ≡ true → MayHear edges.now self.old }
+        requires other_may { other.old.present ≡ true → MayHear edges.now other.old }
         ensures listens { Listens edges.now self.old self.new }
         ensures other_listens { Listens edges.now other.old other.new }
     {
-        if self.there && other.there {
+        if self.present && other.present {
             self.hear_with(other, edges);
         } else {
             self.listen(edges);

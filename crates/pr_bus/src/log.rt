@@ -3,9 +3,9 @@
 ghost use Rattle.std.specs.Prelude.{◌≡◌, ◌++◌, ◌∷◌, [], ◌+◌, ◌<◌, ◌^◌, true, length, IfOk, OnOk, OnErr, vec_len, vec_capacity};
 ghost use Rattle.pr_wire.specs.Levels.{start};
 ghost use Rattle.pr_receiver.specs.Taken.{number_taken};
-ghost use Rattle.pr_bus.specs.EarState.{ForgetsAs, Hears, IsSameEar, HasRoom, ListensAs, MayHear};
+ghost use Rattle.pr_bus.specs.PortState.{ForgetsAs, Hears, IsSamePort, HasRoom, ListensAs, MayHear};
 
-use crate::ear::WiredEar;
+use crate::port::WiredPort;
 use crate::laws::timed_traces_spell;
 use crate::lines::push;
 use pr_receiver::fronts_are_allowed;
@@ -18,8 +18,8 @@ use std::alloc::Global;
 pub struct Log {
     pub items: Vec<Item>,
     pub trace: Vec<Edge>,
-    pub four: WiredEar,
-    pub five: WiredEar,
+    pub four: WiredPort,
+    pub five: WiredPort,
 }
 
 impl Log {
@@ -34,8 +34,8 @@ impl Log {
         fronts_are_allowed();
         let mut trace = Vec::new(alloc);
         push(&mut trace, 0, true, true, true)?;
-        let mut four = WiredEar::new(alloc, 4, present.four);
-        let mut five = WiredEar::new(alloc, 5, present.five);
+        let mut four = WiredPort::new(alloc, 4, present.four);
+        let mut five = WiredPort::new(alloc, 5, present.five);
         four.listen(&trace);
         five.listen(&trace);
         Ok(Log {
@@ -49,8 +49,8 @@ impl Log {
     /// Makes room for an item and its inputs, and adds its edges.
     pub fn grow(&mut self, edges: &[Edge]) -> Result<(), NoMemory>
         ensures items { self.new.items.items ≡ self.old.items.items }
-        ensures four { IsSameEar self.old.four self.new.four }
-        ensures five { IsSameEar self.old.five self.new.five }
+        ensures four { IsSamePort self.old.four self.new.four }
+        ensures five { IsSamePort self.old.five self.new.five }
         ensures trace { OnOk result (self.new.trace.items ≡ self.old.trace.items ++ edges.now) }
         ensures room { OnOk result (vec_len self.new.items < vec_capacity self.new.items) }
         ensures four_room { OnOk result (HasRoom self.new.four) }
@@ -67,8 +67,8 @@ impl Log {
     /// Adds an item, and lets the printers hear its edges. There is room for what comes of it.
     pub fn add(&mut self, item: Item, edges: &[Edge])
         requires room { vec_len self.old.items < vec_capacity self.old.items }
-        requires four_may { self.old.four.there ≡ true → MayHear edges.now self.old.four }
-        requires five_may { self.old.five.there ≡ true → MayHear edges.now self.old.five }
+        requires four_may { self.old.four.present ≡ true → MayHear edges.now self.old.four }
+        requires five_may { self.old.five.present ≡ true → MayHear edges.now self.old.five }
         requires four_taken { number_taken self.old.four.receiver + length edges.now < 2 ^ 63 }
         requires five_taken { number_taken self.old.five.receiver + length edges.now < 2 ^ 63 }
         ensures items { self.new.items.items ≡ self.old.items.items ++ item ∷ [] }

@@ -9,7 +9,7 @@ ghost use Rattle.pr_bus.specs.Talking.{option_list};
 ghost use Rattle.pr_bus.specs.Talk.{tuned_to};
 ghost use Rattle.pr_bus.specs.Printers.{printer_list, heeding, after_byte, after_freed, IsSamePrinter};
 
-use crate::hearer::Hearer;
+use crate::timing::ListenerTiming;
 use pr_base::{LISTEN, UNLISTEN};
 use pr_wire::{Choices, Kind};
 
@@ -17,19 +17,19 @@ use pr_wire::{Choices, Kind};
 #[derive(Drop)]
 pub struct TimedPrinter {
     pub device: u8,
-    pub there: bool,
+    pub present: bool,
     pub listens: bool,
     pub choices: Choices,
 }
 
 impl TimedPrinter {
     /// A printer that does not listen.
-    pub fn new(device: u8, there: bool, choices: Choices) -> TimedPrinter
-        ensures { result ≡ record { device = device; there = there; listens = false; choices = choices } }
+    pub fn new(device: u8, present: bool, choices: Choices) -> TimedPrinter
+        ensures { result ≡ record { device = device; present = present; listens = false; choices = choices } }
     {
         TimedPrinter {
             device,
-            there,
+            present,
             listens: false,
             choices,
         }
@@ -42,25 +42,25 @@ impl TimedPrinter {
         ensures same { IsSamePrinter self.old self.new }
         ensures listens { self.new.listens ≡ self.old.listens }
     {
-        if !self.there {
+        if !self.present {
             return None;
         }
         Some(self.choices.next(Kind::At))
     }
 
     /// What it waits in a command's frame.
-    pub fn command(&mut self) -> Option<Hearer>
+    pub fn command(&mut self) -> Option<ListenerTiming>
         ensures hearers { option_list result ≡ command_hearers 0 (printer_list self.old) }
         ensures after { printer_list self.new ≡ map (taking 2) (printer_list self.old) }
         ensures same { IsSamePrinter self.old self.new }
         ensures listens { self.new.listens ≡ self.old.listens }
     {
-        if !self.there {
+        if !self.present {
             return None;
         }
         let hold = self.choices.next(Kind::H);
         let accept = self.choices.next(Kind::F);
-        Some(Hearer {
+        Some(ListenerTiming {
             hold,
             wait: 0,
             answer: 0,
@@ -69,13 +69,13 @@ impl TimedPrinter {
     }
 
     /// What it waits in a data byte's frame, if it listens.
-    pub fn byte(&mut self, eoi: bool) -> Option<Hearer>
+    pub fn byte(&mut self, eoi: bool) -> Option<ListenerTiming>
         ensures hearers { option_list result ≡ data_hearers eoi (heeding self.old) }
         ensures after { printer_list self.new ≡ after_byte eoi self.old }
         ensures same { IsSamePrinter self.old self.new }
         ensures listens { self.new.listens ≡ self.old.listens }
     {
-        if !self.there {
+        if !self.present {
             return None;
         }
         if !self.listens {
@@ -85,7 +85,7 @@ impl TimedPrinter {
         let wait = self.choices.next(Kind::Ye);
         let answer = if eoi { self.choices.next(Kind::Ei) } else { 0 };
         let accept = self.choices.next(Kind::F);
-        Some(Hearer {
+        Some(ListenerTiming {
             hold,
             wait,
             answer,
@@ -95,13 +95,13 @@ impl TimedPrinter {
 
     /// What it waits before it releases DATA after ATN, if it does not listen.
     pub fn freed(&mut self) -> Option<u16>
-        ensures time { (self.old.there && self.old.listens) ≡ false →
+        ensures time { (self.old.present && self.old.listens) ≡ false →
             option_list result ≡ map (λ (p : all.TimedPrinter). delay_at Dr p.numbers 0) (printer_list self.old) }
         ensures after { printer_list self.new ≡ after_freed self.old }
         ensures same { IsSamePrinter self.old self.new }
         ensures listens { self.new.listens ≡ self.old.listens }
     {
-        if !self.there || self.listens {
+        if !self.present || self.listens {
             return None;
         }
         Some(self.choices.next(Kind::Dr))

@@ -13,7 +13,7 @@ ghost use Rattle.pr_bus.specs.Talking.{lines_of};
 ghost use Rattle.pr_serial.specs.Sendable.{MaySend};
 
 use crate::frame::push_frame;
-use crate::hearer::joined;
+use crate::timing::wired_and;
 use crate::lines::{Lines, greatest, least, push, push_answer, push_call, push_due};
 use crate::printer::TimedPrinter;
 use pr_base::UNLISTEN;
@@ -35,16 +35,16 @@ pub struct Talker {
 impl Talker {
     /// Whether an attention is answered.
     fn is_answered(&self) -> bool
-        ensures { result ≡ (self.now.four.there || self.now.five.there) }
+        ensures { result ≡ (self.now.four.present || self.now.five.present) }
     {
-        self.four.there || self.five.there
+        self.four.present || self.five.present
     }
 
     /// Whether a byte is answered.
     pub fn is_heard(&self) -> bool
-        ensures { result ≡ ((self.now.four.there && self.now.four.listens) || (self.now.five.there && self.now.five.listens)) }
+        ensures { result ≡ ((self.now.four.present && self.now.four.listens) || (self.now.five.present && self.now.five.listens)) }
     {
-        (self.four.there && self.four.listens) || (self.five.there && self.five.listens)
+        (self.four.present && self.four.listens) || (self.five.present && self.five.listens)
     }
 
     /// Sends a byte, and makes its edges.
@@ -168,7 +168,7 @@ impl Talker {
         ensures err { OnErr result (self.new.time ≡ self.old.time) }
     {
         push(&mut self.edges, look, true, true, false)?;
-        let hearers = joined(self.four.byte(eoi), self.five.byte(eoi));
+        let hearers = wired_and(self.four.byte(eoi), self.five.byte(eoi));
         let now = push_frame(
             &mut self.edges,
             &mut self.computer,
@@ -214,7 +214,7 @@ impl Talker {
         ensures listens { IsSameTuned self.old self.new }
         ensures now { self.new.time ≡ self.old.time }
     {
-        let hearers = joined(self.four.command(), self.five.command());
+        let hearers = wired_and(self.four.command(), self.five.command());
         push_frame(
             &mut self.edges,
             &mut self.computer,

@@ -13,7 +13,7 @@ use Rattle.pr_serial.specs.Heard.{is_present, inputs_at, heard_by}
 use Rattle.pr_serial.specs.Steps.{IsNotCalled}
 use Rattle.pr_serial.proofs.AnswerLemmas.{is_listener-push, with_before-append}
 
--- what is heard of one more item, whether the device is there or not
+-- what is heard of one more item, whether the device is present or not
 heard_at : (present : Present) (device : ℕ) (items : List Item) (item : Item) (there : Bool) → is_present present device ≡ there → heard_by present device (items ++ item ∷ []) ≡ heard_by present device items ++ cond there (inputs_at device items item) []
 heard_at present device items item true e =
     let hears = λ (p : List Item × Item). inputs_at device p.0 p.1 in

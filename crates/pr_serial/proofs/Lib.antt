@@ -1,4 +1,4 @@
 pub mod ItemLemmas
 pub mod AnswerLemmas
 pub mod HeardLemmas
-pub mod EarLemmas
+pub mod PortLemmas

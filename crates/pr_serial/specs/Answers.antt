@@ -21,7 +21,7 @@ is_listen device (Sent b eoi) = false
 abbrev pub is_listener : ℕ → List Item → Bool
 is_listener device before = list_any (is_listen device) (after_last is_unlisten before)
 
--- an attention is answered if a printer is there, a byte if a printer that is there listens
+-- an attention is answered if a printer is present, a byte if a present printer listens
 abbrev pub is_answered : Present → List Item → Item → Bool
 is_answered present before (Attention first second) = present.four || present.five
 is_answered present before (Sent b eoi) = (present.four && is_listener 4 before) || (present.five && is_listener 5 before)

@@ -4,7 +4,7 @@ use Rattle.pr_serial.specs.declared.Present.{Present}
 use Rattle.pr_serial.specs.declared.Item.{Item}
 use Rattle.pr_serial.specs.Bus.{DelayNumbers}
 
--- the printers that are there, what was sent, the number of items at the last `forget`, and whether it has failed
+-- the printers that are present, what was sent, the number of items at the last `forget`, and whether it has failed
 pub record DirectState : Type 0 where
   pub present : Present
   pub items : List Item

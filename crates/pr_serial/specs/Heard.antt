@@ -10,7 +10,7 @@ use Rattle.pr_serial.specs.declared.Item.{Item}
 use Rattle.pr_serial.specs.declared.Item.TheVariants.{Attention, Sent}
 use Rattle.pr_serial.specs.Answers.{is_listener}
 
--- a printer with this number is there
+-- a printer with this number is present
 abbrev pub is_present : Present → ℕ → Bool
 is_present present device = (present.four && device == 4) || (present.five && device == 5)
 
@@ -23,6 +23,6 @@ inputs_at device before (Attention first second) = if first == command.listen + 
     select_lower (Some s) = if s == command.secondary + 7 then Select true ∷ [] else []
 inputs_at device before (Sent b eoi) = if is_listener device before then Byte b ∷ [] else []
 
--- what a device hears of the items, in order: nothing if it is not there
+-- what a device hears of the items, in order: nothing if it is absent
 abbrev pub heard_by : Present → ℕ → List Item → List Input
 heard_by present device items = if is_present present device then flat_map (λ p. inputs_at device p.0 p.1) (with_before [] items) else []

@@ -50,7 +50,7 @@ abbrev pub LackingInOne : Type 0
 LackingInOne = (present : Present) (xs : List Item) (x : Item) →
     is_lacking present (length xs) (xs ++ x ∷ []) ≡ not (is_answered present xs x)
 
--- what a device that is there hears of one more item is what that gives after those before it
+-- what a device that is present hears of one more item is what that gives after those before it
 abbrev pub HeardOfOneMore : Type 0
 HeardOfOneMore = (present : Present) (device : ℕ) (items : List Item) (item : Item) →
     heard_by present device (items ++ item ∷ [])

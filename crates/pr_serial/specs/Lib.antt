@@ -2,7 +2,7 @@ pub mod Elements
 pub mod Items
 pub mod Answers
 pub mod Heard
-pub mod Telling
+pub mod HeardSinceMark
 pub mod Bus
 pub mod Sendable
 pub mod DirectState

@@ -1,6 +1,6 @@
 //! A bus that tells what its devices heard.
 
-ghost use Rattle.pr_serial.specs.Telling.{TellsHeard};
+ghost use Rattle.pr_serial.specs.HeardSinceMark.{IsHeardSinceMark};
 
 use crate::direct::Direct;
 use crate::serial::Serial;
@@ -14,7 +14,7 @@ pub trait Bus: Serial {
     /// What a device heard since the last [`Serial::forget`] (before the first: of all items), in
     /// order: the empty list if the device is absent. After a refusal it answers as before.
     fn heard(&self, device: u8) -> &[Input]
-        ensures { TellsHeard (Self.printers self.now) (Self.marked self.now) (Self.sent self.now) device result.now };
+        ensures { IsHeardSinceMark (Self.printers self.now) (Self.marked self.now) (Self.sent self.now) device result.now };
 }
 
 impl Bus for Direct {

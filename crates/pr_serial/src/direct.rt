@@ -1,9 +1,9 @@
 //! A bus without wires.
 
 ghost use Rattle.std.specs.Prelude.{◌≡◌, ◌<◌, false, None, [], OnOk, vec_len, vec_capacity};
-ghost use Rattle.pr_serial.specs.Hearing.{IsSameEar, HasRoom};
+ghost use Rattle.pr_serial.specs.Hearing.{IsSamePort, HasRoom};
 
-use crate::ear::Ear;
+use crate::port::PrinterPort;
 use crate::serial::Serial;
 use crate::{Item, NoMemory, Present};
 use pr_base::{FIRST_PRINTER, SECOND_PRINTER};
@@ -17,8 +17,8 @@ use std::marker::Model;
 pub struct Direct {
     present: Present,
     items: Vec<Item>,
-    four: Ear,
-    five: Ear,
+    four: PrinterPort,
+    five: PrinterPort,
     mark: Option<u64>,
     failed: bool,
 }
@@ -29,7 +29,7 @@ impl Model for Direct {
     ghost Value = { DirectState };
 
     ghost use Rattle.pr_serial.specs.Hearing.{Hears};
-    ghost use Rattle.pr_serial.specs.Telling.{IsReached};
+    ghost use Rattle.pr_serial.specs.HeardSinceMark.{IsReached};
 
     ghost view = { λ d. record { present = d.present; items = d.items.items; mark = d.mark; failed = d.failed } };
 
@@ -38,7 +38,7 @@ impl Model for Direct {
 }
 
 impl Direct {
-    ghost use Rattle.pr_serial.specs.Telling.{TellsHeard};
+    ghost use Rattle.pr_serial.specs.HeardSinceMark.{IsHeardSinceMark};
 
     /// A bus with these printers, on which nothing was sent and nobody listens. It takes no memory.
     pub fn new(alloc: Global, present: Present) -> Direct
@@ -50,8 +50,8 @@ impl Direct {
         Direct {
             present,
             items: Vec::new(alloc),
-            four: Ear::new(alloc, FIRST_PRINTER, present.four),
-            five: Ear::new(alloc, SECOND_PRINTER, present.five),
+            four: PrinterPort::new(alloc, FIRST_PRINTER, present.four),
+            five: PrinterPort::new(alloc, SECOND_PRINTER, present.five),
             mark: None,
             failed: false,
         }
@@ -60,7 +60,7 @@ impl Direct {
     /// What a device heard since the last [`Serial::forget`] (before the first: of all items), in
     /// order: the empty list if the device is absent. After a refusal it answers as before.
     pub fn heard(&self, device: u8) -> &[Input]
-        ensures { TellsHeard self.now.present self.now.mark self.now.items device result.now }
+        ensures { IsHeardSinceMark self.now.present self.now.mark self.now.items device result.now }
     {
         match device {
             FIRST_PRINTER => &self.four.inputs,
@@ -70,18 +70,18 @@ impl Direct {
     }
 }
 
-/// Makes room for one item, and for what each printer that is there hears of it, unless the bus has
+/// Makes room for one item, and for what each present printer hears of it, unless the bus has
 /// failed.
 fn make_room(
     failed: bool,
     items: &mut Vec<Item>,
-    four: &mut Ear,
-    five: &mut Ear,
+    four: &mut PrinterPort,
+    five: &mut PrinterPort,
 ) -> Result<(), NoMemory>
     ensures works { OnOk result (failed ≡ false) }
     ensures items { items.new.items ≡ items.old.items }
-    ensures four { IsSameEar four.old four.new }
-    ensures five { IsSameEar five.old five.new }
+    ensures four { IsSamePort four.old four.new }
+    ensures five { IsSamePort five.old five.new }
     ensures items_room { OnOk result (vec_len items.new < vec_capacity items.new) }
     ensures four_room { OnOk result (HasRoom four.new) }
     ensures five_room { OnOk result (HasRoom five.new) }

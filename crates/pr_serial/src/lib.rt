@@ -9,22 +9,22 @@
 
 mod bus;
 mod direct;
-mod ear;
 pub mod laws;
+mod port;
 mod serial;
 
 pub use bus::Bus;
 pub use direct::Direct;
-pub use ear::INPUTS_OF_AN_ITEM;
+pub use port::INPUTS_OF_AN_ITEM;
 pub use pr_page::{Input, NoMemory};
 pub use serial::Serial;
 
-/// Which printers are there. It does not change during a run.
+/// Which printers are present. It does not change during a run.
 #[derive(Clone, Copy, Debug, PartialEq, Eq)]
 pub struct Present {
-    /// Device 4 is there.
+    /// Device 4 is present.
     pub four: bool,
-    /// Device 5 is there.
+    /// Device 5 is present.
     pub five: bool,
 }
 

@@ -12,12 +12,12 @@ use crate::NoMemory;
 
 /// A serial bus with a computer that talks and printers 4 and 5 that listen, by what was sent on it.
 ///
-/// Its content, in the clauses: the printers that are there and the raw delay numbers of each
+/// Its content, in the clauses: the printers that are present and the raw delay numbers of each
 /// party, neither of which changes; the items sent, in order (whether one was answered follows from
 /// those before it); how many of them there were at the last [`Serial::forget`]; and whether the
 /// bus has failed. Once it has failed it has failed for good.
 pub trait Serial {
-    /// Which printers are there.
+    /// Which printers are present.
     ghost printers: { Self → Present };
 
     /// The raw delay numbers that each party draws on.

@@ -6,7 +6,7 @@ use Rattle.pr_serial.specs.declared.Item.{Item}
 use Rattle.pr_serial.specs.Elements.{Element}
 use Rattle.pr_serial.specs.Items.{items_of}
 use Rattle.pr_serial.specs.Heard.{heard_by}
-use Rattle.pr_serial.specs.Telling.{items_before}
+use Rattle.pr_serial.specs.HeardSinceMark.{items_before}
 use Rattle.pr_serial.specs.Laws.{ItemsOnlyGrow}
 use Rattle.pr_page.specs.declared.input.Input.{Input}
 use Rattle.pr_page.specs.declared.state.PrinterState.{PrinterState}

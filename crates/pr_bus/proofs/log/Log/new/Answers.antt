@@ -1,6 +1,6 @@
 use Rattle.std.proofs.Common.{◌∷◌, [], ◌++◌, ap, ◌∙◌}
 use Rattle.pr_wire.specs.Levels.{start}
-use Rattle.pr_bus.proofs.EarLemmas.{first-heard, first-ready, start-allowed}
+use Rattle.pr_bus.proofs.PortLemmas.{first-heard, first-ready, start-allowed}
 use Rattle.pr_bus.proofs.log.Log.new.Goals as goal
 
 pub listen-requires-clause-may : goal.listen-requires-clause-may

@@ -58,7 +58,7 @@ here c before i =
     (command-computer c) (command-printers c)
     c.in_ok-ack-2.ensures.computer c.in_ok-ack-2.ensures.four c.in_ok-ack-2.ensures.five c.tune-2.ensures
 
-there : (c : goal.In_ok-release) → (c.args.self.now.four.there || c.args.self.now.five.there) ≡ true
+there : (c : goal.In_ok-release) → (c.args.self.now.four.present || c.args.self.now.five.present) ≡ true
 there c = sym c.is_answered.ensures ∙ c.if-not-is_answered.false
 
 pub returns-clause-edges : goal.returns-clause-edges

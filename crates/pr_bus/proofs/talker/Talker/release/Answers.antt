@@ -10,10 +10,10 @@ use Rattle.pr_bus.proofs.talker.Talker.release.Goals.{then-is_heard, else-is_hea
 
 pub returns-then-not-unlisten-clause-lines : goal.returns-then-not-unlisten-clause-lines
 returns-then-not-unlisten-clause-lines c =
-    let four : (c.freed.new.self.there && c.freed.new.self.listens) ≡ (c.args.self.now.four.there && c.args.self.now.four.listens) = ap (λ v. v && c.freed.new.self.listens) c.freed.ensures.same.there ∙ ap (λ v. c.args.self.now.four.there && v) c.freed.ensures.listens in
-    let five : (c.freed-2.new.self.there && c.freed-2.new.self.listens) ≡ (c.args.self.now.five.there && c.args.self.now.five.listens) = ap (λ v. v && c.freed-2.new.self.listens) c.freed-2.ensures.same.there ∙ ap (λ v. c.args.self.now.five.there && v) c.freed-2.ensures.listens in
-    let heard : ((c.args.self.now.four.there && c.args.self.now.four.listens) || (c.args.self.now.five.there && c.args.self.now.five.listens)) ≡ c.is_heard.result =
-    sym (c.is_heard.ensures ∙ ap (λ v. v || (c.freed-2.new.self.there && c.freed-2.new.self.listens)) four ∙ ap (λ v. (c.args.self.now.four.there && c.args.self.now.four.listens) || v) five) in
+    let four : (c.freed.new.self.present && c.freed.new.self.listens) ≡ (c.args.self.now.four.present && c.args.self.now.four.listens) = ap (λ v. v && c.freed.new.self.listens) c.freed.ensures.same.present ∙ ap (λ v. c.args.self.now.four.present && v) c.freed.ensures.listens in
+    let five : (c.freed-2.new.self.present && c.freed-2.new.self.listens) ≡ (c.args.self.now.five.present && c.args.self.now.five.listens) = ap (λ v. v && c.freed-2.new.self.listens) c.freed-2.ensures.same.present ∙ ap (λ v. c.args.self.now.five.present && v) c.freed-2.ensures.listens in
+    let heard : ((c.args.self.now.four.present && c.args.self.now.four.listens) || (c.args.self.now.five.present && c.args.self.now.five.listens)) ≡ c.is_heard.result =
+    sym (c.is_heard.ensures ∙ ap (λ v. v || (c.freed-2.new.self.present && c.freed-2.new.self.listens)) four ∙ ap (λ v. (c.args.self.now.four.present && c.args.self.now.four.listens) || v) five) in
     elim c.if-is_heard.branch [
       | then-is_heard w ↦ ap lines_of w.self-is ∙ rest-heard c.args.self.now c.args.ack c.args.unlisten c.if-not-unlisten.true (heard ∙ w.if-is_heard.true)
       | else-is_heard w ↦

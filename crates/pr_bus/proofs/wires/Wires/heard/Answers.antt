@@ -2,7 +2,7 @@ use Rattle.std.proofs.Common.{◌≡◌, ◌≤◌, ◌*◌, ◌++◌, List, len
 use Rattle.std.proofs.lemmas.Grind.{common_steps}
 use Rattle.pr_page.specs.declared.input.Input.{Input}
 use Rattle.pr_serial.specs.Heard.{heard_by}
-use Rattle.pr_serial.specs.Telling.{items_before}
+use Rattle.pr_serial.specs.HeardSinceMark.{items_before}
 use Rattle.pr_bus.specs.WiresState.{WiresState}
 use Rattle.pr_bus.specs.Wired.{numbers_of}
 use Rattle.pr_bus.proofs.WiredLemmas.{heard-since, present-four, present-five}
@@ -11,12 +11,12 @@ use Rattle.pr_bus.proofs.wires.Wires.heard.Goals as goal
 four-since : (c : goal.After-deref) → let w = c.self.inside in heard_by w.present 4 (items_before w.mark w.log.items.items) ++ w.log.four.inputs.items ≡ heard_by w.present 4 w.log.items.items
 four-since c =
     let w = c.self.inside in
-    heard-since c.items_are_heard_on_wires.ensures.wires w.present (numbers_of w.begun w.talker) w.mark w.log.items.items 4 w.present.four w.log.four c.self.invariant.items (present-four w.present) c.self.invariant.ears.four
+    heard-since c.items_are_heard_on_wires.ensures.wires w.present (numbers_of w.offsets w.talker) w.mark w.log.items.items 4 w.present.four w.log.four c.self.invariant.items (present-four w.present) c.self.invariant.ports.four
 
 five-since : (c : goal.After-deref-in-5) → let w = c.self.inside in heard_by w.present 5 (items_before w.mark w.log.items.items) ++ w.log.five.inputs.items ≡ heard_by w.present 5 w.log.items.items
 five-since c =
     let w = c.self.inside in
-    heard-since c.items_are_heard_on_wires.ensures.wires w.present (numbers_of w.begun w.talker) w.mark w.log.items.items 5 w.present.five w.log.five c.self.invariant.items (present-five w.present) c.self.invariant.ears.five
+    heard-since c.items_are_heard_on_wires.ensures.wires w.present (numbers_of w.offsets w.talker) w.mark w.log.items.items 5 w.present.five w.log.five c.self.invariant.items (present-five w.present) c.self.invariant.ports.five
 
 pub returns-in-4 : goal.returns-in-4
 returns-in-4 c =

@@ -8,7 +8,7 @@ use Rattle.pr_bus.proofs.wires.Wires.trace.Goals as goal
 pub returns-clause-short : goal.returns-clause-short
 returns-clause-short c =
     let w = c.self.inside in
-    let d = numbers_of w.begun w.talker in
+    let d = numbers_of w.offsets w.talker in
     subst (λ (v : WiresState). length c.deref.result.now ≤ 1 + edge_bound v.items) c.self.view_is
     (omega (
       arith,

@@ -1,7 +1,7 @@
 use Rattle.std.proofs.Common.{ap, sym, subst, ◌∙◌, ◌++◌, ◌∷◌, [], length, ◌<◌, ◌^◌, refl, true}
 use Rattle.pr_serial.specs.declared.Item.TheVariants.{Attention}
 use Rattle.pr_bus.specs.WiresState.{WiresState}
-use Rattle.pr_bus.proofs.WiredLemmas.{ok-of, err-of, time-small, TraceLaws, wired-after, wired-failed, wired-still, same-ear, ears-small, RoomLaws, ears-may}
+use Rattle.pr_bus.proofs.WiredLemmas.{ok-of, err-of, time-small, TraceLaws, wired-after, wired-failed, wired-still, same-port, ports-small, RoomLaws, ports-may}
 use Rattle.pr_bus.specs.declared.wires.Wires.TheInside.{Inside}
 use Rattle.pr_bus.specs.Wired.{numbers_of, IsWired}
 use Rattle.pr_bus.proofs.wires.WiresSerial.attention.Goals as goal
@@ -10,18 +10,18 @@ use Rattle.pr_bus.proofs.wires.WiresSerial.attention.Goals.{then-self-via-then-s
 pub attention-requires-clause-room : goal.attention-requires-clause-room
 attention-requires-clause-room c =
     let w = c.self.inside in
-    time-small w.present (numbers_of w.begun w.talker) w.log.items.items w.talker c.self.invariant.items (c.self.invariant.at c.if-self.false).state
+    time-small w.present (numbers_of w.offsets w.talker) w.log.items.items w.talker c.self.invariant.items (c.self.invariant.at c.if-self.false).state
     (subst (λ (v : WiresState). length v.items < 2 ^ 32) (sym c.self.view_is) c.requires.room)
 
 pub add-requires-clause-four_taken : goal.add-requires-clause-four_taken
 add-requires-clause-four_taken c =
-    (ears-small c.timed_traces_are_bounded.ensures.whole c.timed_traces_are_bounded.ensures.shares c.self.inside (Attention c.args.first c.args.second) c.deref-2.result.now c.grow.new.self c.self.invariant c.if-self.false c.requires.may_send
+    (ports-small c.timed_traces_are_bounded.ensures.whole c.timed_traces_are_bounded.ensures.shares c.self.inside (Attention c.args.first c.args.second) c.deref-2.result.now c.grow.new.self c.self.invariant c.if-self.false c.requires.may_send
     (subst (λ (v : WiresState). length v.items < 2 ^ 32) (sym c.self.view_is) c.requires.room)
     (λ before i. c.deref-2.ensures.value ∙ ok-of c.attention.result (sym c.is_err.ensures.value ∙ c.if-is_err.false) c.attention.ensures.edges before i) c.grow.ensures.four c.grow.ensures.five).0
 
 pub add-requires-clause-five_taken : goal.add-requires-clause-five_taken
 add-requires-clause-five_taken c =
-    (ears-small c.timed_traces_are_bounded.ensures.whole c.timed_traces_are_bounded.ensures.shares c.self.inside (Attention c.args.first c.args.second) c.deref-2.result.now c.grow.new.self c.self.invariant c.if-self.false c.requires.may_send
+    (ports-small c.timed_traces_are_bounded.ensures.whole c.timed_traces_are_bounded.ensures.shares c.self.inside (Attention c.args.first c.args.second) c.deref-2.result.now c.grow.new.self c.self.invariant c.if-self.false c.requires.may_send
     (subst (λ (v : WiresState). length v.items < 2 ^ 32) (sym c.self.view_is) c.requires.room)
     (λ before i. c.deref-2.ensures.value ∙ ok-of c.attention.result (sym c.is_err.ensures.value ∙ c.if-is_err.false) c.attention.ensures.edges before i) c.grow.ensures.four c.grow.ensures.five).1
 
@@ -35,7 +35,7 @@ add-requires-clause-four_may c =
       few = c.hearing_is_local.ensures.few;
     } in
     let grown = sym c.is_err-else-is_err.ensures.value ∙ c.if-is_err-2.false in
-    (ears-may laws c.self.inside (Attention c.args.first c.args.second) c.deref-2.result.now c.grow.new.self c.self.invariant c.if-self.false c.requires.may_send
+    (ports-may laws c.self.inside (Attention c.args.first c.args.second) c.deref-2.result.now c.grow.new.self c.self.invariant c.if-self.false c.requires.may_send
     (λ before i. c.deref-2.ensures.value ∙ ok-of c.attention.result (sym c.is_err.ensures.value ∙ c.if-is_err.false) c.attention.ensures.edges before i) c.grow.ensures.four c.grow.ensures.five
     (ok-of c.grow.result grown c.grow.ensures.four_room) (ok-of c.grow.result grown c.grow.ensures.five_room)).0
 
@@ -49,7 +49,7 @@ add-requires-clause-five_may c =
       few = c.hearing_is_local.ensures.few;
     } in
     let grown = sym c.is_err-else-is_err.ensures.value ∙ c.if-is_err-2.false in
-    (ears-may laws c.self.inside (Attention c.args.first c.args.second) c.deref-2.result.now c.grow.new.self c.self.invariant c.if-self.false c.requires.may_send
+    (ports-may laws c.self.inside (Attention c.args.first c.args.second) c.deref-2.result.now c.grow.new.self c.self.invariant c.if-self.false c.requires.may_send
     (λ before i. c.deref-2.ensures.value ∙ ok-of c.attention.result (sym c.is_err.ensures.value ∙ c.if-is_err.false) c.attention.ensures.edges before i) c.grow.ensures.four c.grow.ensures.five
     (ok-of c.grow.result grown c.grow.ensures.four_room) (ok-of c.grow.result grown c.grow.ensures.five_room)).1
 
@@ -57,7 +57,7 @@ pub invariant_of-self : goal.invariant_of-self
 invariant_of-self c = elim c.then-self.branch [
   | then-self-via-then-self w ↦ subst (λ (v : Inside). IsWired (record v { failed = true })) (sym w.self-inside-is) (wired-still c.self.inside c.self.invariant)
   | then-self-via-else-self+then-is_err w ↦ subst (λ (v : Inside). IsWired (record v { failed = true })) (sym w.self-inside-is)
-      (wired-failed c.self.inside c.self.inside.log w.attention.new.self c.self.invariant w.attention.ensures.same refl refl (same-ear c.self.inside.log.four) (same-ear c.self.inside.log.five))
+      (wired-failed c.self.inside c.self.inside.log w.attention.new.self c.self.invariant w.attention.ensures.same refl refl (same-port c.self.inside.log.four) (same-port c.self.inside.log.five))
   | then-self-via-else-self+else-is_err+then-is_err-2 w ↦ subst (λ (v : Inside). IsWired (record v { failed = true })) (sym w.self-inside-is)
       (wired-failed c.self.inside w.grow.new.self w.attention.new.self c.self.invariant w.attention.ensures.same w.grow.ensures.items
       (err-of w.grow.result (sym w.is_err-else-is_err.ensures.value ∙ w.if-is_err-2.true) w.grow.ensures.err) w.grow.ensures.four w.grow.ensures.five)

@@ -1,6 +1,6 @@
 use Rattle.std.proofs.Common.{arith}
 use Rattle.std.proofs.lemmas.Grind.{common_steps}
-use Rattle.pr_serial.specs.Telling.{items_before}
+use Rattle.pr_serial.specs.HeardSinceMark.{items_before}
 use Rattle.pr_serial.proofs.HeardLemmas.{length-heard_by, length-heard_since}
 use Rattle.pr_serial.proofs.direct.Direct.heard.Goals as goal
 

@@ -1,8 +1,8 @@
 use Rattle.std.proofs.Common.{◌∙◌, ◌++◌, arith, drop, length-drop, subst, take}
 use Rattle.std.proofs.lemmas.List.{take_all, take_rest}
-use Rattle.pr_bus.specs.EarState.{IsHearing, MayHear}
-use Rattle.pr_bus.proofs.EarLemmas.{front-is, front-allowed, rest-ready}
-use Rattle.pr_bus.proofs.ear.WiredEar.hear.Goals as goal
+use Rattle.pr_bus.specs.PortState.{IsHearing, MayHear}
+use Rattle.pr_bus.proofs.PortLemmas.{front-is, front-allowed, rest-ready}
+use Rattle.pr_bus.proofs.port.WiredPort.hear.Goals as goal
 
 pub loop-at-preserved : goal.loop-at-preserved
 loop-at-preserved c =
@@ -17,7 +17,7 @@ loop-at-preserved c =
           (hears forgotten (trace ++ take i edges) (front-allowed c.fronts_are_allowed.ensures.fronts trace edges i n a) (c.loop-at.invariant.hears forgotten trace a h));
       within = omega (arith, within, length-drop i edges, c.loop-at.invariant.within);
       device = c.hear_front-at.ensures.device ∙ c.loop-at.invariant.device;
-      there = c.hear_front-at.ensures.there ∙ c.loop-at.invariant.there;
+      present = c.hear_front-at.ensures.present ∙ c.loop-at.invariant.present;
       count = omega (arith, c.hear_front-at.ensures.count, c.loop-at.invariant.count);
       capacity = c.hear_front-at.ensures.capacity ∙ c.loop-at.invariant.capacity;
     }

@@ -1,9 +1,9 @@
 use Rattle.std.proofs.Common.{◌≡◌, arith, drop, length, length-drop, subst}
 use Rattle.std.proofs.lemmas.List.{take_rest}
-use Rattle.pr_bus.specs.EarState.{MayHear}
+use Rattle.pr_bus.specs.PortState.{MayHear}
 use Rattle.pr_bus.specs.Together.{HearsMore}
 use Rattle.pr_bus.proofs.HearingMore.{heard-on, rest-may}
-use Rattle.pr_bus.proofs.ear.WiredEar.hear_with.Goals as goal
+use Rattle.pr_bus.proofs.port.WiredPort.hear_with.Goals as goal
 
 pub loop-at-preserved : goal.loop-at-preserved
 loop-at-preserved c =

@@ -1,6 +1,6 @@
 use Rattle.std.proofs.Common.{◌-◌, ◌≤◌, length}
 use Rattle.pr_bus.specs.Together.{HearsMore}
-use Rattle.pr_bus.proofs.ear.WiredEar.hear_with.Given as goal
+use Rattle.pr_bus.proofs.port.WiredPort.hear_with.Given as goal
 
 -- both have heard the edges so far
 abbrev pub invariant-loop-at : goal.invariant-loop-at

@@ -1,6 +1,6 @@
 use Rattle.std.proofs.Common.{arith, refl}
 use Rattle.pr_bus.proofs.HearingMore.{first-may, heard-at-once, heard-first, room-at-once}
-use Rattle.pr_bus.proofs.ear.WiredEar.hear_front_with.Goals as goal
+use Rattle.pr_bus.proofs.port.WiredPort.hear_front_with.Goals as goal
 
 pub push_given-requires : goal.push_given-requires
 push_given-requires c =
@@ -36,10 +36,10 @@ pub returns-clause-hears : goal.returns-clause-hears
 returns-clause-hears c =
     let s = c.pass_frame_with-passed.ensures.takes.stays (omega (arith, c.if-passed-gt0.false)) in
     let one = c.hear_one.ensures in
-    heard-first c.args.edges.now _ c.args.self.now c.hear_one.new.self c.requires.some (λ forgotten trace a h. one.hears forgotten trace a (rw s.0 h)) (rw s.0 at one.device) one.there (rw s.0 at one.count) one.capacity
+    heard-first c.args.edges.now _ c.args.self.now c.hear_one.new.self c.requires.some (λ forgotten trace a h. one.hears forgotten trace a (rw s.0 h)) (rw s.0 at one.device) one.present (rw s.0 at one.count) one.capacity
 
 pub returns-clause-other_hears : goal.returns-clause-other_hears
 returns-clause-other_hears c =
     let s = c.pass_frame_with-passed.ensures.other_takes.stays (omega (arith, c.if-passed-gt0.false)) in
     let one = c.hear_one-2.ensures in
-    heard-first c.args.edges.now _ c.args.other.now c.hear_one-2.new.self c.requires.some (λ forgotten trace a h. one.hears forgotten trace a (rw s.0 h)) (rw s.0 at one.device) one.there (rw s.0 at one.count) one.capacity
+    heard-first c.args.edges.now _ c.args.other.now c.hear_one-2.new.self c.requires.some (λ forgotten trace a h. one.hears forgotten trace a (rw s.0 h)) (rw s.0 at one.device) one.present (rw s.0 at one.count) one.capacity

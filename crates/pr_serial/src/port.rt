@@ -6,7 +6,7 @@ ghost use Rattle.pr_serial.specs.declared.Item.TheVariants.{Attention, Sent};
 ghost use Rattle.pr_base.specs.Bytes as command;
 ghost use Rattle.pr_serial.specs.Answers.{is_listener};
 ghost use Rattle.pr_serial.specs.Heard.{inputs_at};
-ghost use Rattle.pr_serial.specs.Hearing.{IsSameEar, HasRoom};
+ghost use Rattle.pr_serial.specs.Hearing.{IsSamePort, HasRoom};
 
 use crate::NoMemory;
 use pr_base::{LISTEN, LOWER_CASE, UNLISTEN};
@@ -17,44 +17,44 @@ use std::alloc::Global;
 /// character set twice.
 pub const INPUTS_OF_AN_ITEM: usize = 2;
 
-/// A printer's place on the bus: whether it listens, and what it has heard if it is there.
+/// A printer's place on the bus: whether it listens, and what it has heard if it is present.
 #[derive(Drop)]
-pub struct Ear {
+pub struct PrinterPort {
     pub device: u8,
-    pub there: bool,
+    pub present: bool,
     pub listens: bool,
     pub inputs: Vec<Input>,
 }
 
-impl Ear {
+impl PrinterPort {
     /// One that does not listen and has heard nothing.
-    pub fn new(alloc: Global, device: u8, there: bool) -> Ear
+    pub fn new(alloc: Global, device: u8, present: bool) -> PrinterPort
         ensures device { result.device ≡ device }
-        ensures there { result.there ≡ there }
+        ensures present { result.present ≡ present }
         ensures listens { result.listens ≡ false }
         ensures inputs { result.inputs.items ≡ [] }
     {
-        Ear {
+        PrinterPort {
             device,
-            there,
+            present,
             listens: false,
             inputs: Vec::new(alloc),
         }
     }
 
-    /// Whether it is there and listens.
+    /// Whether it is present and listens.
     pub fn answers(&self) -> bool
-        ensures { result ≡ (self.now.there && self.now.listens) }
+        ensures { result ≡ (self.now.present && self.now.listens) }
     {
-        self.there && self.listens
+        self.present && self.listens
     }
 
-    /// Makes room for the inputs of an item, if it is there.
+    /// Makes room for the inputs of an item, if it is present.
     pub fn make_room(&mut self) -> Result<(), NoMemory>
-        ensures same { IsSameEar self.old self.new }
+        ensures same { IsSamePort self.old self.new }
         ensures room { OnOk result (HasRoom self.new) }
     {
-        if self.there {
+        if self.present {
             self.inputs.reserve(INPUTS_OF_AN_ITEM)?;
         }
         Ok(())
@@ -65,18 +65,18 @@ impl Ear {
         requires device { self.old.device < 31 }
         requires room { HasRoom self.old }
         ensures device { self.new.device ≡ self.old.device }
-        ensures there { self.new.there ≡ self.old.there }
+        ensures present { self.new.present ≡ self.old.present }
         ensures listens { self.new.listens ≡ (if first == command.unlisten then false
             else (self.old.listens || first == command.listen + self.old.device)) }
         ensures inputs { (items : List Item) → self.new.inputs.items ≡ self.old.inputs.items ++
-            (if self.old.there then inputs_at self.old.device items (Attention first second) else []) }
+            (if self.old.present then inputs_at self.old.device items (Attention first second) else []) }
     {
         if first == UNLISTEN {
             self.listens = false;
         }
         if first == LISTEN + self.device {
             self.listens = true;
-            if self.there {
+            if self.present {
                 self.inputs.push_reserved(Input::Select(false));
                 if second == Some(LOWER_CASE) {
                     self.inputs.push_reserved(Input::Select(true));
@@ -89,10 +89,10 @@ impl Ear {
     pub fn byte(&mut self, byte: u8)
         requires { HasRoom self.old }
         ensures device { self.new.device ≡ self.old.device }
-        ensures there { self.new.there ≡ self.old.there }
+        ensures present { self.new.present ≡ self.old.present }
         ensures listens { self.new.listens ≡ self.old.listens }
         ensures inputs { (items : List Item) (eoi : Bool) → self.old.listens ≡ is_listener self.old.device items → self.new.inputs.items
-            ≡ self.old.inputs.items ++ (if self.old.there then inputs_at self.old.device items (Sent byte eoi) else []) }
+            ≡ self.old.inputs.items ++ (if self.old.present then inputs_at self.old.device items (Sent byte eoi) else []) }
     {
         if self.answers() {
             self.inputs.push_reserved(Input::Byte(byte));
@@ -102,7 +102,7 @@ impl Ear {
     /// Forgets what it heard, and keeps the room.
     pub fn forget(&mut self)
         ensures device { self.new.device ≡ self.old.device }
-        ensures there { self.new.there ≡ self.old.there }
+        ensures present { self.new.present ≡ self.old.present }
         ensures listens { self.new.listens ≡ self.old.listens }
         ensures inputs { self.new.inputs.items ≡ [] }
     {

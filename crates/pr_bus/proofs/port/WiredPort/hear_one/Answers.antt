@@ -1,5 +1,5 @@
-use Rattle.pr_bus.proofs.EarLemmas.{room-for-given}
-use Rattle.pr_bus.proofs.ear.WiredEar.hear_one.Goals as goal
+use Rattle.pr_bus.proofs.PortLemmas.{room-for-given}
+use Rattle.pr_bus.proofs.port.WiredPort.hear_one.Goals as goal
 
 pub push_given-requires : goal.push_given-requires
 push_given-requires c =
