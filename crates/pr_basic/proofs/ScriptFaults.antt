@@ -12,7 +12,7 @@ use Rattle.pr_base.specs.Lines.{lines_of}
 use Rattle.pr_basic.specs.FaultRules.{BeginsStatement, IsPartFault, Placed, Spot, start_of, within}
 use Rattle.pr_basic.specs.FaultPlaces.{AreLinesFault, ArePartsFault, IsFaultOfLexemes, IsFirstFaultAt, IsLineFault, at_number, size_of, with_colons}
 use Rattle.pr_basic.specs.Reading.{◌>>=◌}
-use Rattle.pr_basic.specs.ReadingScripts.{Passed, Told, and_more, at_line, behind, column_of, counted, in_line, in_part, is_begun, line_statements, lines_statements, numbered, room_after, script_of, statements_in, statements_of}
+use Rattle.pr_basic.specs.ReadingScripts.{Passed, Told, and_more, at_line, behind, column_of, counted, in_line, in_part, is_begun, line_statements, lines_statements, split_number, room_after, script_of, statements_in, statements_of}
 use Rattle.pr_basic.specs.declared.fault.LineFault.{LineFault}
 use Rattle.pr_basic.specs.declared.fault.LineFault.TheVariants.{BadNumber, TooMany}
 use Rattle.pr_basic.specs.declared.statement.Statement.{Statement}
@@ -179,16 +179,16 @@ parts_fault_read room f inside (p ∷ before) part front next after ss (inr k) f
     rw (one, rest) (ap (λ v. Err (f, record { done = v; inside = inside })) joined)
 
 -- a line number that fails is above the bound
-number_fails : (f : LineFault) (at : Passed) (ls : List Lexeme) → numbered ls ≡ Err (f, at) → (f ≡ BadNumber) × (ds : List ℕ) × (rest : List Lexeme) × (ls ≡ Digits ds ∷ rest) × (63999 < number_of ds) × (at.done ≡ []) × (at.inside ≡ 0)
-unfolding numbered
+number_fails : (f : LineFault) (at : Passed) (ls : List Lexeme) → split_number ls ≡ Err (f, at) → (f ≡ BadNumber) × (ds : List ℕ) × (rest : List Lexeme) × (ls ≡ Digits ds ∷ rest) × (63999 < number_of ds) × (at.done ≡ []) × (at.inside ≡ 0)
+unfolding split_number
 number_fails f at (Digits ds ∷ ls) h = cases (nat_le (number_of ds) 63999) refl
   where
     cases : (t : Bool) → nat_le (number_of ds) 63999 ≡ t
         → (f ≡ BadNumber) × (es : List ℕ) × (rest : List Lexeme) × (Digits ds ∷ ls ≡ Digits es ∷ rest) × (63999 < number_of es) × (at.done ≡ []) × (at.inside ≡ 0)
-    cases true e = let said : numbered (Digits ds ∷ ls) ≡ Ok (Digits ds ∷ [], ls) = rw e refl in absurd (cc)
+    cases true e = let said : split_number (Digits ds ∷ ls) ≡ Ok (Digits ds ∷ [], ls) = rw e refl in absurd (cc)
     cases false e =
-        let said : numbered (Digits ds ∷ ls) ≡ Err (BadNumber, record { done = []; inside = 0 }) = rw e refl in
-        let same : (BadNumber, record { done = []; inside = 0 }) ≡ (f, at) = err_is _ _ (numbered (Digits ds ∷ ls)) said h in
+        let said : split_number (Digits ds ∷ ls) ≡ Err (BadNumber, record { done = []; inside = 0 }) = rw e refl in
+        let same : (BadNumber, record { done = []; inside = 0 }) ≡ (f, at) = err_is _ _ (split_number (Digits ds ∷ ls)) said h in
         let large : 63999 < number_of ds = grind (arith, common_steps) in
         let place = ap (λ (p : LineFault × Passed). p.1) same in
         (ap (λ (p : LineFault × Passed). p.0) (sym same), ds, ls, refl, large, ap (λ (p : Passed). p.done) (sym place), ap (λ (p : Passed). p.inside) (sym place))
@@ -196,15 +196,15 @@ number_fails f at [] h = absurd (cc)
 number_fails f at (l ∷ ls) h = absurd (cc)
 
 -- a line number above the bound fails
-large_number : (ds : List ℕ) (rest : List Lexeme) → 63999 < number_of ds → numbered (Digits ds ∷ rest) ≡ Err (BadNumber, record { done = []; inside = 0 })
-unfolding numbered
+large_number : (ds : List ℕ) (rest : List Lexeme) → 63999 < number_of ds → split_number (Digits ds ∷ rest) ≡ Err (BadNumber, record { done = []; inside = 0 })
+unfolding split_number
 large_number ds rest h =
     let large : nat_le (number_of ds) 63999 ≡ false = grind (arith, common_steps) in
     rw large refl
 
 -- the lexemes of a line that fail have a fault of the table
 lexemes_fail : (room : ℕ) (f : LineFault) (at : Passed) (ls : List Lexeme) → statements_of room ls ≡ Err (f, at) → IsFaultOfLexemes room f at.done at.inside ls
-lexemes_fail room f at ls h = elim (bind_err (numbered ls) (λ p. behind p.0 (statements_in room (parts p.1))) (f, at) h) [
+lexemes_fail room f at ls h = elim (bind_err (split_number ls) (λ p. behind p.0 (statements_in room (parts p.1))) (f, at) h) [
   | inl k ↦ inl (number_fails f at ls k)
   | inr x ↦
       let e = behind_err x.0.0 (statements_in room (parts x.0.1)) f at x.2 in

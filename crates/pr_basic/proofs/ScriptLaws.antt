@@ -9,7 +9,7 @@ use Rattle.pr_basic.specs.Lexemes.{Colon, Lexeme, Remark, Word}
 use Rattle.pr_basic.specs.Lexing.{IsRest, after_part, here, later, lexemes_of, part_of, past, unspaced}
 use Rattle.pr_basic.specs.Limits.{statement_limit}
 use Rattle.pr_basic.specs.Reading.{statement_in, ◌>>=◌}
-use Rattle.pr_basic.specs.ReadingScripts.{Passed, Told, and_more, at_line, behind, counted, first_digits, in_line, in_part, is_begun, line_statements, lines_statements, numbered, room_after, statements_in, statements_of}
+use Rattle.pr_basic.specs.ReadingScripts.{Passed, Told, and_more, at_line, behind, counted, first_digits, in_line, in_part, is_begun, line_statements, lines_statements, split_number, room_after, statements_in, statements_of}
 use Rattle.pr_basic.specs.Reads.{StandsIn, UnlessMemory, still, with_front}
 use Rattle.pr_basic.specs.declared.fault.LineFault.{LineFault}
 use Rattle.pr_basic.specs.declared.fault.LineFault.TheVariants as line
@@ -132,12 +132,12 @@ pub record IsReadTo (old new : List Statement) (line : List ℕ) (rest : Option 
   pub left : IfSome rest (λ r. r.now ≡ past (length done) line)
 
 -- a line is read up to what follows its number
-pub read_begins : (ss : List Statement) (line : List ℕ) (rest : Bor (List ℕ)) → numbered (lexemes_of line) ≡ Ok (first_digits (lexemes_of line), lexemes_of rest.now)
+pub read_begins : (ss : List Statement) (line : List ℕ) (rest : Bor (List ℕ)) → split_number (lexemes_of line) ≡ Ok (first_digits (lexemes_of line), lexemes_of rest.now)
     → rest.now ≡ past (length (first_digits (lexemes_of line))) line → IsReadTo ss ss line (Some rest)
 read_begins ss line rest h k = record { done = first_digits (lexemes_of line); read = rw h refl; left = k }
 
 -- a line number that fails fails the line
-pub number_fails : (room : ℕ) (f : LineFault) (rest : List ℕ) (inside : ℕ) (line : List ℕ) → numbered (lexemes_of line) ≡ Err (f, record { done = []; inside = inside })
+pub number_fails : (room : ℕ) (f : LineFault) (rest : List ℕ) (inside : ℕ) (line : List ℕ) → split_number (lexemes_of line) ≡ Err (f, record { done = []; inside = inside })
     → rest ≡ line → UnlessMemory f (StandsIn f rest inside line (statements_of room (lexemes_of line)))
 unfolding past
 number_fails room f rest inside line h k = unless_of f _ (record { done = []; told = rw h refl; left = k })

@@ -10,7 +10,7 @@ use Rattle.pr_basic.specs.Grammar.{AreLines, AreParts, HasNumber, IsLine, IsScri
 use Rattle.pr_base.specs.Digits.{number_of}
 use Rattle.pr_base.specs.Lines.{lines_of}
 use Rattle.pr_basic.specs.Reading.{statement_in, ◌>>=◌}
-use Rattle.pr_basic.specs.ReadingScripts.{and_more, at_line, counted, is_begun, in_line, in_part, behind, line_statements, lines_statements, numbered, room_after, script_of, statements_in, statements_of, Passed}
+use Rattle.pr_basic.specs.ReadingScripts.{and_more, at_line, counted, is_begun, in_line, in_part, behind, line_statements, lines_statements, split_number, room_after, script_of, statements_in, statements_of, Passed}
 use Rattle.pr_basic.specs.declared.fault.LineFault.{LineFault}
 use Rattle.pr_basic.specs.declared.fault.LineFault.TheVariants.{BadNumber, TooMany}
 use Rattle.pr_basic.specs.declared.statement.Statement.{Statement}
@@ -106,20 +106,20 @@ ok_pair : (a b : List Lexeme × List Lexeme) (r : Result (List Lexeme × List Le
 ok_pair a b r h k = cc
 
 -- a line number that is read stands there
-pub numbered_sound : (ls number rest : List Lexeme) → numbered ls ≡ Ok (number, rest) → HasNumber ls rest × (ls ≡ number ++ rest)
-unfolding numbered
+pub numbered_sound : (ls number rest : List Lexeme) → split_number ls ≡ Ok (number, rest) → HasNumber ls rest × (ls ≡ number ++ rest)
+unfolding split_number
 numbered_sound (Digits ds ∷ ls) number rest h = cases (nat_le (number_of ds) 63999) refl
   where
     cases : (t : Bool) → nat_le (number_of ds) 63999 ≡ t → HasNumber (Digits ds ∷ ls) rest × (Digits ds ∷ ls ≡ number ++ rest)
     cases true e =
         let small : number_of ds ≤ 63999 = grind (arith, common_steps) in
-        let said : numbered (Digits ds ∷ ls) ≡ Ok (Digits ds ∷ [], ls) = rw e refl in
+        let said : split_number (Digits ds ∷ ls) ≡ Ok (Digits ds ∷ [], ls) = rw e refl in
         let same : (Digits ds ∷ [], ls) ≡ (number, rest) = ok_pair (Digits ds ∷ [], ls) (number, rest) _ said h in
         let front : Digits ds ∷ [] ≡ number = ap (λ (q : List Lexeme × List Lexeme). q.0) same in
         let more : ls ≡ rest = ap (λ (q : List Lexeme × List Lexeme). q.1) same in
         (inr (ds, ap (λ v. Digits ds ∷ v) more, small), ap (λ v. Digits ds ∷ v) more ∙ ap (λ v. v ++ rest) front)
     cases false e =
-        let said : numbered (Digits ds ∷ ls) ≡ Err (BadNumber, record { done = []; inside = 0 }) = rw e refl in
+        let said : split_number (Digits ds ∷ ls) ≡ Err (BadNumber, record { done = []; inside = 0 }) = rw e refl in
         absurd (cc)
 numbered_sound [] number rest h =
     let same : ([], []) ≡ (number, rest) = ok_pair ([], []) (number, rest) _ refl h in
@@ -133,30 +133,30 @@ numbered_sound (l ∷ ls) number rest h =
     (inl (more, λ ds m k. cc), more ∙ ap (λ v. v ++ rest) front)
 
 -- where no digits stand first, there is no line number
-unnumbered : (ls : List Lexeme) → ((ds : List ℕ) (more : List Lexeme) → ls ≡ Digits ds ∷ more → ⊥) → numbered ls ≡ Ok ([], ls)
-unfolding numbered
+unnumbered : (ls : List Lexeme) → ((ds : List ℕ) (more : List Lexeme) → ls ≡ Digits ds ∷ more → ⊥) → split_number ls ≡ Ok ([], ls)
+unfolding split_number
 unnumbered (Digits ds ∷ ls) h = absurd (h ds ls refl)
 unnumbered [] h = refl
 unnumbered (l ∷ ls) h = refl
 
 -- a small number is read
-small_number : (ds : List ℕ) (rest : List Lexeme) → number_of ds ≤ 63999 → numbered (Digits ds ∷ rest) ≡ Ok (Digits ds ∷ [], rest)
-unfolding numbered
+small_number : (ds : List ℕ) (rest : List Lexeme) → number_of ds ≤ 63999 → split_number (Digits ds ∷ rest) ≡ Ok (Digits ds ∷ [], rest)
+unfolding split_number
 small_number ds rest h =
     let small : nat_le (number_of ds) 63999 ≡ true = grind (arith, common_steps) in
     rw small refl
 
 -- a line number that stands there is read
-pub numbered_complete : (ls rest : List Lexeme) → HasNumber ls rest → (number : List Lexeme) × (numbered ls ≡ Ok (number, rest)) × (ls ≡ number ++ rest)
+pub numbered_complete : (ls rest : List Lexeme) → HasNumber ls rest → (number : List Lexeme) × (split_number ls ≡ Ok (number, rest)) × (ls ≡ number ++ rest)
 numbered_complete ls rest (inl h) = ([], unnumbered ls h.1 ∙ ap (λ v. Ok ([], v)) h.0, h.0)
-numbered_complete ls rest (inr k) = (Digits k.0 ∷ [], ap numbered k.1 ∙ small_number k.0 rest k.2, k.1)
+numbered_complete ls rest (inr k) = (Digits k.0 ∷ [], ap split_number k.1 ∙ small_number k.0 rest k.2, k.1)
 
 -- a line that is read is in the grammar
 pub line_sound : (room : ℕ) (line : List ℕ) (ss : List Statement) → line_statements room line ≡ Ok ss → IsLine (without_return line) ss × (length ss ≤ room)
 line_sound room line ss h =
     let bytes = without_return line in
     let said : statements_of room (lexemes_of bytes) ≡ Ok ss = in_line_of bytes (statements_of room (lexemes_of bytes)) ss h in
-    let x = bind_ok (numbered (lexemes_of bytes)) (λ p. behind p.0 (statements_in room (parts p.1))) ss said in
+    let x = bind_ok (split_number (lexemes_of bytes)) (λ p. behind p.0 (statements_in room (parts p.1))) ss said in
     let y = behind_ok x.0.0 (statements_in room (parts x.0.1)) ss x.2 in
     let k = parts_sound room (parts x.0.1) ss y in
     ((lexemes_of bytes, x.0.1, lexemes_spelled (length bytes) bytes (omega arith), (numbered_sound (lexemes_of bytes) x.0.0 x.0.1 x.1).0, k.0), k.1)

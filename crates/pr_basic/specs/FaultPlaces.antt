@@ -1,7 +1,7 @@
 -- Trusted: where the first fault of a script stands: how many bytes of the text stand before it.
-use Rattle.std.specs.Prelude.{◌≡◌, ℕ, suc, ◌+◌, ◌-◌, ◌≤◌, ◌<◌, ◌⊎◌, true, List, [], ◌∷◌, ◌++◌, length}
+use Rattle.std.specs.Prelude.{◌≡◌, IsTrue, ℕ, suc, ◌+◌, ◌-◌, ◌≤◌, ◌<◌, ◌⊎◌, List, [], ◌∷◌, ◌++◌, length}
 use Rattle.std.specs.List.{list_all}
-use Rattle.pr_basic.specs.Limits.{statement_limit}
+use Rattle.pr_basic.specs.Limits.{line_number_limit, statement_limit}
 use Rattle.pr_basic.specs.Lexemes.{AreLexemes, IsLexeme, Lexeme, Digits, Colon, NoSpace, is_space}
 use Rattle.pr_basic.specs.Grammar.{AreLines, AreParts, HasNumber, parts, without_return}
 use Rattle.pr_basic.specs.FaultRules.{IsPartFault, within}
@@ -18,9 +18,10 @@ abbrev pub with_colons : List (List Lexeme) → List Lexeme
 with_colons [] = []
 with_colons (p ∷ ps) = p ++ Colon ∷ with_colons ps
 
--- good parts, no more statements than there is room for, and then a part with a fault; the lexemes before its place, and how many bytes of
--- the next lexeme stand before it
-pub record ArePartsFault (room : ℕ) (f : LineFault) (done : List Lexeme) (inside : ℕ) (ps : List (List Lexeme)) : Type 0 where
+-- good parts, no more statements than there is room for, and then a part with a fault; the lexemes
+-- before its place, and how many bytes of the next lexeme stand before it
+pub record ArePartsFault (room : ℕ) (f : LineFault) (done : List Lexeme) (inside : ℕ)
+    (ps : List (List Lexeme)) : Type 0 where
   pub before : List (List Lexeme)
   pub part : List Lexeme
   pub after : List (List Lexeme)
@@ -34,19 +35,24 @@ pub record ArePartsFault (room : ℕ) (f : LineFault) (done : List Lexeme) (insi
   pub halves : part ≡ front ++ next
   pub at : done ≡ with_colons before ++ front
 
--- the first fault of a line's lexemes: a line number above 63999, which stands first, or a fault after the line's number, if there is one
+-- the first fault of a line's lexemes: a line number above 63999, which stands first, or a fault
+-- after the line's number, if there is one
 abbrev pub IsFaultOfLexemes : ℕ → LineFault → List Lexeme → ℕ → List Lexeme → Type 0
 IsFaultOfLexemes room f done inside lexemes =
-    ((f ≡ BadNumber) × (ds : List ℕ) × (rest : List Lexeme) × (lexemes ≡ Digits ds ∷ rest) × (63999 < number_of ds)
+    ((f ≡ BadNumber) × (ds : List ℕ) × (rest : List Lexeme) × (lexemes ≡ Digits ds ∷ rest)
+    × (line_number_limit < number_of ds)
     × (done ≡ []) × (inside ≡ 0))
-    ⊎ ((rest : List Lexeme) × (number : List Lexeme) × (front : List Lexeme) × HasNumber lexemes rest × (lexemes ≡ number ++ rest)
+    ⊎ ((rest : List Lexeme) × (number : List Lexeme) × (front : List Lexeme)
+    × HasNumber lexemes rest × (lexemes ≡ number ++ rest)
     × ArePartsFault room f front inside (parts rest) × (done ≡ number ++ front))
 
 -- a line begins with these lexemes, and these are the bytes left behind them and the spaces there
 abbrev pub BeginsWith : List ℕ → List Lexeme → List ℕ → Type 0
-BeginsWith line [] left = (spaces : List ℕ) × (line ≡ spaces ++ left) × (list_all is_space spaces ≡ true) × NoSpace left
+BeginsWith line [] left = (spaces : List ℕ) × (line ≡ spaces ++ left)
+    × IsTrue (list_all is_space spaces) × NoSpace left
 BeginsWith line (l ∷ ls) left = (spaces : List ℕ) × (bytes : List ℕ) × (after : List ℕ)
-    × (line ≡ spaces ++ (bytes ++ after)) × (list_all is_space spaces ≡ true) × IsLexeme l bytes after × BeginsWith after ls left
+    × (line ≡ spaces ++ (bytes ++ after)) × IsTrue (list_all is_space spaces)
+    × IsLexeme l bytes after × BeginsWith after ls left
 
 -- the first fault of a line without its end; so many of the line's bytes stand before its place
 pub record IsLineFault (room : ℕ) (f : LineFault) (column : ℕ) (line : List ℕ) : Type 0 where
@@ -64,9 +70,10 @@ abbrev pub size_of : List (List ℕ) → ℕ
 size_of [] = 0
 size_of (l ∷ ls) = suc (length l) + size_of ls
 
--- good lines, no more statements than there is room for, and then a line with a fault; the line's number from 0, and how many bytes stand
--- before the fault's place
-pub record AreLinesFault (room : ℕ) (f : LineFault) (number place : ℕ) (lines : List (List ℕ)) : Type 0 where
+-- good lines, no more statements than there is room for, and then a line with a fault; the line's
+-- number from 0, and how many bytes stand before the fault's place
+pub record AreLinesFault (room : ℕ) (f : LineFault) (number place : ℕ)
+    (lines : List (List ℕ)) : Type 0 where
   pub before : List (List ℕ)
   pub line : List ℕ
   pub after : List (List ℕ)
@@ -90,7 +97,9 @@ at_number TooLong n = script.TooLong n
 at_number TooMany n = script.TooMany n
 at_number NoMemory n = script.NoMemory
 
--- this is the first fault of the bytes, with the number of its line from 1, and so many bytes stand before its place
+-- this is the first fault of the bytes, with the number of its line from 1, and so many bytes stand
+-- before its place
 abbrev pub IsFirstFaultAt : List ℕ → ScriptFault → ℕ → Type 0
 IsFirstFaultAt bytes fault place = (f : LineFault) × (number : ℕ)
-    × AreLinesFault statement_limit f number place (lines_of bytes) × (fault ≡ at_number f (number + 1))
+    × AreLinesFault statement_limit f number place (lines_of bytes)
+    × (fault ≡ at_number f (number + 1))

@@ -1,8 +1,8 @@
--- Trusted: the table of faults: the first fault of a part of a line, from the left, and its place among the part's lexemes. What stands
--- before it is in the grammar.
-use Rattle.std.specs.Prelude.{◌≡◌, ℕ, ◌+◌, ◌≤◌, ◌<◌, ◌⊎◌, Bool, true, false, List, [], ◌∷◌, ◌++◌, length}
+-- Trusted: the table of faults: the first fault of a part of a line, from the left, and its place
+-- among the part's lexemes. What stands before it is in the grammar.
+use Rattle.std.specs.Prelude.{◌≡◌, ◌≢◌, IsTrue, IsFalse, ℕ, ◌+◌, ◌≤◌, ◌<◌, ◌⊎◌, Bool, true, false, List, [], ◌∷◌, ◌++◌, length}
 use Rattle.std.specs.List.{list_all}
-use Rattle.pr_basic.specs.ListLimit.{byte_limit}
+use Rattle.pr_basic.specs.Limits.{byte_limit}
 use Rattle.pr_basic.specs.Lexemes.{Lexeme, Word, Remark, Digits, Quoted, Comma, Semicolon, OpenParen, CloseParen}
 use Rattle.pr_basic.specs.Grammar.{Item, AreItems, is_printable, items_bytes, items_lexemes}
 use Rattle.pr_base.specs.Digits.{number_of}
@@ -39,15 +39,16 @@ takes_list k = false
 
 -- this lexeme does not stand next
 abbrev pub Lacks : Lexeme → List Lexeme → Type 0
-Lacks l ls = (rest : List Lexeme) → ls ≡ l ∷ rest → ⊥
+Lacks l ls = (rest : List Lexeme) → ls ≢ l ∷ rest
 
 -- a number within bounds stands next, and these lexemes follow it
 abbrev pub Number : ℕ → ℕ → List Lexeme → List Lexeme → Type 0
-Number low high ls rest = (ds : List ℕ) × (ls ≡ Digits ds ∷ rest) × (low ≤ number_of ds) × (number_of ds ≤ high)
+Number low high ls rest = (ds : List ℕ) × (ls ≡ Digits ds ∷ rest) × (low ≤ number_of ds)
+    × (number_of ds ≤ high)
 
 -- no number within bounds stands next: its digits are missing, or they spell another
 abbrev pub NoNumber : ℕ → ℕ → List Lexeme → Type 0
-NoNumber low high ls = (rest : List Lexeme) → Number low high ls rest → ⊥
+NoNumber low high ls = (rest : List Lexeme) → ¬ Number low high ls rest
 
 -- a keyword and its file stand first, and these lexemes follow them
 abbrev pub AfterFile : Keyword → List Lexeme → List Lexeme → Type 0
@@ -55,7 +56,8 @@ AfterFile k part rest = (ls : List Lexeme) × (part ≡ Word k ∷ ls) × Number
 
 -- OPEN's file and device stand first, and these lexemes follow them
 abbrev pub AfterDevice : List Lexeme → List Lexeme → Type 0
-AfterDevice part rest = (ls : List Lexeme) × AfterFile word.Open part (Comma ∷ ls) × Number 4 30 ls rest
+AfterDevice part rest = (ls : List Lexeme) × AfterFile word.Open part (Comma ∷ ls)
+    × Number 4 30 ls rest
 
 -- OPEN's file, device and secondary address stand first, and these lexemes follow them
 abbrev pub AfterSecond : List Lexeme → List Lexeme → Type 0
@@ -63,9 +65,11 @@ AfterSecond part rest = (ls : List Lexeme) × AfterDevice part (Comma ∷ ls) ×
 
 -- a list of a statement begins there: after PRINT, or after the comma of CMD and PRINT#
 abbrev pub HasList : List Lexeme → List Lexeme → Type 0
-HasList part list = (part ≡ Word word.Print ∷ list) ⊎ ((k : Keyword) × (takes_list k ≡ true) × AfterFile k part (Comma ∷ list))
+HasList part list = (part ≡ Word word.Print ∷ list)
+    ⊎ ((k : Keyword) × IsTrue (takes_list k) × AfterFile k part (Comma ∷ list))
 
--- a place in a part of a line: the lexemes from it on, and how many bytes of the first of them stand before it
+-- a place in a part of a line: the lexemes from it on, and how many bytes of the first of them
+-- stand before it
 pub record Spot : Type 0 where
   pub next : List Lexeme
   pub inside : ℕ
@@ -87,55 +91,71 @@ abbrev pub GoesTooFar : List Lexeme → List Lexeme → Type 0
 GoesTooFar part next = AfterSecond part next
     ⊎ ((AfterDevice part next × Lacks Comma next)
     ⊎ (AfterFile word.Close part next
-    ⊎ ((k : Keyword) × (takes_list k ≡ true) × AfterFile k part next × Lacks Comma next)))
+    ⊎ ((k : Keyword) × IsTrue (takes_list k) × AfterFile k part next × Lacks Comma next)))
 
 -- the faults outside lists, each with its place
 abbrev pub IsFaultOutsideLists : Placed → List Lexeme → Type 0
--- no keyword where a statement must begin: there; what cannot go on the statement: there; a comma of CMD or PRINT# with no list after it:
--- the end
+-- no keyword where a statement must begin: there; what cannot go on the statement: there; a comma
+-- of CMD or PRINT# with no list after it: the end
 IsFaultOutsideLists (UnknownWord, at) part =
-    ((l : Lexeme) × (ls : List Lexeme) × (part ≡ l ∷ ls) × (begins_statement l ≡ false) × (at ≡ start_of part))
+    ((l : Lexeme) × (ls : List Lexeme) × (part ≡ l ∷ ls) × IsFalse (begins_statement l)
+    × (at ≡ start_of part))
     ⊎ (((l : Lexeme) × (ls : List Lexeme) × GoesTooFar part (l ∷ ls) × (at ≡ start_of (l ∷ ls)))
-    ⊎ ((k : Keyword) × (takes_list k ≡ true) × AfterFile k part (Comma ∷ []) × (at ≡ start_of [])))
+    ⊎ ((k : Keyword) × IsTrue (takes_list k) × AfterFile k part (Comma ∷ []) × (at ≡ start_of [])))
 -- a file that is missing or above 255: where it stands or should
-IsFaultOutsideLists (BadNumber, at) part = (k : Keyword) × (ls : List Lexeme) × (part ≡ Word k ∷ ls) × (takes_file k ≡ true)
+IsFaultOutsideLists (BadNumber, at) part = (k : Keyword) × (ls : List Lexeme)
+    × (part ≡ Word k ∷ ls) × IsTrue (takes_file k)
     × NoNumber 0 255 ls × (at ≡ start_of ls)
--- in OPEN no comma after the file: where it should stand; no device of 4 to 30 after it: where that stands or should
+-- in OPEN no comma after the file: where it should stand; no device of 4 to 30 after it: where that
+-- stands or should
 IsFaultOutsideLists (BadDevice, at) part = (ls : List Lexeme)
-    × ((AfterFile word.Open part ls × Lacks Comma ls) ⊎ (AfterFile word.Open part (Comma ∷ ls) × NoNumber 4 30 ls))
+    × ((AfterFile word.Open part ls × Lacks Comma ls)
+    ⊎ (AfterFile word.Open part (Comma ∷ ls) × NoNumber 4 30 ls))
     × (at ≡ start_of ls)
 -- after OPEN's second comma no secondary address of at most 15: where it stands or should
-IsFaultOutsideLists (BadSecond, at) part = (ls : List Lexeme) × AfterDevice part (Comma ∷ ls) × NoNumber 0 15 ls × (at ≡ start_of ls)
+IsFaultOutsideLists (BadSecond, at) part = (ls : List Lexeme) × AfterDevice part (Comma ∷ ls)
+    × NoNumber 0 15 ls × (at ≡ start_of ls)
 IsFaultOutsideLists f part = ⊥
 
 -- the faults of a list's next item, after so many bytes of the list, each with its place
 abbrev pub IsItemFault : Placed → ℕ → List Lexeme → Type 0
 -- what begins no item: there; a missing parenthesis: where it should stand
 IsItemFault (UnknownWord, at) n next =
-    ((l : Lexeme) × (rest : List Lexeme) × (next ≡ l ∷ rest) × (begins_item l ≡ false) × (at ≡ start_of next))
-    ⊎ (((rest : List Lexeme) × (next ≡ Word word.Chr ∷ rest) × Lacks OpenParen rest × (at ≡ start_of rest))
+    ((l : Lexeme) × (rest : List Lexeme) × (next ≡ l ∷ rest) × IsFalse (begins_item l)
+    × (at ≡ start_of next))
+    ⊎ (((rest : List Lexeme) × (next ≡ Word word.Chr ∷ rest) × Lacks OpenParen rest
+    × (at ≡ start_of rest))
     ⊎ ((ds : List ℕ) × (rest : List Lexeme) × (next ≡ Word word.Chr ∷ OpenParen ∷ Digits ds ∷ rest)
     × (number_of ds ≤ 255) × Lacks CloseParen rest × (at ≡ start_of rest)))
 -- no digits in CHR$: where they should stand
-IsItemFault (BadNumber, at) n next = (rest : List Lexeme) × (next ≡ Word word.Chr ∷ OpenParen ∷ rest)
+IsItemFault (BadNumber, at) n next = (rest : List Lexeme)
+    × (next ≡ Word word.Chr ∷ OpenParen ∷ rest)
     × ((ds : List ℕ) → Lacks (Digits ds) rest) × (at ≡ start_of rest)
--- a byte outside 32 to 126 in a string, after at most 255 bytes: that byte, behind the quote; a CHR$ of more than 255: its digits
-IsItemFault (BadByte, at) n next = ((good : List ℕ) × (b : ℕ) × (more : List ℕ) × (rest : List Lexeme)
+-- a byte outside 32 to 126 in a string, after at most 255 bytes: that byte, behind the quote; a
+-- CHR$ of more than 255: its digits
+IsItemFault (BadByte, at) n next = ((good : List ℕ) × (b : ℕ) × (more : List ℕ)
+    × (rest : List Lexeme)
     × (next ≡ Quoted (good ++ b ∷ more) ∷ rest)
-    × (list_all is_printable good ≡ true) × (is_printable b ≡ false) × (n + length good ≤ byte_limit)
+    × IsTrue (list_all is_printable good) × IsFalse (is_printable b)
+    × (n + length good ≤ byte_limit)
     × (at ≡ within next (1 + length good)))
-    ⊎ ((ds : List ℕ) × (rest : List Lexeme) × (next ≡ Word word.Chr ∷ OpenParen ∷ Digits ds ∷ rest) × (255 < number_of ds)
+    ⊎ ((ds : List ℕ) × (rest : List Lexeme) × (next ≡ Word word.Chr ∷ OpenParen ∷ Digits ds ∷ rest)
+    × (255 < number_of ds)
     × (at ≡ start_of (Digits ds ∷ rest)))
--- the 256th byte: one of a string that may stand there: that byte, behind the quote; or that of a whole CHR$: there
-IsItemFault (TooLong, at) n next = ((good : List ℕ) × (b : ℕ) × (more : List ℕ) × (rest : List Lexeme)
+-- the 256th byte: one of a string that may stand there: that byte, behind the quote; or that of a
+-- whole CHR$: there
+IsItemFault (TooLong, at) n next = ((good : List ℕ) × (b : ℕ) × (more : List ℕ)
+    × (rest : List Lexeme)
     × (next ≡ Quoted (good ++ b ∷ more) ∷ rest)
-    × (list_all is_printable good ≡ true) × (is_printable b ≡ true) × (n + length good ≡ byte_limit)
+    × IsTrue (list_all is_printable good) × IsTrue (is_printable b) × (n + length good ≡ byte_limit)
     × (at ≡ within next (1 + length good)))
-    ⊎ ((ds : List ℕ) × (rest : List Lexeme) × (next ≡ Word word.Chr ∷ OpenParen ∷ Digits ds ∷ CloseParen ∷ rest)
+    ⊎ ((ds : List ℕ) × (rest : List Lexeme)
+    × (next ≡ Word word.Chr ∷ OpenParen ∷ Digits ds ∷ CloseParen ∷ rest)
     × (number_of ds ≤ 255) × (n ≡ byte_limit) × (at ≡ start_of next))
 IsItemFault f n next = ⊥
 
--- good items, of at most 255 bytes, and then a fault, in a list of which so many bytes stand already
+-- good items, of at most 255 bytes, and then a fault, in a list of which so many bytes stand
+-- already
 pub record IsListFault (f : Placed) (n : ℕ) (list : List Lexeme) : Type 0 where
   pub items : List Item
   pub next : List Lexeme
@@ -146,13 +166,16 @@ pub record IsListFault (f : Placed) (n : ℕ) (list : List Lexeme) : Type 0 wher
 
 -- the first fault of a statement, and its place
 abbrev pub IsStatementFault : Placed → List Lexeme → Type 0
-IsStatementFault f part = IsFaultOutsideLists f part ⊎ ((list : List Lexeme) × HasList part list × IsListFault f 0 list)
+IsStatementFault f part = IsFaultOutsideLists f part
+    ⊎ ((list : List Lexeme) × HasList part list × IsListFault f 0 list)
 
 -- a keyword stands where a statement must begin
 abbrev pub BeginsStatement : List Lexeme → Type 0
-BeginsStatement part = (l : Lexeme) × (ls : List Lexeme) × (part ≡ l ∷ ls) × (begins_statement l ≡ true)
+BeginsStatement part = (l : Lexeme) × (ls : List Lexeme) × (part ≡ l ∷ ls)
+    × IsTrue (begins_statement l)
 
--- the first fault of a part of a line, where there is room for so many more statements: where there is none, a statement's keyword is one
+-- the first fault of a part of a line, where there is room for so many more statements: where there
+-- is none, a statement's keyword is one
 abbrev pub IsPartFault : ℕ → Placed → List Lexeme → Type 0
 IsPartFault room f part = ((f ≡ (TooMany, start_of part)) × (room ≡ 0) × BeginsStatement part)
-    ⊎ (IsStatementFault f part × (room ≡ 0 → BeginsStatement part → ⊥))
+    ⊎ (IsStatementFault f part × (room ≡ 0 → ¬ BeginsStatement part))

@@ -2,8 +2,7 @@
 -- the two.
 use Rattle.std.specs.Prelude.{◌≡◌, ℕ, ◌+◌, ◌-◌, ◌≤◌, ◌<◌, ◌⊎◌, true, false, List, [], ◌∷◌, ◌++◌, length}
 use Rattle.std.specs.List.{list_all}
-use Rattle.pr_basic.specs.Limits.{statement_limit}
-use Rattle.pr_basic.specs.ListLimit.{byte_limit}
+use Rattle.pr_basic.specs.Limits.{byte_limit, line_number_limit, statement_limit}
 use Rattle.pr_basic.specs.Lexemes.{AreLexemes, Lexeme, Word, Digits, Quoted, Comma, OpenParen, CloseParen}
 use Rattle.pr_basic.specs.Grammar.{Item, AreItems, AreLines, AreParts, HasNumber, is_printable, items_bytes, items_lexemes, parts, without_return}
 use Rattle.pr_basic.specs.FaultRules.{AfterDevice, AfterFile, AfterSecond, BeginsStatement, HasList, Lacks, NoNumber, begins_item, begins_statement, takes_file, takes_list}
@@ -96,7 +95,7 @@ pub record ArePartsFaultAlone (room : ℕ) (f : LineFault) (ps : List (List Lexe
 -- the first fault of a line without its end: a line number above 63999, or a fault after the line's number, if there is one
 abbrev pub IsLineFaultAlone : ℕ → LineFault → List ℕ → Type 0
 IsLineFaultAlone room f line = (lexemes : List Lexeme) × AreLexemes line lexemes
-    × (((f ≡ BadNumber) × (ds : List ℕ) × (rest : List Lexeme) × (lexemes ≡ Digits ds ∷ rest) × (63999 < number_of ds))
+    × (((f ≡ BadNumber) × (ds : List ℕ) × (rest : List Lexeme) × (lexemes ≡ Digits ds ∷ rest) × (line_number_limit < number_of ds))
     ⊎ ((rest : List Lexeme) × HasNumber lexemes rest × ArePartsFaultAlone room f (parts rest)))
 
 -- good lines, no more statements than there is room for, and then a line with a fault; the line's place from 0

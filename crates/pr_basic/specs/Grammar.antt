@@ -1,11 +1,10 @@
--- Trusted: the grammar of scripts: which bytes are a script of which statements. It says nothing of faults, and nothing of how a script is
--- read.
-use Rattle.std.specs.Prelude.{◌≡◌, ℕ, ◌+◌, ◌≤◌, ◌<◌, ◌⊎◌, ◌&&◌, ◌==◌, Bool, true, false, List, [], ◌∷◌, ◌++◌, length, Some, None, nat_le, if◌then◌else◌}
+-- Trusted: the grammar of scripts: which bytes are a script of which statements. It says nothing of
+-- faults, and nothing of how a script is read.
+use Rattle.std.specs.Prelude.{◌≡◌, ⊤, ◌≢◌, IsTrue, ℕ, ◌+◌, ◌≤◌, ◌<◌, ◌⊎◌, ◌&&◌, ◌==◌, Bool, true, false, List, [], ◌∷◌, ◌++◌, length, Some, None, nat_le, if◌then◌else◌}
 use Rattle.std.specs.List.{list_all}
 use Rattle.pr_base.specs.Digits.{number_of}
 use Rattle.pr_base.specs.Lines.{lines_of, onto_first}
-use Rattle.pr_basic.specs.Limits.{statement_limit}
-use Rattle.pr_basic.specs.ListLimit.{byte_limit}
+use Rattle.pr_basic.specs.Limits.{byte_limit, line_number_limit, statement_limit}
 use Rattle.pr_basic.specs.Text.{Text}
 use Rattle.pr_basic.specs.Lexemes.{AreLexemes, Lexeme, Word, Remark, Digits, Quoted, Comma, Semicolon, Colon, OpenParen, CloseParen}
 use Rattle.pr_basic.specs.declared.lexemes.Keyword.{Keyword}
@@ -51,16 +50,17 @@ items_bytes (i ∷ is) = item_bytes i ++ items_bytes is
 
 -- a string has bytes 32 to 126, a number is at most 255
 abbrev pub IsItem : Item → Type 0
-IsItem Semi = Unit {0}
-IsItem (Quote s) = list_all is_printable s ≡ true
+IsItem Semi = ⊤
+IsItem (Quote s) = IsTrue (list_all is_printable s)
 IsItem (Code ds) = number_of ds ≤ 255
 
 -- all are items
 abbrev pub AreItems : List Item → Type 0
-AreItems [] = Unit {0}
+AreItems [] = ⊤
 AreItems (i ∷ is) = IsItem i × AreItems is
 
--- whether the line ends after a list: its last item is not a semicolon; where there is no item, as before
+-- whether the line ends after a list: its last item is not a semicolon; where there is no item, as
+-- before
 abbrev pub ends_after : Bool → List Item → Bool
 ends_after ends [] = ends
 ends_after ends (Semi ∷ is) = ends_after false is
@@ -80,27 +80,32 @@ pub record IsList (lexemes : List Lexeme) (line : Text) : Type 0 where
 abbrev pub IsPrinting : Keyword → ℕ → Text → List Lexeme → Type 0
 IsPrinting k file line lexemes = (f : List ℕ) × IsNumber 0 255 file f
     × (((lexemes ≡ Word k ∷ Digits f ∷ []) × (line ≡ record { bytes = []; ends = true }))
-    ⊎ ((list : List Lexeme) × (lexemes ≡ Word k ∷ Digits f ∷ Comma ∷ list) × (0 < length list) × IsList list line))
+    ⊎ ((list : List Lexeme) × (lexemes ≡ Word k ∷ Digits f ∷ Comma ∷ list) × (0 < length list)
+    × IsList list line))
 
 -- the lexemes are a statement's
 abbrev pub IsStatement : Statement → List Lexeme → Type 0
 IsStatement (OpenFile file device None) lexemes = (f : List ℕ) × (d : List ℕ)
     × (lexemes ≡ Word word.Open ∷ Digits f ∷ Comma ∷ Digits d ∷ [])
     × IsNumber 0 255 file f × IsNumber 4 30 device d
-IsStatement (OpenFile file device (Some second)) lexemes = (f : List ℕ) × (d : List ℕ) × (s : List ℕ)
+IsStatement (OpenFile file device (Some second)) lexemes = (f : List ℕ) × (d : List ℕ)
+    × (s : List ℕ)
     × (lexemes ≡ Word word.Open ∷ Digits f ∷ Comma ∷ Digits d ∷ Comma ∷ Digits s ∷ [])
     × IsNumber 0 255 file f × IsNumber 4 30 device d × IsNumber 0 15 second s
-IsStatement (CloseFile file) lexemes = (f : List ℕ) × (lexemes ≡ Word word.Close ∷ Digits f ∷ []) × IsNumber 0 255 file f
+IsStatement (CloseFile file) lexemes = (f : List ℕ) × (lexemes ≡ Word word.Close ∷ Digits f ∷ [])
+    × IsNumber 0 255 file f
 IsStatement (Cmd file line) lexemes = IsPrinting word.Cmd file line lexemes
 IsStatement (PrintTo file line) lexemes = IsPrinting word.PrintTo file line lexemes
-IsStatement (Print line) lexemes = (list : List Lexeme) × (lexemes ≡ Word word.Print ∷ list) × IsList list line
+IsStatement (Print line) lexemes = (list : List Lexeme) × (lexemes ≡ Word word.Print ∷ list)
+    × IsList list line
 IsStatement Rem lexemes = (rest : List Lexeme) × (lexemes ≡ Remark ∷ rest)
 
 -- each part of a line is empty or a statement
 abbrev pub AreParts : List (List Lexeme) → List Statement → Type 0
 AreParts [] ss = ss ≡ []
 AreParts (p ∷ ps) ss = ((p ≡ []) × AreParts ps ss)
-    ⊎ ((s : Statement) × (more : List Statement) × IsStatement s p × (ss ≡ s ∷ more) × AreParts ps more)
+    ⊎ ((s : Statement) × (more : List Statement) × IsStatement s p × (ss ≡ s ∷ more)
+    × AreParts ps more)
 
 -- the parts of a line between its colons
 unfoldable pub parts : List Lexeme → List (List Lexeme)
@@ -108,10 +113,12 @@ parts [] = []
 parts (Colon ∷ ls) = [] ∷ parts ls
 parts (l ∷ ls) = onto_first l (parts ls)
 
--- what follows a line's number: a number stands first and is at most 63999, or no digits stand first
+-- what follows a line's number: a number stands first and is at most 63999, or no digits stand
+-- first
 abbrev pub HasNumber : List Lexeme → List Lexeme → Type 0
-HasNumber lexemes rest = ((lexemes ≡ rest) × ((ds : List ℕ) (more : List Lexeme) → lexemes ≡ Digits ds ∷ more → ⊥))
-    ⊎ ((ds : List ℕ) × (lexemes ≡ Digits ds ∷ rest) × (number_of ds ≤ 63999))
+HasNumber lexemes rest = ((lexemes ≡ rest)
+    × ((ds : List ℕ) (more : List Lexeme) → lexemes ≢ Digits ds ∷ more))
+    ⊎ ((ds : List ℕ) × (lexemes ≡ Digits ds ∷ rest) × (number_of ds ≤ line_number_limit))
 
 -- a line without its end: perhaps a number, then statements parted by colons
 abbrev pub IsLine : List ℕ → List Statement → Type 0

@@ -1,13 +1,13 @@
 -- Trusted: the lexemes of a line, and how the line's bytes spell them.
-use Rattle.std.specs.Prelude.{◌≡◌, ℕ, ◌<◌, ◌⊎◌, ◌||◌, ◌==◌, not, Bool, true, false, List, [], ◌∷◌, ◌++◌, length, map, codes}
+use Rattle.std.specs.Prelude.{◌≡◌, ⊤, ◌≢◌, IsTrue, ℕ, ◌<◌, ◌⊎◌, ◌||◌, ◌==◌, not, Bool, false, List, [], ◌∷◌, ◌++◌, length, map, codes}
 use Rattle.std.specs.List.{list_all}
 use Rattle.std.specs.Char.{to_ascii_lowercase}
 use Rattle.pr_base.specs.Digits.{is_digit}
 use Rattle.pr_basic.specs.declared.lexemes.Keyword.{Keyword}
 use Rattle.pr_basic.specs.declared.lexemes.Keyword.TheVariants.{Open, Close, Cmd, PrintTo, Print, Chr}
 
--- a lexeme: a keyword, a REM with the rest of its line, the digits of a number, the bytes of a string, a sign, or a byte that begins none
--- of these
+-- a lexeme: a keyword, a REM with the rest of its line, the digits of a number, the bytes of a
+-- string, a sign, or a byte that begins none of these
 pub data Lexeme : Type 0 where
   Word : Keyword → Lexeme
   Remark : Lexeme
@@ -43,27 +43,30 @@ IsWord letters bytes = map to_ascii_lowercase bytes ≡ letters
 
 -- no digit stands at the front
 abbrev pub NoDigit : List ℕ → Type 0
-NoDigit [] = Unit {0}
+NoDigit [] = ⊤
 NoDigit (b ∷ bs) = is_digit b ≡ false
 
 -- no `#` stands at the front
 abbrev pub NoHash : List ℕ → Type 0
-NoHash [] = Unit {0}
-NoHash (b ∷ bs) = b ≡ 35 → ⊥
+NoHash [] = ⊤
+NoHash (b ∷ bs) = b ≢ 35
 
 -- no space stands at the front
 abbrev pub NoSpace : List ℕ → Type 0
-NoSpace [] = Unit {0}
+NoSpace [] = ⊤
 NoSpace (b ∷ bs) = is_space b ≡ false
 
--- bytes spell a lexeme, with the line's bytes after them: PRINT has no `#` behind it, digits go on as far as they can, a string ends with
--- its quote or with the line, a remark with the line
+-- bytes spell a lexeme, with the line's bytes after them: PRINT has no `#` behind it, digits go on
+-- as far as they can, a string ends with its quote or with the line, a remark with the line
 abbrev pub Spells : Lexeme → List ℕ → List ℕ → Type 0
 Spells (Word Print) bytes after = IsWord (letters_of Print) bytes × NoHash after
 Spells (Word k) bytes after = IsWord (letters_of k) bytes
-Spells Remark bytes after = (word : List ℕ) × (rest : List ℕ) × (bytes ≡ word ++ rest) × IsWord (codes "rem") word × (after ≡ [])
-Spells (Digits ds) bytes after = (bytes ≡ ds) × (0 < length ds) × (list_all is_digit ds ≡ true) × NoDigit after
-Spells (Quoted s) bytes after = (list_all is_no_quote s ≡ true) × ((bytes ≡ 34 ∷ s ++ 34 ∷ []) ⊎ ((bytes ≡ 34 ∷ s) × (after ≡ [])))
+Spells Remark bytes after = (word : List ℕ) × (rest : List ℕ) × (bytes ≡ word ++ rest)
+    × IsWord (codes "rem") word × (after ≡ [])
+Spells (Digits ds) bytes after = (bytes ≡ ds) × (0 < length ds) × IsTrue (list_all is_digit ds)
+    × NoDigit after
+Spells (Quoted s) bytes after = IsTrue (list_all is_no_quote s)
+    × ((bytes ≡ 34 ∷ s ++ 34 ∷ []) ⊎ ((bytes ≡ 34 ∷ s) × (after ≡ [])))
 Spells Comma bytes after = bytes ≡ 44 ∷ []
 Spells Semicolon bytes after = bytes ≡ 59 ∷ []
 Spells Colon bytes after = bytes ≡ 58 ∷ []
@@ -74,7 +77,7 @@ Spells Stray bytes after = ⊥
 -- one byte that is no space, and at which no lexeme is spelled
 abbrev pub IsStray : List ℕ → List ℕ → Type 0
 IsStray bytes after = (b : ℕ) × (bytes ≡ b ∷ []) × (is_space b ≡ false)
-    × ((l : Lexeme) (front rest : List ℕ) → front ++ rest ≡ b ∷ after → Spells l front rest → ⊥)
+    × ((l : Lexeme) (front rest : List ℕ) → front ++ rest ≡ b ∷ after → ¬ Spells l front rest)
 
 -- bytes are a lexeme's: they spell it, or they are a stray byte
 abbrev pub IsLexeme : Lexeme → List ℕ → List ℕ → Type 0
@@ -82,6 +85,7 @@ IsLexeme l bytes after = Spells l bytes after ⊎ ((l ≡ Stray) × IsStray byte
 
 -- a line's bytes are these lexemes, with spaces around them
 abbrev pub AreLexemes : List ℕ → List Lexeme → Type 0
-AreLexemes line [] = list_all is_space line ≡ true
+AreLexemes line [] = IsTrue (list_all is_space line)
 AreLexemes line (l ∷ ls) = (spaces : List ℕ) × (bytes : List ℕ) × (after : List ℕ)
-    × (line ≡ spaces ++ (bytes ++ after)) × (list_all is_space spaces ≡ true) × IsLexeme l bytes after × AreLexemes after ls
+    × (line ≡ spaces ++ (bytes ++ after)) × IsTrue (list_all is_space spaces)
+    × IsLexeme l bytes after × AreLexemes after ls

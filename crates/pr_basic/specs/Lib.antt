@@ -1,5 +1,4 @@
 pub mod Limits
-pub mod ListLimit
 pub mod Text
 pub mod Statements
 pub mod Runs

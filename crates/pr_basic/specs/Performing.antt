@@ -1,11 +1,11 @@
 -- Words of calls: what a statement and its parts do to the channels. Who uses `perform` by itself believes them; what a run gives is
 -- defined without them.
-use Rattle.std.specs.Prelude.{◌≡◌, ℕ, false, nat_lt, Option, List, ◌++◌, map, if◌then◌else◌}
+use Rattle.std.specs.Prelude.{◌≡◌, ◌≤◌, ℕ, ◌+◌, false, nat_lt, Option, Result, OnOk, List, ◌++◌, length, map, if◌then◌else◌}
 use Rattle.pr_serial.specs.Elements.{Byte}
 use Rattle.pr_serial.specs.Items.{items_of}
 use Rattle.pr_channels.specs.declared.faults.Stop.{Stop}
 use Rattle.pr_channels.specs.Files.{file_at}
-use Rattle.pr_channels.specs.Seen.{Seen}
+use Rattle.pr_channels.specs.Seen.{Seen, KeepsBus}
 use Rattle.pr_channels.specs.Calls.{adding}
 use Rattle.pr_basic.specs.declared.session.StatusMode.{StatusMode}
 use Rattle.pr_basic.specs.declared.session.StatusMode.TheVariants.{Each, Kept}
@@ -65,3 +65,10 @@ pub record IsWorking (seen : Seen) : Type 0 where
 -- all but the screen's list is as before
 abbrev pub ChangesScreenAlone : Seen → Seen → Type 0
 ChangesScreenAlone old new = new ≡ record old { screen = new.screen }
+
+-- at most so many items are sent, and the bus has the same printers, delays and mark; unless memory
+-- was refused, it has failed only if it had before
+pub record SendsAtMost {X E : Type 0} (count : ℕ) (result : Result X E) (old new : Seen) : Type 0 where
+  pub failed : OnOk result (new.failed ≡ old.failed)
+  pub room : length new.sent ≤ length old.sent + count
+  pub keeps : KeepsBus old new

@@ -2,7 +2,7 @@
 -- crate tie them to the grammar and to the table of faults. No reader needs to believe them.
 use Rattle.std.specs.Prelude.{ℕ, ◌+◌, ◌-◌, ◌&&◌, List, [], ◌∷◌, length, ◌++◌, Bool, true, false, Option, Some, None, Result, Ok, Err, nat_le, nat_lt, if◌then◌else◌}
 use Rattle.std.specs.List.{prefix_len}
-use Rattle.pr_basic.specs.ListLimit.{byte_limit}
+use Rattle.pr_basic.specs.Limits.{byte_limit}
 use Rattle.pr_basic.specs.Text.{Text}
 use Rattle.pr_basic.specs.Lexemes.{Lexeme, Word, Remark, Digits, Quoted, Comma, Semicolon, OpenParen, CloseParen}
 use Rattle.pr_basic.specs.Grammar.{is_printable}

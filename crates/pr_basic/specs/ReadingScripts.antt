@@ -1,7 +1,7 @@
 -- Linking words: the statements of a script, or its first fault and its place, read line by line. The laws of the crate tie them to the
 -- grammar and to the table of faults. No reader needs to believe them.
 use Rattle.std.specs.Prelude.{ℕ, suc, ◌+◌, ◌-◌, ◌==◌, List, [], ◌∷◌, length, ◌++◌, take, Bool, false, Option, Some, None, Result, Ok, Err, nat_le, if◌then◌else◌}
-use Rattle.pr_basic.specs.Limits.{statement_limit}
+use Rattle.pr_basic.specs.Limits.{line_number_limit, statement_limit}
 use Rattle.pr_basic.specs.Lexemes.{Lexeme, Colon, Digits}
 use Rattle.pr_basic.specs.Lexing.{lexemes_of, past, unspaced}
 use Rattle.pr_basic.specs.Grammar.{parts, without_return}
@@ -19,10 +19,10 @@ pub record Passed : Type 0 where
   pub inside : ℕ
 
 -- a line's optional number of at most 63999, and the lexemes after it
-unfoldable pub numbered : List Lexeme → Result (List Lexeme × List Lexeme) (LineFault × Passed)
-numbered (Digits ds ∷ ls) =
-    if nat_le (number_of ds) 63999 then Ok (Digits ds ∷ [], ls) else Err (BadNumber, record { done = []; inside = 0 })
-numbered ls = Ok ([], ls)
+unfoldable pub split_number : List Lexeme → Result (List Lexeme × List Lexeme) (LineFault × Passed)
+split_number (Digits ds ∷ ls) =
+    if nat_le (number_of ds) line_number_limit then Ok (Digits ds ∷ [], ls) else Err (BadNumber, record { done = []; inside = 0 })
+split_number ls = Ok ([], ls)
 
 -- the digits that stand first
 unfoldable pub first_digits : List Lexeme → List Lexeme
@@ -66,7 +66,7 @@ statements_in room (p ∷ ps) = in_part p (counted room p) >>= λ s.
 
 -- the statements of a line's lexemes
 abbrev pub statements_of : ℕ → List Lexeme → Result (List Statement) (LineFault × Passed)
-statements_of room lexemes = numbered lexemes >>= λ p. behind p.0 (statements_in room (parts p.1))
+statements_of room lexemes = split_number lexemes >>= λ p. behind p.0 (statements_in room (parts p.1))
 
 -- how many bytes of a line stand before a place
 abbrev pub column_of : List ℕ → Passed → ℕ

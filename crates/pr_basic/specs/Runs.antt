@@ -9,38 +9,44 @@ use Rattle.pr_channels.specs.declared.faults.Stop.{Stop}
 use Rattle.pr_basic.specs.declared.statement.Statement.{Statement}
 use Rattle.pr_basic.specs.declared.session.StatusMode.{StatusMode}
 use Rattle.pr_basic.specs.declared.session.StatusMode.TheVariants.{Each, Kept}
-use Rattle.pr_basic.specs.Statements.{Setting, Effect, effect_of, status_of}
+use Rattle.pr_basic.specs.Statements.{Setting, Effect, at_first, effect_of, status_of}
 
--- what a run gives: all its elements, a status for each statement performed, the stop with its place, and the screen's bytes
+-- what a run gives: all its elements, a status for each statement performed, the stop with its
+-- place, and the screen's bytes
 pub record Run : Type 0 where
   pub elements : List Element
   pub statuses : List ℕ
   pub stop : Option (ℕ × Stop)
   pub screen : List ℕ
 
--- the status that a statement of a run finds: 0, or in the kept mode 128 if an item before it is not answered
+-- the status that a statement of a run finds: 0, or in the kept mode 128 if an item before it is
+-- not answered
 abbrev pub found_of : StatusMode → Present → List Element → ℕ
 found_of Each present before = 0
 found_of Kept present before = if is_lacking present 0 (items_of before) then 128 else 0
 
 -- a run that begins with a statement's effect and its status, and goes on unless that is a stop
 abbrev pub run_after : ℕ → List Element → ℕ → Effect → Option Stop → Run → Run
-run_after place before status e None rest = record rest { statuses = status ∷ rest.statuses; screen = e.screen ++ rest.screen }
+run_after place before status e None rest =
+    record rest { statuses = status ∷ rest.statuses; screen = e.screen ++ rest.screen }
 run_after place before status e (Some stop) rest =
-    record { elements = before ++ e.elements; statuses = status ∷ []; stop = Some (place, stop); screen = e.screen }
+    let all = before ++ e.elements in
+    record { elements = all; statuses = status ∷ []; stop = Some (place, stop); screen = e.screen }
 
 -- statements from one place on, after these elements
 abbrev pub run_from : StatusMode → Present → ℕ → List Element → Setting → List Statement → Run
-run_from mode present place before at [] = record { elements = before; statuses = []; stop = None; screen = [] }
+run_from mode present place before at [] =
+    record { elements = before; statuses = []; stop = None; screen = [] }
 run_from mode present place before at (statement ∷ statements) =
     let found = found_of mode present before in
     let e = effect_of present found before at statement in
     let all = before ++ e.elements in
-    run_after place before (status_of present found before all) e e.stop (run_from mode present (place + 1) all e.after statements)
+    let rest = run_from mode present (place + 1) all e.after statements in
+    run_after place before (status_of present found before all) e e.stop rest
 
 -- a whole run: no file is open, the channel number is 0, and the screen is the output device
 abbrev pub run_of : StatusMode → Present → List Statement → Run
-run_of mode present statements = run_from mode present 1 [] (record { files = []; channel = 0; output = 3 }) statements
+run_of mode present statements = run_from mode present 1 [] at_first statements
 
 -- the items that a run sends
 abbrev pub items_sent : StatusMode → Present → List Statement → List Item

@@ -13,9 +13,11 @@ use Rattle.pr_basic.specs.Text.{Text}
 use Rattle.pr_basic.specs.declared.statement.Statement.{Statement}
 use Rattle.pr_basic.specs.declared.statement.Statement.TheVariants.{OpenFile, Cmd, PrintTo, Print, CloseFile, Rem}
 
--- what a line prints under a channel number: its bytes, a return if it ends, and after it a line feed from channel 128 on
+-- what a line prints under a channel number: its bytes, a return if it ends, and after it a line
+-- feed from channel 128 on
 abbrev pub printed_bytes : Text → ℕ → List ℕ
-printed_bytes line channel = line.bytes ++ (if line.ends then 13 ∷ (if nat_le 128 channel then 10 ∷ [] else []) else [])
+printed_bytes line channel =
+    line.bytes ++ (if line.ends then 13 ∷ (if nat_le 128 channel then 10 ∷ [] else []) else [])
 
 -- what stands before a statement: the open files, the channel number and the output device
 pub record Setting : Type 0 where
@@ -23,22 +25,38 @@ pub record Setting : Type 0 where
   pub channel : ℕ
   pub output : ℕ
 
--- what a statement gives: its elements, its screen bytes, its stop if it stops, and what stands after it
+-- before the first statement: no file is open, the channel number is 0, and the screen is the
+-- output device
+abbrev pub at_first : Setting
+at_first = record { files = []; channel = 0; output = 3 }
+
+-- the channel number is 0 and the screen is the output device; the open files stay
+abbrev pub reset : Setting → Setting
+reset at = record at { channel = 0; output = 3 }
+
+-- what a statement gives: its elements, its screen bytes, its stop if it stops, and what stands
+-- after it
 pub record Effect : Type 0 where
   pub elements : List Element
   pub screen : List ℕ
   pub stop : Option Stop
   pub after : Setting
 
--- the status where these elements become those: 128 if an item that is then sent is not answered, else the one that was found
+-- the status where these elements become those: 128 if an item that is then sent is not answered,
+-- else the one that was found
 abbrev pub status_of : Present → ℕ → List Element → List Element → ℕ
-status_of present found before all = if is_lacking present (length (items_of before)) (items_of all) then 128 else found
+status_of present found before all =
+    if is_lacking present (length (items_of before)) (items_of all) then 128 else found
+
+-- no stop: these elements, these screen bytes, and what stands after them
+abbrev pub going_on : List Element → List ℕ → Setting → Effect
+going_on es screen after = record { elements = es; screen = screen; stop = None; after = after }
 
 -- a stop: after what was put on the bus comes UNLISTEN, where the output device is on the bus
 abbrev pub stopping : Stop → List Element → Setting → Effect
 stopping stop es at =
-    let reset : Setting = record { files = at.files; channel = 0; output = 3 } in
-    record { elements = es ++ (if nat_lt 3 at.output then unlisten ∷ [] else []); screen = []; stop = Some stop; after = reset }
+    let last = if nat_lt 3 at.output then unlisten ∷ [] else [] in
+    record { elements = es ++ last; screen = []; stop = Some stop; after = reset at }
 
 -- CMD: LISTEN to the file's device and then the line, unless the status is 128 after the LISTEN
 abbrev pub commanding : Present → ℕ → List Element → Setting → ℕ → Text → Option File → Effect
@@ -46,35 +64,33 @@ commanding present found before at number line None = stopping FileNotOpen [] at
 commanding present found before at number line (Some file) =
     if status_of present found before (before ++ listen_to file ∷ []) == 128
     then stopping DeviceNotPresent (listen_to file ∷ []) at
-    else record {
-      elements = listen_to file ∷ map Byte (printed_bytes line number);
-      screen = [];
-      stop = None;
-      after = record { files = at.files; channel = number; output = file.device };
-    }
+    else going_on (listen_to file ∷ map Byte (printed_bytes line number)) []
+    (record at { channel = number; output = file.device })
 
--- UNLISTEN after an effect, unless that is a stop; then the channel number is 0 and the screen is the output device
+-- UNLISTEN after an effect, unless that is a stop; then the channel number is 0 and the screen is
+-- the output device
 abbrev pub unlistening : Effect → Effect
 unlistening e =
     if is_some e.stop then e
-    else record e { elements = e.elements ++ unlisten ∷ []; after = record { files = e.after.files; channel = 0; output = 3 } }
+    else record e { elements = e.elements ++ unlisten ∷ []; after = reset e.after }
 
 -- OPEN: nothing is sent
 abbrev pub opening : Option Stop → File → Setting → Effect
-opening None file at = record { elements = []; screen = []; stop = None; after = record at { files = at.files ++ file ∷ [] } }
+opening None file at = going_on [] [] (record at { files = at.files ++ file ∷ [] })
 opening (Some stop) file at = stopping stop [] at
 
 -- what a statement gives, with the status found and the elements before it
 abbrev pub effect_of : Present → ℕ → List Element → Setting → Statement → Effect
 effect_of present found before at (OpenFile file device second) =
-    opening (open_stop at.files file) (record { number = file; device = device; second = second }) at
-effect_of present found before at (Cmd file line) = commanding present found before at file line (file_at at.files file)
-effect_of present found before at (PrintTo file line) = unlistening (commanding present found before at file line (file_at at.files file))
+    let opened : File = record { number = file; device = device; second = second } in
+    opening (open_stop at.files file) opened at
+effect_of present found before at (Cmd file line) =
+    commanding present found before at file line (file_at at.files file)
+effect_of present found before at (PrintTo file line) =
+    unlistening (commanding present found before at file line (file_at at.files file))
 effect_of present found before at (Print line) =
-    if nat_lt 3 at.output
-    then record { elements = map Byte (printed_bytes line at.channel); screen = []; stop = None; after = at }
-    else record { elements = []; screen = printed_bytes line at.channel; stop = None; after = at }
+    let bytes = printed_bytes line at.channel in
+    if nat_lt 3 at.output then going_on (map Byte bytes) [] at else going_on [] bytes at
 effect_of present found before at (CloseFile file) =
-    let left = without_file file at.files in
-    record { elements = closing (file_at at.files file); screen = []; stop = None; after = record at { files = left } }
-effect_of present found before at Rem = record { elements = []; screen = []; stop = None; after = at }
+    going_on (closing (file_at at.files file)) [] (record at { files = without_file file at.files })
+effect_of present found before at Rem = going_on [] [] at

@@ -2,7 +2,7 @@
 
 ghost use Rattle.std.specs.Prelude.{◌≡◌, ◌∷◌, [], ◌<◌, ◌≤◌, length, true, Ok, IfErr, IfOk, MatchResult};
 ghost use Rattle.std.specs.List.{prefix_len};
-ghost use Rattle.pr_basic.specs.ListLimit.{byte_limit};
+ghost use Rattle.pr_basic.specs.Limits.{byte_limit};
 ghost use Rattle.pr_basic.specs.Grammar.{is_printable};
 ghost use Rattle.pr_basic.specs.Lexing.{IsRest, here, later};
 ghost use Rattle.pr_basic.specs.Reading.{byte_added, chr_added, chr_in, line_in, string_added};

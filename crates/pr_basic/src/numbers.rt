@@ -33,10 +33,13 @@ pub fn number(
     missing: LineFault,
     outside: LineFault,
 ) -> Result<(u32, &[u8]), Flaw<'_>>
+    // the caller's part
     requires { high < 100000 }
+    // what it does
     ensures reads { Reads result (number_in low high missing outside (here bytes.now)) (later bytes.now) }
     ensures low { IfOk result (λ p. low ≤ p.0) }
     ensures high { IfOk result (λ p. p.0 ≤ high) }
+    // what is left
     ensures shorter { IfOk result (λ p. length p.1.now ≤ length bytes.now) }
     ensures on { ReadsOn result bytes.now }
 {

@@ -3,10 +3,9 @@
 ghost use Rattle.std.specs.Prelude.{◌≡◌, ℕ, ◌+◌, ◌≤◌, ◌<◌, ◌^◌, ◌⊎◌, true, false, Option, Some, None, length, IfOk, OnOk, OnErr, IsNone, is_some, if◌then◌else◌};
 ghost use Rattle.pr_serial.specs.Items.{items_of};
 ghost use Rattle.pr_channels.specs.Files.{open_stop};
-ghost use Rattle.pr_channels.specs.Seen.{KeepsBus};
 ghost use Rattle.pr_channels.specs.Calls.{clrchn_of};
 ghost use Rattle.pr_basic.specs.Statements.{printed_bytes, unlistening, opening};
-ghost use Rattle.pr_basic.specs.Performing.{printing, Gives, IsWorking, setting_of, effect_on, commanding_on, ChangesScreenAlone, Performs, found_by};
+ghost use Rattle.pr_basic.specs.Performing.{printing, Gives, IsWorking, setting_of, effect_on, commanding_on, ChangesScreenAlone, Performs, SendsAtMost, found_by};
 
 use crate::session::{Session, StatusMode};
 use crate::statement::{Device, Line, Second, Statement, number_of_second};
@@ -42,13 +41,12 @@ fn begin<S: Serial>(channels: &mut Channels<S>, mode: StatusMode)
 fn print_bytes<S: Serial>(channels: &mut Channels<S>, bytes: &[u8]) -> Result<(), NoMemory>
     requires room { length channels.old.sent + length bytes.now + 3 ≤ 2 ^ 32 }
     ensures ok { OnOk result (IsWorking channels.old → channels.new ≡ printing bytes.now channels.old) }
-    ensures failed { OnOk result (channels.new.failed ≡ channels.old.failed) }
-    ensures room { length channels.new.sent ≤ length channels.old.sent + length bytes.now }
-    ensures keeps { KeepsBus channels.old channels.new }
+    ensures sends { SendsAtMost (length bytes.now) result channels.old channels.new }
     ensures output { OnOk result (channels.new.output ≡ channels.old.output) }
     ensures screen { channels.old.output ≤ 3 → ChangesScreenAlone channels.old channels.new }
     ensures err { 3 < channels.old.output → OnErr result (channels.new.failed ≡ true) }
 {
+    // For the prover alone: a law, with nothing to run.
     elements_add_up();
     for byte in bytes {
         channels.chrout(*byte)?;
@@ -64,13 +62,12 @@ fn print_line<S: Serial>(
 ) -> Result<(), NoMemory>
     requires room { length channels.old.sent + 260 ≤ 2 ^ 32 }
     ensures ok { OnOk result (IsWorking channels.old → channels.new ≡ printing (printed_bytes line.now channel) channels.old) }
-    ensures failed { OnOk result (channels.new.failed ≡ channels.old.failed) }
-    ensures room { length channels.new.sent ≤ length channels.old.sent + 257 }
-    ensures keeps { KeepsBus channels.old channels.new }
+    ensures sends { SendsAtMost 257 result channels.old channels.new }
     ensures output { OnOk result (channels.new.output ≡ channels.old.output) }
     ensures screen { channels.old.output ≤ 3 → ChangesScreenAlone channels.old channels.new }
     ensures err { 3 < channels.old.output → OnErr result (channels.new.failed ≡ true) }
 {
+    // For the prover alone: a law, with nothing to run.
     elements_add_up();
     print_bytes(channels, &line.bytes)?;
     if line.ends {
@@ -87,9 +84,7 @@ fn stopped<S: Serial>(channels: &mut Channels<S>, stop: Stop) -> Result<Option<S
     requires room { length channels.old.sent + 3 ≤ 2 ^ 32 }
     ensures stop { IfOk result (λ answer. answer ≡ Some stop) }
     ensures ok { OnOk result (channels.new ≡ clrchn_of channels.old) }
-    ensures failed { OnOk result (channels.new.failed ≡ channels.old.failed) }
-    ensures room { length channels.new.sent ≤ length channels.old.sent + 2 }
-    ensures keeps { KeepsBus channels.old channels.new }
+    ensures sends { SendsAtMost 2 result channels.old channels.new }
     ensures err { OnErr result (channels.new.failed ≡ true) }
 {
     channels.clrchn()?;
@@ -107,11 +102,10 @@ fn command<S: Serial>(
     ensures ok { IfOk result (λ stop. IsWorking channels.old → (channel : ℕ) →
         Gives channels.old channels.new stop (commanding_on channels.old channel file line.now)) }
     ensures bus { IfOk result (λ stop. IsNone stop → 3 < channels.new.output) }
-    ensures failed { OnOk result (channels.new.failed ≡ channels.old.failed) }
-    ensures room { length channels.new.sent ≤ length channels.old.sent + 260 }
-    ensures keeps { KeepsBus channels.old channels.new }
+    ensures sends { SendsAtMost 260 result channels.old channels.new }
     ensures err { OnErr result (channels.new.failed ≡ true) }
 {
+    // For the prover alone: a law, with nothing to run.
     elements_add_up();
     match channels.chkout(file) {
         Ok(()) => {
@@ -132,11 +126,10 @@ fn print_to<S: Serial>(
     requires room { length channels.old.sent + 280 ≤ 2 ^ 32 }
     ensures ok { IfOk result (λ stop. IsWorking channels.old → (channel : ℕ) →
         Gives channels.old channels.new stop (unlistening (commanding_on channels.old channel file line.now))) }
-    ensures failed { OnOk result (channels.new.failed ≡ channels.old.failed) }
-    ensures room { length channels.new.sent ≤ length channels.old.sent + 262 }
-    ensures keeps { KeepsBus channels.old channels.new }
+    ensures sends { SendsAtMost 262 result channels.old channels.new }
     ensures err { OnErr result (channels.new.failed ≡ true) }
 {
+    // For the prover alone: a law, with nothing to run.
     elements_add_up();
     if let Some(stop) = command(channels, file, line)? {
         return Ok(Some(stop));
@@ -156,11 +149,10 @@ fn open<S: Serial>(
     ensures ok { IfOk result (λ stop. IsWorking channels.old → (channel : ℕ) →
         Gives channels.old channels.new stop (opening (open_stop channels.old.files file)
         (record { number = file; device = device; second = second }) (setting_of channels.old channel))) }
-    ensures failed { OnOk result (channels.new.failed ≡ channels.old.failed) }
-    ensures room { length channels.new.sent ≤ length channels.old.sent + 2 }
-    ensures keeps { KeepsBus channels.old channels.new }
+    ensures sends { SendsAtMost 2 result channels.old channels.new }
     ensures err { OnErr result (channels.new.failed ≡ true) }
 {
+    // For the prover alone: a law, with nothing to run.
     elements_add_up();
     let second_number = number_of_second(second);
     match channels.open_file(file, device.get(), second_number) {
@@ -169,7 +161,6 @@ fn open<S: Serial>(
     }
 }
 
-/// The number of a secondary address, if there is one.
 /// The channel number after a statement that stops or not.
 fn channel_after(stop: &Option<Stop>, channel: u8) -> u8
     ensures { result ≡ (if is_some stop.now then 0 else channel) }
@@ -191,11 +182,10 @@ fn perform_begun<S: Serial>(
     ensures ok { IfOk result (λ after. IsWorking channels.old →
         Performs channels.old channels.new channels.old.status after.1 after.0
         (effect_on channels.old channels.old.status channel statement.now)) }
-    ensures failed { OnOk result (channels.new.failed ≡ channels.old.failed) }
-    ensures room { length channels.new.sent ≤ length channels.old.sent + 262 }
-    ensures keeps { KeepsBus channels.old channels.new }
+    ensures sends { SendsAtMost 262 result channels.old channels.new }
     ensures err { OnErr result ((channels.new.failed ≡ true) ⊎ ChangesScreenAlone channels.old channels.new) }
 {
+    // For the prover alone: a law, with nothing to run.
     elements_add_up();
     match statement {
         Statement::OpenFile {
@@ -264,9 +254,7 @@ pub fn perform<S: Serial>(
         Performs channels.old channels.new (found_by session.old.mode channels.old.status) session.new.channel stop
         (effect_on channels.old (found_by session.old.mode channels.old.status) session.old.channel statement.now)) }
     ensures mode { session.new.mode ≡ session.old.mode }
-    ensures failed { OnOk result (channels.new.failed ≡ channels.old.failed) }
-    ensures room { length channels.new.sent ≤ length channels.old.sent + 262 }
-    ensures keeps { KeepsBus channels.old channels.new }
+    ensures sends { SendsAtMost 262 result channels.old channels.new }
     ensures err { OnErr result ((channels.new.failed ≡ true)
         ⊎ ChangesScreenAlone (record channels.old { status = found_by session.old.mode channels.old.status }) channels.new) }
     ensures err_session { OnErr result (session.new ≡ session.old) }

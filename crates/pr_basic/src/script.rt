@@ -7,7 +7,7 @@ ghost use Rattle.pr_base.specs.Lines.{lines_of};
 ghost use Rattle.pr_basic.specs.Faults.{IsFirstFault};
 ghost use Rattle.pr_basic.specs.FaultPlaces.{IsFirstFaultAt};
 ghost use Rattle.pr_basic.specs.Lexing.{here, later, lexemes_of, past, unspaced};
-ghost use Rattle.pr_basic.specs.ReadingScripts.{and_more, behind, counted, first_digits, is_begun, line_statements, numbered, statements_in, statements_of};
+ghost use Rattle.pr_basic.specs.ReadingScripts.{and_more, behind, counted, first_digits, is_begun, line_statements, split_number, statements_in, statements_of};
 ghost use Rattle.pr_basic.specs.Reads.{FailsIn, ReadsOn, ReadsStatement, UnlessMemory, still, with_front};
 ghost use Rattle.pr_basic.specs.Lexemes.{Colon};
 
@@ -196,11 +196,11 @@ fn begins_statement(bytes: &[u8]) -> bool
 }
 
 /// What follows the line's number, if it has one.
-#[tactic(auto, unfolding(crate::specs::ReadingScripts::numbered, crate::specs::ReadingScripts::first_digits, crate::specs::Lexing::past))]
+#[tactic(auto, unfolding(crate::specs::ReadingScripts::split_number, crate::specs::ReadingScripts::first_digits, crate::specs::Lexing::past))]
 fn after_number(bytes: &[u8]) -> Result<&[u8], Flaw<'_>>
     ensures number { MatchResult result
-        (λ rest. numbered (lexemes_of bytes.now) ≡ Ok (first_digits (lexemes_of bytes.now), lexemes_of rest.now))
-        (λ e. numbered (lexemes_of bytes.now) ≡ Err (e.fault, record { done = []; inside = e.inside })) }
+        (λ rest. split_number (lexemes_of bytes.now) ≡ Ok (first_digits (lexemes_of bytes.now), lexemes_of rest.now))
+        (λ e. split_number (lexemes_of bytes.now) ≡ Err (e.fault, record { done = []; inside = e.inside })) }
     ensures left { MatchResult result (λ rest. rest.now ≡ past (length (first_digits (lexemes_of bytes.now))) bytes.now)
         (λ e. e.rest.now ≡ bytes.now) }
 {

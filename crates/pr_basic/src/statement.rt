@@ -20,7 +20,7 @@ pub struct Line {
 
 impl Model for Line {
     ghost use Rattle.std.specs.Prelude.{◌≤◌, vec_len};
-    ghost use Rattle.pr_basic.specs.ListLimit.{byte_limit};
+    ghost use Rattle.pr_basic.specs.Limits.{byte_limit};
     ghost use Rattle.pr_basic.specs.Text.{Text};
 
     ghost Value = { Text };

@@ -12,12 +12,15 @@ use Rattle.pr_wire.specs.declared.Frame.{Frame}
 abbrev pub item_frames : Item → List Frame
 item_frames (Attention b None) = record { attention = true; byte = b; eoi = false } ∷ []
 item_frames (Attention b (Some c)) =
-    record { attention = true; byte = b; eoi = false } ∷ record { attention = true; byte = c; eoi = false } ∷ []
+    record { attention = true; byte = b; eoi = false }
+    ∷ record { attention = true; byte = c; eoi = false } ∷ []
 item_frames (Sent b eoi) = record { attention = false; byte = b; eoi = eoi } ∷ []
 
 -- the frames of the items that are answered, after those before them
 abbrev pub frames_after : Present → List Item → List Item → List Frame
-frames_after present before items = flat_map (λ p. cond (is_answered present p.0 p.1) (item_frames p.1) []) (with_before before items)
+frames_after present before items =
+    flat_map (λ p. cond (is_answered present p.0 p.1) (item_frames p.1) [])
+    (with_before before items)
 
 -- the frames of the items that are answered
 abbrev pub answered_frames : Present → List Item → List Frame

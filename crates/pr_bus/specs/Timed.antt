@@ -1,4 +1,5 @@
--- Trusted: the trace of items under a presence and three lists of delay numbers: each act in its time, by sums, least and greatest.
+-- Trusted: the trace of items under a presence and three lists of delay numbers: each act in its
+-- time, by sums, least and greatest.
 use Rattle.std.specs.Prelude.{ℕ, zero, suc, ◌+◌, ◌/◌, ◌%◌, min, max, Bool, true, false, cond, eqb, List, [], ◌∷◌, ◌++◌, map, drop, Option, Some, None}
 use Rattle.pr_base.specs.Bytes as command
 use Rattle.pr_serial.specs.declared.Present.{Present}
@@ -19,21 +20,23 @@ pub record TimedPrinter : Type 0 where
   pub device : ℕ
   pub numbers : List ℕ
 
--- what stands on CLOCK and DATA between two items: both are released; both are pulled; CLOCK is pulled, and DATA will be released at a
--- moment
+-- what stands on CLOCK and DATA between two items: both are released; both are pulled; CLOCK is
+-- pulled, and DATA will be released at a moment
 pub data Lines : Type 0 where
   Free : Lines
   Pulled : Lines
   Due : ℕ → Lines
 
--- how long a hearer of a frame waits: before it releases DATA, before its EOI answer, for how long that lasts, before it acknowledges
+-- how long a listener of a frame waits: before it releases DATA, before its EOI answer, for how long
+-- that lasts, before it acknowledges
 pub record ListenerTiming : Type 0 where
   pub hold : ℕ
   pub wait : ℕ
   pub answer : ℕ
   pub accept : ℕ
 
--- the wires between two items: the items before, the end of the last one, the lines, and who takes numbers
+-- the wires between two items: the items before, the end of the last one, the lines, and who takes
+-- numbers
 pub record TimedBus : Type 0 where
   pub before : List Item
   pub now : ℕ
@@ -84,7 +87,12 @@ frame_times look eoi byte numbers hearers =
 -- each present printer hears a command; its numbers for it begin at an index
 abbrev pub command_hearers : ℕ → List TimedPrinter → List ListenerTiming
 command_hearers i printers =
-    map (λ (p : TimedPrinter). record { hold = delay_at H p.numbers i; wait = 0; answer = 0; accept = delay_at F p.numbers (i + 1) }) printers
+    map (λ (p : TimedPrinter). record {
+      hold = delay_at H p.numbers i;
+      wait = 0;
+      answer = 0;
+      accept = delay_at F p.numbers (i + 1);
+    }) printers
 
 -- the printers that listen
 abbrev pub listening : List Item → List TimedPrinter → List TimedPrinter
@@ -116,29 +124,35 @@ pub record Done : Type 0 where
   pub piece : Option Piece
   pub wires : TimedBus
 
+-- the wires after an item that nobody hears: both lines are released, and the computer has taken
+-- some numbers
+abbrev pub after_unheard : TimedBus → Item → ℕ → ℕ → TimedBus
+after_unheard w x look n =
+    record w { before = w.before ++ x ∷ []; now = look; lines = Free; computer = drop n w.computer }
+
 -- an attention that nobody answers
 abbrev pub unanswered : TimedBus → Item → Done
 unanswered w x =
     let a = w.now + delay_at Bb w.computer 0 in
     let look = a + delay_at Aw w.computer 1 in
-    record {
-      piece = Some (Unanswered a look);
-      wires = record { before = w.before ++ x ∷ []; now = look; lines = Free; computer = drop 2 w.computer; printers = w.printers };
-    }
+    record { piece = Some (Unanswered a look); wires = after_unheard w x look 2 }
 
 -- DATA is pulled in answer to ATN at the least AT, unless it is pulled
 abbrev pub answer_at : Lines → ℕ → List TimedPrinter → Option ℕ
 answer_at Pulled a printers = None
-answer_at _ a printers = Some (a + least (map (λ (p : TimedPrinter). delay_at At p.numbers 0) printers))
+answer_at _ a printers =
+    Some (a + least (map (λ (p : TimedPrinter). delay_at At p.numbers 0) printers))
 
 -- the second command of an attention, after the first acknowledgement
 abbrev pub second_frame : ℕ → Option ℕ → List ℕ → List TimedPrinter → Option SecondFrame
 second_frame k None numbers printers = None
 second_frame k (Some byte) numbers printers =
     let look = k + delay_at Aw numbers 0 in
-    Some (record { look = look; sent = frame_times look false byte (drop 1 numbers) (command_hearers 3 printers) })
+    let sent = frame_times look false byte (drop 1 numbers) (command_hearers 3 printers) in
+    Some (record { look = look; sent = sent })
 
--- how many numbers the commands of an attention take of the computer, behind the first two, and of a printer, behind the first
+-- how many numbers the commands of an attention take of the computer, after the first two, and of a
+-- printer, after the first
 abbrev pub commands_take : Option ℕ → ℕ
 commands_take None = 17
 commands_take (Some byte) = 35
@@ -158,19 +172,25 @@ answered w byte second =
     let r = last_ack first.ack more + delay_at R rest 0 in
     let before = w.before ++ Attention byte second ∷ [] in
     let listeners = listening before w.printers in
-    let deaf = map (λ (p : TimedPrinter). cond (is_listener p.device before) p (taking 1 p)) (map (taking (printer_takes second)) w.printers) in
-    let due = r + greatest (map (λ (p : TimedPrinter). delay_at Dr p.numbers (printer_takes second)) w.printers) in
+    let takes = printer_takes second in
+    let heard = map (taking takes) w.printers in
+    let freed = map (λ (p : TimedPrinter). cond (is_listener p.device before) p (taking 1 p)) heard in
+    let due = r + greatest (map (λ (p : TimedPrinter). delay_at Dr p.numbers takes) w.printers) in
     let closed = r + delay_at Cr rest 1 in
     let unlisten = eqb (elim second [ None ↦ byte | Some b ↦ b ]) command.unlisten in
     record {
       piece = Some (Attended a (answer_at w.lines a w.printers) look first more
-          (record { atn = r; line = cond unlisten (Some due) None; clock = cond unlisten (Some closed) None }));
+          (record {
+            atn = r;
+            line = cond unlisten (Some due) None;
+            clock = cond unlisten (Some closed) None;
+          }));
       wires = record {
         before = before;
         now = cond unlisten closed r;
         lines = cond unlisten Free (elim listeners [ [] ↦ Due due | p ∷ ps ↦ Pulled ]);
         computer = drop (cond unlisten 2 1) rest;
-        printers = deaf;
+        printers = freed;
       };
     }
 
@@ -186,7 +206,8 @@ heard_byte w byte eoi hearers =
         now = sent.ack;
         lines = Pulled;
         computer = drop 18 w.computer;
-        printers = map (λ (p : TimedPrinter). cond (is_listener p.device w.before) (taking (cond eoi 4 3) p) p) w.printers;
+        printers = map (λ (p : TimedPrinter).
+            cond (is_listener p.device w.before) (taking (cond eoi 4 3) p) p) w.printers;
       };
     }
 
@@ -199,16 +220,15 @@ dropped_piece _ look = Some (Dropped look)
 abbrev pub dropped_byte : TimedBus → Item → Done
 dropped_byte w x =
     let look = w.now + delay_at Bb w.computer 0 in
-    record {
-      piece = dropped_piece w.lines look;
-      wires = record { before = w.before ++ x ∷ []; now = look; lines = Free; computer = drop 1 w.computer; printers = w.printers };
-    }
+    record { piece = dropped_piece w.lines look; wires = after_unheard w x look 1 }
 
 -- an item
 abbrev pub done : TimedBus → Item → Done
-done w (Attention byte second) = elim w.printers [ [] ↦ unanswered w (Attention byte second) | p ∷ ps ↦ answered w byte second ]
+done w (Attention byte second) =
+    elim w.printers [ [] ↦ unanswered w (Attention byte second) | p ∷ ps ↦ answered w byte second ]
 done w (Sent byte eoi) =
-    elim (listening w.before w.printers) [ [] ↦ dropped_byte w (Sent byte eoi) | p ∷ ps ↦ heard_byte w byte eoi (p ∷ ps) ]
+    elim (listening w.before w.printers)
+    [ [] ↦ dropped_byte w (Sent byte eoi) | p ∷ ps ↦ heard_byte w byte eoi (p ∷ ps) ]
 
 -- DATA's release that is still due
 abbrev pub due_edges : Lines → List Edge
@@ -232,16 +252,19 @@ timed_edges w (x ∷ xs) = item_edges w x ++ timed_edges (done w x).wires xs
 -- the printers that are present, with their numbers
 abbrev pub present_printers : Present → List ℕ → List ℕ → List TimedPrinter
 present_printers present four five =
-    cond present.four (record { device = 4; numbers = four } ∷ []) [] ++ cond present.five (record { device = 5; numbers = five } ∷ []) []
+    cond present.four (record { device = 4; numbers = four } ∷ []) []
+    ++ cond present.five (record { device = 5; numbers = five } ∷ []) []
 
 -- the wires before the first item
 abbrev pub wires : Present → List ℕ → List ℕ → List ℕ → TimedBus
 wires present computer four five =
-    record { before = []; now = 0; lines = Free; computer = computer; printers = present_printers present four five }
+    let printers = present_printers present four five in
+    record { before = []; now = 0; lines = Free; computer = computer; printers = printers }
 
 -- the trace of items
 abbrev pub timed_trace : Present → List ℕ → List ℕ → List ℕ → List Item → List Edge
-timed_trace present computer four five items = start ∷ timed_edges (wires present computer four five) items
+timed_trace present computer four five items =
+    start ∷ timed_edges (wires present computer four five) items
 
 -- the same, by the delay numbers of a bus
 abbrev pub trace_from : Present → DelayNumbers → List Item → List Edge

@@ -5,15 +5,15 @@ ghost use Rattle.pr_wire.specs.Levels.{start};
 ghost use Rattle.pr_receiver.specs.Taken.{number_taken};
 ghost use Rattle.pr_bus.specs.PortState.{ForgetsAs, Hears, IsSamePort, HasRoom, ListensAs, MayHear};
 
-use crate::port::WiredPort;
 use crate::laws::timed_traces_spell;
 use crate::lines::push;
+use crate::port::WiredPort;
 use pr_receiver::fronts_are_allowed;
 use pr_serial::{Item, NoMemory, Present};
 use pr_wire::Edge;
 use std::alloc::Global;
 
-/// All items, the edges since the mark, and the printers' ears.
+/// All items, the edges since the mark, and the printers' ports.
 #[derive(Drop)]
 pub struct Log {
     pub items: Vec<Item>,
@@ -30,6 +30,7 @@ impl Log {
         ensures four { IfOk result (λ log. Hears 4 present.four [] (start ∷ []) log.four) }
         ensures five { IfOk result (λ log. Hears 5 present.five [] (start ∷ []) log.five) }
     {
+        // For the prover alone: laws, with nothing to run.
         timed_traces_spell();
         fronts_are_allowed();
         let mut trace = Vec::new(alloc);
@@ -48,13 +49,16 @@ impl Log {
 
     /// Makes room for an item and its inputs, and adds its edges.
     pub fn grow(&mut self, edges: &[Edge]) -> Result<(), NoMemory>
+        // what never changes
         ensures items { self.new.items.items ≡ self.old.items.items }
         ensures four { IsSamePort self.old.four self.new.four }
         ensures five { IsSamePort self.old.five self.new.five }
+        // what it does
         ensures trace { OnOk result (self.new.trace.items ≡ self.old.trace.items ++ edges.now) }
         ensures room { OnOk result (vec_len self.new.items < vec_capacity self.new.items) }
         ensures four_room { OnOk result (HasRoom self.new.four) }
         ensures five_room { OnOk result (HasRoom self.new.five) }
+        // what a refusal leaves
         ensures err { OnErr result (self.new.trace.items ≡ self.old.trace.items) }
     {
         self.items.reserve(1)?;
@@ -66,11 +70,13 @@ impl Log {
 
     /// Adds an item, and lets the printers hear its edges. There is room for what comes of it.
     pub fn add(&mut self, item: Item, edges: &[Edge])
+        // the caller's part
         requires room { vec_len self.old.items < vec_capacity self.old.items }
         requires four_may { self.old.four.present ≡ true → MayHear edges.now self.old.four }
         requires five_may { self.old.five.present ≡ true → MayHear edges.now self.old.five }
         requires four_taken { number_taken self.old.four.receiver + length edges.now < 2 ^ 63 }
         requires five_taken { number_taken self.old.five.receiver + length edges.now < 2 ^ 63 }
+        // what it does
         ensures items { self.new.items.items ≡ self.old.items.items ++ item ∷ [] }
         ensures trace { self.new.trace.items ≡ self.old.trace.items }
         ensures four { ListensAs 4 edges.now self.old.four self.new.four }

@@ -13,9 +13,9 @@ ghost use Rattle.pr_bus.specs.Talking.{lines_of};
 ghost use Rattle.pr_serial.specs.Sendable.{MaySend};
 
 use crate::frame::push_frame;
-use crate::timing::wired_and;
 use crate::lines::{Lines, greatest, least, push, push_answer, push_call, push_due};
 use crate::printer::TimedPrinter;
+use crate::timing::wired_and;
 use pr_base::UNLISTEN;
 use pr_serial::NoMemory;
 use pr_serial::laws::items_make_listeners;
@@ -49,15 +49,20 @@ impl Talker {
 
     /// Sends a byte, and makes its edges.
     pub fn send(&mut self, byte: u8, eoi: bool) -> Result<(), NoMemory>
+        // the caller's part
         requires { self.old.time < 2 ^ 60 }
+        // what it does
         ensures edges { OnOk result ((before : List Item) → IsTuned before self.old →
             self.new.edges.items ≡ item_edges (state_of before self.old) (Sent byte eoi)) }
         ensures state { OnOk result ((before : List Item) → IsTuned before self.old →
             state_of (before ++ Sent byte eoi ∷ []) self.new ≡ (done (state_of before self.old) (Sent byte eoi)).wires) }
         ensures tuned { OnOk result ((before : List Item) → IsTuned before self.old → IsTuned (before ++ Sent byte eoi ∷ []) self.new) }
+        // what never changes
         ensures same { IsSameTalker self.old self.new }
+        // what a refusal leaves
         ensures err { OnErr result (self.new.time ≡ self.old.time) }
     {
+        // For the prover alone: a law, with nothing to run.
         items_make_listeners();
         self.edges.clear();
         push_due(&mut self.edges, self.lines)?;
@@ -72,9 +77,11 @@ impl Talker {
 
     /// Sends an attention, and makes its edges.
     pub fn attention(&mut self, first: u8, second: Option<u8>) -> Result<(), NoMemory>
+        // the caller's part
         requires room { self.old.time < 2 ^ 60 }
         requires may_send { MaySend first second }
         requires devices { (self.old.four.device ≡ 4) × (self.old.five.device ≡ 5) }
+        // what it does
         ensures edges { OnOk result ((before : List Item) → IsTuned before self.old →
             self.new.edges.items ≡ item_edges (state_of before self.old) (Attention first second)) }
         ensures state { OnOk result ((before : List Item) → IsTuned before self.old →
@@ -82,9 +89,12 @@ impl Talker {
             ≡ (done (state_of before self.old) (Attention first second)).wires) }
         ensures tuned { OnOk result ((before : List Item) → IsTuned before self.old →
             IsTuned (before ++ Attention first second ∷ []) self.new) }
+        // what never changes
         ensures same { IsSameTalker self.old self.new }
+        // what a refusal leaves
         ensures err { OnErr result (self.new.time ≡ self.old.time) }
     {
+        // For the prover alone: a law, with nothing to run.
         items_make_listeners();
         self.edges.clear();
         push_due(&mut self.edges, self.lines)?;
@@ -117,13 +127,17 @@ impl Talker {
 
     /// Makes the edges of a second command, if there is one, and tells the last acknowledgement.
     fn second(&mut self, ack: u64, second: Option<u8>) -> Result<u64, NoMemory>
+        // the caller's part
         requires { ack < 2 ^ 61 }
+        // what it does
         ensures edges { OnOk result (self.new.edges.items ≡ self.old.edges.items ++ second_edges (second_of self.old ack second)) }
         ensures ack { IfOk result (λ last. last ≡ last_ack ack (second_of self.old ack second)) }
         ensures soon { IfOk result (λ last. last ≤ ack + 2 ^ 35) }
+        // how many delay numbers it takes
         ensures computer { OnOk result (left self.new.computer ≡ drop (second_takes second) (left self.old.computer)) }
         ensures four { OnOk result (printer_list self.new.four ≡ second_taking second (printer_list self.old.four)) }
         ensures five { OnOk result (printer_list self.new.five ≡ second_taking second (printer_list self.old.five)) }
+        // what never changes
         ensures lines { self.new.lines ≡ self.old.lines }
         ensures same { IsSameTalker self.old self.new }
         ensures listens { IsSameTuned self.old self.new }
@@ -155,16 +169,21 @@ impl Talker {
 
     /// Makes the edges of a byte that a printer hears.
     fn frame(&mut self, look: u64, byte: u8, eoi: bool) -> Result<(), NoMemory>
+        // the caller's part
         requires { look < 2 ^ 62 }
+        // what it does
         ensures edges { OnOk result (self.new.edges.items
             ≡ self.old.edges.items ++ (edge_at look true true false ∷ frame_edges true (heard_frame self.old look eoi byte))) }
         ensures now { OnOk result (self.new.time ≡ (heard_frame self.old look eoi byte).ack) }
         ensures lines { OnOk result (self.new.lines ≡ Lines.Pulled) }
+        // how many delay numbers it takes
         ensures computer { OnOk result (left self.new.computer ≡ drop 17 (left self.old.computer)) }
         ensures four { OnOk result (printer_list self.new.four ≡ after_byte eoi self.old.four) }
         ensures five { OnOk result (printer_list self.new.five ≡ after_byte eoi self.old.five) }
+        // what never changes
         ensures same { IsSameTalker self.old self.new }
         ensures listens { IsSameTuned self.old self.new }
+        // what a refusal leaves
         ensures err { OnErr result (self.new.time ≡ self.old.time) }
     {
         push(&mut self.edges, look, true, true, false)?;
@@ -185,11 +204,15 @@ impl Talker {
 
     /// Makes the edges of DATA's pull in answer to ATN, and of CLOCK's release.
     fn answer(&mut self, time: u64, look: u64) -> Result<(), NoMemory>
+        // the caller's part
         requires { time < 2 ^ 62 }
+        // what it does
         ensures edges { OnOk result (self.new.edges.items
             ≡ self.old.edges.items ++ answer_edges (answer_at (lines_of self.old.lines) time (printers_of self.old)) look) }
+        // how many delay numbers it takes
         ensures four { OnOk result (printer_list self.new.four ≡ map (taking 1) (printer_list self.old.four)) }
         ensures five { OnOk result (printer_list self.new.five ≡ map (taking 1) (printer_list self.old.five)) }
+        // what never changes
         ensures lines { self.new.lines ≡ self.old.lines }
         ensures computer { self.new.computer ≡ self.old.computer }
         ensures same { IsSameTalker self.old self.new }
@@ -202,13 +225,17 @@ impl Talker {
 
     /// Makes the edges of a command's frame, and tells its acknowledgement.
     fn command(&mut self, look: u64, byte: u8) -> Result<u64, NoMemory>
+        // the caller's part
         requires { look < 2 ^ 62 }
+        // what it does
         ensures edges { OnOk result (self.new.edges.items ≡ self.old.edges.items ++ frame_edges false (command_frame self.old look byte)) }
         ensures ack { IfOk result (λ ack. ack ≡ (command_frame self.old look byte).ack) }
         ensures soon { IfOk result (λ ack. ack ≤ look + 2 ^ 34) }
+        // how many delay numbers it takes
         ensures computer { OnOk result (left self.new.computer ≡ drop 17 (left self.old.computer)) }
         ensures four { OnOk result (printer_list self.new.four ≡ map (taking 2) (printer_list self.old.four)) }
         ensures five { OnOk result (printer_list self.new.five ≡ map (taking 2) (printer_list self.old.five)) }
+        // what never changes
         ensures lines { self.new.lines ≡ self.old.lines }
         ensures same { IsSameTalker self.old self.new }
         ensures listens { IsSameTuned self.old self.new }
@@ -228,16 +255,21 @@ impl Talker {
 
     /// Makes the edges of an attention's end.
     fn release(&mut self, ack: u64, unlisten: bool) -> Result<(), NoMemory>
+        // the caller's part
         requires room { ack < 2 ^ 62 }
         requires ended { unlisten ≡ true → (self.old.four.listens ≡ false) × (self.old.five.listens ≡ false) }
+        // what it does
         ensures edges { OnOk result (self.new.edges.items ≡ self.old.edges.items ++ ending_edges (ending_of self.old ack unlisten)) }
         ensures now { OnOk result (self.new.time ≡ end_of self.old ack unlisten) }
         ensures lines { OnOk result (lines_of self.new.lines ≡ rest_of self.old ack unlisten) }
+        // how many delay numbers it takes
         ensures computer { OnOk result (left self.new.computer ≡ drop (cond unlisten 2 1) (left self.old.computer)) }
         ensures four { OnOk result (printer_list self.new.four ≡ after_freed self.old.four) }
         ensures five { OnOk result (printer_list self.new.five ≡ after_freed self.old.five) }
+        // what never changes
         ensures same { IsSameTalker self.old self.new }
         ensures listens { IsSameTuned self.old self.new }
+        // what a refusal leaves
         ensures err { OnErr result (self.new.time ≡ self.old.time) }
     {
         let freed = ack + u64::from(self.computer.next(Kind::R));

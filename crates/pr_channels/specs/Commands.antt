@@ -11,7 +11,8 @@ second_from base (Some s) = Some (base + s)
 
 -- LISTEN to the file's device, with its secondary address
 abbrev pub listen_to : File → Element
-listen_to file = Attention (command.listen + file.device) (second_from command.secondary file.second)
+listen_to file =
+    Attention (command.listen + file.device) (second_from command.secondary file.second)
 
 -- UNLISTEN
 abbrev pub unlisten : Element
@@ -21,4 +22,6 @@ unlisten = Attention command.unlisten None
 abbrev pub closing : Option File → List Element
 closing None = []
 closing (Some file) =
-    if is_some file.second then Attention (command.listen + file.device) (second_from command.close file.second) ∷ unlisten ∷ [] else []
+    if is_some file.second
+    then Attention (command.listen + file.device) (second_from command.close file.second) ∷ unlisten ∷ []
+    else []

@@ -1,5 +1,5 @@
 -- Linking words: what holds of every file table. The contracts of `FileTable` prove it. No reader needs to believe them.
-use Rattle.std.specs.Prelude.{◌≡◌, ◌≢◌, ◌≤◌, None, [], ◌∷◌, length}
+use Rattle.std.specs.Prelude.{◌≡◌, ◌≢◌, ⊤, ◌≤◌, None, [], ◌∷◌, length}
 use Rattle.std.specs.Option.{ForSome}
 use Rattle.pr_channels.specs.declared.file.File.{File}
 use Rattle.pr_channels.specs.Files.{Files, file_at}
@@ -13,7 +13,7 @@ pub record IsFile (file : File) : Type 0 where
 
 -- each number stands once
 abbrev pub IsOnce : Files → Type 0
-IsOnce [] = Unit {0}
+IsOnce [] = ⊤
 IsOnce (file ∷ files) = (file_at files file.number ≡ None) × IsOnce files
 
 -- a finite map from file numbers, with at most ten keys
@@ -23,5 +23,5 @@ pub record IsTable (files : Files) : Type 0 where
 
 -- each of them is an open file
 abbrev pub AreFiles : Files → Type 0
-AreFiles [] = Unit {0}
+AreFiles [] = ⊤
 AreFiles (file ∷ files) = IsFile file × AreFiles files

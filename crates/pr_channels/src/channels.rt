@@ -69,11 +69,14 @@ impl<S: Serial> Channels<S> {
     /// No file is open, the screen (device 3) is the output device, the status is 0. The bus has
     /// sent nothing yet. It takes no memory.
     pub fn new(alloc: Global, serial: S) -> Channels<S>
+        // the caller's part
         requires { S.sent serial ≡ [] }
+        // the bus as it is
         ensures present { result.present ≡ S.printers serial }
         ensures delays { result.delays ≡ S.delays serial }
         ensures mark { result.mark ≡ S.marked serial }
         ensures failed { result.failed ≡ S.has_failed serial }
+        // nothing open, sent or printed
         ensures empty { (result.sent ≡ []) × (result.elements ≡ []) × (result.files ≡ []) × (result.screen ≡ []) }
         ensures screen { result.output ≡ 3 }
         ensures status { result.status ≡ 0 }
@@ -113,13 +116,17 @@ impl<S: Serial> Channels<S> {
     ///   before: the output device is as before (profile).
     /// - [`Fault::NoMemory`] where the bus refused; it has then failed for good.
     pub fn chkout(&mut self, file: u8) -> Result<(), Fault>
+        // the caller's part
         requires room { file_at self.old.files file ≢ None → length self.old.sent + 3 ≤ 2 ^ 32 }
+        // what it does
         ensures ok { OnOk result (chkout_of (file_at self.old.files file) self.old ≡ (self.new, None)) }
         ensures bus { OnOk result (3 < self.new.output) }
         ensures works { OnOk result (self.old.failed ≡ false) }
+        // what a refusal leaves
         ensures err { IfErr result (λ fault. IsFault fault (chkout_of (file_at self.old.files file) self.old) self.new) }
         ensures not_open { file_at self.old.files file ≡ None → (result ≡ Err (Fault.Stop Stop.FileNotOpen)) × (self.new ≡ self.old) }
         ensures refused { file_at self.old.files file ≢ None → self.old.failed ≡ true → result ≡ Err Fault.NoMemory }
+        // how much is sent, and what never changes
         ensures room { length self.new.sent ≤ length self.old.sent + 2 }
         ensures keeps { KeepsBus self.old self.new }
     {
@@ -147,11 +154,15 @@ impl<S: Serial> Channels<S> {
     /// [`NoMemory`]: on the screen where the growth of its list was refused, which changes nothing;
     /// for a serial device where the bus refused, in this call or an earlier one.
     pub fn chrout(&mut self, byte: u8) -> Result<(), NoMemory>
+        // the caller's part
         requires room { 3 < self.old.output → length self.old.sent + 3 ≤ 2 ^ 32 }
+        // what it does
         ensures ok { OnOk result (self.new ≡ chrout_of byte self.old) }
         ensures works { 3 < self.old.output → OnOk result (self.old.failed ≡ false) }
+        // what a refusal leaves
         ensures screen { self.old.output ≤ 3 → OnErr result (self.new ≡ self.old) }
         ensures err { 3 < self.old.output → OnErr result (self.new.failed ≡ true) }
+        // how much is sent, and what never changes
         ensures failed { OnOk result (self.new.failed ≡ self.old.failed) }
         ensures room { length self.new.sent ≤ length self.old.sent + 1 }
         ensures keeps { KeepsBus self.old self.new }
@@ -172,11 +183,15 @@ impl<S: Serial> Channels<S> {
     /// [`NoMemory`] where the bus refused, in this call or an earlier one; never where the screen
     /// is the output device, since then nothing is sent.
     pub fn clrchn(&mut self) -> Result<(), NoMemory>
+        // the caller's part
         requires room { 3 < self.old.output → length self.old.sent + 3 ≤ 2 ^ 32 }
+        // what it does
         ensures ok { OnOk result (self.new ≡ clrchn_of self.old) }
         ensures works { 3 < self.old.output → OnOk result (self.old.failed ≡ false) }
+        // when it is refused, and what that leaves
         ensures screen { self.old.output ≤ 3 → IsOk result }
         ensures err { OnErr result (self.new.failed ≡ true) }
+        // how much is sent, and what never changes
         ensures room { length self.new.sent ≤ length self.old.sent + 2 }
         ensures keeps { KeepsBus self.old self.new }
     {
@@ -189,15 +204,20 @@ impl<S: Serial> Channels<S> {
 
     /// Tells the device of an open file with a secondary address that the file is closed.
     fn tell_closed(&mut self, file: u8) -> Result<(), NoMemory>
+        // the caller's part
         requires room { closing (file_at self.old.files file) ≢ [] → length self.old.sent + 3 ≤ 2 ^ 32 }
+        // what it does
         ensures ok { OnOk result (self.old.failed ≡ false → self.new ≡ adding (closing (file_at self.old.files file)) self.old) }
         ensures works { self.old.failed ≡ true → OnOk result (closing (file_at self.old.files file) ≡ []) }
         ensures quiet { closing (file_at self.old.files file) ≡ [] → IsOk result × (self.new ≡ self.old) }
+        // what a refusal leaves
         ensures err { OnErr result (self.new.failed ≡ true) }
+        // how much is sent, and what never changes
         ensures failed { OnOk result (self.new.failed ≡ self.old.failed) }
         ensures room { length self.new.sent ≤ length self.old.sent + 3 }
         ensures keeps { KeepsBus self.old self.new }
     {
+        // For the prover alone: a law, with nothing to run.
         elements_add_up();
         // For the prover alone: the items are those of the elements.
         let _bus = self.sender.bus();
@@ -219,14 +239,18 @@ impl<S: Serial> Channels<S> {
     /// [`NoMemory`] where the bus refused, in this call or an earlier one; never where nothing is
     /// sent.
     pub fn close_file(&mut self, file: u8) -> Result<(), NoMemory>
+        // the caller's part
         requires room { closing (file_at self.old.files file) ≢ [] → length self.old.sent + 3 ≤ 2 ^ 32 }
+        // what it does
         ensures ok { OnOk result (self.old.failed ≡ false → self.new ≡ close_of file self.old) }
         ensures works { self.old.failed ≡ true → OnOk result (closing (file_at self.old.files file) ≡ []) }
         ensures quiet { closing (file_at self.old.files file) ≡ [] → IsOk result
             × (self.new ≡ record self.old { files = without_file file self.old.files }) }
         ensures unsent { OnOk result (self.old.failed ≡ true → self.new.sent ≡ self.old.sent) }
         ensures failed { OnOk result (self.new.failed ≡ self.old.failed) }
+        // what a refusal leaves
         ensures err { OnErr result (self.new.failed ≡ true) }
+        // how much is sent, and what never changes
         ensures room { length self.new.sent ≤ length self.old.sent + 3 }
         ensures keeps { KeepsBus self.old self.new }
     {
@@ -284,11 +308,13 @@ impl<S: Serial> Channels<S> {
     /// The bus. As long as it works, its items are those that the elements send, and the elements
     /// are those of its items and then the byte held back.
     pub fn serial(&self) -> &S
+        // the bus that the channels are seen with
         ensures present { S.printers result.now ≡ self.now.present }
         ensures delays { S.delays result.now ≡ self.now.delays }
         ensures mark { S.marked result.now ≡ self.now.mark }
         ensures failed { S.has_failed result.now ≡ self.now.failed }
         ensures sent { S.sent result.now ≡ self.now.sent }
+        // how its items go with the elements
         ensures in_step { IsInStep self.now }
     {
         self.sender.bus()
@@ -297,12 +323,15 @@ impl<S: Serial> Channels<S> {
     /// The bus, and the bytes that went to the screen. A byte still held back stays unsent
     /// (profile). It takes no memory.
     pub fn into_parts(self) -> (S, Vec<u8>)
+        // the bus that the channels were seen with
         ensures present { S.printers result.0 ≡ self.present }
         ensures delays { S.delays result.0 ≡ self.delays }
         ensures mark { S.marked result.0 ≡ self.mark }
         ensures failed { S.has_failed result.0 ≡ self.failed }
         ensures sent { S.sent result.0 ≡ self.sent }
+        // the screen's bytes
         ensures screen { result.1.items ≡ self.screen }
+        // how the items go with the elements
         ensures in_step { IsInStep self }
     {
         (self.sender.into_bus(), self.screen)

@@ -67,13 +67,16 @@ impl FileTable {
     /// file 0, [`Stop::FileOpen`] where the file is open, [`Stop::TooManyFiles`] where ten files
     /// are (profile: OPEN tests in this order).
     pub fn open(&mut self, number: u8, device: u8, second: Option<u8>) -> Result<(), Stop>
+        // the caller's part
         requires low { 4 ≤ device }
         requires high { device ≤ 30 }
         requires second { ForSome second (λ s. s ≤ 15) }
+        // what it does
         ensures ok { OnOk result ((open_stop self.old number ≡ None)
             × (self.new ≡ self.old ++ record { number = number; device = device; second = second } ∷ [])) }
         ensures map { OnOk result ((n : ℕ) → file_at self.new n ≡
             (if number == n then Some (record { number = number; device = device; second = second }) else file_at self.old n)) }
+        // what a refusal leaves
         ensures err { IfErr result (λ stop. (open_stop self.old number ≡ Some stop) × (self.new ≡ self.old)) }
     {
         if number == 0 {

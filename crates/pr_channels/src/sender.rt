@@ -53,18 +53,24 @@ fn flush<S: Serial>(
     held: Option<u8>,
     eoi: bool,
 ) -> Result<(), NoMemory>
+    // the caller's part
     requires { IsSome held → length (S.sent bus.old) < 2 ^ 32 }
+    // what never changes
     ensures printers { S.printers bus.new ≡ S.printers bus.old }
     ensures delays { S.delays bus.new ≡ S.delays bus.old }
     ensures mark { S.marked bus.new ≡ S.marked bus.old }
+    // what it does
     ensures sent { OnOk result (S.sent bus.new ≡ S.sent bus.old ++ flushed_as held eoi) }
     ensures unanswered { OnOk result (unanswered.new ≡
         (if is_lacking (S.printers bus.old) (length (S.sent bus.old)) (S.sent bus.new) then true else unanswered.old)) }
     ensures failed { OnOk result (S.has_failed bus.new ≡ S.has_failed bus.old) }
+    // what a refusal leaves
     ensures err { OnErr result (S.has_failed bus.new ≡ true) }
+    // how much is sent
     ensures room { length (S.sent bus.new) ≤ length (S.sent bus.old) + 1 }
     ensures nothing { IsNone held → length (S.sent bus.new) ≤ length (S.sent bus.old) }
 {
+    // For the prover alone: a law, with nothing to run.
     answers_add_up();
     let Some(byte) = held else {
         return Ok(());
@@ -82,18 +88,24 @@ fn send_attention<S: Serial>(
     first: u8,
     second: Option<u8>,
 ) -> Result<(), NoMemory>
+    // the caller's part
     requires may_send { MaySend first second }
     requires room { length (S.sent bus.old) < 2 ^ 32 }
+    // what never changes
     ensures printers { S.printers bus.new ≡ S.printers bus.old }
     ensures delays { S.delays bus.new ≡ S.delays bus.old }
     ensures mark { S.marked bus.new ≡ S.marked bus.old }
+    // what it does
     ensures sent { OnOk result (S.sent bus.new ≡ S.sent bus.old ++ item.Attention first second ∷ []) }
     ensures unanswered { OnOk result (unanswered.new ≡
         (if is_lacking (S.printers bus.old) (length (S.sent bus.old)) (S.sent bus.new) then true else unanswered.old)) }
     ensures works { OnOk result ((S.has_failed bus.old ≡ false) × (S.has_failed bus.new ≡ false)) }
+    // what a refusal leaves
     ensures err { OnErr result (S.has_failed bus.new ≡ true) }
+    // how much is sent
     ensures room { length (S.sent bus.new) ≤ length (S.sent bus.old) + 1 }
 {
+    // For the prover alone: a law, with nothing to run.
     answers_add_up();
     if !bus.attention(first, second)? {
         *unanswered = true;
@@ -108,11 +120,14 @@ impl<S: Serial> Sender<S> {
 
     /// Nothing is held back, and nothing lacks an answer.
     pub fn new(bus: S) -> Sender<S>
+        // the caller's part
         requires { S.sent bus ≡ [] }
+        // the bus as it is
         ensures present { result.present ≡ S.printers bus }
         ensures delays { result.delays ≡ S.delays bus }
         ensures mark { result.mark ≡ S.marked bus }
         ensures failed { result.failed ≡ S.has_failed bus }
+        // nothing sent, nothing unanswered
         ensures empty { (result.sent ≡ []) × (result.elements ≡ []) }
         ensures status { result.status ≡ 0 }
     {
@@ -125,16 +140,21 @@ impl<S: Serial> Sender<S> {
 
     /// Sends the byte that was held back, as the last one, and then an attention.
     pub fn attention(&mut self, first: u8, second: Option<u8>) -> Result<(), NoMemory>
+        // the caller's part
         requires may_send { MaySend first second }
         requires room { length self.old.sent < 2 ^ 32 }
         requires held_room { IsSome self.old.held → length self.old.sent + 1 < 2 ^ 32 }
+        // what it does
         ensures ok { OnOk result (self.new ≡ putting (Attention first second) self.old) }
         ensures works { OnOk result (self.old.failed ≡ false) }
+        // what a refusal leaves
         ensures err { OnErr result (self.new.failed ≡ true) }
+        // how much is sent, and what never changes
         ensures room { length self.new.sent ≤ length self.old.sent + 2 }
         ensures free_room { IsNone self.old.held → length self.new.sent ≤ length self.old.sent + 1 }
         ensures keeps { SenderKeepsBus self.old self.new }
     {
+        // For the prover alone: laws, with nothing to run.
         elements_send_items();
         answers_add_up();
         flush(&mut self.bus, &mut self.unanswered, self.held, true)?;
@@ -145,13 +165,18 @@ impl<S: Serial> Sender<S> {
 
     /// Sends the byte that was held back, as one that another follows, and holds back this one.
     pub fn byte(&mut self, byte: u8) -> Result<(), NoMemory>
+        // the caller's part
         requires { length self.old.sent < 2 ^ 32 }
+        // what it does
         ensures ok { OnOk result (self.new ≡ putting (Byte byte) self.old) }
         ensures works { OnOk result (self.old.failed ≡ false) }
+        // what a refusal leaves
         ensures err { OnErr result (self.new.failed ≡ true) }
+        // how much is sent, and what never changes
         ensures room { length self.new.sent ≤ length self.old.sent + 1 }
         ensures keeps { SenderKeepsBus self.old self.new }
     {
+        // For the prover alone: a law, with nothing to run.
         elements_send_items();
         if self.bus.failed() {
             return Err(AllocError);
@@ -163,11 +188,15 @@ impl<S: Serial> Sender<S> {
 
     /// Sends UNLISTEN.
     pub fn unlisten(&mut self) -> Result<(), NoMemory>
+        // the caller's part
         requires room { length self.old.sent < 2 ^ 32 }
         requires held_room { IsSome self.old.held → length self.old.sent + 1 < 2 ^ 32 }
+        // what it does
         ensures ok { OnOk result (self.new ≡ putting unlisten self.old) }
         ensures works { OnOk result (self.old.failed ≡ false) }
+        // what a refusal leaves
         ensures err { OnErr result (self.new.failed ≡ true) }
+        // how much is sent, and what never changes
         ensures room { length self.new.sent ≤ length self.old.sent + 2 }
         ensures free_room { IsNone self.old.held → length self.new.sent ≤ length self.old.sent + 1 }
         ensures keeps { SenderKeepsBus self.old self.new }
@@ -177,13 +206,17 @@ impl<S: Serial> Sender<S> {
 
     /// Tells a device that the channel of a secondary address is closed, and sends UNLISTEN.
     pub fn close_channel(&mut self, device: u8, second: u8) -> Result<(), NoMemory>
+        // the caller's part
         requires device { device ≤ 30 }
         requires second { second ≤ 15 }
         requires room { length self.old.sent + 3 ≤ 2 ^ 32 }
+        // what it does
         ensures ok { OnOk result (self.new ≡
             putting unlisten (putting (Attention (command.listen + device) (Some (command.close + second))) self.old)) }
         ensures works { OnOk result (self.old.failed ≡ false) }
+        // what a refusal leaves
         ensures err { OnErr result (self.new.failed ≡ true) }
+        // how much is sent, and what never changes
         ensures room { length self.new.sent ≤ length self.old.sent + 3 }
         ensures keeps { SenderKeepsBus self.old self.new }
     {
@@ -215,11 +248,13 @@ impl<S: Serial> Sender<S> {
 
     /// The bus.
     pub fn bus(&self) -> &S
+        // the bus that the sender is seen with
         ensures present { S.printers result.now ≡ self.now.present }
         ensures delays { S.delays result.now ≡ self.now.delays }
         ensures mark { S.marked result.now ≡ self.now.mark }
         ensures failed { S.has_failed result.now ≡ self.now.failed }
         ensures sent { S.sent result.now ≡ self.now.sent }
+        // how its items go with the elements
         ensures in_step { self.now.failed ≡ false → self.now.sent ≡ items_of self.now.elements }
         ensures elements { self.now.failed ≡ false → self.now.elements ≡ elements_from self.now.sent (held_of self.now.elements) }
     {
@@ -228,11 +263,13 @@ impl<S: Serial> Sender<S> {
 
     /// The bus, in place of the sender.
     pub fn into_bus(self) -> S
+        // the bus that the sender was seen with
         ensures present { S.printers result ≡ self.present }
         ensures delays { S.delays result ≡ self.delays }
         ensures mark { S.marked result ≡ self.mark }
         ensures failed { S.has_failed result ≡ self.failed }
         ensures sent { S.sent result ≡ self.sent }
+        // how its items go with the elements
         ensures in_step { self.failed ≡ false → self.sent ≡ items_of self.elements }
         ensures elements { self.failed ≡ false → self.elements ≡ elements_from self.sent (held_of self.elements) }
     {

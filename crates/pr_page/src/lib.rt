@@ -3,6 +3,15 @@
 //! A [`Printer`] takes one [`Input`] after another and keeps the [`Paper`]: the rows printed so
 //! far, and the marks of the line that has not ended. The headline is on [`Printer::take`] and
 //! [`Printer::paper`]: the paper is the page of all inputs taken, as `specs/Page.antt` defines it.
+//!
+//! `codes` has the control codes; `pending` the bytes of a command that has not all come; `settings`
+//! the modes; `sheet` the paper and where the next mark goes; `state` all of them, and one step for
+//! one input. A [`Sequence`] is a vector that contracts see as a list, so that papers can be compared.
+//!
+//! A printer keeps no history: its contracts relate a list of inputs to a printer (`HasTaken`), and
+//! `proofs/Refines.antt` carries that from a list to the list with one input more. `Cutting` is one
+//! more byte for the tokens, `Paging` one more act for the last line, `Columns` the repeat, `Unique`
+//! the law that a list has one page.
 #![tactic(auto)]
 
 mod codes;

@@ -136,11 +136,14 @@ impl Sheet {
         mark: Mark,
         width: u16,
     ) -> Result<(), AllocError>
+        // the caller's part
         requires y { self.old.y < 2 ^ 60 }
         requires position { self.old.position ≤ line_dots }
         requires width { width ≤ line_dots }
+        // what it does
         ensures ok { OnOk result (self.new ≡ printed self.old graphic mark width) }
         ensures range { OnOk result (GoesOn self.old self.new) }
+        // what a refusal leaves
         ensures err { OnErr result (self.new ≡ self.old) }
     {
         let position = self.position;

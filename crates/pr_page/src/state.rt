@@ -120,11 +120,14 @@ impl PrinterState {
     /// the time that they take.
     #[inline(always)]
     pub fn take(&mut self, alloc: Global, x: Input) -> Result<(), AllocError>
+        // the caller's part
         requires range { IsInRange self.old }
         requires room { self.old.taken < 2 ^ 32 }
+        // what it does
         ensures ok { OnOk result (self.new ≡ step self.old x) }
         ensures selects { (lower : Bool) → x ≡ Input.Select lower → IsOk result }
         ensures range { IsInRange self.new }
+        // what a refusal leaves
         ensures err { OnErr result (self.new ≡ self.old) }
     {
         match x {

@@ -17,14 +17,16 @@ abbrev pub is_listen : ℕ → Item → Bool
 is_listen device (Attention first second) = first == command.listen + device
 is_listen device (Sent b eoi) = false
 
--- the device is among the listeners after these items: after the last UNLISTEN there is a LISTEN to it
+-- the device is among the listeners after these items: after the last UNLISTEN there is a LISTEN to
+-- it
 abbrev pub is_listener : ℕ → List Item → Bool
 is_listener device before = list_any (is_listen device) (after_last is_unlisten before)
 
 -- an attention is answered if a printer is present, a byte if a present printer listens
 abbrev pub is_answered : Present → List Item → Item → Bool
 is_answered present before (Attention first second) = present.four || present.five
-is_answered present before (Sent b eoi) = (present.four && is_listener 4 before) || (present.five && is_listener 5 before)
+is_answered present before (Sent b eoi) =
+    (present.four && is_listener 4 before) || (present.five && is_listener 5 before)
 
 -- for each item, whether it is answered
 abbrev pub answers_of : Present → List Item → List Bool

@@ -14,9 +14,11 @@ use Rattle.pr_serial.specs.Answers.{is_listener}
 abbrev pub is_present : Present → ℕ → Bool
 is_present present device = (present.four && device == 4) || (present.five && device == 5)
 
--- what an item gives a device: a LISTEN to it selects the graphic/upper case set, and secondary address 7 (a second command) then the lower/upper case set; a byte comes if the device listens
+-- what an item gives a device: a LISTEN to it selects the graphic/upper case set, and secondary
+-- address 7 (a second command) then the lower/upper case set; a byte comes if the device listens
 abbrev pub inputs_at : ℕ → List Item → Item → List Input
-inputs_at device before (Attention first second) = if first == command.listen + device then Select false ∷ select_lower second else []
+inputs_at device before (Attention first second) =
+    if first == command.listen + device then Select false ∷ select_lower second else []
   where
     select_lower : Option ℕ → List Input
     select_lower None = []
@@ -25,4 +27,7 @@ inputs_at device before (Sent b eoi) = if is_listener device before then Byte b 
 
 -- what a device hears of the items, in order: nothing if it is absent
 abbrev pub heard_by : Present → ℕ → List Item → List Input
-heard_by present device items = if is_present present device then flat_map (λ p. inputs_at device p.0 p.1) (with_before [] items) else []
+heard_by present device items =
+    if is_present present device
+    then flat_map (λ p. inputs_at device p.0 p.1) (with_before [] items)
+    else []

@@ -1,5 +1,5 @@
 -- Words of calls: what a bus tells of what a device heard. Who uses a `Bus` by itself believes them; no claim about a run rests on them.
-use Rattle.std.specs.Prelude.{◌≡◌, ℕ, ◌*◌, ◌≤◌, ◌++◌, false, Option, Some, None, List, [], length, take}
+use Rattle.std.specs.Prelude.{◌≡◌, ⊤, ℕ, ◌*◌, ◌≤◌, ◌++◌, false, Option, Some, None, List, [], length, take}
 use Rattle.pr_serial.specs.declared.Present.{Present}
 use Rattle.pr_serial.specs.declared.Item.{Item}
 use Rattle.pr_page.specs.declared.input.Input.{Input}
@@ -12,7 +12,7 @@ items_before (Some n) items = take n items
 
 -- the items have come to the mark: it is not past them
 abbrev pub IsReached : Option ℕ → List Item → Type 0
-IsReached None items = Unit {0}
+IsReached None items = ⊤
 IsReached (Some n) items = n ≤ length items
 
 -- the inputs are what the device heard of the items behind the mark: none if it is absent, and with those before the mark at most two for each item

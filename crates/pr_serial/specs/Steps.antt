@@ -1,5 +1,5 @@
 -- Linking words, for laws and proofs: what one more element or item does. No reader needs to believe them.
-use Rattle.std.specs.Prelude.{◌≡◌, ℕ, Bool, true, false, Option, Some, None, List, [], ◌∷◌, map}
+use Rattle.std.specs.Prelude.{◌≡◌, ⊤, ℕ, Bool, true, false, Option, Some, None, List, [], ◌∷◌, map}
 use Rattle.pr_serial.specs.declared.Present.{Present}
 use Rattle.pr_serial.specs.declared.Item.{Item}
 use Rattle.pr_serial.specs.declared.Item.TheVariants.{Attention, Sent}
@@ -37,5 +37,5 @@ answers_after present earlier later = map (λ p. is_answered present p.0 p.1) (w
 
 -- no LISTEN to the device is among the items
 abbrev pub IsNotCalled : ℕ → List Item → Type 0
-IsNotCalled device [] = Unit {0}
+IsNotCalled device [] = ⊤
 IsNotCalled device (item ∷ items) = (is_listen device item ≡ false) × IsNotCalled device items

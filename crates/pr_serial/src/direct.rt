@@ -78,10 +78,13 @@ fn make_room(
     four: &mut PrinterPort,
     five: &mut PrinterPort,
 ) -> Result<(), NoMemory>
+    // it is refused where the bus has failed
     ensures works { OnOk result (failed ≡ false) }
+    // what never changes
     ensures items { items.new.items ≡ items.old.items }
     ensures four { IsSamePort four.old four.new }
     ensures five { IsSamePort five.old five.new }
+    // the room
     ensures items_room { OnOk result (vec_len items.new < vec_capacity items.new) }
     ensures four_room { OnOk result (HasRoom four.new) }
     ensures five_room { OnOk result (HasRoom five.new) }

@@ -17,7 +17,7 @@ use std::alloc::Global;
 /// character set twice.
 pub const INPUTS_OF_AN_ITEM: usize = 2;
 
-/// A printer's place on the bus: whether it listens, and what it has heard if it is present.
+/// A printer's port on the bus: whether it listens, and what it has heard if it is present.
 #[derive(Drop)]
 pub struct PrinterPort {
     pub device: u8,
@@ -62,10 +62,13 @@ impl PrinterPort {
 
     /// Hears an attention, for whose inputs there is room.
     pub fn attention(&mut self, first: u8, second: Option<u8>)
+        // the caller's part
         requires device { self.old.device < 31 }
         requires room { HasRoom self.old }
+        // what never changes
         ensures device { self.new.device ≡ self.old.device }
         ensures present { self.new.present ≡ self.old.present }
+        // what it hears
         ensures listens { self.new.listens ≡ (if first == command.unlisten then false
             else (self.old.listens || first == command.listen + self.old.device)) }
         ensures inputs { (items : List Item) → self.new.inputs.items ≡ self.old.inputs.items ++

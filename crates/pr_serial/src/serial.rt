@@ -44,14 +44,18 @@ pub trait Serial {
     /// [`NoMemory`] where memory was refused, in this call or in an earlier one. What was sent is
     /// then as before, and each later call of `attention` and [`Serial::send`] answers the same.
     fn attention(&mut self, first: u8, second: Option<u8>) -> Result<bool, NoMemory>
+        // the caller's part
         requires may_send { MaySend first second }
         requires room { length (sent self.old) < 2 ^ 32 }
+        // what never changes
         ensures printers { printers self.new ≡ printers self.old }
         ensures delays { delays self.new ≡ delays self.old }
         ensures mark { marked self.new ≡ marked self.old }
+        // what it does
         ensures ok { OnOk result (sent self.new ≡ sent self.old ++ Attention first second ∷ []) }
         ensures answer { IfOk result (λ answered. answered ≡ is_answered (printers self.old) (sent self.old) (Attention first second)) }
         ensures works { OnOk result ((has_failed self.old ≡ false) × (has_failed self.new ≡ false)) }
+        // what a refusal leaves
         ensures err { OnErr result ((sent self.new ≡ sent self.old) × (has_failed self.new ≡ true)) };
 
     /// Sends a byte to the devices that listen, with or without end-or-identify, and answers
@@ -61,13 +65,17 @@ pub trait Serial {
     ///
     /// As [`Serial::attention`].
     fn send(&mut self, byte: u8, eoi: bool) -> Result<bool, NoMemory>
+        // the caller's part
         requires room { length (sent self.old) < 2 ^ 32 }
+        // what never changes
         ensures printers { printers self.new ≡ printers self.old }
         ensures delays { delays self.new ≡ delays self.old }
         ensures mark { marked self.new ≡ marked self.old }
+        // what it does
         ensures ok { OnOk result (sent self.new ≡ sent self.old ++ Sent byte eoi ∷ []) }
         ensures answer { IfOk result (λ answered. answered ≡ is_answered (printers self.old) (sent self.old) (Sent byte eoi)) }
         ensures works { OnOk result ((has_failed self.old ≡ false) × (has_failed self.new ≡ false)) }
+        // what a refusal leaves
         ensures err { OnErr result ((sent self.new ≡ sent self.old) × (has_failed self.new ≡ true)) };
 
     /// Marks the items so far, so that the bus shows only what came of later ones. The items

@@ -1,5 +1,5 @@
 -- Trusted: a list of statements without one device, and what that leaves as it is.
-use Rattle.std.specs.Prelude.{◌≡◌, ◌≢◌, ℕ, Bool, false, ◌==◌, Option, Some, None, List, [], ◌∷◌, ◌++◌, if◌then◌else◌}
+use Rattle.std.specs.Prelude.{◌≡◌, ◌≢◌, ⊤, ℕ, Bool, false, ◌==◌, Option, Some, None, List, [], ◌∷◌, ◌++◌, if◌then◌else◌}
 use Rattle.pr_serial.specs.declared.Present.{Present}
 use Rattle.pr_serial.specs.Bus.{DelayNumbers}
 use Rattle.pr_channels.specs.declared.file.File.{File}
@@ -21,7 +21,8 @@ files_opened (Some stop) files file = files
 -- the files after a statement
 abbrev pub files_after : Files → Statement → Files
 files_after files (OpenFile file device second) =
-    files_opened (open_stop files file) files (record { number = file; device = device; second = second })
+    let opened : File = record { number = file; device = device; second = second } in
+    files_opened (open_stop files file) files opened
 files_after files (CloseFile file) = without_file file files
 files_after files statement = files
 
@@ -30,7 +31,8 @@ abbrev pub is_on : ℕ → Option File → Bool
 is_on device None = false
 is_on device (Some file) = file.device == device
 
--- a statement is left out with the device: it opens a file on it, or names one that is on it at that point
+-- a statement is left out with the device: it opens a file on it, or names one that is on it at
+-- that point
 abbrev pub is_left_out : ℕ → Files → Statement → Bool
 is_left_out device files (OpenFile file on second) = on == device
 is_left_out device files (Cmd file line) = is_on device (file_at files file)
@@ -53,11 +55,11 @@ without device statements = without_from device [] statements
 abbrev pub IsAddressed : Statement → Type 0
 IsAddressed (Cmd file line) = ⊥
 IsAddressed (Print line) = ⊥
-IsAddressed statement = Unit {0}
+IsAddressed statement = ⊤
 
 -- neither CMD nor PRINT is among the statements
 abbrev pub AreAddressed : List Statement → Type 0
-AreAddressed [] = Unit {0}
+AreAddressed [] = ⊤
 AreAddressed (statement ∷ statements) = IsAddressed statement × AreAddressed statements
 
 -- a run has no stop
@@ -65,13 +67,16 @@ abbrev pub GoesOn : StatusMode → Present → List Statement → Type 0
 GoesOn mode present statements = (run_of mode present statements).stop ≡ None
 
 -- the other list has no stop either, and every device but the one that is left out hears the same
-pub record IsSpared (mode : StatusMode) (present : Present) (left_out : ℕ) (statements rest : List Statement) : Type 0 where
+pub record IsSpared (mode : StatusMode) (present : Present) (left_out : ℕ)
+    (statements rest : List Statement) : Type 0 where
   pub goes_on : GoesOn mode present rest
-  pub same : (device : ℕ) → device ≢ left_out → heard_in mode present rest device ≡ heard_in mode present statements device
+  pub same : (device : ℕ) → device ≢ left_out →
+      heard_in mode present rest device ≡ heard_in mode present statements device
 
 -- the paper of each printer but the one that is left out is the same
 abbrev pub KeepsPapers : ℕ → Outcome → Outcome → Type 0
-KeepsPapers left_out all rest = (4 ≢ left_out → rest.paper4 ≡ all.paper4) × (5 ≢ left_out → rest.paper5 ≡ all.paper5)
+KeepsPapers left_out all rest =
+    (4 ≢ left_out → rest.paper4 ≡ all.paper4) × (5 ≢ left_out → rest.paper5 ≡ all.paper5)
 
 -- what a run with these delay numbers gives: the headline and the true trace
 pub record IsGiven (mode : StatusMode) (present : Present) (delays : DelayNumbers)

@@ -74,6 +74,7 @@ pub fn without_device(
         (λ rest. (mode : StatusMode) (present : Present) → AreAddressed statements.now → GoesOn mode present statements.now →
         IsSpared mode present device statements.now rest.items) }
 {
+    // For the prover alone: a law, with nothing to run.
     printers_are_isolated();
     let mut files = FileTable::new();
     let mut rest = Vec::new(alloc);

@@ -12,7 +12,7 @@ invariant-loop-at l = record {
   hears : (forgotten trace : List Edge) → IsAllowed (trace ++ l.edges) → IsHearing forgotten trace l.fn.self → IsHearing forgotten (trace ++ take l.at l.edges) l.self;
   within : l.at ≤ length l.edges;
   device : device_of l.self.receiver ≡ device_of l.fn.self.receiver;
-  there : l.self.present ≡ l.fn.self.present;
+  present : l.self.present ≡ l.fn.self.present;
   count : number_taken l.self.receiver ≤ number_taken l.fn.self.receiver + l.at;
   capacity : vec_capacity l.self.inputs ≡ vec_capacity l.fn.self.inputs;
 }
