@@ -125,7 +125,7 @@ impl Talker {
         self.five.tune(first);
     }
 
-    /// Makes the edges of a second command, if there is one, and tells the last acknowledgement.
+    /// Makes the edges of a second command, if there is one, and returns when the last one is acknowledged.
     fn second(&mut self, ack: u64, second: Option<u8>) -> Result<u64, NoMemory>
         // the caller's part
         requires { ack < 2 ^ 61 }
@@ -223,7 +223,7 @@ impl Talker {
         push_answer(&mut self.edges, self.lines, time + u64::from(delay), look)
     }
 
-    /// Makes the edges of a command's frame, and tells its acknowledgement.
+    /// Makes the edges of a command's frame, and returns when it is acknowledged.
     fn command(&mut self, look: u64, byte: u8) -> Result<u64, NoMemory>
         // the caller's part
         requires { look < 2 ^ 62 }

@@ -1,4 +1,5 @@
--- Words of calls: what a bus tells of what a device heard. Who uses a `Bus` by itself believes them; no claim about a run rests on them.
+-- Words of calls: what a device heard since the mark. Who uses a `Bus` by itself believes them; no
+-- claim about a run rests on them.
 use Rattle.std.specs.Prelude.{◌≡◌, ⊤, ℕ, ◌*◌, ◌≤◌, ◌++◌, false, Option, Some, None, List, [], length, take}
 use Rattle.pr_serial.specs.declared.Present.{Present}
 use Rattle.pr_serial.specs.declared.Item.{Item}
@@ -15,7 +16,8 @@ abbrev pub IsReached : Option ℕ → List Item → Type 0
 IsReached None items = ⊤
 IsReached (Some n) items = n ≤ length items
 
--- the inputs are what the device heard of the items behind the mark: none if it is absent, and with those before the mark at most two for each item
+-- the inputs are what the device heard of the items after the mark: none if it is absent, and with
+-- those before the mark at most two for each item
 pub record IsHeardSinceMark (present : Present) (mark : Option ℕ) (items : List Item) (device : ℕ) (inputs : List Input) : Type 0 where
   pub heard : heard_by present device (items_before mark items) ++ inputs ≡ heard_by present device items
   pub absent : is_present present device ≡ false → inputs ≡ []

@@ -1,4 +1,4 @@
-//! A bus that tells what its devices heard.
+//! A bus that shows what its devices heard.
 
 ghost use Rattle.pr_serial.specs.HeardSinceMark.{IsHeardSinceMark};
 
@@ -6,7 +6,7 @@ use crate::direct::Direct;
 use crate::serial::Serial;
 use pr_page::Input;
 
-/// A serial bus that tells what its devices heard: all that a run needs to know of a bus.
+/// A serial bus that shows what its devices heard: all that a run needs to know of a bus.
 ///
 /// Nothing here speaks of levels, of time or of delays, so what is proved of a run over any such
 /// bus holds with wires and without.

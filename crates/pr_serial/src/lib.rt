@@ -2,9 +2,14 @@
 //! hears.
 //!
 //! [`Serial`] is the law of every bus of this workspace, [`Bus`] the same with what each device
-//! heard, and [`Direct`] a bus without wires that keeps both. Their words stand in `specs/`:
-//! `Items.antt` says which elements are sent, `Answers.antt` who listens and what is answered, and
-//! `Heard.antt` what a device hears.
+//! heard, and [`Direct`] a bus without wires that keeps both, with a `port` for each printer. Their
+//! words are in `specs/`: `Items.antt` says which elements are sent, `Answers.antt` who listens and
+//! what is answered, and `Heard.antt` what a device hears.
+//!
+//! The trait [`Serial`] states its law over ghost members (printers, delays, items sent, mark,
+//! failed), and each bus proves it. The definitions look over whole lists of elements and know no
+//! held byte: a byte is sent if an element follows it, with end-or-identify exactly if that is an
+//! attention. [`laws`] has the laws of the definitions, as functions with nothing to run.
 #![tactic(auto)]
 
 mod bus;
