@@ -3,6 +3,7 @@
 ghost use Rattle.std.specs.Prelude.{◌≡◌, ℕ, ◌+◌, ◌≤◌, ◌<◌, ◌^◌, ◌⊎◌, true, false, Option, Some, None, length, IfOk, OnOk, OnErr, IsNone, is_some, if◌then◌else◌};
 ghost use Rattle.pr_serial.specs.Items.{items_of};
 ghost use Rattle.pr_channels.specs.Files.{open_stop};
+ghost use Rattle.pr_channels.specs.Seen.{KeepsBus};
 ghost use Rattle.pr_channels.specs.Calls.{clrchn_of};
 ghost use Rattle.pr_basic.specs.Statements.{printed_bytes, unlistening, opening};
 ghost use Rattle.pr_basic.specs.Performing.{printing, Gives, IsWorking, setting_of, effect_on, commanding_on, ChangesScreenAlone, Performs, SendsAtMost, found_by};
@@ -39,11 +40,15 @@ fn begin<S: Serial>(channels: &mut Channels<S>, mode: StatusMode)
 
 /// Writes bytes to the output device.
 fn print_bytes<S: Serial>(channels: &mut Channels<S>, bytes: &[u8]) -> Result<(), NoMemory>
+    // the caller's part
     requires room { length channels.old.sent + length bytes.now + 3 ≤ 2 ^ 32 }
+    // what it does
     ensures ok { OnOk result (IsWorking channels.old → channels.new ≡ printing bytes.now channels.old) }
+    // how much is sent, and what never changes
     ensures sends { SendsAtMost (length bytes.now) result channels.old channels.new }
     ensures output { OnOk result (channels.new.output ≡ channels.old.output) }
     ensures screen { channels.old.output ≤ 3 → ChangesScreenAlone channels.old channels.new }
+    // what a refusal leaves
     ensures err { 3 < channels.old.output → OnErr result (channels.new.failed ≡ true) }
 {
     // For the prover alone: a law, with nothing to run.
@@ -60,11 +65,15 @@ fn print_line<S: Serial>(
     line: &Line,
     channel: u8,
 ) -> Result<(), NoMemory>
+    // the caller's part
     requires room { length channels.old.sent + 260 ≤ 2 ^ 32 }
+    // what it does
     ensures ok { OnOk result (IsWorking channels.old → channels.new ≡ printing (printed_bytes line.now channel) channels.old) }
+    // how much is sent, and what never changes
     ensures sends { SendsAtMost 257 result channels.old channels.new }
     ensures output { OnOk result (channels.new.output ≡ channels.old.output) }
     ensures screen { channels.old.output ≤ 3 → ChangesScreenAlone channels.old channels.new }
+    // what a refusal leaves
     ensures err { 3 < channels.old.output → OnErr result (channels.new.failed ≡ true) }
 {
     // For the prover alone: a law, with nothing to run.
@@ -249,12 +258,18 @@ pub fn perform<S: Serial>(
     statement: &Statement,
     session: &mut Session,
 ) -> Result<Option<Stop>, NoMemory>
+    // the caller's part
     requires room { length channels.old.sent + 300 ≤ 2 ^ 32 }
+    // what it does
     ensures ok { IfOk result (λ stop. channels.old.failed ≡ false →
         Performs channels.old channels.new (found_by session.old.mode channels.old.status) session.new.channel stop
         (effect_on channels.old (found_by session.old.mode channels.old.status) session.old.channel statement.now)) }
     ensures mode { session.new.mode ≡ session.old.mode }
-    ensures sends { SendsAtMost 262 result channels.old channels.new }
+    // how much is sent, and what never changes
+    ensures failed { OnOk result (channels.new.failed ≡ channels.old.failed) }
+    ensures room { length channels.new.sent ≤ length channels.old.sent + 262 }
+    ensures keeps { KeepsBus channels.old channels.new }
+    // what a refusal leaves
     ensures err { OnErr result ((channels.new.failed ≡ true)
         ⊎ ChangesScreenAlone (record channels.old { status = found_by session.old.mode channels.old.status }) channels.new) }
     ensures err_session { OnErr result (session.new ≡ session.old) }
