@@ -36,7 +36,7 @@ impl TimedPrinter {
     }
 
     /// What it waits before it answers ATN.
-    pub fn called(&mut self) -> Option<u16>
+    pub fn attention(&mut self) -> Option<u16>
         ensures time { option_list result ≡ map (λ (p : all.TimedPrinter). delay_at At p.numbers 0) (printer_list self.old) }
         ensures after { printer_list self.new ≡ map (taking 1) (printer_list self.old) }
         ensures same { IsSamePrinter self.old self.new }

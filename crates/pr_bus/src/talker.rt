@@ -219,7 +219,7 @@ impl Talker {
         ensures listens { IsSameTuned self.old self.new }
         ensures now { self.new.time ≡ self.old.time }
     {
-        let delay = least(self.four.called(), self.five.called());
+        let delay = least(self.four.attention(), self.five.attention());
         push_answer(&mut self.edges, self.lines, time + u64::from(delay), look)
     }
 
