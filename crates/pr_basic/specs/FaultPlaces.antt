@@ -40,8 +40,7 @@ pub record ArePartsFault (room : ℕ) (f : LineFault) (done : List Lexeme) (insi
 abbrev pub IsFaultOfLexemes : ℕ → LineFault → List Lexeme → ℕ → List Lexeme → Type 0
 IsFaultOfLexemes room f done inside lexemes =
     ((f ≡ BadNumber) × (ds : List ℕ) × (rest : List Lexeme) × (lexemes ≡ Digits ds ∷ rest)
-    × (line_number_limit < number_of ds)
-    × (done ≡ []) × (inside ≡ 0))
+    × (line_number_limit < number_of ds) × (done ≡ []) × (inside ≡ 0))
     ⊎ ((rest : List Lexeme) × (number : List Lexeme) × (front : List Lexeme)
     × HasNumber lexemes rest × (lexemes ≡ number ++ rest)
     × ArePartsFault room f front inside (parts rest) × (done ≡ number ++ front))

@@ -86,6 +86,19 @@ start_of ls = record { next = ls; inside = 0 }
 abbrev pub within : List Lexeme → ℕ → Spot
 within ls n = record { next = ls; inside = n }
 
+-- the first of these lexemes does not pass a test, and is the place
+abbrev pub BeginsWithout : (Lexeme → Bool) → List Lexeme → Spot → Type 0
+BeginsWithout passes ls at = (l : Lexeme) × (rest : List Lexeme) × (ls ≡ l ∷ rest)
+    × IsFalse (passes l) × (at ≡ start_of ls)
+
+-- a string is next; its bytes before one byte may stand in a string, that byte may or may not, the
+-- count of the list's bytes before it passes a test, and the place is that byte, after the quote
+abbrev pub IsByteOfString : (Bool → Type 0) → (ℕ → Type 0) → Spot → ℕ → List Lexeme → Type 0
+IsByteOfString is_good fits at n next =
+    (good : List ℕ) × (b : ℕ) × (more : List ℕ) × (rest : List Lexeme)
+    × (next ≡ Quoted (good ++ b ∷ more) ∷ rest) × IsTrue (list_all is_printable good)
+    × is_good (is_printable b) × fits (n + length good) × (at ≡ within next (1 + length good))
+
 -- a whole statement does not go on with what follows it
 abbrev pub GoesTooFar : List Lexeme → List Lexeme → Type 0
 GoesTooFar part next = AfterSecond part next
@@ -97,14 +110,12 @@ GoesTooFar part next = AfterSecond part next
 abbrev pub IsFaultOutsideLists : Placed → List Lexeme → Type 0
 -- no keyword where a statement must begin: there; what cannot go on the statement: there; a comma
 -- of CMD or PRINT# with no list after it: the end
-IsFaultOutsideLists (UnknownWord, at) part =
-    ((l : Lexeme) × (ls : List Lexeme) × (part ≡ l ∷ ls) × IsFalse (begins_statement l)
-    × (at ≡ start_of part))
+IsFaultOutsideLists (UnknownWord, at) part = BeginsWithout begins_statement part at
     ⊎ (((l : Lexeme) × (ls : List Lexeme) × GoesTooFar part (l ∷ ls) × (at ≡ start_of (l ∷ ls)))
     ⊎ ((k : Keyword) × IsTrue (takes_list k) × AfterFile k part (Comma ∷ []) × (at ≡ start_of [])))
 -- a file that is missing or above 255: where it stands or should
-IsFaultOutsideLists (BadNumber, at) part = (k : Keyword) × (ls : List Lexeme)
-    × (part ≡ Word k ∷ ls) × IsTrue (takes_file k)
+IsFaultOutsideLists (BadNumber, at) part =
+    (k : Keyword) × (ls : List Lexeme) × (part ≡ Word k ∷ ls) × IsTrue (takes_file k)
     × NoNumber 0 255 ls × (at ≡ start_of ls)
 -- in OPEN no comma after the file: where it should stand; no device of 4 to 30 after it: where that
 -- stands or should
@@ -120,35 +131,23 @@ IsFaultOutsideLists f part = ⊥
 -- the faults of a list's next item, after so many bytes of the list, each with its place
 abbrev pub IsItemFault : Placed → ℕ → List Lexeme → Type 0
 -- what begins no item: there; a missing parenthesis: where it should stand
-IsItemFault (UnknownWord, at) n next =
-    ((l : Lexeme) × (rest : List Lexeme) × (next ≡ l ∷ rest) × IsFalse (begins_item l)
-    × (at ≡ start_of next))
+IsItemFault (UnknownWord, at) n next = BeginsWithout begins_item next at
     ⊎ (((rest : List Lexeme) × (next ≡ Word word.Chr ∷ rest) × Lacks OpenParen rest
     × (at ≡ start_of rest))
     ⊎ ((ds : List ℕ) × (rest : List Lexeme) × (next ≡ Word word.Chr ∷ OpenParen ∷ Digits ds ∷ rest)
     × (number_of ds ≤ 255) × Lacks CloseParen rest × (at ≡ start_of rest)))
 -- no digits in CHR$: where they should stand
-IsItemFault (BadNumber, at) n next = (rest : List Lexeme)
-    × (next ≡ Word word.Chr ∷ OpenParen ∷ rest)
+IsItemFault (BadNumber, at) n next =
+    (rest : List Lexeme) × (next ≡ Word word.Chr ∷ OpenParen ∷ rest)
     × ((ds : List ℕ) → Lacks (Digits ds) rest) × (at ≡ start_of rest)
 -- a byte outside 32 to 126 in a string, after at most 255 bytes: that byte, behind the quote; a
 -- CHR$ of more than 255: its digits
-IsItemFault (BadByte, at) n next = ((good : List ℕ) × (b : ℕ) × (more : List ℕ)
-    × (rest : List Lexeme)
-    × (next ≡ Quoted (good ++ b ∷ more) ∷ rest)
-    × IsTrue (list_all is_printable good) × IsFalse (is_printable b)
-    × (n + length good ≤ byte_limit)
-    × (at ≡ within next (1 + length good)))
+IsItemFault (BadByte, at) n next = IsByteOfString IsFalse (λ m. m ≤ byte_limit) at n next
     ⊎ ((ds : List ℕ) × (rest : List Lexeme) × (next ≡ Word word.Chr ∷ OpenParen ∷ Digits ds ∷ rest)
-    × (255 < number_of ds)
-    × (at ≡ start_of (Digits ds ∷ rest)))
+    × (255 < number_of ds) × (at ≡ start_of (Digits ds ∷ rest)))
 -- the 256th byte: one of a string that may stand there: that byte, behind the quote; or that of a
 -- whole CHR$: there
-IsItemFault (TooLong, at) n next = ((good : List ℕ) × (b : ℕ) × (more : List ℕ)
-    × (rest : List Lexeme)
-    × (next ≡ Quoted (good ++ b ∷ more) ∷ rest)
-    × IsTrue (list_all is_printable good) × IsTrue (is_printable b) × (n + length good ≡ byte_limit)
-    × (at ≡ within next (1 + length good)))
+IsItemFault (TooLong, at) n next = IsByteOfString IsTrue (λ m. m ≡ byte_limit) at n next
     ⊎ ((ds : List ℕ) × (rest : List Lexeme)
     × (next ≡ Word word.Chr ∷ OpenParen ∷ Digits ds ∷ CloseParen ∷ rest)
     × (number_of ds ≤ 255) × (n ≡ byte_limit) × (at ≡ start_of next))

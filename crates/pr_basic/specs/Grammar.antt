@@ -88,8 +88,8 @@ abbrev pub IsStatement : Statement → List Lexeme → Type 0
 IsStatement (OpenFile file device None) lexemes = (f : List ℕ) × (d : List ℕ)
     × (lexemes ≡ Word word.Open ∷ Digits f ∷ Comma ∷ Digits d ∷ [])
     × IsNumber 0 255 file f × IsNumber 4 30 device d
-IsStatement (OpenFile file device (Some second)) lexemes = (f : List ℕ) × (d : List ℕ)
-    × (s : List ℕ)
+IsStatement (OpenFile file device (Some second)) lexemes =
+    (f : List ℕ) × (d : List ℕ) × (s : List ℕ)
     × (lexemes ≡ Word word.Open ∷ Digits f ∷ Comma ∷ Digits d ∷ Comma ∷ Digits s ∷ [])
     × IsNumber 0 255 file f × IsNumber 4 30 device d × IsNumber 0 15 second s
 IsStatement (CloseFile file) lexemes = (f : List ℕ) × (lexemes ≡ Word word.Close ∷ Digits f ∷ [])
@@ -116,8 +116,8 @@ parts (l ∷ ls) = onto_first l (parts ls)
 -- what follows a line's number: a number stands first and is at most 63999, or no digits stand
 -- first
 abbrev pub HasNumber : List Lexeme → List Lexeme → Type 0
-HasNumber lexemes rest = ((lexemes ≡ rest)
-    × ((ds : List ℕ) (more : List Lexeme) → lexemes ≢ Digits ds ∷ more))
+HasNumber lexemes rest =
+    ((lexemes ≡ rest) × ((ds : List ℕ) (more : List Lexeme) → lexemes ≢ Digits ds ∷ more))
     ⊎ ((ds : List ℕ) × (lexemes ≡ Digits ds ∷ rest) × (number_of ds ≤ line_number_limit))
 
 -- a line without its end: perhaps a number, then statements parted by colons
