@@ -1,9 +1,10 @@
 -- From what clap says of its matches to the subcommand met.
-use Rattle.std.proofs.Common.{◌≡◌, List, [], ◌∷◌, refl, ap, ◌∙◌, sym, Option, Some, None, Bor, Bool, true, false, inl, inr, Result, Ok, Err, OnOk}
+use Rattle.std.proofs.Common.{◌≡◌, List, [], ◌∷◌, refl, ap, ◌∙◌, sym, Option, Some, None, Bor, Bool, true, false, inl, inr, subst}
 use Rattle.std.specs.Prelude.{option_and_then, option_map, unwrap_or, IfSome, find, if◌then◌else◌}
 use Rattle.std.specs.Option.{option_map_or}
 use Rattle.std.specs.Str.{bytes_eq}
-use Rattle.clap.specs.Words.{App, HasMatchesOf, Text, built, first_of, first_value, fault_of, is_simple, is_simple_and_free, rows_of, subcommand_of, subcommand_rows_of}
+use Rattle.clap.specs.declared.error.Error.{Error}
+use Rattle.clap.specs.Words.{App, HasKind, HasMatchesOf, Text, built, first_of, first_value, fault_of, is_simple, is_simple_and_free, rows_of, subcommand_of, subcommand_rows_of}
 use Rattle.clap.specs.declared.parser.matches.ArgMatches.{ArgMatches}
 use Rattle.clap.proofs.WalkLemmas.{find_row, first_value-rows}
 use Rattle.clap.specs.Simple.{Shape, argument_words, entered, names_of, rows_at, label_of}
@@ -16,8 +17,7 @@ use Rattle.clap.specs.declared.parser.matches.MatchedArg.{MatchedArg}
 use Rattle.clap.specs.declared.parser.matches.ValueSource.{ValueSource}
 use Rattle.pr_options.specs.CommandLine.{print1525}
 use Rattle.pr_options.specs.Given.{is_given, is_of_words}
-use Rattle.pr_options.specs.Subcommands.{IsOurs}
-use Rattle.pr_options.specs.declared.command_line.JobFault.{JobFault}
+use Rattle.pr_options.specs.CommandLaws.{IsOurs}
 
 -- each of these subcommands is the program's
 AllOurs : List Shape → Type 0
@@ -55,9 +55,14 @@ unfolding clap_on_literals
 program_free = refl
 
 -- words whose matches are found have no fault
-pub no_fault : {T : Type 0} (a : App) (words : List Text) (r : Result T JobFault) → a ≡ print1525 → (is_simple_and_free a ≡ true → fault_of a words ≡ []) → OnOk r (fault_of print1525 words ≡ [])
-no_fault a words (Ok x) e h = sym (ap (λ (b : App). fault_of b words) e) ∙ h (ap is_simple_and_free e ∙ program_free)
-no_fault a words (Err x) e h = tt
+pub no_fault : (a : App) (words : List Text) → a ≡ print1525 → (is_simple_and_free a ≡ true → fault_of a words ≡ []) → fault_of print1525 words ≡ []
+no_fault a words e h = sym (ap (λ (b : App). fault_of b words) e) ∙ h (ap is_simple_and_free e ∙ program_free)
+
+-- a refusal has a kind that clap finds in the words
+pub has_kind : (a : App) (words : List Text) (error : Error) → a ≡ print1525 → (is_simple_and_free a ≡ true → HasKind (fault_of a words) error) → HasKind (fault_of print1525 words) error
+has_kind a words error e h =
+    let P : App → Type 0 = λ b. HasKind (fault_of b words) error in
+    subst P e (h (ap is_simple_and_free e ∙ program_free))
 
 -- the subcommand that was met is that of the words
 pub met_is : (a : App) (words : List Text) (m : ArgMatches) → a ≡ print1525 → HasMatchesOf a words m → subcommand_rows_of m ≡ subcommand_of print1525 words

@@ -2,3 +2,4 @@ pub mod CommandLemmas
 pub mod PartLemmas
 pub mod DelayLemmas
 pub mod NameLemmas
+pub mod FaultLemmas

@@ -5,10 +5,10 @@ use Rattle.std.specs.Str.{bytes_eq}
 use Rattle.clap.specs.Words.{Row, Text, first_of}
 use Rattle.clap.specs.declared.parser.matches.ValueSource.{ValueSource}
 use Rattle.clap.specs.declared.parser.matches.ValueSource.TheVariants.{CommandLine, DefaultValue}
-use Rattle.pr_options.specs.OptionNames.{Valued}
+use Rattle.pr_options.specs.OptionNames.{ValueOption}
 
--- the value of an option
-abbrev pub value_in : Valued → List Row → Text
+-- the value of an option; a subcommand that does not have it takes its default
+abbrev pub value_in : ValueOption → List Row → Text
 value_in option rows = unwrap_or (first_of option.name rows) option.default
 
 -- a value comes from the words, and not from a default

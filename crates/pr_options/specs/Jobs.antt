@@ -1,189 +1,139 @@
 -- Trusted: what a command line asks for, by clap's meaning of the command.
-use Rattle.std.specs.Prelude.{◌≡◌, ◌⊎◌, Bool, List, Option, Some, None, codes}
-use Rattle.clap.specs.Words.{Row, Text}
+use Rattle.std.specs.Prelude.{◌≡◌, ◌≢◌, ◌||◌, ⊤, ℕ, Bool, true, false, not, List, Option, Some, None, Result, Ok, Err, [], codes, ok_or, option_map, if◌then◌else◌}
+use Rattle.std.specs.Str.{bytes_eq}
+use Rattle.clap.specs.Words.{IsAmong, Row, Text, fault_of, kind_of, subcommand_of, takes}
+use Rattle.clap.specs.declared.error.kind.ErrorKind.TheVariants.{OutOfMemory}
 use Rattle.pr_serial.specs.declared.Present.{Present}
 use Rattle.pr_serial.specs.Bus.{DelayNumbers}
-use Rattle.pr_bus.specs.declared.wires.Delays.{Delays}
 use Rattle.pr_bus.specs.DelaysLeft.{numbers_left}
 use Rattle.pr_basic.specs.declared.session.StatusMode.{StatusMode}
-use Rattle.pr_options.specs.DelayLists.{delays_of}
-use Rattle.pr_options.specs.Options.{format_of, mode_of, present_of, report_of, set_of, trace_format_of}
-use Rattle.pr_options.specs.OptionNames as option
-use Rattle.pr_options.specs.Given.{value_in}
-use Rattle.pr_options.specs.Inputs.{AsksToRead, IsBadFrom, IsBadNames, IsBadStart, IsUnfit}
 use Rattle.pr_render.specs.declared.format.Format.{Format}
 use Rattle.pr_capture.specs.declared.format.TraceFormat.{TraceFormat}
-use Rattle.pr_report.specs.declared.report.Report.{Report}
+use Rattle.pr_capture.specs.declared.format.Source.{Source}
+use Rattle.pr_capture.specs.declared.format.Source.TheVariants as source
 use Rattle.pr_capture.specs.declared.format.TraceInput.{TraceInput}
+use Rattle.pr_report.specs.declared.report.Report.{Report}
+use Rattle.pr_options.specs.OptionNames.{ValueOption}
+use Rattle.pr_options.specs.OptionNames as option
+use Rattle.pr_options.specs.CommandLine.{print1525}
+use Rattle.pr_options.specs.DelayLists.{delays_of}
+use Rattle.pr_options.specs.Given.{is_given, value_in}
+use Rattle.pr_options.specs.Options.{format_of, mode_of, present_of, report_of, set_of, source_of, start_of, trace_format_of}
+use Rattle.pr_options.specs.SignalNames.{Names, names_of, names_of_signals}
 use Rattle.pr_options.specs.declared.command_line.Job.{Job}
-use Rattle.pr_options.specs.declared.command_line.Job.TheVariants.{Pages, Bus, Check, Decode, Raw}
+use Rattle.pr_options.specs.declared.command_line.Job.TheVariants as job
 use Rattle.pr_options.specs.declared.command_line.JobFault.{JobFault}
 use Rattle.pr_options.specs.declared.command_line.JobFault.TheVariants as fault
 
--- the subcommand met, with the rows of its options
-abbrev pub Met : Type 0
-Met = Option (Text × List Row)
-
--- the subcommand of this name was met, and these are the values of its options
-pub record AsksToRun (met : Met) (name : Text) (present : Present) (delays : Delays) (mode : StatusMode) : Type 0 where
-  pub rows : List Row
-  pub is_met : met ≡ Some (name, rows)
-  pub is_present : present_of (value_in option.present rows) ≡ Some present
-  pub are_delays : delays_of (value_in option.delays rows) ≡ Some (numbers_left delays)
-  pub is_mode : mode_of (value_in option.status rows) ≡ Some mode
-
--- the subcommand of this name was met, and its page is to have this format
-pub record AsksAs (met : Met) (name : Text) (format : Format) : Type 0 where
-  pub rows : List Row
-  pub is_met : met ≡ Some (name, rows)
-  pub is_format : format_of (value_in option.page_as rows) ≡ Some format
-
--- the subcommand `bus` was met, and the trace is to have this format
-pub record AsksForTrace (met : Met) (format : TraceFormat) : Type 0 where
-  pub rows : List Row
-  pub is_met : met ≡ Some (codes "bus", rows)
-  pub is_format : trace_format_of (value_in option.trace_as rows) ≡ Some format
-
--- the subcommand `check` was met, with this trace, of which this is to be written
-pub record AsksToCheck (met : Met) (input : TraceInput) (report : Report) : Type 0 where
-  pub rows : List Row
-  pub is_met : met ≡ Some (codes "check", rows)
-  pub is_input : AsksToRead rows input
-  pub is_report : report_of (value_in option.report_as rows) ≡ Some report
-
--- the subcommand `decode` was met, with this recording, of which what it says is to have this format
-pub record AsksToDecode (met : Met) (input : TraceInput) (format : Format) : Type 0 where
-  pub rows : List Row
-  pub is_met : met ≡ Some (codes "decode", rows)
-  pub is_input : AsksToRead rows input
-  pub is_format : format_of (value_in option.reading_as rows) ≡ Some format
-
--- the subcommand `raw` was met, and this set is to be selected, lower/upper case or not
-pub record AsksToSelect (met : Met) (lower : Bool) : Type 0 where
-  pub rows : List Row
-  pub is_met : met ≡ Some (codes "raw", rows)
-  pub is_set : set_of (value_in option.set rows) ≡ Some lower
-
--- the subcommand met asks for the job
-abbrev pub AsksFor : Met → Job → Type 0
-AsksFor met (Pages present delays mode format) = AsksToRun met (codes "pages") present delays mode × AsksAs met (codes "pages") format
-AsksFor met (Bus present delays mode format) = AsksToRun met (codes "bus") present delays mode × AsksForTrace met format
-AsksFor met (Check input report) = AsksToCheck met input report
-AsksFor met (Decode input format) = AsksToDecode met input format
-AsksFor met (Raw lower format) = AsksToSelect met lower × AsksAs met (codes "raw") format
-
--- a value of --present that is none
-pub record HasBadPresent (met : Met) : Type 0 where
-  pub name : Text
-  pub rows : List Row
-  pub is_met : met ≡ Some (name, rows)
-  pub is_bad : present_of (value_in option.present rows) ≡ None
-
--- a good --present, and a value of --delays that is none
-pub record HasBadDelays (met : Met) : Type 0 where
-  pub name : Text
-  pub rows : List Row
-  pub present : Present
-  pub is_met : met ≡ Some (name, rows)
-  pub is_present : present_of (value_in option.present rows) ≡ Some present
-  pub is_bad : delays_of (value_in option.delays rows) ≡ None
-
--- a good --present, good --delays, and a value of --status that is none
-pub record HasBadStatus (met : Met) : Type 0 where
-  pub name : Text
-  pub rows : List Row
-  pub present : Present
-  pub delays : DelayNumbers
-  pub is_met : met ≡ Some (name, rows)
-  pub is_present : present_of (value_in option.present rows) ≡ Some present
-  pub are_delays : delays_of (value_in option.delays rows) ≡ Some delays
-  pub is_bad : mode_of (value_in option.status rows) ≡ None
-
--- good values of --present, --delays and --status
-pub record IsGoodRun (rows : List Row) : Type 0 where
+-- how a script is run
+pub record RunView : Type 0 where
   pub present : Present
   pub delays : DelayNumbers
   pub mode : StatusMode
-  pub is_present : present_of (value_in option.present rows) ≡ Some present
-  pub are_delays : delays_of (value_in option.delays rows) ≡ Some delays
-  pub is_mode : mode_of (value_in option.status rows) ≡ Some mode
 
--- a good --present, good --delays, a good --status, and a value of --set that is none
-pub record HasBadSet (met : Met) : Type 0 where
-  pub name : Text
-  pub rows : List Row
-  pub is_met : met ≡ Some (name, rows)
-  pub is_run : IsGoodRun rows
-  pub is_bad : set_of (value_in option.set rows) ≡ None
+-- how a trace or a recording is read
+pub record InputView : Type 0 where
+  pub source : Source
+  pub names : Names
+  pub is_inverted : Bool
+  pub start : ℕ
 
--- good values of these four, and a value of an option of `check` and `decode` that is none
-pub record HasBadInput (met : Met) (IsBad : List Row → Type 0) : Type 0 where
-  pub name : Text
-  pub rows : List Row
-  pub lower : Bool
-  pub is_met : met ≡ Some (name, rows)
-  pub is_run : IsGoodRun rows
-  pub is_set : set_of (value_in option.set rows) ≡ Some lower
-  pub is_bad : IsBad rows
+-- a job in plain values
+pub data JobView : Type 0 where
+  Pages : RunView → Format → JobView
+  Bus : RunView → TraceFormat → JobView
+  Check : InputView → Report → JobView
+  Decode : InputView → Format → JobView
+  Raw : Bool → Format → JobView
 
--- a value of --from that is none
-abbrev pub HasBadFrom : Met → Type 0
-HasBadFrom met = HasBadInput met IsBadFrom
+-- the plain values of an input
+abbrev pub input_view : TraceInput → InputView
+input_view i =
+    record { source = i.source; names = names_of_signals i.signals; is_inverted = i.signals.is_inverted; start = i.start }
 
--- a good --from, and a value of --names that is none
-abbrev pub HasBadNames : Met → Type 0
-HasBadNames met = HasBadInput met IsBadNames
+-- the plain values of a job
+abbrev pub job_view : Job → JobView
+job_view (job.Pages present delays mode format) = Pages (record { present = present; delays = numbers_left delays; mode = mode }) format
+job_view (job.Bus present delays mode format) = Bus (record { present = present; delays = numbers_left delays; mode = mode }) format
+job_view (job.Check input report) = Check (input_view input) report
+job_view (job.Decode input format) = Decode (input_view input) format
+job_view (job.Raw lower format) = Raw lower format
 
--- good values of --from and --names, and one of --from-time that is none
-abbrev pub HasBadStart : Met → Type 0
-HasBadStart met = HasBadInput met IsBadStart
+-- what follows a value, or the first fault
+infixl 10 ◌>>=◌
+abbrev pub ◌>>=◌ : {A B : Type 0} → Result A JobFault → (A → Result B JobFault) → Result B JobFault
+Ok value >>= next = next value
+Err f >>= next = Err f
 
--- good values of all three, and one is given that goes with a recording, where the trace is a text
-abbrev pub IsNoRecording : Met → Type 0
-IsNoRecording met = HasBadInput met IsUnfit
+-- the value of an option by its meaning, or the fault of a value that has none
+abbrev pub read : {A : Type 0} → ValueOption → (Text → Option A) → JobFault → List Row → Result A JobFault
+read option meaning bad rows = ok_or (meaning (value_in option rows)) bad
 
--- good values of all other options, and a bad value of --as, by the name of the subcommand
-pub record HasBadAs (met : Met) (IsBad : Text → List Row → Type 0) : Type 0 where
-  pub name : Text
-  pub rows : List Row
-  pub lower : Bool
-  pub input : TraceInput
-  pub is_met : met ≡ Some (name, rows)
-  pub is_run : IsGoodRun rows
-  pub is_set : set_of (value_in option.set rows) ≡ Some lower
-  pub is_input : AsksToRead rows input
-  pub is_bad : IsBad name rows
+-- how a script is to be run
+abbrev pub wanted_run : List Row → Result RunView JobFault
+wanted_run rows =
+    read option.present present_of fault.BadPresent rows >>= λ present.
+    read option.delays delays_of fault.BadDelays rows >>= λ delays.
+    read option.status mode_of fault.BadStatus rows >>= λ mode.
+    Ok (record { present = present; delays = delays; mode = mode })
 
--- `pages` or `raw`, and a value of --as that is no format of a page
-abbrev pub HasBadPageAs : Met → Type 0
-HasBadPageAs met =
-    HasBadAs met (λ name rows. ((name ≡ codes "pages") ⊎ (name ≡ codes "raw")) × (format_of (value_in option.page_as rows) ≡ None))
+-- what goes with a recording alone is given
+abbrev pub wants_recording : List Row → Bool
+wants_recording rows =
+    is_given option.invert rows || (is_given option.names.name rows || is_given option.from_time.name rows)
 
--- `bus`, and a value of --as that is no format of a trace
-abbrev pub HasBadTraceAs : Met → Type 0
-HasBadTraceAs met = HasBadAs met (λ name rows. (name ≡ codes "bus") × (trace_format_of (value_in option.trace_as rows) ≡ None))
+-- what is given goes with the source: with a text nothing of a recording
+abbrev pub fits : Source → List Row → Bool
+fits source.Text rows = not (wants_recording rows)
+fits _ rows = true
 
--- `check`, and a value of --as that is no report
-abbrev pub HasBadReportAs : Met → Type 0
-HasBadReportAs met = HasBadAs met (λ name rows. (name ≡ codes "check") × (report_of (value_in option.report_as rows) ≡ None))
+-- how a trace or a recording is to be read
+abbrev pub wanted_input : List Row → Result InputView JobFault
+wanted_input rows =
+    read option.from source_of fault.BadFrom rows >>= λ source.
+    read option.names names_of fault.BadNames rows >>= λ names.
+    read option.from_time start_of fault.BadStart rows >>= λ start.
+    if fits source rows
+    then Ok (record { source = source; names = names; is_inverted = is_given option.invert rows; start = start })
+    else Err fault.NoRecording
 
--- `decode`, and a value of --as that is no format of what is said
-abbrev pub HasBadReadingAs : Met → Type 0
-HasBadReadingAs met = HasBadAs met (λ name rows. (name ≡ codes "decode") × (format_of (value_in option.reading_as rows) ≡ None))
+-- the jobs of the subcommands, each of which has a meaning of --as of its own
+abbrev pub wanted_check : InputView → List Row → Result JobView JobFault
+wanted_check input rows = read option.report_as report_of fault.BadReportAs rows >>= λ report. Ok (Check input report)
 
--- the command line is refused as clap refuses it
-abbrev pub IsLine : JobFault → Type 0
-IsLine (fault.Line e) = Unit {0}
-IsLine fault.BadPresent = ⊥
-IsLine fault.BadDelays = ⊥
-IsLine fault.BadStatus = ⊥
-IsLine fault.BadSet = ⊥
-IsLine fault.BadFrom = ⊥
-IsLine fault.BadNames = ⊥
-IsLine fault.BadStart = ⊥
-IsLine fault.NoRecording = ⊥
-IsLine fault.BadPageAs = ⊥
-IsLine fault.BadTraceAs = ⊥
-IsLine fault.BadReportAs = ⊥
-IsLine fault.BadReadingAs = ⊥
-IsLine fault.NoMemory = ⊥
+abbrev pub wanted_decode : InputView → List Row → Result JobView JobFault
+wanted_decode input rows = read option.reading_as format_of fault.BadReadingAs rows >>= λ format. Ok (Decode input format)
+
+abbrev pub wanted_bus : RunView → List Row → Result JobView JobFault
+wanted_bus run rows = read option.trace_as trace_format_of fault.BadTraceAs rows >>= λ format. Ok (Bus run format)
+
+abbrev pub wanted_raw : Bool → List Row → Result JobView JobFault
+wanted_raw lower rows = read option.page_as format_of fault.BadPageAs rows >>= λ format. Ok (Raw lower format)
+
+abbrev pub wanted_pages : RunView → List Row → Result JobView JobFault
+wanted_pages run rows = read option.page_as format_of fault.BadPageAs rows >>= λ format. Ok (Pages run format)
+
+-- the job of a subcommand with these rows of options, or its first bad value; each value is read whichever subcommand it is, and the
+-- last one is `pages`
+abbrev pub wanted : Text → List Row → Result JobView JobFault
+wanted name rows =
+    wanted_run rows >>= λ run.
+    read option.set set_of fault.BadSet rows >>= λ lower.
+    wanted_input rows >>= λ input.
+    if bytes_eq name (codes "check") then wanted_check input rows
+    else (if bytes_eq name (codes "decode") then wanted_decode input rows
+    else (if bytes_eq name (codes "bus") then wanted_bus run rows
+    else (if bytes_eq name (codes "raw") then wanted_raw lower rows
+    else wanted_pages run rows)))
+
+-- the job that words ask for, by the subcommand that they name
+abbrev pub asked : List Text → Option (Result JobView JobFault)
+asked words = option_map (λ met. wanted met.0 met.1) (subcommand_of print1525 words)
+
+-- why words ask for nothing: clap refuses them, for one of its reasons against them and never for memory; or clap takes them, and
+-- this is their first bad value
+abbrev pub IsRefused : List Text → JobFault → Type 0
+IsRefused words (fault.Line e) =
+    (kind_of e ≢ OutOfMemory) × (IsAmong (kind_of e) (fault_of print1525 words) × (takes print1525 words ≡ false))
+IsRefused words fault.NoMemory = ⊤
+IsRefused words f = (fault_of print1525 words ≡ []) × (asked words ≡ Some (Err f))

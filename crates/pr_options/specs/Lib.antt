@@ -3,10 +3,10 @@ pub mod Options
 pub mod OptionNames
 pub mod SignalNames
 pub mod Given
-pub mod Inputs
 pub mod CommandLine
 pub mod Subcommands
 pub mod Jobs
 pub mod Faults
 pub mod Values
-pub mod Parts
+pub mod Steps
+pub mod CommandLaws

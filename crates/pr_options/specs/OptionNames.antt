@@ -3,58 +3,58 @@ use Rattle.std.specs.Prelude.{[], codes}
 use Rattle.clap.specs.Words.{Text}
 
 -- an option with a value: its name, and the value where none is given
-pub record Valued : Type 0 where
+pub record ValueOption : Type 0 where
   pub name : Text
   pub default : Text
 
 -- which printers are present
-abbrev pub present : Valued
+abbrev pub present : ValueOption
 present = record { name = codes "present"; default = codes "both" }
 
 -- the delays of the wires
-abbrev pub delays : Valued
+abbrev pub delays : ValueOption
 delays = record { name = codes "delays"; default = [] }
 
 -- how the status goes from statement to statement
-abbrev pub status : Valued
+abbrev pub status : ValueOption
 status = record { name = codes "status"; default = codes "each" }
 
 -- the character set that is selected
-abbrev pub set : Valued
+abbrev pub set : ValueOption
 set = record { name = codes "set"; default = codes "upper" }
 
 -- the format of a page
-abbrev pub page_as : Valued
+abbrev pub page_as : ValueOption
 page_as = record { name = codes "as"; default = codes "list" }
 
 -- the format of the trace of a run
-abbrev pub trace_as : Valued
+abbrev pub trace_as : ValueOption
 trace_as = record { name = codes "as"; default = codes "text" }
 
 -- what is written of a trace that is checked
-abbrev pub report_as : Valued
+abbrev pub report_as : ValueOption
 report_as = record { name = codes "as"; default = codes "frames" }
 
 -- what is written of a recording that is decoded
-abbrev pub reading_as : Valued
+abbrev pub reading_as : ValueOption
 reading_as = record { name = codes "as"; default = codes "list" }
 
 -- the format of a trace that is checked
-abbrev pub from : Valued
+abbrev pub from : ValueOption
 from = record { name = codes "from"; default = codes "text" }
 
 -- the names of the signals in a recording
-abbrev pub names : Valued
+abbrev pub names : ValueOption
 names = record { name = codes "names"; default = codes "ATN,CLOCK,DATA" }
 
 -- the moment of a recording at which the trace starts
-abbrev pub from_time : Valued
+abbrev pub from_time : ValueOption
 from_time = record { name = codes "from-time"; default = codes "0" }
 
--- the probes stand behind inverters; it has no value
+-- the probes invert; it has no value
 abbrev pub invert : Text
 invert = codes "invert"
 
--- more is told of a refusal or of an error; it has no value
+-- more is said about a fault or a BASIC error; it has no value
 abbrev pub explain : Text
 explain = codes "explain"

@@ -52,5 +52,5 @@ abbrev pub names_of : List ℕ → Option Names
 names_of text = three_names (map trimmed (slice_split (λ b. b == 44) text))
 
 -- the names by which signals are looked for
-abbrev pub names_told : Signals → Names
-names_told s = record { atn = s.atn.now; clock = s.clock.now; line = s.line.now }
+abbrev pub names_of_signals : Signals → Names
+names_of_signals s = record { atn = s.atn.now; clock = s.clock.now; line = s.line.now }

@@ -2,14 +2,14 @@
 
 ghost use Rattle.std.specs.Prelude.{◌≡◌, IfOk, false};
 ghost use Rattle.clap.specs.Words.{app_of, new_app, rule_of};
-ghost use Rattle.pr_options.specs.CommandLine.{flag_rule, print1525, raw_app, run_app, trace_app, value_rule};
-ghost use Rattle.pr_options.specs.Subcommands.{IsLocal};
+ghost use Rattle.pr_options.specs.CommandLine.{flag_rule, print1525, raw_shape, run_shape, trace_shape, value_rule};
+ghost use Rattle.pr_options.specs.Subcommands.{IsLocal, alone, option_view};
 
 use crate::help;
-use crate::help::Told;
+use crate::help::HelpText;
 use crate::options::{
     DELAYS, EXPLAIN, FROM, FROM_TIME, Flag, INVERT, NAMES, PAGE_AS, PRESENT, READING_AS, REPORT_AS,
-    SET, STATUS, TRACE_AS, Valued,
+    SET, STATUS, TRACE_AS, ValueOption,
 };
 use clap::{Arg, ArgAction, Command};
 use std::alloc::{AllocError, Global};
@@ -17,10 +17,9 @@ use std::alloc::{AllocError, Global};
 /// The version of the program.
 const VERSION: &str = "0.1.0";
 
-/// An option with a value. Where the value that stands for none is empty, the help says in words
-/// what it means.
-fn value_option<'a>(alloc: Global, option: Valued) -> Arg<'a>
-    ensures rule { rule_of result ≡ value_rule option.name.now option.default.now }
+/// An option with a value. Where its default is the empty text, the help says in words what that means.
+fn value_option<'a>(alloc: Global, option: ValueOption) -> Arg<'a>
+    ensures rule { rule_of result ≡ value_rule (option_view option) }
     ensures local { result.global ≡ false }
 {
     Arg::new(alloc, option.name)
@@ -42,28 +41,28 @@ fn flag_option<'a>(alloc: Global, flag: Flag) -> Arg<'a>
         .help(flag.help)
 }
 
-/// A command with what its help says, and no option yet.
-fn new_command<'a>(alloc: Global, name: &'a str, told: Told) -> Command<'a>
+/// A command with its help, and no option yet.
+fn new_command<'a>(alloc: Global, name: &'a str, text: HelpText) -> Command<'a>
     ensures app { app_of result ≡ new_app name.entry.now }
     ensures local { IsLocal result }
 {
     Command::new(alloc, name)
-        .about(told.about)
-        .override_usage(told.usage)
-        .after_help(told.more)
+        .about(text.about)
+        .override_usage(text.usage)
+        .after_help(text.more)
 }
 
 /// A subcommand that runs a script, and the formats of what it writes.
 fn run_command<'a>(
     alloc: Global,
     name: &'a str,
-    told: Told,
-    formats: Valued,
+    text: HelpText,
+    formats: ValueOption,
 ) -> Result<Command<'a>, AllocError>
-    ensures app { IfOk result (λ c. app_of c ≡ run_app name.entry.now (record { name = formats.name.now; default = formats.default.now })) }
+    ensures app { IfOk result (λ c. app_of c ≡ alone (run_shape name.entry.now (option_view formats))) }
     ensures local { IfOk result IsLocal }
 {
-    let command = new_command(alloc, name, told);
+    let command = new_command(alloc, name, text);
     let one = command.arg(value_option(alloc, PRESENT))?;
     let two = one.arg(value_option(alloc, DELAYS))?;
     let three = two.arg(value_option(alloc, STATUS))?;
@@ -76,14 +75,13 @@ fn run_command<'a>(
 fn trace_command<'a>(
     alloc: Global,
     name: &'a str,
-    told: Told,
-    formats: Valued,
+    text: HelpText,
+    formats: ValueOption,
 ) -> Result<Command<'a>, AllocError>
-    ensures app { IfOk result (λ c.
-        app_of c ≡ trace_app name.entry.now (record { name = formats.name.now; default = formats.default.now })) }
+    ensures app { IfOk result (λ c. app_of c ≡ alone (trace_shape name.entry.now (option_view formats))) }
     ensures local { IfOk result IsLocal }
 {
-    let command = new_command(alloc, name, told);
+    let command = new_command(alloc, name, text);
     let one = command.arg(value_option(alloc, FROM))?;
     let two = one.arg(value_option(alloc, NAMES))?;
     let three = two.arg(flag_option(alloc, INVERT))?;
@@ -95,7 +93,7 @@ fn trace_command<'a>(
 
 /// The subcommand `raw`.
 fn raw_command<'a>(alloc: Global) -> Result<Command<'a>, AllocError>
-    ensures app { IfOk result (λ c. app_of c ≡ raw_app) }
+    ensures app { IfOk result (λ c. app_of c ≡ alone raw_shape) }
     ensures local { IfOk result IsLocal }
 {
     let command = new_command(alloc, "raw", help::RAW);

@@ -1,33 +1,29 @@
 //! What a command line asks for: the program's job.
 
-ghost use Rattle.std.specs.Prelude.{◌≡◌, [], codes, map, option_map, true, unwrap_or, IfOk, IfErr, IfSome, IsErrOf, IsSome, OnOk};
+ghost use Rattle.std.specs.Prelude.{◌≡◌, ◌⊎◌, [], Err, Ok, Some, codes, map, option_map, IfErr, IfOk, IsSome, OnOk};
 ghost use Rattle.std.specs.List.{list_any};
 ghost use Rattle.std.specs.Str.{bytes_eq};
-ghost use Rattle.clap.specs.Words.{fault_of, first_of, found_of, kind_of, rows_of, subcommand_of, subcommand_rows_of, takes};
+ghost use Rattle.clap.specs.Words.{fault_of, found_of, rows_of, subcommand_rows_of};
 ghost use Rattle.pr_options.specs.CommandLine.{print1525};
-ghost use Rattle.pr_options.specs.Given.{is_given, is_of_words};
-ghost use Rattle.pr_options.specs.Inputs.{AsksToRead, IsBadFrom, IsBadNames, IsBadStart, IsUnfit, fits, wants_recording};
-ghost use Rattle.pr_options.specs.Jobs.{AsksFor, HasBadDelays, HasBadFrom, HasBadNames, HasBadPageAs, HasBadPresent, HasBadReadingAs, HasBadReportAs, HasBadSet, HasBadStart, HasBadStatus, HasBadTraceAs, IsLine, IsNoRecording};
-ghost use Rattle.pr_options.specs.Parts.{IsOfClap, IsOfInput};
-ghost use Rattle.pr_options.specs.Subcommands.{IsOurs};
+ghost use Rattle.pr_options.specs.CommandLaws.{NamesOurs};
+ghost use Rattle.pr_options.specs.Jobs.{IsRefused, asked, input_view, job_view, wanted_bus, wanted_check, wanted_decode, wanted_input, wanted_pages, wanted_raw, wanted_run};
+ghost use Rattle.pr_options.specs.Steps.{IsFaultIn, IsOfClap, job_result, run_view, wanted_of};
 ghost use Rattle.pr_options.specs.Values.{values_of};
 
 use crate::clap_command::make_command;
-use crate::delays::{DelayFault, read_delays};
-use crate::option_values::{
-    read_format, read_present, read_report, read_set, read_signals, read_source, read_start,
-    read_status, read_trace_format,
-};
+use crate::delays::DelayFault;
 use crate::options::{
-    DELAYS, FROM, FROM_TIME, INVERT, NAMES, PAGE_AS, PRESENT, READING_AS, REPORT_AS, SET, STATUS,
-    TRACE_AS, Valued,
+    DELAYS, FROM, FROM_TIME, NAMES, PAGE_AS, PRESENT, READING_AS, REPORT_AS, SET, STATUS, TRACE_AS,
+};
+use crate::values_given::{
+    delays_in, fits, page_format_in, present_in, reading_format_in, report_in, set_in, signals_in,
+    source_in, start_in, status_in, trace_format_in,
 };
 use clap::ArgMatches;
 use clap::error::ErrorKind;
-use clap::parser::ValueSource;
 use pr_basic::StatusMode;
 use pr_bus::Delays;
-use pr_capture::{Source, TraceFormat, TraceInput};
+use pr_capture::{TraceFormat, TraceInput};
 use pr_render::Format;
 use pr_report::Report;
 use pr_serial::Present;
@@ -144,40 +140,25 @@ impl From<DelayFault> for JobFault {
 ///
 /// # Errors
 ///
-/// [`JobFault::Line`] only for words that clap's meaning of the command does not take (a request
-/// for help or the version is one), and [`JobFault::NoMemory`] where memory was refused, by clap too.
-/// A job comes only for words in which that meaning finds no fault.
-/// The others tell the first bad value in this order: [`JobFault::BadPresent`],
-/// [`JobFault::BadDelays`], [`JobFault::BadStatus`], [`JobFault::BadSet`], [`JobFault::BadFrom`],
-/// [`JobFault::BadNames`], [`JobFault::BadStart`]; then [`JobFault::NoRecording`], where these are
-/// good, and at last a bad `--as`: [`JobFault::BadPageAs`] of `pages` and `raw`,
-/// [`JobFault::BadTraceAs`] of `bus`, [`JobFault::BadReportAs`] of `check`,
-/// [`JobFault::BadReadingAs`] of `decode`.
+/// [`JobFault::Line`] where clap refuses the words (a request for help or the version is such a
+/// refusal), and [`JobFault::NoMemory`] where memory was refused, by clap too. The other faults come
+/// only for words that clap takes, and report the first bad value in this order:
+/// [`JobFault::BadPresent`], [`JobFault::BadDelays`], [`JobFault::BadStatus`], [`JobFault::BadSet`],
+/// [`JobFault::BadFrom`], [`JobFault::BadNames`], [`JobFault::BadStart`]; then
+/// [`JobFault::NoRecording`], where these are good, and at last a bad `--as`:
+/// [`JobFault::BadPageAs`] of `pages` and `raw`, [`JobFault::BadTraceAs`] of `bus`,
+/// [`JobFault::BadReportAs`] of `check`, [`JobFault::BadReadingAs`] of `decode`.
 pub fn read_job<'a>(alloc: Global, words: &'a [&'a str]) -> Result<Job<'a>, JobFault>
-    ensures ok { IfOk result (AsksFor (subcommand_of print1525 (map (λ s. s.now) words.entry.now))) }
-    // the first bad value
-    ensures present { IsErrOf result JobFault.BadPresent → HasBadPresent (subcommand_of print1525 (map (λ s. s.now) words.entry.now)) }
-    ensures delays { IsErrOf result JobFault.BadDelays → HasBadDelays (subcommand_of print1525 (map (λ s. s.now) words.entry.now)) }
-    ensures status { IsErrOf result JobFault.BadStatus → HasBadStatus (subcommand_of print1525 (map (λ s. s.now) words.entry.now)) }
-    ensures set { IsErrOf result JobFault.BadSet → HasBadSet (subcommand_of print1525 (map (λ s. s.now) words.entry.now)) }
-    ensures source { IsErrOf result JobFault.BadFrom → HasBadFrom (subcommand_of print1525 (map (λ s. s.now) words.entry.now)) }
-    ensures names { IsErrOf result JobFault.BadNames → HasBadNames (subcommand_of print1525 (map (λ s. s.now) words.entry.now)) }
-    ensures start { IsErrOf result JobFault.BadStart → HasBadStart (subcommand_of print1525 (map (λ s. s.now) words.entry.now)) }
-    ensures text { IsErrOf result JobFault.NoRecording → IsNoRecording (subcommand_of print1525 (map (λ s. s.now) words.entry.now)) }
-    ensures page { IsErrOf result JobFault.BadPageAs → HasBadPageAs (subcommand_of print1525 (map (λ s. s.now) words.entry.now)) }
-    ensures trace { IsErrOf result JobFault.BadTraceAs → HasBadTraceAs (subcommand_of print1525 (map (λ s. s.now) words.entry.now)) }
-    ensures report { IsErrOf result JobFault.BadReportAs → HasBadReportAs (subcommand_of print1525 (map (λ s. s.now) words.entry.now)) }
-    ensures reading { IsErrOf result JobFault.BadReadingAs → HasBadReadingAs (subcommand_of print1525 (map (λ s. s.now) words.entry.now)) }
-    // what clap refuses
+    ensures ok { IfOk result (λ job. asked (map (λ s. s.now) words.entry.now) ≡ Some (Ok (job_view job))) }
     ensures taken { OnOk result (fault_of print1525 (map (λ s. s.now) words.entry.now) ≡ []) }
-    ensures line { takes print1525 (map (λ s. s.now) words.entry.now) ≡ true → IfErr result (λ e. ¬ IsLine e) }
+    ensures bad { IfErr result (IsRefused (map (λ s. s.now) words.entry.now)) }
 {
     let Ok(command) = make_command(alloc) else {
         return Err(JobFault::NoMemory);
     };
     match command.try_get_matches_from(words) {
         Ok(matches) => job_of(alloc, &matches),
-        Err(error) => Err(fault_of(error)),
+        Err(error) => Err(refused_by_clap(error)),
     }
 }
 
@@ -189,87 +170,65 @@ pub fn explains(words: &[&str]) -> bool
     words.iter().any(|word| *word == "--explain")
 }
 
+/// A law: words name `pages`, `bus`, `check`, `decode` or `raw`, or no subcommand.
+pub fn subcommands_are_these()
+    ensures { NamesOurs }
+{}
+
+/// How a script is run.
+#[derive(Drop)]
+struct Run {
+    present: Present,
+    delays: Delays,
+    mode: StatusMode,
+}
+
 /// The job that the matches of the words ask for. Each value is read whichever subcommand was met:
 /// an option that the subcommand does not have has its default there.
 fn job_of<'a>(alloc: Global, matches: &ArgMatches<'a>) -> Result<Job<'a>, JobFault>
-    requires some { IsSome (subcommand_rows_of matches.now) }
-    requires ours { IfSome (subcommand_rows_of matches.now) (λ met. IsOurs met.0) }
-    ensures ok { IfOk result (AsksFor (subcommand_rows_of matches.now)) }
-    ensures present { IsErrOf result JobFault.BadPresent → HasBadPresent (subcommand_rows_of matches.now) }
-    ensures delays { IsErrOf result JobFault.BadDelays → HasBadDelays (subcommand_rows_of matches.now) }
-    ensures status { IsErrOf result JobFault.BadStatus → HasBadStatus (subcommand_rows_of matches.now) }
-    ensures set { IsErrOf result JobFault.BadSet → HasBadSet (subcommand_rows_of matches.now) }
-    ensures source { IsErrOf result JobFault.BadFrom → HasBadFrom (subcommand_rows_of matches.now) }
-    ensures names { IsErrOf result JobFault.BadNames → HasBadNames (subcommand_rows_of matches.now) }
-    ensures start { IsErrOf result JobFault.BadStart → HasBadStart (subcommand_rows_of matches.now) }
-    ensures text { IsErrOf result JobFault.NoRecording → IsNoRecording (subcommand_rows_of matches.now) }
-    ensures page { IsErrOf result JobFault.BadPageAs → HasBadPageAs (subcommand_rows_of matches.now) }
-    ensures trace { IsErrOf result JobFault.BadTraceAs → HasBadTraceAs (subcommand_rows_of matches.now) }
-    ensures report { IsErrOf result JobFault.BadReportAs → HasBadReportAs (subcommand_rows_of matches.now) }
-    ensures reading { IsErrOf result JobFault.BadReadingAs → HasBadReadingAs (subcommand_rows_of matches.now) }
-    ensures line { IfErr result (λ e. ¬ IsLine e) }
+    requires { IsSome (subcommand_rows_of matches.now) }
+    ensures ok { IfOk result (λ job. wanted_of (subcommand_rows_of matches.now) ≡ Some (Ok (job_view job))) }
+    ensures bad { IfErr result (λ f. (f ≡ JobFault.NoMemory) ⊎ (wanted_of (subcommand_rows_of matches.now) ≡ Some (Err f))) }
 {
     let Some((name, options)) = matches.subcommand() else {
         unreachable!()
     };
-    let Some(present) = read_present(value_in(options, PRESENT)) else {
-        return Err(JobFault::BadPresent);
-    };
-    let delays = read_delays(alloc, value_in(options, DELAYS))?;
-    let Some(mode) = read_status(value_in(options, STATUS)) else {
-        return Err(JobFault::BadStatus);
-    };
-    let Some(lower) = read_set(value_in(options, SET)) else {
-        return Err(JobFault::BadSet);
-    };
+    let run = run_of(alloc, options)?;
+    let lower = set_in(options)?;
     let input = input_of(options)?;
-    if name == "check" {
-        let Some(report) = read_report(value_in(options, REPORT_AS)) else {
-            return Err(JobFault::BadReportAs);
-        };
-        return Ok(Job::Check(input, report));
+    match name {
+        "check" => check_job(input, options),
+        "decode" => decode_job(input, options),
+        "bus" => bus_job(run, options),
+        "raw" => raw_job(lower, options),
+        _ => pages_job(run, options),
     }
-    if name == "decode" {
-        let Some(format) = read_format(value_in(options, READING_AS)) else {
-            return Err(JobFault::BadReadingAs);
-        };
-        return Ok(Job::Decode(input, format));
-    }
-    if name == "bus" {
-        let Some(format) = read_trace_format(value_in(options, TRACE_AS)) else {
-            return Err(JobFault::BadTraceAs);
-        };
-        return Ok(Job::Bus(present, delays, mode, format));
-    }
-    let Some(format) = read_format(value_in(options, PAGE_AS)) else {
-        return Err(JobFault::BadPageAs);
-    };
-    if name == "raw" {
-        return Ok(Job::Raw { lower, format });
-    }
-    Ok(Job::Pages(present, delays, mode, format))
 }
 
-/// The trace that is to be read. What goes with a recording alone is judged when all these values
-/// are good.
-fn input_of<'a>(options: &ArgMatches<'a>) -> Result<TraceInput<'a>, JobFault>
-    ensures ok { IfOk result (AsksToRead (rows_of (found_of options.now))) }
-    ensures source { IsErrOf result JobFault.BadFrom → IsBadFrom (rows_of (found_of options.now)) }
-    ensures names { IsErrOf result JobFault.BadNames → IsBadNames (rows_of (found_of options.now)) }
-    ensures start { IsErrOf result JobFault.BadStart → IsBadStart (rows_of (found_of options.now)) }
-    ensures text { IsErrOf result JobFault.NoRecording → IsUnfit (rows_of (found_of options.now)) }
-    ensures own { IfErr result IsOfInput }
+/// How a script is to be run.
+fn run_of(alloc: Global, options: &ArgMatches<'_>) -> Result<Run, JobFault>
+    ensures ok { IfOk result (λ run. wanted_run (rows_of (found_of options.now)) ≡ Ok (run_view run)) }
+    ensures bad { IfErr result (IsFaultIn (wanted_run (rows_of (found_of options.now)))) }
 {
-    let Some(source) = read_source(value_in(options, FROM)) else {
-        return Err(JobFault::BadFrom);
-    };
-    let is_inverted = is_given(options, INVERT.name);
-    let Some(signals) = read_signals(value_in(options, NAMES), is_inverted) else {
-        return Err(JobFault::BadNames);
-    };
-    let Some(start) = read_start(value_in(options, FROM_TIME)) else {
-        return Err(JobFault::BadStart);
-    };
+    let present = present_in(options)?;
+    let delays = delays_in(alloc, options)?;
+    let mode = status_in(options)?;
+    Ok(Run {
+        present,
+        delays,
+        mode,
+    })
+}
+
+/// How a trace or a recording is to be read. What goes with a recording alone is judged when all
+/// these values are good.
+fn input_of<'a>(options: &ArgMatches<'a>) -> Result<TraceInput<'a>, JobFault>
+    ensures ok { IfOk result (λ input. wanted_input (rows_of (found_of options.now)) ≡ Ok (input_view input)) }
+    ensures bad { IfErr result (λ f. wanted_input (rows_of (found_of options.now)) ≡ Err f) }
+{
+    let source = source_in(options)?;
+    let signals = signals_in(options)?;
+    let start = start_in(options)?;
     if !fits(source, options) {
         return Err(JobFault::NoRecording);
     }
@@ -280,50 +239,49 @@ fn input_of<'a>(options: &ArgMatches<'a>) -> Result<TraceInput<'a>, JobFault>
     })
 }
 
-/// Whether what is given goes with the source: with a text nothing of a recording.
-fn fits(source: Source, options: &ArgMatches<'_>) -> bool
-    ensures { result ≡ fits source (rows_of (found_of options.now)) }
+/// The job of `check`.
+fn check_job<'a>(input: TraceInput<'a>, options: &ArgMatches<'_>) -> Result<Job<'a>, JobFault>
+    ensures { job_result result ≡ wanted_check (input_view input.entry) (rows_of (found_of options.now)) }
 {
-    match source {
-        Source::Text => !wants_recording(options),
-        Source::Vcd | Source::Csv => true,
-    }
+    let report = report_in(options)?;
+    Ok(Job::Check(input, report))
 }
 
-/// Whether anything is given that goes with a recording alone.
-fn wants_recording(options: &ArgMatches<'_>) -> bool
-    ensures { result ≡ wants_recording (rows_of (found_of options.now)) }
+/// The job of `decode`.
+fn decode_job<'a>(input: TraceInput<'a>, options: &ArgMatches<'_>) -> Result<Job<'a>, JobFault>
+    ensures { job_result result ≡ wanted_decode (input_view input.entry) (rows_of (found_of options.now)) }
 {
-    is_given(options, INVERT.name)
-        || is_given(options, NAMES.name)
-        || is_given(options, FROM_TIME.name)
+    let format = reading_format_in(options)?;
+    Ok(Job::Decode(input, format))
 }
 
-/// The value of an option, or that of its default where the subcommand does not have it.
-fn value_in<'a>(options: &ArgMatches<'a>, option: Valued) -> &'a str
-    ensures { result.now ≡ unwrap_or (first_of option.name.now (rows_of (found_of options.now))) option.default.now }
+/// The job of `bus`.
+fn bus_job<'a>(run: Run, options: &ArgMatches<'_>) -> Result<Job<'a>, JobFault>
+    ensures { job_result result ≡ wanted_bus (run_view run) (rows_of (found_of options.now)) }
 {
-    options.get_str(option.name).unwrap_or(option.default)
+    let format = trace_format_in(options)?;
+    Ok(Job::Bus(run.present, run.delays, run.mode, format))
 }
 
-/// Whether words gave an option or a flag, and not only its default.
-fn is_given(options: &ArgMatches<'_>, name: &str) -> bool
-    ensures { result ≡ is_given name.now (rows_of (found_of options.now)) }
+/// The job of `raw`.
+fn raw_job<'a>(lower: bool, options: &ArgMatches<'_>) -> Result<Job<'a>, JobFault>
+    ensures { job_result result ≡ wanted_raw lower (rows_of (found_of options.now)) }
 {
-    is_of_words(options.value_source(name))
+    let format = page_format_in(options)?;
+    Ok(Job::Raw { lower, format })
 }
 
-/// Whether a value comes from the words, and not from a default.
-fn is_of_words(source: Option<ValueSource>) -> bool
-    ensures { result ≡ is_of_words source }
+/// The job of `pages`.
+fn pages_job<'a>(run: Run, options: &ArgMatches<'_>) -> Result<Job<'a>, JobFault>
+    ensures { job_result result ≡ wanted_pages (run_view run) (rows_of (found_of options.now)) }
 {
-    matches!(source, Some(ValueSource::CommandLine))
+    let format = page_format_in(options)?;
+    Ok(Job::Pages(run.present, run.delays, run.mode, format))
 }
 
 /// A refusal by clap. Its want of memory is the program's own.
-fn fault_of(error: clap::Error) -> JobFault
-    ensures memory { kind_of error ≡ ErrorKind.OutOfMemory → ¬ IsLine result }
-    ensures clap { IsOfClap result }
+fn refused_by_clap(error: clap::Error) -> JobFault
+    ensures { IsOfClap error result }
 {
     if error.kind() == ErrorKind::OutOfMemory {
         JobFault::NoMemory

@@ -3,7 +3,7 @@
 
 /// What the help of a command says beside its subcommands and options.
 #[derive(Clone, Copy)]
-pub struct Told {
+pub struct HelpText {
     /// What it does, in a line.
     pub about: &'static str,
     /// How it is called. A command line that clap refuses shows this too.
@@ -13,7 +13,7 @@ pub struct Told {
 }
 
 /// The program.
-pub const PROGRAM: Told = Told {
+pub const PROGRAM: HelpText = HelpText {
     about: "\
 Runs the output statements of Commodore 64 BASIC and shows what two VIC-1525
 printers put on paper and what happens on the serial bus",
@@ -33,7 +33,7 @@ Example:
 };
 
 /// The subcommand `pages`.
-pub const PAGES: Told = Told {
+pub const PAGES: HelpText = HelpText {
     about: "Writes the pages of a script",
     usage: "print1525 pages [OPTIONS] < SCRIPT",
     more: "\
@@ -58,7 +58,7 @@ Example:
 };
 
 /// The subcommand `bus`.
-pub const BUS: Told = Told {
+pub const BUS: HelpText = HelpText {
     about: "Writes the trace of the serial bus during a script's run",
     usage: "print1525 bus [OPTIONS] < SCRIPT",
     more: "\
@@ -79,7 +79,7 @@ Example:
 };
 
 /// The subcommand `check`.
-pub const CHECK: Told = Told {
+pub const CHECK: HelpText = HelpText {
     about: "Writes the frames of a trace, if its timing is lawful",
     usage: "print1525 check [OPTIONS] < TRACE",
     more: "\
@@ -103,7 +103,7 @@ Example:
 };
 
 /// The subcommand `decode`.
-pub const DECODE: Told = Told {
+pub const DECODE: HelpText = HelpText {
     about: "Writes what any recording of a serial bus says",
     usage: "print1525 decode [OPTIONS] < RECORDING",
     more: "\
@@ -125,7 +125,7 @@ Example:
 };
 
 /// The subcommand `raw`.
-pub const RAW: Told = Told {
+pub const RAW: HelpText = HelpText {
     about: "Writes the page of the bytes that a printer gets",
     usage: "print1525 raw [OPTIONS] < BYTES",
     more: "\

@@ -1,10 +1,23 @@
 //! What a command line of the program `print1525` asks for.
 //!
-//! [`read_job`] reads the words of a command line and says which [`Job`] they ask for, or why they
-//! ask for none; [`explains`] says whether more is to be told of a refusal. The command with its
-//! subcommands, options and help is one of clap's. [`read_present`], [`read_delays`] and
-//! [`read_status`] read the values of the options that say how a run begins. Nothing here reads an
-//! input, runs a script or writes a text.
+//! [`read_job`] reads the words of a command line and returns the [`Job`] that they ask for, or the
+//! reason why they ask for none; [`explains`] returns whether the user wants to read more about a
+//! refusal. [`read_present`], [`read_delays`] and [`read_status`] read the values of the options that
+//! say how a run begins. Nothing here reads an input, runs a script or writes a text. Only this crate
+//! and the program's `main` know clap.
+//!
+//! # Inside
+//!
+//! - `options` has each option's name, default and help; `specs/OptionNames` has the names and
+//!   defaults once more. `help` has the texts of the help.
+//! - `clap_command` makes the command of these, as clap takes it (`specs/CommandLine`).
+//! - `option_values` and `delays` give the values of options their meaning (`specs/Options`,
+//!   `SignalNames`, `DelayLists`); `parts` cuts their texts.
+//! - `values_given` reads each option of a command line, with the fault of a bad value. Each function
+//!   is one step of `wanted` in `specs/Jobs`.
+//! - `command_line` chains these steps to a job, in the order in which a bad value is reported. A new
+//!   option is a row of `options` and of `OptionNames`, a step in `values_given`, and a line in
+//!   `wanted` and in `run_of`, `input_of` or the subcommand's function.
 #![tactic(auto)]
 
 mod clap_command;
@@ -14,7 +27,8 @@ mod help;
 mod option_values;
 mod options;
 mod parts;
+mod values_given;
 
-pub use command_line::{Job, JobFault, explains, read_job};
+pub use command_line::{Job, JobFault, explains, read_job, subcommands_are_these};
 pub use delays::{DelayFault, read_delays};
 pub use option_values::{read_present, read_status};

@@ -2,7 +2,7 @@
 
 ghost use Rattle.std.specs.Prelude.{◌≡◌, ◌∷◌, [], option_map, IfSome};
 ghost use Rattle.pr_options.specs.Options.{format_of, mode_of, present_of, report_of, set_of, source_of, start_of, trace_format_of};
-ghost use Rattle.pr_options.specs.SignalNames.{are_names, differ, is_clock_twice, is_name, names_of, names_told, three_names};
+ghost use Rattle.pr_options.specs.SignalNames.{are_names, differ, is_clock_twice, is_name, names_of, names_of_signals, three_names};
 
 use crate::parts::{all_digits, cut};
 use pr_basic::StatusMode;
@@ -100,7 +100,7 @@ pub fn read_report(text: &str) -> Option<Report>
 /// by commas. White space around a name does not count; no name is empty or begins with a quotation
 /// mark, and no two are the same or CLOCK and CLK, capitals or not (profile). None for any other text.
 pub fn read_signals(text: &str, is_inverted: bool) -> Option<Signals<'_>>
-    ensures names { option_map names_told result ≡ names_of text.now }
+    ensures names { option_map names_of_signals result ≡ names_of text.now }
     ensures levels { IfSome result (λ s. s.is_inverted ≡ is_inverted) }
 {
     let (atn, others) = cut(text, ',');
@@ -123,7 +123,7 @@ fn signals_named<'a>(
     line: &'a str,
     is_inverted: bool,
 ) -> Option<Signals<'a>>
-    ensures names { option_map names_told result ≡ three_names (atn.now ∷ clock.now ∷ line.now ∷ []) }
+    ensures names { option_map names_of_signals result ≡ three_names (atn.now ∷ clock.now ∷ line.now ∷ []) }
     ensures levels { IfSome result (λ s. s.is_inverted ≡ is_inverted) }
 {
     if !are_names(atn, clock, line) {

@@ -3,7 +3,7 @@
 
 /// An option with a value.
 #[derive(Clone, Copy)]
-pub struct Valued {
+pub struct ValueOption {
     /// Its name, after `--`.
     pub name: &'static str,
     /// What help calls its value.
@@ -23,7 +23,7 @@ pub struct Flag {
     pub help: &'static str,
 }
 
-pub const PRESENT: Valued = Valued {
+pub const PRESENT: ValueOption = ValueOption {
     name: "present",
     value: "PRINTERS",
     default: "both",
@@ -31,7 +31,7 @@ pub const PRESENT: Valued = Valued {
            none, 4, 5 or both",
 };
 
-pub const DELAYS: Valued = Valued {
+pub const DELAYS: ValueOption = ValueOption {
     name: "delays",
     value: "LISTS",
     default: "",
@@ -41,7 +41,7 @@ pub const DELAYS: Valued = Valued {
            [default: every delay is the typical one]",
 };
 
-pub const STATUS: Valued = Valued {
+pub const STATUS: ValueOption = ValueOption {
     name: "status",
     value: "MODE",
     default: "each",
@@ -49,7 +49,7 @@ pub const STATUS: Valued = Valued {
            or kept",
 };
 
-pub const SET: Valued = Valued {
+pub const SET: ValueOption = ValueOption {
     name: "set",
     value: "SET",
     default: "upper",
@@ -59,7 +59,7 @@ pub const SET: Valued = Valued {
 };
 
 /// The format of a page.
-pub const PAGE_AS: Valued = Valued {
+pub const PAGE_AS: ValueOption = ValueOption {
     name: "as",
     value: "FORMAT",
     default: "list",
@@ -68,7 +68,7 @@ pub const PAGE_AS: Valued = Valued {
 };
 
 /// The format of the trace of a run.
-pub const TRACE_AS: Valued = Valued {
+pub const TRACE_AS: ValueOption = ValueOption {
     name: "as",
     value: "FORMAT",
     default: "text",
@@ -77,7 +77,7 @@ pub const TRACE_AS: Valued = Valued {
 };
 
 /// What is written of a trace that is checked.
-pub const REPORT_AS: Valued = Valued {
+pub const REPORT_AS: ValueOption = ValueOption {
     name: "as",
     value: "FORMAT",
     default: "frames",
@@ -86,7 +86,7 @@ pub const REPORT_AS: Valued = Valued {
 };
 
 /// What is written of a recording that is decoded.
-pub const READING_AS: Valued = Valued {
+pub const READING_AS: ValueOption = ValueOption {
     name: "as",
     value: "FORMAT",
     default: "list",
@@ -95,7 +95,7 @@ pub const READING_AS: Valued = Valued {
            text or svg",
 };
 
-pub const FROM: Valued = Valued {
+pub const FROM: ValueOption = ValueOption {
     name: "from",
     value: "FORMAT",
     default: "text",
@@ -104,7 +104,7 @@ pub const FROM: Valued = Valued {
            csv (a table of samples)",
 };
 
-pub const NAMES: Valued = Valued {
+pub const NAMES: ValueOption = ValueOption {
     name: "names",
     value: "NAMES",
     default: "ATN,CLOCK,DATA",
@@ -113,7 +113,7 @@ pub const NAMES: Valued = Valued {
            both CLOCK and CLK",
 };
 
-pub const FROM_TIME: Valued = Valued {
+pub const FROM_TIME: ValueOption = ValueOption {
     name: "from-time",
     value: "MICROSECONDS",
     default: "0",

@@ -1,0 +1,171 @@
+-- Which faults the words ask for: never one of clap's.
+use Rattle.std.proofs.Common.{◌≡◌, ℕ, Bool, true, false, List, [], Option, Some, None, Result, Ok, Err, IfErr, OnOk, inl, inr, ◌⊎◌, refl, sym, subst, codes}
+use Rattle.std.specs.Prelude.{◌≢◌, ⊤, ok_or, if◌then◌else◌}
+use Rattle.std.specs.Str.{bytes_eq}
+use Rattle.clap.specs.Words.{HasKind, IsAmong, Row, Text, fault_of, kind_of, subcommand_of, takes}
+use Rattle.clap.specs.declared.error.Error.{Error}
+use Rattle.clap.specs.declared.error.kind.ErrorKind.TheVariants.{OutOfMemory}
+use Rattle.pr_serial.specs.declared.Present.{Present}
+use Rattle.pr_serial.specs.Bus.{DelayNumbers}
+use Rattle.pr_basic.specs.declared.session.StatusMode.{StatusMode}
+use Rattle.pr_capture.specs.declared.format.Source.{Source}
+use Rattle.pr_options.specs.CommandLine.{print1525}
+use Rattle.pr_options.specs.DelayLists.{delays_of}
+use Rattle.pr_options.specs.Given.{is_given, value_in}
+use Rattle.pr_options.specs.Jobs.{◌>>=◌, Bus, Check, Decode, InputView, IsRefused, JobView, Pages, Raw, RunView, asked, fits, wanted, wanted_bus, wanted_check, wanted_decode, wanted_input, wanted_pages, wanted_raw, wanted_run}
+use Rattle.pr_options.specs.OptionNames as option
+use Rattle.pr_options.specs.Options.{format_of, mode_of, present_of, report_of, set_of, source_of, start_of, trace_format_of}
+use Rattle.pr_options.specs.SignalNames.{Names, names_of}
+use Rattle.pr_options.specs.Steps.{IsOfClap, Met, wanted_of}
+use Rattle.pr_options.specs.declared.command_line.Job.{Job}
+use Rattle.pr_options.specs.declared.command_line.JobFault.{JobFault}
+use Rattle.pr_options.specs.declared.command_line.JobFault.TheVariants as fault
+
+-- a fault of clap's
+abbrev IsLine : JobFault → Type 0
+IsLine (fault.Line e) = ⊤
+IsLine _ = ⊥
+
+-- no fault of clap's
+abbrev NoLine : {A : Type 0} → Result A JobFault → Type 0
+NoLine (Ok x) = ⊤
+NoLine (Err f) = ¬ IsLine f
+
+-- good values, as the jobs have them
+abbrev wanted_ok : Present → DelayNumbers → StatusMode → Result RunView JobFault
+wanted_ok present delays mode = Ok (record { present = present; delays = delays; mode = mode })
+
+abbrev input_ok : Source → Names → Bool → ℕ → Result InputView JobFault
+input_ok source names inverted start = Ok (record { source = source; names = names; is_inverted = inverted; start = start })
+
+abbrev job_ok : JobView → Result JobView JobFault
+job_ok job = Ok job
+
+-- none of how a script is run
+run_no_line : (rows : List Row) → NoLine (wanted_run rows)
+run_no_line rows =
+    by (present_of (value_in option.present rows)) (delays_of (value_in option.delays rows)) (mode_of (value_in option.status rows))
+  where
+    by : (p : Option Present) (d : Option DelayNumbers) (m : Option StatusMode) → NoLine (ok_or p fault.BadPresent >>= λ present.
+        ok_or d fault.BadDelays >>= λ delays. ok_or m fault.BadStatus >>= λ mode. wanted_ok present delays mode)
+    by None d m = λ h. h
+    by (Some p) None m = λ h. h
+    by (Some p) (Some d) None = λ h. h
+    by (Some p) (Some d) (Some m) = tt
+
+-- none of how a trace is read
+input_no_line : (rows : List Row) → NoLine (wanted_input rows)
+input_no_line rows =
+    by (source_of (value_in option.from rows)) (names_of (value_in option.names rows)) (start_of (value_in option.from_time rows))
+    (λ source. fits source rows) (is_given option.invert rows)
+  where
+    by : (s : Option Source) (n : Option Names) (t : Option ℕ) (f : Source → Bool) (i : Bool) → NoLine (ok_or s fault.BadFrom >>= λ source.
+        ok_or n fault.BadNames >>= λ names. ok_or t fault.BadStart >>= λ start.
+        if f source then input_ok source names i start else Err fault.NoRecording)
+    by None n t f i = λ h. h
+    by (Some s) None t f i = λ h. h
+    by (Some s) (Some n) None f i = λ h. h
+    by (Some s) (Some n) (Some t) f i = elim (f s) as (λ v. NoLine (if v then input_ok s n i t else Err fault.NoRecording)) [ true ↦ tt | false ↦ λ h. h ]
+
+-- none of a job's last value
+last_no_line : {A : Type 0} (o : Option A) (f : JobFault) (job : A → JobView) → ¬ IsLine f → NoLine (ok_or o f >>= λ x. job_ok (job x))
+last_no_line None f job h = h
+last_no_line (Some x) f job h = tt
+
+-- none of what a subcommand asks for
+wanted_no_line : (name : Text) (rows : List Row) → NoLine (wanted name rows)
+wanted_no_line name rows = by (wanted_run rows) (set_of (value_in option.set rows)) (wanted_input rows) (run_no_line rows) (input_no_line rows)
+  where
+    named : (run : RunView) (lower : Bool) (input : InputView) (a b d e : Bool) → NoLine (if a then wanted_check input rows
+        else (if b then wanted_decode input rows else (if d then wanted_bus run rows else (if e then wanted_raw lower rows else wanted_pages run rows))))
+    named run lower input true b d e = last_no_line (report_of (value_in option.report_as rows)) fault.BadReportAs (Check input) (λ h. h)
+    named run lower input false true d e = last_no_line (format_of (value_in option.reading_as rows)) fault.BadReadingAs (Decode input) (λ h. h)
+    named run lower input false false true e = last_no_line (trace_format_of (value_in option.trace_as rows)) fault.BadTraceAs (Bus run) (λ h. h)
+    named run lower input false false false true = last_no_line (format_of (value_in option.page_as rows)) fault.BadPageAs (Raw lower) (λ h. h)
+    named run lower input false false false false = last_no_line (format_of (value_in option.page_as rows)) fault.BadPageAs (Pages run) (λ h. h)
+
+    by : (r : Result RunView JobFault) (s : Option Bool) (i : Result InputView JobFault) → NoLine r → NoLine i → NoLine (r >>= λ run.
+        ok_or s fault.BadSet >>= λ lower. i >>= λ input. if bytes_eq name (codes "check") then wanted_check input rows
+        else (if bytes_eq name (codes "decode") then wanted_decode input rows else (if bytes_eq name (codes "bus") then wanted_bus run rows
+        else (if bytes_eq name (codes "raw") then wanted_raw lower rows else wanted_pages run rows))))
+    by (Err f) s i h k = h
+    by (Ok run) None i h k = λ q. q
+    by (Ok run) (Some lower) (Err f) h k = k
+    by (Ok run) (Some lower) (Ok input) h k =
+        named run lower input (bytes_eq name (codes "check")) (bytes_eq name (codes "decode")) (bytes_eq name (codes "bus")) (bytes_eq name (codes "raw"))
+
+-- so it is none of clap's
+line_free : (w : Result JobView JobFault) (e : Error) → NoLine w → w ≡ Err (fault.Line e) → ⊥
+line_free w e h q =
+    let P : Result JobView JobFault → Type 0 = λ r. NoLine r in
+    (subst P q h) tt
+
+asked_no_line : (met : Met) (e : Error) → wanted_of met ≡ Some (Err (fault.Line e)) → ⊥
+asked_no_line None e h = cc h
+asked_no_line (Some m) e h =
+    let w : wanted m.0 m.1 ≡ Err (fault.Line e) = cc in
+    line_free (wanted m.0 m.1) e (wanted_no_line m.0 m.1) w
+
+-- what holds whatever the job is
+pub on_ok : {T E A : Type 0} (r : Result T E) → A → OnOk r A
+on_ok (Ok x) h = h
+on_ok (Err e) h = tt
+
+-- words that clap takes are refused for the fault that is wanted
+pub bad_is : (words : List Text) (r : Result Job JobFault) → IfErr r (λ f. (f ≡ fault.NoMemory) ⊎ (asked words ≡ Some (Err f))) → fault_of print1525 words ≡ [] → IfErr r (IsRefused words)
+bad_is words (Ok x) h e = tt
+bad_is words (Err f) h e = by f h
+  where
+    by : (f : JobFault) → (f ≡ fault.NoMemory) ⊎ (asked words ≡ Some (Err f)) → IsRefused words f
+    by (fault.Line x) (inl h) = absurd (cc h)
+    by (fault.Line x) (inr h) = absurd (asked_no_line (subcommand_of print1525 words) x h)
+    by fault.NoMemory h = tt
+    by fault.BadPresent (inl h) = absurd (cc h)
+    by fault.BadPresent (inr h) = (e, h)
+    by fault.BadDelays (inl h) = absurd (cc h)
+    by fault.BadDelays (inr h) = (e, h)
+    by fault.BadStatus (inl h) = absurd (cc h)
+    by fault.BadStatus (inr h) = (e, h)
+    by fault.BadSet (inl h) = absurd (cc h)
+    by fault.BadSet (inr h) = (e, h)
+    by fault.BadFrom (inl h) = absurd (cc h)
+    by fault.BadFrom (inr h) = (e, h)
+    by fault.BadNames (inl h) = absurd (cc h)
+    by fault.BadNames (inr h) = (e, h)
+    by fault.BadStart (inl h) = absurd (cc h)
+    by fault.BadStart (inr h) = (e, h)
+    by fault.NoRecording (inl h) = absurd (cc h)
+    by fault.NoRecording (inr h) = (e, h)
+    by fault.BadPageAs (inl h) = absurd (cc h)
+    by fault.BadPageAs (inr h) = (e, h)
+    by fault.BadTraceAs (inl h) = absurd (cc h)
+    by fault.BadTraceAs (inr h) = (e, h)
+    by fault.BadReportAs (inl h) = absurd (cc h)
+    by fault.BadReportAs (inr h) = (e, h)
+    by fault.BadReadingAs (inl h) = absurd (cc h)
+    by fault.BadReadingAs (inr h) = (e, h)
+
+not_true : (b : Bool) → ¬ (b ≡ true) → b ≡ false
+not_true true h = absurd (h refl)
+not_true false h = refl
+
+-- clap's refusal is one for its reasons, and never for memory
+pub refused_is : (words : List Text) (error : Error) (f : JobFault) → IsOfClap error f → (takes print1525 words ≡ true → kind_of error ≡ OutOfMemory)
+    → HasKind (fault_of print1525 words) error → IsRefused words f
+refused_is words error (fault.Line e) h passes kinds =
+    let P : Error → Type 0 = λ x. (kind_of x ≢ OutOfMemory) × (IsAmong (kind_of x) (fault_of print1525 words) × (takes print1525 words ≡ false)) in
+    let among : IsAmong (kind_of error) (fault_of print1525 words) = elim kinds [ inl q ↦ absurd (h.1 q) | inr a ↦ a ] in
+    subst P (sym h.0) (h.1, (among, not_true (takes print1525 words) (λ t. h.1 (passes t))))
+refused_is words error fault.NoMemory h passes kinds = tt
+refused_is words error fault.BadPresent h passes kinds = absurd h
+refused_is words error fault.BadDelays h passes kinds = absurd h
+refused_is words error fault.BadStatus h passes kinds = absurd h
+refused_is words error fault.BadSet h passes kinds = absurd h
+refused_is words error fault.BadFrom h passes kinds = absurd h
+refused_is words error fault.BadNames h passes kinds = absurd h
+refused_is words error fault.BadStart h passes kinds = absurd h
+refused_is words error fault.NoRecording h passes kinds = absurd h
+refused_is words error fault.BadPageAs h passes kinds = absurd h
+refused_is words error fault.BadTraceAs h passes kinds = absurd h
+refused_is words error fault.BadReportAs h passes kinds = absurd h
+refused_is words error fault.BadReadingAs h passes kinds = absurd h

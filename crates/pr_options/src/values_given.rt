@@ -1,0 +1,153 @@
+//! The values that words give the options, each with the fault of a bad one.
+
+ghost use Rattle.std.specs.Prelude.{◌≡◌, Ok, IfErr, IfOk, unwrap_or};
+ghost use Rattle.clap.specs.Words.{first_of, found_of, rows_of};
+ghost use Rattle.pr_bus.specs.DelaysLeft.{numbers_left};
+ghost use Rattle.pr_options.specs.DelayLists.{delays_of};
+ghost use Rattle.pr_options.specs.Given.{is_given, is_of_words};
+ghost use Rattle.pr_options.specs.OptionNames as option;
+ghost use Rattle.pr_options.specs.Jobs.{fits, read, wants_recording};
+ghost use Rattle.pr_options.specs.Options.{format_of, mode_of, present_of, report_of, set_of, source_of, start_of, trace_format_of};
+ghost use Rattle.pr_options.specs.SignalNames.{names_of};
+ghost use Rattle.pr_options.specs.Steps.{IsFaultIn, signals_result};
+
+use crate::command_line::JobFault;
+use crate::delays::read_delays;
+use crate::option_values::{
+    read_format, read_present, read_report, read_set, read_signals, read_source, read_start,
+    read_status, read_trace_format,
+};
+use crate::options::{
+    DELAYS, FROM, FROM_TIME, INVERT, NAMES, PAGE_AS, PRESENT, READING_AS, REPORT_AS, SET, STATUS,
+    TRACE_AS, ValueOption,
+};
+use clap::ArgMatches;
+use clap::parser::ValueSource;
+use pr_basic::StatusMode;
+use pr_bus::Delays;
+use pr_capture::{Signals, Source, TraceFormat};
+use pr_render::Format;
+use pr_report::Report;
+use pr_serial::Present;
+use std::alloc::Global;
+
+/// Which printers are present.
+pub fn present_in(options: &ArgMatches<'_>) -> Result<Present, JobFault>
+    ensures { result ≡ read option.present present_of JobFault.BadPresent (rows_of (found_of options.now)) }
+{
+    read_present(value_in(options, PRESENT)).ok_or(JobFault::BadPresent)
+}
+
+/// The delays of a run, of which no number has been taken.
+pub fn delays_in(alloc: Global, options: &ArgMatches<'_>) -> Result<Delays, JobFault>
+    ensures ok { IfOk result (λ delays. read option.delays delays_of JobFault.BadDelays (rows_of (found_of options.now)) ≡ Ok (numbers_left delays)) }
+    ensures bad { IfErr result (IsFaultIn (read option.delays delays_of JobFault.BadDelays (rows_of (found_of options.now)))) }
+{
+    let delays = read_delays(alloc, value_in(options, DELAYS))?;
+    Ok(delays)
+}
+
+/// How the status goes from statement to statement.
+pub fn status_in(options: &ArgMatches<'_>) -> Result<StatusMode, JobFault>
+    ensures { result ≡ read option.status mode_of JobFault.BadStatus (rows_of (found_of options.now)) }
+{
+    read_status(value_in(options, STATUS)).ok_or(JobFault::BadStatus)
+}
+
+/// Whether the lower/upper case set is selected first.
+pub fn set_in(options: &ArgMatches<'_>) -> Result<bool, JobFault>
+    ensures { result ≡ read option.set set_of JobFault.BadSet (rows_of (found_of options.now)) }
+{
+    read_set(value_in(options, SET)).ok_or(JobFault::BadSet)
+}
+
+/// The format of a trace or a recording.
+pub fn source_in(options: &ArgMatches<'_>) -> Result<Source, JobFault>
+    ensures { result ≡ read option.from source_of JobFault.BadFrom (rows_of (found_of options.now)) }
+{
+    read_source(value_in(options, FROM)).ok_or(JobFault::BadFrom)
+}
+
+/// The signals of a recording, by their names and by whether the probes invert.
+pub fn signals_in<'a>(options: &ArgMatches<'a>) -> Result<Signals<'a>, JobFault>
+    ensures names { signals_result result ≡ read option.names names_of JobFault.BadNames (rows_of (found_of options.now)) }
+    ensures levels { IfOk result (λ s. s.is_inverted ≡ is_given option.invert (rows_of (found_of options.now))) }
+{
+    let is_inverted = is_given(options, INVERT.name);
+    read_signals(value_in(options, NAMES), is_inverted).ok_or(JobFault::BadNames)
+}
+
+/// The moment at which a trace starts.
+pub fn start_in(options: &ArgMatches<'_>) -> Result<u64, JobFault>
+    ensures { result ≡ read option.from_time start_of JobFault.BadStart (rows_of (found_of options.now)) }
+{
+    read_start(value_in(options, FROM_TIME)).ok_or(JobFault::BadStart)
+}
+
+/// The format of a page.
+pub fn page_format_in(options: &ArgMatches<'_>) -> Result<Format, JobFault>
+    ensures { result ≡ read option.page_as format_of JobFault.BadPageAs (rows_of (found_of options.now)) }
+{
+    read_format(value_in(options, PAGE_AS)).ok_or(JobFault::BadPageAs)
+}
+
+/// The format of a run's trace.
+pub fn trace_format_in(options: &ArgMatches<'_>) -> Result<TraceFormat, JobFault>
+    ensures { result ≡ read option.trace_as trace_format_of JobFault.BadTraceAs (rows_of (found_of options.now)) }
+{
+    read_trace_format(value_in(options, TRACE_AS)).ok_or(JobFault::BadTraceAs)
+}
+
+/// What is written of a trace that is checked.
+pub fn report_in(options: &ArgMatches<'_>) -> Result<Report, JobFault>
+    ensures { result ≡ read option.report_as report_of JobFault.BadReportAs (rows_of (found_of options.now)) }
+{
+    read_report(value_in(options, REPORT_AS)).ok_or(JobFault::BadReportAs)
+}
+
+/// The format of what a recording says.
+pub fn reading_format_in(options: &ArgMatches<'_>) -> Result<Format, JobFault>
+    ensures { result ≡ read option.reading_as format_of JobFault.BadReadingAs (rows_of (found_of options.now)) }
+{
+    read_format(value_in(options, READING_AS)).ok_or(JobFault::BadReadingAs)
+}
+
+/// Whether what is given goes with the source: with a text nothing of a recording.
+pub fn fits(source: Source, options: &ArgMatches<'_>) -> bool
+    ensures { result ≡ fits source (rows_of (found_of options.now)) }
+{
+    match source {
+        Source::Text => !wants_recording(options),
+        Source::Vcd | Source::Csv => true,
+    }
+}
+
+/// Whether anything is given that goes with a recording alone.
+fn wants_recording(options: &ArgMatches<'_>) -> bool
+    ensures { result ≡ wants_recording (rows_of (found_of options.now)) }
+{
+    is_given(options, INVERT.name)
+        || is_given(options, NAMES.name)
+        || is_given(options, FROM_TIME.name)
+}
+
+/// The value of an option, or that of its default where the subcommand does not have it.
+fn value_in<'a>(options: &ArgMatches<'a>, option: ValueOption) -> &'a str
+    ensures { result.now ≡ unwrap_or (first_of option.name.now (rows_of (found_of options.now))) option.default.now }
+{
+    options.get_str(option.name).unwrap_or(option.default)
+}
+
+/// Whether words gave an option or a flag, and not only its default.
+fn is_given(options: &ArgMatches<'_>, name: &str) -> bool
+    ensures { result ≡ is_given name.now (rows_of (found_of options.now)) }
+{
+    is_of_words(options.value_source(name))
+}
+
+/// Whether a value comes from the words, and not from a default.
+fn is_of_words(source: Option<ValueSource>) -> bool
+    ensures { result ≡ is_of_words source }
+{
+    matches!(source, Some(ValueSource::CommandLine))
+}
