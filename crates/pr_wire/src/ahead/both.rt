@@ -21,9 +21,9 @@ impl Start {
 }
 
 impl BusState {
-    /// Goes over the edges of a whole frame at once from two places, behind the same edge, where it
-    /// begins in both in the same way: as [`BusState::pass_frame`] from each of them, with one test of
-    /// the edges. Otherwise both places stay as they are. It may go over none.
+    /// Goes over the edges of a whole frame at once from two states, after the same edge, where it
+    /// begins in both in the same way: as [`BusState::pass_edges`] from each of them, with one test of
+    /// the edges. Otherwise both states stay as they are. It may go over none.
     #[inline(always)]
     pub fn pass_frame_with(
         &mut self,
