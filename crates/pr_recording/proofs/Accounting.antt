@@ -1,8 +1,8 @@
 -- Readings and their lines, as more of them come.
 use Rattle.std.proofs.Common.{◌≡◌, ℕ, List, [], ◌∷◌, ◌++◌, refl, ap, sym, subst, ◌∙◌, append-nil, append_assoc}
 use Rattle.pr_decode.specs.declared.reading.Reading.{Reading}
-use Rattle.pr_report.specs.declared.line.Preceding.{Preceding}
-use Rattle.pr_report.specs.declared.line.Preceding.TheVariants.{Nothing}
+use Rattle.pr_report.specs.declared.reading_line.Preceding.{Preceding}
+use Rattle.pr_report.specs.declared.reading_line.Preceding.TheVariants.{Nothing}
 use Rattle.pr_report.specs.ReadingText.{after_reading, all_lines, behind_all, reading_lines}
 use Rattle.pr_report.specs.Taking as survey
 use Rattle.pr_recording.specs.Narrated.{AccountsMore, HasAccounted}

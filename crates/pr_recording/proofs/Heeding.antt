@@ -8,7 +8,7 @@ use Rattle.pr_wire.specs.Table.{fault_of}
 use Rattle.pr_decode.specs.declared.reading.Reading.{Reading}
 use Rattle.pr_decode.specs.Readings.{readings_of}
 use Rattle.pr_decode.specs.Taking.{GivenAreSettled, HasRead, IsBefore, StandsBefore, last_time}
-use Rattle.pr_report.specs.declared.line.Preceding.TheVariants.{Nothing}
+use Rattle.pr_report.specs.declared.reading_line.Preceding.TheVariants.{Nothing}
 use Rattle.pr_report.specs.ReadingText.{all_lines}
 use Rattle.pr_report.specs.Summary.{summary}
 use Rattle.pr_report.specs.Verdict.{verdict_text}

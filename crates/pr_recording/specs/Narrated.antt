@@ -10,7 +10,7 @@ use Rattle.pr_report.specs.declared.timed_frame.TimedFrame.{TimedFrame}
 use Rattle.pr_report.specs.Telling as story
 use Rattle.pr_decode.specs.declared.reading.Reading.{Reading}
 use Rattle.pr_decode.specs.Taking.{HasRead, last_time}
-use Rattle.pr_report.specs.declared.line.Preceding.TheVariants.{Nothing}
+use Rattle.pr_report.specs.declared.reading_line.Preceding.TheVariants.{Nothing}
 use Rattle.pr_report.specs.ReadingText.{all_lines, behind_all}
 use Rattle.pr_report.specs.Taking as survey
 use Rattle.pr_capture.specs.declared.format.TraceInput.{TraceInput}

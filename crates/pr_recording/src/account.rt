@@ -3,7 +3,7 @@
 ghost use Rattle.std.specs.Prelude.{◌≡◌, ◌+◌, ◌^◌, ◌<◌, ◌≤◌, ◌∷◌, ◌++◌, [], List, ℕ, IfOk, OnOk};
 ghost use Rattle.std.specs.Option.{option_to_list};
 ghost use Rattle.pr_decode.specs.declared.reading.Reading.{Reading};
-ghost use Rattle.pr_report.specs.declared.line.Preceding.TheVariants.{Nothing};
+ghost use Rattle.pr_report.specs.declared.reading_line.Preceding.TheVariants.{Nothing};
 ghost use Rattle.pr_report.specs.ReadingText.{all_lines};
 ghost use Rattle.pr_report.specs.Summary.{summary};
 ghost use Rattle.pr_report.specs.Verdict.{verdict_text};
