@@ -8,7 +8,8 @@ use Rattle.pr_options.specs.OptionNames as option
 
 -- an option with a value, and the value where it is not given
 abbrev pub value_rule : ValueOption → Rule
-value_rule o = record (new_rule o.name) { long = Some o.name; value_names = 1; defaults = o.default ∷ [] }
+value_rule o =
+    record (new_rule o.name) { long = Some o.name; value_names = 1; defaults = o.default ∷ [] }
 
 -- an option without a value
 abbrev pub flag_rule : Text → Rule
@@ -21,16 +22,19 @@ subcommand name rules = record (new_shape name) { rules = rules }
 -- a subcommand that runs a script, and the formats of what it writes
 abbrev pub run_shape : Text → ValueOption → Shape
 run_shape name formats =
-    subcommand name (value_rule option.present ∷ value_rule option.delays ∷ value_rule option.status ∷ value_rule formats ∷ flag_rule option.explain ∷ [])
+    subcommand name (value_rule option.present ∷ value_rule option.delays ∷ value_rule option.status
+    ∷ value_rule formats ∷ flag_rule option.explain ∷ [])
 
 -- a subcommand that reads a trace or a recording, and the formats of what it writes
 abbrev pub trace_shape : Text → ValueOption → Shape
-trace_shape name formats = subcommand name
-    (value_rule option.from ∷ value_rule option.names ∷ flag_rule option.invert ∷ value_rule option.from_time ∷ value_rule formats ∷ flag_rule option.explain ∷ [])
+trace_shape name formats =
+    subcommand name (value_rule option.from ∷ value_rule option.names ∷ flag_rule option.invert
+    ∷ value_rule option.from_time ∷ value_rule formats ∷ flag_rule option.explain ∷ [])
 
 -- the subcommand that writes the page of a printer's bytes
 abbrev pub raw_shape : Shape
-raw_shape = subcommand (codes "raw") (value_rule option.set ∷ value_rule option.page_as ∷ flag_rule option.explain ∷ [])
+raw_shape =
+    subcommand (codes "raw") (value_rule option.set ∷ value_rule option.page_as ∷ flag_rule option.explain ∷ [])
 
 -- the program: it has a version, and wants one of its subcommands
 abbrev pub print1525 : App
@@ -41,6 +45,7 @@ print1525 = record {
     subcommand_required = true;
     disable_help_subcommand = true;
   };
-  subs = run_shape (codes "pages") option.page_as ∷ run_shape (codes "bus") option.trace_as ∷ trace_shape (codes "check") option.report_as
-      ∷ trace_shape (codes "decode") option.reading_as ∷ raw_shape ∷ [];
+  subs = run_shape (codes "pages") option.page_as ∷ run_shape (codes "bus") option.trace_as
+      ∷ trace_shape (codes "check") option.report_as ∷ trace_shape (codes "decode") option.reading_as
+      ∷ raw_shape ∷ [];
 }

@@ -5,6 +5,7 @@ use Rattle.clap.specs.Words.{IsAmong, Row, Text, fault_of, kind_of, subcommand_o
 use Rattle.clap.specs.declared.error.kind.ErrorKind.TheVariants.{OutOfMemory}
 use Rattle.pr_serial.specs.declared.Present.{Present}
 use Rattle.pr_serial.specs.Bus.{DelayNumbers}
+use Rattle.pr_bus.specs.declared.wires.Delays.{Delays}
 use Rattle.pr_bus.specs.DelaysLeft.{numbers_left}
 use Rattle.pr_basic.specs.declared.session.StatusMode.{StatusMode}
 use Rattle.pr_render.specs.declared.format.Format.{Format}
@@ -48,13 +49,22 @@ pub data JobView : Type 0 where
 
 -- the plain values of an input
 abbrev pub input_view : TraceInput → InputView
-input_view i =
-    record { source = i.source; names = names_of_signals i.signals; is_inverted = i.signals.is_inverted; start = i.start }
+input_view i = record {
+  source = i.source;
+  names = names_of_signals i.signals;
+  is_inverted = i.signals.is_inverted;
+  start = i.start;
+}
+
+-- the plain values of how a script is run
+abbrev pub view_of_run : Present → Delays → StatusMode → RunView
+view_of_run present delays mode =
+    record { present = present; delays = numbers_left delays; mode = mode }
 
 -- the plain values of a job
 abbrev pub job_view : Job → JobView
-job_view (job.Pages present delays mode format) = Pages (record { present = present; delays = numbers_left delays; mode = mode }) format
-job_view (job.Bus present delays mode format) = Bus (record { present = present; delays = numbers_left delays; mode = mode }) format
+job_view (job.Pages present delays mode format) = Pages (view_of_run present delays mode) format
+job_view (job.Bus present delays mode format) = Bus (view_of_run present delays mode) format
 job_view (job.Check input report) = Check (input_view input) report
 job_view (job.Decode input format) = Decode (input_view input) format
 job_view (job.Raw lower format) = Raw lower format
@@ -66,7 +76,8 @@ Ok value >>= next = next value
 Err f >>= next = Err f
 
 -- the value of an option by its meaning, or the fault of a value that has none
-abbrev pub read : {A : Type 0} → ValueOption → (Text → Option A) → JobFault → List Row → Result A JobFault
+abbrev pub read : {A : Type 0} → ValueOption → (Text → Option A) → JobFault → List Row
+    → Result A JobFault
 read option meaning bad rows = ok_or (meaning (value_in option rows)) bad
 
 -- how a script is to be run
@@ -79,8 +90,8 @@ wanted_run rows =
 
 -- what goes with a recording alone is given
 abbrev pub wants_recording : List Row → Bool
-wants_recording rows =
-    is_given option.invert rows || (is_given option.names.name rows || is_given option.from_time.name rows)
+wants_recording rows = is_given option.invert rows
+    || (is_given option.names.name rows || is_given option.from_time.name rows)
 
 -- what is given goes with the source: with a text nothing of a recording
 abbrev pub fits : Source → List Row → Bool
@@ -94,27 +105,37 @@ wanted_input rows =
     read option.names names_of fault.BadNames rows >>= λ names.
     read option.from_time start_of fault.BadStart rows >>= λ start.
     if fits source rows
-    then Ok (record { source = source; names = names; is_inverted = is_given option.invert rows; start = start })
+    then Ok (record {
+      source = source;
+      names = names;
+      is_inverted = is_given option.invert rows;
+      start = start;
+    })
     else Err fault.NoRecording
 
 -- the jobs of the subcommands, each of which has a meaning of --as of its own
 abbrev pub wanted_check : InputView → List Row → Result JobView JobFault
-wanted_check input rows = read option.report_as report_of fault.BadReportAs rows >>= λ report. Ok (Check input report)
+wanted_check input rows =
+    read option.report_as report_of fault.BadReportAs rows >>= λ report. Ok (Check input report)
 
 abbrev pub wanted_decode : InputView → List Row → Result JobView JobFault
-wanted_decode input rows = read option.reading_as format_of fault.BadReadingAs rows >>= λ format. Ok (Decode input format)
+wanted_decode input rows =
+    read option.reading_as format_of fault.BadReadingAs rows >>= λ format. Ok (Decode input format)
 
 abbrev pub wanted_bus : RunView → List Row → Result JobView JobFault
-wanted_bus run rows = read option.trace_as trace_format_of fault.BadTraceAs rows >>= λ format. Ok (Bus run format)
+wanted_bus run rows =
+    read option.trace_as trace_format_of fault.BadTraceAs rows >>= λ format. Ok (Bus run format)
 
 abbrev pub wanted_raw : Bool → List Row → Result JobView JobFault
-wanted_raw lower rows = read option.page_as format_of fault.BadPageAs rows >>= λ format. Ok (Raw lower format)
+wanted_raw lower rows =
+    read option.page_as format_of fault.BadPageAs rows >>= λ format. Ok (Raw lower format)
 
 abbrev pub wanted_pages : RunView → List Row → Result JobView JobFault
-wanted_pages run rows = read option.page_as format_of fault.BadPageAs rows >>= λ format. Ok (Pages run format)
+wanted_pages run rows =
+    read option.page_as format_of fault.BadPageAs rows >>= λ format. Ok (Pages run format)
 
--- the job of a subcommand with these rows of options, or its first bad value; each value is read whichever subcommand it is, and the
--- last one is `pages`
+-- the job of a subcommand with these rows of options, or its first bad value; each value is read
+-- whichever subcommand it is, and the last one is `pages`
 abbrev pub wanted : Text → List Row → Result JobView JobFault
 wanted name rows =
     wanted_run rows >>= λ run.
@@ -130,10 +151,10 @@ wanted name rows =
 abbrev pub asked : List Text → Option (Result JobView JobFault)
 asked words = option_map (λ met. wanted met.0 met.1) (subcommand_of print1525 words)
 
--- why words ask for nothing: clap refuses them, for one of its reasons against them and never for memory; or clap takes them, and
--- this is their first bad value
+-- why words ask for nothing: clap refuses them, for one of its reasons against them and never for
+-- want of memory; or memory was refused; or clap takes them, and this is their first bad value
 abbrev pub IsRefused : List Text → JobFault → Type 0
-IsRefused words (fault.Line e) =
-    (kind_of e ≢ OutOfMemory) × (IsAmong (kind_of e) (fault_of print1525 words) × (takes print1525 words ≡ false))
+IsRefused words (fault.Line e) = (kind_of e ≢ OutOfMemory)
+    × (IsAmong (kind_of e) (fault_of print1525 words) × (takes print1525 words ≡ false))
 IsRefused words fault.NoMemory = ⊤
 IsRefused words f = (fault_of print1525 words ≡ []) × (asked words ≡ Some (Err f))

@@ -22,9 +22,10 @@ meaning_of table text = option_map (λ row. row.1) (find (λ row. bytes_eq text 
 
 -- which printers are present: none, 4, 5 or both
 abbrev pub present_of : Text → Option Present
-present_of = meaning_of (
-    (codes "none", record { four = false; five = false }) ∷ (codes "4", record { four = true; five = false })
-    ∷ (codes "5", record { four = false; five = true }) ∷ (codes "both", record { four = true; five = true }) ∷ [])
+present_of = meaning_of ((codes "none", record { four = false; five = false })
+    ∷ (codes "4", record { four = true; five = false })
+    ∷ (codes "5", record { four = false; five = true })
+    ∷ (codes "both", record { four = true; five = true }) ∷ [])
 
 -- how the status goes from statement to statement: each or kept
 abbrev pub mode_of : Text → Option StatusMode
@@ -36,7 +37,8 @@ set_of = meaning_of ((codes "upper", false) ∷ (codes "lower", true) ∷ [])
 
 -- the format of the page: list, text or svg
 abbrev pub format_of : Text → Option Format
-format_of = meaning_of ((codes "list", format.List) ∷ (codes "text", format.Lines) ∷ (codes "svg", format.Picture) ∷ [])
+format_of = meaning_of (
+    (codes "list", format.List) ∷ (codes "text", format.Lines) ∷ (codes "svg", format.Picture) ∷ [])
 
 -- the format of a run's trace: text or vcd
 abbrev pub trace_format_of : Text → Option TraceFormat
@@ -44,7 +46,8 @@ trace_format_of = meaning_of ((codes "text", trace.Text) ∷ (codes "vcd", trace
 
 -- the format of a trace that is checked: text, vcd or csv
 abbrev pub source_of : Text → Option Source
-source_of = meaning_of ((codes "text", source.Text) ∷ (codes "vcd", source.Vcd) ∷ (codes "csv", source.Csv) ∷ [])
+source_of = meaning_of (
+    (codes "text", source.Text) ∷ (codes "vcd", source.Vcd) ∷ (codes "csv", source.Csv) ∷ [])
 
 -- what is written of a trace that is checked: frames or story
 abbrev pub report_of : Text → Option Report
@@ -53,4 +56,5 @@ report_of = meaning_of ((codes "frames", report.Frames) ∷ (codes "story", repo
 -- the moment at which a trace starts, in microseconds: decimal digits that spell a number below 2^64
 abbrev pub start_of : Text → Option ℕ
 start_of text =
-    if nat_lt 0 (length text) && (list_all is_digit text && nat_lt (number_of text) (2 ^ 64)) then Some (number_of text) else None
+    if nat_lt 0 (length text) && (list_all is_digit text && nat_lt (number_of text) (2 ^ 64))
+    then Some (number_of text) else None

@@ -4,9 +4,8 @@ use Rattle.std.specs.Result.{result_map_both}
 use Rattle.clap.specs.Words.{Row, Text, kind_of}
 use Rattle.clap.specs.declared.error.Error.{Error}
 use Rattle.clap.specs.declared.error.kind.ErrorKind.TheVariants.{OutOfMemory}
-use Rattle.pr_bus.specs.DelaysLeft.{numbers_left}
 use Rattle.pr_capture.specs.declared.signals.Signals.{Signals}
-use Rattle.pr_options.specs.Jobs.{JobView, RunView, job_view, wanted}
+use Rattle.pr_options.specs.Jobs.{JobView, RunView, job_view, view_of_run, wanted}
 use Rattle.pr_options.specs.SignalNames.{Names, names_of_signals}
 use Rattle.pr_options.specs.declared.command_line.Job.{Job}
 use Rattle.pr_options.specs.declared.command_line.JobFault.{JobFault}
@@ -19,7 +18,7 @@ IsFaultIn wanted f = (f ≡ fault.NoMemory) ⊎ (wanted ≡ Err f)
 
 -- the plain values of how a script is run
 abbrev pub run_view : Run → RunView
-run_view run = record { present = run.present; delays = numbers_left run.delays; mode = run.mode }
+run_view run = view_of_run run.present run.delays run.mode
 
 -- a job in plain values, or its fault
 abbrev pub job_result : Result Job JobFault → Result JobView JobFault
