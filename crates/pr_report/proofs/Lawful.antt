@@ -1,6 +1,6 @@
 -- The intervals of a lawful trace lie within the profile's bounds.
 use Rattle.std.proofs.Common.{◌≡◌, ℕ, ◌+◌, ◌-◌, Bool, true, false, min, max, List, [], ◌∷◌, ◌++◌, length, Option, Some, None, refl, sym, ap, ◌∙◌, subst, arith}
-use Rattle.std.specs.Option.{option_to_list}
+use Rattle.std.specs.Option.{option_map, option_to_list}
 use Rattle.std.proofs.lemmas.List.{append_assoc}
 use Rattle.pr_wire.specs.Pieces.{AreClocked, AreLawful, Between, BitTimes, EoiAnswer, FrameTimes, IsFrame, IsOpened, IsPiece, IsSecond, IsWithin, Piece, SecondFrame, after_piece}
 use Rattle.pr_wire.specs.Pieces.Between.{Resting}
@@ -11,7 +11,7 @@ use Rattle.pr_decode.specs.PieceReadings.{frame_read, high_times, low_times, pie
 use Rattle.pr_decode.specs.Readings.{greatest, halves, least}
 use Rattle.pr_report.specs.declared.interval.Interval.{Interval}
 use Rattle.pr_report.specs.declared.interval.Interval.TheVariants.{Ready, FirstPull, Answer, AnswerLength, PullAfterAnswer, ShortestLow, LongestLow, ShortestHigh, LongestHigh, Acknowledgement}
-use Rattle.pr_report.specs.Intervals.{highest_of, if_answered, length_of, lowest_of, unless_answered}
+use Rattle.pr_report.specs.Intervals.{highest_of, length_of, lowest_of, unless_answered}
 use Rattle.pr_report.specs.ReadingLaws.{AreWithin, LawfulTracesAreWithin}
 use Rattle.pr_report.specs.Summary.{lengths}
 
@@ -79,7 +79,7 @@ first-within x free pull None h = (after-within free pull 1 199 h, tt)
 first-within x free pull (Some p) h = tt
 
 answer-within : (x : Bool) (free pull : ℕ) (o : Option EoiAnswer) → IsOpened x free o pull
-    → AreWithin 200 250 (option_to_list (if_answered (pulse_read o) (λ p. p.pulled - free)))
+    → AreWithin 200 250 (option_to_list (option_map (λ p. p.pulled - free) (pulse_read o)))
 answer-within x free pull None h = tt
 answer-within x free pull (Some p) h = (after-within free p.pulled 200 250 h.1, tt)
 
@@ -88,12 +88,12 @@ joined-within : (free pulled released : ℕ) → IsWithin pulled (free + 200) (f
 joined-within free pulled released a b = record { from = omega arith; to = omega arith }
 
 answer_length-within : (x : Bool) (free pull : ℕ) (o : Option EoiAnswer) → IsOpened x free o pull
-    → AreWithin 80 250 (option_to_list (if_answered (pulse_read o) (λ p. p.released - p.pulled)))
+    → AreWithin 80 250 (option_to_list (option_map (λ p. p.released - p.pulled) (pulse_read o)))
 answer_length-within x free pull None h = tt
 answer_length-within x free pull (Some p) h = (joined-within free p.pulled p.released h.1 h.2, tt)
 
 behind-within : (x : Bool) (free pull : ℕ) (o : Option EoiAnswer) → IsOpened x free o pull
-    → AreWithin 1 60 (option_to_list (if_answered (pulse_read o) (λ p. pull - p.released)))
+    → AreWithin 1 60 (option_to_list (option_map (λ p. pull - p.released) (pulse_read o)))
 behind-within x free pull None h = tt
 behind-within x free pull (Some p) h = (after-within p.released pull 1 60 h.3, tt)
 

@@ -14,7 +14,8 @@ use Rattle.pr_report.specs.declared.timed_frame.TimedFrame.{TimedFrame}
 use Rattle.pr_report.specs.StoryLaws.{TracesTellTheirMoments}
 use Rattle.pr_report.specs.PieceMoments.{frame_timed, pieces_timed}
 use Rattle.pr_report.specs.Moments.{timed_frames}
-use Rattle.pr_report.specs.StoryText.{command_text, frame_line, hex_column, is_data, line_end, moment, saying, story_line, story_lines}
+use Rattle.pr_report.specs.Numbers.{hex_column, moment}
+use Rattle.pr_report.specs.StoryText.{command_text, frame_line, is_data, line_end, saying, story_line, story_lines}
 use Rattle.pr_decode.specs.declared.reading.FrameEnd.TheVariants.{Acknowledged, Cut, Unacknowledged}
 use Rattle.pr_decode.specs.declared.reading.Reading.{Reading}
 use Rattle.pr_decode.specs.declared.reading.Reading.TheVariants.{Frame, IncompleteByte}
@@ -26,7 +27,7 @@ use Rattle.pr_report.specs.declared.reading_line.Preceding.{Preceding}
 use Rattle.pr_report.specs.declared.reading_line.Preceding.TheVariants as behind
 use Rattle.pr_report.specs.Intervals.{highest_of, intervals, length_of, lowest_of}
 use Rattle.pr_report.specs.ReadingLaws.{AreUsual, AreWithin, LawfulTracesAreTold, UsualTracesAreStories}
-use Rattle.pr_report.specs.ReadingText.{after_frame, after_reading, all_lines, is_behind_data, outside_line, outside_lines, outside_text, reading_lines, sending_of, timed_frame}
+use Rattle.pr_report.specs.ReadingText.{after_frame, after_reading, all_lines, is_behind_data, outside_line, outside_lines, outside_text, reading_lines, sending_of, story_frame}
 use Rattle.pr_report.proofs.Lawful.{frame-within}
 
 -- an interval within its bounds has no line
@@ -78,7 +79,7 @@ quiet-pieces b (p ∷ ps) h = quiet-more (piece_read p) (pieces_read ps) (quiet-
 -- the acknowledged bytes as frames of the story
 abbrev frames_told : Preceding → List Reading → List TimedFrame
 frames_told b [] = []
-frames_told b (Frame t (Acknowledged k) ∷ rs) = timed_frame b t k ∷ frames_told (after_reading b (Frame t (Acknowledged k))) rs
+frames_told b (Frame t (Acknowledged k) ∷ rs) = story_frame b t k ∷ frames_told (after_reading b (Frame t (Acknowledged k))) rs
 frames_told b (Frame t (Unacknowledged k) ∷ rs) = frames_told b rs
 frames_told b (Frame t Cut ∷ rs) = frames_told b rs
 frames_told b (IncompleteByte t end ∷ rs) = frames_told b rs
@@ -100,7 +101,7 @@ lines-told b [] h = refl
 lines-told b (Frame t (Acknowledged k) ∷ rs) h =
     let s : ByteRole = sending_of b t.opening.command t.byte in
     let next : Preceding = after_frame s t.byte in
-    let line : List ℕ = story_line (is_behind_data b) (timed_frame b t k) in
+    let line : List ℕ = story_line (is_behind_data b) (story_frame b t k) in
     let rest : all_lines next rs ≡ story_lines (is_behind_data next) (frames_told next rs) = lines-told next rs h.1 in
     ap (λ (z : List ℕ). (line ++ z) ++ all_lines next rs) h.0
     ∙ (ap (λ (z : List ℕ). z ++ all_lines next rs) (append-nil line)

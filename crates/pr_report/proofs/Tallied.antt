@@ -11,7 +11,7 @@ use Rattle.pr_report.specs.declared.interval.Interval.{Interval}
 use Rattle.pr_report.specs.declared.tally.Tally.{Tally}
 use Rattle.pr_report.specs.Intervals.{is_outside, length_of, name_of}
 use Rattle.pr_report.specs.Steps.{Adds, counted, counter_with, first_half, known_text, least_with}
-use Rattle.pr_report.specs.Summary.{figures_text, interval_line, least_of, lengths, lengths_text, middle, told_exactly, told_middle}
+use Rattle.pr_report.specs.Summary.{figures_text, interval_line, least_of, lengths, lengths_text, middle, exact_below, exact_middle}
 use Rattle.pr_report.specs.Taking.{HasTallied, Tallies, equal_to, greatest_of}
 use Rattle.pr_report.proofs.Middle.{half-found, told_below}
 use Rattle.pr_report.proofs.Sums.{below, counted-more, equal_to-few, equal_to-push, none-below, one-longer}
@@ -103,14 +103,14 @@ from-zero n = omega arith
 
 -- what a tally tells is what its lengths tell
 middle-told : (i : Interval) (ns : List ℕ) (t : Tally) → length ns < 2 ^ 64 → 0 < length ns → HasTallied i ns t
-    → first_half t.count 0 0 t.counters.items ≡ told_middle (middle ns)
+    → first_half t.count 0 0 t.counters.items ≡ exact_middle (middle ns)
 middle-told i ns t small some h =
     let none : below 0 ns ≡ 0 = none-below ns in
     let start : 0 ≡ below 0 ns = sym none in
     let few : 2 * below 0 ns < length ns = omega arith in
     let each : (k : ℕ) → k < length t.counters.items → get_or t.counters.items k 0 ≡ equal_to (0 + k) ns =
     λ k less. h.counters k (subst (λ m. k < m) h.room less) ∙ ap (λ m. equal_to m ns) (sym (from-zero k)) in
-    let room : 0 + length t.counters.items ≡ told_exactly = from-zero (length t.counters.items) ∙ h.room in
+    let room : 0 + length t.counters.items ≡ exact_below = from-zero (length t.counters.items) ∙ h.room in
     ap (λ c. first_half c 0 0 t.counters.items) h.count
     ∙ (half-found ns t.counters.items 0 0 small start few each ∙ ap (λ m. told_below m (middle ns)) room)
 
@@ -134,7 +134,7 @@ known-told i (n ∷ ns) t small h =
     let some : (t.count == 0) ≡ false = ap (λ c. c == 0) h.count ∙ some-length n ns in
     ap (λ b. if b then codes ": none" else told) some
     ∙ figures-same t.interval i t.count (length (n ∷ ns)) t.least (least n ns) (first_half t.count 0 0 t.counters.items)
-    (told_middle (middle (n ∷ ns))) t.greatest (greatest n ns) t.outside (count_by (is_outside i) (n ∷ ns)) h.interval h.count h.least
+    (exact_middle (middle (n ∷ ns))) t.greatest (greatest n ns) t.outside (count_by (is_outside i) (n ∷ ns)) h.interval h.count h.least
     (middle-told i (n ∷ ns) t small (omega arith) h) h.greatest h.outside
 
 -- the line of a tally: its name, what it tells, and the end

@@ -1,5 +1,6 @@
 pub mod Moments
 pub mod PieceMoments
+pub mod Numbers
 pub mod StoryText
 pub mod Telling
 pub mod StoryLaws

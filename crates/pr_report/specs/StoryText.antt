@@ -1,5 +1,6 @@
--- Trusted: the story of edges as text: a line for each frame that they end, and `lawful` where they are a lawful trace.
-use Rattle.std.specs.Prelude.{ℕ, ◌+◌, ◌/◌, ◌%◌, ◌==◌, ◌&&◌, Bool, true, false, nat_lt, drop, length, List, [], ◌∷◌, ◌++◌, Option, Some, None, codes, decimal, if◌then◌else◌}
+-- Trusted: the story of edges as text: a line for each frame that they end, and `lawful` where they are a
+-- lawful trace.
+use Rattle.std.specs.Prelude.{ℕ, ◌/◌, ◌%◌, ◌==◌, ◌&&◌, Bool, true, false, nat_lt, List, [], ◌∷◌, ◌++◌, Option, Some, None, codes, if◌then◌else◌}
 use Rattle.pr_base.specs.Bytes as command
 use Rattle.pr_wire.specs.declared.Edge.{Edge}
 use Rattle.pr_wire.specs.declared.WaveFault.{WaveFault}
@@ -8,31 +9,16 @@ use Rattle.pr_wire.specs.declared.bus_state.ByteRole.TheVariants.{First, Second,
 use Rattle.pr_wire.specs.Table.{fault_of}
 use Rattle.pr_report.specs.declared.timed_frame.TimedFrame.{TimedFrame}
 use Rattle.pr_report.specs.Moments.{timed_frames}
-
--- the blanks before a number of so many digits in a column of 12; before a longer number there are none
-abbrev pub blanks : (digits : ℕ) → List ℕ
-blanks digits = drop digits (codes "            ")
-
--- a moment in microseconds, in decimal at the right of a column
-abbrev pub moment : ℕ → List ℕ
-moment time = blanks (length (decimal time)) ++ decimal time
-
--- a hexadecimal digit
-abbrev pub hex_digit : ℕ → ℕ
-hex_digit n = if nat_lt n 10 then n + 48 else n + 55
-
--- a byte in hexadecimal, between two blanks on each side
-abbrev pub hex_column : ℕ → List ℕ
-hex_column byte = codes "  $" ++ hex_digit (byte / 16) ∷ hex_digit (byte % 16) ∷ codes "  "
+use Rattle.pr_report.specs.Numbers.{hex_column, moment, numbered}
 
 -- what a command says
 abbrev pub command_text : ℕ → List ℕ
 command_text byte =
     if byte == command.unlisten then codes "UNLISTEN"
-    else (if byte / 32 == 1 then codes "LISTEN " ++ decimal (byte % 32)
-    else (if byte / 16 == 6 then codes "SECOND " ++ decimal (byte % 16)
-    else (if byte / 16 == 14 then codes "CLOSE " ++ decimal (byte % 16)
-    else codes "command " ++ decimal byte)))
+    else (if byte / 32 == 1 then numbered (codes "LISTEN ") (byte % 32)
+    else (if byte / 16 == 6 then numbered (codes "SECOND ") (byte % 16)
+    else (if byte / 16 == 14 then numbered (codes "CLOSE ") (byte % 16)
+    else numbered (codes "command ") byte)))
 
 -- the name of one of the printer's control codes; other bytes have none
 abbrev pub control_name : ℕ → List ℕ
@@ -53,7 +39,7 @@ control_name byte =
 
 -- a byte by its name, or by its number where it has none
 abbrev pub name_or_number : List ℕ → ℕ → List ℕ
-name_or_number [] byte = codes "byte " ++ decimal byte
+name_or_number [] byte = numbered (codes "byte ") byte
 name_or_number (c ∷ cs) byte = c ∷ cs
 
 -- what a data byte says: a character of ASCII in apostrophes, and an apostrophe in quotation marks
@@ -76,7 +62,9 @@ line_end false = codes "\n"
 
 -- a frame's line
 unfoldable pub frame_line : TimedFrame → List ℕ
-frame_line f = moment f.look ++ codes " " ++ moment f.acknowledged ++ hex_column f.byte ++ saying f.sending f.byte ++ line_end f.eoi
+frame_line f =
+    moment f.look ++ codes " " ++ moment f.acknowledged ++ hex_column f.byte ++ saying f.sending f.byte
+    ++ line_end f.eoi
 
 -- what sets attentions apart: a word before each, and one before data bytes that follow no data byte
 abbrev pub heading : (behind_data : Bool) → ByteRole → List ℕ

@@ -1,6 +1,6 @@
--- Trusted: the summary of readings: how many there are, and of each interval how many, the least, the middle, the greatest, and how many
--- lie outside the profile's bounds.
-use Rattle.std.specs.Prelude.{ℕ, ◌*◌, nat_le, nat_lt, not, Bool, true, false, List, [], ◌∷◌, ◌++◌, length, Option, Some, None, codes, decimal, if◌then◌else◌}
+-- Trusted: the summary of readings: how many there are, and of each interval how many, the least, the
+-- middle, the greatest, and how many lie outside the profile's bounds.
+use Rattle.std.specs.Prelude.{ℕ, ◌*◌, nat_le, nat_lt, not, ◌&&◌, Bool, true, false, List, [], ◌∷◌, ◌++◌, length, Option, Some, None, codes, if◌then◌else◌}
 use Rattle.std.specs.List.{count_by, filter}
 use Rattle.std.specs.Option.{option_to_list}
 use Rattle.pr_decode.specs.declared.reading.FrameEnd.TheVariants.{Unacknowledged}
@@ -8,29 +8,27 @@ use Rattle.pr_decode.specs.declared.reading.Reading.{Reading}
 use Rattle.pr_decode.specs.declared.reading.Reading.TheVariants.{Frame, IncompleteByte}
 use Rattle.pr_decode.specs.Readings.{greatest, is_settled, least}
 use Rattle.pr_report.specs.declared.interval.Interval.{Interval}
-use Rattle.pr_report.specs.Intervals.{highest_of, intervals, is_outside, length_of, lowest_of, name_of}
+use Rattle.pr_report.specs.Intervals.{bounds_after, intervals, is_outside, length_of, name_of, transfer_of}
+use Rattle.pr_report.specs.Numbers.{numbered}
 
--- a reading is a whole byte; a command; a data byte; a whole byte that is not acknowledged; a byte begun and not ended; a byte, whole or
--- not, that the end of the recording cuts
+-- a reading is a whole byte; a command; a data byte; a whole byte that is not acknowledged; an incomplete
+-- byte; a byte, whole or not, that the end of the recording cuts
 abbrev pub is_frame : Reading → Bool
 is_frame (Frame t end) = true
 is_frame (IncompleteByte t end) = false
 
 abbrev pub is_command : Reading → Bool
-is_command (Frame t end) = t.opening.command
-is_command (IncompleteByte t end) = false
+is_command r = is_frame r && (transfer_of r).opening.command
 
-abbrev pub is_data : Reading → Bool
-is_data (Frame t end) = not t.opening.command
-is_data (IncompleteByte t end) = false
+abbrev pub is_data_byte : Reading → Bool
+is_data_byte r = is_frame r && not (transfer_of r).opening.command
 
 abbrev pub is_unacknowledged : Reading → Bool
 is_unacknowledged (Frame t (Unacknowledged k)) = true
 is_unacknowledged r = false
 
-abbrev pub is_glitch : Reading → Bool
-is_glitch (Frame t end) = false
-is_glitch (IncompleteByte t end) = true
+abbrev pub is_incomplete : Reading → Bool
+is_incomplete r = not (is_frame r)
 
 abbrev pub is_cut : Reading → Bool
 is_cut r = not (is_settled r)
@@ -57,32 +55,32 @@ least_of (n ∷ ns) = least n ns
 unfoldable pub middle : List ℕ → ℕ
 middle ns = least_of (filter (is_half ns) ns)
 
--- lengths below this are told exactly as a middle, in microseconds
-unfoldable pub told_exactly : ℕ
-told_exactly = 16384
+-- a middle below this is reported exactly, in microseconds
+unfoldable pub exact_below : ℕ
+exact_below = 16384
 
-abbrev pub told_middle : ℕ → Option ℕ
-told_middle n = if nat_lt n told_exactly then Some n else None
+abbrev pub exact_middle : ℕ → Option ℕ
+exact_middle n = if nat_lt n exact_below then Some n else None
 
 abbrev pub middle_text : Option ℕ → List ℕ
-middle_text (Some n) = codes ", middle " ++ decimal n
+middle_text (Some n) = numbered (codes ", middle ") n
 middle_text None = codes ", middle over 16383"
 
 -- how many of some lengths lie outside the profile's bounds
 abbrev pub outside_count : Interval → (outside : ℕ) → List ℕ
-outside_count i outside =
-    codes ", outside " ++ decimal (lowest_of i) ++ codes " to " ++ decimal (highest_of i) ++ codes ": " ++ decimal outside
+outside_count i outside = bounds_after (codes ", outside ") i ++ numbered (codes ": ") outside
 
--- what is told of lengths: how many they are, the least, the middle, the greatest, and how many lie outside
+-- the figures of lengths: how many they are, the least, the middle, the greatest, how many lie outside
 abbrev pub figures_text : Interval → (count low : ℕ) → (mid : Option ℕ) → (high outside : ℕ) → List ℕ
 figures_text i count low mid high outside =
-    codes ": " ++ decimal count ++ codes ", least " ++ decimal low ++ middle_text mid ++ codes ", greatest " ++ decimal high
-    ++ outside_count i outside
+    numbered (codes ": ") count ++ numbered (codes ", least ") low ++ middle_text mid
+    ++ numbered (codes ", greatest ") high ++ outside_count i outside
 
 abbrev pub lengths_text : Interval → List ℕ → List ℕ
 lengths_text i [] = codes ": none"
 lengths_text i (n ∷ ns) =
-    figures_text i (length (n ∷ ns)) (least n ns) (told_middle (middle (n ∷ ns))) (greatest n ns) (count_by (is_outside i) (n ∷ ns))
+    figures_text i (length (n ∷ ns)) (least n ns) (exact_middle (middle (n ∷ ns))) (greatest n ns)
+    (count_by (is_outside i) (n ∷ ns))
 
 -- the line of an interval
 abbrev pub interval_line : Interval → List Reading → List ℕ
@@ -94,17 +92,18 @@ interval_lines (i ∷ is) rs = interval_line i rs ++ interval_lines is rs
 
 -- the line of a count, and those of all counts
 abbrev pub count_line : List ℕ → ℕ → List ℕ
-count_line word count = word ++ decimal count ++ codes "\n"
+count_line word count = numbered word count ++ codes "\n"
 
-abbrev pub counts_text : (frames commands data_bytes unacknowledged glitches cut : ℕ) → List ℕ
-counts_text frames commands data_bytes unacknowledged glitches cut =
-    count_line (codes "frames: ") frames ++ count_line (codes "commands: ") commands ++ count_line (codes "data bytes: ") data_bytes
-    ++ count_line (codes "not acknowledged: ") unacknowledged ++ count_line (codes "glitches: ") glitches
+abbrev pub counts_text : (frames commands data_bytes unacknowledged incomplete cut : ℕ) → List ℕ
+counts_text frames commands data_bytes unacknowledged incomplete cut =
+    count_line (codes "frames: ") frames ++ count_line (codes "commands: ") commands
+    ++ count_line (codes "data bytes: ") data_bytes
+    ++ count_line (codes "not acknowledged: ") unacknowledged ++ count_line (codes "glitches: ") incomplete
     ++ count_line (codes "cut by the recording's end: ") cut
 
 -- the summary of readings
 unfoldable pub summary : List Reading → List ℕ
 summary rs =
-    counts_text (count_by is_frame rs) (count_by is_command rs) (count_by is_data rs) (count_by is_unacknowledged rs)
-    (count_by is_glitch rs) (count_by is_cut rs)
+    counts_text (count_by is_frame rs) (count_by is_command rs) (count_by is_data_byte rs)
+    (count_by is_unacknowledged rs) (count_by is_incomplete rs) (count_by is_cut rs)
     ++ interval_lines intervals rs

@@ -10,7 +10,7 @@ use Rattle.pr_report.specs.declared.counts.Counts.{Counts}
 use Rattle.pr_report.specs.declared.survey.Survey.{Survey}
 use Rattle.pr_report.specs.declared.tally.Tally.{Tally}
 use Rattle.pr_report.specs.Intervals.{is_outside}
-use Rattle.pr_report.specs.Summary.{is_command, is_cut, is_data, is_frame, is_glitch, is_unacknowledged, least_of, lengths, told_exactly}
+use Rattle.pr_report.specs.Summary.{is_command, is_cut, is_data_byte, is_frame, is_incomplete, is_unacknowledged, least_of, lengths, exact_below}
 
 -- the greatest of some lengths, 0 of none
 abbrev pub greatest_of : List ℕ → ℕ
@@ -28,8 +28,8 @@ pub record HasTallied (i : Interval) (ns : List ℕ) (t : Tally) : Type 0 where
   pub least : t.least ≡ least_of ns
   pub greatest : t.greatest ≡ greatest_of ns
   pub outside : t.outside ≡ count_by (is_outside i) ns
-  pub room : length t.counters.items ≡ told_exactly
-  pub counters : (n : ℕ) → n < told_exactly → get_or t.counters.items n 0 ≡ equal_to n ns
+  pub room : length t.counters.items ≡ exact_below
+  pub counters : (n : ℕ) → n < exact_below → get_or t.counters.items n 0 ≡ equal_to n ns
 
 -- a tally of an interval in readings
 abbrev pub Tallies : Interval → List Reading → Tally → Type 0
@@ -38,9 +38,9 @@ Tallies i rs t = HasTallied i (lengths i rs) t
 pub record HasCounted (rs : List Reading) (c : Counts) : Type 0 where
   pub frames : c.frames ≡ count_by is_frame rs
   pub commands : c.commands ≡ count_by is_command rs
-  pub data_bytes : c.data_bytes ≡ count_by is_data rs
+  pub data_bytes : c.data_bytes ≡ count_by is_data_byte rs
   pub unacknowledged : c.unacknowledged ≡ count_by is_unacknowledged rs
-  pub glitches : c.glitches ≡ count_by is_glitch rs
+  pub incomplete : c.incomplete ≡ count_by is_incomplete rs
   pub cut : c.cut ≡ count_by is_cut rs
 
 -- how many readings a survey has taken

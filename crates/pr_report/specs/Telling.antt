@@ -1,5 +1,5 @@
--- Linking words: which edges a storyteller has taken, and which frames it has given. The clauses of `FrameTimer` say all that
--- a caller needs of them. No reader needs to believe them.
+-- Linking words: which edges a timer has taken, and which frames it has given. The clauses of `FrameTimer`
+-- say all that a caller needs of them. No reader needs to believe them.
 use Rattle.std.specs.Prelude.{◌≡◌, ℕ, ◌+◌, Bool, List, [], ◌∷◌, ◌++◌, Option, Some, None, Result, Ok, Err, MatchResult, if◌then◌else◌}
 use Rattle.pr_wire.specs.declared.Edge.{Edge}
 use Rattle.pr_wire.specs.declared.Frame.{Frame}
@@ -14,17 +14,17 @@ use Rattle.pr_report.specs.declared.frame_timer.FrameTimer.{FrameTimer}
 use Rattle.pr_report.specs.StoryText.{is_data, story_line}
 use Rattle.pr_report.specs.Moments.{look_with, timed_frames, timed_from, with_moments}
 
--- how many edges a storyteller has taken
+-- how many edges a timer has taken
 abbrev pub number_taken : FrameTimer → ℕ
 number_taken s = s.taken
 
--- the frames that edges end behind the last edge, if there is one
+-- the frames that edges end after the last edge, if there is one
 abbrev pub timed_behind : (look : ℕ) → (last : Option Edge) → BusState → List Edge → List TimedFrame
 timed_behind look (Some last) p es = timed_from look last p es
 timed_behind look None p [] = []
 timed_behind look None p (e ∷ es) = if is_start e then timed_from look e (Idle 0) es else []
 
--- a storyteller behind an edge that comes to a step
+-- a timer after an edge that comes to a step
 abbrev pub onward : FrameTimer → Edge → Step → FrameTimer
 onward s e step = record { taken = s.taken + 1; last = Some e; place = step.place; look = look_with s.look step.place }
 

@@ -3,10 +3,10 @@
 ghost use Rattle.std.specs.Prelude.{◌≡◌, ◌+◌, ◌^◌, ◌<◌, ◌++◌, ◌∷◌, [], List, length, OnOk};
 ghost use Rattle.pr_decode.specs.declared.reading.Reading.{Reading};
 ghost use Rattle.pr_report.specs.Steps.{counted};
-ghost use Rattle.pr_report.specs.Summary.{count_line, counts_text, is_command, is_cut, is_data, is_frame, is_glitch, is_unacknowledged};
+ghost use Rattle.pr_report.specs.Summary.{count_line, counts_text, is_command, is_cut, is_data_byte, is_frame, is_incomplete, is_unacknowledged};
 ghost use Rattle.pr_report.specs.Taking.{HasCounted};
 
-use crate::adding::push_numbered;
+use crate::numbers::push_numbered;
 use pr_decode::{FrameEnd, IncompleteEnd, Reading};
 use pr_wire::NoMemory;
 
@@ -38,8 +38,8 @@ fn is_command(reading: &Reading) -> bool
 }
 
 /// Whether a reading is a data byte.
-fn is_data(reading: &Reading) -> bool
-    ensures { result ≡ is_data reading.now }
+fn is_data_byte(reading: &Reading) -> bool
+    ensures { result ≡ is_data_byte reading.now }
 {
     match reading {
         Reading::Frame(transfer, _) => !transfer.opening.command,
@@ -60,8 +60,8 @@ fn is_unacknowledged(reading: &Reading) -> bool
 }
 
 /// Whether a reading is a byte begun and not ended.
-fn is_glitch(reading: &Reading) -> bool
-    ensures { result ≡ is_glitch reading.now }
+fn is_incomplete(reading: &Reading) -> bool
+    ensures { result ≡ is_incomplete reading.now }
 {
     match reading {
         Reading::Frame(_, _) => false,
@@ -94,7 +94,7 @@ pub(crate) struct Counts {
     commands: u64,
     data_bytes: u64,
     unacknowledged: u64,
-    glitches: u64,
+    incomplete: u64,
     cut: u64,
 }
 
@@ -108,7 +108,7 @@ impl Counts {
             commands: 0,
             data_bytes: 0,
             unacknowledged: 0,
-            glitches: 0,
+            incomplete: 0,
             cut: 0,
         }
     }
@@ -120,16 +120,16 @@ impl Counts {
     {
         let frames = counted(self.frames, is_frame(reading));
         let commands = counted(self.commands, is_command(reading));
-        let data_bytes = counted(self.data_bytes, is_data(reading));
+        let data_bytes = counted(self.data_bytes, is_data_byte(reading));
         let unacknowledged = counted(self.unacknowledged, is_unacknowledged(reading));
-        let glitches = counted(self.glitches, is_glitch(reading));
+        let incomplete = counted(self.incomplete, is_incomplete(reading));
         let cut = counted(self.cut, is_cut(reading));
         Counts {
             frames,
             commands,
             data_bytes,
             unacknowledged,
-            glitches,
+            incomplete,
             cut,
         }
     }
@@ -137,13 +137,13 @@ impl Counts {
     /// Adds the lines of the counts.
     pub fn push_lines(self, text: &mut Vec<u8>) -> Result<(), NoMemory>
         ensures { OnOk result (text.new.items ≡ text.old.items
-            ++ counts_text self.frames self.commands self.data_bytes self.unacknowledged self.glitches self.cut) }
+            ++ counts_text self.frames self.commands self.data_bytes self.unacknowledged self.incomplete self.cut) }
     {
         push_count(text, b"frames: ", self.frames)?;
         push_count(text, b"commands: ", self.commands)?;
         push_count(text, b"data bytes: ", self.data_bytes)?;
         push_count(text, b"not acknowledged: ", self.unacknowledged)?;
-        push_count(text, b"glitches: ", self.glitches)?;
+        push_count(text, b"glitches: ", self.incomplete)?;
         push_count(text, b"cut by the recording's end: ", self.cut)?;
         Ok(())
     }

@@ -24,14 +24,14 @@ pub struct FrameTimer {
     taken: usize,
     /// The last of them.
     last: Option<Edge>,
-    /// The place that they have reached.
+    /// The state of the bus that they have reached.
     place: BusState,
     /// The moment of the last look; 0 before the first.
     look: u64,
 }
 
 impl FrameTimer {
-    /// A storyteller that has taken no edge. It takes no memory.
+    /// A timer that has taken no edge. It takes no memory.
     pub fn new() -> FrameTimer
         ensures told { HasTold [] [] result }
         ensures count { number_taken result ≡ 0 }
@@ -44,8 +44,7 @@ impl FrameTimer {
         }
     }
 
-    /// Goes on to the place that an edge reaches behind those taken, and gives the frame that it
-    /// ends.
+    /// Goes on to the state that the next edge reaches, and gives the frame that it ends.
     fn go_on(&mut self, edge: Edge) -> Result<Option<Frame>, WaveFault>
         ensures moved { MatchResult (step_of self.old.last self.old.place self.old.taken edge)
             (λ s. (result ≡ Ok s.frame) × (self.new ≡ record self.old { place = s.place }))
@@ -65,7 +64,7 @@ impl FrameTimer {
         }
     }
 
-    /// Notes the place reached where it is a look, and gives the frame, if there is one, with the
+    /// Notes the state reached where it is a look, and gives the frame, if there is one, with the
     /// moments of its look and of its acknowledgement there.
     fn note(&mut self, frame: Option<Frame>) -> Option<TimedFrame>
         ensures frame { result ≡ with_moments self.old.look frame self.old.place }
@@ -106,8 +105,7 @@ impl FrameTimer {
     /// # Errors
     ///
     /// The first fault, where the edges taken and this one are not allowed; never
-    /// [`WaveFault::NoMemory`]. The storyteller is then as it was, and no edge behind this one adds
-    /// to the story.
+    /// [`WaveFault::NoMemory`]. The timer is then as it was, and no edge after this one adds a frame.
     #[inline(always)]
     pub fn take(&mut self, edge: Edge) -> Result<Option<TimedFrame>, WaveFault>
         requires room { number_taken self.old + 1 < 2 ^ 64 }
@@ -133,7 +131,7 @@ impl FrameTimer {
     /// # Errors
     ///
     /// [`WaveFault::Start`] where no edge was taken, and [`WaveFault::Truncated`] with the number of
-    /// edges where a trace may not end behind them.
+    /// edges where a trace may not end after them.
     pub fn finish(&self) -> Result<(), WaveFault>
         ensures told { (edges : List Edge) (given : List TimedFrame) → HasTold edges given self.now → timed_frames edges ≡ given }
         ensures fault { (edges : List Edge) (given : List TimedFrame) → HasTold edges given self.now → result_err result ≡ fault_of edges }

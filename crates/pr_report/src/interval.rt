@@ -1,11 +1,13 @@
 //! The intervals of a byte on the bus, each with its name and with the delay of the profile that bounds
 //! it (the Programmer's Reference Guide's timing of the serial bus). All are in microseconds.
 
-ghost use Rattle.std.specs.Prelude.{◌≡◌, ◌-◌};
-ghost use Rattle.pr_report.specs.Intervals.{acknowledgement_in, highest_of, if_answered, if_bits, is_outside, kind_of, length_of, lowest_of, name_of, transfer_of, unless_answered};
+ghost use Rattle.std.specs.Prelude.{◌≡◌, ◌-◌, ◌++◌, OnOk};
+ghost use Rattle.std.specs.Option.{option_map};
+ghost use Rattle.pr_report.specs.Intervals.{acknowledgement_in, bounds_after, highest_of, if_bits, is_outside, kind_of, length_of, longest_answer, lowest_of, name_of, transfer_of, unless_answered};
 
+use crate::numbers::push_numbered;
 use pr_decode::{FrameEnd, Reading, Transfer};
-use pr_wire::{Kind, bounds};
+use pr_wire::{Kind, NoMemory, bounds};
 
 /// An interval of a byte on the bus.
 #[derive(Clone, Copy, Debug)]
@@ -16,8 +18,8 @@ pub enum Interval {
     FirstPull,
     /// Ready to DATA's pull, the answer to end-or-identify.
     Answer,
-    /// The length of the answer. A reading does not tell how many listeners answer, and the pulls of two
-    /// join: so it may last [`LONGEST_ANSWER`].
+    /// The length of the answer. A reading does not say how many listeners answer, and the pulls of two
+    /// join: [`Interval::highest`] allows for two.
     AnswerLength,
     /// The end of the answer to CLOCK's first pull.
     PullAfterAnswer,
@@ -33,7 +35,7 @@ pub enum Interval {
     Acknowledgement,
 }
 
-/// All intervals, in the order in which they are told.
+/// All intervals, in the order of their lines.
 pub const INTERVALS: [Interval; 10] = [
     Interval::Ready,
     Interval::FirstPull,
@@ -48,11 +50,16 @@ pub const INTERVALS: [Interval; 10] = [
 ];
 
 /// How long DATA is pulled at most in answer to end-or-identify: two listeners pull it as one, of which the
-/// first begins 200 microseconds behind ready at the earliest, and the second 250 at the latest and pulls
-/// for 200 at most.
-const LONGEST_ANSWER: u64 = 250;
+/// first begins as early as the profile has it, and the second ends as late.
+fn longest_answer() -> u64
+    ensures { result ≡ longest_answer }
+{
+    let (earliest, _, latest) = bounds(Kind::Ye);
+    let (_, _, greatest) = bounds(Kind::Ei);
+    latest as u64 + greatest as u64 - earliest as u64
+}
 
-/// The byte that a reading tells, as far as it came.
+/// The byte of a reading, as far as it came.
 pub(crate) fn transfer_of(reading: &Reading) -> Transfer
     ensures { result ≡ transfer_of reading.now }
 {
@@ -93,7 +100,7 @@ fn first_pull(byte: Transfer) -> Option<u64>
 
 /// Ready to DATA's pull, with end-or-identify.
 fn answer(byte: Transfer) -> Option<u64>
-    ensures { result ≡ if_answered byte.opening.pulse (λ p. p.pulled - byte.opening.ready) }
+    ensures { result ≡ option_map (λ p. p.pulled - byte.opening.ready) byte.opening.pulse }
 {
     match byte.opening.pulse {
         None => None,
@@ -103,7 +110,7 @@ fn answer(byte: Transfer) -> Option<u64>
 
 /// How long DATA is pulled, with end-or-identify.
 fn answer_length(byte: Transfer) -> Option<u64>
-    ensures { result ≡ if_answered byte.opening.pulse (λ p. p.released - p.pulled) }
+    ensures { result ≡ option_map (λ p. p.released - p.pulled) byte.opening.pulse }
 {
     match byte.opening.pulse {
         None => None,
@@ -113,7 +120,7 @@ fn answer_length(byte: Transfer) -> Option<u64>
 
 /// DATA's release to CLOCK's first pull, with end-or-identify.
 fn pull_after_answer(byte: Transfer) -> Option<u64>
-    ensures { result ≡ if_answered byte.opening.pulse (λ p. byte.pull - p.released) }
+    ensures { result ≡ option_map (λ p. byte.pull - p.released) byte.opening.pulse }
 {
     match byte.opening.pulse {
         None => None,
@@ -164,16 +171,24 @@ impl Interval {
         least as u64
     }
 
-    /// Its greatest length by the profile, in microseconds: that of the delay that bounds it, but 250 for
-    /// the length of an answer, since those of two listeners join.
+    /// Its greatest length by the profile, in microseconds: that of the delay that bounds it, but for the
+    /// length of an answer that of two listeners' answers, since these join.
     pub fn highest(self) -> u64
         ensures { result ≡ highest_of self }
     {
         let (_, _, greatest) = bounds(self.kind());
         match self {
-            Interval::AnswerLength => LONGEST_ANSWER,
+            Interval::AnswerLength => longest_answer(),
             _ => greatest as u64,
         }
+    }
+
+    /// Adds a word, and after it the profile's bounds.
+    pub fn push_bounds(self, text: &mut Vec<u8>, word: &[u8]) -> Result<(), NoMemory>
+        ensures { OnOk result (text.new.items ≡ text.old.items ++ bounds_after word.now self) }
+    {
+        push_numbered(text, word, self.lowest())?;
+        push_numbered(text, b" to ", self.highest())
     }
 
     /// Whether a length in microseconds lies outside the profile's bounds.

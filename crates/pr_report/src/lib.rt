@@ -1,17 +1,31 @@
-//! What frames and readings say, as text: the story of a trace, and the lines, survey and verdict of a recording.
+//! What frames and readings say, as text: the story of a trace, and the lines, summary and verdict of a
+//! recording.
 //!
 //! The headlines are on [`push_story`], whose text `specs/StoryText.antt` defines for any edges; on
 //! [`push_reading`], whose text `specs/ReadingText.antt` defines reading by reading; and on
 //! [`Survey::push_summary`], whose text `specs/Summary.antt` defines over the whole list of the readings
-//! taken. [`FrameTimer`] gives the frames of a trace with their moments edge by edge. Nothing that is kept
-//! grows with the recording, but the texts.
+//! taken. Only the texts grow with the recording.
+//!
+//! - `numbers` is the one place that adds numbers to a text.
+//! - [`FrameTimer`] gives the frames of a trace with their moments, edge by edge and without memory. It
+//!   keeps no history: `HasTold` says that, whatever edges follow, all frames are those given and those still
+//!   to come. A timer that refuses an edge is as it was.
+//! - `story_line` writes the line of an acknowledged byte, in a story and in a recording's report; `story` the
+//!   story of a whole list of edges; `reading_line` the other lines of a recording.
+//! - `interval` has the intervals of a byte, with their names, and their bounds from pr_wire's one table.
+//! - `tally` keeps one interval, with a counter for each length below 16384 microseconds, so that neither
+//!   memory nor the time for a reading grows with the recording; `counts` how many readings of each kind
+//!   there are; `survey` has both, with the relation `HasTaken` in its contracts.
+//! - `proofs/Tallied.antt` takes a tally from a list of lengths to the longer one, and `Middle.antt` ties the
+//!   first counter at which half of the lengths are reached to the middle. `Lawful.antt` and `Stories.antt` go
+//!   over the pieces of lawful traces, for the laws in `laws`.
 #![tactic(auto)]
 
-mod adding;
 mod counts;
 mod frame_timer;
 mod interval;
 mod laws;
+mod numbers;
 mod reading_line;
 mod report;
 mod story;

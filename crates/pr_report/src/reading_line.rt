@@ -1,20 +1,20 @@
-//! The lines of a reading. Their form is this project's own choice (profile); that of an acknowledged byte
-//! is the story's.
+//! The lines of a reading. Their form is this project's own choice (profile); an acknowledged byte has the
+//! line that it has in a story.
 
 ghost use Rattle.std.specs.Prelude.{◌≡◌, ◌++◌, OnOk};
 ghost use Rattle.pr_report.specs.Intervals.{length_of};
-ghost use Rattle.pr_report.specs.ReadingText.{after_frame, after_reading, byte_place, byte_word, cut_end, frame_text, glitch_end_text, glitch_place, is_behind_data, line_of, moment_end, outside_line, outside_lines, outside_text, reading_lines, sending_of, timed_frame};
+ghost use Rattle.pr_report.specs.ReadingText.{after_frame, after_reading, byte_place, byte_word, cut_end, frame_text, incomplete_end, incomplete_place, is_behind_data, line_of, moment_end, outside_line, outside_lines, outside_text, reading_lines, sending_of, story_frame};
 
-use crate::adding::push_numbered;
 use crate::interval::{INTERVALS, Interval};
+use crate::numbers::push_numbered;
 use crate::story_line::push_story_line;
 use crate::timed_frame::TimedFrame;
 use pr_base::{SECONDARY, UNLISTEN};
 use pr_decode::{FrameEnd, IncompleteEnd, Reading, Transfer};
 use pr_wire::{ByteRole, NoMemory};
 
-/// What stands before a reading, of the acknowledged bytes: it decides whether a command begins an
-/// attention, and whether a line of data bytes goes on.
+/// The last acknowledged byte before a reading. It decides whether a command begins an attention, and
+/// whether a data byte needs a heading.
 #[derive(Clone, Copy, Debug, PartialEq, Eq)]
 pub enum Preceding {
     /// Nothing, UNLISTEN, or an attention's second command: the next command begins an attention.
@@ -26,8 +26,7 @@ pub enum Preceding {
 }
 
 impl Preceding {
-    /// What stands behind a reading that has this before it. A byte that is not acknowledged changes
-    /// nothing.
+    /// What comes before the next reading. A byte that is not acknowledged changes nothing.
     pub fn after(self, reading: &Reading) -> Preceding
         ensures { result ≡ after_reading self reading.now }
     {
@@ -59,7 +58,7 @@ impl Preceding {
         }
     }
 
-    /// Whether a data byte stands before.
+    /// Whether a data byte comes before.
     fn is_data(self) -> bool
         ensures { result ≡ is_behind_data self }
     {
@@ -71,7 +70,7 @@ impl Preceding {
 
     /// An acknowledged byte as a frame of the story.
     fn frame(self, transfer: Transfer, acknowledged: u64) -> TimedFrame
-        ensures { result ≡ timed_frame self transfer acknowledged }
+        ensures { result ≡ story_frame self transfer acknowledged }
     {
         TimedFrame {
             look: transfer.opening.look,
@@ -83,7 +82,7 @@ impl Preceding {
     }
 }
 
-/// What stands behind an acknowledged byte.
+/// What comes before the byte after an acknowledged one.
 fn after_frame(sending: ByteRole, byte: u8) -> Preceding
     ensures { result ≡ after_frame sending byte }
 {
@@ -107,7 +106,7 @@ fn byte_word(command: bool) -> &'static [u8]
     if command { b"command " } else { b"byte " }
 }
 
-/// Adds what a byte is that is not acknowledged, and its look.
+/// Adds what an unacknowledged byte is, and its look.
 fn push_byte_place(text: &mut Vec<u8>, transfer: Transfer) -> Result<(), NoMemory>
     ensures { OnOk result (text.new.items ≡ text.old.items ++ byte_place transfer) }
 {
@@ -117,9 +116,9 @@ fn push_byte_place(text: &mut Vec<u8>, transfer: Transfer) -> Result<(), NoMemor
     text.extend_from_slice(b" us")
 }
 
-/// Adds where a byte was begun and not ended, and how many bits came.
-fn push_glitch_place(text: &mut Vec<u8>, transfer: Transfer) -> Result<(), NoMemory>
-    ensures { OnOk result (text.new.items ≡ text.old.items ++ glitch_place transfer) }
+/// Adds the look of an incomplete byte, and how many bits came.
+fn push_incomplete_place(text: &mut Vec<u8>, transfer: Transfer) -> Result<(), NoMemory>
+    ensures { OnOk result (text.new.items ≡ text.old.items ++ incomplete_place transfer) }
 {
     push_numbered(text, b"glitch at ", transfer.opening.look)?;
     push_numbered(text, b" us, bits ", transfer.bits as u64)
@@ -166,9 +165,9 @@ fn push_frame(
     }
 }
 
-/// Adds what ended a byte too soon.
-fn push_glitch_end(text: &mut Vec<u8>, end: IncompleteEnd) -> Result<(), NoMemory>
-    ensures { OnOk result (text.new.items ≡ text.old.items ++ glitch_end_text end) }
+/// Adds what ends an incomplete byte.
+fn push_incomplete_end(text: &mut Vec<u8>, end: IncompleteEnd) -> Result<(), NoMemory>
+    ensures { OnOk result (text.new.items ≡ text.old.items ++ incomplete_end end) }
 {
     match end {
         IncompleteEnd::Attention(time) => push_moment_end(text, b", ended by ATN at ", time),
@@ -188,8 +187,8 @@ fn push_line(text: &mut Vec<u8>, behind: Preceding, reading: &Reading) -> Result
     match reading {
         Reading::Frame(transfer, end) => push_frame(text, behind, *transfer, *end),
         Reading::IncompleteByte(transfer, end) => {
-            push_glitch_place(text, *transfer)?;
-            push_glitch_end(text, *end)
+            push_incomplete_place(text, *transfer)?;
+            push_incomplete_end(text, *end)
         }
     }
 }
@@ -201,8 +200,7 @@ fn push_outside(text: &mut Vec<u8>, interval: Interval, length: u64) -> Result<(
     text.extend_from_slice(b"    ")?;
     text.extend_from_slice(interval.name())?;
     push_numbered(text, b" ", length)?;
-    push_numbered(text, b" us, the profile has ", interval.lowest())?;
-    push_numbered(text, b" to ", interval.highest())?;
+    interval.push_bounds(text, b" us, the profile has ")?;
     text.extend_from_slice(b"\n")?;
     Ok(())
 }
@@ -239,11 +237,11 @@ fn push_all_outside(
     Ok(())
 }
 
-/// Adds the lines of a reading. An acknowledged byte has the story's line: the moments of its look and of
-/// its acknowledgement in microseconds, the byte in hexadecimal and what it says. A byte that is not
-/// acknowledged, and a byte begun and not ended, have lines of their own, which tell the look and what
-/// ended them, and when. Below stands a line for each interval that lies outside the profile's bounds, with its
-/// length and these bounds. `behind` tells what stands before; [`Preceding::after`] tells it of the next.
+/// Adds the lines of a reading. An acknowledged byte has the line that it has in a story: the moments of its
+/// look and of its acknowledgement in microseconds, the byte in hexadecimal and what it says. An
+/// unacknowledged byte and an incomplete one have lines of their own, with the look, and what ended them and
+/// when. A line follows for each interval that lies outside the profile's bounds, with its length and these
+/// bounds. `behind` is what comes before; [`Preceding::after`] gives it for the next reading.
 ///
 /// # Errors
 ///

@@ -10,7 +10,7 @@ use crate::story_line::{is_data, push_story_line};
 use crate::timed_frame::TimedFrame;
 use pr_wire::{Edge, NoMemory, WaveFault, allowed_traces};
 
-/// Adds the lines of the frame that an edge ends, if it ends one, and tells whether the last frame is
+/// Adds the lines of the frame that an edge ends, if it ends one, and returns whether the last frame is
 /// then a data byte.
 #[inline(always)]
 fn push_if_some(
@@ -31,8 +31,8 @@ fn push_if_some(
 }
 
 /// Adds the story of edges to a text: a line for each frame that they end, in order, and `lawful`
-/// where they are a lawful trace. Where they are not, it gives their first fault; the frames before
-/// it are told all the same.
+/// where they are a lawful trace. Where they are not, it returns their first fault; the frames before
+/// it have their lines all the same.
 ///
 /// # Errors
 ///

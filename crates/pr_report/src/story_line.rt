@@ -1,74 +1,28 @@
 //! The lines of a story. All of their form is this project's own choice (profile).
 
-ghost use Rattle.std.specs.Prelude.{◌≡◌, ◌++◌, ◌<◌, decimal, OnOk};
-ghost use Rattle.pr_report.specs.StoryText.{blanks, command_text, control_name, data_text, frame_line, heading, hex_column, hex_digit, is_data, line_end, moment, saying, story_line};
+ghost use Rattle.std.specs.Prelude.{◌≡◌, ◌++◌, OnOk};
+ghost use Rattle.pr_report.specs.StoryText.{command_text, control_name, data_text, frame_line, heading, is_data, line_end, saying, story_line};
 
+use crate::numbers::{push_hex, push_moment, push_numbered};
 use crate::timed_frame::TimedFrame;
-use itoa::Buffer;
 use pr_base::UNLISTEN;
 use pr_wire::{ByteRole, NoMemory};
-
-/// Adds a number in decimal behind a word.
-fn push_numbered(text: &mut Vec<u8>, word: &[u8], number: u8) -> Result<(), NoMemory>
-    ensures { OnOk result (text.new.items ≡ text.old.items ++ (word.now ++ decimal number)) }
-{
-    let mut buffer = Buffer::new();
-    text.extend_from_slice(word)?;
-    text.extend_from_slice(buffer.format(number).as_bytes())
-}
-
-/// The blanks before a number of so many digits in a column.
-fn blanks(digits: usize) -> &'static [u8]
-    ensures { result.now ≡ blanks digits }
-{
-    let column: &'static [u8] = b"            ";
-    if digits < column.len() {
-        &column[digits..]
-    } else {
-        b""
-    }
-}
-
-/// Adds a moment, in microseconds, at the right of a column.
-fn push_moment(text: &mut Vec<u8>, time: u64) -> Result<(), NoMemory>
-    ensures { OnOk result (text.new.items ≡ text.old.items ++ moment time) }
-{
-    let mut buffer = Buffer::new();
-    let digits = buffer.format(time).as_bytes();
-    text.extend_from_slice(blanks(digits.len()))?;
-    text.extend_from_slice(digits)
-}
-
-/// A hexadecimal digit.
-fn hex_digit(n: u8) -> u8
-    requires { n < 16 }
-    ensures { result ≡ hex_digit n }
-{
-    if n < 10 { n + b'0' } else { n + 55 }
-}
-
-/// Adds a byte in hexadecimal, between two blanks on each side.
-fn push_hex(text: &mut Vec<u8>, byte: u8) -> Result<(), NoMemory>
-    ensures { OnOk result (text.new.items ≡ text.old.items ++ hex_column byte) }
-{
-    let (high, low) = (hex_digit(byte / 16), hex_digit(byte % 16));
-    text.extend_from_slice(&[b' ', b' ', b'$', high, low, b' ', b' '])
-}
 
 /// Adds what a command says.
 fn push_command(text: &mut Vec<u8>, byte: u8) -> Result<(), NoMemory>
     ensures { OnOk result (text.new.items ≡ text.old.items ++ command_text byte) }
 {
+    let number = byte as u64;
     if byte == UNLISTEN {
         text.extend_from_slice(b"UNLISTEN")
     } else if byte / 32 == 1 {
-        push_numbered(text, b"LISTEN ", byte % 32)
+        push_numbered(text, b"LISTEN ", number % 32)
     } else if byte / 16 == 6 {
-        push_numbered(text, b"SECOND ", byte % 16)
+        push_numbered(text, b"SECOND ", number % 16)
     } else if byte / 16 == 14 {
-        push_numbered(text, b"CLOSE ", byte % 16)
+        push_numbered(text, b"CLOSE ", number % 16)
     } else {
-        push_numbered(text, b"command ", byte)
+        push_numbered(text, b"command ", number)
     }
 }
 
@@ -105,7 +59,7 @@ fn push_data(text: &mut Vec<u8>, byte: u8) -> Result<(), NoMemory>
     }
     let name = control_name(byte);
     if name.is_empty() {
-        push_numbered(text, b"byte ", byte)
+        push_numbered(text, b"byte ", byte as u64)
     } else {
         text.extend_from_slice(name)
     }
@@ -128,7 +82,7 @@ fn line_end(eoi: bool) -> &'static [u8]
     if eoi { b", end-or-identify\n" } else { b"\n" }
 }
 
-/// The word before a frame that begins an attention, or data bytes.
+/// The line before a frame that begins an attention, or data bytes.
 fn heading(behind_data: bool, sending: ByteRole) -> &'static [u8]
     ensures { result.now ≡ heading behind_data sending }
 {
@@ -164,9 +118,9 @@ fn push_frame(text: &mut Vec<u8>, frame: TimedFrame) -> Result<(), NoMemory>
 }
 
 /// Adds a frame's line of the story: the moments of its look and of its acknowledgement in
-/// microseconds, its byte in hexadecimal, what it says, and end-or-identify. `behind_data` tells
-/// whether the frame before it is a data byte; before an attention, and before data bytes behind
-/// another frame or none, stands a line with a word.
+/// microseconds, its byte in hexadecimal, what it says, and end-or-identify. `behind_data` is
+/// whether the frame before it is a data byte. A line `attention` comes before each attention, and a
+/// line `data` before a data byte that follows no data byte.
 ///
 /// # Errors
 ///

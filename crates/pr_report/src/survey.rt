@@ -14,10 +14,10 @@ use pr_decode::Reading;
 use pr_wire::NoMemory;
 use std::alloc::Global;
 
-/// A survey of the readings of a recording. It keeps none of them: what it needs, 1.3 megabytes, it takes
-/// at first, however long the recording is.
+/// A survey of the readings of a recording. It keeps none of them: it takes its 1.3 megabytes of memory when
+/// it is made, however long the recording is.
 ///
-/// Its contracts say "these readings were taken"; every call answers by all lists of which that can be
+/// Its contracts say "these readings were taken", and hold for all lists of readings of which that can be
 /// said.
 #[derive(Drop)]
 pub struct Survey {
@@ -103,7 +103,7 @@ impl Survey {
     /// Adds the summary of the readings taken: a line for each count, and one for each interval with how
     /// many readings have it, its least, middle and greatest length in microseconds, and how many lie
     /// outside the profile's bounds. The middle is the least length that at least half of them do not
-    /// exceed; from 16384 microseconds on it is told as `over 16383`.
+    /// exceed; from 16384 microseconds on it is written as `over 16383`.
     ///
     /// # Errors
     ///

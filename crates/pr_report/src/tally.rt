@@ -8,9 +8,9 @@ ghost use Rattle.pr_report.specs.Steps.{Adds, counter_with, first_half, known_te
 ghost use Rattle.pr_report.specs.Summary.{interval_line, middle_text, outside_count};
 ghost use Rattle.pr_report.specs.Taking.{Tallies};
 
-use crate::adding::push_numbered;
 use crate::counts::counted;
 use crate::interval::Interval;
+use crate::numbers::push_numbered;
 use pr_decode::Reading;
 use pr_wire::NoMemory;
 use std::alloc::Global;
@@ -94,8 +94,7 @@ fn push_middle(text: &mut Vec<u8>, middle: Option<u64>) -> Result<(), NoMemory>
 fn push_outside_count(text: &mut Vec<u8>, interval: Interval, outside: u64) -> Result<(), NoMemory>
     ensures { OnOk result (text.new.items ≡ text.old.items ++ outside_count interval outside) }
 {
-    push_numbered(text, b", outside ", interval.lowest())?;
-    push_numbered(text, b" to ", interval.highest())?;
+    interval.push_bounds(text, b", outside ")?;
     push_numbered(text, b": ", outside)
 }
 
@@ -105,7 +104,7 @@ impl Tally {
     /// # Errors
     ///
     /// [`NoMemory`] where the counters were refused.
-    #[tactic(auto, unfolding(crate::specs::Summary::told_exactly))]
+    #[tactic(auto, unfolding(crate::specs::Summary::exact_below))]
     pub fn new(alloc: Global, interval: Interval) -> Result<Tally, NoMemory>
         ensures { IfOk result (λ tally. Tallies interval [] tally) }
     {

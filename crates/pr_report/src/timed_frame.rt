@@ -10,7 +10,7 @@ use pr_wire::{ByteRole, Frame};
 pub struct TimedFrame {
     /// The look: CLOCK is released for the frame, and its hearers are to release DATA.
     pub look: u64,
-    /// The acknowledgement: its hearers pull DATA behind its last bit.
+    /// The acknowledgement: its hearers pull DATA after its last bit.
     pub acknowledged: u64,
     /// Which byte it is: an attention's first command or its second, or a data byte.
     pub sending: ByteRole,

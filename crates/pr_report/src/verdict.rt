@@ -1,9 +1,9 @@
 //! Whether a recording is lawful, in a line.
 
 ghost use Rattle.std.specs.Prelude.{◌≡◌, ◌++◌, OnOk};
-ghost use Rattle.pr_report.specs.Verdict.{fault_line, flaw_line, verdict_text};
+ghost use Rattle.pr_report.specs.Verdict.{flaw_line, verdict_text};
 
-use crate::adding::push_numbered;
+use crate::numbers::push_numbered;
 use pr_wire::{NoMemory, WaveFault};
 
 /// Adds the line of an edge, and of what is wrong with it.
@@ -13,21 +13,6 @@ fn push_flaw(text: &mut Vec<u8>, edge: usize, reason: &[u8]) -> Result<(), NoMem
     push_numbered(text, b"not lawful: edge ", edge as u64)?;
     text.extend_from_slice(reason)?;
     Ok(())
-}
-
-/// Adds the line of a fault.
-fn push_fault(text: &mut Vec<u8>, fault: WaveFault) -> Result<(), NoMemory>
-    ensures { OnOk result (text.new.items ≡ text.old.items ++ fault_line fault) }
-{
-    match fault {
-        WaveFault::Start(edge) => push_flaw(text, edge, b": bad start\n"),
-        WaveFault::Order(edge) => push_flaw(text, edge, b": bad order\n"),
-        WaveFault::TooEarly(edge) => push_flaw(text, edge, b": too early\n"),
-        WaveFault::TooLate(edge) => push_flaw(text, edge, b": too late\n"),
-        WaveFault::Shape(edge) => push_flaw(text, edge, b": bad shape\n"),
-        WaveFault::Truncated(edge) => push_flaw(text, edge, b": truncated\n"),
-        WaveFault::NoMemory => text.extend_from_slice(b"not lawful: out of memory\n"),
-    }
 }
 
 /// Adds the line that says whether edges are a lawful trace, by their first fault if they have one:
@@ -42,6 +27,12 @@ pub fn push_verdict(text: &mut Vec<u8>, fault: Option<WaveFault>) -> Result<(), 
 {
     match fault {
         None => text.extend_from_slice(b"lawful\n"),
-        Some(fault) => push_fault(text, fault),
+        Some(WaveFault::Start(edge)) => push_flaw(text, edge, b": bad start\n"),
+        Some(WaveFault::Order(edge)) => push_flaw(text, edge, b": bad order\n"),
+        Some(WaveFault::TooEarly(edge)) => push_flaw(text, edge, b": too early\n"),
+        Some(WaveFault::TooLate(edge)) => push_flaw(text, edge, b": too late\n"),
+        Some(WaveFault::Shape(edge)) => push_flaw(text, edge, b": bad shape\n"),
+        Some(WaveFault::Truncated(edge)) => push_flaw(text, edge, b": truncated\n"),
+        Some(WaveFault::NoMemory) => text.extend_from_slice(b"not lawful: out of memory\n"),
     }
 }
