@@ -13,7 +13,7 @@ use Rattle.pr_wire.specs.Pieces.{frames_of, Spells}
 use Rattle.pr_wire.specs.Table.{fault_of}
 use Rattle.pr_report.specs.declared.frame_timer.FrameTimer.{FrameTimer}
 use Rattle.pr_report.specs.declared.timed_frame.TimedFrame.{TimedFrame}
-use Rattle.pr_report.specs.Laws.{TracesTellWhatTheySpell}
+use Rattle.pr_report.specs.StoryLaws.{TracesTellWhatTheySpell}
 use Rattle.pr_report.specs.Moments.{frame_told, timed_frames}
 use Rattle.pr_report.specs.StoryText.{is_data, story_line, story_lines, story_of}
 use Rattle.pr_report.specs.Telling.{HasTold}
