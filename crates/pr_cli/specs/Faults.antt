@@ -8,8 +8,8 @@ use Rattle.pr_basic.specs.declared.fault.ScriptFault.{ScriptFault}
 use Rattle.pr_basic.specs.declared.fault.ScriptFault.TheVariants as script
 use Rattle.pr_capture.specs.declared.fault.CaptureFault.{CaptureFault}
 use Rattle.pr_capture.specs.declared.fault.CaptureFault.TheVariants as capture
-use Rattle.pr_cli.specs.declared.read_write.ReadFault.{ReadFault}
-use Rattle.pr_cli.specs.declared.read_write.ReadFault.TheVariants as read
+use Rattle.pr_input.specs.declared.read_write.ReadFault.{ReadFault}
+use Rattle.pr_input.specs.declared.read_write.ReadFault.TheVariants as read
 use Rattle.pr_cli.specs.declared.fault.CliFault.{CliFault}
 use Rattle.pr_cli.specs.declared.fault.CliFault.TheVariants.{Script, Trace, Wave, Capture, TooLarge, NoMemory, ReadFailed}
 

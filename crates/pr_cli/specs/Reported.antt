@@ -26,7 +26,7 @@ use Rattle.pr_capture.specs.declared.format.Source.TheVariants as source
 use Rattle.pr_capture.specs.declared.format.TraceInput.{TraceInput}
 use Rattle.pr_cli.specs.FrameText.{frame_line}
 use Rattle.pr_cli.specs.Report.{edges_made, refusal, IsReport, IsWhole, SaysSamples}
-use Rattle.pr_cli.specs.PartlyWritten.{AppendsFront}
+use Rattle.pr_input.specs.PartlyWritten.{AppendsFront}
 use Rattle.pr_cli.specs.declared.edge_maker.EdgeMaker.{EdgeMaker}
 use Rattle.pr_cli.specs.declared.reporter.FrameReporter.{FrameReporter}
 use Rattle.pr_cli.specs.declared.reporter.ReportText.{ReportText}

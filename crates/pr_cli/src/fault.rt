@@ -2,9 +2,9 @@
 
 ghost use Rattle.std.specs.Prelude.{◌≡◌, ◌≢◌, IfOk, IsErr, OnOk};
 
-use crate::read_write::ReadFault;
 use pr_basic::ScriptFault;
 use pr_capture::CaptureFault;
+use pr_input::ReadFault;
 use pr_wire::{CheckFault, TraceFault, WaveFault};
 use std::alloc::AllocError;
 use thiserror::Error;

@@ -5,12 +5,11 @@ ghost use Rattle.pr_page.specs.Taken.{number_taken};
 ghost use Rattle.pr_cli.specs.Pages.{ReadsToEnd, WritesNothing};
 ghost use Rattle.pr_cli.specs.Printed.{GivesPaper, HasReadAll, IsReadingFault, PrintsOn};
 ghost use Rattle.pr_cli.specs.Raw.{AnswersRaw, IsRawFault, printed_on, raw_limit};
-ghost use Rattle.pr_cli.specs.Watched.{has_failed, wrapped};
+ghost use Rattle.pr_input.specs.Watched.{has_failed, wrapped};
 
 use crate::fault::CliFault;
 use crate::format::text_in_format;
-use crate::read_write::{BLOCK, WriteFault};
-use crate::watched::Watched;
+use pr_input::{BLOCK, Watched, WriteFault};
 use pr_page::{Input, NoMemory, Paper, Printer, Sequence};
 use pr_render::Format;
 use pr_serial::Present;

@@ -6,15 +6,14 @@ ghost use Rattle.pr_report.specs.declared.report.Report.{Report};
 ghost use Rattle.pr_cli.specs.Check.{trace_limit};
 ghost use Rattle.pr_cli.specs.Report.{AnswersReport, IsReportFault, ReadsAll, WritesNoReport};
 ghost use Rattle.pr_cli.specs.Reported.{EndsNoted, GivesReport, HasReadAll, HearsMore, IsNoReport, IsRefused, NotesBlock, WritesText, edges_heard, lines_read};
-ghost use Rattle.pr_cli.specs.Watched.{has_failed, wrapped};
+ghost use Rattle.pr_input.specs.Watched.{has_failed, wrapped};
 
 use crate::check::CHECK_LIMIT;
 use crate::fault::{CliFault, own_fault};
-use crate::read_write::{BLOCK, WriteFault, write_whole};
 use crate::reporter::{ReportText, TraceReporter};
 use crate::source_reader::SourceReader;
-use crate::watched::Watched;
 use pr_capture::TraceInput;
+use pr_input::{BLOCK, Watched, WriteFault, write_whole};
 use pr_report::Report;
 use pr_wire::Edge;
 use std::alloc::{AllocError, Global};

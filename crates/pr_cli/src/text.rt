@@ -5,12 +5,11 @@
 
 ghost use Rattle.std.specs.Prelude.{◌≡◌, ◌≤◌, ◌++◌, ◌↔◌, [], decimal, false, length, take, true, IfOk, IsErr, OnErr, OnOk};
 ghost use Rattle.std.specs.Io.KnownBytes.{Appends};
-ghost use Rattle.pr_cli.specs.Watched.{has_failed, wrapped};
-ghost use Rattle.pr_cli.specs.PartlyWritten.{AppendsFront};
+ghost use Rattle.pr_input.specs.Watched.{has_failed, wrapped};
+ghost use Rattle.pr_input.specs.PartlyWritten.{AppendsFront};
 
-use crate::read_write::{BLOCK, WriteFault, flush, write_piece};
-use crate::watched::Watched;
 use itoa::Buffer;
+use pr_input::{BLOCK, Watched, WriteFault, flush, write_piece};
 use std::alloc::{AllocError, Global};
 use std::io::Write;
 use std::marker::Model;

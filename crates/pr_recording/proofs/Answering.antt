@@ -9,7 +9,7 @@ use Rattle.pr_wire.specs.declared.text.TraceFault.TheVariants as trace
 use Rattle.pr_capture.specs.declared.fault.CaptureFault.{CaptureFault}
 use Rattle.pr_capture.specs.declared.fault.CaptureFault.TheVariants as capture
 use Rattle.pr_capture.specs.declared.format.TraceInput.{TraceInput}
-use Rattle.pr_cli.specs.PartlyWritten.{AppendsFront}
+use Rattle.pr_input.specs.PartlyWritten.{AppendsFront}
 use Rattle.pr_cli.specs.Report.{edges_made}
 use Rattle.pr_cli.specs.Reported.{HasGiven, IsOwnFault}
 use Rattle.pr_cli.specs.declared.fault.CliFault.{CliFault}

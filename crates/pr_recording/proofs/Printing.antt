@@ -7,7 +7,7 @@ use Rattle.std.proofs.KnownBytes.{Consumes-nil, Consumes-trans}
 use Rattle.pr_wire.specs.declared.Edge.{Edge}
 use Rattle.pr_render.specs.declared.format.Format.{Format}
 use Rattle.pr_capture.specs.declared.format.TraceInput.{TraceInput}
-use Rattle.pr_cli.specs.PartlyWritten.{AppendsFront}
+use Rattle.pr_input.specs.PartlyWritten.{AppendsFront}
 use Rattle.pr_cli.specs.Report.{edges_made, SaysSamples}
 use Rattle.pr_cli.specs.Reported.{EachTextSaysSamples, EndsInput, GivesMore, HasGiven, IsOwnFault, RefusesInput}
 use Rattle.pr_cli.specs.declared.fault.CliFault.{CliFault}

@@ -12,7 +12,7 @@ use Rattle.pr_report.specs.ReadingText.{all_lines}
 use Rattle.pr_report.specs.Summary.{summary}
 use Rattle.pr_report.specs.Verdict.{verdict_text}
 use Rattle.pr_capture.specs.declared.format.TraceInput.{TraceInput}
-use Rattle.pr_cli.specs.PartlyWritten.{AppendsFront}
+use Rattle.pr_input.specs.PartlyWritten.{AppendsFront}
 use Rattle.pr_cli.specs.Report.{Says}
 use Rattle.pr_cli.specs.declared.fault.CliFault.{CliFault}
 use Rattle.pr_cli.specs.declared.fault.CliFault.TheVariants.{Script, Trace, Wave, Capture, TooLarge, NoMemory, ReadFailed, WriteFailed}

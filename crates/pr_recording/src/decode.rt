@@ -3,9 +3,9 @@
 ghost use Rattle.std.specs.Prelude.{◌≡◌, ◌≢◌, ◌+◌, ◌*◌, ◌^◌, ◌<◌, ◌≤◌, ◌↔◌, length, false, true, None, IfErr, IfOk, IfSome, IsErr, IsErrOf, OnErr, OnOk, Some};
 ghost use Rattle.std.specs.Io.KnownBytes.{Appends};
 ghost use Rattle.pr_cli.specs.Check.{trace_limit};
-ghost use Rattle.pr_cli.specs.PartlyWritten.{AppendsFront};
+ghost use Rattle.pr_input.specs.PartlyWritten.{AppendsFront};
 ghost use Rattle.pr_cli.specs.Reported.{lines_read};
-ghost use Rattle.pr_cli.specs.Watched.{has_failed, wrapped};
+ghost use Rattle.pr_input.specs.Watched.{has_failed, wrapped};
 ghost use Rattle.pr_recording.specs.Decoded.{AnswersDecode, IsDecodeFault, ReadsAll};
 ghost use Rattle.pr_recording.specs.Narrated.{EndsNoted, GivesUp, NotesBlock, WritesEnd, edges_heard, lines_in};
 

@@ -3,7 +3,7 @@
 ghost use Rattle.std.specs.Prelude.{◌≡◌, ◌≢◌, ◌+◌, ◌^◌, ◌<◌, ◌≤◌, ◌↔◌, length, false, true, None, IfErr, IfOk, IfSome, IsErrOf, OnOk};
 ghost use Rattle.std.specs.Io.KnownBytes.{Keeps};
 ghost use Rattle.pr_cli.specs.Reported.{lines_read};
-ghost use Rattle.pr_cli.specs.Watched.{has_failed, wrapped};
+ghost use Rattle.pr_input.specs.Watched.{has_failed, wrapped};
 ghost use Rattle.pr_recording.specs.Copied.{EndsText, PrintsBlock, edges_paged, inputs_paged};
 ghost use Rattle.pr_recording.specs.Copying.{GivesPrint, HasReadPages, IsNoPrint, IsPrintStop, WritesPrint};
 ghost use Rattle.pr_recording.specs.Decoded.{IsDecodeFault, ReadsAll};

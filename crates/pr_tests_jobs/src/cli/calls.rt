@@ -1,7 +1,7 @@
 //! Calls of the library, as rows with what they write.
 
 ghost use Rattle.std.specs.Prelude.{◌≡◌, false};
-ghost use Rattle.pr_cli.specs.Watched.{has_failed};
+ghost use Rattle.pr_input.specs.Watched.{has_failed};
 
 use crate::cli::pictures::{drawn, sheet_alone};
 use pr_basic::StatusMode;

@@ -1,7 +1,7 @@
 //! Inputs of about the greatest length that a caller gives, and endless ones.
 
 ghost use Rattle.std.specs.Prelude.{◌≡◌, ◌^◌, ◌<◌, false};
-ghost use Rattle.pr_cli.specs.Watched.{has_failed};
+ghost use Rattle.pr_input.specs.Watched.{has_failed};
 
 use crate::cli::calls::{EXAMPLE_LINES, HI, HI_BYTES, usual};
 use crate::cli::slow::SlowReader;

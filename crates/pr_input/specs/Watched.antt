@@ -1,6 +1,6 @@
 -- Trusted: a reader or a writer that remembers whether it has failed.
 use Rattle.std.specs.Prelude.{ℕ, Bool, true, ◌&&◌, ◌==◌, not, Result, Ok, Err}
-use Rattle.pr_cli.specs.declared.watched.Watched.{Watched}
+use Rattle.pr_input.specs.declared.watched.Watched.{Watched}
 
 -- the reader or writer inside
 abbrev pub wrapped : {T : Type 0} → Watched T → T

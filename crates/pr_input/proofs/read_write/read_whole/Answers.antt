@@ -1,6 +1,6 @@
 use Rattle.std.proofs.Common.{arith, take}
-use Rattle.pr_cli.proofs.KnownSteps.{all_taken, too_many}
-use Rattle.pr_cli.proofs.read_write.read_whole.Goals as goal
+use Rattle.pr_input.proofs.KnownSteps.{all_taken, too_many}
+use Rattle.pr_input.proofs.read_write.read_whole.Goals as goal
 
 pub returns-in-Ok-eq0-clause-ok : goal.returns-in-Ok-eq0-clause-ok
 returns-in-Ok-eq0-clause-ok g c =

@@ -1,6 +1,6 @@
 use Rattle.std.proofs.Common.{rules}
-use Rattle.pr_cli.proofs.KnownSteps.{appends_rest, front_rest, tail_from}
-use Rattle.pr_cli.proofs.read_write.write_piece.Goals as goal
+use Rattle.pr_input.proofs.KnownSteps.{appends_rest, front_rest, tail_from}
+use Rattle.pr_input.proofs.read_write.write_piece.Goals as goal
 
 pub loop-rest-preserved : goal.loop-rest-preserved
 loop-rest-preserved g c = record {

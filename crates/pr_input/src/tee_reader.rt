@@ -3,7 +3,7 @@
 ghost use Rattle.std.specs.Prelude.{◌≡◌, None, Some, [], if◌then◌else◌, take, IfOk, OnErr};
 ghost use Rattle.std.specs.Io.{ReadsAtMost};
 ghost use Rattle.std.specs.Io.KnownBytes.{ReadConsumes};
-ghost use Rattle.pr_cli.specs.Kept.{KeepsMore, kept, read_from};
+ghost use Rattle.pr_input.specs.TeeReader.{KeepsMore, kept, read_from};
 
 use std::alloc::Global;
 use std::io;

@@ -5,8 +5,8 @@
 
 ghost use Rattle.std.specs.Prelude.{◌≡◌, ◌≤◌, ◌<◌, ◌↔◌, IfSome, IfOk, IsErr, IsErrOf, OnOk, OnErr, false, true, length};
 ghost use Rattle.std.specs.Io.KnownBytes.{Appends, IsAtEnd, Keeps};
-ghost use Rattle.pr_cli.specs.Watched.{has_failed, wrapped};
-ghost use Rattle.pr_cli.specs.PartlyWritten.{AppendsFront};
+ghost use Rattle.pr_input.specs.Watched.{has_failed, wrapped};
+ghost use Rattle.pr_input.specs.PartlyWritten.{AppendsFront};
 
 use crate::watched::Watched;
 use std::alloc::{AllocError, Global};
@@ -27,7 +27,7 @@ pub enum ReadFault {
 }
 
 impl From<AllocError> for ReadFault {
-    ghost use Rattle.pr_cli.specs.declared.read_write.ReadFault.TheVariants.{NoMemory};
+    ghost use Rattle.pr_input.specs.declared.read_write.ReadFault.TheVariants.{NoMemory};
 
     ghost from_gives = { λ _ e. e ≡ NoMemory };
 
@@ -113,8 +113,12 @@ pub fn write_piece<W: Write>(output: &mut Watched<W>, piece: &[u8]) -> Result<()
     Ok(())
 }
 
-/// Flushes. Nothing is written by it.
-pub(crate) fn flush<W: Write>(output: &mut Watched<W>) -> Result<(), WriteFault>
+/// Flushes the output, and writes nothing.
+///
+/// # Errors
+///
+/// [`WriteFault`] exactly if the flush failed.
+pub fn flush<W: Write>(output: &mut Watched<W>) -> Result<(), WriteFault>
     requires fresh { has_failed output.old ≡ false }
     ensures kept { Keeps (W.contents (wrapped output.old)) (W.contents (wrapped output.new)) }
     ensures failed { IsErr result ↔ (has_failed output.new ≡ true) }

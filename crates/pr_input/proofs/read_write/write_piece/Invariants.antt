@@ -1,7 +1,7 @@
 use Rattle.std.proofs.Common.{◌≡◌, length, false, Option, List, ℕ}
 use Rattle.std.specs.Io.KnownBytes.{Appends}
-use Rattle.pr_cli.specs.PartlyWritten.{AppendsFront}
-use Rattle.pr_cli.proofs.read_write.write_piece.Given as goal
+use Rattle.pr_input.specs.PartlyWritten.{AppendsFront}
+use Rattle.pr_input.proofs.read_write.write_piece.Given as goal
 
 -- what completes the rest completes the text, and a front of the rest makes one of the text
 abbrev pub invariant-loop-rest : goal.invariant-loop-rest

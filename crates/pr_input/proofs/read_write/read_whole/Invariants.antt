@@ -1,6 +1,6 @@
 use Rattle.std.proofs.Common.{◌≡◌, ◌≤◌, ◌-◌, false, vec_len}
 use Rattle.std.specs.Io.KnownBytes.{Consumes}
-use Rattle.pr_cli.proofs.read_write.read_whole.Given as goal
+use Rattle.pr_input.proofs.read_write.read_whole.Given as goal
 
 -- the bytes so far were taken from the front, and nothing has failed
 abbrev pub invariant-pieces : goal.invariant-pieces

@@ -1,6 +1,6 @@
 -- Trusted: a reader that keeps what it has read.
 use Rattle.std.specs.Prelude.{◌≡◌, ◌++◌, ℕ, List, Option, Some, option_map, IfSome}
-use Rattle.pr_cli.specs.declared.kept.TeeReader.{TeeReader}
+use Rattle.pr_input.specs.declared.tee_reader.TeeReader.{TeeReader}
 
 -- the reader inside
 abbrev pub read_from : {R : Type 0} → TeeReader R → R

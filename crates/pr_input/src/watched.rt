@@ -3,7 +3,7 @@
 ghost use Rattle.std.specs.Prelude.{◌≡◌, ◌||◌, false, is_err, length};
 ghost use Rattle.std.specs.Io.{ReadsAtMost, WritesAtMost};
 ghost use Rattle.std.specs.Io.KnownBytes.{Keeps, ReadConsumes, WriteAppends};
-ghost use Rattle.pr_cli.specs.Watched.{has_failed, wrapped, write_fails};
+ghost use Rattle.pr_input.specs.Watched.{has_failed, wrapped, write_fails};
 
 use std::io;
 use std::io::{Read, Write};

@@ -1,0 +1,3 @@
+pub mod Watched
+pub mod TeeReader
+pub mod PartlyWritten
