@@ -12,9 +12,9 @@ use Rattle.pr_cli.specs.declared.pages.Ending.TheVariants.{Done, Stopped}
 use Rattle.pr_cli.specs.declared.fault.CliFault.{CliFault}
 use Rattle.pr_cli.specs.declared.fault.CliFault.TheVariants.{Script, Trace, Wave, Capture, TooLarge, NoMemory, ReadFailed, WriteFailed}
 use Rattle.pr_c.specs.Answers.{IsBusText, IsFramesText, IsPagesText, IsPaperRefusal, IsPaperText, IsScriptRefusal, IsTraceRefusal, Stopping, Tells}
-use Rattle.pr_c.specs.Giving.{Gives, GivesStop, IsFound, in_memory, without_run}
-use Rattle.pr_c.specs.declared.told.Told.{Told}
-use Rattle.pr_c.specs.declared.told.Told.TheVariants.{Written, TooSmall, Refused, NoInput}
+use Rattle.pr_c.specs.CopyingOut.{CopiesOut, WithStop, IsFound, in_memory, without_run}
+use Rattle.pr_c.specs.declared.call_result.CallResult.{CallResult}
+use Rattle.pr_c.specs.declared.call_result.CallResult.TheVariants.{Written, TooSmall, Refused, NoInput}
 
 -- what was made is this text or this fault
 abbrev pub IsMade : (Stopping → List ℕ → Type 0) → (CliFault → Type 0) → List ℕ → Result Stopping CliFault → Type 0
@@ -22,13 +22,13 @@ IsMade IsText IsFault text (Ok stop) = IsText stop text
 IsMade IsText IsFault text (Err fault) = IsFault (in_memory fault)
 
 -- what is handed on is told rightly
-pub tells : (IsText : Stopping → List ℕ → Type 0) (IsFault : CliFault → Type 0) (text old new : List ℕ) (made : Result Stopping CliFault) (told : Told)
-    → IsMade IsText IsFault text made → Gives made text old new told → Tells IsText IsFault old new told
+pub tells : (IsText : Stopping → List ℕ → Type 0) (IsFault : CliFault → Type 0) (text old new : List ℕ) (made : Result Stopping CliFault) (outcome : CallResult)
+    → IsMade IsText IsFault text made → CopiesOut made text old new outcome → Tells IsText IsFault old new outcome
 tells IsText IsFault text old new (Ok stop) (Written s n) m g = (text, subst (λ j. IsText j text) (sym g.0) m, g.1, g.2, g.3)
 tells IsText IsFault text old new (Ok stop) (TooSmall n) m g = (stop, text, m, g.0, g.1, g.2)
 tells IsText IsFault text old new (Ok stop) (Refused f) m g = absurd g
 tells IsText IsFault text old new (Ok stop) (NoInput i) m g = absurd g
-tells IsText IsFault text old new (Err fault) told m g = subst (λ t. Tells IsText IsFault old new t) (sym g.0) (m, g.1)
+tells IsText IsFault text old new (Err fault) outcome m g = subst (λ t. Tells IsText IsFault old new t) (sym g.0) (m, g.1)
 
 -- a run that is done has no stop
 no_stop : (stop : Stopping) → Done ≡ ending_of stop → stop ≡ None
@@ -48,7 +48,7 @@ refused-made IsText script text fault found is why = subst (λ f. IsMade IsText 
 
 -- the pages
 pub pages-made : (start : Start) (format : Format) (script text : List ℕ) (made : Result Ending CliFault) (found : Result Stopping CliFault)
-    → AnswersPages start format script (Some []) (Some text) made → GivesStop start.mode start.present script made found
+    → AnswersPages start format script (Some []) (Some text) made → WithStop start.mode start.present script made found
     → IsMade (IsPagesText start format script) (IsScriptRefusal script) text found
 pages-made start format script text (Ok Done) found a g =
     found-made (IsPagesText start format script) script text None found (subst (λ f. IsFound None f) (sym g) refl)
@@ -68,7 +68,7 @@ pages-made start format script text (Err WriteFailed) found a g = refused-made (
 
 -- the trace
 pub bus-made : (start : Start) (format : TraceFormat) (script text : List ℕ) (made : Result Ending CliFault) (found : Result Stopping CliFault)
-    → AnswersBus start format script (Some []) (Some text) made → GivesStop start.mode start.present script made found
+    → AnswersBus start format script (Some []) (Some text) made → WithStop start.mode start.present script made found
     → IsMade (IsBusText start format script) (IsScriptRefusal script) text found
 bus-made start format script text (Ok Done) found a g =
     found-made (IsBusText start format script) script text None found (subst (λ f. IsFound None f) (sym g) refl)

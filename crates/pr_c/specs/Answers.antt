@@ -23,16 +23,16 @@ use Rattle.pr_cli.specs.Pages.{Start, IsTextOf, script_limit}
 use Rattle.pr_cli.specs.Raw.{IsRawText, raw_limit}
 use Rattle.pr_cli.specs.declared.fault.CliFault.{CliFault}
 use Rattle.pr_cli.specs.declared.fault.CliFault.TheVariants.{Script, Trace, Wave, Capture, TooLarge, NoMemory, ReadFailed, WriteFailed}
-use Rattle.pr_c.specs.declared.told.Answer.{Answer}
-use Rattle.pr_c.specs.declared.told.Told.{Told}
-use Rattle.pr_c.specs.declared.told.Told.TheVariants.{Written, TooSmall, Refused, NoInput}
+use Rattle.pr_c.specs.declared.call_result.Answer.{Answer}
+use Rattle.pr_c.specs.declared.call_result.CallResult.{CallResult}
+use Rattle.pr_c.specs.declared.call_result.CallResult.TheVariants.{Written, TooSmall, Refused, NoInput}
 
 -- a BASIC error that stopped a run, with the number of its statement, from 1; none where no error did
 abbrev pub Stopping : Type 0
 Stopping = Option (ℕ × Stop)
 
 -- what is told is right, by the buffer before and after: the text in front, the rest as it was; or the text has no room; or there is none
-abbrev pub Tells : (Stopping → List ℕ → Type 0) → (CliFault → Type 0) → List ℕ → List ℕ → Told → Type 0
+abbrev pub Tells : (Stopping → List ℕ → Type 0) → (CliFault → Type 0) → List ℕ → List ℕ → CallResult → Type 0
 Tells IsText IsFault old new (Written stop n) =
     (text : List ℕ) × IsText stop text × (n ≡ length text) × (n ≤ length old) × (new ≡ text ++ drop n old)
 Tells IsText IsFault old new (TooSmall n) =
@@ -118,7 +118,7 @@ abbrev pub stopped : ℕ → Stop → ℕ → Answer
 stopped statement stop length = record { code = 1; fault = stop_number stop; place = statement; length = length }
 
 -- what is told, as numbers
-abbrev pub answer_of : Told → Answer
+abbrev pub answer_of : CallResult → Answer
 answer_of (Written None n) = plain 0 n
 answer_of (Written (Some (statement, stop)) n) = stopped statement stop n
 answer_of (TooSmall n) = plain 4 n

@@ -1,6 +1,6 @@
 pub mod Settings
 pub mod Answers
-pub mod Giving
+pub mod CopyingOut
 pub mod Printing
-pub mod Asked
+pub mod Calls
 pub mod Laws

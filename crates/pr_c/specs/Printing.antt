@@ -11,8 +11,8 @@ use Rattle.pr_cli.specs.Raw.{four_alone, printed_on}
 use Rattle.pr_cli.specs.declared.fault.CliFault.{CliFault}
 use Rattle.pr_cli.specs.declared.fault.CliFault.TheVariants.{TooLarge, NoMemory}
 use Rattle.pr_c.specs.Answers.{Stopping, Tells}
-use Rattle.pr_c.specs.declared.told.Told.{Told}
-use Rattle.pr_c.specs.declared.told.Told.TheVariants.{NoInput}
+use Rattle.pr_c.specs.declared.call_result.CallResult.{CallResult}
+use Rattle.pr_c.specs.declared.call_result.CallResult.TheVariants.{NoInput}
 
 -- a number above 257 stands for no input
 abbrev pub is_no_input : ℕ → Bool
@@ -45,7 +45,7 @@ IsPrintRefusal numbers NoMemory = (length numbers ≤ inputs_limit) × (position
 IsPrintRefusal numbers _ = ⊥
 
 -- what is told of numbers: the index of the first that stands for no input, or what becomes of the page
-abbrev pub TellsInputs : Format → List ℕ → List ℕ → List ℕ → Told → Type 0
+abbrev pub TellsInputs : Format → List ℕ → List ℕ → List ℕ → CallResult → Type 0
 TellsInputs format numbers old new (NoInput index) =
     (length numbers ≤ inputs_limit) × (position is_no_input numbers ≡ Some index) × (new ≡ old)
-TellsInputs format numbers old new told = Tells (IsPrintedText format numbers) (IsPrintRefusal numbers) old new told
+TellsInputs format numbers old new outcome = Tells (IsPrintedText format numbers) (IsPrintRefusal numbers) old new outcome

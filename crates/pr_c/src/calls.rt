@@ -2,11 +2,11 @@
 
 ghost use Rattle.std.specs.Prelude.{◌≡◌, length};
 ghost use Rattle.pr_c.specs.Answers.{IsBusText, IsFramesText, IsPagesText, IsPaperRefusal, IsPaperText, IsScriptRefusal, IsTraceRefusal, Tells};
-ghost use Rattle.pr_c.specs.Giving.{without_run};
+ghost use Rattle.pr_c.specs.CopyingOut.{without_run};
 ghost use Rattle.pr_cli.specs.Pages.{start_of};
 
 use crate::stops::with_stop;
-use crate::told::{Told, give};
+use crate::call_result::{CallResult, copy_out};
 use pr_basic::StatusMode;
 use pr_bus::Delays;
 use pr_capture::TraceFormat;
@@ -25,7 +25,7 @@ pub fn pages(
     mode: StatusMode,
     format: Format,
     out: &mut [u8],
-) -> Told
+) -> CallResult
     ensures tells { Tells (IsPagesText (start_of present delays mode) format script.now) (IsScriptRefusal script.now)
         out.old out.new result }
     ensures length { length out.new ≡ length out.old }
@@ -42,7 +42,7 @@ pub fn pages(
         format,
     );
     let stopped = with_stop(alloc, made, script, present, mode);
-    give(stopped, &output.into_inner(), out)
+    copy_out(stopped, &output.into_inner(), out)
 }
 
 /// Runs a script over wires, and puts the trace of its run in a format at the front of a buffer.
@@ -54,7 +54,7 @@ pub fn bus(
     mode: StatusMode,
     format: TraceFormat,
     out: &mut [u8],
-) -> Told
+) -> CallResult
     ensures tells { Tells (IsBusText (start_of present delays mode) format script.now) (IsScriptRefusal script.now) out.old out.new result }
     ensures length { length out.new ≡ length out.old }
 {
@@ -70,29 +70,29 @@ pub fn bus(
         format,
     );
     let stopped = with_stop(alloc, made, script, present, mode);
-    give(stopped, &output.into_inner(), out)
+    copy_out(stopped, &output.into_inner(), out)
 }
 
 /// Puts the text of the page that a printer prints of some bytes at the front of a buffer.
-pub fn raw(alloc: Global, bytes: &[u8], lower: bool, format: Format, out: &mut [u8]) -> Told
+pub fn raw(alloc: Global, bytes: &[u8], lower: bool, format: Format, out: &mut [u8]) -> CallResult
     ensures tells { Tells (IsPaperText lower format bytes.now) (IsPaperRefusal bytes.now) out.old out.new result }
     ensures length { length out.new ≡ length out.old }
 {
     let mut input = Watched::new(bytes);
     let mut output = Watched::new(Vec::new(alloc));
     let made = done(raw_over(alloc, &mut input, &mut output, lower, format));
-    give(made, &output.into_inner(), out)
+    copy_out(made, &output.into_inner(), out)
 }
 
 /// Puts the frames that a trace text spells at the front of a buffer, a line for each.
-pub fn check(alloc: Global, text: &[u8], out: &mut [u8]) -> Told
+pub fn check(alloc: Global, text: &[u8], out: &mut [u8]) -> CallResult
     ensures tells { Tells (IsFramesText text.now) (IsTraceRefusal text.now) out.old out.new result }
     ensures length { length out.new ≡ length out.old }
 {
     let mut input = Watched::new(text);
     let mut output = Watched::new(Vec::new(alloc));
     let made = done(check_over(alloc, &mut input, &mut output));
-    give(made, &output.into_inner(), out)
+    copy_out(made, &output.into_inner(), out)
 }
 
 /// A text that was made without a run.

@@ -2,14 +2,14 @@
 
 ghost use Rattle.std.specs.Prelude.{◌≡◌, length, IfOk};
 ghost use Rattle.pr_bus.specs.DelaysLeft.{numbers_left};
-ghost use Rattle.pr_c.specs.Asked.{TellsBus, TellsCheck, TellsPages, TellsPrint, TellsRaw, delays_of};
+ghost use Rattle.pr_c.specs.Calls.{TellsBus, TellsCheck, TellsPages, TellsPrint, TellsRaw, delays_of};
 ghost use Rattle.pr_c.specs.Settings.{format_of, lower_of, mode_of, present_of, trace_format_of};
 ghost use Rattle.pr_wire.specs.Choices.{left};
 
 use crate::calls::{bus, check, pages, raw};
 use crate::printing::print;
 use crate::settings::{format_for, lower_for, mode_for, present_for, trace_format_for};
-use crate::told::{Answer, Told, numbered, refused};
+use crate::call_result::{Answer, CallResult, to_answer, refused};
 use pr_bus::Delays;
 use pr_cli::CliFault;
 use pr_wire::Choices;
@@ -70,11 +70,11 @@ pub extern "C" fn print1525_pages(
         *answer = refused(24, 0);
         return;
     };
-    let told = match delays_for(alloc, computer, four, five) {
+    let outcome = match delays_for(alloc, computer, four, five) {
         Ok(delays) => pages(alloc, script, present, delays, mode, format, out),
-        Err(AllocError) => Told::Refused(CliFault::NoMemory),
+        Err(AllocError) => CallResult::Refused(CliFault::NoMemory),
     };
-    *answer = numbered(told);
+    *answer = to_answer(outcome);
 }
 
 /// Runs a script, and puts the trace of its run at the front of the caller's buffer.
@@ -107,11 +107,11 @@ pub extern "C" fn print1525_bus(
         *answer = refused(24, 0);
         return;
     };
-    let told = match delays_for(alloc, computer, four, five) {
+    let outcome = match delays_for(alloc, computer, four, five) {
         Ok(delays) => bus(alloc, script, present, delays, mode, format, out),
-        Err(AllocError) => Told::Refused(CliFault::NoMemory),
+        Err(AllocError) => CallResult::Refused(CliFault::NoMemory),
     };
-    *answer = numbered(told);
+    *answer = to_answer(outcome);
 }
 
 /// Puts the page that a printer prints of some bytes at the front of the caller's buffer.
@@ -135,7 +135,7 @@ pub extern "C" fn print1525_raw(
         *answer = refused(24, 0);
         return;
     };
-    *answer = numbered(raw(alloc, bytes, lower, format, out));
+    *answer = to_answer(raw(alloc, bytes, lower, format, out));
 }
 
 /// Puts the page that a printer prints of its inputs at the front of the caller's buffer.
@@ -154,7 +154,7 @@ pub extern "C" fn print1525_print(
         *answer = refused(24, 0);
         return;
     };
-    *answer = numbered(print(alloc, inputs, format, out));
+    *answer = to_answer(print(alloc, inputs, format, out));
 }
 
 /// Puts the frames that a trace text spells at the front of the caller's buffer.
@@ -163,5 +163,5 @@ pub extern "C" fn print1525_check(alloc: Global, text: &[u8], out: &mut [u8], an
     ensures tells { TellsCheck text.now out.old out.new answer.new }
     ensures length { length out.new ≡ length out.old }
 {
-    *answer = numbered(check(alloc, text, out));
+    *answer = to_answer(check(alloc, text, out));
 }

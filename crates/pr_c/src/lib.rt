@@ -8,11 +8,11 @@ mod exports;
 mod printing;
 mod settings;
 mod stops;
-mod told;
+mod call_result;
 
 pub use calls::{bus, check, pages, raw};
 pub use exports::{
     print1525_bus, print1525_check, print1525_pages, print1525_print, print1525_raw,
 };
 pub use printing::{bytes_are_inputs, print};
-pub use told::{Answer, Told};
+pub use call_result::{Answer, CallResult};

@@ -7,7 +7,7 @@ ghost use Rattle.pr_page.specs.Page.{IsPage};
 ghost use Rattle.pr_c.specs.Laws.{BytesAreInputs};
 ghost use Rattle.pr_c.specs.Printing.{IsInputsText, TellsInputs, input_of, is_no_input, inputs_limit};
 
-use crate::told::{Told, give};
+use crate::call_result::{CallResult, copy_out};
 use pr_cli::{CliFault, text_in_format};
 use pr_page::{Input, NoMemory, Paper, Printer, Sequence};
 use pr_render::Format;
@@ -93,19 +93,19 @@ fn text_of(alloc: Global, numbers: &[u16], format: Format) -> Result<Vec<u8>, No
 /// a buffer. The inputs are numbers: 0 to 255 a byte, 256 the selection of the graphic/upper case set,
 /// 257 that of the lower/upper case set; before the first selection the former is selected. A number
 /// that stands for no input is told by its index, from 0, before any memory is taken.
-pub fn print(alloc: Global, inputs: &[u16], format: Format, out: &mut [u8]) -> Told
+pub fn print(alloc: Global, inputs: &[u16], format: Format, out: &mut [u8]) -> CallResult
     ensures tells { TellsInputs format inputs.now out.old out.new result }
     ensures length { length out.new ≡ length out.old }
 {
     if inputs.len() > INPUTS_LIMIT {
-        return Told::Refused(CliFault::TooLarge);
+        return CallResult::Refused(CliFault::TooLarge);
     }
     if let Some(index) = first_no_input(inputs) {
-        return Told::NoInput(index);
+        return CallResult::NoInput(index);
     }
     match text_of(alloc, inputs, format) {
-        Ok(text) => give(Ok(None), &text, out),
-        Err(AllocError) => Told::Refused(CliFault::NoMemory),
+        Ok(text) => copy_out(Ok(None), &text, out),
+        Err(AllocError) => CallResult::Refused(CliFault::NoMemory),
     }
 }
 

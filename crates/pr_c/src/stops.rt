@@ -2,7 +2,7 @@
 
 ghost use Rattle.std.specs.Prelude.{◌≡◌, ◌≤◌, ◌+◌, None, false, length, IfOk, OnOk};
 ghost use Rattle.pr_basic.specs.Limits.{statement_limit};
-ghost use Rattle.pr_c.specs.Giving.{FindsStop, GivesStop};
+ghost use Rattle.pr_c.specs.CopyingOut.{FindsStop, WithStop};
 ghost use Rattle.pr_system.specs.StepByStep.{stepped_through};
 
 use pr_basic::{Statement, StatusMode, read_script};
@@ -24,7 +24,7 @@ pub fn with_stop(
     present: Present,
     mode: StatusMode,
 ) -> Result<Option<(usize, Stop)>, CliFault>
-    ensures { GivesStop mode present script.now made result }
+    ensures { WithStop mode present script.now made result }
 {
     match made {
         Ok(Ending::Done) => Ok(None),

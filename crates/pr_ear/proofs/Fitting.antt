@@ -1,4 +1,4 @@
--- Standings that fit their last edge: they are stored as ears, and so are those one edge further.
+-- States that fit their last edge: they are stored as receivers, and so are those one edge further.
 use Rattle.std.proofs.Common.{◌≡◌, ℕ, zero, suc, ◌+◌, ◌<◌, ◌≤◌, Bool, true, false, eqb, Option, Some, None, Result, Ok, Err, refl, sym, subst, ap, ◌∙◌, arith}
 use Rattle.std.proofs.lemmas.Bool.{eq-eqb, eqb-true}
 use Rattle.std.specs.Result.{MatchResult}
@@ -15,17 +15,17 @@ use Rattle.pr_wire.specs.declared.bus_state.Step.{Step}
 use Rattle.pr_wire.specs.Reached.{indexed, step_of}
 use Rattle.pr_wire.specs.Table.{by_row, fault_at, is_start, verdict}
 use Rattle.pr_ear.specs.declared.WireEdge.{WireEdge}
-use Rattle.pr_ear.specs.declared.numbers.Ear.{Ear}
-use Rattle.pr_ear.specs.declared.numbers.PlaceNumbers.{PlaceNumbers}
-use Rattle.pr_ear.specs.declared.standing.Refusal.{Refusal}
-use Rattle.pr_ear.specs.declared.standing.Refusal.TheVariants.{Start, Flawed}
-use Rattle.pr_ear.specs.declared.standing.Standing.{Standing}
-use Rattle.pr_ear.specs.EarNumbers.{stored_place, CanLead, HasNone, HasSome, IsEar, IsPlace}
+use Rattle.pr_ear.specs.declared.numbers.WireReceiver.{WireReceiver}
+use Rattle.pr_ear.specs.declared.numbers.WireState.{WireState}
+use Rattle.pr_ear.specs.declared.receiver_state.Refusal.{Refusal}
+use Rattle.pr_ear.specs.declared.receiver_state.Refusal.TheVariants.{Start, Flawed}
+use Rattle.pr_ear.specs.declared.receiver_state.ReceiverState.{ReceiverState}
+use Rattle.pr_ear.specs.ReceiverNumbers.{stored_place, CanLead, HasNone, HasSome, IsReceiver, IsPlace}
 use Rattle.pr_ear.specs.Hearing.{bit_of, edge_of}
-use Rattle.pr_ear.specs.Numbers.{begun_number, place_by, refusal_by, refusal_number, standing_by, stored, stored_last, wire_of, HasFewBits}
-use Rattle.pr_ear.specs.Taken.{refused_at, CanListen, CanStand, FitsLast, IsBefore, IsBehind, IsFirstRefusal, IsLaterRefusal, RefusesAs}
+use Rattle.pr_ear.specs.Numbers.{begun_number, place_by, refusal_by, refusal_number, state_by, stored, stored_last, wire_of, HasFewBits}
+use Rattle.pr_ear.specs.Taken.{refused_at, CanListen, CanBeStored, FitsLast, IsBefore, IsAfter, IsFirstRefusal, IsLaterRefusal, RefusesAs}
 use Rattle.pr_ear.proofs.Leading.{leads-next}
-use Rattle.pr_ear.proofs.Standings.{idle-late, start_step, verdict-later, IsMoved}
+use Rattle.pr_ear.proofs.ReceiverStates.{idle-late, start_step, verdict-later, IsMoved}
 use Rattle.pr_ear.proofs.Stored.{both, edge-back, place-back}
 
 -- the numbers of refusals
@@ -52,8 +52,8 @@ called-few false l h = omega arith
 called-few true true h = omega arith
 called-few true false h = absurd (let x : false ≡ true = h refl in cc)
 
--- a standing before all edges is stored as an ear that has accepted none
-none-of : (s : Standing) → s.last ≡ None → IsBefore s → HasNone (stored s)
+-- a state before all edges is stored as a receiver that has accepted none
+none-of : (s : ReceiverState) → s.last ≡ None → IsBefore s → HasNone (stored s)
 none-of s e h = record {
   taken = h.taken;
   last = ap stored_last e;
@@ -62,8 +62,8 @@ none-of s e h = record {
   refused = first-number s.refused h.refused;
 }
 
--- one behind an edge as an ear that has accepted some
-some-of : (s : Standing) (last : Edge) → s.last ≡ Some last → IsBehind last s → HasSome (stored s)
+-- one behind an edge as a receiver that has accepted some
+some-of : (s : ReceiverState) (last : Edge) → s.last ≡ Some last → IsAfter last s → HasSome (stored s)
 some-of s last e h =
     let w : stored_last s.last ≡ wire_of last = ap stored_last e in record {
       some = h.some;
@@ -76,11 +76,11 @@ some-of s last e h =
       refused = later-number s.refused h.refused;
     }
 
--- what is stored is an ear
-pub stored-is-ear : (s : Standing) → CanStand s → IsEar (stored s)
-stored-is-ear s h = by s.last refl h.fits
+-- what is stored is a receiver
+pub stored-is-receiver : (s : ReceiverState) → CanBeStored s → IsReceiver (stored s)
+stored-is-receiver s h = by s.last refl h.fits
   where
-    by : (o : Option Edge) → s.last ≡ o → FitsLast o s → IsEar (stored s)
+    by : (o : Option Edge) → s.last ≡ o → FitsLast o s → IsReceiver (stored s)
     by None e f = record {
       device = h.listener.device;
       listens = bit-few s.listener.listens;
@@ -130,50 +130,50 @@ not-eleven n h = by (n == 11) refl
 later-refusal : (n : ℕ) → (n ≢ 0 → (12 ≤ n) × (n ≤ 15)) → IsLaterRefusal (refusal_by n)
 later-refusal n h = later-by (n == 11) (n == 12) (n == 13) (n == 14) (n == 15) (not-eleven n h)
 
--- only an ear that listens was called
+-- only a receiver that listens was called
 listens-by : (called listens : ℕ) → called ≤ listens → listens ≤ 1 → (called == 1) ≡ true → (listens == 1) ≡ true
 listens-by called listens h k j = eq-eqb listens 1 (omega (arith, h, k, eqb-true called 1 j))
 
--- an ear's place is that of its numbers
-place-of : (last : WireEdge) (n : PlaceNumbers) (h : IsPlace last n) → place_by n ≡ h.place
+-- a receiver's place is that of its numbers
+place-of : (last : WireEdge) (n : WireState) (h : IsPlace last n) → place_by n ≡ h.place
 place-of last n h = ap place_by h.numbers ∙ place-back h.place (few-bits (edge_of last) h.place h.leads)
 
 -- and has them
-pub numbers-of : (last : WireEdge) (n : PlaceNumbers) → IsPlace last n → n ≡ stored_place (place_by n)
+pub numbers-of : (last : WireEdge) (n : WireState) → IsPlace last n → n ≡ stored_place (place_by n)
 numbers-of last n h = h.numbers ∙ ap stored_place (sym (place-of last n h))
 
 -- the last edge can lead there
-pub leads-of : (last : WireEdge) (n : PlaceNumbers) → IsPlace last n → CanLead (edge_of last) (place_by n)
+pub leads-of : (last : WireEdge) (n : WireState) → IsPlace last n → CanLead (edge_of last) (place_by n)
 leads-of last n h = subst (λ q. CanLead (edge_of last) q) (sym (place-of last n h)) h.leads
 
--- an ear that has accepted no edge stands before all edges
-before-of : (ear : Ear) → HasNone ear → IsBefore (standing_by ear)
-before-of ear h = record {
+-- a receiver that has accepted no edge stands before all edges
+before-of : (receiver : WireReceiver) → HasNone receiver → IsBefore (state_by receiver)
+before-of receiver h = record {
   taken = h.taken;
   place = ap place_by h.place;
   listens = ap (λ n. n == 1) h.listens;
-  refused = first-refusal ear.refused h.refused;
+  refused = first-refusal receiver.refused h.refused;
 }
 
 -- one that has accepted some stands behind the last of them
-behind-of : (ear : Ear) → HasSome ear → IsBehind (edge_of ear.last) (standing_by ear)
-behind-of ear h =
-    let p = place-of ear.last ear.place h.place in record {
+behind-of : (receiver : WireReceiver) → HasSome receiver → IsAfter (edge_of receiver.last) (state_by receiver)
+behind-of receiver h =
+    let p = place-of receiver.last receiver.place h.place in record {
       some = h.some;
-      first = λ k. (let f = h.first k in (f.0, ap (λ (q : BusState). (stored_place q).place) p ∙ (ap (λ (n : PlaceNumbers). n.place) (sym h.place.numbers) ∙ f.1)));
+      first = λ k. (let f = h.first k in (f.0, ap (λ (q : BusState). (stored_place q).place) p ∙ (ap (λ (n : WireState). n.place) (sym h.place.numbers) ∙ f.1)));
       further = h.further;
-      leads = subst (λ q. CanLead (edge_of ear.last) q) (sym p) h.place.leads;
-      refused = later-refusal ear.refused h.refused;
+      leads = subst (λ q. CanLead (edge_of receiver.last) q) (sym p) h.place.leads;
+      refused = later-refusal receiver.refused h.refused;
     }
 
--- an ear's numbers are those of a standing that fits its last edge
-pub ear-stands : (ear : Ear) → IsEar ear → CanStand (standing_by ear)
-ear-stands ear h =
-    record { listener = record { device = h.device; called = listens-by ear.called ear.listens h.called h.listens }; fits = by (ear.begun == 1) refl }
+-- a receiver's numbers are those of a state that fits its last edge
+pub receiver-fits : (receiver : WireReceiver) → IsReceiver receiver → CanBeStored (state_by receiver)
+receiver-fits receiver h =
+    record { listener = record { device = h.device; called = listens-by receiver.called receiver.listens h.called h.listens }; fits = by (receiver.begun == 1) refl }
   where
-    by : (b : Bool) → (ear.begun == 1) ≡ b → FitsLast (if b then Some (edge_of ear.last) else None) (standing_by ear)
-    by true e = behind-of ear (h.some (eqb-true ear.begun 1 e))
-    by false e = before-of ear (h.none (grind (arith, h.begun)))
+    by : (b : Bool) → (receiver.begun == 1) ≡ b → FitsLast (if b then Some (edge_of receiver.last) else None) (state_by receiver)
+    by true e = behind-of receiver (h.some (eqb-true receiver.begun 1 e))
+    by false e = before-of receiver (h.none (grind (arith, h.begun)))
 
 -- in the first place, at the first moment, no time has passed
 idle-at : (last : Edge) (p : BusState) → CanLead last p → (stored_place p).place ≡ 0 → last.time ≡ 0 → p ≡ Idle 0
@@ -181,7 +181,7 @@ idle-at last (Idle i) h k j = ap (λ t. Idle t) (h.0 ∙ j)
 idle-at last p h k j = absurd (omega (arith, k))
 
 -- behind more edges there is room for one more, with as many microseconds
-far-behind : (last : Edge) (s : Standing) (e : Edge) (t : Step) → IsBehind last s → last.time < e.time → by_row s.place e ≡ Ok t → s.taken + 99 ≤ e.time
+far-behind : (last : Edge) (s : ReceiverState) (e : Edge) (t : Step) → IsAfter last s → last.time < e.time → by_row s.place e ≡ Ok t → s.taken + 99 ≤ e.time
 far-behind last s e t h later r = by (s.taken == 1) refl
   where
     by : (b : Bool) → (s.taken == 1) ≡ b → s.taken + 99 ≤ e.time
@@ -194,11 +194,11 @@ far-behind last s e t h later r = by (s.taken == 1) refl
     by false k = (let some = h.some in let more : 1 < s.taken = grind arith in omega (arith, h.further more, later))
 
 -- one edge further
-pub record FitsNext (s : Standing) (e : Edge) (t : Step) : Type 0 where
+pub record FitsNext (s : ReceiverState) (e : Edge) (t : Step) : Type 0 where
   pub room : e.time < s.taken + 1 → s.taken ≡ 0
-  pub fits : (new : Standing) → new.taken ≡ s.taken + 1 → new.last ≡ Some e → new.place ≡ t.place → new.refused ≡ None → CanListen new.listener → CanStand new
+  pub fits : (new : ReceiverState) → new.taken ≡ s.taken + 1 → new.last ≡ Some e → new.place ≡ t.place → new.refused ≡ None → CanListen new.listener → CanBeStored new
 
-next-first : (s : Standing) (e : Edge) (t : Step) → IsBefore s → start_step (is_start e) ≡ Ok t → FitsNext s e t
+next-first : (s : ReceiverState) (e : Edge) (t : Step) → IsBefore s → start_step (is_start e) ≡ Ok t → FitsNext s e t
 next-first s e t h k = by (is_start e) refl k
   where
     by : (b : Bool) → is_start e ≡ b → start_step b ≡ Ok t → FitsNext s e t
@@ -214,7 +214,7 @@ next-first s e t h k = by (is_start e) refl k
           room = λ late. h.taken;
           fits = λ new n l p r c.
               let q : new.place ≡ Idle 0 = p ∙ sym (ap (λ (z : Step). z.place) y) in
-              let behind : IsBehind e new = record {
+              let behind : IsAfter e new = record {
                 some = omega (arith, n);
                 first = λ one. (time, ap (λ (z : BusState). (stored_place z).place) q);
                 further = λ more. absurd (omega (arith, more, n, h.taken));
@@ -224,12 +224,12 @@ next-first s e t h k = by (is_start e) refl k
               record { listener = c; fits = subst (λ o. FitsLast o new) (sym l) behind };
         }
 
-next-behind : (last : Edge) (s : Standing) (e : Edge) (t : Step) → IsBehind last s → (last.time < e.time) × (by_row s.place e ≡ Ok t) → FitsNext s e t
+next-behind : (last : Edge) (s : ReceiverState) (e : Edge) (t : Step) → IsAfter last s → (last.time < e.time) × (by_row s.place e ≡ Ok t) → FitsNext s e t
 next-behind last s e t h v =
     let far = far-behind last s e t h v.0 v.1 in record {
       room = λ late. omega (arith, late, far);
       fits = λ new n l p r c.
-          let behind : IsBehind e new = record {
+          let behind : IsAfter e new = record {
             some = omega (arith, n);
             first = λ one. absurd (omega (arith, one, n, h.some));
             further = λ more. omega (arith, far, n);
@@ -239,7 +239,7 @@ next-behind last s e t h v =
           record { listener = c; fits = subst (λ o. FitsLast o new) (sym l) behind };
     }
 
-pub fits-next : (s : Standing) (e : Edge) (t : Step) → CanStand s → step_of s.last s.place s.taken e ≡ Ok t → FitsNext s e t
+pub fits-next : (s : ReceiverState) (e : Edge) (t : Step) → CanBeStored s → step_of s.last s.place s.taken e ≡ Ok t → FitsNext s e t
 fits-next s e t h k = by s.last h.fits k
   where
     by : (o : Option Edge) → FitsLast o s → step_of o s.place s.taken e ≡ Ok t → FitsNext s e t
@@ -247,14 +247,14 @@ fits-next s e t h k = by s.last h.fits k
     by (Some last) f j = next-behind last s e t f (verdict-later last s.place s.taken e t j)
 
 -- what comes of an edge that is accepted
-pub record MovesOn (old : Standing) (e : Edge) (mid : Standing) : Type 0 where
+pub record MovesOn (old : ReceiverState) (e : Edge) (mid : ReceiverState) : Type 0 where
   pub listener : mid.listener ≡ old.listener
   pub refused : mid.refused ≡ old.refused
   pub count : mid.taken ≡ old.taken
   pub room : e.time < old.taken + 1 → old.taken ≡ 0
-  pub fits : (new : Standing) → new.taken ≡ old.taken + 1 → new.last ≡ Some e → new.place ≡ mid.place → new.refused ≡ None → CanListen new.listener → CanStand new
+  pub fits : (new : ReceiverState) → new.taken ≡ old.taken + 1 → new.last ≡ Some e → new.place ≡ mid.place → new.refused ≡ None → CanListen new.listener → CanBeStored new
 
-pub moves-on : (old mid : Standing) (e : Edge) (frame : Option Frame) → CanStand old
+pub moves-on : (old mid : ReceiverState) (e : Edge) (frame : Option Frame) → CanBeStored old
     → MatchResult (step_of old.last old.place old.taken e) (λ (s : Step). IsMoved (Ok frame) (Ok s.frame) × (mid ≡ record old { place = s.place })) (λ (w : WaveFault). RefusesAs old.taken w (Ok frame) × (mid ≡ old))
     → MovesOn old e mid
 moves-on old mid e frame h m = by (step_of old.last old.place old.taken e) refl m
@@ -266,11 +266,11 @@ moves-on old mid e frame h m = by (step_of old.last old.place old.taken e) refl 
     by (Ok s) k j =
         let n = fits-next old e s h k in
         record {
-          listener = ap (λ (x : Standing). x.listener) j.1;
-          refused = ap (λ (x : Standing). x.refused) j.1;
-          count = ap (λ (x : Standing). x.taken) j.1;
+          listener = ap (λ (x : ReceiverState). x.listener) j.1;
+          refused = ap (λ (x : ReceiverState). x.refused) j.1;
+          count = ap (λ (x : ReceiverState). x.taken) j.1;
           room = n.room;
-          fits = λ new t l p r c. n.fits new t l (p ∙ ap (λ (x : Standing). x.place) j.1) r c;
+          fits = λ new t l p r c. n.fits new t l (p ∙ ap (λ (x : ReceiverState). x.place) j.1) r c;
         }
 
 -- which faults refusals are
@@ -288,17 +288,17 @@ refused-later : (r : Refusal) (n : ℕ) (f : EdgeError) → refused_at r n ≡ f
 refused-later Start n f h = not-first f n (sym h)
 refused-later (Flawed g) n f h = tt
 
--- a standing before all edges, or behind some, that refuses one
-before-refused : (s : Standing) (r : Refusal) → IsBefore s → IsFirstRefusal (Some r) → IsBefore (record s { refused = Some r })
+-- a state before all edges, or behind some, that refuses one
+before-refused : (s : ReceiverState) (r : Refusal) → IsBefore s → IsFirstRefusal (Some r) → IsBefore (record s { refused = Some r })
 before-refused s r h k = record { taken = h.taken; place = h.place; listens = h.listens; refused = k }
 
-behind-refused : (last : Edge) (s : Standing) (r : Refusal) → IsBehind last s → IsLaterRefusal (Some r) → IsBehind last (record s { refused = Some r })
+behind-refused : (last : Edge) (s : ReceiverState) (r : Refusal) → IsAfter last s → IsLaterRefusal (Some r) → IsAfter last (record s { refused = Some r })
 behind-refused last s r h k = record { some = h.some; first = h.first; further = h.further; leads = h.leads; refused = k }
 
 -- what comes of an edge that is refused
-pub stands-refused : (old mid : Standing) (e : Edge) (r : Refusal) → CanStand old
+pub stands-refused : (old mid : ReceiverState) (e : Edge) (r : Refusal) → CanBeStored old
     → MatchResult (step_of old.last old.place old.taken e) (λ (s : Step). IsMoved (Err r) (Ok s.frame) × (mid ≡ record old { place = s.place })) (λ (w : WaveFault). RefusesAs old.taken w (Err r) × (mid ≡ old))
-    → CanStand (record mid { refused = Some r })
+    → CanBeStored (record mid { refused = Some r })
 stands-refused old mid e r h m = by old.last refl h.fits m
   where
     first : (b : Bool) → IsBefore old
@@ -313,14 +313,14 @@ stands-refused old mid e r h m = by old.last refl h.fits m
     later (Ok s) j = absurd (let x : IsMoved (Err r) (Ok s.frame) = j.0 in cc)
     later (Err f) j = (refused-later r old.taken f j.0, j.1)
 
-    stays : (o : Option Edge) → old.last ≡ o → mid ≡ old → FitsLast o (record old { refused = Some r }) → CanStand (record mid { refused = Some r })
+    stays : (o : Option Edge) → old.last ≡ o → mid ≡ old → FitsLast o (record old { refused = Some r }) → CanBeStored (record mid { refused = Some r })
     stays o e k f =
-        subst (λ (s : Standing). CanStand (record s { refused = Some r })) (sym k)
+        subst (λ (s : ReceiverState). CanBeStored (record s { refused = Some r })) (sym k)
         (record { listener = h.listener; fits = subst (λ p. FitsLast p (record old { refused = Some r })) (sym e) f })
 
     by : (o : Option Edge) → old.last ≡ o → FitsLast o old
         → MatchResult (step_of o old.place old.taken e) (λ (s : Step). IsMoved (Err r) (Ok s.frame) × (mid ≡ record old { place = s.place })) (λ (w : WaveFault). RefusesAs old.taken w (Err r) × (mid ≡ old))
-        → CanStand (record mid { refused = Some r })
+        → CanBeStored (record mid { refused = Some r })
     by None l f j =
         let k = first (is_start e) f j in
         stays None l k.1 (before-refused old r f (refused-first r old.taken k.0))

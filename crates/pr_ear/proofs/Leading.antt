@@ -10,7 +10,7 @@ use Rattle.pr_wire.specs.declared.bus_state.ByteRole.TheVariants.{First, Second,
 use Rattle.pr_wire.specs.declared.bus_state.Step.{Step}
 use Rattle.pr_wire.specs.Levels.{edge_at}
 use Rattle.pr_wire.specs.Table.{Row, atn_of, by_row, is_late, row, same, timed, where_true}
-use Rattle.pr_ear.specs.EarNumbers.{CanLead, IsMarked, StandsAt}
+use Rattle.pr_ear.specs.ReceiverNumbers.{CanLead, IsMarked, ComesAt}
 use Rattle.pr_ear.proofs.Stored.{both}
 
 -- an edge can lead to where a row leads, if it comes in the row's time
@@ -49,7 +49,7 @@ same-is true false h = absurd (let x : false ≡ true = h in cc)
 same-is false true h = absurd (let x : false ≡ true = h in cc)
 
 -- an edge stands at its moment
-stands : (t : ℕ) (a b c d l m : Bool) → a ≡ b → c ≡ d → l ≡ m → StandsAt (edge_at t a c l) t b d m
+stands : (t : ℕ) (a b c d l m : Bool) → a ≡ b → c ≡ d → l ≡ m → ComesAt (edge_at t a c l) t b d m
 stands t a b c d l m h k j = (refl, record { atn_is = h; clock_is = k; line_is = j })
 
 -- no bit more than a byte has

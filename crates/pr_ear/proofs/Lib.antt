@@ -3,8 +3,8 @@ pub mod Stored
 pub mod Leading
 pub mod Fitting
 pub mod Listening
-pub mod Standings
-pub mod Ears
+pub mod ReceiverStates
+pub mod Receivers
 pub mod DecodersStored
 pub mod DecodersFitting
 pub mod Decoded

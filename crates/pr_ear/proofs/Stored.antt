@@ -1,4 +1,4 @@
--- A standing comes back from its numbers.
+-- A state comes back from its numbers.
 use Rattle.std.proofs.Common.{◌≡◌, ℕ, suc, ◌+◌, ◌-◌, ◌*◌, ◌/◌, ◌%◌, ◌<◌, ◌≤◌, Bool, true, false, eqb, List, [], ◌∷◌, ◌++◌, length, Option, Some, None, refl, sym, ap, ◌∙◌, arith, append_assoc, append-nil, length-append}
 use Rattle.std.proofs.lemmas.Bool.{eq-eqb, eqb-true}
 use Rattle.std.specs.Prelude.{◌&&◌, ◌==◌, if◌then◌else◌}
@@ -11,13 +11,13 @@ use Rattle.pr_wire.specs.declared.bus_state.ByteRole.TheVariants.{First, Second,
 use Rattle.pr_wire.specs.Levels.{byte_of}
 use Rattle.pr_wire.specs.Packed.{bits_in}
 use Rattle.pr_ear.specs.declared.WireEdge.{WireEdge}
-use Rattle.pr_ear.specs.declared.numbers.PlaceNumbers.{PlaceNumbers}
-use Rattle.pr_ear.specs.declared.standing.Refusal.{Refusal}
-use Rattle.pr_ear.specs.declared.standing.Refusal.TheVariants.{Start, Flawed}
-use Rattle.pr_ear.specs.declared.standing.Standing.{Standing}
-use Rattle.pr_ear.specs.EarNumbers.{sending_number, stored_place}
+use Rattle.pr_ear.specs.declared.numbers.WireState.{WireState}
+use Rattle.pr_ear.specs.declared.receiver_state.Refusal.{Refusal}
+use Rattle.pr_ear.specs.declared.receiver_state.Refusal.TheVariants.{Start, Flawed}
+use Rattle.pr_ear.specs.declared.receiver_state.ReceiverState.{ReceiverState}
+use Rattle.pr_ear.specs.ReceiverNumbers.{sending_number, stored_place}
 use Rattle.pr_ear.specs.Hearing.{bit_of, edge_of, is_released}
-use Rattle.pr_ear.specs.Numbers.{bits_by, begun_number, few, place_by, refusal_by, refusal_number, sending_by, standing_by, stored, stored_last, wire_of, HasFewBits}
+use Rattle.pr_ear.specs.Numbers.{bits_by, begun_number, few, place_by, refusal_by, refusal_number, sending_by, state_by, stored, stored_last, wire_of, HasFewBits}
 
 -- bits come back from their number
 bits-back : (bs : List Bool) → bits_in (length bs) (byte_of bs) ≡ bs
@@ -99,9 +99,9 @@ last-back : (o : Option Edge) → last_by (begun_number o) (edge_of (stored_last
 last-back None = refl
 last-back (Some e) = ap (λ x. Some x) (edge-back e)
 
--- a standing comes back from its numbers
-pub standing-back : (s : Standing) → HasFewBits s.place → standing_by (stored s) ≡ s
-standing-back s h =
+-- a state comes back from its numbers
+pub state-back : (s : ReceiverState) → HasFewBits s.place → state_by (stored s) ≡ s
+state-back s h =
     let a = place-back s.place h in
     let b = last-back s.last in
     let c = refusal-back s.refused in
@@ -110,20 +110,20 @@ standing-back s h =
     rw (a, b, c, d, e) refl
 
 -- so many bits have been put into a place, and the rest of the byte has the others
-pub record HasBits (n : PlaceNumbers) (i : ℕ) (place : BusState) (rest : ℕ) : Type 0 where
+pub record HasBits (n : WireState) (i : ℕ) (place : BusState) (rest : ℕ) : Type 0 where
   pub seen : List Bool
   pub place_is : place ≡ Bit n.since (sending_by n.sending) (n.eoi == 1) seen (n.bit == 1)
   pub count : length seen ≡ i
   pub others : seen ++ bits_in (few n.count - i) rest ≡ bits_by n
 
 -- no bit has been put
-pub no-bits : (n : PlaceNumbers) (place : BusState) → place ≡ Bit n.since (sending_by n.sending) (n.eoi == 1) [] (n.bit == 1) → HasBits n 0 place n.byte
+pub no-bits : (n : WireState) (place : BusState) → place ≡ Bit n.since (sending_by n.sending) (n.eoi == 1) [] (n.bit == 1) → HasBits n 0 place n.byte
 no-bits n place h =
     let z : few n.count - 0 ≡ few n.count = omega arith in
     record { seen = []; place_is = h; count = refl; others = ap (λ k. bits_in k n.byte) z }
 
 -- one bit more
-pub one-bit : (n : PlaceNumbers) (i : ℕ) (place new : BusState) (rest next : ℕ) (b : Bool) → HasBits n i place rest → i < few n.count → few n.count ≤ 8
+pub one-bit : (n : WireState) (i : ℕ) (place new : BusState) (rest next : ℕ) (b : Bool) → HasBits n i place rest → i < few n.count → few n.count ≤ 8
     → b ≡ eqb (rest % 2) 1 → next ≡ rest / 2
     → ((since : ℕ) (sending : ByteRole) (eoi : Bool) (seen : List Bool) (bit : Bool) → place ≡ Bit since sending eoi seen bit → length seen < 8
     → new ≡ Bit since sending eoi (seen ++ b ∷ []) bit)
@@ -142,7 +142,7 @@ one-bit n i place new rest next b h l m j k p =
     }
 
 -- all bits have been put
-pub all-bits : (n : PlaceNumbers) (i : ℕ) (place : BusState) (rest : ℕ) → HasBits n i place rest → few n.count ≤ i
+pub all-bits : (n : WireState) (i : ℕ) (place : BusState) (rest : ℕ) → HasBits n i place rest → few n.count ≤ i
     → place ≡ Bit n.since (sending_by n.sending) (n.eoi == 1) (bits_by n) (n.bit == 1)
 all-bits n i place rest h l =
     let d : few n.count - i ≡ 0 = omega arith in
@@ -159,7 +159,7 @@ abbrev pub same_wires : WireEdge → WireEdge → Bool
 same_wires a b = eqb a.time b.time && (eqb a.atn b.atn && (eqb a.clock b.clock && eqb a.data b.data))
 
 -- two places have the same numbers
-abbrev pub same_places : PlaceNumbers → PlaceNumbers → Bool
+abbrev pub same_places : WireState → WireState → Bool
 same_places a b =
     eqb a.since b.since && (eqb a.released b.released && (eqb a.place b.place && (eqb a.sending b.sending
     && (eqb a.eoi b.eoi && (eqb a.count b.count && (eqb a.byte b.byte && (eqb a.bit b.bit && eqb a.unlistened b.unlistened)))))))
@@ -173,7 +173,7 @@ wires-are a b h =
     rw (eqb-true a.time b.time k.0, eqb-true a.atn b.atn l.0, eqb-true a.clock b.clock m.0, eqb-true a.data b.data m.1) refl in
     e
 
-pub places-are : (a b : PlaceNumbers) → same_places a b ≡ true → a ≡ b
+pub places-are : (a b : WireState) → same_places a b ≡ true → a ≡ b
 places-are a b h =
     let k = both (eqb a.since b.since) _ h in
     let l = both (eqb a.released b.released) _ k.1 in
@@ -202,8 +202,8 @@ pub same-number : (n : ℕ) → eqb n n ≡ true
 same-number n = eq-eqb n n refl
 
 -- the same numbers are the same
-pub same-place : (a b : PlaceNumbers) → a ≡ b → same_places a b ≡ true
-same-place a b h = ap (λ (c : PlaceNumbers). same_places c b) h ∙ (let e : same_places b b ≡ true = simp (same-number) refl in e)
+pub same-place : (a b : WireState) → a ≡ b → same_places a b ≡ true
+same-place a b h = ap (λ (c : WireState). same_places c b) h ∙ (let e : same_places b b ≡ true = simp (same-number) refl in e)
 
 pub same-wire : (a b : WireEdge) → a ≡ b → same_wires a b ≡ true
 same-wire a b h = ap (λ (c : WireEdge). same_wires c b) h ∙ (let e : same_wires b b ≡ true = simp (same-number) refl in e)

@@ -14,8 +14,8 @@ use Rattle.pr_decode.specs.Taking.{HasRead, last_time}
 use Rattle.pr_ear.specs.declared.WireEdge.{WireEdge}
 use Rattle.pr_ear.specs.declared.decoder_numbers.WireByte.{WireByte}
 use Rattle.pr_ear.specs.declared.decoder_numbers.WireDecoder.{WireDecoder}
-use Rattle.pr_ear.specs.declared.decoding.DecoderTold.{DecoderTold}
-use Rattle.pr_ear.specs.declared.decoding.DecoderTold.TheVariants.{Done, GoesBack, NoDecoder}
+use Rattle.pr_ear.specs.declared.decoding.DecoderResult.{DecoderResult}
+use Rattle.pr_ear.specs.declared.decoding.DecoderResult.TheVariants.{Done, GoesBack, NoDecoder}
 use Rattle.pr_ear.specs.Decoding.{byte_numbers, last_moment, no_byte}
 use Rattle.pr_ear.specs.DecoderNumbers.{no_edge}
 use Rattle.pr_ear.specs.Hearing.{bit_of, edge_of}
@@ -155,7 +155,7 @@ pub record HasDecoded (edges : List WireEdge) (given : List Reading) (w : WireDe
   pub numbers : w ≡ stored decoder
 
 -- what an edge leaves: it was taken, or the decoder is as it was
-abbrev pub LeavesOf : List WireEdge → (given : List Reading) → WireEdge → DecoderTold → (old new : WireDecoder) → Type 0
+abbrev pub LeavesOf : List WireEdge → (given : List Reading) → WireEdge → DecoderResult → (old new : WireDecoder) → Type 0
 LeavesOf edges given edge (Done reading) old new = HasDecoded (edges ++ edge ∷ []) (given ++ option_to_list reading) new
 LeavesOf edges given edge GoesBack old new = new ≡ old
 LeavesOf edges given edge NoDecoder old new = new ≡ old

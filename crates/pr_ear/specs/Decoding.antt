@@ -12,8 +12,8 @@ use Rattle.pr_ear.specs.declared.Answer.{Answer}
 use Rattle.pr_ear.specs.declared.WireEdge.{WireEdge}
 use Rattle.pr_ear.specs.declared.decoder_numbers.WireByte.{WireByte}
 use Rattle.pr_ear.specs.declared.decoder_numbers.WireReading.{WireReading}
-use Rattle.pr_ear.specs.declared.decoding.DecoderTold.{DecoderTold}
-use Rattle.pr_ear.specs.declared.decoding.DecoderTold.TheVariants.{Done, GoesBack, NoDecoder}
+use Rattle.pr_ear.specs.declared.decoding.DecoderResult.{DecoderResult}
+use Rattle.pr_ear.specs.declared.decoding.DecoderResult.TheVariants.{Done, GoesBack, NoDecoder}
 use Rattle.pr_ear.specs.Hearing.{bit_of, edge_of}
 
 -- the moment of the last of some edges
@@ -35,7 +35,7 @@ abbrev pub settled_by : List WireEdge → List Reading
 settled_by edges = settled_of (map edge_of edges)
 
 -- what is told of one edge more is right: the reading that it settles; or that it stands before the last
-abbrev pub TellsNext : List WireEdge → WireEdge → DecoderTold → Type 0
+abbrev pub TellsNext : List WireEdge → WireEdge → DecoderResult → Type 0
 TellsNext edges edge (Done reading) =
     (settled_by (edges ++ edge ∷ []) ≡ settled_by edges ++ option_to_list reading) × (StandsBefore edge.time (last_moment edges) → ⊥)
 TellsNext edges edge GoesBack = StandsBefore edge.time (last_moment edges)
@@ -43,7 +43,7 @@ TellsNext edges edge NoDecoder = ⊥
 
 -- what is told of an end behind these edges is right, where these readings were told: they are all that is settled, and the end cuts
 -- one more, or none
-abbrev pub TellsCut : List WireEdge → (given : List Reading) → DecoderTold → Type 0
+abbrev pub TellsCut : List WireEdge → (given : List Reading) → DecoderResult → Type 0
 TellsCut edges given (Done reading) = (settled_by edges ≡ given) × (said_by edges ≡ given ++ option_to_list reading)
 TellsCut edges given GoesBack = ⊥
 TellsCut edges given NoDecoder = ⊥
@@ -110,12 +110,12 @@ reading_numbers (Some (IncompleteByte t (glitch.ClockTimeout time))) = record { 
 reading_numbers (Some (IncompleteByte t glitch.Cut)) = record { byte = byte_numbers t; end = 0; kind = 6 }
 
 -- what is told, as numbers: the reading, and the answer
-abbrev pub reading_of : DecoderTold → WireReading
+abbrev pub reading_of : DecoderResult → WireReading
 reading_of (Done reading) = reading_numbers reading
 reading_of GoesBack = reading_numbers None
 reading_of NoDecoder = reading_numbers None
 
-abbrev pub decoder_answer_of : DecoderTold → Answer
+abbrev pub decoder_answer_of : DecoderResult → Answer
 decoder_answer_of (Done None) = record { code = 0; fault = 0; place = 0; length = 0 }
 decoder_answer_of (Done (Some reading)) = record { code = 0; fault = 0; place = 0; length = 1 }
 decoder_answer_of GoesBack = record { code = 2; fault = 12; place = 0; length = 0 }

@@ -11,8 +11,8 @@ use Rattle.pr_wire.specs.Table.{fault_of}
 use Rattle.pr_receiver.specs.Heard.{heard_of}
 use Rattle.pr_ear.specs.declared.WireEdge.{WireEdge}
 use Rattle.pr_ear.specs.declared.Answer.{Answer}
-use Rattle.pr_ear.specs.declared.Told.{Told}
-use Rattle.pr_ear.specs.declared.Told.TheVariants.{Heard, Unlawful, TooSmall, NoDevice}
+use Rattle.pr_ear.specs.declared.HearResult.{HearResult}
+use Rattle.pr_ear.specs.declared.HearResult.TheVariants.{Heard, Unlawful, TooSmall, NoDevice}
 
 -- a line is released unless its number is 0
 abbrev pub is_released : ℕ → Bool
@@ -44,7 +44,7 @@ AreHeard device edges numbers =
     (frames : List Frame) × IsDevice device × Spells (map edge_of edges) frames × (numbers ≡ map number_of (heard_of device frames))
 
 -- what is told is right, by the buffer before and after
-abbrev pub Tells : ℕ → List WireEdge → List ℕ → List ℕ → Told → Type 0
+abbrev pub Tells : ℕ → List WireEdge → List ℕ → List ℕ → HearResult → Type 0
 Tells device edges old new (Heard n) =
     (numbers : List ℕ) × AreHeard device edges numbers × (n ≡ length numbers) × (n ≤ length old) × (new ≡ numbers ++ drop n old)
 Tells device edges old new (Unlawful fault) = IsDevice device × (fault_of (map edge_of edges) ≡ Some fault) × (new ≡ old)
@@ -73,8 +73,8 @@ fault_index (Truncated at) = at
 fault_index NoMemory = 0
 
 -- what is told, as numbers
-abbrev pub answer_of : Told → Answer
-answer_of (Heard n) = record { code = 0; fault = 0; place = 0; length = n }
-answer_of (Unlawful fault) = record { code = 2; fault = fault_code fault; place = fault_index fault; length = 0 }
-answer_of (TooSmall n) = record { code = 4; fault = 0; place = 0; length = n }
-answer_of NoDevice = record { code = 2; fault = 21; place = 0; length = 0 }
+abbrev pub hearing_answer_of : HearResult → Answer
+hearing_answer_of (Heard n) = record { code = 0; fault = 0; place = 0; length = n }
+hearing_answer_of (Unlawful fault) = record { code = 2; fault = fault_code fault; place = fault_index fault; length = 0 }
+hearing_answer_of (TooSmall n) = record { code = 4; fault = 0; place = 0; length = n }
+hearing_answer_of NoDevice = record { code = 2; fault = 21; place = 0; length = 0 }

@@ -3,7 +3,7 @@ pub mod Buffers
 pub mod Decoding
 pub mod DecoderNumbers
 pub mod DecoderTaken
-pub mod EarNumbers
+pub mod ReceiverNumbers
 pub mod Numbers
 pub mod Taken
-pub mod Ears
+pub mod Receivers

@@ -1,4 +1,4 @@
--- Linking words: how a standing is held in an ear's numbers. No reader needs to believe them; that a standing comes back from its numbers
+-- Linking words: how a state is held in a receiver's numbers. No reader needs to believe them; that a state comes back from its numbers
 -- is proved.
 use Rattle.std.specs.Prelude.{ℕ, ◌≤◌, Bool, ◌==◌, nat_lt, if◌then◌else◌, List, length, Option, Some, None}
 use Rattle.pr_wire.specs.declared.Edge.{Edge}
@@ -9,12 +9,12 @@ use Rattle.pr_wire.specs.declared.bus_state.ByteRole.{ByteRole}
 use Rattle.pr_wire.specs.declared.bus_state.ByteRole.TheVariants.{First, Second, Data}
 use Rattle.pr_wire.specs.Packed.{bits_in}
 use Rattle.pr_ear.specs.declared.WireEdge.{WireEdge}
-use Rattle.pr_ear.specs.declared.numbers.Ear.{Ear}
-use Rattle.pr_ear.specs.declared.numbers.PlaceNumbers.{PlaceNumbers}
-use Rattle.pr_ear.specs.declared.standing.Refusal.{Refusal}
-use Rattle.pr_ear.specs.declared.standing.Refusal.TheVariants.{Start, Flawed}
-use Rattle.pr_ear.specs.declared.standing.Standing.{Standing}
-use Rattle.pr_ear.specs.EarNumbers.{stored_place}
+use Rattle.pr_ear.specs.declared.numbers.WireReceiver.{WireReceiver}
+use Rattle.pr_ear.specs.declared.numbers.WireState.{WireState}
+use Rattle.pr_ear.specs.declared.receiver_state.Refusal.{Refusal}
+use Rattle.pr_ear.specs.declared.receiver_state.Refusal.TheVariants.{Start, Flawed}
+use Rattle.pr_ear.specs.declared.receiver_state.ReceiverState.{ReceiverState}
+use Rattle.pr_ear.specs.ReceiverNumbers.{stored_place}
 use Rattle.pr_ear.specs.Hearing.{bit_of, edge_of}
 
 -- which byte is sent, by its number
@@ -30,18 +30,18 @@ abbrev pub few : ℕ → ℕ
 few count = if nat_lt 8 count then 0 else count
 
 -- the bits that have come, by their numbers
-abbrev pub bits_by : PlaceNumbers → List Bool
+abbrev pub bits_by : WireState → List Bool
 bits_by n = bits_in (few n.count) n.byte
 
 -- a place in which a byte is sent, by its numbers
-abbrev pub byte_place_by : PlaceNumbers → BusState
+abbrev pub byte_place_by : WireState → BusState
 byte_place_by n =
     if n.place == 6 then Bit n.since (sending_by n.sending) (n.eoi == 1) (bits_by n) (n.bit == 1)
     else (if n.place == 7 then High n.since (sending_by n.sending) (n.eoi == 1) (bits_by n) (n.bit == 1)
     else Last n.since (sending_by n.sending) (n.eoi == 1) (bits_by n))
 
 -- a place by its numbers
-abbrev pub place_by : PlaceNumbers → BusState
+abbrev pub place_by : WireState → BusState
 place_by n =
     if n.place == 0 then Idle n.since
     else (if n.place == 1 then Call n.since (n.bit == 1)
@@ -80,8 +80,8 @@ abbrev pub begun_number : Option Edge → ℕ
 begun_number None = 0
 begun_number (Some e) = 1
 
--- the numbers of a standing
-abbrev pub stored : Standing → Ear
+-- the numbers of a state
+abbrev pub stored : ReceiverState → WireReceiver
 stored s =
     record {
       taken = s.taken;
@@ -94,15 +94,15 @@ stored s =
       called = bit_of s.listener.called;
     }
 
--- a standing by its numbers
-abbrev pub standing_by : Ear → Standing
-standing_by ear =
+-- a state by its numbers
+abbrev pub state_by : WireReceiver → ReceiverState
+state_by receiver =
     record {
-      taken = ear.taken;
-      last = if ear.begun == 1 then Some (edge_of ear.last) else None;
-      place = place_by ear.place;
-      listener = record { device = ear.device; listens = ear.listens == 1; called = ear.called == 1 };
-      refused = refusal_by ear.refused;
+      taken = receiver.taken;
+      last = if receiver.begun == 1 then Some (edge_of receiver.last) else None;
+      place = place_by receiver.place;
+      listener = record { device = receiver.device; listens = receiver.listens == 1; called = receiver.called == 1 };
+      refused = refusal_by receiver.refused;
     }
 
 -- a place has no more bits than a byte

@@ -1,8 +1,10 @@
--- Linking words: what ties an ear to the edges that it was given. No reader needs to believe them.
+-- Linking words: what ties a receiver to the edges that it was given. No reader needs to believe them.
 use Rattle.std.specs.Prelude.{◌≡◌, ℕ, ◌+◌, ◌<◌, ◌≤◌, true, false, List, ◌∷◌, [], ◌++◌, map, Option, Some, None, Result, Ok, Err}
 use Rattle.pr_page.specs.declared.input.Input.{Input}
+use Rattle.pr_wire.specs.Delays.{bounds_of}
 use Rattle.pr_wire.specs.declared.Edge.{Edge}
 use Rattle.pr_wire.specs.declared.Frame.{Frame}
+use Rattle.pr_wire.specs.declared.delay.Kind.TheVariants as kind
 use Rattle.pr_wire.specs.Pieces.{IsLawful}
 use Rattle.pr_wire.specs.declared.WaveFault.{WaveFault}
 use Rattle.pr_wire.specs.declared.WaveFault.TheVariants as fault
@@ -14,13 +16,13 @@ use Rattle.pr_receiver.specs.Given.{frames_ended, input_at}
 use Rattle.pr_receiver.specs.Kept.{kept_of}
 use Rattle.pr_receiver.specs.declared.listener.Listener.{Listener}
 use Rattle.pr_ear.specs.declared.WireEdge.{WireEdge}
-use Rattle.pr_ear.specs.declared.numbers.Ear.{Ear}
-use Rattle.pr_ear.specs.declared.standing.Refusal.{Refusal}
-use Rattle.pr_ear.specs.declared.standing.Refusal.TheVariants.{Start, Flawed}
-use Rattle.pr_ear.specs.declared.standing.Standing.{Standing}
+use Rattle.pr_ear.specs.declared.numbers.WireReceiver.{WireReceiver}
+use Rattle.pr_ear.specs.declared.receiver_state.Refusal.{Refusal}
+use Rattle.pr_ear.specs.declared.receiver_state.Refusal.TheVariants.{Start, Flawed}
+use Rattle.pr_ear.specs.declared.receiver_state.ReceiverState.{ReceiverState}
 use Rattle.pr_ear.specs.Hearing.{edge_of, IsDevice}
-use Rattle.pr_ear.specs.EarNumbers.{stored_place, CanLead, IsEar}
-use Rattle.pr_ear.specs.Numbers.{standing_by}
+use Rattle.pr_ear.specs.ReceiverNumbers.{stored_place, CanLead, IsReceiver}
+use Rattle.pr_ear.specs.Numbers.{state_by}
 
 -- the fault with which an edge was refused, at its index
 abbrev pub refused_at : Refusal → ℕ → WaveFault
@@ -32,8 +34,8 @@ abbrev pub HasRoom : Option Edge → BusState → ℕ → Type 0
 HasRoom None place n = n ≡ 0
 HasRoom (Some last) place n = last.time < n → (n ≡ 1) × (place ≡ Idle 0)
 
--- a standing is that of a device behind these edges, each of which was accepted
-pub record Stands (device : ℕ) (edges : List Edge) (s : Standing) : Type 0 where
+-- a state is that of a device behind these edges, each of which was accepted
+pub record IsStateAfter (device : ℕ) (edges : List Edge) (s : ReceiverState) : Type 0 where
   pub come : Reached
   pub leads : reached begin edges ≡ Ok come
   pub last : s.last ≡ come.last
@@ -43,12 +45,12 @@ pub record Stands (device : ℕ) (edges : List Edge) (s : Standing) : Type 0 whe
   pub room : HasRoom s.last s.place s.taken
 
 -- the edges were accepted, or refused with their first fault
-abbrev pub CameTo : ℕ → List Edge → Standing → Option Refusal → Type 0
-CameTo device edges s None = Stands device edges s
+abbrev pub CameTo : ℕ → List Edge → ReceiverState → Option Refusal → Type 0
+CameTo device edges s None = IsStateAfter device edges s
 CameTo device edges s (Some refusal) = (IsAllowed edges → ⊥) × (fault_of edges ≡ Some (refused_at refusal s.taken))
 
--- a standing is that of a device to which these edges were given
-pub record HasCome (device : ℕ) (edges : List Edge) (s : Standing) : Type 0 where
+-- a state is that of a device to which these edges were given
+pub record HasCome (device : ℕ) (edges : List Edge) (s : ReceiverState) : Type 0 where
   pub device_is : s.listener.device ≡ device
   pub came : CameTo device edges s s.refused
 
@@ -81,30 +83,30 @@ abbrev pub IsLaterRefusal : Option Refusal → Type 0
 IsLaterRefusal (Some Start) = ⊥
 IsLaterRefusal _ = Unit {0}
 
--- a standing before all edges, and one behind some
-pub record IsBefore (s : Standing) : Type 0 where
+-- a state before all edges, and one behind some
+pub record IsBefore (s : ReceiverState) : Type 0 where
   pub taken : s.taken ≡ 0
   pub place : s.place ≡ Idle 0
   pub listens : s.listener.listens ≡ false
   pub refused : IsFirstRefusal s.refused
 
-pub record IsBehind (last : Edge) (s : Standing) : Type 0 where
+pub record IsAfter (last : Edge) (s : ReceiverState) : Type 0 where
   pub some : 0 < s.taken
   pub first : s.taken ≡ 1 → (last.time ≡ 0) × ((stored_place s.place).place ≡ 0)
-  pub further : 1 < s.taken → s.taken + 98 ≤ last.time
+  pub further : 1 < s.taken → s.taken + (bounds_of kind.Bb).0 ≤ last.time + 2
   pub leads : CanLead last s.place
   pub refused : IsLaterRefusal s.refused
 
-abbrev pub FitsLast : Option Edge → Standing → Type 0
+abbrev pub FitsLast : Option Edge → ReceiverState → Type 0
 FitsLast None s = IsBefore s
-FitsLast (Some last) s = IsBehind last s
+FitsLast (Some last) s = IsAfter last s
 
--- a standing is stored as the numbers of an ear
-pub record CanStand (s : Standing) : Type 0 where
+-- a state is stored as the numbers of a receiver
+pub record CanBeStored (s : ReceiverState) : Type 0 where
   pub listener : CanListen s.listener
   pub fits : FitsLast s.last s
 
--- the ear was begun for this device and then given these edges, in this order, and no others
-pub record HasTaken (device : ℕ) (edges : List WireEdge) (ear : Ear) : Type 0 where
-  pub ear_is : IsEar ear
-  pub come : HasCome device (map edge_of edges) (standing_by ear)
+-- the receiver was begun for this device and then given these edges, in this order, and no others
+pub record HasReceived (device : ℕ) (edges : List WireEdge) (receiver : WireReceiver) : Type 0 where
+  pub receiver_is : IsReceiver receiver
+  pub come : HasCome device (map edge_of edges) (state_by receiver)

@@ -4,8 +4,8 @@
 ghost use Rattle.std.specs.Prelude.{◌≡◌, ◌≢◌, ◌++◌, ◌∷◌, [], ℕ, List, Option, None};
 ghost use Rattle.pr_decode.specs.declared.reading.Reading.{Reading};
 ghost use Rattle.pr_ear.specs.declared.WireEdge.{WireEdge};
-ghost use Rattle.pr_ear.specs.declared.decoding.DecoderTold.{DecoderTold};
-ghost use Rattle.pr_ear.specs.declared.decoding.DecoderTold.TheVariants.{Done, GoesBack, NoDecoder};
+ghost use Rattle.pr_ear.specs.declared.decoding.DecoderResult.{DecoderResult};
+ghost use Rattle.pr_ear.specs.declared.decoding.DecoderResult.TheVariants.{Done, GoesBack, NoDecoder};
 ghost use Rattle.pr_ear.specs.Decoding.{TellsCut, TellsNext, decoder_answer_of, reading_of};
 ghost use Rattle.pr_ear.specs.DecoderNumbers.{IsDecoder};
 ghost use Rattle.pr_ear.specs.DecoderTaken.{HasDecoded, LeavesOf};
@@ -16,7 +16,7 @@ use pr_decode::{Decoder, GoesBack, Reading, readings_add_up};
 
 /// What a decoder tells.
 #[derive(Clone, Copy, Debug, PartialEq, Eq)]
-pub enum DecoderTold {
+pub enum DecoderResult {
     /// The call did what it is for. With an edge, or an end: the reading that it settles, if it settles one.
     Done(Option<Reading>),
     /// The edge stands before the one taken last.
@@ -35,49 +35,49 @@ pub fn begin_decoder(decoder: &mut WireDecoder)
 /// Gives a decoder the next edge of a recording, and tells the reading that it settles. An edge that
 /// stands before the one taken last is refused, and the decoder is then as it was; likewise where its
 /// numbers are not those of one.
-pub fn decode_edge(decoder: &mut WireDecoder, edge: WireEdge) -> DecoderTold
+pub fn decode_edge(decoder: &mut WireDecoder, edge: WireEdge) -> DecoderResult
     ensures tells { (edges : List WireEdge) (given : List Reading) → HasDecoded edges given decoder.old → TellsNext edges edge result }
     ensures takes { (edges : List WireEdge) (given : List Reading) → HasDecoded edges given decoder.old →
         LeavesOf edges given edge result decoder.old decoder.new }
     ensures decoder { IsDecoder decoder.old → result ≢ NoDecoder }
-    ensures back { result ≡ DecoderTold.GoesBack → decoder.new ≡ decoder.old }
+    ensures back { result ≡ DecoderResult.GoesBack → decoder.new ≡ decoder.old }
     ensures no_decoder { (IsDecoder decoder.old → ⊥) → (result ≡ NoDecoder) × (decoder.new ≡ decoder.old) }
 {
     readings_add_up();
     let Some(mut restored) = restore(decoder) else {
-        return DecoderTold::NoDecoder;
+        return DecoderResult::NoDecoder;
     };
     match restored.take(edge_for(edge)) {
         Ok(reading) => {
             *decoder = store(&restored);
-            DecoderTold::Done(reading)
+            DecoderResult::Done(reading)
         }
-        Err(GoesBack) => DecoderTold::GoesBack,
+        Err(GoesBack) => DecoderResult::GoesBack,
     }
 }
 
 /// Tells the reading that the end of a recording cuts, if it cuts one. The decoder may be given more
 /// edges.
-pub fn end_decoder(decoder: &WireDecoder) -> DecoderTold
+pub fn end_decoder(decoder: &WireDecoder) -> DecoderResult
     ensures tells { (edges : List WireEdge) (given : List Reading) → HasDecoded edges given decoder.now → TellsCut edges given result }
     ensures decoder { IsDecoder decoder.now → result ≢ NoDecoder }
     ensures no_decoder { (IsDecoder decoder.now → ⊥) → result ≡ NoDecoder }
 {
     match restore(decoder) {
-        Some(restored) => DecoderTold::Done(restored.finish()),
-        None => DecoderTold::NoDecoder,
+        Some(restored) => DecoderResult::Done(restored.finish()),
+        None => DecoderResult::NoDecoder,
     }
 }
 
 /// What a decoder tells, as numbers.
-fn answer(told: DecoderTold) -> Answer
-    ensures { result ≡ decoder_answer_of told }
+fn decoder_answer(outcome: DecoderResult) -> Answer
+    ensures { result ≡ decoder_answer_of outcome }
 {
-    let (code, fault, length) = match told {
-        DecoderTold::Done(None) => (0, 0, 0),
-        DecoderTold::Done(Some(_)) => (0, 0, 1),
-        DecoderTold::GoesBack => (2, 12, 0),
-        DecoderTold::NoDecoder => (2, 27, 0),
+    let (code, fault, length) = match outcome {
+        DecoderResult::Done(None) => (0, 0, 0),
+        DecoderResult::Done(Some(_)) => (0, 0, 1),
+        DecoderResult::GoesBack => (2, 12, 0),
+        DecoderResult::NoDecoder => (2, 27, 0),
     };
     Answer {
         code,
@@ -88,12 +88,12 @@ fn answer(told: DecoderTold) -> Answer
 }
 
 /// The reading that is told, as numbers.
-fn reading(told: DecoderTold) -> WireReading
-    ensures { result ≡ reading_of told }
+fn reading(outcome: DecoderResult) -> WireReading
+    ensures { result ≡ reading_of outcome }
 {
-    match told {
-        DecoderTold::Done(reading) => numbers_of_reading(reading),
-        DecoderTold::GoesBack | DecoderTold::NoDecoder => numbers_of_reading(None),
+    match outcome {
+        DecoderResult::Done(reading) => numbers_of_reading(reading),
+        DecoderResult::GoesBack | DecoderResult::NoDecoder => numbers_of_reading(None),
     }
 }
 
@@ -111,20 +111,20 @@ pub extern "C" fn print1525_decode_edge(
     decoder: &mut WireDecoder,
     edge: &WireEdge,
     out: &mut WireReading,
-    told: &mut Answer,
+    answer: &mut Answer,
 )
     ensures tells { (edges : List WireEdge) (given : List Reading) → HasDecoded edges given decoder.old →
-        (said : DecoderTold) × TellsNext edges edge.now said × LeavesOf edges given edge.now said decoder.old decoder.new
-        × (out.new ≡ reading_of said) × (told.new ≡ decoder_answer_of said) }
-    ensures decoder { IsDecoder decoder.old → (said : DecoderTold) × (said ≢ NoDecoder)
-        × (said ≡ DecoderTold.GoesBack → decoder.new ≡ decoder.old)
-        × (out.new ≡ reading_of said) × (told.new ≡ decoder_answer_of said) }
+        (said : DecoderResult) × TellsNext edges edge.now said × LeavesOf edges given edge.now said decoder.old decoder.new
+        × (out.new ≡ reading_of said) × (answer.new ≡ decoder_answer_of said) }
+    ensures decoder { IsDecoder decoder.old → (said : DecoderResult) × (said ≢ NoDecoder)
+        × (said ≡ DecoderResult.GoesBack → decoder.new ≡ decoder.old)
+        × (out.new ≡ reading_of said) × (answer.new ≡ decoder_answer_of said) }
     ensures no_decoder { (IsDecoder decoder.old → ⊥) →
-        (decoder.new ≡ decoder.old) × (out.new ≡ reading_of NoDecoder) × (told.new ≡ decoder_answer_of NoDecoder) }
+        (decoder.new ≡ decoder.old) × (out.new ≡ reading_of NoDecoder) × (answer.new ≡ decoder_answer_of NoDecoder) }
 {
     let said = decode_edge(decoder, *edge);
     *out = reading(said);
-    *told = answer(said);
+    *answer = decoder_answer(said);
 }
 
 /// Tells the reading that the end of a recording cuts.
@@ -132,16 +132,16 @@ pub extern "C" fn print1525_decode_edge(
 pub extern "C" fn print1525_decode_end(
     decoder: &WireDecoder,
     out: &mut WireReading,
-    told: &mut Answer,
+    answer: &mut Answer,
 )
     ensures tells { (edges : List WireEdge) (given : List Reading) → HasDecoded edges given decoder.now →
-        (said : DecoderTold) × TellsCut edges given said × (out.new ≡ reading_of said) × (told.new ≡ decoder_answer_of said) }
-    ensures decoder { IsDecoder decoder.now → (said : DecoderTold) × (said ≢ NoDecoder)
-        × (out.new ≡ reading_of said) × (told.new ≡ decoder_answer_of said) }
+        (said : DecoderResult) × TellsCut edges given said × (out.new ≡ reading_of said) × (answer.new ≡ decoder_answer_of said) }
+    ensures decoder { IsDecoder decoder.now → (said : DecoderResult) × (said ≢ NoDecoder)
+        × (out.new ≡ reading_of said) × (answer.new ≡ decoder_answer_of said) }
     ensures no_decoder { (IsDecoder decoder.now → ⊥) →
-        (out.new ≡ reading_of NoDecoder) × (told.new ≡ decoder_answer_of NoDecoder) }
+        (out.new ≡ reading_of NoDecoder) × (answer.new ≡ decoder_answer_of NoDecoder) }
 {
     let said = end_decoder(decoder);
     *out = reading(said);
-    *told = answer(said);
+    *answer = decoder_answer(said);
 }

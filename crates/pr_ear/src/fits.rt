@@ -1,16 +1,14 @@
-//! Whether numbers are those of an ear.
+//! Whether numbers are those of a receiver.
 
 ghost use Rattle.std.specs.Prelude.{true, ◌≡◌, ◌↔◌, ◌≤◌, ◌+◌, ◌<◌};
+ghost use Rattle.pr_wire.specs.Delays.{bounds_of};
 ghost use Rattle.pr_wire.specs.declared.bus_state.BusState.{BusState};
-ghost use Rattle.pr_ear.specs.EarNumbers.{CanLead, HasLevels, HasNone, HasSome, IsEar, IsMarked, IsPlace, StandsAt};
+ghost use Rattle.pr_wire.specs.declared.delay.Kind.TheVariants as kind;
+ghost use Rattle.pr_ear.specs.ReceiverNumbers.{CanLead, HasLevels, HasNone, HasSome, IsReceiver, IsMarked, IsPlace, ComesAt};
 
-use crate::numbers::{Ear, NO_EDGE, PlaceNumbers, numbers_of_place, place_for, plain};
+use crate::numbers::{NO_EDGE, WireReceiver, WireState, numbers_of_place, place_for, plain};
 use crate::{WireEdge, edge_for, is_device};
-use pr_wire::{BusState, ByteRole, Edge};
-
-/// How many microseconds more the last moment has at least than edges were accepted, once there are two: the
-/// second stands at 100 or later.
-const AHEAD: u64 = 98;
+use pr_wire::{BusState, ByteRole, Edge, Kind, bounds};
 
 /// Whether an edge has these levels.
 fn has_levels(edge: Edge, atn: bool, clock: bool, line: bool) -> bool
@@ -21,7 +19,7 @@ fn has_levels(edge: Edge, atn: bool, clock: bool, line: bool) -> bool
 
 /// Whether an edge stands at a moment, and has these levels.
 fn stands_at(edge: Edge, since: u64, atn: bool, clock: bool, line: bool) -> bool
-    ensures { result ≡ true ↔ StandsAt edge since atn clock line }
+    ensures { result ≡ true ↔ ComesAt edge since atn clock line }
 {
     since == edge.time && has_levels(edge, atn, clock, line)
 }
@@ -38,7 +36,10 @@ fn can_call(edge: Edge, since: u64, pulled: bool) -> bool
     ensures { result ≡ true ↔ CanLead edge (BusState.Call since pulled) }
 {
     if pulled {
-        has_levels(edge, false, false, false) && since <= edge.time && edge.time - since <= 1000
+        let (_, _, greatest) = bounds(Kind::At);
+        has_levels(edge, false, false, false)
+            && since <= edge.time
+            && edge.time - since <= u64::from(greatest)
     } else {
         stands_at(edge, since, false, false, true)
     }
@@ -49,10 +50,25 @@ fn can_free(edge: Edge, since: u64, unlistened: bool, released: bool) -> bool
     ensures { result ≡ true ↔ CanLead edge (BusState.Freed since unlistened released) }
 {
     if released {
-        has_levels(edge, true, false, true) && since < edge.time && edge.time - since <= 60
+        let (least, _, greatest) = bounds(Kind::Dr);
+        let wait = edge.time.saturating_sub(since);
+        has_levels(edge, true, false, true)
+            && u64::from(least) <= wait
+            && wait <= u64::from(greatest)
     } else {
         stands_at(edge, since, true, false, false)
     }
+}
+
+/// Whether an edge can lead to the answer to end-or-identify.
+fn can_answer(edge: Edge, since: u64, released: u64) -> bool
+    ensures { result ≡ true ↔ CanLead edge (BusState.Pulse since released) }
+{
+    let (least, _, greatest) = bounds(Kind::Ye);
+    let wait = since.saturating_sub(released);
+    stands_at(edge, since, true, true, false)
+        && u64::from(least) <= wait
+        && wait <= u64::from(greatest)
 }
 
 /// Whether an edge can lead to a place.
@@ -64,10 +80,7 @@ fn can_lead(edge: Edge, place: &BusState) -> bool
         BusState::Call(since, pulled) => can_call(edge, *since, *pulled),
         BusState::Ready(since, sending) => stands_at(edge, *since, sending.atn(), true, false),
         BusState::Free(since, sending) => stands_at(edge, *since, sending.atn(), true, true),
-        BusState::Pulse(since, released) => {
-            let wait = since.saturating_sub(*released);
-            stands_at(edge, *since, true, true, false) && 200 <= wait && wait <= 250
-        }
+        BusState::Pulse(since, released) => can_answer(edge, *since, *released),
         BusState::After(since) => stands_at(edge, *since, true, true, true),
         BusState::Bit {
             since,
@@ -106,7 +119,7 @@ fn can_lead(edge: Edge, place: &BusState) -> bool
 }
 
 /// Whether two places have the same numbers.
-fn are_same(a: &PlaceNumbers, b: &PlaceNumbers) -> bool
+fn are_same(a: &WireState, b: &WireState) -> bool
     ensures { result ≡ true ↔ (a.now ≡ b.now) }
 {
     *a == *b
@@ -120,58 +133,64 @@ pub fn is_no_edge(edge: WireEdge) -> bool
 }
 
 /// Whether numbers are those of a place to which an edge can lead.
-fn is_place(last: WireEdge, numbers: &PlaceNumbers) -> bool
+fn is_place(last: WireEdge, numbers: &WireState) -> bool
     ensures { result ≡ true ↔ IsPlace last numbers.now }
 {
     let place = place_for(numbers);
     are_same(numbers, &numbers_of_place(&place)) && can_lead(edge_for(last), &place)
 }
 
-/// Whether numbers are those of an ear that has accepted no edge.
-fn has_none(ear: &Ear) -> bool
-    ensures { result ≡ true ↔ HasNone ear.now }
+/// Whether numbers are those of a receiver that has accepted no edge.
+fn has_none(receiver: &WireReceiver) -> bool
+    ensures { result ≡ true ↔ HasNone receiver.now }
 {
-    ear.taken == 0
-        && is_no_edge(ear.last)
-        && are_same(&ear.place, &plain(0, 0))
-        && ear.listens == 0
-        && (ear.refused == 0 || ear.refused == 11)
+    receiver.taken == 0
+        && is_no_edge(receiver.last)
+        && are_same(&receiver.place, &plain(0, 0))
+        && receiver.listens == 0
+        && (receiver.refused == 0 || receiver.refused == 11)
 }
 
 /// Whether so many edges may have come, the last of them at this moment and to a place of this number.
 fn are_counted(taken: usize, time: u64, place: u8) -> bool
     ensures some { result ≡ true → 0 < taken }
     ensures first { result ≡ true → taken ≡ 1 → (time ≡ 0) × (place ≡ 0) }
-    ensures further { result ≡ true → 1 < taken → taken + 98 ≤ time }
-    ensures all { 0 < taken → (taken ≡ 1 → (time ≡ 0) × (place ≡ 0)) → (1 < taken → taken + 98 ≤ time) → result ≡ true }
+    ensures further { result ≡ true → 1 < taken → taken + (bounds_of kind.Bb).0 ≤ time + 2 }
+    ensures all { 0 < taken → (taken ≡ 1 → (time ≡ 0) × (place ≡ 0)) → (1 < taken → taken + (bounds_of kind.Bb).0 ≤ time + 2) → result ≡ true }
 {
     match taken {
         0 => false,
         1 => time == 0 && place == 0,
-        _ => AHEAD <= time && taken as u64 <= time - AHEAD,
+        _ => {
+            let (least, _, _) = bounds(Kind::Bb);
+            u64::from(least) <= time && taken as u64 - 2 <= time - u64::from(least)
+        }
     }
 }
 
-/// Whether numbers are those of an ear that has accepted some edges.
-fn has_some(ear: &Ear) -> bool
-    ensures { result ≡ true ↔ HasSome ear.now }
+/// Whether numbers are those of a receiver that has accepted some edges.
+fn has_some(receiver: &WireReceiver) -> bool
+    ensures { result ≡ true ↔ HasSome receiver.now }
 {
-    are_counted(ear.taken, ear.last.time, ear.place.place)
-        && ear.last.atn <= 1
-        && ear.last.clock <= 1
-        && ear.last.data <= 1
-        && is_place(ear.last, &ear.place)
-        && (ear.refused == 0 || (12 <= ear.refused && ear.refused <= 15))
+    are_counted(receiver.taken, receiver.last.time, receiver.place.place)
+        && receiver.last.atn <= 1
+        && receiver.last.clock <= 1
+        && receiver.last.data <= 1
+        && is_place(receiver.last, &receiver.place)
+        && (receiver.refused == 0 || (12 <= receiver.refused && receiver.refused <= 15))
 }
 
-/// Whether numbers are those of an ear.
-pub fn is_ear(ear: &Ear) -> bool
-    ensures { result ≡ true ↔ IsEar ear.now }
+/// Whether numbers are those of a receiver.
+pub fn is_receiver(receiver: &WireReceiver) -> bool
+    ensures { result ≡ true ↔ IsReceiver receiver.now }
 {
-    let stands = match ear.begun {
-        0 => has_none(ear),
-        1 => has_some(ear),
+    let stands = match receiver.begun {
+        0 => has_none(receiver),
+        1 => has_some(receiver),
         _ => false,
     };
-    stands && is_device(ear.device) && ear.listens <= 1 && ear.called <= ear.listens
+    stands
+        && is_device(receiver.device)
+        && receiver.listens <= 1
+        && receiver.called <= receiver.listens
 }

@@ -1,6 +1,6 @@
 //! What a device hears of a trace, for C programs: over the caller's memory alone.
 //!
-//! [`print1525_hear`] takes a whole trace. An [`Ear`] takes it edge by edge as it comes, and lies in
+//! [`print1525_hear`] takes a whole trace. An [`WireReceiver`] takes it edge by edge as it comes, and lies in
 //! the caller's memory between two edges; the headline is on [`print1525_ear_edge`]. Nothing here
 //! takes memory, and no pointer is kept. Each slice is a pointer and then a length.
 #![tactic(auto)]
@@ -10,31 +10,31 @@ ghost use Rattle.std.specs.Option.{option_to_list};
 ghost use Rattle.pr_wire.specs.declared.WaveFault.TheVariants.{NoMemory};
 ghost use Rattle.pr_wire.specs.Table.{fault_of};
 ghost use Rattle.pr_ear.specs.Buffers.{IsFilled, KeepsOn};
-ghost use Rattle.pr_ear.specs.Hearing.{IsDevice, Tells, answer_of, edge_of, fault_code, fault_index, number_of};
-ghost use Rattle.pr_ear.specs.declared.Told.{Told};
-ghost use Rattle.pr_ear.specs.declared.Told.TheVariants.{Unlawful};
+ghost use Rattle.pr_ear.specs.Hearing.{IsDevice, Tells, hearing_answer_of, edge_of, fault_code, fault_index, number_of};
+ghost use Rattle.pr_ear.specs.declared.HearResult.{HearResult};
+ghost use Rattle.pr_ear.specs.declared.HearResult.TheVariants.{Unlawful};
 
 mod decoder_fits;
 mod decoder_numbers;
 mod decoding;
-mod ear;
 mod fits;
 mod numbers;
-mod standing;
+mod receiver_state;
+mod receiving;
 
 pub use decoder_numbers::{WireByte, WireDecoder, WireReading};
 pub use decoding::{
-    DecoderTold, begin_decoder, decode_edge, end_decoder, print1525_decode_begin,
+    DecoderResult, begin_decoder, decode_edge, end_decoder, print1525_decode_begin,
     print1525_decode_edge, print1525_decode_end,
 };
-pub use ear::{
-    EarAnswer, EarTold, begin_ear, ears_hear_the_same, end_ear, first_faults_stay,
-    print1525_ear_begin, print1525_ear_edge, print1525_ear_end, take_edge,
-};
-pub use numbers::{Ear, PlaceNumbers};
+pub use numbers::{WireReceiver, WireState};
 use pr_page::Input;
 use pr_receiver::{Receiver, inputs_add_up, traces_give_what_is_heard};
 use pr_wire::{Edge, Levels, WaveFault, allowed_traces, lawful_traces};
+pub use receiving::{
+    ReceiverAnswer, ReceiverResult, begin_receiver, end_receiver, first_faults_stay,
+    print1525_ear_begin, print1525_ear_edge, print1525_ear_end, receivers_hear_the_same, take_edge,
+};
 
 /// An edge of a trace: the moment from which on the lines stand at these levels.
 #[repr(C)]
@@ -52,7 +52,7 @@ pub struct WireEdge {
 
 /// What came of a trace.
 #[derive(Clone, Copy, Debug, PartialEq, Eq)]
-pub enum Told {
+pub enum HearResult {
     /// So many inputs were heard, and they stand at the front of the buffer.
     Heard(usize),
     /// The trace is not lawful, with its first fault.
@@ -147,7 +147,7 @@ fn fill(device: u8, edges: &[WireEdge], out: &mut [u16]) -> Result<usize, WaveFa
 }
 
 /// Goes over a trace to count what a device hears of it, and once more where the buffer has room.
-fn hear_twice(device: u8, edges: &[WireEdge], out: &mut [u16]) -> Told
+fn hear_twice(device: u8, edges: &[WireEdge], out: &mut [u16]) -> HearResult
     requires least { 4 ≤ device }
     requires greatest { device ≤ 30 }
     ensures tells { Tells device edges.now out.old out.new result }
@@ -158,21 +158,21 @@ fn hear_twice(device: u8, edges: &[WireEdge], out: &mut [u16]) -> Told
     lawful_traces();
     let count = match fill(device, edges, &mut []) {
         Ok(count) => count,
-        Err(fault) => return Told::Unlawful(fault),
+        Err(fault) => return HearResult::Unlawful(fault),
     };
     if count > out.len() {
-        return Told::TooSmall(count);
+        return HearResult::TooSmall(count);
     }
     match fill(device, edges, out) {
-        Ok(_) => Told::Heard(count),
-        Err(fault) => Told::Unlawful(fault),
+        Ok(_) => HearResult::Heard(count),
+        Err(fault) => HearResult::Unlawful(fault),
     }
 }
 
 /// Puts the inputs that a device hears of a trace at the front of a buffer: a byte as its number,
 /// the selection of the graphic/upper case set as 256, that of the lower/upper case set as 257. The
 /// rest of the buffer is left as it was, and all of it where anything else is told.
-pub fn hear(device: u8, edges: &[WireEdge], out: &mut [u16]) -> Told
+pub fn hear(device: u8, edges: &[WireEdge], out: &mut [u16]) -> HearResult
     ensures tells { Tells device edges.now out.old out.new result }
     ensures memory { result ≢ Unlawful NoMemory }
     ensures length { length out.new ≡ length out.old }
@@ -180,7 +180,7 @@ pub fn hear(device: u8, edges: &[WireEdge], out: &mut [u16]) -> Told
     if is_device(device) {
         hear_twice(device, edges, out)
     } else {
-        Told::NoDevice
+        HearResult::NoDevice
     }
 }
 
@@ -204,14 +204,14 @@ fn plain(code: usize, length: usize) -> Answer
 }
 
 /// What is told, as numbers.
-fn numbered(told: Told) -> Answer
-    ensures { result ≡ answer_of told }
+fn to_answer(outcome: HearResult) -> Answer
+    ensures { result ≡ hearing_answer_of outcome }
 {
-    let (fault, place) = match told {
-        Told::Heard(length) => return plain(0, length),
-        Told::TooSmall(length) => return plain(4, length),
-        Told::Unlawful(fault) => numbers_of(fault),
-        Told::NoDevice => (21, 0),
+    let (fault, place) = match outcome {
+        HearResult::Heard(length) => return plain(0, length),
+        HearResult::TooSmall(length) => return plain(4, length),
+        HearResult::Unlawful(fault) => numbers_of(fault),
+        HearResult::NoDevice => (21, 0),
     };
     Answer {
         code: 2,
@@ -244,8 +244,8 @@ pub extern "C" fn print1525_hear(
     out: &mut [u16],
     answer: &mut Answer,
 )
-    ensures tells { (told : Told) × Tells device edges.now out.old out.new told × (answer.new ≡ answer_of told) }
+    ensures tells { (outcome : HearResult) × Tells device edges.now out.old out.new outcome × (answer.new ≡ hearing_answer_of outcome) }
     ensures length { length out.new ≡ length out.old }
 {
-    *answer = numbered(hear(device, edges, out));
+    *answer = to_answer(hear(device, edges, out));
 }

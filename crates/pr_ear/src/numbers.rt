@@ -1,16 +1,16 @@
-//! How an ear's standing is held in plain numbers, which a caller of another language can own.
+//! How a receiver's state is held in plain numbers, which a caller of another language can own.
 
 ghost use Rattle.std.specs.Prelude.{◌==◌, ◌≡◌, ◌≤◌, ◌<◌, ◌++◌, ◌∷◌, [], length, Bool, List, ℕ, None, IfSome};
 ghost use Rattle.pr_wire.specs.Packed.{bits_in};
 ghost use Rattle.pr_wire.specs.declared.bus_state.BusState.{BusState};
 ghost use Rattle.pr_wire.specs.declared.bus_state.ByteRole.{ByteRole};
 ghost use Rattle.pr_ear.specs.Hearing.{bit_of};
-ghost use Rattle.pr_ear.specs.EarNumbers.{byte_place, plain_place, sending_number, stored_place, IsEar};
-ghost use Rattle.pr_ear.specs.Taken.{CanStand};
-ghost use Rattle.pr_ear.specs.Numbers.{bits_by, begun_number, byte_place_by, few, place_by, refusal_by, refusal_number, sending_by, standing_by, stored, stored_last, wire_of, HasFewBits};
+ghost use Rattle.pr_ear.specs.ReceiverNumbers.{byte_place, plain_place, sending_number, stored_place, IsReceiver};
+ghost use Rattle.pr_ear.specs.Taken.{CanBeStored};
+ghost use Rattle.pr_ear.specs.Numbers.{bits_by, begun_number, byte_place_by, few, place_by, refusal_by, refusal_number, sending_by, state_by, stored, stored_last, wire_of, HasFewBits};
 
-use crate::fits::is_ear;
-use crate::standing::{Refusal, Standing};
+use crate::fits::is_receiver;
+use crate::receiver_state::{ReceiverState, Refusal};
 use crate::{WireEdge, edge_for};
 use pr_receiver::Listener;
 use pr_wire::{BusState, ByteRole, Edge, EdgeError, Levels, Step};
@@ -18,7 +18,7 @@ use pr_wire::{BusState, ByteRole, Edge, EdgeError, Levels, Step};
 /// A place of the table of lawful traces. What a place has not is 0.
 #[repr(C)]
 #[derive(Clone, Copy, Debug, PartialEq, Eq)]
-pub struct PlaceNumbers {
+pub struct WireState {
     /// The moment from which the next edge's interval counts, in microseconds.
     pub since: u64,
     /// In the answer to end-or-identify the moment of DATA's release before.
@@ -41,17 +41,17 @@ pub struct PlaceNumbers {
 }
 
 /// What a caller keeps of a device between two edges. The numbers are this library's: a caller
-/// writes none of them. Numbers that are not those of an ear (`IsEar`) are refused. Of such as are,
-/// though no edges leave them, it is only said that they stay those of an ear.
+/// writes none of them. Numbers that are not those of a receiver (`IsReceiver`) are refused. Of such as are,
+/// though no edges leave them, it is only said that they stay those of a receiver.
 #[repr(C)]
 #[derive(Clone, Copy, Debug, PartialEq, Eq)]
-pub struct Ear {
+pub struct WireReceiver {
     /// How many edges were accepted.
     pub taken: usize,
     /// The last of them, if one was.
     pub last: WireEdge,
     /// The place that they have reached.
-    pub place: PlaceNumbers,
+    pub place: WireState,
     /// 1: an edge was accepted.
     pub begun: u8,
     /// The number of the fault with which an edge was refused, or 0.
@@ -94,10 +94,10 @@ fn sending_for(number: u8) -> ByteRole
 }
 
 /// The numbers of a place that has no others.
-pub fn plain(place: u8, since: u64) -> PlaceNumbers
+pub fn plain(place: u8, since: u64) -> WireState
     ensures { result ≡ plain_place place since }
 {
-    PlaceNumbers {
+    WireState {
         since,
         released: 0,
         place,
@@ -111,34 +111,34 @@ pub fn plain(place: u8, since: u64) -> PlaceNumbers
 }
 
 /// The numbers of a place in which a byte is sent or waited for.
-fn sent(place: u8, since: u64, sending: ByteRole) -> PlaceNumbers
+fn sent(place: u8, since: u64, sending: ByteRole) -> WireState
     ensures { result ≡ record (plain_place place since) { sending = sending_number sending } }
 {
-    PlaceNumbers {
+    WireState {
         sending: number_of_sending(sending),
         ..plain(place, since)
     }
 }
 
 /// The numbers of a place.
-pub fn numbers_of_place(place: &BusState) -> PlaceNumbers
+pub fn numbers_of_place(place: &BusState) -> WireState
     ensures value { result ≡ stored_place place.now }
     ensures few { HasFewBits place.now }
 {
     match place {
         BusState::Idle(since) => plain(0, *since),
-        BusState::Call(since, pulled) => PlaceNumbers {
+        BusState::Call(since, pulled) => WireState {
             bit: bit(*pulled),
             ..plain(1, *since)
         },
         BusState::Ready(since, sending) => sent(2, *since, *sending),
         BusState::Free(since, sending) => sent(3, *since, *sending),
-        BusState::Pulse(since, released) => PlaceNumbers {
+        BusState::Pulse(since, released) => WireState {
             released: *released,
             ..plain(4, *since)
         },
         BusState::After(since) => plain(5, *since),
-        BusState::Ack(since, sending, byte) => PlaceNumbers {
+        BusState::Ack(since, sending, byte) => WireState {
             byte: *byte,
             ..sent(9, *since, *sending)
         },
@@ -146,7 +146,7 @@ pub fn numbers_of_place(place: &BusState) -> PlaceNumbers
             since,
             unlistened,
             data_released,
-        } => PlaceNumbers {
+        } => WireState {
             bit: bit(*data_released),
             unlistened: bit(*unlistened),
             ..plain(10, *since)
@@ -156,7 +156,7 @@ pub fn numbers_of_place(place: &BusState) -> PlaceNumbers
 }
 
 /// The numbers of a place in which the bits of a byte come.
-fn numbers_in_byte(place: &BusState) -> PlaceNumbers
+fn numbers_in_byte(place: &BusState) -> WireState
     ensures bit { (since : ℕ) (sending : ByteRole) (eoi : Bool) (seen : List Bool) (bit : Bool) →
         place.now ≡ BusState.Bit since sending eoi seen bit → (result ≡ stored_place place.now) × (length seen ≤ 8) }
     ensures high { (since : ℕ) (sending : ByteRole) (eoi : Bool) (seen : List Bool) (bit : Bool) →
@@ -171,7 +171,7 @@ fn numbers_in_byte(place: &BusState) -> PlaceNumbers
             eoi,
             seen,
             bit: level,
-        } => PlaceNumbers {
+        } => WireState {
             bit: bit(*level),
             ..some_bits(sent(6, *since, *sending), *eoi, seen.len(), seen.byte())
         },
@@ -181,7 +181,7 @@ fn numbers_in_byte(place: &BusState) -> PlaceNumbers
             eoi,
             seen,
             bit: level,
-        } => PlaceNumbers {
+        } => WireState {
             bit: bit(*level),
             ..some_bits(sent(7, *since, *sending), *eoi, seen.len(), seen.byte())
         },
@@ -193,11 +193,11 @@ fn numbers_in_byte(place: &BusState) -> PlaceNumbers
 }
 
 /// The numbers with those of the bits that have come.
-fn some_bits(numbers: PlaceNumbers, eoi: bool, count: usize, byte: u8) -> PlaceNumbers
+fn some_bits(numbers: WireState, eoi: bool, count: usize, byte: u8) -> WireState
     requires { count ≤ 8 }
     ensures { result ≡ record numbers { eoi = bit_of eoi; count = count; byte = byte } }
 {
-    PlaceNumbers {
+    WireState {
         eoi: bit(eoi),
         count: count as u8,
         byte,
@@ -206,7 +206,7 @@ fn some_bits(numbers: PlaceNumbers, eoi: bool, count: usize, byte: u8) -> PlaceN
 }
 
 /// A place by its numbers.
-pub fn place_for(numbers: &PlaceNumbers) -> BusState
+pub fn place_for(numbers: &WireState) -> BusState
     ensures { result ≡ place_by numbers.now }
 {
     let since = numbers.since;
@@ -228,7 +228,7 @@ pub fn place_for(numbers: &PlaceNumbers) -> BusState
 }
 
 /// A place in which the bits of a byte come, by its numbers.
-fn place_in_byte(numbers: &PlaceNumbers) -> BusState
+fn place_in_byte(numbers: &WireState) -> BusState
     ensures { result ≡ byte_place_by numbers.now }
 {
     match with_bits(numbers) {
@@ -260,7 +260,7 @@ fn place_in_byte(numbers: &PlaceNumbers) -> BusState
 }
 
 /// The place of a byte of which these bits have come and CLOCK is pulled.
-fn with_bits(numbers: &PlaceNumbers) -> BusState
+fn with_bits(numbers: &WireState) -> BusState
     ensures { result ≡ BusState.Bit numbers.now.since (sending_by numbers.now.sending) (numbers.now.eoi == 1)
         (bits_by numbers.now) (numbers.now.bit == 1) }
 {
@@ -399,55 +399,55 @@ fn numbers_of_last(last: Option<Edge>) -> WireEdge
     }
 }
 
-/// The numbers of a standing.
-pub fn store(standing: &Standing) -> Ear
-    ensures value { result ≡ stored standing.now }
-    ensures few { HasFewBits standing.now.place }
+/// The numbers of a state.
+pub fn store(state: &ReceiverState) -> WireReceiver
+    ensures value { result ≡ stored state.now }
+    ensures few { HasFewBits state.now.place }
 {
-    Ear {
-        taken: standing.taken,
-        last: numbers_of_last(standing.last),
-        place: numbers_of_place(&standing.place),
-        begun: match standing.last {
+    WireReceiver {
+        taken: state.taken,
+        last: numbers_of_last(state.last),
+        place: numbers_of_place(&state.place),
+        begun: match state.last {
             None => 0,
             Some(_) => 1,
         },
-        refused: number_of_refusal(standing.refused),
-        device: standing.listener.device,
-        listens: bit(standing.listener.listens),
-        called: bit(standing.listener.called),
+        refused: number_of_refusal(state.refused),
+        device: state.listener.device,
+        listens: bit(state.listener.listens),
+        called: bit(state.listener.called),
     }
 }
 
-/// The standing that numbers mean.
-fn standing_for(ear: &Ear) -> Standing
-    ensures { result ≡ standing_by ear.now }
+/// The state that numbers mean.
+fn state_for(receiver: &WireReceiver) -> ReceiverState
+    ensures { result ≡ state_by receiver.now }
 {
-    Standing {
-        taken: ear.taken,
-        last: if ear.begun == 1 {
-            Some(edge_for(ear.last))
+    ReceiverState {
+        taken: receiver.taken,
+        last: if receiver.begun == 1 {
+            Some(edge_for(receiver.last))
         } else {
             None
         },
-        place: place_for(&ear.place),
+        place: place_for(&receiver.place),
         listener: Listener {
-            device: ear.device,
-            listens: ear.listens == 1,
-            called: ear.called == 1,
+            device: receiver.device,
+            listens: receiver.listens == 1,
+            called: receiver.called == 1,
         },
-        refused: refusal_for(ear.refused),
+        refused: refusal_for(receiver.refused),
     }
 }
 
-/// The standing that an ear holds, if its numbers are those of one.
-pub fn restore(ear: &Ear) -> Option<Standing>
-    ensures some { IfSome result (λ s. (s ≡ standing_by ear.now) × IsEar ear.now) }
-    ensures fits { IfSome result (λ s. CanStand s) }
-    ensures none { result ≡ None → IsEar ear.now → ⊥ }
+/// The state that a receiver holds, if its numbers are those of one.
+pub fn restore(receiver: &WireReceiver) -> Option<ReceiverState>
+    ensures some { IfSome result (λ s. (s ≡ state_by receiver.now) × IsReceiver receiver.now) }
+    ensures fits { IfSome result (λ s. CanBeStored s) }
+    ensures none { result ≡ None → IsReceiver receiver.now → ⊥ }
 {
-    if is_ear(ear) {
-        Some(standing_for(ear))
+    if is_receiver(receiver) {
+        Some(state_for(receiver))
     } else {
         None
     }

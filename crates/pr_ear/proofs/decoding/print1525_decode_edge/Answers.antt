@@ -6,5 +6,5 @@ returns-clause-tells c = λ edges given h. (
   c.decode_edge-said.ensures.tells edges given h,
   c.decode_edge-said.ensures.takes edges given h,
   c.reading.ensures,
-  c.answer.ensures,
+  c.decoder_answer.ensures,
 )

@@ -1,5 +1,5 @@
 use Rattle.std.proofs.Common.{◌≡◌, ◌∙◌, ap, false, sym, true}
-use Rattle.pr_ear.specs.EarNumbers.{stored_place}
+use Rattle.pr_ear.specs.ReceiverNumbers.{stored_place}
 use Rattle.pr_ear.proofs.Fitting.{numbers-of}
 use Rattle.pr_ear.proofs.fits.is_place.Goals as goal
 

@@ -1,0 +1,156 @@
+//! What a call tells its caller.
+
+ghost use Rattle.std.specs.Prelude.{◌≡◌, length};
+ghost use Rattle.pr_c.specs.Answers.{answer_of, plain, refusal, script_numbers, stopped, wave_numbers};
+ghost use Rattle.pr_c.specs.CopyingOut.{CopiesOut, in_memory};
+
+use pr_basic::ScriptFault;
+use pr_channels::Stop;
+use pr_cli::CliFault;
+use pr_wire::{TraceFault, WaveFault};
+
+/// What came of a call.
+#[derive(Clone, Copy, Debug, PartialEq, Eq)]
+pub enum CallResult {
+    /// The text stands at the front of the buffer, and has this many bytes. Of a run that a BASIC
+    /// error stopped there is the error, with its statement, counted from 1.
+    Written(Option<(usize, Stop)>, usize),
+    /// The text has this many bytes, more than the buffer has room for.
+    TooSmall(usize),
+    /// There is no text.
+    Refused(CliFault),
+    /// The number at this index stands for no input of a printer.
+    NoInput(usize),
+}
+
+/// What came of a call, as numbers.
+#[repr(C)]
+#[derive(Clone, Copy, Debug, PartialEq, Eq)]
+pub struct Answer {
+    /// 0 done, 1 stopped by a BASIC error, 2 refused, 3 out of memory, 4 the buffer is too small.
+    pub code: usize,
+    /// With code 1 the number of the BASIC error: 1, 2, 3, 5 or 6. With code 2 the number of the fault:
+    /// 1 to 7 those of a script, 8 a bad line of a trace text, 9 too large, 11 to 16 those of a trace,
+    /// 22 to 25 a number that stands for no setting, 28 one that stands for no input. Else 0.
+    pub fault: usize,
+    /// The statement of the error, from 1, the line of the fault, from 1, or the index of its edge or of
+    /// its input, from 0; or 0.
+    pub place: usize,
+    /// The number of the text's bytes, or 0.
+    pub length: usize,
+}
+
+/// A fault as it can come from memory to memory.
+fn of_memory(fault: CliFault) -> CliFault
+    ensures { result ≡ in_memory fault }
+{
+    match fault {
+        CliFault::ReadFailed | CliFault::WriteFailed => CliFault::NoMemory,
+        other => other,
+    }
+}
+
+/// Hands a text that was made to the caller, or the fault in its place.
+pub fn copy_out(made: Result<Option<(usize, Stop)>, CliFault>, text: &[u8], out: &mut [u8]) -> CallResult
+    ensures copies { CopiesOut made text.now out.old out.new result }
+    ensures length { length out.new ≡ length out.old }
+{
+    let stop = match made {
+        Ok(stop) => stop,
+        Err(fault) => return CallResult::Refused(of_memory(fault)),
+    };
+    let size = text.len();
+    if size > out.len() {
+        return CallResult::TooSmall(size);
+    }
+    out[..size].copy_from_slice(text);
+    CallResult::Written(stop, size)
+}
+
+/// An answer without a fault.
+fn unfaulted(code: usize, length: usize) -> Answer
+    ensures { result ≡ plain code length }
+{
+    Answer {
+        code,
+        fault: 0,
+        place: 0,
+        length,
+    }
+}
+
+/// A text of a run that an error stopped at a statement.
+fn at_stop(statement: usize, stop: Stop, length: usize) -> Answer
+    ensures { result ≡ stopped statement stop length }
+{
+    Answer {
+        code: 1,
+        fault: usize::from(stop.number()),
+        place: statement,
+        length,
+    }
+}
+
+/// A refusal with the number of its fault and the place.
+pub fn refused(fault: usize, place: usize) -> Answer
+    ensures { result ≡ refusal (fault, place) }
+{
+    Answer {
+        code: 2,
+        fault,
+        place,
+        length: 0,
+    }
+}
+
+/// A script's fault.
+fn of_script(fault: ScriptFault) -> Answer
+    ensures { result ≡ refusal (script_numbers fault) }
+{
+    match fault {
+        ScriptFault::UnknownWord(line) => refused(1, line),
+        ScriptFault::BadNumber(line) => refused(2, line),
+        ScriptFault::BadDevice(line) => refused(3, line),
+        ScriptFault::BadSecond(line) => refused(4, line),
+        ScriptFault::BadByte(line) => refused(5, line),
+        ScriptFault::TooLong(line) => refused(6, line),
+        ScriptFault::TooMany(line) => refused(7, line),
+        ScriptFault::NoMemory => refused(0, 0),
+    }
+}
+
+/// A trace's fault.
+fn of_wave(fault: WaveFault) -> Answer
+    ensures { result ≡ refusal (wave_numbers fault) }
+{
+    match fault {
+        WaveFault::Start(at) => refused(11, at),
+        WaveFault::Order(at) => refused(12, at),
+        WaveFault::TooEarly(at) => refused(13, at),
+        WaveFault::TooLate(at) => refused(14, at),
+        WaveFault::Shape(at) => refused(15, at),
+        WaveFault::Truncated(at) => refused(16, at),
+        WaveFault::NoMemory => refused(0, 0),
+    }
+}
+
+/// What is told, as numbers.
+pub fn to_answer(outcome: CallResult) -> Answer
+    ensures { result ≡ answer_of outcome }
+{
+    match outcome {
+        CallResult::Written(None, size) => unfaulted(0, size),
+        CallResult::Written(Some((statement, stop)), size) => at_stop(statement, stop, size),
+        CallResult::TooSmall(size) => unfaulted(4, size),
+        CallResult::NoInput(index) => refused(28, index),
+        CallResult::Refused(CliFault::Script(fault)) => of_script(fault),
+        CallResult::Refused(CliFault::Trace(TraceFault::BadLine(line))) => refused(8, line),
+        CallResult::Refused(CliFault::Trace(TraceFault::NoMemory)) => refused(0, 0),
+        CallResult::Refused(CliFault::Wave(fault)) => of_wave(fault),
+        CallResult::Refused(CliFault::Capture(_)) => refused(0, 0),
+        CallResult::Refused(CliFault::TooLarge) => refused(9, 0),
+        CallResult::Refused(CliFault::NoMemory)
+        | CallResult::Refused(CliFault::ReadFailed)
+        | CallResult::Refused(CliFault::WriteFailed) => unfaulted(3, 0),
+    }
+}

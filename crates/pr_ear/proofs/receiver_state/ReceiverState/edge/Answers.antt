@@ -1,0 +1,61 @@
+use Rattle.std.proofs.Common.{◌∷◌, [], ◌≡◌, ◌+◌, ap, sym, subst, ◌∙◌, arith, Some}
+use Rattle.pr_receiver.specs.Given.{frames_ended, input_of_any}
+use Rattle.pr_ear.specs.declared.receiver_state.ReceiverState.{ReceiverState}
+use Rattle.pr_ear.specs.Taken.{refused_at, CanListen}
+use Rattle.pr_ear.proofs.ReceiverStates.{accepted, refusal-stays, refuses, stands-of, still-accepted}
+use Rattle.pr_ear.proofs.Fitting.{moves-on, stands-refused}
+use Rattle.pr_ear.proofs.receiver_state.ReceiverState.edge.Goals as goal
+
+pub returns-in-Some-clause-right : goal.returns-in-Some-clause-right
+returns-in-Some-clause-right c = λ device edges h.
+    let k = refusal-stays c.allowed_traces.ensures.allowed c.allowed_traces.ensures.fault device edges (c.args.edge ∷ []) c.args.self.now c.in-Some.refusal c.in-Some.is h in
+    (k.1, k.2 ∙ ap (λ x. Some x) (sym c.at.ensures.value))
+
+pub returns-in-Some-clause-come : goal.returns-in-Some-clause-come
+returns-in-Some-clause-come c = λ device edges h.
+    (refusal-stays c.allowed_traces.ensures.allowed c.allowed_traces.ensures.fault device edges (c.args.edge ∷ []) c.args.self.now c.in-Some.refusal c.in-Some.is h).0
+
+pub returns-in-Ok-clause-right : goal.returns-in-Ok-clause-right
+returns-in-Ok-clause-right c = λ device edges h.
+    let s = stands-of device edges c.args.self.now c.in_default.is h in
+    let a = accepted c.allowed_traces.ensures.allowed c.allowed_traces.ensures.step device edges c.args.self.now c.go_on.new.self c.args.edge c.in-Ok.frame s c.in_default.is c.in-Ok.ensures.moved in
+    let t = c.hear.ensures.heard device (frames_ended edges) a.listener in
+    (a.allowed, t.0 ∙ ap (λ o. input_of_any device (frames_ended edges) o) (sym a.frame_is))
+
+pub returns-in-Ok-clause-come : goal.returns-in-Ok-clause-come
+returns-in-Ok-clause-come c = λ device edges h.
+    let s = stands-of device edges c.args.self.now c.in_default.is h in
+    let a = accepted c.allowed_traces.ensures.allowed c.allowed_traces.ensures.step device edges c.args.self.now c.go_on.new.self c.args.edge c.in-Ok.frame s c.in_default.is c.in-Ok.ensures.moved in
+    let t = c.hear.ensures.heard device (frames_ended edges) a.listener in
+    let taken : c.counted-self.result ≡ c.args.self.now.taken + 1 = c.counted-self.ensures (λ late. a.count ∙ a.fits (omega (arith, late, a.count))) ∙ ap (λ n. n + 1) a.count in
+    still-accepted device edges c.args.self.now c.args.edge c.in-Ok.frame c.go_on.new.self c.hear.new.self c.counted-self.result a taken t.1
+
+pub returns-in-Ok-clause-fits : goal.returns-in-Ok-clause-fits
+returns-in-Ok-clause-fits c = λ h.
+    let m = moves-on c.args.self.now c.go_on.new.self c.args.edge c.in-Ok.frame h c.in-Ok.ensures.moved in
+    let t = c.hear.ensures.listens (subst CanListen (sym m.listener) h.listener) in
+    let taken : c.counted-self.result ≡ c.args.self.now.taken + 1 = c.counted-self.ensures (λ late. m.count ∙ m.room (omega (arith, late, m.count))) ∙ ap (λ n. n + 1) m.count in
+    m.fits c.hear.new.self
+    (ap (λ (s : ReceiverState). s.taken) t.2 ∙ taken)
+    (ap (λ (s : ReceiverState). s.last) t.2)
+    (ap (λ (s : ReceiverState). s.place) t.2)
+    (ap (λ (s : ReceiverState). s.refused) t.2 ∙ (m.refused ∙ c.in_default.is))
+    (subst CanListen (sym (ap (λ (s : ReceiverState). s.listener) t.2)) t.1)
+
+pub returns-in-Err-clause-fits : goal.returns-in-Err-clause-fits
+returns-in-Err-clause-fits c = λ h. stands-refused c.args.self.now c.go_on.new.self c.args.edge c.in-Err.refusal h c.in-Err.ensures.moved
+
+pub returns-in-Err-clause-right : goal.returns-in-Err-clause-right
+returns-in-Err-clause-right c = λ device edges h.
+    let s = stands-of device edges c.args.self.now c.in_default.is h in
+    let r = refuses c.allowed_traces.ensures.allowed c.allowed_traces.ensures.fault c.allowed_traces.ensures.step device edges c.args.self.now c.go_on.new.self c.args.edge c.in-Err.refusal s c.in-Err.ensures.moved in
+    (r.0, r.1 ∙ ap (λ x. Some x) (sym (c.at-in-Err.ensures.value ∙ ap (λ (n : ReceiverState). refused_at c.in-Err.refusal n.taken) r.2)))
+
+pub returns-in-Err-clause-come : goal.returns-in-Err-clause-come
+returns-in-Err-clause-come c = λ device edges h.
+    let s = stands-of device edges c.args.self.now c.in_default.is h in
+    let r = refuses c.allowed_traces.ensures.allowed c.allowed_traces.ensures.fault c.allowed_traces.ensures.step device edges c.args.self.now c.go_on.new.self c.args.edge c.in-Err.refusal s c.in-Err.ensures.moved in
+    record {
+      device_is = ap (λ (n : ReceiverState). n.listener.device) r.2 ∙ h.device_is;
+      came = (r.0, r.1 ∙ ap (λ (n : ReceiverState). Some (refused_at c.in-Err.refusal n.taken)) (sym r.2));
+    }

@@ -1,0 +1,122 @@
+-- Trusted: which numbers are those of a receiver, what a receiver keeps of the edges that it was given: those of a place of the table of lawful
+-- traces that its last edge can lead to, and of a device. (That edges leave such numbers is proved. Not every such numbers have edges that
+-- leave them: so many edges, this moment of the last one, this byte and these bits, and a device that listens or not, may never meet.)
+use Rattle.std.specs.Prelude.{◌≡◌, ◌≢◌, ℕ, ◌+◌, ◌<◌, ◌≤◌, Bool, true, false, List, length}
+use Rattle.pr_wire.specs.Delays.{bounds_of}
+use Rattle.pr_wire.specs.declared.Edge.{Edge}
+use Rattle.pr_wire.specs.declared.bus_state.BusState.{BusState}
+use Rattle.pr_wire.specs.declared.bus_state.BusState.TheVariants.{Idle, Call, Ready, Free, Pulse, After, Bit, High, Last, Ack, Freed}
+use Rattle.pr_wire.specs.declared.bus_state.ByteRole.{ByteRole}
+use Rattle.pr_wire.specs.declared.bus_state.ByteRole.TheVariants.{First, Second, Data}
+use Rattle.pr_wire.specs.declared.delay.Kind.TheVariants as kind
+use Rattle.pr_wire.specs.Levels.{byte_of}
+use Rattle.pr_wire.specs.Table.{atn_of}
+use Rattle.pr_ear.specs.declared.WireEdge.{WireEdge}
+use Rattle.pr_ear.specs.declared.numbers.WireReceiver.{WireReceiver}
+use Rattle.pr_ear.specs.declared.numbers.WireState.{WireState}
+use Rattle.pr_ear.specs.Hearing.{bit_of, edge_of, IsDevice}
+
+-- which byte is sent, as a number
+abbrev pub sending_number : ByteRole → ℕ
+sending_number First = 0
+sending_number Second = 1
+sending_number Data = 2
+
+-- the numbers of a place that has no others
+abbrev pub plain_place : (place since : ℕ) → WireState
+plain_place place since =
+    record { since = since; released = 0; place = place; sending = 0; eoi = 0; count = 0; byte = 0; bit = 0; unlistened = 0 }
+
+-- the numbers of a place in which a byte is sent
+abbrev pub byte_place : (place since : ℕ) → ByteRole → Bool → List Bool → (bit : ℕ) → WireState
+byte_place place since sending eoi seen bit = record (plain_place place since) {
+  sending = sending_number sending;
+  eoi = bit_of eoi;
+  count = length seen;
+  byte = byte_of seen;
+  bit = bit;
+}
+
+-- the numbers of a place
+abbrev pub stored_place : BusState → WireState
+stored_place (Idle since) = plain_place 0 since
+stored_place (Call since pulled) = record (plain_place 1 since) { bit = bit_of pulled }
+stored_place (Ready since sending) = record (plain_place 2 since) { sending = sending_number sending }
+stored_place (Free since sending) = record (plain_place 3 since) { sending = sending_number sending }
+stored_place (Pulse since released) = record (plain_place 4 since) { released = released }
+stored_place (After since) = plain_place 5 since
+stored_place (Bit since sending eoi seen bit) = byte_place 6 since sending eoi seen (bit_of bit)
+stored_place (High since sending eoi seen bit) = byte_place 7 since sending eoi seen (bit_of bit)
+stored_place (Last since sending eoi seen) = byte_place 8 since sending eoi seen 0
+stored_place (Ack since sending byte) = record (plain_place 9 since) { sending = sending_number sending; byte = byte }
+stored_place (Freed since unlistened released) = record (plain_place 10 since) { bit = bit_of released; unlistened = bit_of unlistened }
+
+-- an edge has these levels of ATN, CLOCK and DATA
+pub record HasLevels (e : Edge) (atn clock line : Bool) : Type 0 where
+  pub atn_is : e.levels.atn ≡ atn
+  pub clock_is : e.levels.clock ≡ clock
+  pub line_is : e.levels.line ≡ line
+
+-- an edge stands at a moment, and has these levels
+abbrev pub ComesAt : Edge → ℕ → (atn clock line : Bool) → Type 0
+ComesAt e since atn clock line = (since ≡ e.time) × HasLevels e atn clock line
+
+-- end-or-identify is answered before a data byte alone
+abbrev pub IsMarked : Bool → ByteRole → Type 0
+IsMarked eoi sending = eoi ≡ true → sending ≡ Data
+
+-- an edge can lead to a place: its levels and its moment are those that the table's rows to this place have
+abbrev pub CanLead : Edge → BusState → Type 0
+CanLead e (Idle since) = ComesAt e since true true true
+CanLead e (Call since false) = ComesAt e since false false true
+CanLead e (Call since true) =
+    HasLevels e false false false × (since ≤ e.time) × (e.time ≤ since + (bounds_of kind.At).2)
+CanLead e (Ready since sending) = ComesAt e since (atn_of sending) true false
+CanLead e (Free since sending) = ComesAt e since (atn_of sending) true true
+CanLead e (Pulse since released) =
+    ComesAt e since true true false
+    × (released + (bounds_of kind.Ye).0 ≤ since) × (since ≤ released + (bounds_of kind.Ye).2)
+CanLead e (After since) = ComesAt e since true true true
+CanLead e (Bit since sending eoi seen bit) = ComesAt e since (atn_of sending) false bit × (length seen ≤ 7) × IsMarked eoi sending
+CanLead e (High since sending eoi seen bit) = ComesAt e since (atn_of sending) true bit × (length seen ≤ 7) × IsMarked eoi sending
+CanLead e (Last since sending eoi seen) = ComesAt e since (atn_of sending) false true × (length seen ≡ 8) × IsMarked eoi sending
+CanLead e (Ack since sending byte) = ComesAt e since (atn_of sending) false false
+CanLead e (Freed since unlistened false) = ComesAt e since true false false
+CanLead e (Freed since unlistened true) =
+    HasLevels e true false true
+    × (since + (bounds_of kind.Dr).0 ≤ e.time) × (e.time ≤ since + (bounds_of kind.Dr).2)
+
+-- the numbers are those of a place to which an edge can lead
+pub record IsPlace (last : WireEdge) (n : WireState) : Type 0 where
+  pub place : BusState
+  pub numbers : n ≡ stored_place place
+  pub leads : CanLead (edge_of last) place
+
+-- the numbers of a receiver that has accepted no edge; at most it has refused one as no first edge (11)
+pub record HasNone (receiver : WireReceiver) : Type 0 where
+  pub taken : receiver.taken ≡ 0
+  pub last : receiver.last ≡ record { time = 0; atn = 0; clock = 0; «data» = 0 }
+  pub place : receiver.place ≡ plain_place 0 0
+  pub listens : receiver.listens ≡ 0
+  pub refused : receiver.refused ≢ 0 → receiver.refused ≡ 11
+
+-- the numbers of a receiver that has accepted some: the first stands at 0, the second at 100 or later, and each other one later than the one
+-- before it; and it may have refused one behind them (12 to 15)
+pub record HasSome (receiver : WireReceiver) : Type 0 where
+  pub some : 0 < receiver.taken
+  pub first : receiver.taken ≡ 1 → (receiver.last.time ≡ 0) × (receiver.place.place ≡ 0)
+  pub further : 1 < receiver.taken → receiver.taken + (bounds_of kind.Bb).0 ≤ receiver.last.time + 2
+  pub atn : receiver.last.atn ≤ 1
+  pub clock : receiver.last.clock ≤ 1
+  pub line : receiver.last.data ≤ 1
+  pub place : IsPlace receiver.last receiver.place
+  pub refused : receiver.refused ≢ 0 → (12 ≤ receiver.refused) × (receiver.refused ≤ 15)
+
+-- the numbers are those of a receiver; a device that the last frame called listens
+pub record IsReceiver (receiver : WireReceiver) : Type 0 where
+  pub device : IsDevice receiver.device
+  pub listens : receiver.listens ≤ 1
+  pub called : receiver.called ≤ receiver.listens
+  pub begun : receiver.begun ≤ 1
+  pub none : receiver.begun ≡ 0 → HasNone receiver
+  pub some : receiver.begun ≡ 1 → HasSome receiver

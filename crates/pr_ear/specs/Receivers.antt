@@ -1,0 +1,58 @@
+-- Trusted: what a receiver tells of the edges that it was given, one by one.
+use Rattle.std.specs.Prelude.{◌≡◌, ℕ, List, [], ◌∷◌, ◌++◌, map, Option, Some, None}
+use Rattle.std.specs.List.{flat_map}
+use Rattle.std.specs.Option.{option_to_list}
+use Rattle.pr_page.specs.Before.{with_before}
+use Rattle.pr_page.specs.declared.input.Input.{Input}
+use Rattle.pr_wire.specs.declared.WaveFault.{WaveFault}
+use Rattle.pr_wire.specs.Pieces.{IsLawful}
+use Rattle.pr_wire.specs.Table.{fault_of, IsAllowed}
+use Rattle.pr_receiver.specs.Given.{input_at}
+use Rattle.pr_ear.specs.declared.WireEdge.{WireEdge}
+use Rattle.pr_ear.specs.declared.receiving.ReceiverAnswer.{ReceiverAnswer}
+use Rattle.pr_ear.specs.declared.receiving.ReceiverResult.{ReceiverResult}
+use Rattle.pr_ear.specs.declared.receiving.ReceiverResult.TheVariants.{Done, Unlawful, NoDevice, NoReceiver}
+use Rattle.pr_ear.specs.Hearing.{AreHeard, edge_of, number_of, fault_code, fault_index}
+
+-- what comes to a device with an edge behind others
+abbrev pub comes_with : ℕ → List WireEdge → WireEdge → Option Input
+comes_with device edges edge = input_at device (map edge_of edges) (edge_of edge)
+
+-- none of these edges has a fault
+abbrev pub AreAllowed : List WireEdge → Type 0
+AreAllowed edges = IsAllowed (map edge_of edges)
+
+-- what is told of one edge more is right: what comes with it where all edges are allowed, and else the first fault of them all
+abbrev pub TellsEdge : ℕ → List WireEdge → WireEdge → ReceiverResult → Type 0
+TellsEdge device edges edge (Done input) = AreAllowed (edges ++ edge ∷ []) × (input ≡ comes_with device edges edge)
+TellsEdge device edges edge (Unlawful fault) =
+    (AreAllowed (edges ++ edge ∷ []) → ⊥) × (fault_of (map edge_of (edges ++ edge ∷ [])) ≡ Some fault)
+TellsEdge device edges edge NoDevice = ⊥
+TellsEdge device edges edge NoReceiver = ⊥
+
+-- what is told of an end behind these edges is right
+abbrev pub TellsEnd : List WireEdge → ReceiverResult → Type 0
+TellsEnd edges (Done input) = IsLawful (map edge_of edges) × (input ≡ None)
+TellsEnd edges (Unlawful fault) = fault_of (map edge_of edges) ≡ Some fault
+TellsEnd edges NoDevice = ⊥
+TellsEnd edges NoReceiver = ⊥
+
+-- what is told, as numbers
+abbrev pub receiver_answer_of : ReceiverResult → ReceiverAnswer
+receiver_answer_of (Done None) = record { code = 0; fault = 0; place = 0; heard = 0; input = 0 }
+receiver_answer_of (Done (Some input)) = record { code = 0; fault = 0; place = 0; heard = 1; input = number_of input }
+receiver_answer_of (Unlawful fault) = record { code = 2; fault = fault_code fault; place = fault_index fault; heard = 0; input = 0 }
+receiver_answer_of NoDevice = record { code = 2; fault = 21; place = 0; heard = 0; input = 0 }
+receiver_answer_of NoReceiver = record { code = 2; fault = 26; place = 0; heard = 0; input = 0 }
+
+-- a law: the inputs that come with the edges of a trace, edge by edge, are those that are heard of it
+abbrev pub ReceiversHearTheSame : Type 0
+ReceiversHearTheSame =
+    (device : ℕ) (edges : List WireEdge) (numbers : List ℕ) → AreHeard device edges numbers
+    → numbers ≡ map number_of (flat_map (λ p. option_to_list (comes_with device p.0 p.1)) (with_before [] edges))
+
+-- a law: where edges are not allowed, their first fault stays the first, whatever edges come behind them
+abbrev pub FirstFaultsStay : Type 0
+FirstFaultsStay =
+    (edges more : List WireEdge) (fault : WaveFault) → (AreAllowed edges → ⊥) → fault_of (map edge_of edges) ≡ Some fault
+    → (AreAllowed (edges ++ more) → ⊥) × (fault_of (map edge_of (edges ++ more)) ≡ Some fault)
