@@ -1,1 +1,5 @@
 pub mod KnownSteps
+pub mod SourceLemmas
+pub mod EdgeLemmas
+pub mod EdgeReaderLemmas
+pub mod InputReaderLemmas

@@ -1,0 +1,81 @@
+//! Reading a trace in any format.
+
+ghost use Rattle.std.specs.Prelude.{◌+◌, ◌^◌, ◌<◌, ◌≤◌, [], length, take, IfErr, IfOk, OnOk};
+ghost use Rattle.pr_input.specs.Sources.{EachTextSaysSamples, EndsInput, GivenSamplesComeFirst, GivesMore, HasGiven, RefusesInput, lines_read};
+
+use crate::fault::InputFault;
+use pr_capture::{CsvReader, Source, TraceInput, VcdReader, given_samples_come_first};
+use pr_wire::{Edge, TraceReader, given_edges_come_first, trace_texts};
+use std::alloc::Global;
+
+/// Reads a trace that comes in blocks, in any format. A trace text gives edges, a recording samples.
+#[derive(Drop)]
+pub enum SourceReader<'a> {
+    Text(TraceReader),
+    Vcd(VcdReader<'a>),
+    Csv(CsvReader<'a>),
+}
+
+impl<'a> SourceReader<'a> {
+    /// Nothing of an input has come. It takes no memory.
+    pub fn new(alloc: Global, input: TraceInput<'a>) -> SourceReader<'a>
+        ensures given { HasGiven input.entry [] [] result }
+        ensures lines { lines_read result ≤ 1 }
+    {
+        match input.source {
+            Source::Text => SourceReader::Text(TraceReader::new()),
+            Source::Vcd => SourceReader::Vcd(VcdReader::new(alloc, input.signals)),
+            Source::Csv => SourceReader::Csv(CsvReader::new(alloc, input.signals)),
+        }
+    }
+
+    /// Takes bytes from the front of a block. Gives how many, at least one, and the edge or the sample
+    /// that they end, if they end one.
+    ///
+    /// # Errors
+    ///
+    /// The first fault of the input, where these bytes end it, or [`InputFault::NoMemory`].
+    pub fn take_front(&mut self, block: &[u8]) -> Result<(usize, Option<Edge>), InputFault>
+        requires few { lines_read self.old + 1 < 2 ^ 64 }
+        requires some { 0 < length block.now }
+        ensures given { IfOk result (λ r. GivesMore (take r.0 block.now) r.1 self.old self.new) }
+        ensures some { IfOk result (λ r. 0 < r.0) }
+        ensures within { IfOk result (λ r. r.0 ≤ length block.now) }
+        ensures lines { OnOk result (lines_read self.new ≤ lines_read self.old + 1) }
+        ensures refused { IfErr result (λ f. RefusesInput block.now self.old f) }
+    {
+        match self {
+            SourceReader::Text(reader) => Ok(reader.take_front(block)?),
+            SourceReader::Vcd(reader) => Ok(reader.take_front(block)?),
+            SourceReader::Csv(reader) => Ok(reader.take_front(block)?),
+        }
+    }
+
+    /// Ends the input, and gives the edge or the sample that this ends, if it ends one.
+    ///
+    /// # Errors
+    ///
+    /// The first fault of the input, or [`InputFault::NoMemory`].
+    pub fn finish(self) -> Result<Option<Edge>, InputFault>
+        requires few { lines_read self + 1 < 2 ^ 64 }
+        ensures { EndsInput self.entry result }
+    {
+        match self {
+            SourceReader::Text(reader) => Ok(reader.finish()?),
+            SourceReader::Vcd(reader) => Ok(reader.finish()?),
+            SourceReader::Csv(reader) => Ok(reader.finish()?),
+        }
+    }
+}
+
+/// Laws, with nothing to run: whatever follows the bytes that a reader has taken, the samples that it has
+/// given are the first that the text says; and each text says samples in each format, up to its fault if
+/// it has one.
+pub fn texts_say_samples()
+    ensures first { GivenSamplesComeFirst }
+    ensures some { EachTextSaysSamples }
+{
+    given_edges_come_first();
+    given_samples_come_first();
+    trace_texts();
+}
