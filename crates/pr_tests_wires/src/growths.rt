@@ -1,7 +1,7 @@
 //! Each allocation refused in turn: `tests/growths` runs these tests so.
 
-use crate::printer_pair::{HELD_H, Said, has_page, reading};
 use crate::refusals::most_refusals;
+use crate::reprint::{HELD_H, Said, has_page, reading};
 use crate::traces::{LOWER_CASE_INPUTS, LOWER_CASE_TEXT, SPELLED};
 use pr_base::LISTEN;
 use pr_receiver::replay;
