@@ -3,7 +3,7 @@ use Rattle.std.proofs.Common.{◌≡◌, ℕ, List, refl, ap, sym, ◌∙◌, Re
 use Rattle.pr_basic.specs.Grammar.{IsScript}
 use Rattle.pr_basic.specs.FaultPlaces.{IsFirstFaultAt, at_number}
 use Rattle.pr_basic.specs.Faults.{IsFirstFault}
-use Rattle.pr_basic.specs.ReadingScripts.{Told, script_of}
+use Rattle.pr_basic.specs.ReadingScripts.{ScriptError, script_of}
 use Rattle.pr_basic.specs.Reads.{FailsScript}
 use Rattle.pr_basic.specs.declared.fault.LineFault.{LineFault}
 use Rattle.pr_basic.specs.declared.fault.LineFault.TheVariants as line
@@ -16,7 +16,7 @@ use Rattle.pr_basic.proofs.ScriptFaults.{first_fault_read, script_fails}
 
 -- what is read of a whole script
 abbrev Whole : Type 0
-Whole = Result (List Statement) Told
+Whole = Result (List Statement) ScriptError
 
 -- a fault but for want of memory is the first one
 pub refused : (bytes : List ℕ) (f : LineFault) (n place : ℕ) → FailsScript f n place (script_of bytes) → (at_number f n ≡ NoMemory) ⊎ IsFirstFaultAt bytes (at_number f n) place
@@ -60,9 +60,9 @@ pub one_place : (bytes : List ℕ) (fault other : ScriptFault) (place elsewhere 
 one_place bytes fault other place elsewhere h k =
     let r = first_fault_read bytes fault place h in
     let s = first_fault_read bytes other elsewhere k in
-    let told : Told = record { fault = h.0; number = r.0; place = place } in
+    let told : ScriptError = record { fault = h.0; number = r.0; place = place } in
     let same : told ≡ record { fault = k.0; number = s.0; place = elsewhere } = err_is told (record { fault = k.0; number = s.0; place = elsewhere }) (script_of bytes) r.1 s.1 in
-    (r.2 ∙ (ap (λ (t : Told). at_number t.fault t.number) same ∙ sym s.2), ap (λ (t : Told). t.place) same)
+    (r.2 ∙ (ap (λ (t : ScriptError). at_number t.fault t.number) same ∙ sym s.2), ap (λ (t : ScriptError). t.place) same)
 
 -- a text has one first fault
 pub one_fault : (bytes : List ℕ) (fault other : ScriptFault) → IsFirstFault bytes fault → IsFirstFault bytes other → fault ≡ other

@@ -12,7 +12,7 @@ use Rattle.pr_base.specs.Lines.{lines_of}
 use Rattle.pr_basic.specs.FaultRules.{BeginsStatement, IsPartFault, Placed, Spot, start_of, within}
 use Rattle.pr_basic.specs.FaultPlaces.{AreLinesFault, ArePartsFault, IsFaultOfLexemes, IsFirstFaultAt, IsLineFault, at_number, size_of, with_colons}
 use Rattle.pr_basic.specs.Reading.{◌>>=◌}
-use Rattle.pr_basic.specs.ReadingScripts.{Passed, Told, and_more, at_line, behind, column_of, counted, in_line, in_part, is_begun, line_statements, lines_statements, split_number, room_after, script_of, statements_in, statements_of}
+use Rattle.pr_basic.specs.ReadingScripts.{Passed, ScriptError, and_more, at_line, behind, column_of, counted, in_line, in_part, is_begun, line_statements, lines_statements, split_number, room_after, script_of, statements_in, statements_of}
 use Rattle.pr_basic.specs.declared.fault.LineFault.{LineFault}
 use Rattle.pr_basic.specs.declared.fault.LineFault.TheVariants.{BadNumber, TooMany}
 use Rattle.pr_basic.specs.declared.statement.Statement.{Statement}
@@ -364,11 +364,11 @@ column_within room f column bytes h =
     omega (arith, h.at, left, p.inside)
 
 -- a fault that is told of a line
-at_line_err : {A : Type 0} (n start : ℕ) (r : Result A (LineFault × ℕ)) (e : Told) → at_line n start r ≡ Err e → (column : ℕ) × (r ≡ Err (e.fault, column)) × (e.number ≡ n) × (e.place ≡ start + column)
+at_line_err : {A : Type 0} (n start : ℕ) (r : Result A (LineFault × ℕ)) (e : ScriptError) → at_line n start r ≡ Err e → (column : ℕ) × (r ≡ Err (e.fault, column)) × (e.number ≡ n) × (e.place ≡ start + column)
 at_line_err n start (Ok x) e h = absurd (cc)
 at_line_err n start (Err (f, column)) e h =
     let same : record { fault = f; number = n; place = start + column } ≡ e = err_is _ e (at_line n start (Err (f, column))) refl h in
-    (column, ap (λ (t : Told). Err (t.fault, column)) same, ap (λ (t : Told). t.number) (sym same), ap (λ (t : Told). t.place) (sym same))
+    (column, ap (λ (t : ScriptError). Err (t.fault, column)) same, ap (λ (t : ScriptError). t.number) (sym same), ap (λ (t : ScriptError). t.place) (sym same))
 
 -- what follows a line that is read
 at_line_read : {A : Type 0} (n start : ℕ) (r : Result A (LineFault × ℕ)) (x : A) → at_line n start r ≡ Ok x → r ≡ Ok x
@@ -381,7 +381,7 @@ more_err (Ok x) ss e h = absurd (cc)
 more_err (Err f) ss e h = let k : f ≡ e = cc in ap Err k
 
 -- a fault of lines, by what was told
-pub record AreFaultTold (n start room : ℕ) (e : Told) (ls : List (List ℕ)) : Type 0 where
+pub record AreFaultTold (n start room : ℕ) (e : ScriptError) (ls : List (List ℕ)) : Type 0 where
   pub number : ℕ
   pub place : ℕ
   pub fault : AreLinesFault room e.fault number place ls
@@ -389,7 +389,7 @@ pub record AreFaultTold (n start room : ℕ) (e : Told) (ls : List (List ℕ)) :
   pub at : e.place ≡ start + place
 
 -- lines that fail have a fault of the table
-lines_fail : (n start room : ℕ) (e : Told) (ls : List (List ℕ)) → lines_statements n start room ls ≡ Err e → AreFaultTold n start room e ls
+lines_fail : (n start room : ℕ) (e : ScriptError) (ls : List (List ℕ)) → lines_statements n start room ls ≡ Err e → AreFaultTold n start room e ls
 unfolding lines_statements
 lines_fail n start room e [] h = absurd (cc)
 lines_fail n start room e (l ∷ ls) h = elim (bind_err (at_line n start (line_statements room l)) (λ ss. lines_statements (n + 1) (start + suc (length l)) (room - length ss) ls >>= λ more. Ok (ss ++ more)) e h) [
@@ -441,7 +441,7 @@ line_told n start room f column l ls h = told (line_statements room l) h
     told r e = rw e refl
 
 -- a fault behind a line is told
-later_told : (n start room : ℕ) (e : Told) (l : List ℕ) (ls : List (List ℕ)) (ss : List Statement) → line_statements room l ≡ Ok ss → lines_statements (n + 1) (start + suc (length l)) (room - length ss) ls ≡ Err e → lines_statements n start room (l ∷ ls) ≡ Err e
+later_told : (n start room : ℕ) (e : ScriptError) (l : List ℕ) (ls : List (List ℕ)) (ss : List Statement) → line_statements room l ≡ Ok ss → lines_statements (n + 1) (start + suc (length l)) (room - length ss) ls ≡ Err e → lines_statements n start room (l ∷ ls) ≡ Err e
 unfolding lines_statements
 later_told n start room e l ls ss h k = told (line_statements room l) h
   where

@@ -9,7 +9,7 @@ use Rattle.pr_basic.specs.Lexemes.{Colon, Lexeme, Remark, Word}
 use Rattle.pr_basic.specs.Lexing.{IsRest, after_part, here, later, lexemes_of, part_of, past, unspaced}
 use Rattle.pr_basic.specs.Limits.{statement_limit}
 use Rattle.pr_basic.specs.Reading.{statement_in, ◌>>=◌}
-use Rattle.pr_basic.specs.ReadingScripts.{Passed, Told, and_more, at_line, behind, counted, first_digits, in_line, in_part, is_begun, line_statements, lines_statements, split_number, room_after, statements_in, statements_of}
+use Rattle.pr_basic.specs.ReadingScripts.{Passed, ScriptError, and_more, at_line, behind, counted, first_digits, in_line, in_part, is_begun, line_statements, lines_statements, split_number, room_after, statements_in, statements_of}
 use Rattle.pr_basic.specs.Reads.{StandsIn, UnlessMemory, still, with_front}
 use Rattle.pr_basic.specs.declared.fault.LineFault.{LineFault}
 use Rattle.pr_basic.specs.declared.fault.LineFault.TheVariants as line
@@ -203,12 +203,12 @@ in_line_err f rest inside line r column is h = unless_then f _ _ one h
     one s = rw s.told (ap (λ v. Err (f, length line - (length (unspaced v) - inside))) (sym s.left) ∙ ap (λ v. Err (f, v)) (sym is))
 
 -- the first line that is left fails
-pub script_fails : (whole : Result (List Statement) Told) (now : List Statement) (n start room : ℕ) (l : List ℕ) (lines ls : List (List ℕ)) (f : LineFault) (column : ℕ) → whole ≡ with_front now (lines_statements n start room lines) → lines ≡ l ∷ ls
+pub script_fails : (whole : Result (List Statement) ScriptError) (now : List Statement) (n start room : ℕ) (l : List ℕ) (lines ls : List (List ℕ)) (f : LineFault) (column : ℕ) → whole ≡ with_front now (lines_statements n start room lines) → lines ≡ l ∷ ls
     → UnlessMemory f (line_statements room l ≡ Err (f, column)) → UnlessMemory f (whole ≡ Err (record { fault = f; number = n; place = start + column }))
 unfolding lines_statements
 script_fails whole now n start room l lines ls f column h k fails = unless_then f _ _ one fails
   where
-    told : (r : Result (List Statement) (LineFault × ℕ)) (g : List Statement → Result (List Statement) Told) → r ≡ Err (f, column) → with_front now (at_line n start r >>= g) ≡ Err (record { fault = f; number = n; place = start + column })
+    told : (r : Result (List Statement) (LineFault × ℕ)) (g : List Statement → Result (List Statement) ScriptError) → r ≡ Err (f, column) → with_front now (at_line n start r >>= g) ≡ Err (record { fault = f; number = n; place = start + column })
     told r g e = rw e refl
 
     one : line_statements room l ≡ Err (f, column) → whole ≡ Err (record { fault = f; number = n; place = start + column })
@@ -217,7 +217,7 @@ script_fails whole now n start room l lines ls f column h k fails = unless_then 
         ∙ told (line_statements room l) (λ ss. lines_statements (n + 1) (start + suc (length l)) (room - length ss) ls >>= λ more. Ok (ss ++ more)) j
 
 -- lines behind statements
-then_front : (old ss : List Statement) (r : Result (List Statement) Told) → with_front old (r >>= λ more. Ok (ss ++ more)) ≡ with_front (old ++ ss) r
+then_front : (old ss : List Statement) (r : Result (List Statement) ScriptError) → with_front old (r >>= λ more. Ok (ss ++ more)) ≡ with_front (old ++ ss) r
 then_front old ss (Ok more) = ap Ok (sym (append_assoc old ss more))
 then_front old ss (Err e) = refl
 

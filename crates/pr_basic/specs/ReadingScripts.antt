@@ -82,22 +82,22 @@ abbrev pub line_statements : ℕ → List ℕ → Result (List Statement) (LineF
 line_statements room line = in_line (without_return line) (statements_of room (lexemes_of (without_return line)))
 
 -- a fault of a script, with its line's number and how many bytes stand before it
-pub record Told : Type 0 where
+pub record ScriptError : Type 0 where
   pub fault : LineFault
   pub number : ℕ
   pub place : ℕ
 
 -- a line's fault, with the line's number and where the line begins
-abbrev pub at_line : {A : Type 0} → ℕ → ℕ → Result A (LineFault × ℕ) → Result A Told
+abbrev pub at_line : {A : Type 0} → ℕ → ℕ → Result A (LineFault × ℕ) → Result A ScriptError
 at_line n start (Ok x) = Ok x
 at_line n start (Err (f, column)) = Err (record { fault = f; number = n; place = start + column })
 
 -- the statements of the lines from line n on, which begin after so many bytes
-unfoldable pub lines_statements : ℕ → ℕ → ℕ → List (List ℕ) → Result (List Statement) Told
+unfoldable pub lines_statements : ℕ → ℕ → ℕ → List (List ℕ) → Result (List Statement) ScriptError
 lines_statements n start room [] = Ok []
 lines_statements n start room (l ∷ ls) = at_line n start (line_statements room l) >>= λ ss.
     lines_statements (n + 1) (start + suc (length l)) (room - length ss) ls >>= λ more. Ok (ss ++ more)
 
 -- the statements of a script, or its first fault
-abbrev pub script_of : List ℕ → Result (List Statement) Told
+abbrev pub script_of : List ℕ → Result (List Statement) ScriptError
 script_of bytes = lines_statements 1 0 statement_limit (lines_of bytes)

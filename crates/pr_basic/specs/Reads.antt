@@ -8,7 +8,7 @@ use Rattle.pr_basic.specs.Lexing.{IsRest, here, later, lexemes_of, past}
 use Rattle.pr_basic.specs.Grammar.{parts}
 use Rattle.pr_basic.specs.FaultRules.{Placed, within}
 use Rattle.pr_basic.specs.Reading.{line_in}
-use Rattle.pr_basic.specs.ReadingScripts.{Passed, Told, statements_in}
+use Rattle.pr_basic.specs.ReadingScripts.{Passed, ScriptError, statements_in}
 use Rattle.pr_basic.specs.declared.statement.Statement.{Statement}
 use Rattle.pr_basic.specs.declared.fault.Flaw.{Flaw}
 use Rattle.pr_basic.specs.declared.fault.LineFault.{LineFault}
@@ -89,5 +89,5 @@ still room None = Ok []
 still room (Some rest) = statements_in room (parts (lexemes_of rest.now))
 
 -- a fault with a line's number and a place is the script's, but for want of memory
-abbrev pub FailsScript : {X : Type 0} → LineFault → ℕ → ℕ → Result X Told → Type 0
+abbrev pub FailsScript : {X : Type 0} → LineFault → ℕ → ℕ → Result X ScriptError → Type 0
 FailsScript f n place said = UnlessMemory f (said ≡ Err (record { fault = f; number = n; place = place }))

@@ -6,7 +6,7 @@ use Rattle.pr_wire.specs.declared.WaveFault.{WaveFault}
 use Rattle.pr_wire.specs.Table.{IsAllowed}
 use Rattle.pr_page.specs.declared.input.Input.{Input}
 use Rattle.pr_receiver.specs.Given.{inputs_with}
-use Rattle.pr_receiver.specs.Taken.{HasTaken, device_of, number_taken, refusal_of}
+use Rattle.pr_receiver.specs.Taken.{HasReceived, device_of, number_taken, refusal_of}
 use Rattle.pr_bus.specs.declared.port.WiredPort.{WiredPort}
 
 -- the input that an edge gives, if it gives one
@@ -16,7 +16,7 @@ given_list (Err w) = []
 
 -- a printer has taken just these edges, has refused none, and keeps the inputs that came behind the forgotten ones
 pub record IsHearing (forgotten trace : List Edge) (port : WiredPort) : Type 0 where
-  pub taken : HasTaken trace port.receiver
+  pub taken : HasReceived trace port.receiver
   pub works : refusal_of port.receiver ≡ None
   pub inputs : inputs_with (device_of port.receiver) forgotten ++ port.inputs.items ≡ inputs_with (device_of port.receiver) trace
 

@@ -13,9 +13,9 @@ use Rattle.pr_capture.specs.declared.fault.CaptureFault.{CaptureFault}
 use Rattle.pr_capture.specs.declared.fault.CaptureFault.TheVariants.{NoSignal}
 use Rattle.pr_capture.specs.declared.fault.Wire.TheVariants.{Atn}
 use Rattle.pr_capture.specs.declared.signals.Signals.{Signals}
-use Rattle.pr_capture.specs.Csv.{csv_told}
-use Rattle.pr_capture.specs.CsvSteps.{is_inner, told_from, AnswersEnd, EndsText, FaultsIn, HasRead, HoldsMore, ReadsMore}
-use Rattle.pr_capture.specs.Recording.{ended, refused, told_behind, Told}
+use Rattle.pr_capture.specs.Csv.{csv_contents}
+use Rattle.pr_capture.specs.CsvSteps.{is_inner, contents_from, AnswersEnd, EndsText, FaultsIn, HasReadTable, HoldsMore, ReadsMore}
+use Rattle.pr_capture.specs.Recording.{ended, refused, with_samples, CaptureContents}
 use Rattle.pr_capture.specs.Samples.{listed}
 
 -- the first byte of inner bytes, and those behind it
@@ -43,8 +43,8 @@ last-line (b ∷ []) some h = rw (first-inner b [] h) refl
 last-line (b ∷ c ∷ bs) some h = rw (first-inner b (c ∷ bs) h) (ap (onto_first b) (last-line (c ∷ bs) (omega arith) (rest-inner b (c ∷ bs) h)))
 
 -- samples behind samples
-pub behind-behind : (a b : List Edge) (t : Told) → told_behind a (told_behind b t) ≡ told_behind (a ++ b) t
-behind-behind a b t = let P : List Edge → Told = λ v. record { samples = v; fault = t.fault } in ap P (sym (append_assoc a b t.samples))
+pub behind-behind : (a b : List Edge) (t : CaptureContents) → with_samples a (with_samples b t) ≡ with_samples (a ++ b) t
+behind-behind a b t = let P : List Edge → CaptureContents = λ v. record { samples = v; fault = t.fault } in ap P (sym (append_assoc a b t.samples))
 
 -- a fault that is handed on
 pub handed-on : {A : Type 0} (v : Result A CaptureFault) (f : CaptureFault) (P : CaptureFault → Type 0) → IsErrAnd v (λ x. x ≡ f) → P f → IfErr v P
@@ -56,8 +56,8 @@ end-refused r (Ok x) f h p = absurd h
 end-refused r (Err x) f h p = rw h p
 
 -- nothing was taken
-pub read-none : (s : Signals) (r : CsvReader) → r.signals ≡ s → r.number ≡ 1 → r.place ≡ Names → r.line.items ≡ [] → HasRead s [] [] r
-unfolding csv_told
+pub read-none : (s : Signals) (r : CsvReader) → r.signals ≡ s → r.number ≡ 1 → r.place ≡ Names → r.line.items ≡ [] → HasReadTable s [] [] r
+unfolding csv_contents
 read-none s r a b c d = record { signals = a; inner = rw d refl; told = λ more. rw (a, b, c, d) refl }
 
 -- a line goes on
@@ -67,38 +67,38 @@ held-more old new bytes a b c d i = λ s text samples h. record {
   signals = a ∙ h.signals;
   inner = rw d (inner-append old.line.items bytes h.inner i);
   told = λ more.
-      ap (csv_told s) (append_assoc text bytes more)
+      ap (csv_contents s) (append_assoc text bytes more)
       ∙ (h.told (bytes ++ more)
-      ∙ ap (told_behind samples) (rw (a, b, c, d) (ap (λ l. told_from old.signals old.place old.number (lines_of l)) (sym (append_assoc old.line.items bytes more)))));
+      ∙ ap (with_samples samples) (rw (a, b, c, d) (ap (λ l. contents_from old.signals old.place old.number (lines_of l)) (sym (append_assoc old.line.items bytes more)))));
 }
 
 -- what is told of a line that ends, and of what follows
-line-told : (s : Signals) (r : CsvReader) (line text : List ℕ) (samples : List Edge) → line ≡ r.line.items → HasRead s text samples r → (more : List ℕ)
-    → csv_told s ((text ++ 10 ∷ []) ++ more) ≡ told_behind samples (told_from r.signals r.place r.number (line ∷ lines_of more))
+line-told : (s : Signals) (r : CsvReader) (line text : List ℕ) (samples : List Edge) → line ≡ r.line.items → HasReadTable s text samples r → (more : List ℕ)
+    → csv_contents s ((text ++ 10 ∷ []) ++ more) ≡ with_samples samples (contents_from r.signals r.place r.number (line ∷ lines_of more))
 line-told s r line text samples e h more =
-    ap (csv_told s) (append_assoc text (10 ∷ []) more)
+    ap (csv_contents s) (append_assoc text (10 ∷ []) more)
     ∙ (h.told (10 ∷ more)
-    ∙ ap (λ ls. told_behind samples (told_from r.signals r.place r.number ls)) (inner-line r.line.items more h.inner ∙ ap (λ l. l ∷ lines_of more) (sym e)))
+    ∙ ap (λ ls. with_samples samples (contents_from r.signals r.place r.number ls)) (inner-line r.line.items more h.inner ∙ ap (λ l. l ∷ lines_of more) (sym e)))
 
 -- a line ends
 pub read-line : (old new : CsvReader) (sample : Option Edge) (line : List ℕ) → line ≡ old.line.items
-    → ((more : List (List ℕ)) → told_from old.signals old.place old.number (line ∷ more)
-    ≡ told_behind (listed sample) (told_from old.signals new.place (old.number + 1) more))
+    → ((more : List (List ℕ)) → contents_from old.signals old.place old.number (line ∷ more)
+    ≡ with_samples (listed sample) (contents_from old.signals new.place (old.number + 1) more))
     → new.signals ≡ old.signals → new.number ≡ old.number + 1 → new.line.items ≡ [] → ReadsMore (10 ∷ []) sample old new
 read-line old new sample line e r a b d = λ s text samples h. record {
   signals = a ∙ h.signals;
   inner = rw d refl;
   told = λ more.
       line-told s old line text samples e h more
-      ∙ (ap (told_behind samples) (r (lines_of more))
-      ∙ (behind-behind samples (listed sample) (told_from old.signals new.place (old.number + 1) (lines_of more))
-      ∙ ap (told_behind (samples ++ listed sample)) (rw (a, b, d) refl)));
+      ∙ (ap (with_samples samples) (r (lines_of more))
+      ∙ (behind-behind samples (listed sample) (contents_from old.signals new.place (old.number + 1) (lines_of more))
+      ∙ ap (with_samples (samples ++ listed sample)) (rw (a, b, d) refl)));
 }
 
 -- a line has a fault
 pub faulty-line : (old : CsvReader) (f : CaptureFault) (line : List ℕ) → line ≡ old.line.items
-    → ((more : List (List ℕ)) → told_from old.signals old.place old.number (line ∷ more) ≡ refused f) → FaultsIn (10 ∷ []) old f
-faulty-line old f line e r = λ s text samples h more. line-told s old line text samples e h more ∙ ap (told_behind samples) (r (lines_of more))
+    → ((more : List (List ℕ)) → contents_from old.signals old.place old.number (line ∷ more) ≡ refused f) → FaultsIn (10 ∷ []) old f
+faulty-line old f line e r = λ s text samples h more. line-told s old line text samples e h more ∙ ap (with_samples samples) (r (lines_of more))
 
 -- what stands before the first line's end
 pub front-inner : (block : List ℕ) → list_all is_inner (take (prefix_len is_inner block) block) ≡ true
@@ -135,14 +135,14 @@ front-ended (b ∷ bs) h = step (b == 10) refl h (λ k. front-ended bs k)
 -- a block in which no line ends
 pub read-held : (old new : CsvReader) (bytes : List ℕ) → HoldsMore bytes old new → ReadsMore bytes None old new
 read-held old new bytes holds = λ s text samples h.
-    let P : List Edge → Type 0 = λ v. HasRead s (text ++ bytes) v new in subst P (sym (append-nil samples)) (holds s text samples h)
+    let P : List Edge → Type 0 = λ v. HasReadTable s (text ++ bytes) v new in subst P (sym (append-nil samples)) (holds s text samples h)
 
 -- a block in which a line ends
 pub read-front : (old mid new : CsvReader) (block : List ℕ) (len : ℕ) (sample : Option Edge) → len ≡ prefix_len is_inner block → len < length block
     → HoldsMore (take len block) old mid → ReadsMore (10 ∷ []) sample mid new → ReadsMore (take (len + 1) block) sample old new
 read-front old mid new block len sample e some holds reads = λ s text samples h.
     let ended : take (len + 1) block ≡ take len block ++ 10 ∷ [] = rw e (front-ended block (omega (arith, e))) in
-    let P : List ℕ → Type 0 = λ v. HasRead s v (samples ++ listed sample) new in
+    let P : List ℕ → Type 0 = λ v. HasReadTable s v (samples ++ listed sample) new in
     subst P (append_assoc text (take len block) (10 ∷ []) ∙ ap (λ v. text ++ v) (sym ended)) (reads s (text ++ take len block) samples (holds s text samples h))
 
 -- the same, where the line has a fault
@@ -153,7 +153,7 @@ faulty-front old mid block len f e some holds faults = λ s text samples h more.
     let rest : List ℕ = drop (len + 1) block in
     let ended : take (len + 1) block ≡ front ++ 10 ∷ [] = rw e (front-ended block (omega (arith, e))) in
     let whole : block ≡ (front ++ 10 ∷ []) ++ rest = sym (take-append-drop (len + 1) block) ∙ ap (λ v. v ++ rest) ended in
-    ap (csv_told s)
+    ap (csv_contents s)
     (ap (λ v. (text ++ v) ++ more) whole
     ∙ (append_assoc text ((front ++ 10 ∷ []) ++ rest) more
     ∙ (ap (λ v. text ++ v) (append_assoc (front ++ 10 ∷ []) rest more)
@@ -163,27 +163,27 @@ faulty-front old mid block len f e some holds faults = λ s text samples h more.
 
 -- the text ends with a whole line
 pub ended-names : (r : CsvReader) → r.line.items ≡ [] → r.place ≡ Names
-    → (s : Signals) (text : List ℕ) (samples : List Edge) → HasRead s text samples r → csv_told s text ≡ told_behind samples (refused (NoSignal r.number Atn))
+    → (s : Signals) (text : List ℕ) (samples : List Edge) → HasReadTable s text samples r → csv_contents s text ≡ with_samples samples (refused (NoSignal r.number Atn))
 unfolding lines_of
-ended-names r e p = λ s text samples h. ap (csv_told s) (sym (append-nil text)) ∙ (h.told [] ∙ rw (e, p) refl)
+ended-names r e p = λ s text samples h. ap (csv_contents s) (sym (append-nil text)) ∙ (h.told [] ∙ rw (e, p) refl)
 
 pub ended-rows : (r : CsvReader) (c : Columns) (before : ℕ) → r.line.items ≡ [] → r.place ≡ Rows c before
-    → (s : Signals) (text : List ℕ) (samples : List Edge) → HasRead s text samples r → csv_told s text ≡ told_behind samples ended
+    → (s : Signals) (text : List ℕ) (samples : List Edge) → HasReadTable s text samples r → csv_contents s text ≡ with_samples samples ended
 unfolding lines_of
-ended-rows r c before e p = λ s text samples h. ap (csv_told s) (sym (append-nil text)) ∙ (h.told [] ∙ rw (e, p) refl)
+ended-rows r c before e p = λ s text samples h. ap (csv_contents s) (sym (append-nil text)) ∙ (h.told [] ∙ rw (e, p) refl)
 
 -- an end of the last line tells nothing
-same-end : (s : Signals) (r : CsvReader) (text : List ℕ) (samples : List Edge) → HasRead s text samples r → 0 < length r.line.items
-    → csv_told s text ≡ csv_told s (text ++ 10 ∷ [])
+same-end : (s : Signals) (r : CsvReader) (text : List ℕ) (samples : List Edge) → HasReadTable s text samples r → 0 < length r.line.items
+    → csv_contents s text ≡ csv_contents s (text ++ 10 ∷ [])
 unfolding lines_of
 same-end s r text samples h some =
-    ap (csv_told s) (sym (append-nil text))
+    ap (csv_contents s) (sym (append-nil text))
     ∙ (h.told []
-    ∙ (ap (λ ls. told_behind samples (told_from r.signals r.place r.number ls)) (ap lines_of (append-nil r.line.items) ∙ last-line r.line.items some h.inner)
-    ∙ (sym (line-told s r r.line.items text samples refl h []) ∙ ap (csv_told s) (append-nil (text ++ 10 ∷ [])))))
+    ∙ (ap (λ ls. with_samples samples (contents_from r.signals r.place r.number ls)) (ap lines_of (append-nil r.line.items) ∙ last-line r.line.items some h.inner)
+    ∙ (sym (line-told s r r.line.items text samples refl h []) ∙ ap (csv_contents s) (append-nil (text ++ 10 ∷ [])))))
 
 pub whole-ends : (r : CsvReader) (result : Result (Option Edge) CaptureFault) → AnswersEnd r None result → EndsText r result
-whole-ends r (Ok sample) h = λ s text samples k. h.1 s text samples k ∙ rw h.0 (ap (λ v. told_behind v ended) (sym (append-nil samples)))
+whole-ends r (Ok sample) h = λ s text samples k. h.1 s text samples k ∙ rw h.0 (ap (λ v. with_samples v ended) (sym (append-nil samples)))
 whole-ends r (Err f) h = h.1
 
 pub line-ends : (r new : CsvReader) (sample : Option Edge) (result : Result (Option Edge) CaptureFault) → 0 < length r.line.items
@@ -192,10 +192,10 @@ line-ends r new sample (Ok last) some reads h = λ s text samples k.
     same-end s r text samples k some ∙ (h.1 s (text ++ 10 ∷ []) (samples ++ listed sample) (reads s text samples k) ∙ rw h.0 refl)
 line-ends r new sample (Err f) some reads h = λ s text samples k.
     same-end s r text samples k some
-    ∙ (h.1 s (text ++ 10 ∷ []) (samples ++ listed sample) (reads s text samples k) ∙ rw h.0 (ap (λ v. told_behind v (refused f)) (append-nil samples)))
+    ∙ (h.1 s (text ++ 10 ∷ []) (samples ++ listed sample) (reads s text samples k) ∙ rw h.0 (ap (λ v. with_samples v (refused f)) (append-nil samples)))
 
 -- the last line has a fault
 pub faulty-end : (r : CsvReader) (f : CaptureFault) → 0 < length r.line.items → FaultsIn (10 ∷ []) r f
-    → (s : Signals) (text : List ℕ) (samples : List Edge) → HasRead s text samples r → csv_told s text ≡ told_behind samples (refused f)
+    → (s : Signals) (text : List ℕ) (samples : List Edge) → HasReadTable s text samples r → csv_contents s text ≡ with_samples samples (refused f)
 faulty-end r f some faults = λ s text samples k.
-    same-end s r text samples k some ∙ (ap (csv_told s) (sym (append-nil (text ++ 10 ∷ []))) ∙ faults s text samples k [])
+    same-end s r text samples k some ∙ (ap (csv_contents s) (sym (append-nil (text ++ 10 ∷ []))) ∙ faults s text samples k [])

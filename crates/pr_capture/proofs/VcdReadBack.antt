@@ -7,9 +7,9 @@ use Rattle.pr_wire.specs.declared.Edge.{Edge}
 use Rattle.pr_wire.specs.Levels.{edge_at}
 use Rattle.pr_wire.specs.Table.{differ}
 use Rattle.pr_capture.specs.declared.signals.Signals.{Signals}
-use Rattle.pr_capture.specs.Recording.{Told}
+use Rattle.pr_capture.specs.Recording.{CaptureContents}
 use Rattle.pr_capture.specs.Samples.{begin_at, changes_after, counted_from, edges_of, last_at_each}
-use Rattle.pr_capture.specs.VcdReading.{nothing_seen, vcd_told}
+use Rattle.pr_capture.specs.VcdReading.{nothing_seen, vcd_contents}
 use Rattle.pr_capture.specs.Vcd.{edge_changes, head, last_edge, vcd_changes, vcd_end, vcd_of}
 use Rattle.pr_capture.specs.VcdReadingLaws.{IsAsWritten, RunsOn}
 use Rattle.pr_capture.proofs.VcdReadLines.{last_of, last_sample, reads-append, reads-behind, reads-first, samples_at, samples_behind, seen_at, told_here, vcd-begins, where_differ, Reads}
@@ -97,9 +97,9 @@ abbrev samples_of : List Edge → List Edge
 samples_of [] = []
 samples_of (e ∷ es) = (e ∷ []) ++ samples_behind e es
 
-all-told : (s : Signals) → IsAsWritten s → (es : List Edge) → RunsOn None es → vcd_told s (vcd_of es) ≡ record { samples = samples_of es; fault = None }
+all-told : (s : Signals) → IsAsWritten s → (es : List Edge) → RunsOn None es → vcd_contents s (vcd_of es) ≡ record { samples = samples_of es; fault = None }
 unfolding vcd_of
-all-told s h [] k = ap (vcd_told s) (append_assoc head [] []) ∙ vcd-begins s h []
+all-told s h [] k = ap (vcd_contents s) (append_assoc head [] []) ∙ vcd-begins s h []
 all-told s h (e ∷ es) k =
     let i : s.is_inverted ≡ false = h.straight in
     let rest : List ℕ = vcd_changes (Some e) es ++ vcd_end (last_edge (Some e) es) in
@@ -108,19 +108,19 @@ all-told s h (e ∷ es) k =
     reads-append s (edge_changes None e) rest nothing_seen (seen_at e) (seen_at (last_sample (last_of e es))) (e ∷ []) (samples_behind e es)
     (reads-first s i e k.0) (reads-behind s i e es k.0 k.1) in
     let told = reads 8 [] in
-    ap (vcd_told s)
+    ap (vcd_contents s)
     (append_assoc head (vcd_changes None (e ∷ es)) (vcd_end (last_edge None (e ∷ es)))
     ∙ ap (λ v. head ++ v) (append_assoc (edge_changes None e) (vcd_changes (Some e) es) (vcd_end (last_edge (Some e) es))))
     ∙ (vcd-begins s h whole
     ∙ (ap (told_here s 8 nothing_seen) (sym (append-nil whole))
     ∙ (told.1 ∙ ap (λ v. record { samples = v; fault = None }) (append-nil (samples_of (e ∷ es))))))
 
-pub read-sound : (s : Signals) (es : List Edge) → IsAsWritten s → RunsOn None es → (vcd_told s (vcd_of es)).fault ≡ None
-read-sound s es h k = ap (λ (t : Told). t.fault) (all-told s h es k)
+pub read-sound : (s : Signals) (es : List Edge) → IsAsWritten s → RunsOn None es → (vcd_contents s (vcd_of es)).fault ≡ None
+read-sound s es h k = ap (λ (t : CaptureContents). t.fault) (all-told s h es k)
 
-pub read-edges : (s : Signals) (es : List Edge) → IsAsWritten s → RunsOn None es → edges_of 0 (vcd_told s (vcd_of es)).samples ≡ es
+pub read-edges : (s : Signals) (es : List Edge) → IsAsWritten s → RunsOn None es → edges_of 0 (vcd_contents s (vcd_of es)).samples ≡ es
 unfolding edges_of
-read-edges s es h k = ap (λ (t : Told). edges_of 0 t.samples) (all-told s h es k) ∙ again es k
+read-edges s es h k = ap (λ (t : CaptureContents). edges_of 0 t.samples) (all-told s h es k) ∙ again es k
   where
     again : (es : List Edge) → RunsOn None es → edges_of 0 (samples_of es) ≡ es
     again [] k = refl

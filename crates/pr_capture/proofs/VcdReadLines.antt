@@ -12,7 +12,7 @@ use Rattle.pr_wire.specs.declared.Edge.{Edge}
 use Rattle.pr_wire.specs.Levels.{edge_at}
 use Rattle.pr_capture.specs.declared.changes.Seen.{Seen}
 use Rattle.pr_capture.specs.declared.signals.Signals.{Signals}
-use Rattle.pr_capture.specs.Recording.{◌>>=◌, told_behind, Told}
+use Rattle.pr_capture.specs.Recording.{◌>>=◌, with_samples, CaptureContents}
 use Rattle.pr_capture.specs.Samples.{listed}
 use Rattle.pr_capture.specs.Csv.{number_from}
 use Rattle.pr_capture.specs.Words.{end_line, is_space, words_behind, Word}
@@ -22,7 +22,7 @@ use Rattle.pr_capture.specs.declared.entries.Entry.TheVariants.{Opens}
 use Rattle.pr_capture.specs.declared.entries.Keyword.{Keyword}
 use Rattle.pr_capture.specs.declared.entries.Keyword.TheVariants.{Definitions, Other, Timescale, Var}
 use Rattle.pr_capture.specs.VcdPieces.Begun.{Inside, Nothing}
-use Rattle.pr_capture.specs.VcdReading.{goes_on, no_codes, nothing_seen, pieces_told, sample_in, sample_of, stamped, step, time_at, vcd_told, with_signal, Codes, Place}
+use Rattle.pr_capture.specs.VcdReading.{goes_on, no_codes, nothing_seen, piece_contents, sample_in, sample_of, stamped, step, time_at, vcd_contents, with_signal, Codes, Place}
 use Rattle.pr_capture.specs.VcdReading.Place.{Changes, Header}
 use Rattle.pr_capture.specs.VcdSteps.{is_letter}
 use Rattle.pr_capture.specs.Vcd.{change, change_if, edge_changes, head, last_edge, levels_changes, stamp, vcd_changes, vcd_end}
@@ -82,19 +82,19 @@ abbrev pub written : Codes
 written = record { atn = Some (65 ∷ []); clock = Some (67 ∷ []); second = None; line = Some (68 ∷ []) }
 
 -- what a text tells that goes on here, among the changes
-abbrev pub told_here : Signals → (n : ℕ) → Seen → (text : List ℕ) → Told
-told_here s n seen text = pieces_told s (end_line n text) (Changes 1000000000 written seen) (pieces_behind Nothing (words_behind n [] text))
+abbrev pub told_here : Signals → (n : ℕ) → Seen → (text : List ℕ) → CaptureContents
+told_here s n seen text = piece_contents s (end_line n text) (Changes 1000000000 written seen) (pieces_behind Nothing (words_behind n [] text))
 
 -- a text leads from what is known to what is known behind it, and has samples
 abbrev pub Reads : Signals → (text : List ℕ) → (old new : Seen) → (samples : List Edge) → Type 0
-Reads s text old new samples = (n : ℕ) (rest : List ℕ) → (m : ℕ) × (told_here s n old (text ++ rest) ≡ told_behind samples (told_here s m new rest))
+Reads s text old new samples = (n : ℕ) (rest : List ℕ) → (m : ℕ) × (told_here s n old (text ++ rest) ≡ with_samples samples (told_here s m new rest))
 
 -- texts behind texts
 pub reads-append : (s : Signals) (a b : List ℕ) (x y z : Seen) (p q : List Edge) → Reads s a x y p → Reads s b y z q → Reads s (a ++ b) x z (p ++ q)
 reads-append s a b x y z p q h k = λ n rest.
     let f = h n (b ++ rest) in
     let g = k f.0 rest in
-    (g.0, ap (told_here s n x) (append_assoc a b rest) ∙ (f.1 ∙ (ap (told_behind p) g.1 ∙ behind-behind p q (told_here s g.0 z rest))))
+    (g.0, ap (told_here s n x) (append_assoc a b rest) ∙ (f.1 ∙ (ap (with_samples p) g.1 ∙ behind-behind p q (told_here s g.0 z rest))))
 
 -- nothing
 reads-none : (s : Signals) (seen : Seen) → Reads s [] seen seen []
@@ -117,9 +117,9 @@ reads-stamp s seen t small later = λ n rest.
     let words = letters-words n (35 ∷ []) (decimal t) (10 ∷ rest) digits in (
       n + 1,
       ap (λ v. told_here s n seen (35 ∷ v)) (append_assoc (decimal t) (10 ∷ []) rest)
-          ∙ (ap (λ end. pieces_told s end (Changes 1000000000 written seen) (pieces_behind Nothing (words_behind n (35 ∷ []) (decimal t ++ 10 ∷ rest)))) line
-          ∙ (ap (λ ws. pieces_told s (end_line (n + 1) rest) (Changes 1000000000 written seen) (pieces_behind Nothing ws)) words
-          ∙ ap (λ v. goes_on (v >>= λ next. Ok (Changes 1000000000 written next)) (λ next. pieces_told s (end_line (n + 1) rest) next (pieces_behind Nothing (words_behind (n + 1) [] rest))))
+          ∙ (ap (λ end. piece_contents s end (Changes 1000000000 written seen) (pieces_behind Nothing (words_behind n (35 ∷ []) (decimal t ++ 10 ∷ rest)))) line
+          ∙ (ap (λ ws. piece_contents s (end_line (n + 1) rest) (Changes 1000000000 written seen) (pieces_behind Nothing ws)) words
+          ∙ ap (λ v. goes_on (v >>= λ next. Ok (Changes 1000000000 written next)) (λ next. piece_contents s (end_line (n + 1) rest) next (pieces_behind Nothing (words_behind (n + 1) [] rest))))
           (stamp-known seen n t small later))),
     )
 
@@ -137,8 +137,8 @@ abbrev sampled : Seen → List Edge
 sampled seen = listed (sample_in seen.time seen.atn seen.clock seen.line)
 
 -- what is told behind a change
-abbrev told_with : Signals → Seen → (n : ℕ) → (rest : List ℕ) → Told
-told_with s seen n rest = told_behind (sampled seen) (told_here s (n + 1) seen rest)
+abbrev told_with : Signals → Seen → (n : ℕ) → (rest : List ℕ) → CaptureContents
+told_with s seen n rest = with_samples (sampled seen) (told_here s (n + 1) seen rest)
 
 reads-atn : (s : Signals) → s.is_inverted ≡ false → (seen : Seen) (l : Bool) → Reads s (change 65 l) seen (with_atn seen l) (sampled (with_atn seen l))
 unfolding change
@@ -257,8 +257,8 @@ reads-behind s i b (e ∷ es) small h =
 -- The head.
 
 -- what a text tells that goes on here
-told_place : Signals → (n : ℕ) → Place → (text : List ℕ) → Told
-told_place s n p text = pieces_told s (end_line n text) p (pieces_behind Nothing (words_behind n [] text))
+told_place : Signals → (n : ℕ) → Place → (text : List ℕ) → CaptureContents
+told_place s n p text = piece_contents s (end_line n text) p (pieces_behind Nothing (words_behind n [] text))
 
 -- the words of a section's line
 abbrev on_line : (n : ℕ) → List (List ℕ) → List Word → List Word
@@ -339,10 +339,10 @@ section-told s n p q k key ls rest e inner whole c d =
     let text : List ℕ = line_of (key ∷ ls) (codes "$end") rest in
     let ps : List Piece = pieces_behind Nothing (words_behind (n + 1) [] rest) in
     let end : ℕ = end_line (n + 1) rest in
-    ap (λ v. pieces_told s v p (pieces_behind Nothing (words_behind n [] text))) (line-end n (key ∷ ls) (codes "$end") rest whole refl)
-    ∙ (ap (λ v. pieces_told s end p (pieces_behind Nothing v)) (line-read n (key ∷ ls) (codes "$end") rest whole refl)
-    ∙ (ap (λ v. pieces_told s end p v) (section-words n k key ls (words_behind (n + 1) [] rest) e inner)
-    ∙ (ap (λ v. goes_on v (λ next. pieces_told s end next ps)) c ∙ ap (λ v. told_behind (listed v) (pieces_told s end q ps)) d)))
+    ap (λ v. piece_contents s v p (pieces_behind Nothing (words_behind n [] text))) (line-end n (key ∷ ls) (codes "$end") rest whole refl)
+    ∙ (ap (λ v. piece_contents s end p (pieces_behind Nothing v)) (line-read n (key ∷ ls) (codes "$end") rest whole refl)
+    ∙ (ap (λ v. piece_contents s end p v) (section-words n k key ls (words_behind (n + 1) [] rest) e inner)
+    ∙ (ap (λ v. goes_on v (λ next. piece_contents s end next ps)) c ∙ ap (λ v. with_samples (listed v) (piece_contents s end q ps)) d)))
 
 -- the codes known behind the first wires
 abbrev one_code : Codes
@@ -394,6 +394,6 @@ head-told s h text =
     ∙ (section-told s 6 (in_header written) (in_header written) Other (codes "$upscope") [] f refl refl refl refl refl
     ∙ section-told s 7 (in_header written) (Changes 1000000000 written nothing_seen) Definitions (codes "$enddefinitions") [] text refl refl refl refl refl))))))
 
-pub vcd-begins : (s : Signals) → IsAsWritten s → (text : List ℕ) → vcd_told s (head ++ text) ≡ told_here s 8 nothing_seen text
-unfolding vcd_told told_place
+pub vcd-begins : (s : Signals) → IsAsWritten s → (text : List ℕ) → vcd_contents s (head ++ text) ≡ told_here s 8 nothing_seen text
+unfolding vcd_contents told_place
 vcd-begins s h text = head-told s h text

@@ -7,16 +7,16 @@ use Rattle.std.proofs.lemmas.List.Sums.{prefix_len_stops}
 use Rattle.std.proofs.lemmas.Grind.{common_steps}
 use Rattle.pr_wire.specs.declared.Edge.{Edge}
 use Rattle.pr_capture.specs.declared.fault.CaptureFault.{CaptureFault}
-use Rattle.pr_capture.specs.declared.progress.Progress.{Progress}
+use Rattle.pr_capture.specs.declared.vcd_parser.VcdParser.{VcdParser}
 use Rattle.pr_capture.specs.declared.vcd_reader.VcdReader.{VcdReader}
 use Rattle.pr_capture.specs.declared.signals.Signals.{Signals}
-use Rattle.pr_capture.specs.Recording.{ended, told_behind}
+use Rattle.pr_capture.specs.Recording.{ended, with_samples}
 use Rattle.pr_capture.specs.Samples.{listed}
 use Rattle.pr_capture.specs.Words.{end_line, is_space, line_behind, word_of, words_behind, Word}
 use Rattle.pr_capture.specs.VcdPieces.Begun.{Nothing}
-use Rattle.pr_capture.specs.VcdReading.{no_codes, vcd_told}
+use Rattle.pr_capture.specs.VcdReading.{no_codes, vcd_contents}
 use Rattle.pr_capture.specs.VcdReading.Place.{Header}
-use Rattle.pr_capture.specs.VcdSteps.{begun_of, is_letter, place_of, still_told, words_told, AnswersEnd, EndsText, HasRead, HoldsMore, MayEnd, ReadsMore, ReadsWords, Refuses}
+use Rattle.pr_capture.specs.VcdSteps.{begun_of, is_letter, place_of, contents_left, word_contents, AnswersEnd, EndsText, HasReadDump, HoldsMore, MayEnd, ReadsMore, ReadsWords, RefusesDump}
 use Rattle.pr_capture.proofs.CsvReading.{behind-behind}
 
 -- Letters.
@@ -53,8 +53,8 @@ letters-end n (b ∷ bs) more h =
 
 -- nothing was taken
 pub read-none : (s : Signals) (r : VcdReader) → r.signals ≡ s → r.number ≡ 1 → r.letters.items ≡ [] → begun_of r.progress ≡ Nothing
-    → place_of r.progress.known ≡ Header None no_codes → HasRead s [] [] r
-unfolding vcd_told
+    → place_of r.progress.known ≡ Header None no_codes → HasReadDump s [] [] r
+unfolding vcd_contents
 read-none s r a b c d e = record { signals = a; told = λ more. rw (a, b, c, d, e) refl }
 
 -- a word goes on
@@ -63,20 +63,20 @@ pub held-more : (old new : VcdReader) (bytes : List ℕ) → new.signals ≡ old
 held-more old new bytes a b c d i = λ s text samples h. record {
   signals = a ∙ h.signals;
   told = λ more.
-      ap (vcd_told s) (append_assoc text bytes more)
+      ap (vcd_contents s) (append_assoc text bytes more)
       ∙ (h.told (bytes ++ more)
-      ∙ ap (told_behind samples)
-      (ap (λ e. words_told old.signals e old.progress (words_behind old.number old.letters.items (bytes ++ more))) (letters-end old.number bytes more i)
-      ∙ (ap (λ ws. words_told old.signals (end_line old.number more) old.progress ws) (letters-words old.number old.letters.items bytes more i)
+      ∙ ap (with_samples samples)
+      (ap (λ e. word_contents old.signals e old.progress (words_behind old.number old.letters.items (bytes ++ more))) (letters-end old.number bytes more i)
+      ∙ (ap (λ ws. word_contents old.signals (end_line old.number more) old.progress ws) (letters-words old.number old.letters.items bytes more i)
       ∙ rw (a, b, c, d) refl)));
 }
 
 -- what is told of white space, and of what follows
 space-told : (r : VcdReader) (b : ℕ) (more : List ℕ) → is_space b ≡ true
-    → still_told r (b ∷ more)
-    ≡ words_told r.signals (end_line (line_behind r.number b) more) r.progress (word_of r.number r.letters.items ++ words_behind (line_behind r.number b) [] more)
+    → contents_left r (b ∷ more)
+    ≡ word_contents r.signals (end_line (line_behind r.number b) more) r.progress (word_of r.number r.letters.items ++ words_behind (line_behind r.number b) [] more)
 space-told r b more h =
-    ap (λ ws. words_told r.signals (end_line (line_behind r.number b) more) r.progress ws) (words-told r.number r.letters.items)
+    ap (λ ws. word_contents r.signals (end_line (line_behind r.number b) more) r.progress ws) (words-told r.number r.letters.items)
   where
     words-told : (n : ℕ) (letters : List ℕ) → words_behind n letters (b ∷ more) ≡ word_of n letters ++ words_behind (line_behind n b) [] more
     words-told n letters = rw h refl
@@ -88,22 +88,22 @@ pub read-space : (old new : VcdReader) (b : ℕ) (sample : Option Edge) → is_s
 read-space old new b sample sp r a n l = λ s text samples h. record {
   signals = a ∙ h.signals;
   told = λ more.
-      ap (vcd_told s) (append_assoc text (b ∷ []) more)
+      ap (vcd_contents s) (append_assoc text (b ∷ []) more)
       ∙ (h.told (b ∷ more)
-      ∙ (ap (told_behind samples)
+      ∙ (ap (with_samples samples)
       (space-told old b more sp ∙ r (end_line (line_behind old.number b) more) (words_behind (line_behind old.number b) [] more))
       ∙ (behind-behind samples (listed sample)
-      (words_told old.signals (end_line (line_behind old.number b) more) new.progress (words_behind (line_behind old.number b) [] more))
-      ∙ ap (told_behind (samples ++ listed sample)) (rw (a, n, l) refl))));
+      (word_contents old.signals (end_line (line_behind old.number b) more) new.progress (words_behind (line_behind old.number b) [] more))
+      ∙ ap (with_samples (samples ++ listed sample)) (rw (a, n, l) refl))));
 }
 
-pub faulty-space : (old : VcdReader) (new : Progress) (b : ℕ) (f : CaptureFault) → is_space b ≡ true
-    → ReadsWords old.signals (word_of old.number old.letters.items) old.progress (Err f) new → Refuses (b ∷ []) old f
+pub faulty-space : (old : VcdReader) (new : VcdParser) (b : ℕ) (f : CaptureFault) → is_space b ≡ true
+    → ReadsWords old.signals (word_of old.number old.letters.items) old.progress (Err f) new → RefusesDump (b ∷ []) old f
 faulty-space old new b f sp (inl m) = inl m
 faulty-space old new b f sp (inr r) = inr (λ s text samples h more.
-    ap (vcd_told s) (append_assoc text (b ∷ []) more)
+    ap (vcd_contents s) (append_assoc text (b ∷ []) more)
     ∙ (h.told (b ∷ more)
-    ∙ ap (told_behind samples) (space-told old b more sp ∙ r (end_line (line_behind old.number b) more) (words_behind (line_behind old.number b) [] more))))
+    ∙ ap (with_samples samples) (space-told old b more sp ∙ r (end_line (line_behind old.number b) more) (words_behind (line_behind old.number b) [] more))))
 
 -- Blocks.
 
@@ -137,27 +137,27 @@ space-behind block len e h = step (is_space (get_or block len 0)) refl
 -- a block in which no word ends
 pub read-held : (old new : VcdReader) (bytes : List ℕ) → HoldsMore bytes old new → ReadsMore bytes None old new
 read-held old new bytes holds = λ s text samples h.
-    let P : List Edge → Type 0 = λ v. HasRead s (text ++ bytes) v new in subst P (sym (append-nil samples)) (holds s text samples h)
+    let P : List Edge → Type 0 = λ v. HasReadDump s (text ++ bytes) v new in subst P (sym (append-nil samples)) (holds s text samples h)
 
 -- a block's front with white space at its end
 pub read-front : (old mid new : VcdReader) (block : List ℕ) (len : ℕ) (sample : Option Edge) → len < length block → HoldsMore (take len block) old mid
     → ReadsMore (get_or block len 0 ∷ []) sample mid new → ReadsMore (take (len + 1) block) sample old new
 read-front old mid new block len sample some holds reads = λ s text samples h.
-    let P : List ℕ → Type 0 = λ v. HasRead s v (samples ++ listed sample) new in
+    let P : List ℕ → Type 0 = λ v. HasReadDump s v (samples ++ listed sample) new in
     let e : (text ++ take len block) ++ get_or block len 0 ∷ [] ≡ text ++ take (len + 1) block =
     append_assoc text (take len block) (get_or block len 0 ∷ []) ∙ ap (λ v. text ++ v) (sym (take_more block len 0 some)) in
     subst P e (reads s (text ++ take len block) samples (holds s text samples h))
 
 -- a fault behind a block's front
 pub faulty-front : (old mid : VcdReader) (block : List ℕ) (len : ℕ) (f : CaptureFault) → len < length block → HoldsMore (take len block) old mid
-    → Refuses (get_or block len 0 ∷ []) mid f → Refuses block old f
+    → RefusesDump (get_or block len 0 ∷ []) mid f → RefusesDump block old f
 faulty-front old mid block len f some holds (inl m) = inl m
 faulty-front old mid block len f some holds (inr faults) = inr (λ s text samples h more.
     let front : List ℕ = take len block in
     let rest : List ℕ = drop (len + 1) block in
     let b : List ℕ = get_or block len 0 ∷ [] in
     let whole : block ≡ (front ++ b) ++ rest = sym (take-append-drop (len + 1) block) ∙ ap (λ v. v ++ rest) (take_more block len 0 some) in
-    ap (vcd_told s)
+    ap (vcd_contents s)
     (ap (λ v. (text ++ v) ++ more) whole
     ∙ (append_assoc text ((front ++ b) ++ rest) more
     ∙ (ap (λ v. text ++ v) (append_assoc (front ++ b) rest more)
@@ -168,35 +168,35 @@ faulty-front old mid block len f some holds (inr faults) = inr (λ s text sample
 -- The end.
 
 -- what is told of a text that ends here
-end-told : (r : VcdReader) (s : Signals) (text : List ℕ) (samples : List Edge) → HasRead s text samples r
-    → vcd_told s text ≡ told_behind samples (words_told r.signals r.number r.progress (word_of r.number r.letters.items))
-end-told r s text samples h = ap (vcd_told s) (sym (append-nil text)) ∙ h.told []
+end-told : (r : VcdReader) (s : Signals) (text : List ℕ) (samples : List Edge) → HasReadDump s text samples r
+    → vcd_contents s text ≡ with_samples samples (word_contents r.signals r.number r.progress (word_of r.number r.letters.items))
+end-told r s text samples h = ap (vcd_contents s) (sym (append-nil text)) ∙ h.told []
 
 -- what is told of the last words
-last-told : (s : Signals) (ws : List Word) (old new : Progress) (sample : Option Edge) → ReadsWords s ws old (Ok sample) new
-    → (end : ℕ) → words_told s end old ws ≡ told_behind (listed sample) (words_told s end new [])
-last-told s ws old new sample r end = ap (λ v. words_told s end old v) (sym (append-nil ws)) ∙ r end []
+last-told : (s : Signals) (ws : List Word) (old new : VcdParser) (sample : Option Edge) → ReadsWords s ws old (Ok sample) new
+    → (end : ℕ) → word_contents s end old ws ≡ with_samples (listed sample) (word_contents s end new [])
+last-told s ws old new sample r end = ap (λ v. word_contents s end old v) (sym (append-nil ws)) ∙ r end []
 
 -- the last word makes a sample
-pub ends-with : (r : VcdReader) (new : Progress) (sample : Edge) → ReadsWords r.signals (word_of r.number r.letters.items) r.progress (Ok (Some sample)) new
+pub ends-with : (r : VcdReader) (new : VcdParser) (sample : Edge) → ReadsWords r.signals (word_of r.number r.letters.items) r.progress (Ok (Some sample)) new
     → (Some sample ≡ None) ⊎ MayEnd new → EndsText r (Ok (Some sample))
 ends-with r new sample reads (inl e) = absurd (cc)
 ends-with r new sample reads (inr end) = λ s text samples h.
     end-told r s text samples h
-    ∙ (ap (told_behind samples) (last-told r.signals (word_of r.number r.letters.items) r.progress new (Some sample) reads r.number)
-    ∙ (behind-behind samples (listed (Some sample)) (words_told r.signals r.number new [])
-    ∙ ap (told_behind (samples ++ listed (Some sample))) (end r.signals r.number)))
+    ∙ (ap (with_samples samples) (last-told r.signals (word_of r.number r.letters.items) r.progress new (Some sample) reads r.number)
+    ∙ (behind-behind samples (listed (Some sample)) (word_contents r.signals r.number new [])
+    ∙ ap (with_samples (samples ++ listed (Some sample))) (end r.signals r.number)))
 
 -- it makes none
-ends-here : (r : VcdReader) (new : Progress) (result : Result (Option Edge) CaptureFault)
+ends-here : (r : VcdReader) (new : VcdParser) (result : Result (Option Edge) CaptureFault)
     → ReadsWords r.signals (word_of r.number r.letters.items) r.progress (Ok None) new → AnswersEnd r.number new result → EndsText r result
 ends-here r new (Ok sample) reads h = λ s text samples k.
     end-told r s text samples k
-    ∙ (ap (told_behind samples) (last-told r.signals (word_of r.number r.letters.items) r.progress new None reads r.number ∙ h.1 r.signals)
-    ∙ rw h.0 (ap (λ v. told_behind v ended) (sym (append-nil samples))))
+    ∙ (ap (with_samples samples) (last-told r.signals (word_of r.number r.letters.items) r.progress new None reads r.number ∙ h.1 r.signals)
+    ∙ rw h.0 (ap (λ v. with_samples v ended) (sym (append-nil samples))))
 ends-here r new (Err f) reads h = inr (λ s text samples k.
     end-told r s text samples k
-    ∙ ap (told_behind samples) (last-told r.signals (word_of r.number r.letters.items) r.progress new None reads r.number ∙ h r.signals))
+    ∙ ap (with_samples samples) (last-told r.signals (word_of r.number r.letters.items) r.progress new None reads r.number ∙ h r.signals))
 
 pub ends-without : (r new : VcdReader) (result : Result (Option Edge) CaptureFault)
     → ReadsWords r.signals (word_of r.number r.letters.items) r.progress (Ok None) new.progress → new.number ≡ r.number
@@ -204,12 +204,12 @@ pub ends-without : (r new : VcdReader) (result : Result (Option Edge) CaptureFau
 ends-without r new result reads e h = ends-here r new.progress result reads (subst (λ (n : ℕ). AnswersEnd n new.progress result) e h)
 
 -- it has a fault
-pub faulty-end : (r : VcdReader) (new : Progress) (f : CaptureFault) → ReadsWords r.signals (word_of r.number r.letters.items) r.progress (Err f) new
+pub faulty-end : (r : VcdReader) (new : VcdParser) (f : CaptureFault) → ReadsWords r.signals (word_of r.number r.letters.items) r.progress (Err f) new
     → EndsText r (Err f)
 faulty-end r new f (inl m) = inl m
 faulty-end r new f (inr e) = inr (λ s text samples k.
     end-told r s text samples k
-    ∙ ap (told_behind samples) (ap (λ v. words_told r.signals r.number r.progress v) (sym (append-nil (word_of r.number r.letters.items))) ∙ e r.number []))
+    ∙ ap (with_samples samples) (ap (λ v. word_contents r.signals r.number r.progress v) (sym (append-nil (word_of r.number r.letters.items))) ∙ e r.number []))
 
 -- a fault that is handed on
 pub end-refused : (r : VcdReader) (v : Result (Option Edge) CaptureFault) (f : CaptureFault) → IsErrAnd v (λ x. x ≡ f) → EndsText r (Err f) → EndsText r v

@@ -13,7 +13,7 @@ use Rattle.pr_capture.specs.declared.fault.Wire.TheVariants.{Atn, Clock, Data}
 use Rattle.pr_capture.specs.declared.fault.CaptureFault.{CaptureFault}
 use Rattle.pr_capture.specs.declared.fault.CaptureFault.TheVariants.{BadLevel, BadTime, GoesBack, NoLevel, NoSignal}
 use Rattle.pr_capture.specs.declared.signals.Signals.{Signals}
-use Rattle.pr_capture.specs.Recording.{◌>>=◌, ended, first_some, is_framing, is_named, level_in, refused, second_name, told_behind, without_front, Told}
+use Rattle.pr_capture.specs.Recording.{◌>>=◌, ended, first_some, is_framing, is_named, level_in, refused, second_name, with_samples, without_front, CaptureContents}
 
 -- Lines and fields.
 
@@ -137,31 +137,31 @@ row c inverted number before (time ∷ fs) =
     time_or number before (time_in (without_front time)) >>= λ t. sample_of c inverted number (time ∷ fs) t
 
 -- a row's sample, and what is told behind it
-abbrev pub row_told : Result Edge CaptureFault → (ℕ → Told) → Told
-row_told (Err f) rest = refused f
-row_told (Ok e) rest = told_behind (e ∷ []) (rest e.time)
+abbrev pub contents_after_row : Result Edge CaptureFault → (ℕ → CaptureContents) → CaptureContents
+contents_after_row (Err f) rest = refused f
+contents_after_row (Ok e) rest = with_samples (e ∷ []) (rest e.time)
 
 -- rows, of which the first has this number, behind one of this time
-abbrev pub rows_told : Columns → (inverted : Bool) → (number before : ℕ) → List (List ℕ) → Told
-rows_told c inverted number before [] = ended
-rows_told c inverted number before (l ∷ ls) =
-    if is_silent l then rows_told c inverted (number + 1) before ls
-    else row_told (row c inverted number before (fields_of false l)) (λ t. rows_told c inverted (number + 1) t ls)
+abbrev pub row_contents : Columns → (inverted : Bool) → (number before : ℕ) → List (List ℕ) → CaptureContents
+row_contents c inverted number before [] = ended
+row_contents c inverted number before (l ∷ ls) =
+    if is_silent l then row_contents c inverted (number + 1) before ls
+    else contents_after_row (row c inverted number before (fields_of false l)) (λ t. row_contents c inverted (number + 1) t ls)
 
 -- The whole.
 
 -- what is told behind the line of the names
-abbrev pub names_told : Result Columns CaptureFault → (Columns → Told) → Told
-names_told (Err f) rest = refused f
-names_told (Ok c) rest = rest c
+abbrev pub named_contents : Result Columns CaptureFault → (Columns → CaptureContents) → CaptureContents
+named_contents (Err f) rest = refused f
+named_contents (Ok c) rest = rest c
 
 -- lines, of which the first has this number; the first that says anything names the columns
-abbrev pub lines_told : Signals → (number : ℕ) → List (List ℕ) → Told
-lines_told s number [] = refused (NoSignal number Atn)
-lines_told s number (l ∷ ls) =
-    if is_silent l then lines_told s (number + 1) ls
-    else names_told (columns_of s number (fields_of false l)) (λ c. rows_told c s.is_inverted (number + 1) 0 ls)
+abbrev pub line_contents : Signals → (number : ℕ) → List (List ℕ) → CaptureContents
+line_contents s number [] = refused (NoSignal number Atn)
+line_contents s number (l ∷ ls) =
+    if is_silent l then line_contents s (number + 1) ls
+    else named_contents (columns_of s number (fields_of false l)) (λ c. row_contents c s.is_inverted (number + 1) 0 ls)
 
 -- what a text says
-unfoldable pub csv_told : Signals → List ℕ → Told
-csv_told s text = lines_told s 1 (lines_of text)
+unfoldable pub csv_contents : Signals → List ℕ → CaptureContents
+csv_contents s text = line_contents s 1 (lines_of text)

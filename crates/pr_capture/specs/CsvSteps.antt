@@ -10,8 +10,8 @@ use Rattle.pr_capture.specs.declared.csv.CsvReader.{CsvReader}
 use Rattle.pr_capture.specs.declared.fault.CaptureFault.{CaptureFault}
 use Rattle.pr_capture.specs.declared.fault.CaptureFault.TheVariants.{NoMemory}
 use Rattle.pr_capture.specs.declared.signals.Signals.{Signals}
-use Rattle.pr_capture.specs.Csv.{csv_told, fields_of, lines_told, rows_told}
-use Rattle.pr_capture.specs.Recording.{ended, refused, told_behind, Told}
+use Rattle.pr_capture.specs.Csv.{csv_contents, fields_of, line_contents, row_contents}
+use Rattle.pr_capture.specs.Recording.{ended, refused, with_samples, CaptureContents}
 use Rattle.pr_capture.specs.Samples.{listed}
 
 -- how many bytes the first field has
@@ -29,64 +29,64 @@ abbrev pub is_inner : ℕ → Bool
 is_inner b = not (b == 10)
 
 -- what lines tell from a place on
-abbrev pub told_from : Signals → RowPlace → (number : ℕ) → List (List ℕ) → Told
-told_from s Names number ls = lines_told s number ls
-told_from s (Rows c before) number ls = rows_told c s.is_inverted number before ls
+abbrev pub contents_from : Signals → RowPlace → (number : ℕ) → List (List ℕ) → CaptureContents
+contents_from s Names number ls = line_contents s number ls
+contents_from s (Rows c before) number ls = row_contents c s.is_inverted number before ls
 
 -- a line leads from one place to another and gives a sample, if it gives one, or it has a fault
 abbrev pub ReadsLine :
     Signals → (number : ℕ) → (line : List ℕ) → (old : RowPlace) → Result (Option Edge) CaptureFault → (new : RowPlace) → Type 0
 ReadsLine s number line old (Ok sample) new =
-    (more : List (List ℕ)) → told_from s old number (line ∷ more) ≡ told_behind (listed sample) (told_from s new (number + 1) more)
-ReadsLine s number line old (Err f) new = (more : List (List ℕ)) → told_from s old number (line ∷ more) ≡ refused f
+    (more : List (List ℕ)) → contents_from s old number (line ∷ more) ≡ with_samples (listed sample) (contents_from s new (number + 1) more)
+ReadsLine s number line old (Err f) new = (more : List (List ℕ)) → contents_from s old number (line ∷ more) ≡ refused f
 
 -- what is told yet, if a text goes on so
-abbrev pub still_told : CsvReader → (more : List ℕ) → Told
-still_told r more = told_from r.signals r.place r.number (lines_of (r.line.items ++ more))
+abbrev pub contents_left : CsvReader → (more : List ℕ) → CaptureContents
+contents_left r more = contents_from r.signals r.place r.number (lines_of (r.line.items ++ more))
 
 -- the reader has taken a text, and has given these samples
-pub record HasRead (s : Signals) (text : List ℕ) (samples : List Edge) (r : CsvReader) : Type 0 where
+pub record HasReadTable (s : Signals) (text : List ℕ) (samples : List Edge) (r : CsvReader) : Type 0 where
   pub signals : r.signals ≡ s
   pub inner : list_all is_inner r.line.items ≡ true
-  pub told : (more : List ℕ) → csv_told s (text ++ more) ≡ told_behind samples (still_told r more)
+  pub told : (more : List ℕ) → csv_contents s (text ++ more) ≡ with_samples samples (contents_left r more)
 
 -- the reader has taken these bytes too, behind whatever it had taken
 abbrev pub HoldsMore : (bytes : List ℕ) → (old new : CsvReader) → Type 0
-HoldsMore bytes old new = (s : Signals) (text : List ℕ) (samples : List Edge) → HasRead s text samples old
-    → HasRead s (text ++ bytes) samples new
+HoldsMore bytes old new = (s : Signals) (text : List ℕ) (samples : List Edge) → HasReadTable s text samples old
+    → HasReadTable s (text ++ bytes) samples new
 
 -- the same, and has given this sample, if it gives one
 abbrev pub ReadsMore : (bytes : List ℕ) → Option Edge → (old new : CsvReader) → Type 0
 ReadsMore bytes sample old new =
-    (s : Signals) (text : List ℕ) (samples : List Edge) → HasRead s text samples old
-    → HasRead s (text ++ bytes) (samples ++ listed sample) new
+    (s : Signals) (text : List ℕ) (samples : List Edge) → HasReadTable s text samples old
+    → HasReadTable s (text ++ bytes) (samples ++ listed sample) new
 
 -- a fault is that of every text that goes on so
 abbrev pub FaultsIn : (bytes : List ℕ) → (old : CsvReader) → CaptureFault → Type 0
 FaultsIn bytes old f =
-    (s : Signals) (text : List ℕ) (samples : List Edge) → HasRead s text samples old
-    → (more : List ℕ) → csv_told s ((text ++ bytes) ++ more) ≡ told_behind samples (refused f)
+    (s : Signals) (text : List ℕ) (samples : List Edge) → HasReadTable s text samples old
+    → (more : List ℕ) → csv_contents s ((text ++ bytes) ++ more) ≡ with_samples samples (refused f)
 
 -- it may also be want of memory
-abbrev pub Refuses : (bytes : List ℕ) → (old : CsvReader) → CaptureFault → Type 0
-Refuses bytes old f = (f ≡ NoMemory) ⊎ FaultsIn bytes old f
+abbrev pub RefusesTable : (bytes : List ℕ) → (old : CsvReader) → CaptureFault → Type 0
+RefusesTable bytes old f = (f ≡ NoMemory) ⊎ FaultsIn bytes old f
 
 -- what a reader answers at the text's end
 abbrev pub EndsText : CsvReader → Result (Option Edge) CaptureFault → Type 0
 EndsText r (Ok sample) =
-    (s : Signals) (text : List ℕ) (samples : List Edge) → HasRead s text samples r
-    → csv_told s text ≡ told_behind (samples ++ listed sample) ended
+    (s : Signals) (text : List ℕ) (samples : List Edge) → HasReadTable s text samples r
+    → csv_contents s text ≡ with_samples (samples ++ listed sample) ended
 EndsText r (Err f) =
-    (s : Signals) (text : List ℕ) (samples : List Edge) → HasRead s text samples r → csv_told s text ≡ told_behind samples (refused f)
+    (s : Signals) (text : List ℕ) (samples : List Edge) → HasReadTable s text samples r → csv_contents s text ≡ with_samples samples (refused f)
 
 -- what a reader answers if a text ends here, of which these samples were given, and which ends with a whole line
 abbrev pub AnswersEnd : CsvReader → (last : Option Edge) → Result (Option Edge) CaptureFault → Type 0
 AnswersEnd r last (Ok sample) =
-    (sample ≡ last) × ((s : Signals) (text : List ℕ) (samples : List Edge) → HasRead s text samples r
-    → csv_told s text ≡ told_behind samples ended)
+    (sample ≡ last) × ((s : Signals) (text : List ℕ) (samples : List Edge) → HasReadTable s text samples r
+    → csv_contents s text ≡ with_samples samples ended)
 AnswersEnd r last (Err f) =
-    (last ≡ None) × ((s : Signals) (text : List ℕ) (samples : List Edge) → HasRead s text samples r
-    → csv_told s text ≡ told_behind samples (refused f))
+    (last ≡ None) × ((s : Signals) (text : List ℕ) (samples : List Edge) → HasReadTable s text samples r
+    → csv_contents s text ≡ with_samples samples (refused f))
 
 -- what follows a number, if there is one
 abbrev pub onward : Option ℕ → (ℕ → Option ℕ) → Option ℕ
@@ -100,5 +100,5 @@ line_number r = r.number
 -- whatever follows the text that a reader has taken, the samples that it has given come first
 abbrev pub GivenSamplesComeFirst : Type 0
 GivenSamplesComeFirst =
-    (s : Signals) (text more : List ℕ) (given : List Edge) (r : CsvReader) → HasRead s text given r
-    → (later : List Edge) × ((csv_told s (text ++ more)).samples ≡ given ++ later)
+    (s : Signals) (text more : List ℕ) (given : List Edge) (r : CsvReader) → HasReadTable s text given r
+    → (later : List Edge) × ((csv_contents s (text ++ more)).samples ≡ given ++ later)

@@ -8,21 +8,21 @@ use Rattle.pr_capture.specs.declared.fault.CaptureFault.TheVariants.{BadLevel, F
 use Rattle.pr_capture.specs.declared.signals.Signals.{Signals}
 
 -- what a recording says: its samples, and why it says no more, if it has a fault
-pub record Told : Type 0 where
+pub record CaptureContents : Type 0 where
   pub samples : List Edge
   pub fault : Option CaptureFault
 
 -- it ends
-abbrev pub ended : Told
+abbrev pub ended : CaptureContents
 ended = record { samples = []; fault = None }
 
 -- it has a fault
-abbrev pub refused : CaptureFault → Told
+abbrev pub refused : CaptureFault → CaptureContents
 refused f = record { samples = []; fault = Some f }
 
 -- samples, and what is told behind them
-abbrev pub told_behind : List Edge → Told → Told
-told_behind ss t = record { samples = ss ++ t.samples; fault = t.fault }
+abbrev pub with_samples : List Edge → CaptureContents → CaptureContents
+with_samples ss t = record { samples = ss ++ t.samples; fault = t.fault }
 
 -- what follows where there is no fault
 infixl 10 ◌>>=◌

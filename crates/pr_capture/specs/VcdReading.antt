@@ -13,7 +13,7 @@ use Rattle.pr_capture.specs.declared.fault.Wire.TheVariants.{Atn, Clock, Data}
 use Rattle.pr_capture.specs.declared.fault.CaptureFault.{CaptureFault}
 use Rattle.pr_capture.specs.declared.fault.CaptureFault.TheVariants.{BadWord, NoEnd, NoDefinitions, NoLevel, NoTimescale, NoSignal}
 use Rattle.pr_capture.specs.declared.signals.Signals.{Signals}
-use Rattle.pr_capture.specs.Recording.{◌>>=◌, ended, first_some, is_named, level_in, refused, second_name, told_behind, Told}
+use Rattle.pr_capture.specs.Recording.{◌>>=◌, ended, first_some, is_named, level_in, refused, second_name, with_samples, CaptureContents}
 use Rattle.pr_capture.specs.Samples.{listed}
 use Rattle.pr_capture.specs.Csv.{behind_digits, digits_in, field_at, number_from, time_or}
 use Rattle.pr_capture.specs.Words.{end_line, words_of}
@@ -201,9 +201,9 @@ sample_of (Header scale c) = None
 sample_of (Changes scale c seen) = sample_in seen.time seen.atn seen.clock seen.line
 
 -- the sample behind a piece, and what is told from there
-abbrev pub goes_on : Result Place CaptureFault → (Place → Told) → Told
+abbrev pub goes_on : Result Place CaptureFault → (Place → CaptureContents) → CaptureContents
 goes_on (Err f) rest = refused f
-goes_on (Ok p) rest = told_behind (listed (sample_of p)) (rest p)
+goes_on (Ok p) rest = with_samples (listed (sample_of p)) (rest p)
 
 -- the first wire without a level
 abbrev pub without_level : (atn clock line : Option Bool) → Option Wire
@@ -218,22 +218,22 @@ is_blank time None None None = time == 0
 is_blank time _ _ _ = false
 
 -- each wire has to have a level
-abbrev pub level_wanted : (end : ℕ) → (missing : Option Wire) → Told
+abbrev pub level_wanted : (end : ℕ) → (missing : Option Wire) → CaptureContents
 level_wanted end None = ended
 level_wanted end (Some wire) = refused (NoLevel end wire)
 
 -- a text ends on this line
-abbrev pub told_at_end : (end : ℕ) → Place → Told
-told_at_end end (Header scale c) = refused (NoDefinitions end)
-told_at_end end (Changes scale c seen) =
+abbrev pub contents_at_end : (end : ℕ) → Place → CaptureContents
+contents_at_end end (Header scale c) = refused (NoDefinitions end)
+contents_at_end end (Changes scale c seen) =
     if is_blank seen.time seen.atn seen.clock seen.line then ended
     else level_wanted end (without_level seen.atn seen.clock seen.line)
 
 -- what pieces tell from a place on
-abbrev pub pieces_told : Signals → (end : ℕ) → Place → List Piece → Told
-pieces_told s end p [] = told_at_end end p
-pieces_told s end p (q ∷ qs) = goes_on (step s p q) (λ next. pieces_told s end next qs)
+abbrev pub piece_contents : Signals → (end : ℕ) → Place → List Piece → CaptureContents
+piece_contents s end p [] = contents_at_end end p
+piece_contents s end p (q ∷ qs) = goes_on (step s p q) (λ next. piece_contents s end next qs)
 
 -- what a text says
-unfoldable pub vcd_told : Signals → List ℕ → Told
-vcd_told s text = pieces_told s (end_line 1 text) (Header None no_codes) (pieces_behind Nothing (words_of text))
+unfoldable pub vcd_contents : Signals → List ℕ → CaptureContents
+vcd_contents s text = piece_contents s (end_line 1 text) (Header None no_codes) (pieces_behind Nothing (words_of text))

@@ -5,7 +5,7 @@ use Rattle.pr_wire.specs.Table.{differ}
 use Rattle.pr_capture.specs.declared.signals.Signals.{Signals}
 use Rattle.pr_capture.specs.Samples.{edges_of}
 use Rattle.pr_capture.specs.Vcd.{vcd_of}
-use Rattle.pr_capture.specs.VcdReading.{vcd_told}
+use Rattle.pr_capture.specs.VcdReading.{vcd_contents}
 
 -- the signals are those that are written
 pub record IsAsWritten (s : Signals) : Type 0 where
@@ -22,5 +22,5 @@ RunsOn (Some b) (e ∷ es) = (b.time < e.time) × (differ b.levels e.levels ≡ 
 
 -- what is written of edges has no fault, and is read as these edges
 pub record VcdIsReadBack : Type 0 where
-  pub sound : (s : Signals) (es : List Edge) → IsAsWritten s → RunsOn None es → (vcd_told s (vcd_of es)).fault ≡ None
-  pub edges : (s : Signals) (es : List Edge) → IsAsWritten s → RunsOn None es → edges_of 0 (vcd_told s (vcd_of es)).samples ≡ es
+  pub sound : (s : Signals) (es : List Edge) → IsAsWritten s → RunsOn None es → (vcd_contents s (vcd_of es)).fault ≡ None
+  pub edges : (s : Signals) (es : List Edge) → IsAsWritten s → RunsOn None es → edges_of 0 (vcd_contents s (vcd_of es)).samples ≡ es

@@ -7,19 +7,19 @@ use Rattle.pr_capture.specs.declared.header.WireCodes.{WireCodes}
 use Rattle.pr_capture.specs.declared.known.Stage.{Stage}
 use Rattle.pr_capture.specs.declared.known.Stage.TheVariants.{InHeader, InChanges}
 use Rattle.pr_capture.specs.declared.known.Known.{Known}
-use Rattle.pr_capture.specs.declared.progress.Phase.{Phase}
-use Rattle.pr_capture.specs.declared.progress.Phase.TheVariants.{Between, InSection, BehindValue}
-use Rattle.pr_capture.specs.declared.progress.Progress.{Progress}
+use Rattle.pr_capture.specs.declared.vcd_parser.Phase.{Phase}
+use Rattle.pr_capture.specs.declared.vcd_parser.Phase.TheVariants.{Between, InSection, BehindValue}
+use Rattle.pr_capture.specs.declared.vcd_parser.VcdParser.{VcdParser}
 use Rattle.pr_capture.specs.declared.vcd_reader.VcdReader.{VcdReader}
 use Rattle.pr_capture.specs.declared.fault.CaptureFault.{CaptureFault}
 use Rattle.pr_capture.specs.declared.fault.CaptureFault.TheVariants.{NoMemory}
 use Rattle.pr_capture.specs.declared.signals.Signals.{Signals}
-use Rattle.pr_capture.specs.Recording.{ended, refused, told_behind, Told}
+use Rattle.pr_capture.specs.Recording.{ended, refused, with_samples, CaptureContents}
 use Rattle.pr_capture.specs.Samples.{listed}
 use Rattle.pr_capture.specs.Words.{end_line, is_space, word_of, words_behind, Word}
 use Rattle.pr_capture.specs.VcdPieces.{pieces_behind, Begun, Piece}
 use Rattle.pr_capture.specs.VcdPieces.Begun.{Nothing, Inside, Behind}
-use Rattle.pr_capture.specs.VcdReading.{pieces_told, sample_of, step, vcd_told, Codes, Place}
+use Rattle.pr_capture.specs.VcdReading.{piece_contents, sample_of, step, vcd_contents, Codes, Place}
 use Rattle.pr_capture.specs.VcdReading.Place.{Header, Changes}
 
 -- What is held.
@@ -51,7 +51,7 @@ begun_at Between inside = Nothing
 begun_at (InSection line k) inside = Inside line k inside
 begun_at (BehindValue line level) inside = Behind line level
 
-abbrev pub begun_of : Progress → Begun
+abbrev pub begun_of : VcdParser → Begun
 begun_of p = begun_at p.phase (words_in p.inside.items)
 
 -- Pieces and words.
@@ -62,18 +62,18 @@ ReadsPiece s p old (Ok sample) new = (step s old p ≡ Ok new) × (sample ≡ sa
 ReadsPiece s p old (Err f) new = (f ≡ NoMemory) ⊎ (step s old p ≡ Err f)
 
 -- what words tell from here on, in a text that ends on a line
-abbrev pub words_told : Signals → (end : ℕ) → Progress → List Word → Told
-words_told s end p ws = pieces_told s end (place_of p.known) (pieces_behind (begun_of p) ws)
+abbrev pub word_contents : Signals → (end : ℕ) → VcdParser → List Word → CaptureContents
+word_contents s end p ws = piece_contents s end (place_of p.known) (pieces_behind (begun_of p) ws)
 
 -- words, one or none, lead on and give a sample, if they give one, or have a fault
-abbrev pub ReadsWords : Signals → List Word → (old : Progress) → Result (Option Edge) CaptureFault → (new : Progress) → Type 0
+abbrev pub ReadsWords : Signals → List Word → (old : VcdParser) → Result (Option Edge) CaptureFault → (new : VcdParser) → Type 0
 ReadsWords s ws old (Ok sample) new =
-    (end : ℕ) (more : List Word) → words_told s end old (ws ++ more) ≡ told_behind (listed sample) (words_told s end new more)
-ReadsWords s ws old (Err f) new = (f ≡ NoMemory) ⊎ ((end : ℕ) (more : List Word) → words_told s end old (ws ++ more) ≡ refused f)
+    (end : ℕ) (more : List Word) → word_contents s end old (ws ++ more) ≡ with_samples (listed sample) (word_contents s end new more)
+ReadsWords s ws old (Err f) new = (f ≡ NoMemory) ⊎ ((end : ℕ) (more : List Word) → word_contents s end old (ws ++ more) ≡ refused f)
 
 -- a text may end here
-abbrev pub MayEnd : Progress → Type 0
-MayEnd p = (s : Signals) (end : ℕ) → words_told s end p [] ≡ ended
+abbrev pub MayEnd : VcdParser → Type 0
+MayEnd p = (s : Signals) (end : ℕ) → word_contents s end p [] ≡ ended
 
 -- The text.
 
@@ -82,48 +82,48 @@ abbrev pub is_letter : ℕ → Bool
 is_letter b = not (is_space b)
 
 -- what is told yet, if a text goes on so
-abbrev pub still_told : VcdReader → (more : List ℕ) → Told
-still_told r more = words_told r.signals (end_line r.number more) r.progress (words_behind r.number r.letters.items more)
+abbrev pub contents_left : VcdReader → (more : List ℕ) → CaptureContents
+contents_left r more = word_contents r.signals (end_line r.number more) r.progress (words_behind r.number r.letters.items more)
 
 -- the word that has begun, if one has
 abbrev pub word_begun : VcdReader → List Word
 word_begun r = word_of r.number r.letters.items
 
 -- the reader has taken a text, and has given these samples
-pub record HasRead (s : Signals) (text : List ℕ) (samples : List Edge) (r : VcdReader) : Type 0 where
+pub record HasReadDump (s : Signals) (text : List ℕ) (samples : List Edge) (r : VcdReader) : Type 0 where
   pub signals : r.signals ≡ s
-  pub told : (more : List ℕ) → vcd_told s (text ++ more) ≡ told_behind samples (still_told r more)
+  pub told : (more : List ℕ) → vcd_contents s (text ++ more) ≡ with_samples samples (contents_left r more)
 
 -- the reader has taken these bytes too, behind whatever it had taken
 abbrev pub HoldsMore : (bytes : List ℕ) → (old new : VcdReader) → Type 0
-HoldsMore bytes old new = (s : Signals) (text : List ℕ) (samples : List Edge) → HasRead s text samples old
-    → HasRead s (text ++ bytes) samples new
+HoldsMore bytes old new = (s : Signals) (text : List ℕ) (samples : List Edge) → HasReadDump s text samples old
+    → HasReadDump s (text ++ bytes) samples new
 
 -- the same, and has given this sample, if it gives one
 abbrev pub ReadsMore : (bytes : List ℕ) → Option Edge → (old new : VcdReader) → Type 0
 ReadsMore bytes sample old new =
-    (s : Signals) (text : List ℕ) (samples : List Edge) → HasRead s text samples old
-    → HasRead s (text ++ bytes) (samples ++ listed sample) new
+    (s : Signals) (text : List ℕ) (samples : List Edge) → HasReadDump s text samples old
+    → HasReadDump s (text ++ bytes) (samples ++ listed sample) new
 
 -- a fault is that of every text that goes on so, or want of memory
-abbrev pub Refuses : (bytes : List ℕ) → (old : VcdReader) → CaptureFault → Type 0
-Refuses bytes old f =
-    (f ≡ NoMemory) ⊎ ((s : Signals) (text : List ℕ) (samples : List Edge) → HasRead s text samples old
-    → (more : List ℕ) → vcd_told s ((text ++ bytes) ++ more) ≡ told_behind samples (refused f))
+abbrev pub RefusesDump : (bytes : List ℕ) → (old : VcdReader) → CaptureFault → Type 0
+RefusesDump bytes old f =
+    (f ≡ NoMemory) ⊎ ((s : Signals) (text : List ℕ) (samples : List Edge) → HasReadDump s text samples old
+    → (more : List ℕ) → vcd_contents s ((text ++ bytes) ++ more) ≡ with_samples samples (refused f))
 
 -- what a reader answers at the text's end
 abbrev pub EndsText : VcdReader → Result (Option Edge) CaptureFault → Type 0
 EndsText r (Ok sample) =
-    (s : Signals) (text : List ℕ) (samples : List Edge) → HasRead s text samples r
-    → vcd_told s text ≡ told_behind (samples ++ listed sample) ended
+    (s : Signals) (text : List ℕ) (samples : List Edge) → HasReadDump s text samples r
+    → vcd_contents s text ≡ with_samples (samples ++ listed sample) ended
 EndsText r (Err f) =
-    (f ≡ NoMemory) ⊎ ((s : Signals) (text : List ℕ) (samples : List Edge) → HasRead s text samples r
-    → vcd_told s text ≡ told_behind samples (refused f))
+    (f ≡ NoMemory) ⊎ ((s : Signals) (text : List ℕ) (samples : List Edge) → HasReadDump s text samples r
+    → vcd_contents s text ≡ with_samples samples (refused f))
 
 -- what a reader answers if a text ends here, on a line, behind its last word
-abbrev pub AnswersEnd : (end : ℕ) → Progress → Result (Option Edge) CaptureFault → Type 0
-AnswersEnd end p (Ok sample) = (sample ≡ None) × ((s : Signals) → words_told s end p [] ≡ ended)
-AnswersEnd end p (Err f) = (s : Signals) → words_told s end p [] ≡ refused f
+abbrev pub AnswersEnd : (end : ℕ) → VcdParser → Result (Option Edge) CaptureFault → Type 0
+AnswersEnd end p (Ok sample) = (sample ≡ None) × ((s : Signals) → word_contents s end p [] ≡ ended)
+AnswersEnd end p (Err f) = (s : Signals) → word_contents s end p [] ≡ refused f
 
 -- how many lines have ended, with the one that has begun
 abbrev pub line_number : VcdReader → ℕ
@@ -132,5 +132,5 @@ line_number r = r.number
 -- whatever follows the text that a reader has taken, the samples that it has given come first
 abbrev pub GivenSamplesComeFirst : Type 0
 GivenSamplesComeFirst =
-    (s : Signals) (text more : List ℕ) (given : List Edge) (r : VcdReader) → HasRead s text given r
-    → (later : List Edge) × ((vcd_told s (text ++ more)).samples ≡ given ++ later)
+    (s : Signals) (text more : List ℕ) (given : List Edge) (r : VcdReader) → HasReadDump s text given r
+    → (later : List Edge) × ((vcd_contents s (text ++ more)).samples ≡ given ++ later)

@@ -3,7 +3,7 @@
 ghost use Rattle.std.specs.Prelude.{◌≡◌, ◌+◌, ◌^◌, ◌<◌, ◌≤◌, ◌∷◌, ◌++◌, [], false, true, None, IfErr, IfOk, length, option_copied, take};
 ghost use Rattle.std.specs.List.{list_all, prefix_len};
 ghost use Rattle.pr_capture.specs.Csv.{clock_column, column_of, columns_in, field_at, fields_of, is_silent, level_of, level_or, micros_in, number_from, row, sample_of, time_in, time_or};
-ghost use Rattle.pr_capture.specs.CsvSteps.{field_len, fields_left, is_inner, line_number, AnswersEnd, EndsText, FaultsIn, HasRead, HoldsMore, ReadsLine, ReadsMore, Refuses};
+ghost use Rattle.pr_capture.specs.CsvSteps.{field_len, fields_left, is_inner, line_number, AnswersEnd, EndsText, FaultsIn, HasReadTable, HoldsMore, ReadsLine, ReadsMore, RefusesTable};
 ghost use Rattle.pr_capture.specs.declared.csv.RowPlace.TheVariants.{Names};
 ghost use Rattle.pr_capture.specs.declared.fault.CaptureFault.TheVariants.{NoMemory};
 
@@ -351,7 +351,7 @@ pub struct CsvReader<'a> {
 impl<'a> CsvReader<'a> {
     /// Nothing of a text has come. It takes no memory.
     pub fn new(alloc: Global, signals: Signals<'a>) -> CsvReader<'a>
-        ensures read { HasRead signals.entry [] [] result }
+        ensures read { HasReadTable signals.entry [] [] result }
         ensures number { line_number result ≡ 1 }
     {
         CsvReader {
@@ -414,7 +414,7 @@ impl<'a> CsvReader<'a> {
         requires few { line_number self.old + 1 < 2 ^ 64 }
         requires some { 0 < length block.now }
         ensures read { IfOk result (λ r. ReadsMore (take r.0 block.now) r.1 self.old self.new) }
-        ensures refused { IfErr result (λ f. Refuses block.now self.old f) }
+        ensures refused { IfErr result (λ f. RefusesTable block.now self.old f) }
         ensures some { IfOk result (λ r. 0 < r.0) }
         ensures within { IfOk result (λ r. r.0 ≤ length block.now) }
         ensures number { IfOk result (λ r. line_number self.new ≤ line_number self.old + 1) }

@@ -11,7 +11,7 @@ mod format;
 mod header;
 mod known;
 mod laws;
-mod progress;
+mod vcd_parser;
 mod signals;
 mod vcd;
 mod vcd_reader;

@@ -5,10 +5,10 @@ ghost use Rattle.std.specs.List.{list_all, prefix_len};
 ghost use Rattle.pr_capture.specs.declared.fault.CaptureFault.TheVariants.{NoMemory};
 ghost use Rattle.pr_capture.specs.Words.{is_space};
 ghost use Rattle.pr_capture.specs.VcdReadingLaws.{VcdIsReadBack};
-ghost use Rattle.pr_capture.specs.VcdSteps.{is_letter, line_number, word_begun, EndsText, HasRead, HoldsMore, MayEnd, ReadsMore, ReadsWords, Refuses};
+ghost use Rattle.pr_capture.specs.VcdSteps.{is_letter, line_number, word_begun, EndsText, HasReadDump, HoldsMore, MayEnd, ReadsMore, ReadsWords, RefusesDump};
 
 use crate::fault::CaptureFault;
-use crate::progress::Progress;
+use crate::vcd_parser::VcdParser;
 use crate::signals::Signals;
 use pr_wire::Edge;
 use std::alloc::Global;
@@ -40,20 +40,20 @@ pub struct VcdReader<'a> {
     signals: Signals<'a>,
     number: usize,
     letters: Vec<u8>,
-    progress: Progress,
+    progress: VcdParser,
 }
 
 impl<'a> VcdReader<'a> {
     /// Nothing of a text has come. It takes no memory.
     pub fn new(alloc: Global, signals: Signals<'a>) -> VcdReader<'a>
-        ensures read { HasRead signals.entry [] [] result }
+        ensures read { HasReadDump signals.entry [] [] result }
         ensures number { line_number result ≡ 1 }
     {
         VcdReader {
             signals,
             number: 1,
             letters: Vec::new(alloc),
-            progress: Progress::new(alloc),
+            progress: VcdParser::new(alloc),
         }
     }
 
@@ -91,7 +91,7 @@ impl<'a> VcdReader<'a> {
         requires few { line_number self.old + 1 < 2 ^ 64 }
         requires space { is_space b ≡ true }
         ensures read { IfOk result (λ sample. ReadsMore (b ∷ []) sample self.old self.new) }
-        ensures refused { IfErr result (λ f. Refuses (b ∷ []) self.old f) }
+        ensures refused { IfErr result (λ f. RefusesDump (b ∷ []) self.old f) }
         ensures number { IfOk result (λ sample. line_number self.new ≤ line_number self.old + 1) }
     {
         let sample = self.take_letters()?;
@@ -113,7 +113,7 @@ impl<'a> VcdReader<'a> {
         requires few { line_number self.old + 1 < 2 ^ 64 }
         requires some { 0 < length block.now }
         ensures read { IfOk result (λ r. ReadsMore (take r.0 block.now) r.1 self.old self.new) }
-        ensures refused { IfErr result (λ f. Refuses block.now self.old f) }
+        ensures refused { IfErr result (λ f. RefusesDump block.now self.old f) }
         ensures some { IfOk result (λ r. 0 < r.0) }
         ensures within { IfOk result (λ r. r.0 ≤ length block.now) }
         ensures number { IfOk result (λ r. line_number self.new ≤ line_number self.old + 1) }

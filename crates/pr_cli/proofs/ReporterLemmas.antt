@@ -16,7 +16,7 @@ use Rattle.pr_report.specs.declared.timed_frame.TimedFrame.{TimedFrame}
 use Rattle.pr_report.specs.StoryLaws.{TracesTellWhatTheySpell}
 use Rattle.pr_report.specs.Moments.{frame_told, timed_frames}
 use Rattle.pr_report.specs.StoryText.{is_data, story_line, story_lines, story_of}
-use Rattle.pr_report.specs.Telling.{HasTold}
+use Rattle.pr_report.specs.FrameTiming.{HasTold}
 use Rattle.pr_report.specs.declared.report.Report.{Report}
 use Rattle.pr_report.specs.declared.report.Report.TheVariants as report
 use Rattle.pr_capture.specs.declared.format.TraceInput.{TraceInput}

@@ -13,10 +13,10 @@ use Rattle.pr_capture.specs.declared.vcd_reader.VcdReader.{VcdReader}
 use Rattle.pr_capture.specs.declared.fault.CaptureFault.{CaptureFault}
 use Rattle.pr_capture.specs.declared.fault.CaptureFault.TheVariants as capture
 use Rattle.pr_capture.specs.CsvSteps as csv
-use Rattle.pr_capture.specs.Csv.{csv_told}
-use Rattle.pr_capture.specs.Recording.{ended, refused, told_behind, Told}
+use Rattle.pr_capture.specs.Csv.{csv_contents}
+use Rattle.pr_capture.specs.Recording.{ended, refused, with_samples, CaptureContents}
 use Rattle.pr_capture.specs.Samples.{listed}
-use Rattle.pr_capture.specs.VcdReading.{vcd_told}
+use Rattle.pr_capture.specs.VcdReading.{vcd_contents}
 use Rattle.pr_capture.specs.VcdSteps as vcd
 use Rattle.pr_capture.specs.declared.format.Source.{Source}
 use Rattle.pr_capture.specs.declared.format.Source.TheVariants as source
@@ -40,12 +40,12 @@ text_more old new bytes e more = λ input t samples h. (h.0, more t samples h.1)
 
 pub csv_more : (old new : CsvReader) (bytes : List ℕ) (e : Option Edge) → csv.ReadsMore bytes e old new → GivesMore bytes e (reader.Csv old) (reader.Csv new)
 csv_more old new bytes e more = λ input t samples h.
-    let P : List Edge → Type 0 = λ l. csv.HasRead input.signals (t ++ bytes) (samples ++ l) new in
+    let P : List Edge → Type 0 = λ l. csv.HasReadTable input.signals (t ++ bytes) (samples ++ l) new in
     (h.0, subst P (listed_is e) (more input.signals t samples h.1))
 
 pub vcd_more : (old new : VcdReader) (bytes : List ℕ) (e : Option Edge) → vcd.ReadsMore bytes e old new → GivesMore bytes e (reader.Vcd old) (reader.Vcd new)
 vcd_more old new bytes e more = λ input t samples h.
-    let P : List Edge → Type 0 = λ l. vcd.HasRead input.signals (t ++ bytes) (samples ++ l) new in
+    let P : List Edge → Type 0 = λ l. vcd.HasReadDump input.signals (t ++ bytes) (samples ++ l) new in
     (h.0, subst P (listed_is e) (more input.signals t samples h.1))
 
 -- the format is known
@@ -69,11 +69,11 @@ own_fault (capture.BadLevel n) = inr (tt, refl)
 own_fault capture.NoMemory = inl refl
 
 -- what was told up to a fault
-told_refused : (told : Told) (samples : List Edge) (f : CaptureFault) (g : CliFault) → told ≡ told_behind samples (refused f) → Capture f ≡ g → IsTold told samples (Some g)
+told_refused : (told : CaptureContents) (samples : List Edge) (f : CaptureFault) (g : CliFault) → told ≡ with_samples samples (refused f) → Capture f ≡ g → IsTold told samples (Some g)
 told_refused told samples f g is same = rw is (append-nil samples, ap (λ (x : CliFault). Some x) same)
 
 -- and all that was told
-told_whole : (told : Told) (samples : List Edge) (e : Option Edge) → told ≡ told_behind (samples ++ listed e) ended → IsTold told (samples ++ option_to_list e) None
+told_whole : (told : CaptureContents) (samples : List Edge) (e : Option Edge) → told ≡ with_samples (samples ++ listed e) ended → IsTold told (samples ++ option_to_list e) None
 told_whole told samples e is = rw is (append-nil (samples ++ listed e) ∙ ap (λ l. samples ++ l) (listed_is e), refl)
 
 -- a trace text's fault
@@ -86,7 +86,7 @@ text_refused old bytes (trace.BadLine n) h = inr (
 text_refused old bytes trace.NoMemory h = absurd h
 
 -- a recording's fault
-pub csv_refused : (old : CsvReader) (bytes : List ℕ) (f : CaptureFault) → csv.Refuses bytes old f → RefusesInput bytes (reader.Csv old) (fault_of_capture f)
+pub csv_refused : (old : CsvReader) (bytes : List ℕ) (f : CaptureFault) → csv.RefusesTable bytes old f → RefusesInput bytes (reader.Csv old) (fault_of_capture f)
 csv_refused old bytes f (inl m) = inl (ap fault_of_capture m)
 csv_refused old bytes f (inr h) = by (own_fault f)
   where
@@ -98,7 +98,7 @@ csv_refused old bytes f (inr h) = by (own_fault f)
           in_format input source.Csv ((t ++ bytes) ++ more) samples (Some (fault_of_capture f)) k.0 (told_refused _ samples f (fault_of_capture f) (h input.signals t samples k.1 more) o.1),
     )
 
-pub vcd_refused : (old : VcdReader) (bytes : List ℕ) (f : CaptureFault) → vcd.Refuses bytes old f → RefusesInput bytes (reader.Vcd old) (fault_of_capture f)
+pub vcd_refused : (old : VcdReader) (bytes : List ℕ) (f : CaptureFault) → vcd.RefusesDump bytes old f → RefusesInput bytes (reader.Vcd old) (fault_of_capture f)
 vcd_refused old bytes f (inl m) = inl (ap fault_of_capture m)
 vcd_refused old bytes f (inr h) = by (own_fault f)
   where
@@ -189,5 +189,5 @@ each_says some = λ input t. by input t input.source
     by input t source.Text =
         let e = some t in
         (e.0, option_map (λ n. Trace (trace.BadLine n)) e.1, (e.1, e.2, refl))
-    by input t source.Csv = let told = csv_told input.signals t in (told.samples, option_map (λ f. Capture f) told.fault, (refl, refl))
-    by input t source.Vcd = let told = vcd_told input.signals t in (told.samples, option_map (λ f. Capture f) told.fault, (refl, refl))
+    by input t source.Csv = let told = csv_contents input.signals t in (told.samples, option_map (λ f. Capture f) told.fault, (refl, refl))
+    by input t source.Vcd = let told = vcd_contents input.signals t in (told.samples, option_map (λ f. Capture f) told.fault, (refl, refl))

@@ -11,10 +11,10 @@ use Rattle.pr_wire.specs.Pieces.{Spells}
 use Rattle.pr_wire.specs.Table.{fault_of}
 use Rattle.pr_wire.specs.TraceText.{SaysEdges}
 use Rattle.pr_capture.specs.declared.fault.CaptureFault.TheVariants as capture
-use Rattle.pr_capture.specs.Csv.{csv_told}
-use Rattle.pr_capture.specs.Recording.{Told}
+use Rattle.pr_capture.specs.Csv.{csv_contents}
+use Rattle.pr_capture.specs.Recording.{CaptureContents}
 use Rattle.pr_capture.specs.Samples.{edges_of}
-use Rattle.pr_capture.specs.VcdReading.{vcd_told}
+use Rattle.pr_capture.specs.VcdReading.{vcd_contents}
 use Rattle.pr_report.specs.Moments.{timed_frames}
 use Rattle.pr_report.specs.StoryText.{story_lines, story_of}
 use Rattle.pr_report.specs.declared.report.Report.{Report}
@@ -31,15 +31,15 @@ use Rattle.pr_cli.specs.declared.fault.CliFault.TheVariants.{Script, Trace, Wave
 -- What an input says.
 
 -- a recording that tells this says these samples, up to its fault if it has one
-abbrev pub IsTold : Told → (samples : List Edge) → (fault : Option CliFault) → Type 0
+abbrev pub IsTold : CaptureContents → (samples : List Edge) → (fault : Option CliFault) → Type 0
 IsTold told samples fault = (told.samples ≡ samples) × (option_map (λ f. Capture f) told.fault ≡ fault)
 
 -- a text in a format says these samples, or edges, up to its fault if it has one
 abbrev pub SaysSamples : TraceInput → Source → (text : List ℕ) → (samples : List Edge) → (fault : Option CliFault) → Type 0
 SaysSamples input source.Text text samples fault =
     (bad : Option ℕ) × SaysEdges text samples bad × (option_map (λ n. Trace (trace.BadLine n)) bad ≡ fault)
-SaysSamples input source.Csv text samples fault = IsTold (csv_told input.signals text) samples fault
-SaysSamples input source.Vcd text samples fault = IsTold (vcd_told input.signals text) samples fault
+SaysSamples input source.Csv text samples fault = IsTold (csv_contents input.signals text) samples fault
+SaysSamples input source.Vcd text samples fault = IsTold (vcd_contents input.signals text) samples fault
 
 -- the edges that the samples of a format make, from a start on; a trace text has edges
 abbrev pub edges_made : Source → (start : ℕ) → (samples : List Edge) → List Edge

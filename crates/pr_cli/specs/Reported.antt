@@ -19,7 +19,7 @@ use Rattle.pr_report.specs.declared.frame_timer.FrameTimer.{FrameTimer}
 use Rattle.pr_report.specs.declared.timed_frame.TimedFrame.{TimedFrame}
 use Rattle.pr_report.specs.Moments.{frame_told, timed_frames}
 use Rattle.pr_report.specs.StoryText.{is_data, story_line, story_lines}
-use Rattle.pr_report.specs.Telling.{HasTold, number_taken}
+use Rattle.pr_report.specs.FrameTiming.{HasTold, number_taken}
 use Rattle.pr_report.specs.declared.report.Report.{Report}
 use Rattle.pr_report.specs.declared.report.Report.TheVariants as report
 use Rattle.pr_capture.specs.declared.format.Source.TheVariants as source
@@ -46,9 +46,9 @@ lines_read (reader.Csv r) = csv.line_number r
 
 -- the reader has taken a text in the format of the input, and has given these samples, or edges
 abbrev pub HasGiven : TraceInput → (text : List ℕ) → (samples : List Edge) → SourceReader → Type 0
-HasGiven input t samples (reader.Text r) = (input.source ≡ source.Text) × text.HasRead t samples r
-HasGiven input t samples (reader.Vcd r) = (input.source ≡ source.Vcd) × vcd.HasRead input.signals t samples r
-HasGiven input t samples (reader.Csv r) = (input.source ≡ source.Csv) × csv.HasRead input.signals t samples r
+HasGiven input t samples (reader.Text r) = (input.source ≡ source.Text) × text.HasReadTrace t samples r
+HasGiven input t samples (reader.Vcd r) = (input.source ≡ source.Vcd) × vcd.HasReadDump input.signals t samples r
+HasGiven input t samples (reader.Csv r) = (input.source ≡ source.Csv) × csv.HasReadTable input.signals t samples r
 
 -- the reader has taken these bytes too, behind whatever it had taken, and has given this sample, if it gives one
 abbrev pub GivesMore : (bytes : List ℕ) → Option Edge → (old new : SourceReader) → Type 0

@@ -4,7 +4,7 @@ use Rattle.pr_wire.specs.declared.Edge.{Edge}
 use Rattle.pr_decode.specs.declared.reading.Opening.{Opening}
 use Rattle.pr_decode.specs.declared.reading.Reading.{Reading}
 use Rattle.pr_decode.specs.Readings.{Bit, Bits, begins, begun_by, bits_from, ends_bit, first_late, is_called, is_none, number_of, opening, opening_of, put_bit, reading, readings, said, turns_of}
-use Rattle.pr_decode.specs.Stretches.{ClockPhase}
+use Rattle.pr_decode.specs.ClockPhases.{ClockPhase}
 use Rattle.pr_decode.specs.Taking.{AreBits, HasBegun, first_low, stretched, with_more}
 
 -- what follows the first stretch of bits
@@ -54,10 +54,10 @@ pub uncalled-behind : (bs : List Bit) (ss : List ClockPhase) → is_called ss �
 uncalled-behind [] ss h = h
 uncalled-behind (b ∷ bs) ss h = refl
 
-bit-uncalled : (h x : ClockPhase) → ends_bit h x ≡ true → h.called ≡ false
-bit-uncalled h x e = by h.called e
+bit-uncalled : (h x : ClockPhase) → ends_bit h x ≡ true → h.attention ≡ false
+bit-uncalled h x e = by h.attention e
   where
-    by : (v : Bool) → (not v && not x.called && is_none (first_late h.first.time (h.rest ++ x.first ∷ []))) ≡ true → v ≡ false
+    by : (v : Bool) → (not v && not x.attention && is_none (first_late h.first.time (h.rest ++ x.first ∷ []))) ≡ true → v ≡ false
     by false k = refl
     by true k = absurd (cc)
 
@@ -95,7 +95,7 @@ nothing-begins s (l ∷ ss) h = ap (λ v. said (begun_by v l ss) (λ m. readings
 
 -- nor does one with CLOCK pulled
 pub low-opens-nothing : (s : ClockPhase) → s.first.levels.clock ≡ false → opening_of s ≡ None
-low-opens-nothing s h = by s.called s.first.levels.clock h
+low-opens-nothing s h = by s.attention s.first.levels.clock h
   where
     by : (c k : Bool) → k ≡ false → (if c then None else (if k then opening (turns_of s) else None)) ≡ None
     by true k m = refl
@@ -103,7 +103,7 @@ low-opens-nothing s h = by s.called s.first.levels.clock h
     by false true m = absurd (cc)
 
 -- or one in front of a call
-pub call-begins : (s l : ClockPhase) (ss : List ClockPhase) → l.called ≡ true → readings 0 (s ∷ l ∷ ss) ≡ readings 0 (l ∷ ss)
+pub call-begins : (s l : ClockPhase) (ss : List ClockPhase) → l.attention ≡ true → readings 0 (s ∷ l ∷ ss) ≡ readings 0 (l ∷ ss)
 call-begins s l ss h = by (opening_of s)
   where
     by : (v : Option Opening) → said (begun_by v l ss) (λ m. readings m (l ∷ ss)) ≡ readings 0 (l ∷ ss)
@@ -113,7 +113,7 @@ call-begins s l ss h = by (opening_of s)
         ap (λ v. said (if v || is_called ss then None else Some (reading o l.first.time y, number_of y.bits)) (λ m. readings m (l ∷ ss))) h
 
 -- or one in front of CLOCK's first pull and a call
-pub called-off : (s l x : ClockPhase) (ss : List ClockPhase) → x.called ≡ true → readings 0 (s ∷ l ∷ x ∷ ss) ≡ readings 0 (l ∷ x ∷ ss)
+pub called-off : (s l x : ClockPhase) (ss : List ClockPhase) → x.attention ≡ true → readings 0 (s ∷ l ∷ x ∷ ss) ≡ readings 0 (l ∷ x ∷ ss)
 called-off s l x ss h = by (opening_of s)
   where
     or-true : (a : Bool) → (a || true) ≡ true
@@ -125,11 +125,11 @@ called-off s l x ss h = by (opening_of s)
     by (Some o) =
         let y : Bits = bits_from 8 l (x ∷ ss) in
         ap (λ v. said (if v then None else Some (reading o l.first.time y, number_of y.bits)) (λ m. readings m (l ∷ x ∷ ss)))
-        (ap (λ v. l.called || v) h ∙ or-true l.called)
+        (ap (λ v. l.attention || v) h ∙ or-true l.attention)
 
 -- an opening has CLOCK released
 pub opening-released : (s : ClockPhase) (o : Opening) → opening_of s ≡ Some o → s.first.levels.clock ≡ true
-opening-released s o h = by s.called s.first.levels.clock h
+opening-released s o h = by s.attention s.first.levels.clock h
   where
     by : (c k : Bool) → (if c then None else (if k then opening (turns_of s) else None)) ≡ Some o → k ≡ true
     by true k m = absurd (cc)
@@ -141,7 +141,7 @@ pub first-further : (bs : List Bit) (s : ClockPhase) (r : List Edge) → (first_
 first-further [] s r = refl
 first-further (b ∷ bs) s r = refl
 
-called-further : (bs : List Bit) (s : ClockPhase) (r : List Edge) → (first_low bs (record s { rest = s.rest ++ r })).called ≡ (first_low bs s).called
+called-further : (bs : List Bit) (s : ClockPhase) (r : List Edge) → (first_low bs (record s { rest = s.rest ++ r })).attention ≡ (first_low bs s).attention
 called-further [] s r = refl
 called-further (b ∷ bs) s r = refl
 
@@ -182,18 +182,18 @@ pub begun-more : (p : ClockPhase) (o : Opening) (bs : List Bit) (n : ℕ) (b : B
     → ends_bit b.high s ≡ true → b.down ≡ s.first → s.first.levels.clock ≡ false → HasBegun p o (bs ++ b ∷ []) n s
 begun-more p o bs n b s h e d k = record {
   opens = h.opens;
-  uncalled = ap (λ (x : ClockPhase). x.called) (more-first bs b s) ∙ h.uncalled;
+  uncalled = ap (λ (x : ClockPhase). x.attention) (more-first bs b s) ∙ h.uncalled;
   bits = more-bits bs b s h.bits e d;
   eight = more-counted bs b n ∙ h.eight;
   pulled = k;
 }
 
 -- a stretch ends a bit, or does not
-pub ends-bit : (h l : ClockPhase) → h.called ≡ false → l.called ≡ false → first_late h.first.time (h.rest ++ l.first ∷ []) ≡ None → ends_bit h l ≡ true
+pub ends-bit : (h l : ClockPhase) → h.attention ≡ false → l.attention ≡ false → first_late h.first.time (h.rest ++ l.first ∷ []) ≡ None → ends_bit h l ≡ true
 ends-bit h l a b c = rw (a, b, c) refl
 
 pub late-ends-none : (h l : ClockPhase) (t : ℕ) → first_late h.first.time (h.rest ++ l.first ∷ []) ≡ Some t → ends_bit h l ≡ false
-late-ends-none h l t e = by h.called l.called (first_late h.first.time (h.rest ++ l.first ∷ [])) e
+late-ends-none h l t e = by h.attention l.attention (first_late h.first.time (h.rest ++ l.first ∷ [])) e
   where
     by : (x y : Bool) (v : Option ℕ) → v ≡ Some t → (not x && not y && is_none v) ≡ false
     by true y v k = refl
@@ -201,15 +201,15 @@ late-ends-none h l t e = by h.called l.called (first_late h.first.time (h.rest +
     by false false (Some u) k = refl
     by false false None k = absurd (cc)
 
-pub called-ends-none : (h l : ClockPhase) → h.called ≡ true → ends_bit h l ≡ false
-called-ends-none h l e = by h.called e
+pub called-ends-none : (h l : ClockPhase) → h.attention ≡ true → ends_bit h l ≡ false
+called-ends-none h l e = by h.attention e
   where
-    by : (x : Bool) → x ≡ true → (not x && not l.called && is_none (first_late h.first.time (h.rest ++ l.first ∷ []))) ≡ false
+    by : (x : Bool) → x ≡ true → (not x && not l.attention && is_none (first_late h.first.time (h.rest ++ l.first ∷ []))) ≡ false
     by true k = refl
     by false k = absurd (cc)
 
-pub call-ends-none : (h l : ClockPhase) → l.called ≡ true → ends_bit h l ≡ false
-call-ends-none h l e = by h.called l.called e
+pub call-ends-none : (h l : ClockPhase) → l.attention ≡ true → ends_bit h l ≡ false
+call-ends-none h l e = by h.attention l.attention e
   where
     by : (x y : Bool) → y ≡ true → (not x && not y && is_none (first_late h.first.time (h.rest ++ l.first ∷ []))) ≡ false
     by true y k = refl

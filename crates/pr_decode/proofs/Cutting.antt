@@ -3,7 +3,7 @@ use Rattle.std.proofs.Common.{◌≡◌, ℕ, Bool, true, false, not, ◌&&◌, 
 use Rattle.pr_wire.specs.declared.Edge.{Edge}
 use Rattle.pr_wire.specs.Table.{same}
 use Rattle.pr_decode.specs.Readings.{first_late, is_late}
-use Rattle.pr_decode.specs.Stretches.{ClockPhase, begun, calls, goes_on, longer, stretches_from}
+use Rattle.pr_decode.specs.ClockPhases.{ClockPhase, begun, calls, goes_on, longer, stretches_from}
 
 -- an edge goes on with a stretch, or ends it
 pub stretches-on : (s : ClockPhase) (last e : Edge) (es : List Edge) → goes_on s.first last e ≡ true

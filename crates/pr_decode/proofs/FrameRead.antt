@@ -13,13 +13,13 @@ use Rattle.pr_decode.specs.declared.reading.Reading.TheVariants.{Frame}
 use Rattle.pr_decode.specs.declared.reading.Transfer.{Transfer}
 use Rattle.pr_decode.specs.PieceReadings.{frame_read, high_times, low_times}
 use Rattle.pr_decode.specs.Readings.{Bit, ends_bit, halves, high_half, is_none, level_of, low_half, opening_of, readings}
-use Rattle.pr_decode.specs.Stretches.{ClockPhase, begun, calls, goes_on, longer, stretches_from}
+use Rattle.pr_decode.specs.ClockPhases.{ClockPhase, begun, calls, goes_on, longer, stretches_from}
 use Rattle.pr_decode.specs.Taking.{AreBits, HasBegun, first_low, stretched, to_come, with_more}
 use Rattle.pr_decode.specs.Taking.Past.{Waiting}
 use Rattle.pr_decode.proofs.Adding.{low-opens-nothing, nothing-begins}
 use Rattle.pr_decode.proofs.Cutting.{stretches-off, stretches-on}
 use Rattle.pr_decode.proofs.Moving.{acknowledged-gives}
-use Rattle.pr_decode.proofs.Stepping.{off-called, sent}
+use Rattle.pr_decode.proofs.DecoderSteps.{off-called, sent}
 
 -- the level of DATA with the first pull of CLOCK, and the edges behind that
 abbrev first_level : List BitTimes → Bool
@@ -160,7 +160,7 @@ bits-said x p o c bs ack more h k n =
     let low : ClockPhase = last_low x c bs in
     let has : HasBegun p o (bits_read x c bs) 0 low = record {
       opens = h;
-      uncalled = ap (λ (s : ClockPhase). s.called) (first-low-is x c bs);
+      uncalled = ap (λ (s : ClockPhase). s.attention) (first-low-is x c bs);
       bits = are-bits x c bs k;
       eight = number-more (bits_read x c bs) ∙ (number-read x c bs ∙ n);
       pulled = refl;
@@ -215,7 +215,7 @@ plain-frame x look free pull ack bits more k n =
     let d : Edge = edge_at free x true true in
     let a : Edge = edge_at ack x false false in
     let c : Edge = edge_at pull x false (first_level bits) in
-    let o : Opening = record { command = not x; look = look; ready = free; pulse = None } in
+    let o : Opening = record { command = not x; ready_to_send = look; ready_for_data = free; pulse = None } in
     let rest : List Edge = tail_edges x bits ++ a ∷ more in
     ap (readings 0)
     (goes-along x (begun false l) l d (bit_edges x pull bits ++ a ∷ more) refl refl refl
@@ -235,7 +235,7 @@ pulsed-frame look free pull ack p bits more k n =
     let r : Edge = edge_at p.released true true true in
     let a : Edge = edge_at ack true false false in
     let c : Edge = edge_at pull true false (first_level bits) in
-    let o : Opening = record { command = false; look = look; ready = free; pulse = Some (record { pulled = p.pulled; released = p.released }) } in
+    let o : Opening = record { command = false; ready_to_send = look; ready_for_data = free; pulse = Some (record { pulled = p.pulled; released = p.released }) } in
     let opened : ClockPhase = longer (longer (opened_by true look free) q) r in
     let rest : List Edge = tail_edges true bits ++ a ∷ more in
     ap (readings 0)

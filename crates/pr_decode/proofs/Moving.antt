@@ -11,13 +11,13 @@ use Rattle.pr_decode.specs.declared.reading.Reading.TheVariants.{Frame, Incomple
 use Rattle.pr_decode.specs.declared.reading.Transfer.{Transfer}
 use Rattle.pr_decode.specs.Readings.{Bit, acknowledgement, bits_from, ends_bit, first_late, frame_end, glitch_end, high_end, is_called, is_late, readings, silence_or, transfer, turns_of, waiting_end}
 use Rattle.pr_decode.specs.Steps.{acknowledged_at, acknowledged_in, advanced, bits_ended, called_at, ended_by, frame_ended, high_ended, low_ended, turned, with_bit}
-use Rattle.pr_decode.specs.Stretches.{ClockPhase, begun, calls, goes_on, longer, stretches_from}
+use Rattle.pr_decode.specs.ClockPhases.{ClockPhase, begun, calls, goes_on, longer, stretches_from}
 use Rattle.pr_decode.specs.Taking.{HasBegun, IsRight, Past, first_low, noted, stretch_in, stretched, to_come}
 use Rattle.pr_decode.specs.Taking.Past.{High, Low, Waiting}
 use Rattle.pr_decode.proofs.Adding.{begun-further, begun-more, call-ends-none, called-ends-none, called-off, ends-bit, first-further, late-ends-none, low-opens-nothing, more-first, more-stretched, none-comes, none_come, nothing-begins, uncalled-behind}
 use Rattle.pr_decode.proofs.Bytes.{transfer-more}
 use Rattle.pr_decode.proofs.Cutting.{calls-off, clock-falls, clock-rises, head-of, late-none, late-one, late-stays, stretches-off, stretches-on}
-use Rattle.pr_decode.proofs.Stepping.{Next, few-bits, frame-comes, glitch-comes, keeps-off, keeps-on, off-called, sent}
+use Rattle.pr_decode.proofs.DecoderSteps.{Next, few-bits, frame-comes, glitch-comes, keeps-off, keeps-on, off-called, sent}
 use Rattle.pr_decode.proofs.Turning.{acknowledged-longer, acknowledged-noted, begun-unacknowledged, turns-longer}
 
 -- what is ended of a byte, by CLOCK's level
@@ -198,17 +198,17 @@ pub called-low-gives : (p : ClockPhase) (o : Opening) (b : Bit) (bs : List Bit) 
     → calls last e ≡ true → Gives (Low p o (b ∷ bs) (suc n)) s last e (IncompleteByte (sent o (b ∷ bs) s) (glitch.Attention e.time))
 called-low-gives p o b bs n s last e h k es =
     let i = head-of (begun true e) e es in
-    let l : ClockPhase = record { called = true; first = e; rest = [] ++ i.more } in
+    let l : ClockPhase = record { attention = true; first = e; rest = [] ++ i.more } in
     let is : stretches_from s last (e ∷ es) ≡ s ∷ l ∷ i.behind = off-called s last e es true (calls-off s last e k) k ∙ ap (λ x. s ∷ x) i.is in
     ap (λ x. readings 0 (p ∷ (stretched (b ∷ bs) ++ x))) is
     ∙ (glitch-comes p o (b ∷ bs) n s (l ∷ i.behind) (glitch.Attention e.time) h refl (none i.behind) refl
     ∙ ap (λ x. IncompleteByte (sent o (b ∷ bs) s) (glitch.Attention e.time) ∷ readings 0 x) (sym is))
   where
-    none : (ss : List ClockPhase) → (let l : ClockPhase = record { called = true; first = e; rest = [] ++ (head-of (begun true e) e es).more } in
+    none : (ss : List ClockPhase) → (let l : ClockPhase = record { attention = true; first = e; rest = [] ++ (head-of (begun true e) e es).more } in
         bits_from (suc n) s (l ∷ ss) ≡ none_come s (l ∷ ss))
     none [] = refl
     none (x ∷ ss) =
-        let l : ClockPhase = record { called = true; first = e; rest = [] ++ (head-of (begun true e) e es).more } in
+        let l : ClockPhase = record { attention = true; first = e; rest = [] ++ (head-of (begun true e) e es).more } in
         none-comes n s l x ss (called-ends-none l x refl)
 
 -- of one that has none nothing is left
@@ -222,7 +222,7 @@ called-moves p o n s last e h k = record {
   right = tt;
   comes = λ es.
       let i = head-of (begun true e) e es in
-      let l : ClockPhase = record { called = true; first = e; rest = [] ++ i.more } in
+      let l : ClockPhase = record { attention = true; first = e; rest = [] ++ i.more } in
       ap (λ x. readings 0 (p ∷ x)) (off-called s last e es true (calls-off s last e k) k)
       ∙ (ap (λ x. readings 0 (p ∷ s ∷ x)) i.is
       ∙ (called-off p s l i.behind refl
@@ -231,7 +231,7 @@ called-moves p o n s last e h k = record {
 
 -- a byte with CLOCK released ends: no bit comes, and the stretch is read anew
 high-gives : (p : ClockPhase) (o : Opening) (bs : List Bit) (n : ℕ) (l s : ClockPhase) (last e : Edge) (end : IncompleteEnd) → HasBegun p o bs (suc n) l
-    → s.called ≡ false
+    → s.attention ≡ false
     → ((es : List Edge) → bits_from (suc n) l (stretches_from s last (e ∷ es)) ≡ none_come l (stretches_from s last (e ∷ es)))
     → ((es : List Edge) → glitch_end (stretches_from s last (e ∷ es)) ≡ end)
     → Gives (High p o bs n l) s last e (IncompleteByte (sent o bs l) end)
@@ -247,11 +247,11 @@ no-bit n l h [] k = refl
 no-bit n l h (x ∷ xs) k = none-comes n l h x xs (k x xs refl)
 
 -- the end of a stretch with CLOCK released that is not called
-pub high-ends : (h : ClockPhase) (ss : List ClockPhase) → h.called ≡ false → glitch_end (h ∷ ss) ≡ high_end h ss
+pub high-ends : (h : ClockPhase) (ss : List ClockPhase) → h.attention ≡ false → glitch_end (h ∷ ss) ≡ high_end h ss
 high-ends h ss k = ap (λ v. if v then glitch.Attention h.first.time else high_end h ss) k
 
 -- a stretch with an edge that comes too late
-late-stretch : (n : ℕ) (l h : ClockPhase) (ss : List ClockPhase) (t : ℕ) → h.called ≡ false → first_late h.first.time h.rest ≡ Some t
+late-stretch : (n : ℕ) (l h : ClockPhase) (ss : List ClockPhase) (t : ℕ) → h.attention ≡ false → first_late h.first.time h.rest ≡ Some t
     → (bits_from (suc n) l (h ∷ ss) ≡ none_come l (h ∷ ss)) × (glitch_end (h ∷ ss) ≡ glitch.ClockTimeout t)
 late-stretch n l h ss t c k =
     (no-bit n l h ss (λ x xs e. late-ends-none h x t (late-stays h.first.time h.rest (x.first ∷ []) t k)), high-ends h ss c ∙ by ss)
@@ -286,7 +286,7 @@ late-gives p o bs n l s last e (h, b) k = by (goes_on s.first last e) refl
             × (glitch_end (stretches_from s last (e ∷ es)) ≡ glitch.ClockTimeout e.time)
         both es =
             let i = head-of (begun (calls last e) e) e es in
-            let x : ClockPhase = record { called = calls last e; first = e; rest = [] ++ i.more } in
+            let x : ClockPhase = record { attention = calls last e; first = e; rest = [] ++ i.more } in
             let is : stretches_from s last (e ∷ es) ≡ s ∷ x ∷ i.behind = stretches-off s last e es m ∙ ap (λ y. s ∷ y) i.is in
             rw is (
               none-comes n l s x i.behind (late-ends-none s x e.time late),
@@ -305,7 +305,7 @@ called-high-gives p o bs n l s last e (h, b) k c =
         × (glitch_end (stretches_from s last (e ∷ es)) ≡ glitch.Attention e.time)
     both es =
         let i = head-of (begun true e) e es in
-        let x : ClockPhase = record { called = true; first = e; rest = [] ++ i.more } in
+        let x : ClockPhase = record { attention = true; first = e; rest = [] ++ i.more } in
         let is : stretches_from s last (e ∷ es) ≡ s ∷ x ∷ i.behind =
         off-called s last e es true (calls-off s last e c) c ∙ ap (λ y. s ∷ y) i.is
         in

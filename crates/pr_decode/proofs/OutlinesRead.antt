@@ -17,13 +17,13 @@ use Rattle.pr_decode.specs.declared.reading.Transfer.{Transfer}
 use Rattle.pr_decode.specs.Laws.{OutlinesDecide}
 use Rattle.pr_decode.specs.Outlines.{Outline, Released, acknowledged_behind, openings, outline, taken_by, with_acknowledgement}
 use Rattle.pr_decode.specs.Readings.{Bit, Bits, acknowledgement, begins, begun_by, bits_from, ends_bit, first_late, frame_end, glitch_end, halves, high_end, high_half, is_called, is_late, is_none, level_of, longest_bit, low_half, number_of, opening_of, put_bit, reading, readings, said, silence_or, transfer, turns_of}
-use Rattle.pr_decode.specs.Stretches.{ClockPhase, begun, calls, goes_on, longer, stretches, stretches_from}
+use Rattle.pr_decode.specs.ClockPhases.{ClockPhase, begun, calls, goes_on, longer, stretches, stretches_from}
 use Rattle.pr_decode.proofs.Adding.{opening-released}
 use Rattle.pr_decode.proofs.Cutting.{clock-turns, stretches-off, stretches-on}
 
 -- CLOCK turns from stretch to stretch, but where ATN is pulled
 abbrev IsNext : (clock : Bool) → ClockPhase → Type 0
-IsNext c s = s.called ≡ false → s.first.levels.clock ≡ not c
+IsNext c s = s.attention ≡ false → s.first.levels.clock ≡ not c
 
 abbrev AreNext : (clock : Bool) → List ClockPhase → Type 0
 AreNext c [] = Unit {0}
@@ -90,22 +90,22 @@ is-released s h = ap (λ v. if v then Some (released s) else None) h
 
 -- a bit, by outlines
 abbrev ends_by : Outline → Outline → Bool
-ends_by h x = not h.called && not x.called && is_none (joined (late_in h.released) (late_at h.time x.time))
+ends_by h x = not h.attention && not x.attention && is_none (joined (late_in h.released) (late_at h.time x.time))
 
 ends-same : (h x : ClockPhase) → IsNext false h → ends_bit h x ≡ ends_by (outline h) (outline x)
-ends-same h x k = by h.called refl
+ends-same h x k = by h.attention refl
   where
-    by : (v : Bool) → h.called ≡ v → ends_bit h x ≡ ends_by (outline h) (outline x)
+    by : (v : Bool) → h.attention ≡ v → ends_bit h x ≡ ends_by (outline h) (outline x)
     by true q =
-        ap (λ v. not v && not x.called && is_none (first_late h.first.time (h.rest ++ x.first ∷ []))) q
-        ∙ sym (ap (λ v. not v && not x.called && is_none (joined (late_in (outline h).released) (late_at h.first.time x.first.time))) q)
+        ap (λ v. not v && not x.attention && is_none (first_late h.first.time (h.rest ++ x.first ∷ []))) q
+        ∙ sym (ap (λ v. not v && not x.attention && is_none (joined (late_in (outline h).released) (late_at h.first.time x.first.time))) q)
     by false q =
-        ap (λ v. not h.called && not x.called && is_none v) (late-joined h.first.time h.rest x.first)
-        ∙ sym (ap (λ v. not h.called && not x.called && is_none (joined (late_in v) (late_at h.first.time x.first.time))) (is-released h (k q)))
+        ap (λ v. not h.attention && not x.attention && is_none v) (late-joined h.first.time h.rest x.first)
+        ∙ sym (ap (λ v. not h.attention && not x.attention && is_none (joined (late_in v) (late_at h.first.time x.first.time))) (is-released h (k q)))
 
 -- the stretches of a bit that ends
-both-uncalled : (h x : ClockPhase) → ends_bit h x ≡ true → (h.called ≡ false) × (x.called ≡ false)
-both-uncalled h x e = by h.called x.called e
+both-uncalled : (h x : ClockPhase) → ends_bit h x ≡ true → (h.attention ≡ false) × (x.attention ≡ false)
+both-uncalled h x e = by h.attention x.attention e
   where
     by : (u v : Bool) → (not u && not v && is_none (first_late h.first.time (h.rest ++ x.first ∷ []))) ≡ true → (u ≡ false) × (v ≡ false)
     by false false k = (refl, refl)
@@ -247,7 +247,7 @@ high_by o (n ∷ os) = silence_or (joined (late_in o.released) (late_at o.time n
 
 abbrev glitch_by : List Outline → IncompleteEnd
 glitch_by [] = glitch.Cut
-glitch_by (o ∷ os) = if o.called then glitch.Attention o.time else high_by o os
+glitch_by (o ∷ os) = if o.attention then glitch.Attention o.time else high_by o os
 
 high-same : (s : ClockPhase) (ss : List ClockPhase) → s.first.levels.clock ≡ true → high_end s ss ≡ high_by (outline s) (map outline ss)
 high-same s [] h = ap (λ v. silence_or (late_in v) glitch.Cut) (sym (is-released s h))
@@ -257,13 +257,13 @@ high-same s (n ∷ ss) h =
 
 glitch-same : (ss : List ClockPhase) → AreNext false ss → glitch_end ss ≡ glitch_by (map outline ss)
 glitch-same [] k = refl
-glitch-same (s ∷ ss) k = by s.called refl
+glitch-same (s ∷ ss) k = by s.attention refl
   where
-    by : (v : Bool) → s.called ≡ v → glitch_end (s ∷ ss) ≡ glitch_by (map outline (s ∷ ss))
+    by : (v : Bool) → s.attention ≡ v → glitch_end (s ∷ ss) ≡ glitch_by (map outline (s ∷ ss))
     by true q =
         ap (λ v. if v then glitch.Attention s.first.time else high_end s ss) q
         ∙ sym (ap (λ v. if v then glitch.Attention s.first.time else high_by (outline s) (map outline ss)) q)
-    by false q = ap (λ v. if s.called then glitch.Attention s.first.time else v) (high-same s ss (k.0 q))
+    by false q = ap (λ v. if s.attention then glitch.Attention s.first.time else v) (high-same s ss (k.0 q))
 
 -- a byte, with its acknowledgement if it has eight bits
 abbrev transfer_by : Opening → ℕ → (count : ℕ) → Parts → Transfer
@@ -322,7 +322,7 @@ number-same (b ∷ bs) = ap (λ n. suc (suc n)) (number-same bs)
 -- what an outline begins
 abbrev called_by : List Outline → Bool
 called_by [] = false
-called_by (o ∷ os) = o.called
+called_by (o ∷ os) = o.attention
 
 called-same : (ss : List ClockPhase) → is_called ss ≡ called_by (map outline ss)
 called-same [] = refl
@@ -334,7 +334,7 @@ told_by c o a t q = if c then None else Some (reading_by o a t q, number_by q.le
 abbrev begins_by : Option (Opening × Option ℕ) → List Outline → Option (Reading × ℕ)
 begins_by e [] = None
 begins_by None (l ∷ os) = None
-begins_by (Some o) (l ∷ os) = told_by (l.called || called_by os) o.0 o.1 l.time (parts_from 8 l.time os)
+begins_by (Some o) (l ∷ os) = told_by (l.attention || called_by os) o.0 o.1 l.time (parts_from 8 l.time os)
 
 begun-same : (o : Opening) (l : ClockPhase) (ss : List ClockPhase) → AreNext false ss
     → begun_by (Some o) l ss ≡ begins_by (with_acknowledgement (Some o) (l ∷ ss)) (map outline (l ∷ ss))
@@ -342,14 +342,14 @@ begun-same o l ss k =
     let b : Bits = bits_from 8 l ss in
     let a : Option ℕ = acknowledged_behind 16 (l ∷ ss) in
     let made : Bool → Reading → ℕ → Option (Reading × ℕ) = λ c r n. if c then None else Some (r, n) in
-    let c : Bool = l.called || is_called ss in
+    let c : Bool = l.attention || is_called ss in
     ap (λ r. made c r (number_of b.bits)) (reading-same o l ss k)
     ∙ (ap (made c (reading_by o a l.first.time (parts b))) (number-same b.bits)
     ∙ (ap (told_by c o a l.first.time) (parts-same 8 l ss k)
-    ∙ ap (λ v. told_by (l.called || v) o a l.first.time (parts_from 8 l.first.time (map outline ss))) (called-same ss)))
+    ∙ ap (λ v. told_by (l.attention || v) o a l.first.time (parts_from 8 l.first.time (map outline ss))) (called-same ss)))
 
 -- a call begins nothing
-begun-called : (o : Opening) (l : ClockPhase) (ss : List ClockPhase) → l.called ≡ true
+begun-called : (o : Opening) (l : ClockPhase) (ss : List ClockPhase) → l.attention ≡ true
     → begun_by (Some o) l ss ≡ begins_by (with_acknowledgement (Some o) (l ∷ ss)) (map outline (l ∷ ss))
 begun-called o l ss h =
     let b : Bits = bits_from 8 l ss in
@@ -369,15 +369,15 @@ begins-same s (l ∷ ss) k = by (opening_of s) refl
     ours : Option Opening → Option (Reading × ℕ)
     ours v = begins_by (with_acknowledgement v (l ∷ ss)) (map outline (l ∷ ss))
 
-    called : (o : Opening) → opening_of s ≡ Some o → (v : Bool) → l.called ≡ v → theirs (Some o) ≡ ours (Some o)
-    called o q true h = begun-called o l ss h
-    called o q false h =
+    attention : (o : Opening) → opening_of s ≡ Some o → (v : Bool) → l.attention ≡ v → theirs (Some o) ≡ ours (Some o)
+    attention o q true h = begun-called o l ss h
+    attention o q false h =
         let pulled : l.first.levels.clock ≡ false = k.0 h ∙ ap not (opening-released s o q) in
         begun-same o l ss (subst (λ x. AreNext x ss) pulled k.1)
 
     by : (v : Option Opening) → opening_of s ≡ v → theirs (opening_of s) ≡ ours (opening_of s)
     by None q = ap theirs q ∙ sym (ap ours q)
-    by (Some o) q = ap theirs q ∙ (called o q l.called refl ∙ sym (ap ours q))
+    by (Some o) q = ap theirs q ∙ (attention o q l.attention refl ∙ sym (ap ours q))
 
 -- what outlines and openings say
 abbrev readings_by : ℕ → List Outline → List (Option (Opening × Option ℕ)) → List Reading

@@ -12,12 +12,12 @@ use Rattle.pr_decode.specs.declared.reading.Reading.TheVariants as read
 use Rattle.pr_decode.specs.Laws.{TracesSayTheirPieces, TracesSayWhatTheySpell}
 use Rattle.pr_decode.specs.PieceReadings.{frame_read, frames_in, is_answered, piece_read, pieces_read, pulse_read, second_read}
 use Rattle.pr_decode.specs.Readings.{readings, readings_of}
-use Rattle.pr_decode.specs.Stretches.{ClockPhase, begun, calls, goes_on, longer}
+use Rattle.pr_decode.specs.ClockPhases.{ClockPhase, begun, calls, goes_on, longer}
 use Rattle.pr_decode.specs.Taking.{to_come}
 use Rattle.pr_decode.specs.Taking.Past.{Waiting}
 use Rattle.pr_decode.proofs.Cutting.{calls-off}
 use Rattle.pr_decode.proofs.FrameRead.{Walk, behind_frame, frame-walk, walk-both, walk-off, walk-on}
-use Rattle.pr_decode.proofs.Stepping.{off-called, skips-call}
+use Rattle.pr_decode.proofs.DecoderSteps.{off-called, skips-call}
 
 -- a call
 walk-call : (s : ClockPhase) (last e : Edge) → last.levels.atn ≡ true → e.levels.atn ≡ false → Walk s last (e ∷ []) [] (begun true e) e
@@ -66,17 +66,17 @@ record Seconds (s : ClockPhase) (last : Edge) (es : List Edge) (said : List Read
   at : Edge
   walk : Walk s last es said to at
   pulled : to.first.levels.clock ≡ false
-  called : at.levels.atn ≡ false
+  attention : at.levels.atn ≡ false
 
 walk-second : (s : ClockPhase) (last : Edge) (k : ℕ) (second : Option SecondFrame) → s.first.levels.clock ≡ false → last.levels.atn ≡ false
     → IsSecond k second → Seconds s last (second_edges second) (second_read second)
-walk-second s last k None h c w = record { to = s; at = last; walk = walk-none s last; pulled = h; called = c }
+walk-second s last k None h c w = record { to = s; at = last; walk = walk-none s last; pulled = h; attention = c }
 walk-second s last k (Some m) h c (t, w) = record {
   to = behind_frame false m.sent;
   at = edge_at m.sent.ack false false false;
   walk = frame-walk false s last m.look m.sent h c w;
   pulled = refl;
-  called = refl;
+  attention = refl;
 }
 
 -- the end of an attention
@@ -143,7 +143,7 @@ walk-attention b s last a answer look first second end h w z = by (called-edge b
         let f : ClockPhase = behind_frame false first in
         let k : Edge = edge_at first.ack false false false in
         let m = walk-second f k first.ack second refl refl z in
-        let n = walk-end m.to m.at end m.pulled m.called in
+        let n = walk-end m.to m.at end m.pulled m.attention in
         let one : Walk s last (e ∷ (answer_edges answer look ++ frame_edges false first)) (frame_read false look first ∷ []) f k =
         walk-both s t f last e k (e ∷ []) (answer_edges answer look ++ frame_edges false first) [] (frame_read false look first ∷ [])
         (walk-call s last e (stands-released b s last h) refl) (walk-first t e answer look first refl refl w)

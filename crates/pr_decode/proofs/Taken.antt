@@ -11,20 +11,20 @@ use Rattle.pr_decode.specs.declared.reading.IncompleteEnd.TheVariants as glitch
 use Rattle.pr_decode.specs.declared.reading.Reading.{Reading}
 use Rattle.pr_decode.specs.declared.reading.Reading.TheVariants.{Frame, IncompleteByte}
 use Rattle.pr_decode.specs.declared.reading.Transfer.{Transfer}
-use Rattle.pr_decode.specs.declared.stretch.ClockPhase as declared
+use Rattle.pr_decode.specs.declared.clock_phase.ClockPhase as declared
 use Rattle.pr_decode.specs.Laws.{MoreEdgesAddReadings, OnlyTheLastIsCut}
 use Rattle.pr_decode.specs.Readings.{frame_end, is_late, is_settled, readings_of, settled_of, silence_or}
 use Rattle.pr_decode.specs.Steps.{acknowledged_at, acknowledged_in, after, after_edge, began, cut_in, ended_by, kept_of, turned}
-use Rattle.pr_decode.specs.Stretches.{ClockPhase, begun, calls, goes_on}
-use Rattle.pr_decode.specs.Taking.{HasRead, IsRight, IsRightSeen, Past, Seen, kept, stretch_in, to_come, to_come_behind, transfer_in}
+use Rattle.pr_decode.specs.ClockPhases.{ClockPhase, begun, calls, goes_on}
+use Rattle.pr_decode.specs.Taking.{HasReadings, IsRight, IsRightSeen, Past, Seen, kept, stretch_in, to_come, to_come_behind, transfer_in}
 use Rattle.pr_decode.specs.Taking.Past.{High, Low, Waiting}
 use Rattle.pr_decode.proofs.Adding.{low-opens-nothing, nothing-begins, uncalled-behind}
 use Rattle.pr_decode.proofs.Moving.{Gives, called-high-gives, called-low-gives, called-moves, ended-bits, ended-frame, ended-high, ended-some, frame-gives, frame-waits, high-ends, high-moves, late-gives, low-moves}
-use Rattle.pr_decode.proofs.Stepping.{Next, eight-bits, frame-comes, glitch-comes, kept-begun, not-eight, sent, waits}
+use Rattle.pr_decode.proofs.DecoderSteps.{Next, eight-bits, frame-comes, glitch-comes, kept-begun, not-eight, sent, waits}
 
 -- what an edge ends of a byte with CLOCK released, by its tests
 abbrev high_by : Bool → Bool → Transfer → Edge → Option Reading
-high_by late called t e = if late then Some (IncompleteByte t (glitch.ClockTimeout e.time)) else (if called then Some (IncompleteByte t (glitch.Attention e.time)) else None)
+high_by late attention t e = if late then Some (IncompleteByte t (glitch.ClockTimeout e.time)) else (if attention then Some (IncompleteByte t (glitch.Attention e.time)) else None)
 
 -- an edge that ends nothing goes on
 moves : (p : Past) (s : ClockPhase) (last e : Edge) → IsRight p s → ended_by (transfer_in p s) (stretch_in s last) e ≡ None → Next p s last e
@@ -132,16 +132,16 @@ cut-unsettled (Some t) = by (t.bits == 8)
 abbrev fresh : Decoder
 fresh = record { stretch = None; transfer = None }
 
-none-taken : HasRead [] [] fresh
+none-taken : HasReadings [] [] fresh
 none-taken = record { seen = None; keeps = refl; right = tt; told = λ more. refl; settled = refl }
 
 -- the first edge is taken
-pub first-taken : (edges : List Edge) (given : List Reading) (d : Decoder) (e : Edge) → d.stretch ≡ None → HasRead edges given d
-    → HasRead (edges ++ e ∷ []) (given ++ []) (record { stretch = Some (began false e); transfer = d.transfer })
+pub first-taken : (edges : List Edge) (given : List Reading) (d : Decoder) (e : Edge) → d.stretch ≡ None → HasReadings edges given d
+    → HasReadings (edges ++ e ∷ []) (given ++ []) (record { stretch = Some (began false e); transfer = d.transfer })
 first-taken edges given d e h k = by k.seen k.keeps k.told
   where
     by : (v : Option Seen) → d ≡ kept v → ((more : List Edge) → readings_of (edges ++ more) ≡ given ++ to_come_behind v more)
-        → HasRead (edges ++ e ∷ []) (given ++ []) (record { stretch = Some (began false e); transfer = d.transfer })
+        → HasReadings (edges ++ e ∷ []) (given ++ []) (record { stretch = Some (began false e); transfer = d.transfer })
     by (Some s) m t =
         let a : d.stretch ≡ Some (stretch_in s.current s.last) = ap (λ (x : Decoder). x.stretch) m in
         absurd (cc)
@@ -157,12 +157,12 @@ first-taken edges given d e h k = by k.seen k.keeps k.told
     }
 
 -- an edge more is taken
-after-more : (edges : List Edge) (given : List Reading) (d : Decoder) (e : Edge) (k : HasRead edges given d) (s : Seen) (r : Option Reading) (q : Past)
+after-more : (edges : List Edge) (given : List Reading) (d : Decoder) (e : Edge) (k : HasReadings edges given d) (s : Seen) (r : Option Reading) (q : Past)
     → IsRight q s.current
     → ((more : List Edge) → readings_of (edges ++ e ∷ more) ≡ given ++ (option_to_list r ++ to_come q s.current s.last (e ∷ more)))
     → filter is_settled (option_to_list r) ≡ option_to_list r
     → Next q s.current s.last e
-    → HasRead (edges ++ e ∷ []) (given ++ option_to_list r) (after (transfer_in q s.current) (stretch_in s.current s.last) e)
+    → HasReadings (edges ++ e ∷ []) (given ++ option_to_list r) (after (transfer_in q s.current) (stretch_in s.current s.last) e)
 after-more edges given d e k s r q right told settled next = record {
   seen = Some (record { past = next.past; current = next.current; last = e });
   keeps = sym next.keeps;
@@ -175,10 +175,10 @@ after-more edges given d e k s r q right told settled next = record {
   settled = filter-append is_settled given (option_to_list r) ∙ (ap (λ x. x ++ filter is_settled (option_to_list r)) k.settled ∙ ap (λ x. given ++ x) settled);
 }
 
-seen-more : (edges : List Edge) (given : List Reading) (d : Decoder) (e : Edge) (k : HasRead edges given d) (s : Seen) → IsRight s.past s.current
+seen-more : (edges : List Edge) (given : List Reading) (d : Decoder) (e : Edge) (k : HasReadings edges given d) (s : Seen) → IsRight s.past s.current
     → ((more : List Edge) → readings_of (edges ++ more) ≡ given ++ to_come s.past s.current s.last more)
     → (r : Option Reading) → ended_by (transfer_in s.past s.current) (stretch_in s.current s.last) e ≡ r
-    → HasRead (edges ++ e ∷ []) (given ++ option_to_list r)
+    → HasReadings (edges ++ e ∷ []) (given ++ option_to_list r)
     (after (kept_of r (transfer_in s.past s.current)) (stretch_in s.current s.last) e)
 seen-more edges given d e k s right told None h =
     after-more edges given d e k s None s.past right (λ more. told (e ∷ more)) refl (moves s.past s.current s.last e right h)
@@ -189,13 +189,13 @@ seen-more edges given d e k s right told (Some r) h =
     (waits s.current s.last e)
 
 pub more-taken : (edges : List Edge) (given : List Reading) (d new : Decoder) (e : Edge) (s : declared.ClockPhase) (r : Option Reading) → d.stretch ≡ Some s
-    → r ≡ ended_by d.transfer s e → new ≡ after_edge d.transfer s e → HasRead edges given d
-    → HasRead (edges ++ e ∷ []) (given ++ option_to_list r) new
+    → r ≡ ended_by d.transfer s e → new ≡ after_edge d.transfer s e → HasReadings edges given d
+    → HasReadings (edges ++ e ∷ []) (given ++ option_to_list r) new
 more-taken edges given d new e s r h m n k = by k.seen k.keeps k.right k.told
   where
     by : (v : Option Seen) → d ≡ kept v → IsRightSeen v
         → ((more : List Edge) → readings_of (edges ++ more) ≡ given ++ to_come_behind v more)
-        → HasRead (edges ++ e ∷ []) (given ++ option_to_list r) new
+        → HasReadings (edges ++ e ∷ []) (given ++ option_to_list r) new
     by None q right t =
         let a : d.stretch ≡ None = ap (λ (x : Decoder). x.stretch) q in
         absurd (cc)
@@ -210,7 +210,7 @@ more-taken edges given d new e s r h m n k = by k.seen k.keeps k.right k.told
         rw g (seen-more edges given d e k x right t r (sym c))
 
 -- all readings are those given and what the end cuts
-pub all-read : (edges : List Edge) (given : List Reading) (d : Decoder) → HasRead edges given d → readings_of edges ≡ given ++ option_to_list (cut_in d.transfer)
+pub all-read : (edges : List Edge) (given : List Reading) (d : Decoder) → HasReadings edges given d → readings_of edges ≡ given ++ option_to_list (cut_in d.transfer)
 all-read edges given d k = by k.seen k.keeps k.right k.told
   where
     by : (v : Option Seen) → d ≡ kept v → IsRightSeen v
@@ -225,19 +225,19 @@ all-read edges given d k = by k.seen k.keeps k.right k.told
         ∙ ap (λ y. given ++ option_to_list (cut_in y)) (sym (ap (λ (y : Decoder). y.transfer) q))))
 
 -- by what is kept of a byte
-pub none-left : (edges : List Edge) (given : List Reading) (d : Decoder) (r : Option Reading) → HasRead edges given d → d.transfer ≡ None → r ≡ None
+pub none-left : (edges : List Edge) (given : List Reading) (d : Decoder) (r : Option Reading) → HasReadings edges given d → d.transfer ≡ None → r ≡ None
     → readings_of edges ≡ given ++ option_to_list r
 none-left edges given d r k h m =
     all-read edges given d k ∙ (ap (λ t. given ++ option_to_list (cut_in t)) h ∙ ap (λ x. given ++ option_to_list x) (sym m))
 
-pub frame-left : (edges : List Edge) (given : List Reading) (d : Decoder) (t : Transfer) → HasRead edges given d → d.transfer ≡ Some t → t.bits ≡ 8
+pub frame-left : (edges : List Edge) (given : List Reading) (d : Decoder) (t : Transfer) → HasReadings edges given d → d.transfer ≡ Some t → t.bits ≡ 8
     → readings_of edges ≡ given ++ Frame t frame.Cut ∷ []
 frame-left edges given d t k h m =
     all-read edges given d k
     ∙ (ap (λ x. given ++ option_to_list (cut_in x)) h
     ∙ ap (λ n. given ++ (if n == 8 then Frame t frame.Cut else IncompleteByte t glitch.Cut) ∷ []) m)
 
-pub glitch-left : (edges : List Edge) (given : List Reading) (d : Decoder) (t : Transfer) → HasRead edges given d → d.transfer ≡ Some t
+pub glitch-left : (edges : List Edge) (given : List Reading) (d : Decoder) (t : Transfer) → HasReadings edges given d → d.transfer ≡ Some t
     → (t.bits ≡ 8 → ⊥) → readings_of edges ≡ given ++ IncompleteByte t glitch.Cut ∷ []
 glitch-left edges given d t k h m =
     all-read edges given d k
@@ -245,7 +245,7 @@ glitch-left edges given d t k h m =
     ∙ ap (λ v. given ++ (if v then Frame t frame.Cut else IncompleteByte t glitch.Cut) ∷ []) (ne_eqb t.bits 8 m))
 
 -- those given are the settled ones
-pub all-settled : (edges : List Edge) (given : List Reading) (d : Decoder) → HasRead edges given d → settled_of edges ≡ given
+pub all-settled : (edges : List Edge) (given : List Reading) (d : Decoder) → HasReadings edges given d → settled_of edges ≡ given
 all-settled edges given d k =
     ap (filter is_settled) (all-read edges given d k)
     ∙ (filter-append is_settled given (option_to_list (cut_in d.transfer))
@@ -256,7 +256,7 @@ all-settled edges given d k =
 record Read (edges : List Edge) : Type 0 where
   given : List Reading
   decoder : Decoder
-  has : HasRead edges given decoder
+  has : HasReadings edges given decoder
 
 one-more : (edges : List Edge) (e : Edge) → Read edges → Read (edges ++ e ∷ [])
 one-more edges e r = by r.decoder.stretch refl

@@ -2,10 +2,10 @@
 use Rattle.std.proofs.Common.{◌≡◌, ℕ, Bool, true, false, not, List, [], ◌∷◌, ◌++◌, Some, None, if◌then◌else◌, refl, ap, ◌∙◌}
 use Rattle.pr_wire.specs.declared.Edge.{Edge}
 use Rattle.pr_wire.specs.Table.{same}
-use Rattle.pr_decode.specs.declared.stretch.DataTransitions.TheVariants.{Still, Once, Twice, Thrice, Often}
+use Rattle.pr_decode.specs.declared.clock_phase.DataTransitions.TheVariants.{Still, Once, Twice, Thrice, Often}
 use Rattle.pr_decode.specs.Readings.{acknowledgement, opening, turns, turns_of}
 use Rattle.pr_decode.specs.Steps.{acknowledged_in, opened, turned}
-use Rattle.pr_decode.specs.Stretches.{ClockPhase, edges_in, longer, begun}
+use Rattle.pr_decode.specs.ClockPhases.{ClockPhase, edges_in, longer, begun}
 use Rattle.pr_decode.specs.Taking.{noted}
 
 -- the level that DATA turns to next, behind some turns
@@ -64,8 +64,8 @@ turns-longer s e =
     ap noted (turns-append (not s.first.levels.clock) (edges_in s) (e ∷ [])) ∙ noted-more (not s.first.levels.clock) (turns_of s) e
 
 -- the turns of a stretch that begins
-pub turns-begun : (called : Bool) (e : Edge) → noted (turns_of (begun called e)) ≡ turned (not e.levels.clock) Still e
-turns-begun called e = noted-more (not e.levels.clock) [] e
+pub turns-begun : (attention : Bool) (e : Edge) → noted (turns_of (begun attention e)) ≡ turned (not e.levels.clock) Still e
+turns-begun attention e = noted-more (not e.levels.clock) [] e
 
 -- what is noted makes the opening and the acknowledgement
 pub opened-noted : (ts : List Edge) → opened (noted ts) ≡ opening ts
@@ -96,8 +96,8 @@ acknowledged-longer s r t h =
     ∙ acknowledged-stays (turns_of s) (turns (flipped level (turns_of s)) r) t h
 
 -- a stretch that begins acknowledges nothing
-pub begun-unacknowledged : (called : Bool) (e : Edge) → acknowledgement (turns_of (begun called e)) ≡ None
-begun-unacknowledged called e = by (same e.levels.line (not e.levels.clock))
+pub begun-unacknowledged : (attention : Bool) (e : Edge) → acknowledgement (turns_of (begun attention e)) ≡ None
+begun-unacknowledged attention e = by (same e.levels.line (not e.levels.clock))
   where
     by : (v : Bool) → acknowledgement (if v then e ∷ [] else []) ≡ None
     by true = refl

@@ -8,7 +8,7 @@ use Rattle.pr_decode.specs.declared.reading.Reading.{Reading}
 use Rattle.pr_decode.specs.Outlines.{openings, outline}
 use Rattle.pr_decode.specs.PieceReadings.{frames_in, pieces_read}
 use Rattle.pr_decode.specs.Readings.{readings_of, settled_of}
-use Rattle.pr_decode.specs.Stretches.{stretches}
+use Rattle.pr_decode.specs.ClockPhases.{stretches}
 
 -- more edges only add readings
 abbrev pub MoreEdgesAddReadings : Type 0

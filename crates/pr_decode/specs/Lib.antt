@@ -1,4 +1,4 @@
-pub mod Stretches
+pub mod ClockPhases
 pub mod Readings
 pub mod Outlines
 pub mod PieceReadings

@@ -5,7 +5,7 @@ use Rattle.std.specs.Prelude.{ℕ, zero, suc, Bool, List, [], ◌∷◌, Option,
 use Rattle.pr_decode.specs.declared.reading.Opening.{Opening}
 use Rattle.pr_decode.specs.declared.reading.Reading.{Reading}
 use Rattle.pr_decode.specs.Readings.{acknowledgement, begins, first_late, opening_of, turns_of}
-use Rattle.pr_decode.specs.Stretches.{ClockPhase}
+use Rattle.pr_decode.specs.ClockPhases.{ClockPhase}
 
 -- what counts where CLOCK is released
 pub record Released : Type 0 where
@@ -13,13 +13,13 @@ pub record Released : Type 0 where
   pub late : Option ℕ
 
 pub record Outline : Type 0 where
-  pub called : Bool
+  pub attention : Bool
   pub time : ℕ
   pub released : Option Released
 
 abbrev pub outline : ClockPhase → Outline
 outline s = record {
-  called = s.called;
+  attention = s.attention;
   time = s.first.time;
   released = if s.first.levels.clock then Some (record { level = s.first.levels.line; late = first_late s.first.time s.rest }) else None;
 }

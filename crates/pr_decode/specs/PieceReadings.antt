@@ -25,7 +25,7 @@ pulse_read (Some p) = Some (record { pulled = p.pulled; released = p.released })
 -- a frame of a piece, by ATN's level and the release of CLOCK before it
 abbrev pub frame_read : (atn : Bool) → (look : ℕ) → FrameTimes → Reading
 frame_read atn look f = read.Frame (record {
-  opening = record { command = not atn; look = look; ready = f.free; pulse = pulse_read f.pulse };
+  opening = record { command = not atn; ready_to_send = look; ready_for_data = f.free; pulse = pulse_read f.pulse };
   pull = f.pull;
   bits = 8;
   byte = byte_sent f;

@@ -14,7 +14,7 @@ use Rattle.pr_decode.specs.declared.reading.IncompleteEnd.{IncompleteEnd}
 use Rattle.pr_decode.specs.declared.reading.IncompleteEnd.TheVariants as glitch
 use Rattle.pr_decode.specs.declared.reading.Reading.{Reading}
 use Rattle.pr_decode.specs.declared.reading.Reading.TheVariants.{Frame, IncompleteByte}
-use Rattle.pr_decode.specs.Stretches.{ClockPhase, edges_in, stretches}
+use Rattle.pr_decode.specs.ClockPhases.{ClockPhase, edges_in, stretches}
 
 -- for how many microseconds CLOCK may be released in a bit
 abbrev pub longest_bit : ℕ
@@ -33,16 +33,16 @@ turns_of s = turns (not s.first.levels.clock) (edges_in s)
 abbrev pub opening : List Edge → Option Opening
 opening (l ∷ r ∷ p ∷ f ∷ es) = Some (record {
   command = not r.levels.atn;
-  look = l.time;
-  ready = r.time;
+  ready_to_send = l.time;
+  ready_for_data = r.time;
   pulse = Some (record { pulled = p.time; released = f.time });
 })
-opening (l ∷ r ∷ es) = Some (record { command = not r.levels.atn; look = l.time; ready = r.time; pulse = None })
+opening (l ∷ r ∷ es) = Some (record { command = not r.levels.atn; ready_to_send = l.time; ready_for_data = r.time; pulse = None })
 opening es = None
 
 -- a stretch is one where CLOCK is released; none is where ATN's pull begins it
 abbrev pub opening_of : ClockPhase → Option Opening
-opening_of s = if s.called then None else (if s.first.levels.clock then opening (turns_of s) else None)
+opening_of s = if s.attention then None else (if s.first.levels.clock then opening (turns_of s) else None)
 
 -- an edge comes too late for a bit since CLOCK was released
 abbrev pub is_late : (since : ℕ) → Edge → Bool
@@ -60,7 +60,7 @@ is_none (Some t) = false
 -- a stretch with CLOCK released ends a bit, if the next one follows in time and ATN is pulled by neither; CLOCK is then pulled in
 -- that one, since it is not as it was
 abbrev pub ends_bit : (high next : ClockPhase) → Bool
-ends_bit high next = not high.called && not next.called && is_none (first_late high.first.time (high.rest ++ next.first ∷ []))
+ends_bit high next = not high.attention && not next.attention && is_none (first_late high.first.time (high.rest ++ next.first ∷ []))
 
 -- a bit: CLOCK pulled, CLOCK released, and the edge that pulls it again
 pub record Bit : Type 0 where
@@ -147,7 +147,7 @@ high_end s (n ∷ ss) = silence_or (first_late s.first.time (s.rest ++ n.first �
 
 abbrev pub glitch_end : List ClockPhase → IncompleteEnd
 glitch_end [] = glitch.Cut
-glitch_end (s ∷ ss) = if s.called then glitch.Attention s.first.time else high_end s ss
+glitch_end (s ∷ ss) = if s.attention then glitch.Attention s.first.time else high_end s ss
 
 -- what a byte says: a frame with eight bits, else a glitch
 abbrev pub reading : Opening → (pull : ℕ) → Bits → Reading
@@ -164,7 +164,7 @@ number_of (b ∷ bs) = suc (suc (number_of bs))
 -- ATN's pull begins the first of some stretches
 abbrev pub is_called : List ClockPhase → Bool
 is_called [] = false
-is_called (s ∷ ss) = s.called
+is_called (s ∷ ss) = s.attention
 
 -- what an opening begins with the stretch behind it: a byte, and how many stretches its bits are. Nothing where ATN is pulled with
 -- CLOCK's first pull, or before CLOCK is released for a first bit: no bit has come then, and it was the computer that pulled CLOCK,
@@ -172,7 +172,7 @@ is_called (s ∷ ss) = s.called
 abbrev pub begun_by : Option Opening → ClockPhase → List ClockPhase → Option (Reading × ℕ)
 begun_by None low ss = None
 begun_by (Some o) low ss =
-    if low.called || is_called ss then None else (let b = bits_from 8 low ss in Some (reading o low.first.time b, number_of b.bits))
+    if low.attention || is_called ss then None else (let b = bits_from 8 low ss in Some (reading o low.first.time b, number_of b.bits))
 
 abbrev pub begins : ClockPhase → List ClockPhase → Option (Reading × ℕ)
 begins s [] = None

@@ -12,11 +12,11 @@ use Rattle.pr_decode.specs.declared.reading.FrameEnd.TheVariants as frame
 use Rattle.pr_decode.specs.declared.reading.IncompleteEnd.TheVariants as glitch
 use Rattle.pr_decode.specs.declared.reading.Reading.{Reading}
 use Rattle.pr_decode.specs.declared.reading.Reading.TheVariants.{Frame, IncompleteByte}
-use Rattle.pr_decode.specs.declared.stretch.ClockPhase.{ClockPhase}
-use Rattle.pr_decode.specs.declared.stretch.DataTransitions.{DataTransitions}
-use Rattle.pr_decode.specs.declared.stretch.DataTransitions.TheVariants.{Still, Once, Twice, Thrice, Often}
+use Rattle.pr_decode.specs.declared.clock_phase.ClockPhase.{ClockPhase}
+use Rattle.pr_decode.specs.declared.clock_phase.DataTransitions.{DataTransitions}
+use Rattle.pr_decode.specs.declared.clock_phase.DataTransitions.TheVariants.{Still, Once, Twice, Thrice, Often}
 use Rattle.pr_decode.specs.Readings.{is_late}
-use Rattle.pr_decode.specs.Stretches.{calls, goes_on}
+use Rattle.pr_decode.specs.ClockPhases.{calls, goes_on}
 
 -- what the number of the next bit counts for, behind so many bits
 abbrev pub weight : ℕ → ℕ
@@ -68,27 +68,27 @@ turned level (Thrice a b c) e = if same e.levels.line level then Thrice a b c el
 turned level (Often a b c d) e = Often a b c d
 
 -- a stretch that begins, and one with an edge more
-abbrev pub began : (called : Bool) → Edge → ClockPhase
-began called e = record { called = called; first = e; last = e; turns = turned (not e.levels.clock) Still e }
+abbrev pub began : (attention : Bool) → Edge → ClockPhase
+began attention e = record { attention = attention; first = e; last = e; turns = turned (not e.levels.clock) Still e }
 
 abbrev pub with_edge : ClockPhase → Edge → ClockPhase
-with_edge s e = record { called = s.called; first = s.first; last = e; turns = turned (not s.first.levels.clock) s.turns e }
+with_edge s e = record { attention = s.attention; first = s.first; last = e; turns = turned (not s.first.levels.clock) s.turns e }
 
 -- the opening that turns are
 abbrev pub opened : DataTransitions → Option Opening
 opened Still = None
 opened (Once a) = None
-opened (Twice a b) = Some (record { command = not b.levels.atn; look = a.time; ready = b.time; pulse = None })
-opened (Thrice a b c) = Some (record { command = not b.levels.atn; look = a.time; ready = b.time; pulse = None })
+opened (Twice a b) = Some (record { command = not b.levels.atn; ready_to_send = a.time; ready_for_data = b.time; pulse = None })
+opened (Thrice a b c) = Some (record { command = not b.levels.atn; ready_to_send = a.time; ready_for_data = b.time; pulse = None })
 opened (Often a b c d) = Some (record {
   command = not b.levels.atn;
-  look = a.time;
-  ready = b.time;
+  ready_to_send = a.time;
+  ready_for_data = b.time;
   pulse = Some (record { pulled = c.time; released = d.time });
 })
 
 abbrev pub opening_in : ClockPhase → Option Opening
-opening_in s = if s.called then None else (if s.first.levels.clock then opened s.turns else None)
+opening_in s = if s.attention then None else (if s.first.levels.clock then opened s.turns else None)
 
 -- the acknowledgement among turns
 abbrev pub acknowledged_in : DataTransitions → Option ℕ

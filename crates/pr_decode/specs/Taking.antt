@@ -7,11 +7,11 @@ use Rattle.pr_decode.specs.declared.decoder.Decoder.{Decoder}
 use Rattle.pr_decode.specs.declared.reading.Opening.{Opening}
 use Rattle.pr_decode.specs.declared.reading.Transfer.{Transfer}
 use Rattle.pr_decode.specs.declared.reading.Reading.{Reading}
-use Rattle.pr_decode.specs.declared.stretch.ClockPhase as declared
-use Rattle.pr_decode.specs.declared.stretch.DataTransitions.{DataTransitions}
-use Rattle.pr_decode.specs.declared.stretch.DataTransitions.TheVariants.{Still, Once, Twice, Thrice, Often}
+use Rattle.pr_decode.specs.declared.clock_phase.ClockPhase as declared
+use Rattle.pr_decode.specs.declared.clock_phase.DataTransitions.{DataTransitions}
+use Rattle.pr_decode.specs.declared.clock_phase.DataTransitions.TheVariants.{Still, Once, Twice, Thrice, Often}
 use Rattle.pr_decode.specs.Readings.{Bit, acknowledgement, ends_bit, first_late, is_settled, opening_of, readings, readings_of, settled_of, transfer, turns_of}
-use Rattle.pr_decode.specs.Stretches.{ClockPhase, stretches_from}
+use Rattle.pr_decode.specs.ClockPhases.{ClockPhase, stretches_from}
 
 -- the edges at which DATA has turned, the first four
 abbrev pub noted : List Edge → DataTransitions
@@ -76,7 +76,7 @@ transfer_in (Low p o bs n) s = Some (transfer o (first_low bs s).first.time bs s
 transfer_in (High p o bs n l) s = Some (transfer o (first_low bs l).first.time bs l.first.time)
 
 abbrev pub stretch_in : ClockPhase → Edge → declared.ClockPhase
-stretch_in s last = record { called = s.called; first = s.first; last = last; turns = noted (turns_of s) }
+stretch_in s last = record { attention = s.attention; first = s.first; last = last; turns = noted (turns_of s) }
 
 abbrev pub kept : Option Seen → Decoder
 kept None = record { stretch = None; transfer = None }
@@ -85,14 +85,14 @@ kept (Some s) = record { stretch = Some (stretch_in s.current s.last); transfer 
 -- a byte has begun with an opening, and has these bits before a stretch with CLOCK pulled
 pub record HasBegun (s : ClockPhase) (o : Opening) (bs : List Bit) (left : ℕ) (low : ClockPhase) : Type 0 where
   pub opens : opening_of s ≡ Some o
-  pub uncalled : (first_low bs low).called ≡ false
+  pub uncalled : (first_low bs low).attention ≡ false
   pub bits : AreBits bs low
   pub eight : with_more bs left ≡ 8
   pub pulled : low.first.levels.clock ≡ false
 
 pub record IsBit (high : ClockPhase) : Type 0 where
   pub released : high.first.levels.clock ≡ true
-  pub uncalled : high.called ≡ false
+  pub uncalled : high.attention ≡ false
   pub in_time : first_late high.first.time high.rest ≡ None
 
 -- what has begun has begun rightly
@@ -107,7 +107,7 @@ IsRightSeen None = Unit {0}
 IsRightSeen (Some s) = IsRight s.past s.current
 
 -- these edges were taken, and these readings were given: whatever edges follow, all readings are these and those that come yet
-pub record HasRead (edges : List Edge) (given : List Reading) (d : Decoder) : Type 0 where
+pub record HasReadings (edges : List Edge) (given : List Reading) (d : Decoder) : Type 0 where
   pub seen : Option Seen
   pub keeps : d ≡ kept seen
   pub right : IsRightSeen seen
@@ -133,4 +133,4 @@ IsBefore e d = StandsBefore e.time (last_time d)
 
 -- the readings given are all that the edges taken settle
 abbrev pub GivenAreSettled : Type 0
-GivenAreSettled = (edges : List Edge) (given : List Reading) (d : Decoder) → HasRead edges given d → settled_of edges ≡ given
+GivenAreSettled = (edges : List Edge) (given : List Reading) (d : Decoder) → HasReadings edges given d → settled_of edges ≡ given

@@ -7,10 +7,10 @@ ghost use Rattle.pr_decode.specs.declared.reading.Reading.{Reading};
 ghost use Rattle.pr_decode.specs.declared.reading.Transfer.{Transfer};
 ghost use Rattle.pr_decode.specs.Readings.{readings_of, settled_of};
 ghost use Rattle.pr_decode.specs.Steps.{after, after_edge, ended_as, ended_by, frame_ended, high_ended, low_ended, moved};
-ghost use Rattle.pr_decode.specs.Taking.{HasRead, IsBefore, last_time};
+ghost use Rattle.pr_decode.specs.Taking.{HasReadings, IsBefore, last_time};
 
 use crate::reading::{FrameEnd, IncompleteEnd, Reading, Transfer};
-use crate::stretch::{ClockPhase, calls, is_late};
+use crate::clock_phase::{ClockPhase, calls, is_late};
 use pr_wire::Edge;
 use thiserror::Error;
 
@@ -137,9 +137,9 @@ fn go_on(transfer: &mut Option<Transfer>, stretch: &mut ClockPhase, edge: Edge)
     if stretch.goes_on(edge) {
         stretch.push(edge);
     } else {
-        let called = calls(stretch.last, edge);
+        let attention = calls(stretch.last, edge);
         advance(transfer, stretch, edge);
-        stretch.begin(called, edge);
+        stretch.begin(attention, edge);
     }
 }
 
@@ -161,7 +161,7 @@ fn step(transfer: &mut Option<Transfer>, stretch: &mut ClockPhase, edge: Edge) -
 impl Decoder {
     /// A decoder that has taken no edge. It takes no memory.
     pub fn new() -> Decoder
-        ensures read { HasRead [] [] result }
+        ensures read { HasReadings [] [] result }
         ensures last { last_time result ≡ None }
     {
         Decoder {
@@ -178,8 +178,8 @@ impl Decoder {
     ///
     /// [`GoesBack`] where the edge stands before the one taken last. The decoder is then as it was.
     pub fn take(&mut self, edge: Edge) -> Result<Option<Reading>, GoesBack>
-        ensures read { IfOk result (λ reading. (edges : List Edge) (given : List Reading) → HasRead edges given self.old →
-            HasRead (edges ++ edge ∷ []) (given ++ option_to_list reading) self.new) }
+        ensures read { IfOk result (λ reading. (edges : List Edge) (given : List Reading) → HasReadings edges given self.old →
+            HasReadings (edges ++ edge ∷ []) (given ++ option_to_list reading) self.new) }
         ensures last { OnOk result (last_time self.new ≡ Some edge.time) }
         ensures back { IsErr result ↔ IsBefore edge self.old }
         ensures stays { OnErr result (self.new ≡ self.old) }
@@ -197,9 +197,9 @@ impl Decoder {
     /// Ends the recording, and gives the reading that it cuts, if there is one: a frame that was not
     /// acknowledged yet, or a byte begun and not ended.
     pub fn finish(self) -> Option<Reading>
-        ensures read { (edges : List Edge) (given : List Reading) → HasRead edges given self →
+        ensures read { (edges : List Edge) (given : List Reading) → HasReadings edges given self →
             readings_of edges ≡ given ++ option_to_list result }
-        ensures settled { (edges : List Edge) (given : List Reading) → HasRead edges given self → settled_of edges ≡ given }
+        ensures settled { (edges : List Edge) (given : List Reading) → HasReadings edges given self → settled_of edges ≡ given }
     {
         let transfer = self.transfer?;
         Some(if transfer.bits == 8 {

@@ -8,9 +8,9 @@
 mod decoder;
 mod laws;
 mod reading;
-mod stretch;
+mod clock_phase;
 
 pub use decoder::{Decoder, GoesBack};
 pub use laws::{moments_decide, readings_add_up, traces_are_read};
 pub use reading::{FrameEnd, Halves, IncompleteEnd, Opening, Pulse, Reading, Transfer};
-pub use stretch::{ClockPhase, DataTransitions};
+pub use clock_phase::{ClockPhase, DataTransitions};

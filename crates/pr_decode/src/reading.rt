@@ -21,9 +21,9 @@ pub struct Opening {
     /// ATN is pulled when DATA is released: a command. Else a data byte.
     pub command: bool,
     /// The look: CLOCK is released and DATA is pulled.
-    pub look: u64,
+    pub ready_to_send: u64,
     /// DATA is released: all listeners are ready.
-    pub ready: u64,
+    pub ready_for_data: u64,
     /// The first pulse of DATA behind that: end-or-identify.
     pub pulse: Option<Pulse>,
 }

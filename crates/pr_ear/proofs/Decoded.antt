@@ -6,7 +6,7 @@ use Rattle.pr_wire.specs.declared.Edge.{Edge}
 use Rattle.pr_decode.specs.declared.decoder.Decoder.{Decoder}
 use Rattle.pr_decode.specs.declared.reading.Reading.{Reading}
 use Rattle.pr_decode.specs.Readings.{settled_of}
-use Rattle.pr_decode.specs.Taking.{HasRead, IsBefore, last_time}
+use Rattle.pr_decode.specs.Taking.{HasReadings, IsBefore, last_time}
 use Rattle.pr_decode.specs.Taking as taking
 use Rattle.pr_ear.specs.declared.WireEdge.{WireEdge}
 use Rattle.pr_ear.specs.declared.decoder_numbers.WireDecoder.{WireDecoder}
@@ -26,8 +26,8 @@ pub comes-back : (edges : List WireEdge) (given : List Reading) (w : WireDecoder
 comes-back edges given w h = ap decoder_by h.numbers ∙ decoder-back h.decoder
 
 pub read-back : (edges : List WireEdge) (given : List Reading) (w : WireDecoder) (d : Decoder) → HasDecoded edges given w → d ≡ decoder_by w
-    → HasRead (map edge_of edges) given d
-read-back edges given w d h k = subst (HasRead (map edge_of edges) given) (sym (k ∙ comes-back edges given w h)) h.read
+    → HasReadings (map edge_of edges) given d
+read-back edges given w d h k = subst (HasReadings (map edge_of edges) given) (sym (k ∙ comes-back edges given w h)) h.read
 
 pub last-back : (edges : List WireEdge) (given : List Reading) (w : WireDecoder) (d : Decoder) → HasDecoded edges given w → d ≡ decoder_by w
     → last_time d ≡ last_moment edges
@@ -45,7 +45,7 @@ one-more edges e = map-append edge_of edges (e ∷ [])
 -- an edge was taken
 pub takes-on : (edges : List WireEdge) (given : List Reading) (w new : WireDecoder) (e : WireEdge) (x : Edge) (d after : Decoder) (r : Option Reading)
     → HasDecoded edges given w → d ≡ decoder_by w → x ≡ edge_of e
-    → ((es : List Edge) (gs : List Reading) → HasRead es gs d → HasRead (es ++ x ∷ []) (gs ++ option_to_list r) after)
+    → ((es : List Edge) (gs : List Reading) → HasReadings es gs d → HasReadings (es ++ x ∷ []) (gs ++ option_to_list r) after)
     → last_time after ≡ Some x.time → new ≡ stored after
     → HasDecoded (edges ++ e ∷ []) (given ++ option_to_list r) new
 takes-on edges given w new e x d after r h k same read last is =
@@ -53,13 +53,13 @@ takes-on edges given w new e x d after r h k same read last is =
     let all : map edge_of edges ++ x ∷ [] ≡ map edge_of (edges ++ e ∷ []) = ap (λ y. map edge_of edges ++ y ∷ []) same ∙ sym (one-more edges e) in
     record {
       decoder = after;
-      read = subst (λ es. HasRead es (given ++ option_to_list r) after) all more;
+      read = subst (λ es. HasReadings es (given ++ option_to_list r) after) all more;
       last = last ∙ (ap (λ (y : Edge). Some y.time) same ∙ sym (last-one edges e));
       numbers = is;
     }
 
 -- what is settled is what was given
-pub settled-next : ((es : List Edge) (gs : List Reading) (d : Decoder) → HasRead es gs d → settled_of es ≡ gs)
+pub settled-next : ((es : List Edge) (gs : List Reading) (d : Decoder) → HasReadings es gs d → settled_of es ≡ gs)
     → (edges : List WireEdge) (given : List Reading) (w new : WireDecoder) (e : WireEdge) (r : Option Reading)
     → HasDecoded edges given w → HasDecoded (edges ++ e ∷ []) (given ++ option_to_list r) new
     → settled_by (edges ++ e ∷ []) ≡ settled_by edges ++ option_to_list r

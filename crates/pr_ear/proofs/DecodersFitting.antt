@@ -11,8 +11,8 @@ use Rattle.pr_decode.specs.declared.reading.Pulse.{Pulse}
 use Rattle.pr_decode.specs.declared.reading.Reading.{Reading}
 use Rattle.pr_decode.specs.declared.reading.Transfer.{Transfer}
 use Rattle.pr_decode.specs.Readings.{Bit, acknowledgement, first_late, greatest, halves, high_half, is_none, least, level_of, low_half, transfer, turns, turns_of}
-use Rattle.pr_decode.specs.Stretches.{ClockPhase}
-use Rattle.pr_decode.specs.Taking.{AreBits, HasBegun, HasRead, IsBit, IsRight, IsRightSeen, Past, Seen, first_low, kept, noted, stretch_in, transfer_in, with_more}
+use Rattle.pr_decode.specs.ClockPhases.{ClockPhase}
+use Rattle.pr_decode.specs.Taking.{AreBits, HasBegun, HasReadings, IsBit, IsRight, IsRightSeen, Past, Seen, first_low, kept, noted, stretch_in, transfer_in, with_more}
 use Rattle.pr_decode.specs.Taking.Past.{Waiting, Low, High}
 use Rattle.pr_ear.specs.DecoderNumbers.{no_edge, HasTurns, IsByte, IsDecoder, IsEdge, IsGoingOn, IsTurn}
 use Rattle.pr_ear.specs.DecoderTaken.{stored, turn1, turn2, turn3, turn4, turns_number}
@@ -187,9 +187,9 @@ byte-fits o bs left low h = record {
 }
 
 -- ATN was not pulled in the stretch behind the bits
-last-uncalled : (bs : List Bit) (low : ClockPhase) → AreBits bs low → (first_low bs low).called ≡ false → low.called ≡ false
+last-uncalled : (bs : List Bit) (low : ClockPhase) → AreBits bs low → (first_low bs low).attention ≡ false → low.attention ≡ false
 last-uncalled [] low h k = k
-last-uncalled (b ∷ bs) low h k = last-uncalled bs low h.2 (by b.high.called (first_low bs low).called (is_none (first_late b.high.first.time (b.high.rest ++ (first_low bs low).first ∷ []))) h.0)
+last-uncalled (b ∷ bs) low h k = last-uncalled bs low h.2 (by b.high.attention (first_low bs low).attention (is_none (first_late b.high.first.time (b.high.rest ++ (first_low bs low).first ∷ []))) h.0)
   where
     by : (v w d : Bool) → (not v && not w && d) ≡ true → w ≡ false
     by v false d j = refl
@@ -206,7 +206,7 @@ few-unacknowledged (a ∷ b ∷ es) h = absurd (let x : Some b.time ≡ None = h
 waiting-is : (s : ClockPhase) (last : Edge) → IsDecoder (stored (of_parts s last None))
 waiting-is s last = record {
   begun = omega arith;
-  called = bit-few s.called;
+  called = bit-few s.attention;
   sent = omega arith;
   first = edge-is s.first;
   last = edge-is last;
@@ -220,7 +220,7 @@ waiting-is s last = record {
 begun-is : (s : ClockPhase) (last : Edge) (t : Transfer) → IsByte (byte_numbers t) → IsGoingOn (stored (of_parts s last (Some t))) → IsDecoder (stored (of_parts s last (Some t)))
 begun-is s last t b g = record {
   begun = omega arith;
-  called = bit-few s.called;
+  called = bit-few s.attention;
   sent = omega arith;
   first = edge-is s.first;
   last = edge-is last;
@@ -279,7 +279,7 @@ fresh-is = record {
 }
 
 -- what a decoder keeps of the edges that it has taken is stored as the numbers of one
-pub read-is-decoder : (es : List Edge) (gs : List Reading) (d : Decoder) → HasRead es gs d → IsDecoder (stored d)
+pub read-is-decoder : (es : List Edge) (gs : List Reading) (d : Decoder) → HasReadings es gs d → IsDecoder (stored d)
 read-is-decoder es gs d h = subst (λ (x : Decoder). IsDecoder (stored x)) (sym h.keeps) (by h.seen h.right)
   where
     by : (o : Option Seen) → IsRightSeen o → IsDecoder (stored (kept o))

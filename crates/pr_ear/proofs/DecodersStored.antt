@@ -5,9 +5,9 @@ use Rattle.std.specs.Prelude.{◌&&◌, ◌==◌}
 use Rattle.pr_decode.specs.declared.decoder.Decoder.{Decoder}
 use Rattle.pr_decode.specs.declared.reading.Pulse.{Pulse}
 use Rattle.pr_decode.specs.declared.reading.Transfer.{Transfer}
-use Rattle.pr_decode.specs.declared.stretch.ClockPhase.{ClockPhase}
-use Rattle.pr_decode.specs.declared.stretch.DataTransitions.{DataTransitions}
-use Rattle.pr_decode.specs.declared.stretch.DataTransitions.TheVariants.{Still, Once, Twice, Thrice, Often}
+use Rattle.pr_decode.specs.declared.clock_phase.ClockPhase.{ClockPhase}
+use Rattle.pr_decode.specs.declared.clock_phase.DataTransitions.{DataTransitions}
+use Rattle.pr_decode.specs.declared.clock_phase.DataTransitions.TheVariants.{Still, Once, Twice, Thrice, Often}
 use Rattle.pr_ear.specs.declared.decoder_numbers.WireByte.{WireByte}
 use Rattle.pr_ear.specs.Decoding.{answer_ended, answered, byte_numbers, eoi_number}
 use Rattle.pr_ear.specs.DecoderTaken.{begun_in, byte_from, byte_in, called_in, decoder_by, first_in, last_in, pulse_from, sent_in, stored, stretch_from, transfer_from, turn1, turn2, turn3, turn4, turns_from, turns_in, turns_number}
@@ -28,7 +28,7 @@ stretch-back : (o : Option ClockPhase)
     (turns_from (turns_number (turns_in o)) (edge_of (turn1 (turns_in o))) (edge_of (turn2 (turns_in o))) (edge_of (turn3 (turns_in o))) (edge_of (turn4 (turns_in o)))) ≡ o
 stretch-back None = refl
 stretch-back (Some s) =
-    let a = bit-back s.called in
+    let a = bit-back s.attention in
     let b = edge-back s.first in
     let c = edge-back s.last in
     let d = turns-back s.turns in

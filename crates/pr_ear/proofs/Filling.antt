@@ -13,7 +13,7 @@ use Rattle.pr_wire.specs.Laws.{AllowedIsReached, FaultIsReached}
 use Rattle.pr_page.specs.declared.input.Input.{Input}
 use Rattle.pr_receiver.specs.Given.{input_at, inputs_with}
 use Rattle.pr_receiver.specs.Laws.{InputsOfOneMore, TracesGiveWhatIsHeard}
-use Rattle.pr_receiver.specs.Taken.{HasTaken, device_of, number_taken, refusal_of}
+use Rattle.pr_receiver.specs.Taken.{HasReceived, device_of, number_taken, refusal_of}
 use Rattle.pr_receiver.specs.declared.state.Progress.{Progress}
 use Rattle.pr_ear.specs.declared.WireEdge.{WireEdge}
 use Rattle.pr_ear.specs.Hearing.{AreHeard, edge_of, number_of}
@@ -25,7 +25,7 @@ IsAnswer answer wanted = answer ≡ wanted
 
 -- a receiver has taken the first edges, and the numbers of the inputs that came with them stand in the buffer
 pub record IsFilling (device : ℕ) (edges : List Edge) (n : ℕ) (receiver : Progress) (k : ℕ) (old new : List ℕ) : Type 0 where
-  pub taken : HasTaken (take n edges) receiver
+  pub taken : HasReceived (take n edges) receiver
   pub refusal : refusal_of receiver ≡ None
   pub device_is : device_of receiver ≡ device
   pub edges_taken : number_taken receiver ≡ n
@@ -50,15 +50,15 @@ at-most-one (Some i) = omega arith
 -- one edge more was accepted, and its input kept
 pub fills-next : AllowedIsReached → InputsOfOneMore → (device : ℕ) (wires : List WireEdge) (n : ℕ) (r new : Progress) (k kept : ℕ) (old b out : List ℕ) (d : WireEdge) (e : Edge) (input : Option Input)
     → IsFilling device (map edge_of wires) n r k old b → n < length wires → e ≡ edge_of (get_or wires n d)
-    → ((es : List Edge) → HasTaken es r → refusal_of r ≡ None → IsAllowed (es ++ e ∷ []) → IsAnswer (Ok input) (Ok (input_at (device_of r) es e)))
-    → ((es : List Edge) → HasTaken es r → HasTaken (es ++ e ∷ []) new)
+    → ((es : List Edge) → HasReceived es r → refusal_of r ≡ None → IsAllowed (es ++ e ∷ []) → IsAnswer (Ok input) (Ok (input_at (device_of r) es e)))
+    → ((es : List Edge) → HasReceived es r → HasReceived (es ++ e ∷ []) new)
     → refusal_of new ≡ None → device_of new ≡ device_of r → number_taken new ≡ number_taken r + 1
     → kept ≡ k + length (option_to_list input) → KeepsOn k (map number_of (option_to_list input)) b out → length out ≡ length b
     → IsFilling device (map edge_of wires) (n + 1) new kept old out
 fills-next allowed more device wires n r new k kept old b out d e input g h i a t f v c q o l =
     let front = take n (map edge_of wires) in
     let m : take (n + 1) (map edge_of wires) ≡ front ++ e ∷ [] = take-next wires n d e h i in
-    let x : HasTaken (front ++ e ∷ []) new = t front g.taken in
+    let x : HasReceived (front ++ e ∷ []) new = t front g.taken in
     let w : IsAnswer (Ok input) (Ok (input_at (device_of r) front e)) = a front g.taken g.refusal ((allowed (front ++ e ∷ [])).1 (x.come, x.leads)) in
     let u : input ≡ input_at (device_of r) front e = cc in
     let z : input ≡ input_at device front e = u ∙ ap (λ j. input_at j front e) g.device_is in
@@ -108,8 +108,8 @@ fault-stays allowed fault es fs w n h = by (reached begin es) refl
 -- the fault of the edge that was refused is that of the whole list
 pub refused-whole : AllowedIsReached → FaultIsReached → (device : ℕ) (wires : List WireEdge) (n : ℕ) (r : Progress) (k : ℕ) (old b : List ℕ) (d : WireEdge) (e : Edge) (w : WaveFault)
     → IsFilling device (map edge_of wires) n r k old b → n < length wires → e ≡ edge_of (get_or wires n d)
-    → ((es : List Edge) → HasTaken es r → refusal_of r ≡ None → IsAllowed (es ++ e ∷ []) → IsAnswer (Err w) (Ok (input_at (device_of r) es e)))
-    → ((es : List Edge) → HasTaken es r → refusal_of r ≡ None → fault_of (es ++ e ∷ []) ≡ Some w)
+    → ((es : List Edge) → HasReceived es r → refusal_of r ≡ None → IsAllowed (es ++ e ∷ []) → IsAnswer (Err w) (Ok (input_at (device_of r) es e)))
+    → ((es : List Edge) → HasReceived es r → refusal_of r ≡ None → fault_of (es ++ e ∷ []) ≡ Some w)
     → fault_of (map edge_of wires) ≡ Some w
 refused-whole allowed fault device wires n r k old b d e w g h i a f =
     let edges = map edge_of wires in

@@ -7,10 +7,10 @@ use Rattle.pr_decode.specs.declared.decoder.Decoder.{Decoder}
 use Rattle.pr_decode.specs.declared.reading.Pulse.{Pulse}
 use Rattle.pr_decode.specs.declared.reading.Reading.{Reading}
 use Rattle.pr_decode.specs.declared.reading.Transfer.{Transfer}
-use Rattle.pr_decode.specs.declared.stretch.ClockPhase.{ClockPhase}
-use Rattle.pr_decode.specs.declared.stretch.DataTransitions.{DataTransitions}
-use Rattle.pr_decode.specs.declared.stretch.DataTransitions.TheVariants.{Still, Once, Twice, Thrice, Often}
-use Rattle.pr_decode.specs.Taking.{HasRead, last_time}
+use Rattle.pr_decode.specs.declared.clock_phase.ClockPhase.{ClockPhase}
+use Rattle.pr_decode.specs.declared.clock_phase.DataTransitions.{DataTransitions}
+use Rattle.pr_decode.specs.declared.clock_phase.DataTransitions.TheVariants.{Still, Once, Twice, Thrice, Often}
+use Rattle.pr_decode.specs.Taking.{HasReadings, last_time}
 use Rattle.pr_ear.specs.declared.WireEdge.{WireEdge}
 use Rattle.pr_ear.specs.declared.decoder_numbers.WireByte.{WireByte}
 use Rattle.pr_ear.specs.declared.decoder_numbers.WireDecoder.{WireDecoder}
@@ -75,7 +75,7 @@ begun_in (Some s) = 1
 
 abbrev pub called_in : Option ClockPhase → ℕ
 called_in None = 0
-called_in (Some s) = bit_of s.called
+called_in (Some s) = bit_of s.attention
 
 abbrev pub first_in : Option ClockPhase → WireEdge
 first_in None = no_edge
@@ -92,7 +92,7 @@ turns_in (Some s) = s.turns
 -- a stretch by its numbers
 abbrev pub stretch_from : (begun : ℕ) → (called : Bool) → (first last : Edge) → DataTransitions → Option ClockPhase
 stretch_from begun called first last turns =
-    if begun == 1 then Some (record { called = called; first = first; last = last; turns = turns }) else None
+    if begun == 1 then Some (record { attention = called; first = first; last = last; turns = turns }) else None
 
 abbrev pub stretch_by : WireDecoder → Option ClockPhase
 stretch_by w = stretch_from w.begun (w.called == 1) (edge_of w.first) (edge_of w.last) (turns_by w)
@@ -112,7 +112,7 @@ pulse_from eoi pulled released = if eoi == 1 then Some (record { pulled = pulled
 
 abbrev pub byte_from : WireByte → Transfer
 byte_from b = record {
-  opening = record { command = b.command == 1; look = b.look; ready = b.ready; pulse = pulse_from b.eoi b.answered b.answer_ended };
+  opening = record { command = b.command == 1; ready_to_send = b.look; ready_for_data = b.ready; pulse = pulse_from b.eoi b.answered b.answer_ended };
   pull = b.pull;
   bits = b.bits;
   byte = b.byte;
@@ -150,7 +150,7 @@ decoder_by w = record { stretch = stretch_by w; transfer = transfer_by w }
 -- these edges were taken and these readings told, and the numbers hold the decoder that they have left
 pub record HasDecoded (edges : List WireEdge) (given : List Reading) (w : WireDecoder) : Type 0 where
   pub decoder : Decoder
-  pub read : HasRead (map edge_of edges) given decoder
+  pub read : HasReadings (map edge_of edges) given decoder
   pub last : last_time decoder ≡ last_moment edges
   pub numbers : w ≡ stored decoder
 

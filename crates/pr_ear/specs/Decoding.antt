@@ -64,8 +64,8 @@ answer_ended (Some p) = p.released
 -- a byte as far as it came, as numbers
 abbrev pub byte_numbers : Transfer → WireByte
 byte_numbers t = record {
-  look = t.opening.look;
-  ready = t.opening.ready;
+  look = t.opening.ready_to_send;
+  ready = t.opening.ready_for_data;
   answered = answered t.opening.pulse;
   answer_ended = answer_ended t.opening.pulse;
   pull = t.pull;

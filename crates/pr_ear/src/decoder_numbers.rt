@@ -131,8 +131,8 @@ fn numbers_of_byte(transfer: &Transfer) -> WireByte
         Some(pulse) => (1, pulse.pulled, pulse.released),
     };
     WireByte {
-        look: transfer.opening.look,
-        ready: transfer.opening.ready,
+        look: transfer.opening.ready_to_send,
+        ready: transfer.opening.ready_for_data,
         answered,
         answer_ended,
         pull: transfer.pull,
@@ -230,7 +230,7 @@ pub fn store(decoder: &Decoder) -> WireDecoder
                 first: wire_for(stretch.first),
                 last: wire_for(stretch.last),
                 begun: 1,
-                called: bit(stretch.called),
+                called: bit(stretch.attention),
                 ..NO_DECODER
             },
             &stretch.turns,
@@ -267,7 +267,7 @@ fn stretch_for(numbers: &WireDecoder) -> Option<ClockPhase>
 {
     if numbers.begun == 1 {
         Some(ClockPhase {
-            called: numbers.called == 1,
+            attention: numbers.called == 1,
             first: edge_for(numbers.first),
             last: edge_for(numbers.last),
             turns: turns_for(numbers),
@@ -292,8 +292,8 @@ fn byte_for(numbers: &WireByte) -> Transfer
     Transfer {
         opening: Opening {
             command: numbers.command == 1,
-            look: numbers.look,
-            ready: numbers.ready,
+            ready_to_send: numbers.look,
+            ready_for_data: numbers.ready,
             pulse,
         },
         pull: numbers.pull,

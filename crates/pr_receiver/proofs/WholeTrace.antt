@@ -13,7 +13,7 @@ use Rattle.pr_wire.specs.Laws.{AllowedIsReached, SpellsTheFramesReached, FaultIs
 use Rattle.pr_page.specs.declared.input.Input.{Input}
 use Rattle.pr_receiver.specs.Heard.{heard_of}
 use Rattle.pr_receiver.specs.Given.{input_at, inputs_with}
-use Rattle.pr_receiver.specs.Taken.{HasTaken, device_of, number_taken, refusal_of}
+use Rattle.pr_receiver.specs.Taken.{HasReceived, device_of, number_taken, refusal_of}
 use Rattle.pr_receiver.specs.declared.state.Progress.{Progress}
 use Rattle.pr_receiver.proofs.Hearing.{each-push}
 use Rattle.pr_receiver.proofs.Ended.{fault-stays, traces-give}
@@ -24,7 +24,7 @@ IsAnswer answer wanted = answer ≡ wanted
 
 -- a receiver has taken the first edges, and these inputs came with them
 pub record HasGiven (device : ℕ) (edges : List Edge) (n : ℕ) (receiver : Progress) (inputs : List Input) : Type 0 where
-  pub taken : HasTaken (take n edges) receiver
+  pub taken : HasReceived (take n edges) receiver
   pub refusal : refusal_of receiver ≡ None
   pub device_is : device_of receiver ≡ device
   pub count : number_taken receiver ≡ n
@@ -37,13 +37,13 @@ take-next edges n d h = rw (add-one, take-suc edges n d h) refl
 -- one edge more was accepted, and its input kept
 pub gives-next : AllowedIsReached → (device : ℕ) (edges : List Edge) (n : ℕ) (r new : Progress) (inputs kept : List Input) (d : Edge) (input : Option Input)
     → HasGiven device edges n r inputs → n < length edges
-    → ((es : List Edge) → HasTaken es r → refusal_of r ≡ None → IsAllowed (es ++ get_or edges n d ∷ []) → IsAnswer (Ok input) (Ok (input_at (device_of r) es (get_or edges n d))))
-    → ((es : List Edge) → HasTaken es r → HasTaken (es ++ get_or edges n d ∷ []) new)
+    → ((es : List Edge) → HasReceived es r → refusal_of r ≡ None → IsAllowed (es ++ get_or edges n d ∷ []) → IsAnswer (Ok input) (Ok (input_at (device_of r) es (get_or edges n d))))
+    → ((es : List Edge) → HasReceived es r → HasReceived (es ++ get_or edges n d ∷ []) new)
     → refusal_of new ≡ None → device_of new ≡ device_of r → number_taken new ≡ number_taken r + 1 → kept ≡ inputs ++ option_to_list input
     → HasGiven device edges (n + 1) new kept
 gives-next allowed device edges n r new inputs kept d input g h a t f v c k =
     let m : take (n + 1) edges ≡ take n edges ++ get_or edges n d ∷ [] = take-next edges n d h in
-    let x : HasTaken (take n edges ++ get_or edges n d ∷ []) new = t (take n edges) g.taken in
+    let x : HasReceived (take n edges ++ get_or edges n d ∷ []) new = t (take n edges) g.taken in
     let o : IsAnswer (Ok input) (Ok (input_at (device_of r) (take n edges) (get_or edges n d))) = a (take n edges) g.taken g.refusal ((allowed (take n edges ++ get_or edges n d ∷ [])).1 (x.come, x.leads)) in
     let i : input ≡ input_at (device_of r) (take n edges) (get_or edges n d) = cc in
     record {
@@ -61,8 +61,8 @@ gives-next allowed device edges n r new inputs kept d input g h a t f v c k =
 -- the fault of the edge that was refused is that of the whole list
 pub refused-whole : AllowedIsReached → FaultIsReached → (device : ℕ) (edges : List Edge) (n : ℕ) (r : Progress) (inputs : List Input) (d : Edge) (w : WaveFault)
     → HasGiven device edges n r inputs → n < length edges
-    → ((es : List Edge) → HasTaken es r → refusal_of r ≡ None → IsAllowed (es ++ get_or edges n d ∷ []) → IsAnswer (Err w) (Ok (input_at (device_of r) es (get_or edges n d))))
-    → ((es : List Edge) → HasTaken es r → refusal_of r ≡ None → fault_of (es ++ get_or edges n d ∷ []) ≡ Some w)
+    → ((es : List Edge) → HasReceived es r → refusal_of r ≡ None → IsAllowed (es ++ get_or edges n d ∷ []) → IsAnswer (Err w) (Ok (input_at (device_of r) es (get_or edges n d))))
+    → ((es : List Edge) → HasReceived es r → refusal_of r ≡ None → fault_of (es ++ get_or edges n d ∷ []) ≡ Some w)
     → fault_of edges ≡ Some w
 refused-whole allowed fault device edges n r inputs d w g h a f =
     let m : take (n + 1) edges ≡ take n edges ++ get_or edges n d ∷ [] = take-next edges n d h in
@@ -78,10 +78,10 @@ handed_on (Ok x) w P h p = tt
 handed_on (Err x) w P h p = rw h p
 
 -- at the end all edges have been taken
-pub given-all : (device : ℕ) (edges : List Edge) (n : ℕ) (r : Progress) (inputs : List Input) → HasGiven device edges n r inputs → length edges ≤ n → HasTaken edges r × (inputs ≡ inputs_with device edges)
+pub given-all : (device : ℕ) (edges : List Edge) (n : ℕ) (r : Progress) (inputs : List Input) → HasGiven device edges n r inputs → length edges ≤ n → HasReceived edges r × (inputs ≡ inputs_with device edges)
 given-all device edges n r inputs g h =
     let a : take n edges ≡ edges = take_all n edges h in
-    (subst (λ l. HasTaken l r) a g.taken, g.given ∙ ap (inputs_with device) a)
+    (subst (λ l. HasReceived l r) a g.taken, g.given ∙ ap (inputs_with device) a)
 
 -- the inputs of a lawful trace are what is heard of the frames that it spells
 pub heard-whole : SpellsTheFramesReached → (device : ℕ) (edges : List Edge) (inputs : List Input) → IsLawful edges → inputs ≡ inputs_with device edges

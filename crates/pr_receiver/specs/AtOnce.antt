@@ -7,7 +7,7 @@ use Rattle.pr_wire.specs.declared.Frame.{Frame}
 use Rattle.pr_wire.specs.Table.{IsAllowed}
 use Rattle.pr_page.specs.declared.input.Input.{Input}
 use Rattle.pr_receiver.specs.Given.{frames_ended, inputs_with}
-use Rattle.pr_receiver.specs.Taken.{HasTaken, device_of, number_taken, refusal_of}
+use Rattle.pr_receiver.specs.Taken.{HasReceived, device_of, number_taken, refusal_of}
 use Rattle.pr_receiver.specs.declared.state.Progress.{Progress}
 
 -- edges behind others end one frame
@@ -24,11 +24,11 @@ BringInput device before edges input = inputs_with device (before ++ edges) ≡ 
 
 -- a receiver has taken so many edges in front, edge by edge, and this input came with the last of them; if none, it is as it was
 pub record TakesAtOnce (old : Progress) (edges : List Edge) (n : ℕ) (input : Option Input) (new : Progress) : Type 0 where
-  pub taken : (before : List Edge) → HasTaken before old → HasTaken (before ++ take n edges) new
-  pub inputs : (before : List Edge) → HasTaken before old → BringInput (device_of old) before (take n edges) input
-  pub ends : 0 < n → (before : List Edge) → HasTaken before old → EndOneFrame before (take n edges)
-  pub sooner : (before : List Edge) → HasTaken before old → EndNoFrame before (take (n - 1) edges)
-  pub allowed : (before : List Edge) → HasTaken before old → IsAllowed (before ++ take n edges)
+  pub taken : (before : List Edge) → HasReceived before old → HasReceived (before ++ take n edges) new
+  pub inputs : (before : List Edge) → HasReceived before old → BringInput (device_of old) before (take n edges) input
+  pub ends : 0 < n → (before : List Edge) → HasReceived before old → EndOneFrame before (take n edges)
+  pub sooner : (before : List Edge) → HasReceived before old → EndNoFrame before (take (n - 1) edges)
+  pub allowed : (before : List Edge) → HasReceived before old → IsAllowed (before ++ take n edges)
   pub count : number_taken new ≡ number_taken old + n
   pub works : 0 < n → refusal_of old ≡ None
   pub refusal : refusal_of new ≡ refusal_of old

@@ -9,7 +9,7 @@ use Rattle.pr_receiver.specs.Kept.{kept_of}
 use Rattle.pr_receiver.specs.declared.state.Progress.{Progress}
 
 -- the receiver has taken these edges, in this order, and no others; an edge that it refused is none of them
-pub record HasTaken (edges : List Edge) (receiver : Progress) : Type 0 where
+pub record HasReceived (edges : List Edge) (receiver : Progress) : Type 0 where
   pub come : Reached
   pub leads : reached begin edges ≡ Ok come
   pub last : receiver.last ≡ come.last

@@ -20,12 +20,12 @@ behind_add b [] qs = refl
 behind_add b (r ∷ rs) qs = behind_add (after_reading b r) rs qs
 
 -- no reading
-pub accounted_none : (a : Account) → survey.HasTaken [] a.survey → a.behind ≡ Nothing → a.lines.items ≡ [] → HasAccounted [] [] a
+pub accounted_none : (a : Account) → survey.HasSurveyed [] a.survey → a.behind ≡ Nothing → a.lines.items ≡ [] → HasAccounted [] [] a
 accounted_none a s b l = record { surveyed = s; behind = b; lines = l }
 
 -- a reading more
 pub accounts_one : (old new : Account) (r : Reading) → new.lines.items ≡ old.lines.items ++ reading_lines old.behind r → new.behind ≡ after_reading old.behind r
-    → ((rs : List Reading) → survey.HasTaken rs old.survey → survey.HasTaken (rs ++ r ∷ []) new.survey) → AccountsMore (r ∷ []) old new
+    → ((rs : List Reading) → survey.HasSurveyed rs old.survey → survey.HasSurveyed (rs ++ r ∷ []) new.survey) → AccountsMore (r ∷ []) old new
 accounts_one old new r lines behind taken = λ given written h. record {
   surveyed = taken given h.surveyed;
   behind = behind ∙ (ap (λ b. after_reading b r) h.behind ∙ sym (behind_add Nothing given (r ∷ [])));

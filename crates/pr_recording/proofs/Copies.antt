@@ -5,7 +5,7 @@ use Rattle.std.specs.Option.{option_to_list}
 use Rattle.pr_wire.specs.declared.Edge.{Edge}
 use Rattle.pr_decode.specs.declared.reading.Reading.{Reading}
 use Rattle.pr_decode.specs.Readings.{readings_of}
-use Rattle.pr_decode.specs.Taking.{GivenAreSettled, HasRead, IsBefore, StandsBefore, last_time}
+use Rattle.pr_decode.specs.Taking.{GivenAreSettled, HasReadings, IsBefore, StandsBefore, last_time}
 use Rattle.pr_recording.specs.declared.printer_pair.BusPrinters.{BusPrinters}
 use Rattle.pr_recording.specs.declared.printer_pair.PrintedPages.{PrintedPages}
 use Rattle.pr_recording.specs.PrintedPages.{ArePapers}
@@ -23,7 +23,7 @@ use Rattle.pr_recording.specs.Pages.{readings_up_to}
 use Rattle.pr_recording.proofs.Backs.{back_stays, front_back, front_stays, goes_back, goes_on, time_of_one}
 
 -- no edge
-pub copied_none : (c : Copier) → c.back ≡ None → HasRead [] [] c.decoder → last_time c.decoder ≡ None → HasReprinted [] c.reprint → c.taken ≡ 0 → HasCopied [] c
+pub copied_none : (c : Copier) → c.back ≡ None → HasReadings [] [] c.decoder → last_time c.decoder ≡ None → HasReprinted [] c.reprint → c.taken ≡ 0 → HasCopied [] c
 copied_none c b r l p t = record { back = b; printed = record { given = []; read = r; last = l; reprinted = p; taken = t } }
 
 -- other parts alone are changed
@@ -79,7 +79,7 @@ copies_back old new e was before back d p t = λ edges h.
 
 -- an edge is taken
 pub copies_one : (old new : Copier) (e : Edge) (r : Option Reading) → old.back ≡ None → (IsBefore e old.decoder → ⊥) → new.back ≡ old.back
-    → ((edges : List Edge) (given : List Reading) → HasRead edges given old.decoder → HasRead (edges ++ e ∷ []) (given ++ option_to_list r) new.decoder) → last_time new.decoder ≡ Some e.time
+    → ((edges : List Edge) (given : List Reading) → HasReadings edges given old.decoder → HasReadings (edges ++ e ∷ []) (given ++ option_to_list r) new.decoder) → last_time new.decoder ≡ Some e.time
     → PrintsReading r old.reprint new.reprint → new.taken ≡ old.taken + 1 → CopiesMore (e ∷ []) old new
 copies_one old new e r was later same reads last prints taken = λ edges h.
     let none : back_in edges ≡ None = sym h.back ∙ was in
@@ -130,7 +130,7 @@ no_back (Some n) own h = absurd (cc)
 
 -- the end of whole edges
 pub ends_whole : (c : Copier) (own : Option CliFault) (cut : Option Reading) (last : BusPrinters) (p : Printed) → stop_at c.back own ≡ None → p.stop ≡ None
-    → ((edges : List Edge) (given : List Reading) → HasRead edges given c.decoder → readings_of edges ≡ given ++ option_to_list cut)
+    → ((edges : List Edge) (given : List Reading) → HasReadings edges given c.decoder → readings_of edges ≡ given ++ option_to_list cut)
     → PrintsReading cut c.reprint last
     → ((readings : List Reading) → HasReprinted readings last → ArePapers readings p.pages) → (edges : List Edge) → HasCopied edges c → EndsCopy edges own p
 ends_whole c own cut last p is stop reads prints papers = λ edges h.

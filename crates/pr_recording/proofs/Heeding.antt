@@ -7,7 +7,7 @@ use Rattle.pr_wire.specs.declared.WaveFault.{WaveFault}
 use Rattle.pr_wire.specs.Table.{fault_of}
 use Rattle.pr_decode.specs.declared.reading.Reading.{Reading}
 use Rattle.pr_decode.specs.Readings.{readings_of}
-use Rattle.pr_decode.specs.Taking.{GivenAreSettled, HasRead, IsBefore, StandsBefore, last_time}
+use Rattle.pr_decode.specs.Taking.{GivenAreSettled, HasReadings, IsBefore, StandsBefore, last_time}
 use Rattle.pr_report.specs.declared.reading_line.Preceding.TheVariants.{Nothing}
 use Rattle.pr_report.specs.ReadingText.{all_lines}
 use Rattle.pr_report.specs.Summary.{summary}
@@ -21,7 +21,7 @@ use Rattle.pr_recording.specs.Narrated.{AccountsMore, EndsEdges, HasAccounted, H
 use Rattle.pr_recording.proofs.Backs.{back_stays, front_back, front_stays, goes_back, goes_on, time_of_one}
 
 -- no edge
-pub narrated_none : (n : Narrator) → n.back ≡ None → HasRead [] [] n.decoder → last_time n.decoder ≡ None → HasJudged [] n.judge → HasAccounted [] [] n.account → n.taken ≡ 0 → HasNarrated [] [] n
+pub narrated_none : (n : Narrator) → n.back ≡ None → HasReadings [] [] n.decoder → last_time n.decoder ≡ None → HasJudged [] n.judge → HasAccounted [] [] n.account → n.taken ≡ 0 → HasNarrated [] [] n
 narrated_none n b r l j a t = record { back = b; heeded = record { given = []; read = r; last = l; judged = j; accounted = a; taken = t } }
 
 -- other parts alone are changed
@@ -85,7 +85,7 @@ narrates_back old new e was before back d j a t = λ edges written h.
 
 -- an edge is taken
 pub narrates_one : (old new : Narrator) (e : Edge) (r : Option Reading) → old.back ≡ None → (IsBefore e old.decoder → ⊥) → new.back ≡ old.back
-    → ((edges : List Edge) (given : List Reading) → HasRead edges given old.decoder → HasRead (edges ++ e ∷ []) (given ++ option_to_list r) new.decoder) → last_time new.decoder ≡ Some e.time
+    → ((edges : List Edge) (given : List Reading) → HasReadings edges given old.decoder → HasReadings (edges ++ e ∷ []) (given ++ option_to_list r) new.decoder) → last_time new.decoder ≡ Some e.time
     → ((edges : List Edge) → HasJudged edges old.judge → HasJudged (edges ++ e ∷ []) new.judge) → AccountsMore (option_to_list r) old.account new.account → new.taken ≡ old.taken + 1
     → NarratesMore (e ∷ []) old new
 narrates_one old new e r was later same reads last judges accounts taken = λ edges written h.
@@ -150,7 +150,7 @@ no_back (Some n) own h = absurd (cc)
 
 -- the end of whole edges
 pub ends_whole : (n : Narrator) (own : Option CliFault) (cut : Option Reading) (a : Account) (v : Option WaveFault) (e : Ended) → stop_at n.back own ≡ None → e.stop ≡ None
-    → ((edges : List Edge) (given : List Reading) → HasRead edges given n.decoder → readings_of edges ≡ given ++ option_to_list cut) → ((edges : List Edge) → HasJudged edges n.judge → v ≡ fault_of edges)
+    → ((edges : List Edge) (given : List Reading) → HasReadings edges given n.decoder → readings_of edges ≡ given ++ option_to_list cut) → ((edges : List Edge) → HasJudged edges n.judge → v ≡ fault_of edges)
     → AccountsMore (option_to_list cut) n.account a
     → ((given : List Reading) (written : List ℕ) → HasAccounted given written a → written ++ e.lines.items ≡ all_lines Nothing given ++ (summary given ++ verdict_text v)) → (edges : List Edge) (written : List ℕ)
     → HasNarrated edges written n → EndsEdges edges written own e

@@ -7,7 +7,7 @@ use Rattle.pr_wire.specs.declared.WaveFault.{WaveFault}
 use Rattle.pr_wire.specs.Table.{fault_of}
 use Rattle.pr_report.specs.declared.frame_timer.FrameTimer.{FrameTimer}
 use Rattle.pr_report.specs.declared.timed_frame.TimedFrame.{TimedFrame}
-use Rattle.pr_report.specs.Telling as story
+use Rattle.pr_report.specs.FrameTiming as story
 use Rattle.pr_recording.specs.Narrated.{HasTaken}
 
 -- a fault stays, whatever comes

@@ -3,7 +3,7 @@ use Rattle.std.specs.Prelude.{◌≡◌, ℕ, ◌+◌, List, ◌++◌, length, O
 use Rattle.std.specs.Option.{option_to_list}
 use Rattle.pr_wire.specs.declared.Edge.{Edge}
 use Rattle.pr_decode.specs.declared.reading.Reading.{Reading}
-use Rattle.pr_decode.specs.Taking.{HasRead, last_time}
+use Rattle.pr_decode.specs.Taking.{HasReadings, last_time}
 use Rattle.pr_recording.specs.declared.printer_pair.BusPrinters.{BusPrinters}
 use Rattle.pr_recording.specs.PrintedPages.{ArePapers}
 use Rattle.pr_recording.specs.Taking as reprint
@@ -24,7 +24,7 @@ use Rattle.pr_recording.specs.Pages.{readings_up_to}
 -- edges in time order were taken, and their readings printed
 pub record HasPrinted (edges : List Edge) (c : Copier) : Type 0 where
   pub given : List Reading
-  pub read : HasRead edges given c.decoder
+  pub read : HasReadings edges given c.decoder
   pub last : last_time c.decoder ≡ time_of edges
   pub reprinted : reprint.HasReprinted given c.reprint
   pub taken : c.taken ≡ length edges

@@ -7,9 +7,9 @@ use Rattle.pr_wire.specs.declared.WaveFault.TheVariants as wave
 use Rattle.pr_wire.specs.Table.{fault_of}
 use Rattle.pr_report.specs.declared.frame_timer.FrameTimer.{FrameTimer}
 use Rattle.pr_report.specs.declared.timed_frame.TimedFrame.{TimedFrame}
-use Rattle.pr_report.specs.Telling as story
+use Rattle.pr_report.specs.FrameTiming as story
 use Rattle.pr_decode.specs.declared.reading.Reading.{Reading}
-use Rattle.pr_decode.specs.Taking.{HasRead, last_time}
+use Rattle.pr_decode.specs.Taking.{HasReadings, last_time}
 use Rattle.pr_report.specs.declared.reading_line.Preceding.TheVariants.{Nothing}
 use Rattle.pr_report.specs.ReadingText.{all_lines, behind_all}
 use Rattle.pr_report.specs.Taking as survey
@@ -45,7 +45,7 @@ edges_judged j = story.number_taken j.teller
 
 -- the lines of these readings were made, and this text of them was given up
 pub record HasAccounted (given : List Reading) (written : List ℕ) (a : Account) : Type 0 where
-  pub surveyed : survey.HasTaken given a.survey
+  pub surveyed : survey.HasSurveyed given a.survey
   pub behind : a.behind ≡ behind_all Nothing given
   pub lines : written ++ a.lines.items ≡ all_lines Nothing given
 
@@ -72,7 +72,7 @@ time_of (e ∷ es) = Some (time_after e.time es)
 -- edges in time order were taken, and their lines were made
 pub record HasHeeded (edges : List Edge) (written : List ℕ) (n : Narrator) : Type 0 where
   pub given : List Reading
-  pub read : HasRead edges given n.decoder
+  pub read : HasReadings edges given n.decoder
   pub last : last_time n.decoder ≡ time_of edges
   pub judged : HasJudged edges n.judge
   pub accounted : HasAccounted given written n.account

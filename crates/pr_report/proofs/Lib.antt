@@ -1,4 +1,4 @@
-pub mod Told
+pub mod FramesTimed
 pub mod Spelled
 pub mod PiecesTold
 pub mod WholeStory

@@ -22,8 +22,8 @@ use Rattle.pr_wire.specs.Table.{Row, by_row, differ, frame_of, is_late, is_start
 use Rattle.pr_report.specs.declared.timed_frame.TimedFrame.{TimedFrame}
 use Rattle.pr_report.specs.StoryLaws.{MoreEdgesAddFrames, TracesTellWhatTheySpell}
 use Rattle.pr_report.specs.Moments.{frame_told, look_with, with_moments}
-use Rattle.pr_report.specs.Telling.{timed_behind}
-use Rattle.pr_report.proofs.Told.{behind-fault, behind-nothing, behind-step, frames-behind}
+use Rattle.pr_report.specs.FrameTiming.{timed_behind}
+use Rattle.pr_report.proofs.FramesTimed.{behind-fault, behind-nothing, behind-step, frames-behind}
 
 -- the frame of a row, with its moments and without
 abbrev row_moments : ℕ → Option Row → Option TimedFrame

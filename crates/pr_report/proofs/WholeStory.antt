@@ -10,7 +10,7 @@ use Rattle.pr_report.specs.declared.timed_frame.TimedFrame.{TimedFrame}
 use Rattle.pr_report.specs.declared.frame_timer.FrameTimer.{FrameTimer}
 use Rattle.pr_report.specs.Moments.{timed_frames}
 use Rattle.pr_report.specs.StoryText.{is_data, last_line, story_line, story_lines, story_of}
-use Rattle.pr_report.specs.Telling.{HasTold, data_after, line_if, number_taken}
+use Rattle.pr_report.specs.FrameTiming.{HasTold, data_after, line_if, number_taken}
 
 -- the first edges were taken, and the lines of their frames stand behind a text: whatever frames follow, all lines are these and those that come yet
 pub record IsTelling (edges : List Edge) (n : ℕ) (s : FrameTimer) (old text : List ℕ) (behind_data : Bool) : Type 0 where

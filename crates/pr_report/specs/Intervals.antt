@@ -81,9 +81,9 @@ if_bits bits n = if bits == 0 then None else Some n
 
 -- how long an interval of a byte is, where the byte has it
 abbrev pub length_in : Interval → Transfer → (acknowledgement : Option ℕ) → Option ℕ
-length_in Ready t a = Some (t.opening.ready - t.opening.look)
-length_in FirstPull t a = unless_answered t.opening.pulse (t.pull - t.opening.ready)
-length_in Answer t a = option_map (λ p. p.pulled - t.opening.ready) t.opening.pulse
+length_in Ready t a = Some (t.opening.ready_for_data - t.opening.ready_to_send)
+length_in FirstPull t a = unless_answered t.opening.pulse (t.pull - t.opening.ready_for_data)
+length_in Answer t a = option_map (λ p. p.pulled - t.opening.ready_for_data) t.opening.pulse
 length_in AnswerLength t a = option_map (λ p. p.released - p.pulled) t.opening.pulse
 length_in PullAfterAnswer t a = option_map (λ p. t.pull - p.released) t.opening.pulse
 length_in ShortestLow t a = if_bits t.bits t.low.shortest

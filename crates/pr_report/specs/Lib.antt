@@ -2,7 +2,7 @@ pub mod Moments
 pub mod PieceMoments
 pub mod Numbers
 pub mod StoryText
-pub mod Telling
+pub mod FrameTiming
 pub mod StoryLaws
 pub mod Intervals
 pub mod ReadingText

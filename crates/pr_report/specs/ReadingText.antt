@@ -36,7 +36,7 @@ is_behind_data b = false
 abbrev pub story_frame : Preceding → Transfer → (acknowledged : ℕ) → TimedFrame
 story_frame b t k =
     let sent : ByteRole = sending_of b t.opening.command t.byte in
-    record { look = t.opening.look; acknowledged = k; sending = sent; byte = t.byte; eoi = is_some t.opening.pulse }
+    record { look = t.opening.ready_to_send; acknowledged = k; sending = sent; byte = t.byte; eoi = is_some t.opening.pulse }
 
 -- a byte that is not acknowledged: what it is, and its look
 abbrev pub byte_word : (is_command : Bool) → List ℕ
@@ -44,12 +44,12 @@ byte_word is_command = if is_command then codes "command " else codes "byte "
 
 abbrev pub byte_place : Transfer → List ℕ
 byte_place t =
-    numbered (byte_word t.opening.command) t.byte ++ numbered (codes " at ") t.opening.look
+    numbered (byte_word t.opening.command) t.byte ++ numbered (codes " at ") t.opening.ready_to_send
     ++ codes " us"
 
 -- an incomplete byte: its look, and how many bits came
 abbrev pub incomplete_place : Transfer → List ℕ
-incomplete_place t = numbered (codes "glitch at ") t.opening.look ++ numbered (codes " us, bits ") t.bits
+incomplete_place t = numbered (codes "glitch at ") t.opening.ready_to_send ++ numbered (codes " us, bits ") t.bits
 
 -- the end of a line with a moment, and that of a line that the end of the recording cuts
 abbrev pub moment_end : List ℕ → (time : ℕ) → List ℕ

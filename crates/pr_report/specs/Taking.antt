@@ -48,7 +48,7 @@ abbrev pub number_taken : Survey → ℕ
 number_taken s = s.taken
 
 -- these readings were taken
-pub record HasTaken (rs : List Reading) (s : Survey) : Type 0 where
+pub record HasSurveyed (rs : List Reading) (s : Survey) : Type 0 where
   pub taken : s.taken ≡ length rs
   pub few : length rs < 2 ^ 64
   pub counts : HasCounted rs s.counts

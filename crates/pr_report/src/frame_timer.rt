@@ -9,7 +9,7 @@ ghost use Rattle.pr_wire.specs.Reached.{step_of};
 ghost use Rattle.pr_wire.specs.Table.{fault_of};
 ghost use Rattle.pr_report.specs.declared.timed_frame.TimedFrame.{TimedFrame};
 ghost use Rattle.pr_report.specs.Moments.{look_with, timed_frames, with_moments};
-ghost use Rattle.pr_report.specs.Telling.{HasTold, Moves, number_taken};
+ghost use Rattle.pr_report.specs.FrameTiming.{HasTold, Moves, number_taken};
 
 use crate::timed_frame::TimedFrame;
 use pr_wire::{BusState, Edge, Frame, WaveFault, allowed_traces};

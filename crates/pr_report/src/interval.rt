@@ -90,21 +90,21 @@ fn if_bits(bits: u8, half: u64) -> Option<u64>
 
 /// Ready to CLOCK's first pull, without end-or-identify.
 fn first_pull(byte: Transfer) -> Option<u64>
-    ensures { result ≡ unless_answered byte.opening.pulse (byte.pull - byte.opening.ready) }
+    ensures { result ≡ unless_answered byte.opening.pulse (byte.pull - byte.opening.ready_for_data) }
 {
     match byte.opening.pulse {
-        None => Some(byte.pull.saturating_sub(byte.opening.ready)),
+        None => Some(byte.pull.saturating_sub(byte.opening.ready_for_data)),
         Some(_) => None,
     }
 }
 
 /// Ready to DATA's pull, with end-or-identify.
 fn answer(byte: Transfer) -> Option<u64>
-    ensures { result ≡ option_map (λ p. p.pulled - byte.opening.ready) byte.opening.pulse }
+    ensures { result ≡ option_map (λ p. p.pulled - byte.opening.ready_for_data) byte.opening.pulse }
 {
     match byte.opening.pulse {
         None => None,
-        Some(pulse) => Some(pulse.pulled.saturating_sub(byte.opening.ready)),
+        Some(pulse) => Some(pulse.pulled.saturating_sub(byte.opening.ready_for_data)),
     }
 }
 
@@ -205,7 +205,7 @@ impl Interval {
     {
         let byte = transfer_of(reading);
         match self {
-            Interval::Ready => Some(byte.opening.ready.saturating_sub(byte.opening.look)),
+            Interval::Ready => Some(byte.opening.ready_for_data.saturating_sub(byte.opening.ready_to_send)),
             Interval::FirstPull => first_pull(byte),
             Interval::Answer => answer(byte),
             Interval::AnswerLength => answer_length(byte),

@@ -73,7 +73,7 @@ impl Preceding {
         ensures { result ≡ story_frame self transfer acknowledged }
     {
         TimedFrame {
-            look: transfer.opening.look,
+            look: transfer.opening.ready_to_send,
             acknowledged,
             sending: self.sending(transfer.opening.command, transfer.byte),
             byte: transfer.byte,
@@ -112,7 +112,7 @@ fn push_byte_place(text: &mut Vec<u8>, transfer: Transfer) -> Result<(), NoMemor
 {
     let word = byte_word(transfer.opening.command);
     push_numbered(text, word, transfer.byte as u64)?;
-    push_numbered(text, b" at ", transfer.opening.look)?;
+    push_numbered(text, b" at ", transfer.opening.ready_to_send)?;
     text.extend_from_slice(b" us")
 }
 
@@ -120,7 +120,7 @@ fn push_byte_place(text: &mut Vec<u8>, transfer: Transfer) -> Result<(), NoMemor
 fn push_incomplete_place(text: &mut Vec<u8>, transfer: Transfer) -> Result<(), NoMemory>
     ensures { OnOk result (text.new.items ≡ text.old.items ++ incomplete_place transfer) }
 {
-    push_numbered(text, b"glitch at ", transfer.opening.look)?;
+    push_numbered(text, b"glitch at ", transfer.opening.ready_to_send)?;
     push_numbered(text, b" us, bits ", transfer.bits as u64)
 }
 

@@ -3,7 +3,7 @@
 ghost use Rattle.std.specs.Prelude.{◌≡◌, ◌++◌, OnOk, IfOk};
 ghost use Rattle.pr_wire.specs.Table.{fault_of};
 ghost use Rattle.pr_report.specs.StoryText.{story_of};
-ghost use Rattle.pr_report.specs.Telling.{data_after, line_if};
+ghost use Rattle.pr_report.specs.FrameTiming.{data_after, line_if};
 
 use crate::frame_timer::FrameTimer;
 use crate::story_line::{is_data, push_story_line};

@@ -5,7 +5,7 @@ ghost use Rattle.std.specs.Prelude.{◌≡◌, ◌+◌, ◌^◌, ◌<◌, ◌++�
 ghost use Rattle.pr_decode.specs.declared.reading.Reading.{Reading};
 ghost use Rattle.pr_report.specs.Intervals.{intervals};
 ghost use Rattle.pr_report.specs.Summary.{interval_lines, summary};
-ghost use Rattle.pr_report.specs.Taking.{HasTaken, number_taken};
+ghost use Rattle.pr_report.specs.Taking.{HasSurveyed, number_taken};
 
 use crate::counts::Counts;
 use crate::interval::Interval;
@@ -43,7 +43,7 @@ impl Survey {
     ///
     /// [`NoMemory`] where memory was refused.
     pub fn new(alloc: Global) -> Result<Survey, NoMemory>
-        ensures taken { IfOk result (λ survey. HasTaken [] survey) }
+        ensures taken { IfOk result (λ survey. HasSurveyed [] survey) }
         ensures count { IfOk result (λ survey. number_taken survey ≡ 0) }
     {
         Ok(Survey {
@@ -65,7 +65,7 @@ impl Survey {
     /// Takes one reading more. It takes no memory.
     pub fn take(&mut self, reading: &Reading)
         requires room { number_taken self.old + 1 < 2 ^ 64 }
-        ensures taken { (readings : List Reading) → HasTaken readings self.old → HasTaken (readings ++ reading.now ∷ []) self.new }
+        ensures taken { (readings : List Reading) → HasSurveyed readings self.old → HasSurveyed (readings ++ reading.now ∷ []) self.new }
         ensures count { number_taken self.new ≡ number_taken self.old + 1 }
     {
         self.taken += 1;
@@ -84,7 +84,7 @@ impl Survey {
 
     /// Adds the lines of the intervals.
     fn push_intervals(&self, text: &mut Vec<u8>) -> Result<(), NoMemory>
-        ensures { OnOk result ((readings : List Reading) → HasTaken readings self.now →
+        ensures { OnOk result ((readings : List Reading) → HasSurveyed readings self.now →
             text.new.items ≡ text.old.items ++ interval_lines intervals readings) }
     {
         self.ready.push_line(text)?;
@@ -109,7 +109,7 @@ impl Survey {
     ///
     /// [`NoMemory`] where a growth of the text was refused. Nothing is promised of the text then.
     pub fn push_summary(&self, text: &mut Vec<u8>) -> Result<(), NoMemory>
-        ensures { OnOk result ((readings : List Reading) → HasTaken readings self.now →
+        ensures { OnOk result ((readings : List Reading) → HasSurveyed readings self.now →
             text.new.items ≡ text.old.items ++ summary readings) }
     {
         self.counts.push_lines(text)?;

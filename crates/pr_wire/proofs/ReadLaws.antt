@@ -12,13 +12,13 @@ use Rattle.pr_wire.specs.declared.text.TraceFault.TheVariants.{BadLine, NoMemory
 use Rattle.pr_base.specs.Lines.{lines_of}
 use Rattle.pr_wire.specs.LineParts.{part_after, edge_of_part, is_nothing}
 use Rattle.pr_wire.specs.TextSteps.{ended_line_in}
-use Rattle.pr_wire.specs.TraceReading.{EndsText, FaultsIn, HasRead, ReadsMore}
+use Rattle.pr_wire.specs.TraceReading.{EndsText, FaultsIn, HasReadTrace, ReadsMore}
 use Rattle.pr_wire.specs.TraceText.{AreEdgeLines, SaysEdges}
 use Rattle.pr_wire.proofs.TextLaws.{says_behind}
 use Rattle.pr_wire.proofs.ScanLaws.{scanned_none, scanned_byte, scanned_line, scanned_bad, scanned_whole, scanned_ends, scanned_same_lines, says_lines}
 
 -- nothing was read
-pub read_nothing : (r : TraceReader) → r.part ≡ Nothing → r.count ≡ 0 → HasRead [] [] r
+pub read_nothing : (r : TraceReader) → r.part ≡ Nothing → r.count ≡ 0 → HasReadTrace [] [] r
 read_nothing r p c = record { scanned = rw p scanned_none; count = sym c }
 
 -- one byte more of a line
@@ -96,10 +96,10 @@ first_byte (b ∷ bs) d some = refl
 
 -- the same bytes were read
 pub reads_same : (bytes same : List ℕ) (e : Option Edge) (old new : TraceReader) → bytes ≡ same → ReadsMore bytes e old new → ReadsMore same e old new
-reads_same bytes same e old new is h = λ text edges k. let P : List ℕ → Type 0 = λ v. HasRead (text ++ v) (edges ++ option_to_list e) new in subst P is (h text edges k)
+reads_same bytes same e old new is h = λ text edges k. let P : List ℕ → Type 0 = λ v. HasReadTrace (text ++ v) (edges ++ option_to_list e) new in subst P is (h text edges k)
 
 -- the edges given come first, whatever follows
-pub given_first : (text more : List ℕ) (given edges : List Edge) (bad : Option ℕ) (r : TraceReader) → HasRead text given r → SaysEdges (text ++ more) edges bad
+pub given_first : (text more : List ℕ) (given edges : List Edge) (bad : Option ℕ) (r : TraceReader) → HasReadTrace text given r → SaysEdges (text ++ more) edges bad
     → (later : List Edge) × (edges ≡ given ++ later)
 given_first text more given edges bad r h says =
     let s = h.scanned in

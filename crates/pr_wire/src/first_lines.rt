@@ -5,7 +5,7 @@ ghost use Rattle.pr_wire.specs.FirstLines.{AreFirstLines};
 ghost use Rattle.pr_wire.specs.AheadSteps.{answered_edges};
 
 use crate::ahead::ANSWERED_EDGES;
-use crate::front::{Front, read_next};
+use crate::time_prefix::{TimePrefix, read_next};
 use crate::{Edge, Levels};
 
 /// The edges of the first lines of a text, so many, at most those of a frame; and how long these
@@ -16,7 +16,7 @@ pub struct FirstLines {
     pub count: usize,
     pub len: usize,
     /// What the last lines begin with, but for the last three digits of their times.
-    front: Option<Front>,
+    front: Option<TimePrefix>,
 }
 
 impl FirstLines {

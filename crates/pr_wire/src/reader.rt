@@ -2,7 +2,7 @@
 
 ghost use Rattle.std.specs.Prelude.{◌≡◌, ◌≢◌, ◌+◌, ◌^◌, ◌<◌, ◌≤◌, ◌∷◌, [], true, length, take, Some, IfErr, IfOk, OnOk};
 ghost use Rattle.pr_wire.specs.LineParts.{is_nothing};
-ghost use Rattle.pr_wire.specs.TraceReading.{EndsText, FaultsIn, GivenEdgesComeFirst, HasRead, ReadsMore, edge_count};
+ghost use Rattle.pr_wire.specs.TraceReading.{EndsText, FaultsIn, GivenEdgesComeFirst, HasReadTrace, ReadsMore, edge_count};
 
 use crate::Edge;
 use crate::line::read_ended_line;
@@ -21,7 +21,7 @@ pub struct TraceReader {
 impl TraceReader {
     /// Nothing of a text has come. It takes no memory.
     pub fn new() -> TraceReader
-        ensures read { HasRead [] [] result }
+        ensures read { HasReadTrace [] [] result }
         ensures count { edge_count result ≡ 0 }
     {
         TraceReader {

@@ -1,5 +1,5 @@
 use Rattle.std.proofs.Common.{arith, inr, take}
-use Rattle.pr_capture.specs.CsvSteps.{Refuses}
+use Rattle.pr_capture.specs.CsvSteps.{RefusesTable}
 use Rattle.pr_capture.proofs.CsvReading.{faulty-front, front-inner, handed-on, read-front, read-held}
 use Rattle.pr_capture.proofs.csv.CsvReader.take_front.Goals as goal
 
@@ -12,7 +12,7 @@ returns-then-len-block-clause-read c =
 
 pub returns-in_err-sample-clause-refused : goal.returns-in_err-sample-clause-refused
 returns-in_err-sample-clause-refused c =
-    handed-on _ c.in_err-sample.field-0.0 (Refuses c.args.block.now c.args.self.now) c.from_residual-in_err-sample.ensures.1
+    handed-on _ c.in_err-sample.field-0.0 (RefusesTable c.args.block.now c.args.self.now) c.from_residual-in_err-sample.ensures.1
     (inr (faulty-front c.args.self.now c.go_on.new.self c.args.block.now c.line_len-len.result c.in_err-sample.field-0.0 c.line_len-len.ensures.len
     (omega (arith, c.if-len-block.false, c.line_len-len.ensures.within)) c.in_ok-go_on.ensures.read c.in_err-sample.ensures.refused))
 

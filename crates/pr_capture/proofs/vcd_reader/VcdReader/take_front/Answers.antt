@@ -1,5 +1,5 @@
 use Rattle.std.proofs.Common.{arith, take}
-use Rattle.pr_capture.specs.VcdSteps.{Refuses}
+use Rattle.pr_capture.specs.VcdSteps.{RefusesDump}
 use Rattle.pr_capture.proofs.CsvReading.{handed-on}
 use Rattle.pr_capture.proofs.VcdTelling.{faulty-front, front-letters, read-front, read-held, space-behind}
 use Rattle.pr_capture.proofs.vcd_reader.VcdReader.take_front.Goals as goal
@@ -17,7 +17,7 @@ end_word-requires-clause-space c =
 
 pub returns-in_err-sample-clause-refused : goal.returns-in_err-sample-clause-refused
 returns-in_err-sample-clause-refused c =
-    handed-on _ c.in_err-sample.field-0.0 (Refuses c.args.block.now c.args.self.now) c.from_residual-in_err-sample.ensures.1
+    handed-on _ c.in_err-sample.field-0.0 (RefusesDump c.args.block.now c.args.self.now) c.from_residual-in_err-sample.ensures.1
     (faulty-front c.args.self.now c.go_on.new.self c.args.block.now c.word_len-len.result c.in_err-sample.field-0.0
     (omega (arith, c.if-len-block.false, c.word_len-len.ensures.within)) c.in_ok-go_on.ensures.read c.in_err-sample.ensures.refused)
 

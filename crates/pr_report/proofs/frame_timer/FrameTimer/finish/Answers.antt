@@ -1,4 +1,4 @@
-use Rattle.pr_report.proofs.Told.{told-all}
+use Rattle.pr_report.proofs.FramesTimed.{told-all}
 use Rattle.pr_report.proofs.frame_timer.FrameTimer.finish.Goals as goal
 
 pub returns-then-is_none-clause-told : goal.returns-then-is_none-clause-told

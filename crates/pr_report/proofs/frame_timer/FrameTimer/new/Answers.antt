@@ -1,5 +1,5 @@
 use Rattle.std.proofs.Common.{refl}
-use Rattle.pr_report.proofs.Told.{told-none}
+use Rattle.pr_report.proofs.FramesTimed.{told-none}
 use Rattle.pr_report.proofs.frame_timer.FrameTimer.new.Goals as goal
 
 pub returns-clause-told : goal.returns-clause-told

@@ -1,4 +1,4 @@
-use Rattle.pr_report.proofs.Told.{refused-ends, refused-fault, told-more}
+use Rattle.pr_report.proofs.FramesTimed.{refused-ends, refused-fault, told-more}
 use Rattle.pr_report.proofs.frame_timer.FrameTimer.take.Goals as goal
 
 pub returns-clause-told : goal.returns-clause-told

@@ -17,7 +17,7 @@ use Rattle.pr_wire.specs.Table.{fault_of, is_start, verdict}
 use Rattle.pr_report.specs.declared.timed_frame.TimedFrame.{TimedFrame}
 use Rattle.pr_report.specs.declared.frame_timer.FrameTimer.{FrameTimer}
 use Rattle.pr_report.specs.Moments.{if_allowed, look_with, timed_frames, timed_from, with_moments}
-use Rattle.pr_report.specs.Telling.{HasTold, Moves, onward, timed_behind}
+use Rattle.pr_report.specs.FrameTiming.{HasTold, Moves, onward, timed_behind}
 
 -- the first step, by whether the first edge is the start
 abbrev start_step : Bool → Result Step WaveFault

@@ -1,6 +1,6 @@
 use Rattle.std.proofs.Common.{◌<◌, ◌-◌, arith, get_or, ℕ}
 use Rattle.pr_wire.proofs.FrontLaws.{front-of}
-use Rattle.pr_wire.proofs.front.Front.of.Goals as goal
+use Rattle.pr_wire.proofs.time_prefix.TimePrefix.of.Goals as goal
 
 pub invariant_of-result : goal.invariant_of-result
 invariant_of-result c =

@@ -1,7 +1,7 @@
 use Rattle.std.proofs.Common.{◌<◌, ◌^◌, arith, get_or, ℕ}
 use Rattle.std.proofs.lemmas.List.{take_rest}
 use Rattle.pr_wire.proofs.FrontLaws.{front-line}
-use Rattle.pr_wire.proofs.front.Front.read.Goals as goal
+use Rattle.pr_wire.proofs.time_prefix.TimePrefix.read.Goals as goal
 
 pub returns-clause-line : goal.returns-clause-line
 returns-clause-line c =

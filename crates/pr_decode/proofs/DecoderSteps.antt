@@ -8,11 +8,11 @@ use Rattle.pr_decode.specs.declared.reading.IncompleteEnd.{IncompleteEnd}
 use Rattle.pr_decode.specs.declared.reading.Opening.{Opening}
 use Rattle.pr_decode.specs.declared.reading.Reading.TheVariants.{Frame, IncompleteByte}
 use Rattle.pr_decode.specs.declared.reading.Transfer.{Transfer}
-use Rattle.pr_decode.specs.declared.stretch.ClockPhase as declared
-use Rattle.pr_decode.specs.declared.stretch.DataTransitions.{DataTransitions}
+use Rattle.pr_decode.specs.declared.clock_phase.ClockPhase as declared
+use Rattle.pr_decode.specs.declared.clock_phase.DataTransitions.{DataTransitions}
 use Rattle.pr_decode.specs.Readings.{Bit, acknowledgement, bits_from, frame_end, glitch_end, opening_of, reading, readings, transfer, turns_of}
 use Rattle.pr_decode.specs.Steps.{advanced, after, began, begun_behind, moved, opening_in, with_edge}
-use Rattle.pr_decode.specs.Stretches.{ClockPhase, begun, calls, goes_on, longer, stretches_from}
+use Rattle.pr_decode.specs.ClockPhases.{ClockPhase, begun, calls, goes_on, longer, stretches_from}
 use Rattle.pr_decode.specs.Taking.{HasBegun, IsRight, Past, first_low, kept, stretch_in, stretched, to_come, transfer_in, with_more}
 use Rattle.pr_decode.specs.Taking.Past.{Low, Waiting}
 use Rattle.pr_decode.proofs.Adding.{byte-read, call-begins, goes_uncalled, none_come, nothing-begins, opening-released}
@@ -73,16 +73,16 @@ glitch-comes p o bs n l ss end h u c k =
 
 -- the turns and the opening of what is kept of a stretch
 kept-opening : (s : ClockPhase) (last : Edge) → opening_in (stretch_in s last) ≡ opening_of s
-kept-opening s last = ap (λ v. if s.called then None else (if s.first.levels.clock then v else None)) (opened-noted (turns_of s))
+kept-opening s last = ap (λ v. if s.attention then None else (if s.first.levels.clock then v else None)) (opened-noted (turns_of s))
 
 kept-longer : (s : ClockPhase) (last e : Edge) → stretch_in (longer s e) e ≡ with_edge (stretch_in s last) e
 kept-longer s last e =
-    let make : DataTransitions → declared.ClockPhase = λ t. record { called = s.called; first = s.first; last = e; turns = t } in
+    let make : DataTransitions → declared.ClockPhase = λ t. record { attention = s.attention; first = s.first; last = e; turns = t } in
     ap make (turns-longer s e)
 
 pub kept-begun : (c : Bool) (e : Edge) → stretch_in (begun c e) e ≡ began c e
 kept-begun c e =
-    let make : DataTransitions → declared.ClockPhase = λ t. record { called = c; first = e; last = e; turns = t } in
+    let make : DataTransitions → declared.ClockPhase = λ t. record { attention = c; first = e; last = e; turns = t } in
     ap make (turns-begun c e)
 
 -- what an edge leads to
@@ -136,7 +136,7 @@ off-called s last e es c h k = stretches-off s last e es h ∙ ap (λ v. s ∷ s
 pub skips-call : (s : ClockPhase) (e : Edge) (es : List Edge) → readings 0 (s ∷ stretches_from (begun true e) e es) ≡ readings 0 (stretches_from (begun true e) e es)
 skips-call s e es =
     let k = head-of (begun true e) e es in
-    let h : ClockPhase = record { called = true; first = e; rest = [] ++ k.more } in
+    let h : ClockPhase = record { attention = true; first = e; rest = [] ++ k.more } in
     ap (λ x. readings 0 (s ∷ x)) k.is ∙ (call-begins s h k.behind refl ∙ ap (readings 0) (sym k.is))
 
 -- nothing has begun

@@ -2,7 +2,7 @@
 
 ghost use Rattle.std.specs.Prelude.{◌≡◌, not};
 ghost use Rattle.pr_decode.specs.Readings.{is_late};
-ghost use Rattle.pr_decode.specs.Stretches.{calls, goes_on};
+ghost use Rattle.pr_decode.specs.ClockPhases.{calls, goes_on};
 ghost use Rattle.pr_decode.specs.Steps.{acknowledged_in, began, opening_in, turned, with_edge};
 
 use crate::reading::{Opening, Pulse};
@@ -45,7 +45,7 @@ impl DataTransitions {
 #[derive(Clone, Copy, Debug, PartialEq, Eq)]
 pub struct ClockPhase {
     /// Whether its first edge pulls ATN.
-    pub called: bool,
+    pub attention: bool,
     /// Its first edge.
     pub first: Edge,
     /// The edge taken last.
@@ -69,13 +69,13 @@ pub(crate) fn is_late(since: u64, edge: Edge) -> bool
 
 impl ClockPhase {
     /// A stretch that begins with this edge, which pulls ATN or does not.
-    pub(crate) fn begun(called: bool, edge: Edge) -> ClockPhase
-        ensures { result ≡ began called edge }
+    pub(crate) fn begun(attention: bool, edge: Edge) -> ClockPhase
+        ensures { result ≡ began attention edge }
     {
         let mut turns = DataTransitions::Still;
         turns.push(!edge.levels.clock, edge);
         ClockPhase {
-            called,
+            attention,
             first: edge,
             last: edge,
             turns,
@@ -84,10 +84,10 @@ impl ClockPhase {
 
     /// The stretch is over, and one begins with this edge.
     #[inline(always)]
-    pub(crate) fn begin(&mut self, called: bool, edge: Edge)
-        ensures { self.new ≡ began called edge }
+    pub(crate) fn begin(&mut self, attention: bool, edge: Edge)
+        ensures { self.new ≡ began attention edge }
     {
-        self.called = called;
+        self.attention = attention;
         self.first = edge;
         self.last = edge;
         self.turns = DataTransitions::Still;
@@ -115,7 +115,7 @@ impl ClockPhase {
     pub(crate) fn opening(&self) -> Option<Opening>
         ensures { result ≡ opening_in self.now }
     {
-        if self.called || !self.first.levels.clock {
+        if self.attention || !self.first.levels.clock {
             return None;
         }
         let (look, ready, pulse) = match self.turns {
@@ -132,8 +132,8 @@ impl ClockPhase {
         };
         Some(Opening {
             command: !ready.levels.atn,
-            look: look.time,
-            ready: ready.time,
+            ready_to_send: look.time,
+            ready_for_data: ready.time,
             pulse,
         })
     }

@@ -2,7 +2,7 @@
 
 ghost use Rattle.std.specs.Prelude.{◌≡◌, ◌⊎◌, ℕ, ◌∷◌, [], None, IfErr, IfOk};
 ghost use Rattle.pr_capture.specs.declared.fault.CaptureFault.TheVariants.{NoMemory};
-ghost use Rattle.pr_capture.specs.declared.progress.Phase.TheVariants.{Between, InSection};
+ghost use Rattle.pr_capture.specs.declared.vcd_parser.Phase.TheVariants.{Between, InSection};
 ghost use Rattle.pr_capture.specs.VcdPieces.{with_word};
 ghost use Rattle.pr_capture.specs.VcdReading.{no_codes};
 ghost use Rattle.pr_capture.specs.VcdReading.Place.{Header};
@@ -33,7 +33,7 @@ pub enum Phase {
 
 /// How far a dump has come, by whole words.
 #[derive(Drop)]
-pub struct Progress {
+pub struct VcdParser {
     alloc: Global,
     phase: Phase,
     /// The words of the section that has begun, as far as they are looked at.
@@ -41,9 +41,9 @@ pub struct Progress {
     known: Known,
 }
 
-impl Progress {
+impl VcdParser {
     /// No word has come. It takes no memory.
-    pub fn new(alloc: Global) -> Progress
+    pub fn new(alloc: Global) -> VcdParser
         ensures begun { begun_of result ≡ Nothing }
         ensures place { place_of result.known ≡ Header None no_codes }
     {
@@ -53,7 +53,7 @@ impl Progress {
             second: None,
             line: None,
         };
-        Progress {
+        VcdParser {
             alloc,
             phase: Phase::Between,
             inside: Vec::new(alloc),

@@ -21,7 +21,7 @@ const TAIL_LEN: usize = 8;
 
 /// What the lines have in common whose times share all digits but the last three.
 #[derive(Clone, Copy)]
-pub struct Front {
+pub struct TimePrefix {
     /// How many digits these are.
     len: usize,
     /// The first four of them.
@@ -42,9 +42,9 @@ fn word(text: &[u8], at: usize) -> u32
     u32::from_le_bytes([text[at], text[at + 1], text[at + 2], text[at + 3]])
 }
 
-impl Front {
+impl TimePrefix {
     /// The front of a line that was read, if it has one.
-    fn of(text: &[u8], line: EdgeLine) -> Option<Front>
+    fn of(text: &[u8], line: EdgeLine) -> Option<TimePrefix>
         requires { ended_line_in text.now ≡ Some line }
     {
         if line.len < LEAST + TAIL_LEN || line.len > MOST + TAIL_LEN {
@@ -54,7 +54,7 @@ impl Front {
         if text.len() < len {
             return None;
         }
-        Some(Front {
+        Some(TimePrefix {
             len,
             first: word(text, 0),
             last: word(text, len - LEAST),
@@ -91,7 +91,7 @@ impl Front {
 /// The edge of the first line, if the line spells one and ends with byte 10 alone: at once where it
 /// begins with the front of an earlier line, which is kept.
 #[inline(always)]
-pub fn read_next(front: &mut Option<Front>, text: &[u8]) -> Option<EdgeLine>
+pub fn read_next(front: &mut Option<TimePrefix>, text: &[u8]) -> Option<EdgeLine>
     ensures line { result ≡ ended_line_in text.now }
     ensures some { IfSome result (λ line. 0 < line.len) }
     ensures within { IfSome result (λ line. line.len ≤ length text.now) }
@@ -103,6 +103,6 @@ pub fn read_next(front: &mut Option<Front>, text: &[u8]) -> Option<EdgeLine>
         }
     }
     let line = read_ended_line(text)?;
-    *front = Front::of(text, line);
+    *front = TimePrefix::of(text, line);
     Some(line)
 }

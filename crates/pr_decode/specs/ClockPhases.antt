@@ -6,7 +6,7 @@ use Rattle.pr_wire.specs.Table.{same}
 
 -- a stretch: whether its first edge pulls ATN, its first edge, and the further ones
 pub record ClockPhase : Type 0 where
-  pub called : Bool
+  pub attention : Bool
   pub first : Edge
   pub rest : List Edge
 
@@ -23,8 +23,8 @@ abbrev pub goes_on : (first last : Edge) → Edge → Bool
 goes_on first last e = same e.levels.clock first.levels.clock && not (calls last e)
 
 -- a stretch begins with an edge, and has one edge more
-abbrev pub begun : (called : Bool) → Edge → ClockPhase
-begun called e = record { called = called; first = e; rest = [] }
+abbrev pub begun : (attention : Bool) → Edge → ClockPhase
+begun attention e = record { attention = attention; first = e; rest = [] }
 
 abbrev pub longer : ClockPhase → Edge → ClockPhase
 longer s e = record s { rest = s.rest ++ e ∷ [] }
