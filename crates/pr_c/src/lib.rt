@@ -1,6 +1,13 @@
 //! The library for C: memory in, memory out, no pointer kept.
 //!
 //! The caller owns every buffer. Each slice is a pointer and then a length.
+//!
+//! - `exports` has the calls of the header, in plain numbers: no enum, bool or returned pointer crosses.
+//!   `settings` gives the numbers their meaning.
+//! - `calls` calls pr_cli with a slice as the reader and a `Vec` as the writer, and copies the text out.
+//!   `told` is what a call found, as values and as the numbers of the header.
+//! - `printing` gives a printer its inputs and takes the text of its page. `stops` runs a script that
+//!   stopped once more, and finds its error.
 #![tactic(auto)]
 
 mod calls;

@@ -1,5 +1,18 @@
 //! Traces of the serial bus in the formats of other tools: Value Change Dumps, and tables of comma
 //! separated values.
+//!
+//! - `format` names the formats, `signals` the wires' names and levels, `fault` why a recording cannot be
+//!   read.
+//! - `vcd` writes a Value Change Dump. [`VcdWriter`] keeps the last edge alone.
+//! - `csv` reads a table that comes in blocks, line by line. [`CsvReader`] keeps the line that has begun.
+//! - `vcd_reader` reads a dump that comes in blocks, word by word. [`VcdReader`] keeps the letters of the
+//!   word that has begun, `vcd_parser` the words of the section or value that has begun (at most four),
+//!   `known` what was said so far: the timescale and the codes, then time and levels. `entries` says what
+//!   a word is, `header` what a section says, `changes` what a time stamp and a level say.
+//! - `edge_detector` makes edges of samples, one by one and without memory.
+//!
+//! The contracts of the readers speak of whatever text may still come (`contents_left`), so a loop over
+//! blocks needs one relation. What is written is read back: [`vcd_is_read_back`].
 #![tactic(auto)]
 
 mod changes;

@@ -29,7 +29,7 @@ turns level (e ∷ es) = if same e.levels.line level then e ∷ turns (not level
 abbrev pub turns_of : ClockPhase → List Edge
 turns_of s = turns (not s.first.levels.clock) (edges_in s)
 
--- an opening: DATA is pulled (the look), and released (ready); perhaps pulled and released again (end-or-identify)
+-- an opening: DATA is pulled (ready to send), and released (ready for data); perhaps pulled and released again (end-or-identify)
 abbrev pub opening : List Edge → Option Opening
 opening (l ∷ r ∷ p ∷ f ∷ es) = Some (record {
   command = not r.levels.atn;

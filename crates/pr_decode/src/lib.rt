@@ -3,6 +3,17 @@
 //! The headline is on [`Decoder`]: of any edges it gives exactly the readings that
 //! `specs/Readings.antt` defines: each byte with its moments, and where a byte was begun and not
 //! ended. No recording is refused; only a time may not go back.
+//!
+//! - `reading` has the types of what a recording says of its bytes.
+//! - `clock_phase` is the time in which CLOCK stays as it is, by its first edge, its last and the changes
+//!   of DATA in it, four at most. `decoder` keeps the phase that has not ended and the byte that has begun.
+//! - `laws` has the laws of the definitions.
+//!
+//! `specs/ClockPhases.antt` and `specs/Readings.antt` define the readings over whole phases,
+//! `specs/PieceReadings.antt` what that is on lawful traces. A decoder keeps no history (`HasReadings`):
+//! an edge that settles a byte is taken as if no byte had begun (`proofs/Moving.antt`), each other edge is
+//! one step (`proofs/DecoderSteps.antt`). `proofs/FrameRead.antt` and `PiecesRead.antt` go over the pieces
+//! of lawful traces by the same two.
 #![tactic(auto)]
 
 mod decoder;

@@ -20,11 +20,11 @@ pub struct Pulse {
 pub struct Opening {
     /// ATN is pulled when DATA is released: a command. Else a data byte.
     pub command: bool,
-    /// The look: CLOCK is released and DATA is pulled.
+    /// Ready to send: CLOCK is released while DATA is pulled.
     pub ready_to_send: u64,
-    /// DATA is released: all listeners are ready.
+    /// Ready for data: DATA is released, by the last of the listeners.
     pub ready_for_data: u64,
-    /// The first pulse of DATA behind that: end-or-identify.
+    /// The first pulse of DATA after that: end-or-identify.
     pub pulse: Option<Pulse>,
 }
 

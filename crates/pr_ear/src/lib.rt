@@ -3,6 +3,14 @@
 //! [`print1525_hear`] takes a whole trace. An [`Ear`] takes it edge by edge as it comes, and lies in
 //! the caller's memory between two edges; the headline is on [`print1525_ear_edge`]. Nothing here
 //! takes memory, and no pointer is kept. Each slice is a pointer and then a length.
+//!
+//! - This file goes over a list of edges twice: once to count what is heard, so that a buffer that is too
+//!   small stays as it was, and once to put it there.
+//! - `ear` takes edge by edge. Between two calls a receiver's state lies in the numbers of `numbers`, since
+//!   no enum crosses to C; `standing` stores and restores it, and `fits` says which numbers are a state.
+//! - `decoding` is the same for a decoder of recordings, with `decoder_numbers` and `decoder_fits`.
+//!
+//! `make lib` puts this crate and pr_c into one archive: docs/C.md.
 #![tactic(auto)]
 
 ghost use Rattle.std.specs.Prelude.{true, ◌↔◌, ◌≡◌, ◌≢◌, ◌≤◌, ◌<◌, ◌+◌, ◌^◌, length, map, Some, IfOk, IfErr};

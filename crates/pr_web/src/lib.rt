@@ -2,6 +2,13 @@
 //! trace or a recording is refused. Memory in, memory out, no pointer kept.
 //!
 //! The page owns every buffer. Each slice is a pointer and then a length.
+//!
+//! - `recordings` and `explanations` have the calls, made as those of pr_c: a slice as the reader, a `Vec`
+//!   as the writer, and the text copied to the front of the buffer (`answer`). A recording that cannot be
+//!   read to its end answers its fault, and the text of what comes before it too.
+//! - `settings` gives the numbers their meaning.
+//!
+//! `web/module` puts this crate and pr_c into one WebAssembly module: web/README.md.
 #![tactic(auto)]
 
 mod answer;
