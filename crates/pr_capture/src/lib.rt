@@ -24,9 +24,9 @@ mod format;
 mod header;
 mod known;
 mod laws;
-mod vcd_parser;
 mod signals;
 mod vcd;
+mod vcd_parser;
 mod vcd_reader;
 
 pub use csv::CsvReader;

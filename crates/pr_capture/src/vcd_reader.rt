@@ -8,8 +8,8 @@ ghost use Rattle.pr_capture.specs.VcdReadingLaws.{VcdIsReadBack};
 ghost use Rattle.pr_capture.specs.VcdSteps.{is_letter, line_number, word_begun, EndsText, HasReadDump, HoldsMore, MayEnd, ReadsMore, ReadsWords, RefusesDump};
 
 use crate::fault::CaptureFault;
-use crate::vcd_parser::VcdParser;
 use crate::signals::Signals;
+use crate::vcd_parser::VcdParser;
 use pr_wire::Edge;
 use std::alloc::Global;
 

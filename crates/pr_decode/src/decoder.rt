@@ -9,8 +9,8 @@ ghost use Rattle.pr_decode.specs.Readings.{readings_of, settled_of};
 ghost use Rattle.pr_decode.specs.Steps.{after, after_edge, ended_as, ended_by, frame_ended, high_ended, low_ended, moved};
 ghost use Rattle.pr_decode.specs.Taking.{HasReadings, IsBefore, last_time};
 
-use crate::reading::{FrameEnd, IncompleteEnd, Reading, Transfer};
 use crate::clock_phase::{ClockPhase, calls, is_late};
+use crate::reading::{FrameEnd, IncompleteEnd, Reading, Transfer};
 use pr_wire::Edge;
 use thiserror::Error;
 

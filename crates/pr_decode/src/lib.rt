@@ -16,12 +16,12 @@
 //! of lawful traces by the same two.
 #![tactic(auto)]
 
+mod clock_phase;
 mod decoder;
 mod laws;
 mod reading;
-mod clock_phase;
 
+pub use clock_phase::{ClockPhase, DataTransitions};
 pub use decoder::{Decoder, GoesBack};
 pub use laws::{moments_decide, readings_add_up, traces_are_read};
 pub use reading::{FrameEnd, Halves, IncompleteEnd, Opening, Pulse, Reading, Transfer};
-pub use clock_phase::{ClockPhase, DataTransitions};

@@ -205,7 +205,11 @@ impl Interval {
     {
         let byte = transfer_of(reading);
         match self {
-            Interval::Ready => Some(byte.opening.ready_for_data.saturating_sub(byte.opening.ready_to_send)),
+            Interval::Ready => Some(
+                byte.opening
+                    .ready_for_data
+                    .saturating_sub(byte.opening.ready_to_send),
+            ),
             Interval::FirstPull => first_pull(byte),
             Interval::Answer => answer(byte),
             Interval::AnswerLength => answer_length(byte),
