@@ -44,7 +44,7 @@ pub gives-next : AllowedIsReached → (device : ℕ) (edges : List Edge) (n : �
 gives-next allowed device edges n r new inputs kept d input g h a t f v c k =
     let m : take (n + 1) edges ≡ take n edges ++ get_or edges n d ∷ [] = take-next edges n d h in
     let x : HasReceived (take n edges ++ get_or edges n d ∷ []) new = t (take n edges) g.taken in
-    let o : IsAnswer (Ok input) (Ok (input_at (device_of r) (take n edges) (get_or edges n d))) = a (take n edges) g.taken g.refusal ((allowed (take n edges ++ get_or edges n d ∷ [])).1 (x.come, x.leads)) in
+    let o : IsAnswer (Ok input) (Ok (input_at (device_of r) (take n edges) (get_or edges n d))) = a (take n edges) g.taken g.refusal ((allowed (take n edges ++ get_or edges n d ∷ [])).1 (_, x.accepted)) in
     let i : input ≡ input_at (device_of r) (take n edges) (get_or edges n d) = cc in
     record {
       taken = rw m x;

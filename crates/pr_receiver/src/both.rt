@@ -1,6 +1,6 @@
 //! Two receivers that take the edges of a frame at once.
 
-ghost use Rattle.std.specs.Prelude.{◌≡◌, ◌^◌, ◌+◌, ◌<◌, ◌≤◌, false, length};
+ghost use Rattle.std.specs.Prelude.{◌^◌, ◌+◌, ◌<◌, ◌≤◌, length};
 ghost use Rattle.pr_receiver.specs.Steps.{IsSound, MayPass};
 
 use crate::state::Progress;
@@ -18,20 +18,12 @@ pub struct PassedBoth {
     pub other: Option<Input>,
 }
 
-/// Whether an edge is not the same as another.
-#[inline(always)]
-fn differ(edge: Edge, other: Edge) -> bool
-    ensures { result ≡ false → other ≡ edge }
-{
-    edge != other
-}
-
 impl Progress {
-    /// Takes the edges of a frame at once, where this place and the other's find them next.
+    /// Takes the edges of a frame at once, where this state and the other's find them next.
     #[inline(always)]
     pub fn pass_frame_with(&mut self, other: &mut Progress, edges: &[Edge]) -> PassedBoth
-        requires room { self.old.taken + length edges.now < 2 ^ 64 }
-        requires other_room { other.old.taken + length edges.now < 2 ^ 64 }
+        requires room { self.old.follower.taken + length edges.now < 2 ^ 64 }
+        requires other_room { other.old.follower.taken + length edges.now < 2 ^ 64 }
         requires sound { IsSound self.old }
         requires other_sound { IsSound other.old }
         ensures within { result.count ≤ length edges.now }
@@ -40,29 +32,20 @@ impl Progress {
         ensures sound { IsSound self.new }
         ensures other_sound { IsSound other.new }
     {
-        let none = PassedBoth {
-            count: 0,
-            input: None,
-            other: None,
+        let Some(whole) = self
+            .follower
+            .pass_frame_with(&mut other.follower, edges)
+        else {
+            return PassedBoth {
+                count: 0,
+                input: None,
+                other: None,
+            };
         };
-        let (None, Some(last)) = (self.refused, self.last) else {
-            return none;
-        };
-        let (None, Some(beside)) = (other.refused, other.last) else {
-            return none;
-        };
-        if differ(last, beside) {
-            return none;
-        }
-        let Some(whole) = self.place.pass_frame_with(&mut other.place, last, edges) else {
-            return none;
-        };
-        let (frame, count) = (whole.frame, whole.len);
-        let end = edges[count - 1];
         PassedBoth {
-            count,
-            input: self.take_frame(end, count, frame),
-            other: other.take_frame(end, count, frame),
+            count: whole.len,
+            input: self.hear(Some(whole.frame)),
+            other: other.hear(Some(whole.frame)),
         }
     }
 }

@@ -172,3 +172,7 @@ takes-frame f new p last edges n frame some within works l passes sooner is = rw
   last = refl;
   stays = works;
 })
+
+-- the edges given are those accepted, where no fault is kept
+pub followed-kept : (edges : List Edge) (frames : List Frame) (f : TraceFollower) → kept_fault f ≡ None → HasFollowed edges frames f → HasAccepted edges frames f
+followed-kept edges frames f k h = h ∙ ap (λ o. outcome o (where_led f frames)) k

@@ -7,15 +7,12 @@ use Rattle.pr_wire.specs.declared.Edge.{Edge}
 use Rattle.pr_wire.specs.declared.Frame.{Frame}
 use Rattle.pr_wire.specs.declared.line.EdgeLine.{EdgeLine}
 use Rattle.pr_wire.specs.declared.first_lines.FirstLines.{FirstLines}
-use Rattle.pr_wire.specs.declared.bus_state.BusState.{BusState}
 use Rattle.pr_wire.specs.declared.line_part.LinePart.{LinePart}
-use Rattle.pr_wire.specs.declared.checker.Verdict.{Verdict}
-use Rattle.pr_wire.specs.declared.checker.Verdict.TheVariants.{Allowed}
-use Rattle.pr_wire.specs.Ahead.{PassesFrame, last_of}
-use Rattle.pr_wire.specs.Checked.{IsTaken, led_to}
+use Rattle.pr_wire.specs.Following.{TakesFrame}
+use Rattle.pr_wire.specs.Checked.{IsTaken}
 use Rattle.pr_wire.specs.FirstLines.{AreFirstLines}
 use Rattle.pr_wire.specs.LineParts.{is_nothing}
-use Rattle.pr_wire.specs.Reached.{begin, reached, led}
+use Rattle.pr_wire.specs.declared.follower.TraceFollower.{TraceFollower}
 use Rattle.pr_wire.specs.Checking.{with_frame}
 use Rattle.pr_wire.specs.TextSteps.{ended_line_in}
 use Rattle.pr_wire.specs.TraceText.{AreEdgeLines}
@@ -23,9 +20,8 @@ use Rattle.pr_base.specs.Lines.{lines_of}
 use Rattle.pr_wire.proofs.ScanLaws.{nothing_is}
 use Rattle.pr_wire.proofs.LineLaws.{ended_line-is}
 use Rattle.pr_wire.proofs.PartLaws.{nothing_empty}
-use Rattle.pr_wire.proofs.Reached.{with_frame-reverse}
+use Rattle.pr_wire.proofs.Following.{accepted-followed, followed-accepted}
 use Rattle.pr_wire.proofs.TextLaws.{one_line_more}
-use Rattle.pr_wire.proofs.WholeFrames.{reached-both}
 
 -- lines and lines spell edges and edges
 both_lines : (ls ms : List (List ℕ)) (es fs : List Edge) → AreEdgeLines ls es → AreEdgeLines ms fs → AreEdgeLines (ls ++ ms) (es ++ fs)
@@ -55,32 +51,27 @@ more_lines text f g l n k e c len h =
     }
 
 -- the lines of a whole frame come
-pub taken_frame : (text rest : List ℕ) (frames : List Frame) (part q : LinePart) (count n : ℕ) (last : Edge) (old new : BusState) (f : FirstLines) (frame : Frame) (v : Verdict)
-    → is_nothing part ≡ true → q ≡ part → AreFirstLines rest f → f.count ≤ 22 → n ≡ count + f.count → PassesFrame last old f.edges f.count new frame
-    → v ≡ Allowed (last_of f.edges f.count) new
-    → IsTaken false text frames part count (Allowed last old) → IsTaken false (text ++ take f.len rest) (with_frame frames (Some frame)) q n v
-taken_frame text rest frames part q count n last old new f frame v p e a few m g is h =
+pub taken_frame : (text rest : List ℕ) (frames : List Frame) (part q : LinePart) (count n : ℕ) (lines : FirstLines) (frame : Frame) (f g : TraceFollower)
+    → is_nothing part ≡ true → q ≡ part → AreFirstLines rest lines → lines.count ≤ 22 → n ≡ count + lines.count → TakesFrame f lines.edges lines.count frame g
+    → IsTaken false text frames part count f → IsTaken false (text ++ take lines.len rest) (with_frame frames (Some frame)) q n g
+taken_frame text rest frames part q count n lines frame f g p e a few m t h =
     let s = h.scanned in
-    let es = take f.count f.edges in
-    let room : f.count ≤ length f.edges = omega (arith, a.room, few) in
+    let es = take lines.count lines.edges in
+    let room : lines.count ≤ length lines.edges = omega (arith, a.room, few) in
     let none : s.line ≡ [] = nothing_empty s.line (ap is_nothing (sym s.part_is) ∙ p) in
-    rw (e, m, is) (record {
+    rw (e, m) (record {
       edges = h.edges ++ es;
       scanned = record {
         good = s.good ++ a.good;
         line = [];
-        lines = λ more. ap lines_of (append_assoc text (take f.len rest) more)
-            ∙ (s.lines (take f.len rest ++ more)
-            ∙ (ap (λ bs. s.good ++ lines_of (bs ++ (take f.len rest ++ more))) none
+        lines = λ more. ap lines_of (append_assoc text (take lines.len rest) more)
+            ∙ (s.lines (take lines.len rest ++ more)
+            ∙ (ap (λ bs. s.good ++ lines_of (bs ++ (take lines.len rest ++ more))) none
             ∙ (ap (λ ls. s.good ++ ls) (a.lines more) ∙ sym (append_assoc s.good a.good (lines_of more)))));
         are_edges = both_lines s.good a.good h.edges es s.are_edges a.are_edges;
         inner = refl;
         part_is = nothing_is part p;
       };
-      count_is = length-append h.edges es ∙ (ap (λ k. k + length es) h.count_is ∙ ap (λ k. count + k) (length-take-le f.count f.edges room));
-      leads =
-          reached-both h.edges es begin
-          ∙ (ap (λ x. led (λ r. reached r es) x) h.leads
-          ∙ (g (reverse frames) count
-          ∙ ap (λ b. led_to (Allowed (last_of f.edges f.count) new) b (count + f.count)) (sym (with_frame-reverse frames (Some frame)))));
+      count_is = length-append h.edges es ∙ (ap (λ k. k + length es) h.count_is ∙ ap (λ k. count + k) (length-take-le lines.count lines.edges room));
+      followed = accepted-followed (h.edges ++ es) (frames ++ frame ∷ []) g t.stays (t.accepted h.edges frames (followed-accepted h.edges frames f t.works h.followed));
     })

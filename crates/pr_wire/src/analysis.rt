@@ -6,7 +6,7 @@ ghost use Rattle.pr_wire.specs.Laws.{LawfulIsFaultless, SpellsOnce, SpellsTheFra
 ghost use Rattle.pr_wire.specs.Table.{fault_of};
 ghost use Rattle.pr_wire.specs.Checking.{with_frame};
 
-use crate::bus_state::BusState;
+use crate::follower::TraceFollower;
 use crate::{Edge, Frame, WaveFault};
 use std::alloc::Global;
 
@@ -23,30 +23,14 @@ pub fn analyse(alloc: Global, edges: &[Edge]) -> Result<Vec<Frame>, WaveFault>
     ensures fault { IfErr result (λ fault. fault ≢ WaveFault.NoMemory → fault_of edges.now ≡ Some fault) }
     ensures not_lawful { IfErr result (λ fault. fault ≢ WaveFault.NoMemory → IsLawful edges.now → ⊥) }
 {
-    let Some(first) = edges.first() else {
-        return Err(WaveFault::Start(0));
-    };
-    if !first.is_start() {
-        return Err(WaveFault::Start(0));
-    }
+    let mut follower = TraceFollower::new();
     let mut frames = Vec::new(alloc);
-    let mut last = *first;
-    let mut place = BusState::Idle(0);
-    for i in 1..edges.len() {
-        let edge = edges[i];
-        let step = match place.after(last, edge) {
-            Ok(step) => step,
-            Err(flaw) => return Err(flaw.at(i)),
-        };
-        keep(&mut frames, step.frame)?;
-        last = edge;
-        place = step.place;
+    for edge in edges {
+        let frame = follower.take(*edge)?;
+        keep(&mut frames, frame)?;
     }
-    if place.may_end() {
-        Ok(frames)
-    } else {
-        Err(WaveFault::Truncated(edges.len()))
-    }
+    follower.finish()?;
+    Ok(frames)
 }
 
 /// Adds the frame that an edge ends, if it ends one.

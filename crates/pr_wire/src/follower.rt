@@ -159,7 +159,7 @@ impl TraceFollower {
     #[inline(always)]
     pub(crate) fn pass_edges(&mut self, edges: &[Edge], len: usize) -> Option<Frame>
         requires enough { len ≤ length edges.now }
-        requires room { self.old.taken + length edges.now < 2 ^ 64 }
+        requires room { self.old.taken + len < 2 ^ 64 }
         ensures takes { IfSome result (λ frame. TakesFrame self.old edges.now len frame self.new) }
         ensures stays { IsNone result → self.new ≡ self.old }
     {
@@ -222,11 +222,10 @@ impl TraceFollower {
     /// The first fault of the edges given, if they have one whatever follows.
     pub fn fault(&self) -> Option<WaveFault>
         ensures value { result ≡ kept_fault self.now }
+        ensures memory { IfSome result (λ fault. fault ≢ NoMemory) }
     {
-        match self.refused {
-            Some(refusal) => Some(refusal.at(self.taken)),
-            None => None,
-        }
+        let refusal = self.refused?;
+        Some(refusal.at(self.taken))
     }
 
     /// Whether the edges given are a lawful trace; it then spells the frames given. It takes no
@@ -243,8 +242,8 @@ impl TraceFollower {
         ensures for_good { IfSome (kept_fault self.now) (λ fault. result ≡ Err fault) }
         ensures memory { IfErr result (λ fault. fault ≢ NoMemory) }
     {
-        if let Some(refusal) = self.refused {
-            return Err(refusal.at(self.taken));
+        if let Some(fault) = self.fault() {
+            return Err(fault);
         }
         let Some(_) = self.last else {
             return Err(WaveFault::Start(0));

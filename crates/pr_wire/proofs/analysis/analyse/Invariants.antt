@@ -1,6 +1,6 @@
-use Rattle.pr_wire.proofs.Reached.{HasCome}
+use Rattle.pr_wire.proofs.WholeLists.{IsAnalysed}
 use Rattle.pr_wire.proofs.analysis.analyse.Given as goal
 
--- all edges lead where those that are left lead from here
-abbrev pub invariant-loop-i : goal.invariant-loop-i
-invariant-loop-i l = HasCome l.edges l.i l.last l.place l.frames.items
+-- the edges so far were given to the follower, and end the frames
+abbrev pub invariant-loop-edge : goal.invariant-loop-edge
+invariant-loop-edge l = IsAnalysed l.edges l.edge-index l.frames.items l.follower
