@@ -16,4 +16,4 @@ returns-in_err-frame-clause-not_lawful c =
 pub returns-in_err-finish-clause-not_lawful : goal.returns-in_err-finish-clause-not_lawful
 returns-in_err-finish-clause-not_lawful c =
     handed_on _ c.in_err-finish.field-0.0 _ c.from_residual-in_err-finish.ensures.1
-    (λ n. faulty c.args.edges.now _ (sym (c.in_err-finish.ensures.fault c.args.edges.now _ (analysed-all c.args.edges.now _ _ c.loop-edge.follower c.loop-edge-test.false c.loop-edge.invariant))))
+    (λ n. faulty c.args.edges.now _ (sym (c.in_err-finish.ensures.fault c.args.edges.now c.loop-edge.frames.items (analysed-all c.args.edges.now _ _ c.loop-edge.follower c.loop-edge-test.false c.loop-edge.invariant))))
