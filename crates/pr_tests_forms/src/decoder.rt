@@ -346,8 +346,8 @@ fn transfer(row: Row) -> Transfer {
     Transfer {
         opening: Opening {
             command,
-            look,
-            ready,
+            ready_to_send: look,
+            ready_for_data: ready,
             pulse,
         },
         pull,

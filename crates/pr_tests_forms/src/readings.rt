@@ -8,8 +8,8 @@ use std::process::Abort;
 /// bounds.
 const OPENING: Opening = Opening {
     command: false,
-    look: 1100,
-    ready: 1150,
+    ready_to_send: 1100,
+    ready_for_data: 1150,
     pulse: None,
 };
 
@@ -329,7 +329,7 @@ const LATE: Transfer = Transfer {
 pub const SLOW: Reading = Reading::Frame(
     Transfer {
         opening: Opening {
-            ready: 25410,
+            ready_for_data: 25410,
             ..OF_COMMAND
         },
         pull: 25450,
@@ -350,7 +350,7 @@ const LISTENERS: [Row; 3] = [
         Reading::Frame(
             Transfer {
                 opening: Opening {
-                    ready: 11100,
+                    ready_for_data: 11100,
                     ..OF_COMMAND
                 },
                 pull: 11140,
@@ -365,7 +365,7 @@ const LISTENERS: [Row; 3] = [
         Reading::Frame(
             Transfer {
                 opening: Opening {
-                    ready: 1100,
+                    ready_for_data: 1100,
                     ..OF_COMMAND
                 },
                 pull: 1140,

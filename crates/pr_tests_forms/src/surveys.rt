@@ -9,8 +9,8 @@ use std::process::Abort;
 /// A data byte's opening with the look at 1000, ready 50 microseconds behind it.
 const OPENING: Opening = Opening {
     command: false,
-    look: 1000,
-    ready: 1050,
+    ready_to_send: 1000,
+    ready_for_data: 1050,
     pulse: None,
 };
 
@@ -44,7 +44,7 @@ const BYTE: Transfer = Transfer {
 /// A command that is ready 24310 microseconds behind the look.
 const COMMAND: Transfer = Transfer {
     opening: Opening {
-        ready: 25310,
+        ready_for_data: 25310,
         ..OF_COMMAND
     },
     pull: 25350,
@@ -62,7 +62,7 @@ const COMMAND: Transfer = Transfer {
 /// A data byte that is ready at the look.
 const FIRST: Transfer = Transfer {
     opening: Opening {
-        ready: 1000,
+        ready_for_data: 1000,
         ..OPENING
     },
     pull: 1040,
@@ -80,7 +80,7 @@ const FIRST: Transfer = Transfer {
 /// A data byte that is ready 10001 microseconds behind the look.
 const SECOND: Transfer = Transfer {
     opening: Opening {
-        ready: 11001,
+        ready_for_data: 11001,
         ..OPENING
     },
     pull: 11041,
@@ -140,7 +140,7 @@ const NONE: Halves = Halves {
 const BEGUN: Reading = Reading::IncompleteByte(
     Transfer {
         opening: Opening {
-            ready: 1060,
+            ready_for_data: 1060,
             ..OPENING
         },
         pull: 1100,
@@ -157,7 +157,7 @@ const BEGUN: Reading = Reading::IncompleteByte(
 const READY_AT_20000: Reading = Reading::Frame(
     Transfer {
         opening: Opening {
-            ready: 21000,
+            ready_for_data: 21000,
             ..OF_COMMAND
         },
         pull: 21040,
@@ -169,7 +169,7 @@ const READY_AT_20000: Reading = Reading::Frame(
 const READY_AT_16383: Reading = Reading::Frame(
     Transfer {
         opening: Opening {
-            ready: 17383,
+            ready_for_data: 17383,
             ..OF_COMMAND
         },
         pull: 17423,
@@ -181,7 +181,7 @@ const READY_AT_16383: Reading = Reading::Frame(
 const READY_AT_16384: Reading = Reading::Frame(
     Transfer {
         opening: Opening {
-            ready: 17384,
+            ready_for_data: 17384,
             ..OF_COMMAND
         },
         pull: 17424,

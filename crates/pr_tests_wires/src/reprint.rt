@@ -43,8 +43,8 @@ fn byte(command: bool, byte: u8, last: bool) -> Transfer {
     Transfer {
         opening: Opening {
             command,
-            look: 100,
-            ready: 150,
+            ready_to_send: 100,
+            ready_for_data: 150,
             pulse: if last { Some(pulse) } else { None },
         },
         pull: 500,
