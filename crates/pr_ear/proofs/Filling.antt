@@ -59,7 +59,7 @@ fills-next allowed more device wires n r new k kept old b out d e input g h i a 
     let front = take n (map edge_of wires) in
     let m : take (n + 1) (map edge_of wires) ≡ front ++ e ∷ [] = take-next wires n d e h i in
     let x : HasReceived (front ++ e ∷ []) new = t front g.taken in
-    let w : IsAnswer (Ok input) (Ok (input_at (device_of r) front e)) = a front g.taken g.refusal ((allowed (front ++ e ∷ [])).1 (x.come, x.leads)) in
+    let w : IsAnswer (Ok input) (Ok (input_at (device_of r) front e)) = a front g.taken g.refusal ((allowed (front ++ e ∷ [])).1 (_, x.accepted)) in
     let u : input ≡ input_at (device_of r) front e = cc in
     let z : input ≡ input_at device front e = u ∙ ap (λ j. input_at j front e) g.device_is in
     let numbers : map number_of (inputs_with device (take (n + 1) (map edge_of wires))) ≡ map number_of (inputs_with device front) ++ map number_of (option_to_list input) =
