@@ -32,10 +32,7 @@ impl Progress {
         ensures sound { IsSound self.new }
         ensures other_sound { IsSound other.new }
     {
-        let Some(whole) = self
-            .follower
-            .pass_frame_with(&mut other.follower, edges)
-        else {
+        let Some(whole) = self.follower.pass_frame_with(&mut other.follower, edges) else {
             return PassedBoth {
                 count: 0,
                 input: None,
