@@ -6,16 +6,12 @@ ghost use Rattle.pr_wire.specs.PlaceSteps.{FindsAs};
 ghost use Rattle.pr_wire.specs.Table.{timed, within, by_row, atn_of, may_end, verdict, fault_at, differ};
 
 use crate::bits::Bits;
-use crate::delay::{Kind, bounds};
+use crate::delay::{Kind, answer_bounds, bounds};
 use crate::{Edge, Frame, WaveFault};
 use pr_base::UNLISTEN;
 
 /// The index of a byte's last bit, the highest.
 const LAST_BIT: usize = 7;
-
-/// How long after DATA was released a pulse may last that two printers make together: the greatest
-/// wait and the greatest answer, in microseconds.
-const PULSE_END: u64 = 450;
 
 /// Which byte is sent.
 #[derive(Clone, Copy, Debug, PartialEq, Eq)]
@@ -260,11 +256,12 @@ fn after_pulse(since: u64, free: u64, edge: Edge) -> Result<Step, EdgeError>
 {
     let levels = edge.levels;
     let (least, _, _) = bounds(Kind::Ei);
+    let (_, latest) = answer_bounds();
     if !(levels.atn && levels.clock && levels.line) {
         Err(EdgeError::Shape)
     } else if edge.time.saturating_sub(since) < u64::from(least) {
         Err(EdgeError::TooEarly)
-    } else if edge.time.saturating_sub(free) > PULSE_END {
+    } else if edge.time.saturating_sub(free) > latest {
         Err(EdgeError::TooLate)
     } else {
         Ok(Step {

@@ -1,6 +1,6 @@
 //! The delays of the bus, in microseconds.
 
-ghost use Rattle.std.specs.Prelude.{◌≡◌, ◌≤◌, drop, length};
+ghost use Rattle.std.specs.Prelude.{◌≡◌, ◌+◌, ◌≤◌, drop, length};
 ghost use Rattle.pr_wire.specs.Choices.{left};
 ghost use Rattle.pr_wire.specs.Delays.{bounds_of, delay_at};
 ghost use Rattle.pr_wire.specs.Laws.{DelaysLieWithinBounds};
@@ -60,6 +60,20 @@ pub fn bounds(kind: Kind) -> (u16, u16, u16)
         Kind::F => (1, 20, 80),
         Kind::Dr => (1, 20, 60),
     }
+}
+
+/// How long after DATA's release an answer to end-or-identify ends that two printers may make
+/// together, in microseconds: at least the least wait and the least length, at most the greatest wait
+/// and the greatest length.
+#[inline(always)]
+pub(crate) fn answer_bounds() -> (u64, u64)
+    ensures { result ≡ ((bounds_of Kind.Ye).0 + (bounds_of Kind.Ei).0, (bounds_of Kind.Ye).2 + (bounds_of Kind.Ei).2) }
+{
+    let (least_wait, _, greatest_wait) = bounds(Kind::Ye);
+    let (least, _, greatest) = bounds(Kind::Ei);
+    let earliest = u64::from(least_wait) + u64::from(least);
+    let latest = u64::from(greatest_wait) + u64::from(greatest);
+    (earliest, latest)
 }
 
 /// A party's list of raw numbers, each of which makes one delay. Contracts see all the numbers
