@@ -11,7 +11,7 @@ use pr_basic::StatusMode;
 use pr_bus::Delays;
 use pr_capture::TraceFormat;
 use pr_channels::Stop;
-use pr_cli::{CliFault, Watched, bus_over, check_over, pages_over, raw_over};
+use pr_cli::{CliFault, Watched, bus_as_over, check_over, pages_as_over, raw_over};
 use pr_render::Format;
 use pr_serial::Present;
 use std::alloc::Global;
@@ -32,7 +32,7 @@ pub fn pages(
 {
     let mut input = Watched::new(script);
     let mut output = Watched::new(Vec::new(alloc));
-    let made = pages_over(
+    let made = pages_as_over(
         alloc,
         &mut input,
         &mut output,
@@ -60,7 +60,7 @@ pub fn bus(
 {
     let mut input = Watched::new(script);
     let mut output = Watched::new(Vec::new(alloc));
-    let made = bus_over(
+    let made = bus_as_over(
         alloc,
         &mut input,
         &mut output,

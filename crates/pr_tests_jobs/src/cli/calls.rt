@@ -8,7 +8,7 @@ use pr_basic::StatusMode;
 use pr_bus::Delays;
 use pr_capture::{Signals, Source, TraceFormat, TraceInput, write_vcd};
 use pr_cli::{
-    CliFault, Ending, Watched, bus_over, check_as_over, check_over, pages_over, raw_over,
+    CliFault, Ending, Watched, bus_as_over, check_as_over, check_over, pages_as_over, raw_over,
 };
 use pr_render::Format;
 use pr_report::Report;
@@ -239,10 +239,10 @@ impl Call {
         let mode = StatusMode::Each;
         match self {
             Call::Pages(present, format) => {
-                pages_over(alloc, input, output, present, typical(alloc), mode, format)
+                pages_as_over(alloc, input, output, present, typical(alloc), mode, format)
             }
             Call::Bus(format) => {
-                bus_over(alloc, input, output, BOTH, typical(alloc), mode, format)
+                bus_as_over(alloc, input, output, BOTH, typical(alloc), mode, format)
             }
             Call::Check => done(check_over(alloc, input, output)),
             Call::CheckAs(source, report) => {
