@@ -70,8 +70,8 @@ enum print1525_fault {
     PRINT1525_NO_SUCH_STATUS = 23,
     PRINT1525_NO_SUCH_FORMAT = 24,
     PRINT1525_NO_SUCH_SET = 25,
-    /* of an ear that print1525_ear_begin has not begun, and of a decoder that print1525_decode_begin has
-     * not; `place` is 0 */
+    /* of numbers that no ear has, and of numbers that no decoder has; `place` is 0. Memory of zeros is no
+     * ear, but it is a decoder just begun */
     PRINT1525_NO_EAR = 26,
     PRINT1525_NO_DECODER = 27,
     /* of a number that stands for no input of a printer; `place` is its index, from 0 */
