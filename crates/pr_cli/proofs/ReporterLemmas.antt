@@ -65,7 +65,7 @@ data_with : (fs : List TimedFrame) (f : Option TimedFrame) → data_behind false
 data_with fs None = ap (data_behind false) (append-nil fs)
 data_with fs (Some f) = data_more false fs f
 
--- an edge that the storyteller takes
+-- an edge that the frame timer takes
 told_more : (edges : List Edge) (given : List TimedFrame) (e : Edge) (f : Option TimedFrame) (old new : FrameTimer) (a b : Option WaveFault) → a ≡ None → b ≡ None
     → ((es : List Edge) (gs : List TimedFrame) → HasTold es gs old → HasTold (es ++ e ∷ []) (gs ++ option_to_list f) new)
     → TellsSoFar edges given old a → TellsSoFar (edges ++ e ∷ []) (given ++ option_to_list f) new b
@@ -85,14 +85,14 @@ other_fault (Some v) w e n k = n (cc)
 -- so the reporter has taken it
 pub edge_more : (old new : FrameReporter) (e : Edge) (f : Option TimedFrame) → old.fault ≡ None → new.fault ≡ None → new.report ≡ old.report
     → new.lines.items ≡ old.lines.items ++ lines_if old.report old.behind_data f → new.behind_data ≡ data_if old.behind_data f
-    → ((edges : List Edge) (given : List TimedFrame) → HasTold edges given old.teller → HasTold (edges ++ e ∷ []) (given ++ option_to_list f) new.teller)
+    → ((edges : List Edge) (given : List TimedFrame) → HasTold edges given old.timer → HasTold (edges ++ e ∷ []) (given ++ option_to_list f) new.timer)
     → ReportsMore (e ∷ []) old new
 edge_more old new e f n m r l b told = λ report edges h. record {
   report_is = r ∙ h.report_is;
   given = h.given ++ option_to_list f;
   lines = l ∙ (rw (h.report_is, h.behind, h.lines) (sym (lines_with report h.given f)));
   behind = b ∙ (rw h.behind (sym (data_with h.given f)));
-  told = told_more edges h.given e f old.teller new.teller old.fault new.fault n m told h.told;
+  told = told_more edges h.given e f old.timer new.timer old.fault new.fault n m told h.told;
   memory = no_memory new.fault m;
 }
 
@@ -109,15 +109,15 @@ told_refused edges given e w old new (Some v) b n m fault ends t = absurd (cc)
 
 pub edge_refused : (old new : FrameReporter) (e : Edge) (w : WaveFault) → old.fault ≡ None → new.fault ≡ Some w → new.report ≡ old.report → new.lines.items ≡ old.lines.items
     → new.behind_data ≡ old.behind_data → (w ≡ wave.NoMemory → ⊥)
-    → ((es more : List Edge) (gs : List TimedFrame) → HasTold es gs old.teller → fault_of (es ++ e ∷ more) ≡ Some w)
-    → ((es more : List Edge) (gs : List TimedFrame) → HasTold es gs old.teller → timed_frames (es ++ e ∷ more) ≡ gs)
+    → ((es more : List Edge) (gs : List TimedFrame) → HasTold es gs old.timer → fault_of (es ++ e ∷ more) ≡ Some w)
+    → ((es more : List Edge) (gs : List TimedFrame) → HasTold es gs old.timer → timed_frames (es ++ e ∷ more) ≡ gs)
     → ReportsMore (e ∷ []) old new
 edge_refused old new e w n m r l b small fault ends = λ report edges h. record {
   report_is = r ∙ h.report_is;
   given = h.given;
   lines = l ∙ h.lines;
   behind = b ∙ h.behind;
-  told = told_refused edges h.given e w old.teller new.teller old.fault new.fault n m fault ends h.told;
+  told = told_refused edges h.given e w old.timer new.timer old.fault new.fault n m fault ends h.told;
   memory = other_fault new.fault w m small;
 }
 
@@ -132,7 +132,7 @@ edge_kept r e n = λ report edges h. record {
   given = h.given;
   lines = h.lines;
   behind = h.behind;
-  told = told_kept edges h.given e r.teller r.fault n h.told;
+  told = told_kept edges h.given e r.timer r.fault n h.told;
   memory = h.memory;
 }
 
@@ -141,7 +141,7 @@ pub edges_none : (r : FrameReporter) → ReportsMore [] r r
 edges_none r = λ report edges h. let P : List Edge → Type 0 = λ es. HasReported report es r in subst P (sym (append-nil edges)) h
 
 -- nothing was taken
-pub reported_none : (r : Report) (new : FrameReporter) → new.report ≡ r → new.lines.items ≡ [] → new.behind_data ≡ false → new.fault ≡ None → HasTold [] [] new.teller → HasReported r [] new
+pub reported_none : (r : Report) (new : FrameReporter) → new.report ≡ r → new.lines.items ≡ [] → new.behind_data ≡ false → new.fault ≡ None → HasTold [] [] new.timer → HasReported r [] new
 reported_none r new a l b n told = record {
   report_is = a;
   given = [];
@@ -161,16 +161,16 @@ fault_known edges given t w h = let P : List Edge → Type 0 = λ es. (fault_of 
 
 pub ended_faulty : (r : FrameReporter) (w : WaveFault) → r.fault ≡ Some w → HasEnded r (Some w)
 ended_faulty r w e = λ report edges h.
-    let t : TellsSoFar edges h.given r.teller (Some w) = rw e at h.told in
-    let k = fault_known edges h.given r.teller w t in
+    let t : TellsSoFar edges h.given r.timer (Some w) = rw e at h.told in
+    let k = fault_known edges h.given r.timer w t in
     record { fault_is = sym k.0; frames = k.1; memory = λ m. h.memory (e ∙ m) }
 
 -- edges that have none so far
 pub ended_told : (r : FrameReporter) (fault : Option WaveFault) → r.fault ≡ None → (fault ≡ Some wave.NoMemory → ⊥)
-    → ((es : List Edge) (gs : List TimedFrame) → HasTold es gs r.teller → timed_frames es ≡ gs)
-    → ((es : List Edge) (gs : List TimedFrame) → HasTold es gs r.teller → fault ≡ fault_of es) → HasEnded r fault
+    → ((es : List Edge) (gs : List TimedFrame) → HasTold es gs r.timer → timed_frames es ≡ gs)
+    → ((es : List Edge) (gs : List TimedFrame) → HasTold es gs r.timer → fault ≡ fault_of es) → HasEnded r fault
 ended_told r fault e m frames is = λ report edges h.
-    let t : TellsSoFar edges h.given r.teller None = rw e at h.told in
+    let t : TellsSoFar edges h.given r.timer None = rw e at h.told in
     record { fault_is = is edges h.given t; frames = frames edges h.given t; memory = m }
 
 -- lines of frames without their moments
@@ -266,7 +266,7 @@ pub if_ok : {X E : Type 0} (r : Result X E) (P Q : X → Type 0) → IfOk r P �
 if_ok (Ok x) P Q p f = f x p
 if_ok (Err e) P Q p f = tt
 
--- what a storyteller has taken, in other words
+-- what a frame timer has taken, in other words
 pub told_as : (old mid new : FrameTimer) (e : Edge) (f g : Option TimedFrame) → f ≡ g → new ≡ mid
     → ((es : List Edge) (gs : List TimedFrame) → HasTold es gs old → HasTold (es ++ e ∷ []) (gs ++ option_to_list f) mid)
     → (es : List Edge) (gs : List TimedFrame) → HasTold es gs old → HasTold (es ++ e ∷ []) (gs ++ option_to_list g) new

@@ -113,12 +113,12 @@ data_behind behind_data (f ∷ fs) = data_behind (is_data f.sending) fs
 
 -- how many edges a reporter has taken
 abbrev pub edges_taken : FrameReporter → ℕ
-edges_taken r = number_taken r.teller
+edges_taken r = number_taken r.timer
 
 -- these edges end these frames, or have this fault, whatever follows
 abbrev pub TellsSoFar : (edges : List Edge) → (given : List TimedFrame) → FrameTimer → Option WaveFault → Type 0
-TellsSoFar edges given teller None = HasTold edges given teller
-TellsSoFar edges given teller (Some w) =
+TellsSoFar edges given timer None = HasTold edges given timer
+TellsSoFar edges given timer (Some w) =
     (more : List Edge) → (fault_of (edges ++ more) ≡ Some w) × (timed_frames (edges ++ more) ≡ given)
 
 -- the reporter has taken these edges, and its lines are those of their frames
@@ -127,13 +127,13 @@ pub record HasReported (report : Report) (edges : List Edge) (r : FrameReporter)
   pub given : List TimedFrame
   pub lines : r.lines.items ≡ lines_of_frames report given
   pub behind : r.behind_data ≡ data_behind false given
-  pub told : TellsSoFar edges given r.teller r.fault
+  pub told : TellsSoFar edges given r.timer r.fault
   pub memory : r.fault ≡ Some wave.NoMemory → ⊥
 
 -- the lines of a frame were added
 pub record AddsLines (f : TimedFrame) (old new : FrameReporter) : Type 0 where
   pub report_is : new.report ≡ old.report
-  pub teller_is : new.teller ≡ old.teller
+  pub timer_is : new.timer ≡ old.timer
   pub fault_is : new.fault ≡ old.fault
   pub lines : new.lines.items ≡ old.lines.items ++ lines_of_frame old.report old.behind_data f
   pub behind : new.behind_data ≡ is_data f.sending

@@ -28,7 +28,7 @@ pub struct ReportText {
 #[derive(Drop)]
 pub struct FrameReporter {
     report: Report,
-    teller: FrameTimer,
+    timer: FrameTimer,
     /// Whether the last frame is a data byte.
     behind_data: bool,
     fault: Option<WaveFault>,
@@ -43,7 +43,7 @@ impl FrameReporter {
     {
         FrameReporter {
             report,
-            teller: FrameTimer::new(),
+            timer: FrameTimer::new(),
             behind_data: false,
             fault: None,
             lines: Vec::new(alloc),
@@ -72,7 +72,7 @@ impl FrameReporter {
         if self.fault.is_some() {
             return Ok(());
         }
-        match self.teller.take(edge) {
+        match self.timer.take(edge) {
             Ok(Some(frame)) => self.push(frame),
             Ok(None) => Ok(()),
             Err(fault) => {
@@ -100,7 +100,7 @@ impl FrameReporter {
     {
         match self.fault {
             Some(fault) => Some(fault),
-            None => self.teller.finish().err(),
+            None => self.timer.finish().err(),
         }
     }
 

@@ -7,6 +7,18 @@
 //! read to its end; [`explain_script`] shows where a script that is refused has its first fault, and what
 //! can stand there; [`explain_stop`] tells a BASIC error in BASIC's own words. Their texts are lines for
 //! people: no program is to read them. Bytes that can not be seen are escaped in them.
+//!
+//! - `rows` has the rows of the table at a place, and those that can follow the last edge; `places` says
+//!   places and rows in words.
+//! - `traces`, `scripts` and `stops` are what is explained. `edges` says why edges are no lawful trace,
+//!   `faults` and `names` which line cannot be read, what it should have, and which signals a recording has.
+//! - `context` and `words` say in which statement a place of a script is, and which word is there. The
+//!   place's line and its lexeme are those of pr_basic's `line_at` and `lexeme_at`.
+//! - `input` reads a trace in any format as `check` reads it. `texts` has numbers, levels and escaped bytes.
+//!
+//! The words for a place come first and the rest after them, so that the contract of the place needs none
+//! of the rest. Where memory for an explanation is refused, less is said and the answer stays. A stopped
+//! run is run again, step by step and without its trace, to find its error.
 #![tactic(auto)]
 
 mod context;

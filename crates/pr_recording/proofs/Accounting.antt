@@ -6,7 +6,7 @@ use Rattle.pr_report.specs.declared.reading_line.Preceding.TheVariants.{Nothing}
 use Rattle.pr_report.specs.ReadingText.{after_reading, all_lines, behind_all, reading_lines}
 use Rattle.pr_report.specs.Taking as survey
 use Rattle.pr_recording.specs.Narrated.{AccountsMore, HasAccounted}
-use Rattle.pr_recording.specs.declared.account.Account.{Account}
+use Rattle.pr_recording.specs.declared.reading_log.ReadingLog.{ReadingLog}
 
 -- the lines of readings behind others
 pub lines_add : (b : Preceding) (rs qs : List Reading) → all_lines b (rs ++ qs) ≡ all_lines b rs ++ all_lines (behind_all b rs) qs
@@ -20,11 +20,11 @@ behind_add b [] qs = refl
 behind_add b (r ∷ rs) qs = behind_add (after_reading b r) rs qs
 
 -- no reading
-pub accounted_none : (a : Account) → survey.HasSurveyed [] a.survey → a.behind ≡ Nothing → a.lines.items ≡ [] → HasAccounted [] [] a
+pub accounted_none : (a : ReadingLog) → survey.HasSurveyed [] a.survey → a.behind ≡ Nothing → a.lines.items ≡ [] → HasAccounted [] [] a
 accounted_none a s b l = record { surveyed = s; behind = b; lines = l }
 
 -- a reading more
-pub accounts_one : (old new : Account) (r : Reading) → new.lines.items ≡ old.lines.items ++ reading_lines old.behind r → new.behind ≡ after_reading old.behind r
+pub accounts_one : (old new : ReadingLog) (r : Reading) → new.lines.items ≡ old.lines.items ++ reading_lines old.behind r → new.behind ≡ after_reading old.behind r
     → ((rs : List Reading) → survey.HasSurveyed rs old.survey → survey.HasSurveyed (rs ++ r ∷ []) new.survey) → AccountsMore (r ∷ []) old new
 accounts_one old new r lines behind taken = λ given written h. record {
   surveyed = taken given h.surveyed;
@@ -38,11 +38,11 @@ accounts_one old new r lines behind taken = λ given written h. record {
 }
 
 -- no reading more
-pub accounts_same : (a : Account) → AccountsMore [] a a
+pub accounts_same : (a : ReadingLog) → AccountsMore [] a a
 accounts_same a = λ given written h. let P : List Reading → Type 0 = λ l. HasAccounted l written a in subst P (sym (append-nil given)) h
 
 -- lines that are given up
-pub cleared : (old new : Account) → new.survey ≡ old.survey → new.behind ≡ old.behind → new.lines.items ≡ [] → (given : List Reading) (written : List ℕ) → HasAccounted given written old
+pub cleared : (old new : ReadingLog) → new.survey ≡ old.survey → new.behind ≡ old.behind → new.lines.items ≡ [] → (given : List Reading) (written : List ℕ) → HasAccounted given written old
     → HasAccounted given (written ++ old.lines.items) new
 cleared old new s b l = λ given written h. record {
   surveyed = rw s h.surveyed;
@@ -51,6 +51,6 @@ cleared old new s b l = λ given written h. record {
 }
 
 -- the end
-pub accounts_end : (a : Account) (given : List Reading) (written text more : List ℕ) → HasAccounted given written a → text ≡ a.lines.items ++ more → written ++ text ≡ all_lines Nothing given ++ more
+pub accounts_end : (a : ReadingLog) (given : List Reading) (written text more : List ℕ) → HasAccounted given written a → text ≡ a.lines.items ++ more → written ++ text ≡ all_lines Nothing given ++ more
 accounts_end a given written text more h is =
     ap (λ t. written ++ t) is ∙ (sym (append_assoc written a.lines.items more) ∙ ap (λ t. t ++ more) h.lines)

@@ -15,15 +15,15 @@ use Rattle.pr_cli.specs.Reported.{HasGiven, IsOwnFault}
 use Rattle.pr_cli.specs.declared.fault.CliFault.{CliFault}
 use Rattle.pr_cli.specs.declared.fault.CliFault.TheVariants.{Script, Trace, Wave, Capture, TooLarge, NoMemory, ReadFailed, WriteFailed}
 use Rattle.pr_cli.specs.declared.source_reader.SourceReader.{SourceReader}
-use Rattle.pr_recording.specs.declared.narrator.Ended.{Ended}
-use Rattle.pr_recording.specs.declared.teller.Teller.{Teller}
+use Rattle.pr_recording.specs.declared.decode_report.Ended.{Ended}
+use Rattle.pr_recording.specs.declared.report_builder.ReportBuilder.{ReportBuilder}
 use Rattle.pr_recording.specs.Decoded.{AnswersDecode, IsDecodeFault, Leaves, ReadsAll, back_in, stop_at, told_of}
 use Rattle.pr_recording.specs.Narrated.{EndsEdges, EndsNoted, EndsSamples, GivesUp, HasHeard, HasNoted, IsStop, NotesBlock, WritesEnd, lines_in}
 use Rattle.pr_recording.proofs.Coming.{ComesTo, Laws, coming}
 use Rattle.pr_recording.proofs.Writing.{front_behind, front_none, whole_behind}
 
 -- the bytes that came from a reader were told, what was given up was written, and so many more may come
-pub record ReadSoFar (limit : ℕ) (before after old now : Option (List ℕ)) (input : TraceInput) (r : SourceReader) (t : Teller) (left : ℕ) : Type 0 where
+pub record ReadSoFar (limit : ℕ) (before after old now : Option (List ℕ)) (input : TraceInput) (r : SourceReader) (t : ReportBuilder) (left : ℕ) : Type 0 where
   pub text : List ℕ
   pub written : List ℕ
   pub taken : Consumes before after text
@@ -31,7 +31,7 @@ pub record ReadSoFar (limit : ℕ) (before after old now : Option (List ℕ)) (i
   pub wrote : Appends old now written
   pub room : length text + left ≡ limit
 
-pub read_none : (limit : ℕ) (a o : Option (List ℕ)) (input : TraceInput) (r : SourceReader) (t : Teller) → HasGiven input [] [] r → HasHeard input [] [] t → ReadSoFar limit a a o o input r t limit
+pub read_none : (limit : ℕ) (a o : Option (List ℕ)) (input : TraceInput) (r : SourceReader) (t : ReportBuilder) → HasGiven input [] [] r → HasHeard input [] [] t → ReadSoFar limit a a o o input r t limit
 read_none limit a o input r t given heard = record {
   text = [];
   written = [];
@@ -42,7 +42,7 @@ read_none limit a o input r t given heard = record {
 }
 
 -- a block more
-pub read_block : (limit : ℕ) (a b d old now : Option (List ℕ)) (input : TraceInput) (r s : SourceReader) (t u : Teller) (left count : ℕ) (block : List ℕ) → ReadSoFar limit a b old now input r t left
+pub read_block : (limit : ℕ) (a b d old now : Option (List ℕ)) (input : TraceInput) (r s : SourceReader) (t u : ReportBuilder) (left count : ℕ) (block : List ℕ) → ReadSoFar limit a b old now input r t left
     → Consumes b d block → length block ≡ count → count ≤ left → NotesBlock block r t None s u → ReadSoFar limit a d old now input s u (left - count)
 read_block limit a b d old now input r s t u left count block h k l w notes = record {
   text = h.text ++ block;
@@ -54,7 +54,7 @@ read_block limit a b d old now input r s t u left count block h k l w notes = re
 }
 
 -- its lines are written
-pub read_written : (limit : ℕ) (a b old now new : Option (List ℕ)) (input : TraceInput) (r : SourceReader) (t u : Teller) (left : ℕ) → ReadSoFar limit a b old now input r t left
+pub read_written : (limit : ℕ) (a b old now new : Option (List ℕ)) (input : TraceInput) (r : SourceReader) (t u : ReportBuilder) (left : ℕ) → ReadSoFar limit a b old now input r t left
     → Appends now new (lines_in t) → GivesUp t u → ReadSoFar limit a b old new input r u left
 read_written limit a b old now new input r t u left h k up = record {
   text = h.text;
@@ -95,7 +95,7 @@ begins limit input text front lines old now new v k wrote short leaves = record 
 }
 
 -- the answer where no more is read, or written
-pub partly : Laws → (limit : ℕ) (a b old now new : Option (List ℕ)) (input : TraceInput) (r : SourceReader) (t : Teller) (left : ℕ) (v : Result (Unit {0}) CliFault)
+pub partly : Laws → (limit : ℕ) (a b old now new : Option (List ℕ)) (input : TraceInput) (r : SourceReader) (t : ReportBuilder) (left : ℕ) (v : Result (Unit {0}) CliFault)
     → ReadSoFar limit a b old now input r t left → AppendsFront now new (lines_in t)
     → ((n : ℕ) (stop : Option CliFault) (told : List ℕ) → AppendsFront old new told → Leaves limit n stop told old new v) → IfSome a (λ text. AnswersDecode limit input text old new v)
 partly laws limit a b old now new input r t left v h short leaves =
@@ -103,7 +103,7 @@ partly laws limit a b old now new input r t left v h short leaves =
     (λ more. begins limit input (h.text ++ more) h.written (lines_in t) old now new v (coming laws input h.text h.written r t h.noted more) h.wrote short (leaves (length (h.text ++ more))))
 
 -- the answer where more bytes came than may
-pub too_large : Laws → (limit : ℕ) (a b d old now : Option (List ℕ)) (input : TraceInput) (r : SourceReader) (t : Teller) (left : ℕ) (block : List ℕ) → ReadSoFar limit a b old now input r t left
+pub too_large : Laws → (limit : ℕ) (a b d old now : Option (List ℕ)) (input : TraceInput) (r : SourceReader) (t : ReportBuilder) (left : ℕ) (block : List ℕ) → ReadSoFar limit a b old now input r t left
     → Consumes b d block → left < length block → IfSome a (λ text. AnswersDecode limit input text old now (Err TooLarge))
 too_large laws limit a b d old now input r t left block h k many =
     at_once a d (h.text ++ block) (λ text. AnswersDecode limit input text old now (Err TooLarge)) (Consumes-trans a b d h.text block h.taken k)
@@ -120,14 +120,14 @@ by_memory (Ok u) P e p = absurd e
 by_memory (Err f) P e p = rw e p
 
 -- the answer where memory was refused
-pub partly_refused : Laws → (limit : ℕ) (a b old now : Option (List ℕ)) (input : TraceInput) (r : SourceReader) (t : Teller) (left : ℕ) (v : Result (Unit {0}) CliFault)
+pub partly_refused : Laws → (limit : ℕ) (a b old now : Option (List ℕ)) (input : TraceInput) (r : SourceReader) (t : ReportBuilder) (left : ℕ) (v : Result (Unit {0}) CliFault)
     → ReadSoFar limit a b old now input r t left → IsErrAnd v (λ f. f ≡ NoMemory) → IfSome a (λ text. AnswersDecode limit input text old now v)
 partly_refused laws limit a b old now input r t left v h memory =
     by_memory v (λ w. IfSome a (λ text. AnswersDecode limit input text old now w)) memory
     (partly laws limit a b old now now input r t left (Err NoMemory) h (front_none now (lines_in t)) (λ n stop told k. k))
 
 -- the answer where a write failed
-pub partly_unwritten : Laws → (limit : ℕ) (a b old now new : Option (List ℕ)) (input : TraceInput) (r : SourceReader) (t : Teller) (left : ℕ) (v : Result (Unit {0}) CliFault) (f : CliFault)
+pub partly_unwritten : Laws → (limit : ℕ) (a b old now new : Option (List ℕ)) (input : TraceInput) (r : SourceReader) (t : ReportBuilder) (left : ℕ) (v : Result (Unit {0}) CliFault) (f : CliFault)
     → ReadSoFar limit a b old now input r t left → IsErrAnd v (λ x. x ≡ f) → f ≡ WriteFailed → AppendsFront now new (lines_in t) → IfSome a (λ text. AnswersDecode limit input text old new v)
 partly_unwritten laws limit a b old now new input r t left (Ok u) f h e failed k = absurd e
 partly_unwritten laws limit a b old now new input r t left (Err x) f h e failed k =
@@ -228,7 +228,7 @@ leaves_end limit len edges written own e old now new v short ends is_own wrote w
         front_behind old now new written e.lines.items (told_of (stop_at (back_in edges) own) edges) [] (sym told ∙ sym (append-nil (written ++ e.lines.items))) wrote w
 
 -- the answer at the input's end
-pub at_last : (limit : ℕ) (a b old now new : Option (List ℕ)) (input : TraceInput) (r : SourceReader) (t : Teller) (left : ℕ) (e : Ended) (v : Result (Unit {0}) CliFault)
+pub at_last : (limit : ℕ) (a b old now new : Option (List ℕ)) (input : TraceInput) (r : SourceReader) (t : ReportBuilder) (left : ℕ) (e : Ended) (v : Result (Unit {0}) CliFault)
     → ReadSoFar limit a b old now input r t left → IsAtEnd b → EndsNoted r t e → WritesEnd e now new v → IfSome a (λ text. AnswersDecode limit input text old new v)
 at_last limit a b old now new input r t left e v h end ends writes =
     at_end a b h.text (λ text. AnswersDecode limit input text old new v) h.taken end
@@ -241,7 +241,7 @@ at_last limit a b old now new input r t left e v h end ends writes =
     })
 
 -- the answer at the input's fault
-pub at_fault : (limit : ℕ) (a b d old now new : Option (List ℕ)) (input : TraceInput) (r s : SourceReader) (t u : Teller) (left : ℕ) (block : List ℕ) (f : CliFault) (e : Ended) (v : Result (Unit {0}) CliFault)
+pub at_fault : (limit : ℕ) (a b d old now new : Option (List ℕ)) (input : TraceInput) (r s : SourceReader) (t u : ReportBuilder) (left : ℕ) (block : List ℕ) (f : CliFault) (e : Ended) (v : Result (Unit {0}) CliFault)
     → ReadSoFar limit a b old now input r t left → Consumes b d block → NotesBlock block r t (Some f) s u → EndsSamples u (Some f) e → WritesEnd e now new v
     → IfSome a (λ text. AnswersDecode limit input text old new v)
 at_fault limit a b d old now new input r s t u left block f e v h k notes ends writes =
@@ -257,7 +257,7 @@ at_fault limit a b d old now new input r s t u left block f e v h k notes ends w
     })
 
 -- why it stops at its end
-pub last_stop : (limit : ℕ) (a b old now : Option (List ℕ)) (input : TraceInput) (r : SourceReader) (t : Teller) (left : ℕ) (e : Ended) → ReadSoFar limit a b old now input r t left → EndsNoted r t e
+pub last_stop : (limit : ℕ) (a b old now : Option (List ℕ)) (input : TraceInput) (r : SourceReader) (t : ReportBuilder) (left : ℕ) (e : Ended) → ReadSoFar limit a b old now input r t left → EndsNoted r t e
     → IfSome e.stop IsStop
 last_stop limit a b old now input r t left e h ends =
     let k = ends input h.text h.written h.noted in
@@ -265,7 +265,7 @@ last_stop limit a b old now input r t left e h ends =
     subst P (sym k.4.stop) (is_stop (back_in (edges_made input.source input.start k.0)) k.1 k.3)
 
 -- and at its fault: it does
-pub fault_stop : (limit : ℕ) (a b old now : Option (List ℕ)) (input : TraceInput) (r s : SourceReader) (t u : Teller) (left : ℕ) (block : List ℕ) (f : CliFault) (e : Ended)
+pub fault_stop : (limit : ℕ) (a b old now : Option (List ℕ)) (input : TraceInput) (r s : SourceReader) (t u : ReportBuilder) (left : ℕ) (block : List ℕ) (f : CliFault) (e : Ended)
     → ReadSoFar limit a b old now input r t left → NotesBlock block r t (Some f) s u → EndsSamples u (Some f) e → IfSome e.stop IsStop × (e.stop ≡ None → ⊥)
 fault_stop limit a b old now input r s t u left block f e h notes ends =
     let w = notes.1 input h.text h.written h.noted [] in

@@ -16,7 +16,7 @@ use Rattle.pr_cli.specs.Report.{edges_made, Says}
 use Rattle.pr_cli.specs.Reported.{EachTextSaysSamples, GivenSamplesComeFirst, MadeEdgesComeFirst}
 use Rattle.pr_cli.specs.declared.fault.CliFault.{CliFault}
 use Rattle.pr_cli.specs.declared.source_reader.SourceReader.{SourceReader}
-use Rattle.pr_recording.specs.declared.teller.Teller.{Teller}
+use Rattle.pr_recording.specs.declared.report_builder.ReportBuilder.{ReportBuilder}
 use Rattle.pr_recording.specs.Decoded.{back_in, in_front, stop_at, told_of}
 use Rattle.pr_recording.specs.Narrated.{HasNoted, lines_in}
 use Rattle.pr_recording.proofs.Accounting.{lines_add}
@@ -64,7 +64,7 @@ given_begins laws before all given later is has =
     (m.0, ap (λ l. settled_of (in_front (back_in l) l)) is ∙ (ap settled_of f.1 ∙ (m.1 ∙ ap (λ rs. rs ++ m.0) has)))
 
 -- what was told so far
-pub coming : Laws → (input : TraceInput) (text written : List ℕ) (r : SourceReader) (t : Teller) → HasNoted input text written r t → (more : List ℕ) → ComesTo input (text ++ more) (written ++ lines_in t)
+pub coming : Laws → (input : TraceInput) (text written : List ℕ) (r : SourceReader) (t : ReportBuilder) → HasNoted input text written r t → (more : List ℕ) → ComesTo input (text ++ more) (written ++ lines_in t)
 coming laws input text written r t h more =
     let says = laws.some input (text ++ more) in
     let first = laws.first input text more h.samples says.0 says.1 r h.given says.2 in
@@ -72,7 +72,7 @@ coming laws input text written r t h more =
     let edges = edges_made input.source input.start says.0 in
     let is : edges ≡ h.heard.edges ++ made.0 = ap (λ l. edges_made input.source input.start l) first.1 ∙ made.1 in
     let k = h.heard.narrated.heeded in
-    let given = given_begins laws h.heard.edges edges k.given made.0 is (laws.given (in_front (back_in h.heard.edges) h.heard.edges) k.given t.narrator.decoder k.read) in
+    let given = given_begins laws h.heard.edges edges k.given made.0 is (laws.given (in_front (back_in h.heard.edges) h.heard.edges) k.given t.report.decoder k.read) in
     let begins = told_begins laws.cut edges says.1 in
     let behind = all_lines (behind_all Nothing k.given) given.0 in
     let lines : all_lines Nothing (settled_of (in_front (back_in edges) edges)) ≡ (written ++ lines_in t) ++ behind =

@@ -1,4 +1,4 @@
--- A copier, edge by edge.
+-- A printer, edge by edge.
 use Rattle.std.proofs.Common.{◌≡◌, ℕ, ◌+◌, List, [], ◌∷◌, ◌++◌, length, refl, ap, sym, subst, ◌∙◌, append-nil, length-append, true, Option, Some, None}
 use Rattle.std.specs.Prelude.{is_some}
 use Rattle.std.specs.Option.{option_to_list}
@@ -13,9 +13,9 @@ use Rattle.pr_recording.specs.Taking.{HasReprinted}
 use Rattle.pr_capture.specs.declared.format.TraceInput.{TraceInput}
 use Rattle.pr_cli.specs.Reported.{HasMade, MakesAll, MakesMore}
 use Rattle.pr_cli.specs.declared.fault.CliFault.{CliFault}
-use Rattle.pr_recording.specs.declared.copier.Copier.{Copier}
-use Rattle.pr_recording.specs.declared.copier.PageMaker.{PageMaker}
-use Rattle.pr_recording.specs.declared.copier.Printed.{Printed}
+use Rattle.pr_recording.specs.declared.capture_printer.CapturePrinter.{CapturePrinter}
+use Rattle.pr_recording.specs.declared.capture_printer.PageMaker.{PageMaker}
+use Rattle.pr_recording.specs.declared.capture_printer.Printed.{Printed}
 use Rattle.pr_recording.specs.Copied.{CopiesMore, EndsCopy, EndsPages, HasCopied, HasPaged, HasPrinted, PagesMore, PrintsReading}
 use Rattle.pr_recording.specs.Decoded.{back_in, in_front, stop_at}
 use Rattle.pr_recording.specs.Narrated.{time_of}
@@ -23,11 +23,11 @@ use Rattle.pr_recording.specs.Pages.{readings_up_to}
 use Rattle.pr_recording.proofs.Backs.{back_stays, front_back, front_stays, goes_back, goes_on, time_of_one}
 
 -- no edge
-pub copied_none : (c : Copier) → c.back ≡ None → HasReadings [] [] c.decoder → last_time c.decoder ≡ None → HasReprinted [] c.reprint → c.taken ≡ 0 → HasCopied [] c
+pub copied_none : (c : CapturePrinter) → c.back ≡ None → HasReadings [] [] c.decoder → last_time c.decoder ≡ None → HasReprinted [] c.reprint → c.taken ≡ 0 → HasCopied [] c
 copied_none c b r l p t = record { back = b; printed = record { given = []; read = r; last = l; reprinted = p; taken = t } }
 
 -- other parts alone are changed
-printed_as : (edges : List Edge) (old new : Copier) → new.decoder ≡ old.decoder → new.reprint ≡ old.reprint → new.taken ≡ old.taken → HasPrinted edges old → HasPrinted edges new
+printed_as : (edges : List Edge) (old new : CapturePrinter) → new.decoder ≡ old.decoder → new.reprint ≡ old.reprint → new.taken ≡ old.taken → HasPrinted edges old → HasPrinted edges new
 printed_as edges old new d p t h = record {
   given = h.given;
   read = rw d h.read;
@@ -37,7 +37,7 @@ printed_as edges old new d p t h = record {
 }
 
 -- behind an edge at which time goes back nothing is taken
-pub copies_nothing : (c : Copier) (m : ℕ) (more : List Edge) → c.back ≡ Some m → CopiesMore more c c
+pub copies_nothing : (c : CapturePrinter) (m : ℕ) (more : List Edge) → c.back ≡ Some m → CopiesMore more c c
 copies_nothing c m more is = λ edges h.
     let back : back_in edges ≡ Some m = sym h.back ∙ is in
     let P : List Edge → Type 0 = λ l. HasPrinted l c in
@@ -46,7 +46,7 @@ copies_nothing c m more is = λ edges h.
       printed = subst P (sym (front_stays edges more m back)) h.printed;
     }
 
-pub copies_stopped : (c : Copier) (more : List Edge) → is_some c.back ≡ true → CopiesMore more c c
+pub copies_stopped : (c : CapturePrinter) (more : List Edge) → is_some c.back ≡ true → CopiesMore more c c
 copies_stopped c more is = by c.back refl is
   where
     by : (v : Option ℕ) → c.back ≡ v → is_some v ≡ true → CopiesMore more c c
@@ -54,18 +54,18 @@ copies_stopped c more is = by c.back refl is
     by (Some m) e k = copies_nothing c m more e
 
 -- with no edge more
-pub copies_none : (c : Copier) → CopiesMore [] c c
+pub copies_none : (c : CapturePrinter) → CopiesMore [] c c
 copies_none c = λ edges h. let P : List Edge → Type 0 = λ l. HasCopied l c in subst P (sym (append-nil edges)) h
 
 -- all edges are in front, where none goes back
 all_front : (edges : List Edge) → back_in edges ≡ None → in_front (back_in edges) edges ≡ edges
 all_front edges h = ap (λ v. in_front v edges) h
 
-of_front : (edges : List Edge) (c : Copier) → back_in edges ≡ None → HasPrinted (in_front (back_in edges) edges) c → HasPrinted edges c
+of_front : (edges : List Edge) (c : CapturePrinter) → back_in edges ≡ None → HasPrinted (in_front (back_in edges) edges) c → HasPrinted edges c
 of_front edges c none h = let P : List Edge → Type 0 = λ l. HasPrinted l c in subst P (all_front edges none) h
 
 -- time goes back at an edge
-pub copies_back : (old new : Copier) (e : Edge) → old.back ≡ None → IsBefore e old.decoder → new.back ≡ Some old.taken → new.decoder ≡ old.decoder → new.reprint ≡ old.reprint → new.taken ≡ old.taken
+pub copies_back : (old new : CapturePrinter) (e : Edge) → old.back ≡ None → IsBefore e old.decoder → new.back ≡ Some old.taken → new.decoder ≡ old.decoder → new.reprint ≡ old.reprint → new.taken ≡ old.taken
     → CopiesMore (e ∷ []) old new
 copies_back old new e was before back d p t = λ edges h.
     let none : back_in edges ≡ None = sym h.back ∙ was in
@@ -78,7 +78,7 @@ copies_back old new e was before back d p t = λ edges h.
     }
 
 -- an edge is taken
-pub copies_one : (old new : Copier) (e : Edge) (r : Option Reading) → old.back ≡ None → (IsBefore e old.decoder → ⊥) → new.back ≡ old.back
+pub copies_one : (old new : CapturePrinter) (e : Edge) (r : Option Reading) → old.back ≡ None → (IsBefore e old.decoder → ⊥) → new.back ≡ old.back
     → ((edges : List Edge) (given : List Reading) → HasReadings edges given old.decoder → HasReadings (edges ++ e ∷ []) (given ++ option_to_list r) new.decoder) → last_time new.decoder ≡ Some e.time
     → PrintsReading r old.reprint new.reprint → new.taken ≡ old.taken + 1 → CopiesMore (e ∷ []) old new
 copies_one old new e r was later same reads last prints taken = λ edges h.
@@ -108,7 +108,7 @@ same_papers : (rs ss : List Reading) (p : PrintedPages) → rs ≡ ss → ArePap
 same_papers rs ss p e h = subst (λ (l : List Reading). ArePapers l p) e h
 
 -- the end of edges that stop
-pub ends_stopped : GivenAreSettled → (c : Copier) (own : Option CliFault) (f : CliFault) (p : Printed) → stop_at c.back own ≡ Some f → p.stop ≡ Some f
+pub ends_stopped : GivenAreSettled → (c : CapturePrinter) (own : Option CliFault) (f : CliFault) (p : Printed) → stop_at c.back own ≡ Some f → p.stop ≡ Some f
     → ((readings : List Reading) → HasReprinted readings c.reprint → ArePapers readings p.pages) → (edges : List Edge) → HasCopied edges c → EndsCopy edges own p
 ends_stopped settled c own f p is stop papers = λ edges h.
     let k = h.printed in
@@ -118,7 +118,7 @@ ends_stopped settled c own f p is stop papers = λ edges h.
           (sym (settled (in_front (back_in edges) edges) k.given c.decoder k.read) ∙ sym (ap (λ s. readings_up_to s edges) stop)) (papers k.given k.reprinted);
     }
 
-pub ends_told : GivenAreSettled → (c : Copier) (own : Option CliFault) (v : Option CliFault) (p : Printed) → v ≡ stop_at c.back own → is_some v ≡ true → p.stop ≡ v
+pub ends_told : GivenAreSettled → (c : CapturePrinter) (own : Option CliFault) (v : Option CliFault) (p : Printed) → v ≡ stop_at c.back own → is_some v ≡ true → p.stop ≡ v
     → ((readings : List Reading) → HasReprinted readings c.reprint → ArePapers readings p.pages) → (edges : List Edge) → HasCopied edges c → EndsCopy edges own p
 ends_told settled c own None p is some stop papers = absurd (cc)
 ends_told settled c own (Some f) p is some stop papers = ends_stopped settled c own f p (sym is) stop papers
@@ -129,7 +129,7 @@ no_back None own h = refl
 no_back (Some n) own h = absurd (cc)
 
 -- the end of whole edges
-pub ends_whole : (c : Copier) (own : Option CliFault) (cut : Option Reading) (last : BusPrinters) (p : Printed) → stop_at c.back own ≡ None → p.stop ≡ None
+pub ends_whole : (c : CapturePrinter) (own : Option CliFault) (cut : Option Reading) (last : BusPrinters) (p : Printed) → stop_at c.back own ≡ None → p.stop ≡ None
     → ((edges : List Edge) (given : List Reading) → HasReadings edges given c.decoder → readings_of edges ≡ given ++ option_to_list cut)
     → PrintsReading cut c.reprint last
     → ((readings : List Reading) → HasReprinted readings last → ArePapers readings p.pages) → (edges : List Edge) → HasCopied edges c → EndsCopy edges own p
@@ -144,10 +144,10 @@ ends_whole c own cut last p is stop reads prints papers = λ edges h.
 
 -- Samples.
 
-pub paged_none : (input : TraceInput) (m : PageMaker) → HasMade input [] [] m.maker → HasCopied [] m.copier → HasPaged input [] m
+pub paged_none : (input : TraceInput) (m : PageMaker) → HasMade input [] [] m.maker → HasCopied [] m.printer → HasPaged input [] m
 paged_none input m made copied = record { edges = []; made = made; copied = copied }
 
-pub pages_one : (old new : PageMaker) (s : Edge) (e : Option Edge) → MakesMore s old.maker e new.maker → CopiesMore (option_to_list e) old.copier new.copier → PagesMore (s ∷ []) old new
+pub pages_one : (old new : PageMaker) (s : Edge) (e : Option Edge) → MakesMore s old.maker e new.maker → CopiesMore (option_to_list e) old.printer new.printer → PagesMore (s ∷ []) old new
 pages_one old new s e makes copies = λ input samples h. record {
   edges = h.edges ++ option_to_list e;
   made = makes input samples h.edges h.made;
@@ -155,14 +155,14 @@ pages_one old new s e makes copies = λ input samples h. record {
 }
 
 -- a sample more, if there is one
-pub pages_some : (old new : PageMaker) (o : Option Edge) (s : Edge) (e : Option Edge) → o ≡ Some s → MakesMore s old.maker e new.maker → CopiesMore (option_to_list e) old.copier new.copier → PagesMore (option_to_list o) old new
+pub pages_some : (old new : PageMaker) (o : Option Edge) (s : Edge) (e : Option Edge) → o ≡ Some s → MakesMore s old.maker e new.maker → CopiesMore (option_to_list e) old.printer new.printer → PagesMore (option_to_list o) old new
 pages_some old new o s e is makes copies = rw is (pages_one old new s e makes copies)
 
 pub pages_none : (m : PageMaker) → PagesMore [] m m
 pages_none m = λ input samples h. let P : List Edge → Type 0 = λ l. HasPaged input l m in subst P (sym (append-nil samples)) h
 
 -- the end of samples
-pub samples_end : (m : PageMaker) (c : Copier) (last : Option Edge) (own : Option CliFault) (p : Printed) → MakesAll m.maker last → CopiesMore (option_to_list last) m.copier c
+pub samples_end : (m : PageMaker) (c : CapturePrinter) (last : Option Edge) (own : Option CliFault) (p : Printed) → MakesAll m.maker last → CopiesMore (option_to_list last) m.printer c
     → ((edges : List Edge) → HasCopied edges c → EndsCopy edges own p) → EndsPages m own p
 samples_end m c last own p makes copies ends = λ input samples h.
     let P : List Edge → Type 0 = λ l. EndsCopy l own p in

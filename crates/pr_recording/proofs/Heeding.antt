@@ -1,4 +1,4 @@
--- A narrator, edge by edge.
+-- A report, edge by edge.
 use Rattle.std.proofs.Common.{◌≡◌, ℕ, ◌+◌, List, [], ◌∷◌, ◌++◌, refl, ap, sym, subst, ◌∙◌, append-nil, length-append, true, false, Option, Some, None}
 use Rattle.std.specs.Prelude.{is_some}
 use Rattle.std.specs.Option.{option_to_list}
@@ -13,19 +13,19 @@ use Rattle.pr_report.specs.ReadingText.{all_lines}
 use Rattle.pr_report.specs.Summary.{summary}
 use Rattle.pr_report.specs.Verdict.{verdict_text}
 use Rattle.pr_cli.specs.declared.fault.CliFault.{CliFault}
-use Rattle.pr_recording.specs.declared.account.Account.{Account}
-use Rattle.pr_recording.specs.declared.narrator.Ended.{Ended}
-use Rattle.pr_recording.specs.declared.narrator.Narrator.{Narrator}
+use Rattle.pr_recording.specs.declared.reading_log.ReadingLog.{ReadingLog}
+use Rattle.pr_recording.specs.declared.decode_report.Ended.{Ended}
+use Rattle.pr_recording.specs.declared.decode_report.DecodeReport.{DecodeReport}
 use Rattle.pr_recording.specs.Decoded.{back_in, in_front, stop_at, told_of}
 use Rattle.pr_recording.specs.Narrated.{AccountsMore, EndsEdges, HasAccounted, HasHeeded, HasJudged, HasNarrated, NarratesMore, time_of}
 use Rattle.pr_recording.proofs.Backs.{back_stays, front_back, front_stays, goes_back, goes_on, time_of_one}
 
 -- no edge
-pub narrated_none : (n : Narrator) → n.back ≡ None → HasReadings [] [] n.decoder → last_time n.decoder ≡ None → HasJudged [] n.judge → HasAccounted [] [] n.account → n.taken ≡ 0 → HasNarrated [] [] n
+pub narrated_none : (n : DecodeReport) → n.back ≡ None → HasReadings [] [] n.decoder → last_time n.decoder ≡ None → HasJudged [] n.judge → HasAccounted [] [] n.log → n.taken ≡ 0 → HasNarrated [] [] n
 narrated_none n b r l j a t = record { back = b; heeded = record { given = []; read = r; last = l; judged = j; accounted = a; taken = t } }
 
 -- other parts alone are changed
-heeded_as : (edges : List Edge) (written : List ℕ) (old new : Narrator) → new.decoder ≡ old.decoder → new.judge ≡ old.judge → new.account ≡ old.account → new.taken ≡ old.taken
+heeded_as : (edges : List Edge) (written : List ℕ) (old new : DecodeReport) → new.decoder ≡ old.decoder → new.judge ≡ old.judge → new.log ≡ old.log → new.taken ≡ old.taken
     → HasHeeded edges written old → HasHeeded edges written new
 heeded_as edges written old new d j a t h = record {
   given = h.given;
@@ -37,7 +37,7 @@ heeded_as edges written old new d j a t h = record {
 }
 
 -- behind an edge at which time goes back nothing is taken
-narrates_nothing : (n : Narrator) (m : ℕ) (more : List Edge) → n.back ≡ Some m → NarratesMore more n n
+narrates_nothing : (n : DecodeReport) (m : ℕ) (more : List Edge) → n.back ≡ Some m → NarratesMore more n n
 narrates_nothing n m more is = λ edges written h.
     let back : back_in edges ≡ Some m = sym h.back ∙ is in
     let P : List Edge → Type 0 = λ l. HasHeeded l written n in
@@ -46,7 +46,7 @@ narrates_nothing n m more is = λ edges written h.
       heeded = subst P (sym (front_stays edges more m back)) h.heeded;
     }
 
-pub narrates_stopped : (n : Narrator) (more : List Edge) → is_some n.back ≡ true → NarratesMore more n n
+pub narrates_stopped : (n : DecodeReport) (more : List Edge) → is_some n.back ≡ true → NarratesMore more n n
 narrates_stopped n more is = by n.back refl is
   where
     by : (v : Option ℕ) → n.back ≡ v → is_some v ≡ true → NarratesMore more n n
@@ -59,7 +59,7 @@ not_some None h = refl
 not_some (Some x) h = absurd (cc)
 
 -- with no edge more
-pub narrates_none : (n : Narrator) → NarratesMore [] n n
+pub narrates_none : (n : DecodeReport) → NarratesMore [] n n
 narrates_none n = λ edges written h. let P : List Edge → Type 0 = λ l. HasNarrated l written n in subst P (sym (append-nil edges)) h
 
 -- all edges are in front, where none goes back
@@ -67,11 +67,11 @@ all_front : (edges : List Edge) → back_in edges ≡ None → in_front (back_in
 all_front edges h = ap (λ v. in_front v edges) h
 
 -- what is known of edges in front, of all
-of_front : (edges : List Edge) (written : List ℕ) (n : Narrator) → back_in edges ≡ None → HasHeeded (in_front (back_in edges) edges) written n → HasHeeded edges written n
+of_front : (edges : List Edge) (written : List ℕ) (n : DecodeReport) → back_in edges ≡ None → HasHeeded (in_front (back_in edges) edges) written n → HasHeeded edges written n
 of_front edges written n none h = let P : List Edge → Type 0 = λ l. HasHeeded l written n in subst P (all_front edges none) h
 
 -- time goes back at an edge
-pub narrates_back : (old new : Narrator) (e : Edge) → old.back ≡ None → IsBefore e old.decoder → new.back ≡ Some old.taken → new.decoder ≡ old.decoder → new.judge ≡ old.judge → new.account ≡ old.account
+pub narrates_back : (old new : DecodeReport) (e : Edge) → old.back ≡ None → IsBefore e old.decoder → new.back ≡ Some old.taken → new.decoder ≡ old.decoder → new.judge ≡ old.judge → new.log ≡ old.log
     → new.taken ≡ old.taken → NarratesMore (e ∷ []) old new
 narrates_back old new e was before back d j a t = λ edges written h.
     let none : back_in edges ≡ None = sym h.back ∙ was in
@@ -84,9 +84,9 @@ narrates_back old new e was before back d j a t = λ edges written h.
     }
 
 -- an edge is taken
-pub narrates_one : (old new : Narrator) (e : Edge) (r : Option Reading) → old.back ≡ None → (IsBefore e old.decoder → ⊥) → new.back ≡ old.back
+pub narrates_one : (old new : DecodeReport) (e : Edge) (r : Option Reading) → old.back ≡ None → (IsBefore e old.decoder → ⊥) → new.back ≡ old.back
     → ((edges : List Edge) (given : List Reading) → HasReadings edges given old.decoder → HasReadings (edges ++ e ∷ []) (given ++ option_to_list r) new.decoder) → last_time new.decoder ≡ Some e.time
-    → ((edges : List Edge) → HasJudged edges old.judge → HasJudged (edges ++ e ∷ []) new.judge) → AccountsMore (option_to_list r) old.account new.account → new.taken ≡ old.taken + 1
+    → ((edges : List Edge) → HasJudged edges old.judge → HasJudged (edges ++ e ∷ []) new.judge) → AccountsMore (option_to_list r) old.log new.log → new.taken ≡ old.taken + 1
     → NarratesMore (e ∷ []) old new
 narrates_one old new e r was later same reads last judges accounts taken = λ edges written h.
     let none : back_in edges ≡ None = sym h.back ∙ was in
@@ -108,9 +108,9 @@ narrates_one old new e r was later same reads last judges accounts taken = λ ed
     }
 
 -- lines are given up
-pub narrated_cleared : (old new : Narrator) → new.back ≡ old.back → new.decoder ≡ old.decoder → new.judge ≡ old.judge → new.taken ≡ old.taken
-    → ((given : List Reading) (written : List ℕ) → HasAccounted given written old.account → HasAccounted given (written ++ old.account.lines.items) new.account) → (edges : List Edge) (written : List ℕ)
-    → HasNarrated edges written old → HasNarrated edges (written ++ old.account.lines.items) new
+pub narrated_cleared : (old new : DecodeReport) → new.back ≡ old.back → new.decoder ≡ old.decoder → new.judge ≡ old.judge → new.taken ≡ old.taken
+    → ((given : List Reading) (written : List ℕ) → HasAccounted given written old.log → HasAccounted given (written ++ old.log.lines.items) new.log) → (edges : List Edge) (written : List ℕ)
+    → HasNarrated edges written old → HasNarrated edges (written ++ old.log.lines.items) new
 narrated_cleared old new b d j t clears = λ edges written h.
     let k = h.heeded in
     record {
@@ -126,7 +126,7 @@ narrated_cleared old new b d j t clears = λ edges written h.
     }
 
 -- the end of edges that stop
-ends_stopped : GivenAreSettled → (n : Narrator) (own : Option CliFault) (f : CliFault) (e : Ended) → stop_at n.back own ≡ Some f → e.stop ≡ Some f → e.lines ≡ n.account.lines → (edges : List Edge) (written : List ℕ)
+ends_stopped : GivenAreSettled → (n : DecodeReport) (own : Option CliFault) (f : CliFault) (e : Ended) → stop_at n.back own ≡ Some f → e.stop ≡ Some f → e.lines ≡ n.log.lines → (edges : List Edge) (written : List ℕ)
     → HasNarrated edges written n → EndsEdges edges written own e
 ends_stopped settled n own f e is stop lines = λ edges written h.
     let k = h.heeded in
@@ -138,7 +138,7 @@ ends_stopped settled n own f e is stop lines = λ edges written h.
           ∙ (ap (λ rs. all_lines Nothing rs) (sym (settled (in_front (back_in edges) edges) k.given n.decoder k.read)) ∙ sym (ap (λ s. told_of s edges) stop)));
     }
 
-pub ends_told : GivenAreSettled → (n : Narrator) (own : Option CliFault) (v : Option CliFault) (e : Ended) → v ≡ stop_at n.back own → is_some v ≡ true → e.stop ≡ v → e.lines ≡ n.account.lines
+pub ends_told : GivenAreSettled → (n : DecodeReport) (own : Option CliFault) (v : Option CliFault) (e : Ended) → v ≡ stop_at n.back own → is_some v ≡ true → e.stop ≡ v → e.lines ≡ n.log.lines
     → (edges : List Edge) (written : List ℕ) → HasNarrated edges written n → EndsEdges edges written own e
 ends_told settled n own None e is some stop lines = absurd (cc)
 ends_told settled n own (Some f) e is some stop lines = ends_stopped settled n own f e (sym is) stop lines
@@ -149,9 +149,9 @@ no_back None own h = refl
 no_back (Some n) own h = absurd (cc)
 
 -- the end of whole edges
-pub ends_whole : (n : Narrator) (own : Option CliFault) (cut : Option Reading) (a : Account) (v : Option WaveFault) (e : Ended) → stop_at n.back own ≡ None → e.stop ≡ None
+pub ends_whole : (n : DecodeReport) (own : Option CliFault) (cut : Option Reading) (a : ReadingLog) (v : Option WaveFault) (e : Ended) → stop_at n.back own ≡ None → e.stop ≡ None
     → ((edges : List Edge) (given : List Reading) → HasReadings edges given n.decoder → readings_of edges ≡ given ++ option_to_list cut) → ((edges : List Edge) → HasJudged edges n.judge → v ≡ fault_of edges)
-    → AccountsMore (option_to_list cut) n.account a
+    → AccountsMore (option_to_list cut) n.log a
     → ((given : List Reading) (written : List ℕ) → HasAccounted given written a → written ++ e.lines.items ≡ all_lines Nothing given ++ (summary given ++ verdict_text v)) → (edges : List Edge) (written : List ℕ)
     → HasNarrated edges written n → EndsEdges edges written own e
 ends_whole n own cut a v e is stop reads judges accounts ends = λ edges written h.

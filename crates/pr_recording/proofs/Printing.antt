@@ -13,8 +13,8 @@ use Rattle.pr_cli.specs.Reported.{EachTextSaysSamples, EndsInput, GivesMore, Has
 use Rattle.pr_cli.specs.declared.fault.CliFault.{CliFault}
 use Rattle.pr_cli.specs.declared.fault.CliFault.TheVariants.{Script, Trace, Wave, Capture, TooLarge, NoMemory, ReadFailed, WriteFailed}
 use Rattle.pr_cli.specs.declared.source_reader.SourceReader.{SourceReader}
-use Rattle.pr_recording.specs.declared.copier.PageMaker.{PageMaker}
-use Rattle.pr_recording.specs.declared.copier.Printed.{Printed}
+use Rattle.pr_recording.specs.declared.capture_printer.PageMaker.{PageMaker}
+use Rattle.pr_recording.specs.declared.capture_printer.Printed.{Printed}
 use Rattle.pr_recording.specs.Copied.{EndsPages, EndsText, HasPaged, HasTakenText, IsPrintOf, PagesMore, PrintsBlock}
 use Rattle.pr_recording.specs.Copying.{GivesPrint, IsNoPrint, IsPrintStop, PrintsWhole, WritesPrint, text_of_print}
 use Rattle.pr_recording.specs.Decoded.{back_in, stop_at}

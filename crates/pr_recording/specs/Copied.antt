@@ -12,9 +12,9 @@ use Rattle.pr_cli.specs.Report.{edges_made, SaysSamples}
 use Rattle.pr_cli.specs.Reported.{HasGiven, HasMade, IsOwnFault}
 use Rattle.pr_cli.specs.declared.fault.CliFault.{CliFault}
 use Rattle.pr_cli.specs.declared.source_reader.SourceReader.{SourceReader}
-use Rattle.pr_recording.specs.declared.copier.Copier.{Copier}
-use Rattle.pr_recording.specs.declared.copier.PageMaker.{PageMaker}
-use Rattle.pr_recording.specs.declared.copier.Printed.{Printed}
+use Rattle.pr_recording.specs.declared.capture_printer.CapturePrinter.{CapturePrinter}
+use Rattle.pr_recording.specs.declared.capture_printer.PageMaker.{PageMaker}
+use Rattle.pr_recording.specs.declared.capture_printer.Printed.{Printed}
 use Rattle.pr_recording.specs.Decoded.{back_in, in_front, stop_at}
 use Rattle.pr_recording.specs.Narrated.{time_of}
 use Rattle.pr_recording.specs.Pages.{readings_up_to}
@@ -22,7 +22,7 @@ use Rattle.pr_recording.specs.Pages.{readings_up_to}
 -- Copiers.
 
 -- edges in time order were taken, and their readings printed
-pub record HasPrinted (edges : List Edge) (c : Copier) : Type 0 where
+pub record HasPrinted (edges : List Edge) (c : CapturePrinter) : Type 0 where
   pub given : List Reading
   pub read : HasReadings edges given c.decoder
   pub last : last_time c.decoder ≡ time_of edges
@@ -30,12 +30,12 @@ pub record HasPrinted (edges : List Edge) (c : Copier) : Type 0 where
   pub taken : c.taken ≡ length edges
 
 -- edges were taken, up to where time goes back
-pub record HasCopied (edges : List Edge) (c : Copier) : Type 0 where
+pub record HasCopied (edges : List Edge) (c : CapturePrinter) : Type 0 where
   pub back : c.back ≡ back_in edges
   pub printed : HasPrinted (in_front (back_in edges) edges) c
 
 -- with more edges
-abbrev pub CopiesMore : List Edge → (old new : Copier) → Type 0
+abbrev pub CopiesMore : List Edge → (old new : CapturePrinter) → Type 0
 CopiesMore more old new = (edges : List Edge) → HasCopied edges old → HasCopied (edges ++ more) new
 
 -- a reading more is printed, if there is one
@@ -44,10 +44,10 @@ PrintsReading r old new =
     (readings : List Reading) → reprint.HasReprinted readings old → reprint.HasReprinted (readings ++ option_to_list r) new
 
 -- how many edges were taken, and how many inputs a printer has taken at most
-abbrev pub edges_copied : Copier → ℕ
+abbrev pub edges_copied : CapturePrinter → ℕ
 edges_copied c = c.taken
 
-abbrev pub inputs_printed : Copier → ℕ
+abbrev pub inputs_printed : CapturePrinter → ℕ
 inputs_printed c = reprint.number_taken c.reprint
 
 -- the end of edges whose input has this fault, if it has one
@@ -61,7 +61,7 @@ pub record EndsCopy (edges : List Edge) (own : Option CliFault) (p : Printed) : 
 pub record HasPaged (input : TraceInput) (samples : List Edge) (m : PageMaker) : Type 0 where
   pub edges : List Edge
   pub made : HasMade input samples edges m.maker
-  pub copied : HasCopied edges m.copier
+  pub copied : HasCopied edges m.printer
 
 -- with more samples
 abbrev pub PagesMore : List Edge → (old new : PageMaker) → Type 0
@@ -73,10 +73,10 @@ EndsPages m own p = (input : TraceInput) (samples : List Edge) → HasPaged inpu
     → EndsCopy (edges_made input.source input.start samples) own p
 
 abbrev pub edges_paged : PageMaker → ℕ
-edges_paged m = edges_copied m.copier
+edges_paged m = edges_copied m.printer
 
 abbrev pub inputs_paged : PageMaker → ℕ
-inputs_paged m = inputs_printed m.copier
+inputs_paged m = inputs_printed m.printer
 
 -- Blocks.
 

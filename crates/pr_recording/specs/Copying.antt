@@ -9,7 +9,7 @@ use Rattle.pr_input.specs.PartlyWritten.{AppendsFront}
 use Rattle.pr_cli.specs.Reported.{IsOwnFault}
 use Rattle.pr_cli.specs.declared.fault.CliFault.{CliFault}
 use Rattle.pr_cli.specs.declared.fault.CliFault.TheVariants.{Wave, TooLarge, NoMemory, ReadFailed, WriteFailed}
-use Rattle.pr_recording.specs.declared.copier.Printed.{Printed}
+use Rattle.pr_recording.specs.declared.capture_printer.Printed.{Printed}
 use Rattle.pr_recording.specs.Copied.{IsPrintOf}
 use Rattle.pr_recording.specs.Pages.{papers_alone}
 

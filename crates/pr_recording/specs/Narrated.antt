@@ -20,41 +20,41 @@ use Rattle.pr_cli.specs.Reported.{HasGiven, HasMade, IsOwnFault}
 use Rattle.pr_cli.specs.declared.fault.CliFault.{CliFault}
 use Rattle.pr_cli.specs.declared.fault.CliFault.TheVariants.{Wave, WriteFailed}
 use Rattle.pr_cli.specs.declared.source_reader.SourceReader.{SourceReader}
-use Rattle.pr_recording.specs.declared.account.Account.{Account}
+use Rattle.pr_recording.specs.declared.reading_log.ReadingLog.{ReadingLog}
 use Rattle.pr_recording.specs.declared.judge.Judge.{Judge}
-use Rattle.pr_recording.specs.declared.narrator.Ended.{Ended}
-use Rattle.pr_recording.specs.declared.narrator.Narrator.{Narrator}
-use Rattle.pr_recording.specs.declared.teller.Teller.{Teller}
+use Rattle.pr_recording.specs.declared.decode_report.Ended.{Ended}
+use Rattle.pr_recording.specs.declared.decode_report.DecodeReport.{DecodeReport}
+use Rattle.pr_recording.specs.declared.report_builder.ReportBuilder.{ReportBuilder}
 use Rattle.pr_recording.specs.Decoded.{back_in, in_front, stop_at, told_of}
 
 -- Judges.
 
 -- these edges were taken: they have no fault yet, or this one whatever follows
-abbrev pub HasTaken : (edges : List Edge) → FrameTimer → Option WaveFault → Type 0
-HasTaken edges t None = (given : List TimedFrame) × story.HasTold edges given t
-HasTaken edges t (Some w) = (more : List Edge) → fault_of (edges ++ more) ≡ Some w
+abbrev pub HasTimed : (edges : List Edge) → FrameTimer → Option WaveFault → Type 0
+HasTimed edges t None = (given : List TimedFrame) × story.HasTold edges given t
+HasTimed edges t (Some w) = (more : List Edge) → fault_of (edges ++ more) ≡ Some w
 
 abbrev pub HasJudged : (edges : List Edge) → Judge → Type 0
-HasJudged edges j = HasTaken edges j.teller j.fault
+HasJudged edges j = HasTimed edges j.timer j.fault
 
 -- how many edges a judge has taken
 abbrev pub edges_judged : Judge → ℕ
-edges_judged j = story.number_taken j.teller
+edges_judged j = story.number_taken j.timer
 
 -- Accounts.
 
 -- the lines of these readings were made, and this text of them was given up
-pub record HasAccounted (given : List Reading) (written : List ℕ) (a : Account) : Type 0 where
+pub record HasAccounted (given : List Reading) (written : List ℕ) (a : ReadingLog) : Type 0 where
   pub surveyed : survey.HasSurveyed given a.survey
   pub behind : a.behind ≡ behind_all Nothing given
   pub lines : written ++ a.lines.items ≡ all_lines Nothing given
 
--- how many readings an account has
-abbrev pub readings_told : Account → ℕ
+-- how many readings an log has
+abbrev pub readings_told : ReadingLog → ℕ
 readings_told a = survey.number_taken a.survey
 
 -- with more readings
-abbrev pub AccountsMore : List Reading → (old new : Account) → Type 0
+abbrev pub AccountsMore : List Reading → (old new : ReadingLog) → Type 0
 AccountsMore more old new = (given : List Reading) (written : List ℕ) → HasAccounted given written old
     → HasAccounted (given ++ more) written new
 
@@ -70,25 +70,25 @@ time_of [] = None
 time_of (e ∷ es) = Some (time_after e.time es)
 
 -- edges in time order were taken, and their lines were made
-pub record HasHeeded (edges : List Edge) (written : List ℕ) (n : Narrator) : Type 0 where
+pub record HasHeeded (edges : List Edge) (written : List ℕ) (n : DecodeReport) : Type 0 where
   pub given : List Reading
   pub read : HasReadings edges given n.decoder
   pub last : last_time n.decoder ≡ time_of edges
   pub judged : HasJudged edges n.judge
-  pub accounted : HasAccounted given written n.account
+  pub accounted : HasAccounted given written n.log
   pub taken : n.taken ≡ length edges
 
 -- edges were taken, up to where time goes back
-pub record HasNarrated (edges : List Edge) (written : List ℕ) (n : Narrator) : Type 0 where
+pub record HasNarrated (edges : List Edge) (written : List ℕ) (n : DecodeReport) : Type 0 where
   pub back : n.back ≡ back_in edges
   pub heeded : HasHeeded (in_front (back_in edges) edges) written n
 
 -- how many edges and readings were taken, by all that count them
-abbrev pub load : Narrator → ℕ
-load n = n.taken + (edges_judged n.judge + readings_told n.account)
+abbrev pub load : DecodeReport → ℕ
+load n = n.taken + (edges_judged n.judge + readings_told n.log)
 
 -- with more edges
-abbrev pub NarratesMore : List Edge → (old new : Narrator) → Type 0
+abbrev pub NarratesMore : List Edge → (old new : DecodeReport) → Type 0
 NarratesMore more old new = (edges : List Edge) (written : List ℕ) → HasNarrated edges written old → HasNarrated (edges ++ more) written new
 
 -- the end of edges whose input has this fault, if it has one: why they stop, and the lines that were not given up before
@@ -99,43 +99,43 @@ pub record EndsEdges (edges : List Edge) (written : List ℕ) (own : Option CliF
 -- Tellers.
 
 -- these samples were taken
-pub record HasHeard (input : TraceInput) (samples : List Edge) (written : List ℕ) (t : Teller) : Type 0 where
+pub record HasHeard (input : TraceInput) (samples : List Edge) (written : List ℕ) (t : ReportBuilder) : Type 0 where
   pub edges : List Edge
   pub made : HasMade input samples edges t.maker
-  pub narrated : HasNarrated edges written t.narrator
+  pub narrated : HasNarrated edges written t.report
 
-abbrev pub edges_heard : Teller → ℕ
-edges_heard t = load t.narrator
+abbrev pub edges_heard : ReportBuilder → ℕ
+edges_heard t = load t.report
 
 -- the lines that were not given up yet
-abbrev pub lines_in : Teller → List ℕ
-lines_in t = t.narrator.account.lines.items
+abbrev pub lines_in : ReportBuilder → List ℕ
+lines_in t = t.report.log.lines.items
 
 -- with more samples
-abbrev pub HearsMore : List Edge → (old new : Teller) → Type 0
+abbrev pub HearsMore : List Edge → (old new : ReportBuilder) → Type 0
 HearsMore more old new = (input : TraceInput) (samples : List Edge) (written : List ℕ) → HasHeard input samples written old
     → HasHeard input (samples ++ more) written new
 
 -- the lines so far are given up
-abbrev pub GivesUp : (old new : Teller) → Type 0
+abbrev pub GivesUp : (old new : ReportBuilder) → Type 0
 GivesUp old new = (input : TraceInput) (samples : List Edge) (written : List ℕ) → HasHeard input samples written old
     → HasHeard input samples (written ++ lines_in old) new
 
 -- the end of samples
-abbrev pub EndsSamples : Teller → (own : Option CliFault) → Ended → Type 0
+abbrev pub EndsSamples : ReportBuilder → (own : Option CliFault) → Ended → Type 0
 EndsSamples t own e = (input : TraceInput) (samples : List Edge) (written : List ℕ) → HasHeard input samples written t
     → EndsEdges (edges_made input.source input.start samples) written own e
 
 -- Blocks.
 
 -- a text was taken, and its samples were told
-pub record HasNoted (input : TraceInput) (text written : List ℕ) (r : SourceReader) (t : Teller) : Type 0 where
+pub record HasNoted (input : TraceInput) (text written : List ℕ) (r : SourceReader) (t : ReportBuilder) : Type 0 where
   pub samples : List Edge
   pub given : HasGiven input text samples r
   pub heard : HasHeard input samples written t
 
 -- what a block comes to: its samples were told, or those before the input's fault
-abbrev pub NotesBlock : (block : List ℕ) → SourceReader → Teller → Option CliFault → SourceReader → Teller → Type 0
+abbrev pub NotesBlock : (block : List ℕ) → SourceReader → ReportBuilder → Option CliFault → SourceReader → ReportBuilder → Type 0
 NotesBlock block r t None s u = (input : TraceInput) (text written : List ℕ) → HasNoted input text written r t
     → HasNoted input (text ++ block) written s u
 NotesBlock block r t (Some f) s u = IsOwnFault f × ((input : TraceInput) (text written : List ℕ) → HasNoted input text written r t
@@ -143,7 +143,7 @@ NotesBlock block r t (Some f) s u = IsOwnFault f × ((input : TraceInput) (text 
     × HasHeard input samples written u)
 
 -- what an input comes to that ends here, or has this fault here
-abbrev pub EndsNoted : SourceReader → Teller → Ended → Type 0
+abbrev pub EndsNoted : SourceReader → ReportBuilder → Ended → Type 0
 EndsNoted r t e = (input : TraceInput) (text written : List ℕ) → HasNoted input text written r t
     → (samples : List Edge) × (own : Option CliFault) × SaysSamples input input.source text samples own × IfSome own IsOwnFault
     × EndsEdges (edges_made input.source input.start samples) written own e

@@ -9,8 +9,8 @@ ghost use Rattle.pr_input.specs.Watched.{has_failed, wrapped};
 ghost use Rattle.pr_recording.specs.Decoded.{AnswersDecode, IsDecodeFault, ReadsAll};
 ghost use Rattle.pr_recording.specs.Narrated.{EndsNoted, GivesUp, NotesBlock, WritesEnd, edges_heard, lines_in};
 
-use crate::narrator::Ended;
-use crate::teller::Teller;
+use crate::decode_report::Ended;
+use crate::report_builder::ReportBuilder;
 use pr_capture::TraceInput;
 use pr_cli::{
     BLOCK, CHECK_LIMIT, CliFault, SourceReader, Watched, WriteFault, made_edges_come_first,
@@ -85,22 +85,22 @@ pub fn decode_input<R: Read, W: Write>(
     texts_say_samples();
     made_edges_come_first();
     let mut reader = SourceReader::new(alloc, trace);
-    let mut teller = Teller::new(alloc, trace)?;
+    let mut builder = ReportBuilder::new(alloc, trace)?;
     let mut left = limit;
     let mut block = [0u8; BLOCK];
     'pieces: loop {
         match input.read(&mut block) {
             Err(_) => return Err(CliFault::ReadFailed),
-            Ok(0) => return write_end(output, end_input(reader, teller)?),
+            Ok(0) => return write_end(output, end_input(reader, builder)?),
             Ok(n) => {
                 if n > left {
                     return Err(CliFault::TooLarge);
                 }
                 left -= n;
-                if let Some(fault) = tell_block(&mut reader, &mut teller, &block[..n])? {
-                    return write_end(output, teller.finish(Some(fault))?);
+                if let Some(fault) = tell_block(&mut reader, &mut builder, &block[..n])? {
+                    return write_end(output, builder.finish(Some(fault))?);
                 }
-                write_lines(output, &mut teller)?;
+                write_lines(output, &mut builder)?;
             }
         }
     }
@@ -109,20 +109,20 @@ pub fn decode_input<R: Read, W: Write>(
 /// Tells the bytes of a block. Gives the input's fault, where one stands there.
 fn tell_block(
     reader: &mut SourceReader<'_>,
-    teller: &mut Teller,
+    builder: &mut ReportBuilder,
     block: &[u8],
 ) -> Result<Option<CliFault>, AllocError>
     requires lines { lines_read reader.old + length block.now + 1 < 2 ^ 64 }
-    requires edges { edges_heard teller.old + 3 * length block.now + 3 < 2 ^ 64 }
-    ensures noted { IfOk result (λ fault. NotesBlock block.now reader.old teller.old fault reader.new teller.new) }
+    requires edges { edges_heard builder.old + 3 * length block.now + 3 < 2 ^ 64 }
+    ensures noted { IfOk result (λ fault. NotesBlock block.now reader.old builder.old fault reader.new builder.new) }
     ensures lines { IfOk result (λ fault. fault ≡ None → lines_read reader.new ≤ lines_read reader.old + length block.now) }
-    ensures edges { OnOk result (edges_heard teller.new ≤ edges_heard teller.old + 3 * length block.now) }
+    ensures edges { OnOk result (edges_heard builder.new ≤ edges_heard builder.old + 3 * length block.now) }
 {
     let mut rest = block;
     while !rest.is_empty() {
         match reader.take_front(rest) {
             Ok((len, sample)) => {
-                teller.take_if(sample)?;
+                builder.take_if(sample)?;
                 rest = &rest[len..];
             }
             Err(fault) => return Ok(Some(own_fault(fault)?)),
@@ -132,36 +132,39 @@ fn tell_block(
 }
 
 /// Ends an input, and gives the last of what is told of it.
-fn end_input(reader: SourceReader<'_>, mut teller: Teller) -> Result<Ended, AllocError>
+fn end_input(reader: SourceReader<'_>, mut builder: ReportBuilder) -> Result<Ended, AllocError>
     requires lines { lines_read reader + 1 < 2 ^ 64 }
-    requires edges { edges_heard teller + 9 < 2 ^ 64 }
-    ensures { IfOk result (λ ended. EndsNoted reader.entry teller ended) }
+    requires edges { edges_heard builder + 9 < 2 ^ 64 }
+    ensures { IfOk result (λ ended. EndsNoted reader.entry builder ended) }
 {
     match reader.finish() {
         Ok(sample) => {
-            teller.take_if(sample)?;
-            teller.finish(None)
+            builder.take_if(sample)?;
+            builder.finish(None)
         }
         Err(fault) => {
             let own = own_fault(fault)?;
-            teller.finish(Some(own))
+            builder.finish(Some(own))
         }
     }
 }
 
 /// Writes the lines that are not written yet.
-fn write_lines<W: Write>(output: &mut Watched<W>, teller: &mut Teller) -> Result<(), CliFault>
+fn write_lines<W: Write>(
+    output: &mut Watched<W>,
+    builder: &mut ReportBuilder,
+) -> Result<(), CliFault>
     requires fresh { has_failed output.old ≡ false }
-    ensures ok { OnOk result (Appends (W.contents (wrapped output.old)) (W.contents (wrapped output.new)) (lines_in teller.old)) }
-    ensures err { OnErr result (AppendsFront (W.contents (wrapped output.old)) (W.contents (wrapped output.new)) (lines_in teller.old)) }
-    ensures given { OnOk result (GivesUp teller.old teller.new) }
-    ensures count { OnOk result (edges_heard teller.new ≡ edges_heard teller.old) }
+    ensures ok { OnOk result (Appends (W.contents (wrapped output.old)) (W.contents (wrapped output.new)) (lines_in builder.old)) }
+    ensures err { OnErr result (AppendsFront (W.contents (wrapped output.old)) (W.contents (wrapped output.new)) (lines_in builder.old)) }
+    ensures given { OnOk result (GivesUp builder.old builder.new) }
+    ensures count { OnOk result (edges_heard builder.new ≡ edges_heard builder.old) }
     ensures own { IfErr result (λ fault. fault ≡ CliFault.WriteFailed) }
     ensures failed { IsErr result ↔ (has_failed output.new ≡ true) }
 {
-    match write_piece(output, teller.lines()) {
+    match write_piece(output, builder.lines()) {
         Ok(()) => {
-            teller.clear();
+            builder.clear();
             Ok(())
         }
         Err(WriteFault) => Err(CliFault::WriteFailed),

@@ -11,7 +11,7 @@ use pr_wire::{Edge, WaveFault};
 /// Judges edges one by one, without memory, by the table of lawful traces.
 #[derive(Drop)]
 pub struct Judge {
-    teller: FrameTimer,
+    timer: FrameTimer,
     /// The first fault of the edges, if they have one whatever follows.
     fault: Option<WaveFault>,
 }
@@ -23,7 +23,7 @@ impl Judge {
         ensures count { edges_judged result ≡ 0 }
     {
         Judge {
-            teller: FrameTimer::new(),
+            timer: FrameTimer::new(),
             fault: None,
         }
     }
@@ -37,7 +37,7 @@ impl Judge {
         if self.fault.is_some() {
             return;
         }
-        match self.teller.take(edge) {
+        match self.timer.take(edge) {
             Ok(_) => {}
             Err(fault) => self.fault = Some(fault),
         }
@@ -49,7 +49,7 @@ impl Judge {
     {
         match self.fault {
             Some(fault) => Some(fault),
-            None => self.teller.finish().err(),
+            None => self.timer.finish().err(),
         }
     }
 }

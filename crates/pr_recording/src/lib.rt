@@ -4,21 +4,32 @@
 //! text that `specs/Decoded.antt` defines of the edges that the recording says: the lines of its readings,
 //! their summary, and whether it is lawful. [`reprint_over`] writes the pages that printers 4 and 5 print of
 //! it in their place, as `specs/Pages.antt` defines them.
+//!
+//! - `decode` reads block by block, and writes what a block settles before it reads the next.
+//!   `report_builder` makes the edges of the samples; `decode_report` takes them up to where time goes back,
+//!   and hands each to a decoder and to `judge`, which says whether they are a lawful trace;
+//!   `reading_log` has the lines that are not written yet, and a survey of all readings.
+//! - `pages` has the same loop, with `capture_printer` in the report's place: it prints what the decoder
+//!   gives, and keeps the papers alone.
+//! - `printer_pair` is what printers 4 and 5 print of readings, `bus_printer` one of them: its listening
+//!   part (pr_receiver's `Listener`) and pr_page's `Printer`. `frame` is the frame that a reading says. A
+//!   frame that printer 4 has printed and printer 5 was refused cannot be given to both again, so a
+//!   refusal is for good.
 #![tactic(auto)]
 
-mod account;
 mod bus_printer;
-mod copier;
+mod capture_printer;
 mod decode;
+mod decode_report;
 mod frame;
 mod judge;
 mod laws;
-mod narrator;
 mod pages;
 mod printer_pair;
-mod teller;
+mod reading_log;
+mod report_builder;
 
-pub use copier::Printed;
+pub use capture_printer::Printed;
 pub use decode::{decode_input, decode_over};
 pub use laws::{readings_are_heard_in_turn, traces_are_heard_as_spelled};
 pub use pages::{PRINT_LIMIT, print_input, reprint_over};

@@ -9,7 +9,7 @@ ghost use Rattle.pr_recording.specs.Copying.{GivesPrint, HasReadPages, IsNoPrint
 ghost use Rattle.pr_recording.specs.Decoded.{IsDecodeFault, ReadsAll};
 ghost use Rattle.pr_recording.specs.Pages.{AnswersPages, papers_alone, print_limit};
 
-use crate::copier::{PageMaker, Printed};
+use crate::capture_printer::{PageMaker, Printed};
 use crate::printer_pair::PrintedPages;
 use pr_capture::TraceInput;
 use pr_cli::{

@@ -1,4 +1,4 @@
--- One edge more, taken by a storyteller.
+-- One edge more, taken by a frame timer.
 use Rattle.std.proofs.Common.{◌≡◌, ℕ, Bool, true, false, List, [], ◌∷◌, ◌++◌, Option, Some, None, Result, Ok, Err, if◌then◌else◌, refl, sym, ap, ◌∙◌, append_assoc, append-nil}
 use Rattle.std.specs.Option.{option_to_list}
 use Rattle.std.specs.Prelude.{IfOk, IfErr, OnErr}
@@ -81,11 +81,11 @@ behind-fault look (Some last) p n e es w h = by (verdict last p e) h
     by (Ok t) k = absurd (cc)
     by (Err f) k = refl
 
--- where a storyteller has come
+-- where a frame timer has come
 abbrev pub come_to : FrameTimer → List Frame → Reached
 come_to s before = record { last = s.last; place = s.place; before = before; count = s.taken }
 
--- where the edges of a storyteller and more edges lead
+-- where the edges of a frame timer and more edges lead
 told-leads : (edges more : List Edge) (given : List TimedFrame) (s : FrameTimer) (h : HasTold edges given s)
     → reached begin (edges ++ more) ≡ reached (come_to s h.before) more
 told-leads edges more given s h = reached-append edges more begin ∙ ap (λ v. led (λ q. reached q more) v) h.leads

@@ -42,15 +42,15 @@ pub fn push_story(text: &mut Vec<u8>, edges: &[Edge]) -> Result<Option<WaveFault
     ensures fault { IfOk result (λ fault. fault ≡ fault_of edges.now) }
 {
     allowed_traces();
-    let mut teller = FrameTimer::new();
+    let mut timer = FrameTimer::new();
     let mut behind_data = false;
     for edge in edges {
-        match teller.take(*edge) {
+        match timer.take(*edge) {
             Ok(frame) => behind_data = push_if_some(text, behind_data, frame)?,
             Err(fault) => return Ok(Some(fault)),
         }
     }
-    match teller.finish() {
+    match timer.finish() {
         Ok(()) => {
             text.extend_from_slice(b"lawful\n")?;
             Ok(None)

@@ -1,0 +1,128 @@
+//! What is told of edges that come one by one.
+
+ghost use Rattle.std.specs.Prelude.{◌≡◌, ◌+◌, ◌^◌, ◌<◌, ◌≤◌, ◌∷◌, ◌++◌, [], List, ℕ, IfOk, OnOk};
+ghost use Rattle.std.specs.Option.{option_to_list};
+ghost use Rattle.pr_wire.specs.declared.Edge.{Edge};
+ghost use Rattle.pr_recording.specs.Decoded.{stop_at};
+ghost use Rattle.pr_recording.specs.Narrated.{EndsEdges, HasNarrated, NarratesMore, load};
+
+use crate::judge::Judge;
+use crate::reading_log::ReadingLog;
+use pr_cli::CliFault;
+use pr_decode::{Decoder, GoesBack, readings_add_up};
+use pr_wire::{Edge, WaveFault};
+use std::alloc::{AllocError, Global};
+
+/// The last of what is told of a recording, and why no more is.
+#[derive(Drop)]
+pub struct Ended {
+    pub lines: Vec<u8>,
+    pub stop: Option<CliFault>,
+}
+
+/// Makes the lines of the edges of a recording, up to where time goes back.
+#[derive(Drop)]
+pub struct DecodeReport {
+    decoder: Decoder,
+    judge: Judge,
+    log: ReadingLog,
+    /// How many edges were taken.
+    taken: usize,
+    /// The index of the edge at which time goes back.
+    back: Option<usize>,
+}
+
+impl DecodeReport {
+    /// A report that has taken no edge.
+    pub fn new(alloc: Global) -> Result<DecodeReport, AllocError>
+        ensures narrated { IfOk result (λ report. HasNarrated [] [] report) }
+        ensures load { IfOk result (λ report. load report ≡ 0) }
+    {
+        Ok(DecodeReport {
+            decoder: Decoder::new(),
+            judge: Judge::new(),
+            log: ReadingLog::new(alloc)?,
+            taken: 0,
+            back: None,
+        })
+    }
+
+    /// Takes the next edge. Preceding one at which time goes back it takes none.
+    pub fn take(&mut self, edge: Edge) -> Result<(), AllocError>
+        requires room { load self.old + 3 < 2 ^ 64 }
+        ensures narrated { OnOk result (NarratesMore (edge ∷ []) self.old self.new) }
+        ensures load { OnOk result (load self.new ≤ load self.old + 3) }
+    {
+        if self.back.is_some() {
+            return Ok(());
+        }
+        match self.decoder.take(edge) {
+            Ok(reading) => {
+                self.judge.take(edge);
+                self.taken += 1;
+                self.log.push_if(reading)
+            }
+            Err(GoesBack) => {
+                self.back = Some(self.taken);
+                Ok(())
+            }
+        }
+    }
+
+    /// Takes the next edge, if there is one.
+    pub fn take_if(&mut self, edge: Option<Edge>) -> Result<(), AllocError>
+        requires room { load self.old + 3 < 2 ^ 64 }
+        ensures narrated { OnOk result (NarratesMore (option_to_list edge) self.old self.new) }
+        ensures load { OnOk result (load self.new ≤ load self.old + 3) }
+    {
+        match edge {
+            Some(edge) => self.take(edge),
+            None => Ok(()),
+        }
+    }
+
+    /// The lines that are not written yet.
+    pub fn lines(&self) -> &[u8]
+        ensures { result.now ≡ self.now.log.lines.items }
+    {
+        self.log.lines()
+    }
+
+    /// Gives up these lines, once they are written.
+    pub fn clear(&mut self)
+        ensures cleared { (edges : List Edge) (written : List ℕ) → HasNarrated edges written self.old →
+            HasNarrated edges (written ++ self.old.log.lines.items) self.new }
+        ensures load { load self.new ≡ load self.old }
+    {
+        self.log.clear();
+    }
+
+    /// Ends the edges of an input with this fault, if it has one. Where nothing stops them, what the end
+    /// cuts, the summary and the verdict are told.
+    pub fn finish(mut self, own: Option<CliFault>) -> Result<Ended, AllocError>
+        requires room { load self + 3 < 2 ^ 64 }
+        ensures { IfOk result (λ ended. (edges : List Edge) (written : List ℕ) → HasNarrated edges written self →
+            EndsEdges edges written own ended) }
+    {
+        readings_add_up();
+        let stop = stop_at(self.back, own);
+        if stop.is_some() {
+            let lines = self.log.into_lines();
+            return Ok(Ended { lines, stop });
+        }
+        let cut = self.decoder.finish();
+        self.log.push_if(cut)?;
+        let lines = self.log.finish(self.judge.verdict())?;
+        Ok(Ended { lines, stop: None })
+    }
+}
+
+/// Why no more is told of edges: time goes back at one of them, or else their input has a fault.
+pub fn stop_at(back: Option<usize>, own: Option<CliFault>) -> Option<CliFault>
+    ensures { result ≡ stop_at back own }
+{
+    match back {
+        Some(index) => Some(CliFault::Wave(WaveFault::Order(index))),
+        None => own,
+    }
+}
