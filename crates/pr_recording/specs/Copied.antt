@@ -19,7 +19,7 @@ use Rattle.pr_recording.specs.Decoded.{back_in, in_front, stop_at}
 use Rattle.pr_recording.specs.Narrated.{time_of}
 use Rattle.pr_recording.specs.Pages.{readings_up_to}
 
--- Copiers.
+-- Printing the edges of a recording.
 
 -- edges in time order were taken, and their readings printed
 pub record HasPrinted (edges : List Edge) (c : CapturePrinter) : Type 0 where

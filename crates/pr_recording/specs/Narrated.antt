@@ -27,7 +27,7 @@ use Rattle.pr_recording.specs.declared.decode_report.DecodeReport.{DecodeReport}
 use Rattle.pr_recording.specs.declared.report_builder.ReportBuilder.{ReportBuilder}
 use Rattle.pr_recording.specs.Decoded.{back_in, in_front, stop_at, told_of}
 
--- Judges.
+-- Judges of traces.
 
 -- these edges were taken: they have no fault yet, or this one whatever follows
 abbrev pub HasTimed : (edges : List Edge) → FrameTimer → Option WaveFault → Type 0
@@ -41,7 +41,7 @@ HasJudged edges j = HasTimed edges j.timer j.fault
 abbrev pub edges_judged : Judge → ℕ
 edges_judged j = story.number_taken j.timer
 
--- Accounts.
+-- Logs of readings.
 
 -- the lines of these readings were made, and this text of them was given up
 pub record HasAccounted (given : List Reading) (written : List ℕ) (a : ReadingLog) : Type 0 where
@@ -58,7 +58,7 @@ abbrev pub AccountsMore : List Reading → (old new : ReadingLog) → Type 0
 AccountsMore more old new = (given : List Reading) (written : List ℕ) → HasAccounted given written old
     → HasAccounted (given ++ more) written new
 
--- Narrators.
+-- Reports on edges.
 
 -- the moment of the last of edges, if there is one
 abbrev pub time_after : (last : ℕ) → List Edge → ℕ
@@ -96,7 +96,7 @@ pub record EndsEdges (edges : List Edge) (written : List ℕ) (own : Option CliF
   pub stop : t.stop ≡ stop_at (back_in edges) own
   pub lines : written ++ t.lines.items ≡ told_of t.stop edges
 
--- Tellers.
+-- Reports on samples.
 
 -- these samples were taken
 pub record HasHeard (input : TraceInput) (samples : List Edge) (written : List ℕ) (t : ReportBuilder) : Type 0 where
