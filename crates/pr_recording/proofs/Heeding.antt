@@ -17,21 +17,21 @@ use Rattle.pr_recording.specs.declared.reading_log.ReadingLog.{ReadingLog}
 use Rattle.pr_recording.specs.declared.decode_report.Ended.{Ended}
 use Rattle.pr_recording.specs.declared.decode_report.DecodeReport.{DecodeReport}
 use Rattle.pr_recording.specs.Decoded.{back_in, in_front, stop_at, told_of}
-use Rattle.pr_recording.specs.Narrated.{AccountsMore, EndsEdges, HasAccounted, HasHeeded, HasJudged, HasNarrated, NarratesMore, time_of}
+use Rattle.pr_recording.specs.Narrated.{AccountsMore, EndsEdges, HasAccounted, HasHeeded, HasNarrated, IsFollowed, NarratesMore, time_of}
 use Rattle.pr_recording.proofs.Backs.{back_stays, front_back, front_stays, goes_back, goes_on, time_of_one}
 
 -- no edge
-pub narrated_none : (n : DecodeReport) → n.back ≡ None → HasReadings [] [] n.decoder → last_time n.decoder ≡ None → HasJudged [] n.judge → HasAccounted [] [] n.log → n.taken ≡ 0 → HasNarrated [] [] n
-narrated_none n b r l j a t = record { back = b; heeded = record { given = []; read = r; last = l; judged = j; accounted = a; taken = t } }
+pub narrated_none : (n : DecodeReport) → n.back ≡ None → HasReadings [] [] n.decoder → last_time n.decoder ≡ None → IsFollowed [] n.follower → HasAccounted [] [] n.log → n.taken ≡ 0 → HasNarrated [] [] n
+narrated_none n b r l j a t = record { back = b; heeded = record { given = []; read = r; last = l; followed = j; accounted = a; taken = t } }
 
 -- other parts alone are changed
-heeded_as : (edges : List Edge) (written : List ℕ) (old new : DecodeReport) → new.decoder ≡ old.decoder → new.judge ≡ old.judge → new.log ≡ old.log → new.taken ≡ old.taken
+heeded_as : (edges : List Edge) (written : List ℕ) (old new : DecodeReport) → new.decoder ≡ old.decoder → new.follower ≡ old.follower → new.log ≡ old.log → new.taken ≡ old.taken
     → HasHeeded edges written old → HasHeeded edges written new
 heeded_as edges written old new d j a t h = record {
   given = h.given;
   read = rw d h.read;
   last = ap last_time d ∙ h.last;
-  judged = rw j h.judged;
+  followed = rw j h.followed;
   accounted = rw a h.accounted;
   taken = t ∙ h.taken;
 }
@@ -71,7 +71,7 @@ of_front : (edges : List Edge) (written : List ℕ) (n : DecodeReport) → back_
 of_front edges written n none h = let P : List Edge → Type 0 = λ l. HasHeeded l written n in subst P (all_front edges none) h
 
 -- time goes back at an edge
-pub narrates_back : (old new : DecodeReport) (e : Edge) → old.back ≡ None → IsBefore e old.decoder → new.back ≡ Some old.taken → new.decoder ≡ old.decoder → new.judge ≡ old.judge → new.log ≡ old.log
+pub narrates_back : (old new : DecodeReport) (e : Edge) → old.back ≡ None → IsBefore e old.decoder → new.back ≡ Some old.taken → new.decoder ≡ old.decoder → new.follower ≡ old.follower → new.log ≡ old.log
     → new.taken ≡ old.taken → NarratesMore (e ∷ []) old new
 narrates_back old new e was before back d j a t = λ edges written h.
     let none : back_in edges ≡ None = sym h.back ∙ was in
@@ -86,9 +86,9 @@ narrates_back old new e was before back d j a t = λ edges written h.
 -- an edge is taken
 pub narrates_one : (old new : DecodeReport) (e : Edge) (r : Option Reading) → old.back ≡ None → (IsBefore e old.decoder → ⊥) → new.back ≡ old.back
     → ((edges : List Edge) (given : List Reading) → HasReadings edges given old.decoder → HasReadings (edges ++ e ∷ []) (given ++ option_to_list r) new.decoder) → last_time new.decoder ≡ Some e.time
-    → ((edges : List Edge) → HasJudged edges old.judge → HasJudged (edges ++ e ∷ []) new.judge) → AccountsMore (option_to_list r) old.log new.log → new.taken ≡ old.taken + 1
+    → ((edges : List Edge) → IsFollowed edges old.follower → IsFollowed (edges ++ e ∷ []) new.follower) → AccountsMore (option_to_list r) old.log new.log → new.taken ≡ old.taken + 1
     → NarratesMore (e ∷ []) old new
-narrates_one old new e r was later same reads last judges accounts taken = λ edges written h.
+narrates_one old new e r was later same reads last follows accounts taken = λ edges written h.
     let none : back_in edges ≡ None = sym h.back ∙ was in
     let k = of_front edges written old none h.heeded in
     let on : StandsBefore e.time (time_of edges) → ⊥ = λ s. later (rw k.last s) in
@@ -98,7 +98,7 @@ narrates_one old new e r was later same reads last judges accounts taken = λ ed
       given = k.given ++ option_to_list r;
       read = reads edges k.given k.read;
       last = last ∙ sym (time_of_one edges e);
-      judged = judges edges k.judged;
+      followed = follows edges k.followed;
       accounted = accounts k.given written k.accounted;
       taken = taken ∙ (ap (λ i. i + 1) k.taken ∙ sym (length-append edges (e ∷ [])));
     } in
@@ -108,7 +108,7 @@ narrates_one old new e r was later same reads last judges accounts taken = λ ed
     }
 
 -- lines are given up
-pub narrated_cleared : (old new : DecodeReport) → new.back ≡ old.back → new.decoder ≡ old.decoder → new.judge ≡ old.judge → new.taken ≡ old.taken
+pub narrated_cleared : (old new : DecodeReport) → new.back ≡ old.back → new.decoder ≡ old.decoder → new.follower ≡ old.follower → new.taken ≡ old.taken
     → ((given : List Reading) (written : List ℕ) → HasAccounted given written old.log → HasAccounted given (written ++ old.log.lines.items) new.log) → (edges : List Edge) (written : List ℕ)
     → HasNarrated edges written old → HasNarrated edges (written ++ old.log.lines.items) new
 narrated_cleared old new b d j t clears = λ edges written h.
@@ -119,7 +119,7 @@ narrated_cleared old new b d j t clears = λ edges written h.
         given = k.given;
         read = rw d k.read;
         last = ap last_time d ∙ k.last;
-        judged = rw j k.judged;
+        followed = rw j k.followed;
         accounted = clears k.given written k.accounted;
         taken = t ∙ k.taken;
       };
@@ -150,11 +150,11 @@ no_back (Some n) own h = absurd (cc)
 
 -- the end of whole edges
 pub ends_whole : (n : DecodeReport) (own : Option CliFault) (cut : Option Reading) (a : ReadingLog) (v : Option WaveFault) (e : Ended) → stop_at n.back own ≡ None → e.stop ≡ None
-    → ((edges : List Edge) (given : List Reading) → HasReadings edges given n.decoder → readings_of edges ≡ given ++ option_to_list cut) → ((edges : List Edge) → HasJudged edges n.judge → v ≡ fault_of edges)
+    → ((edges : List Edge) (given : List Reading) → HasReadings edges given n.decoder → readings_of edges ≡ given ++ option_to_list cut) → ((edges : List Edge) → IsFollowed edges n.follower → v ≡ fault_of edges)
     → AccountsMore (option_to_list cut) n.log a
     → ((given : List Reading) (written : List ℕ) → HasAccounted given written a → written ++ e.lines.items ≡ all_lines Nothing given ++ (summary given ++ verdict_text v)) → (edges : List Edge) (written : List ℕ)
     → HasNarrated edges written n → EndsEdges edges written own e
-ends_whole n own cut a v e is stop reads judges accounts ends = λ edges written h.
+ends_whole n own cut a v e is stop reads follows accounts ends = λ edges written h.
     let none : back_in edges ≡ None = sym h.back ∙ no_back n.back own is in
     let k = of_front edges written n none h.heeded in
     let all = reads edges k.given k.read in
@@ -163,5 +163,5 @@ ends_whole n own cut a v e is stop reads judges accounts ends = λ edges written
       lines =
           ends (k.given ++ option_to_list cut) written (accounts k.given written k.accounted)
           ∙ (ap (λ rs. all_lines Nothing rs ++ (summary rs ++ verdict_text v)) (sym all)
-          ∙ (ap (λ w. all_lines Nothing (readings_of edges) ++ (summary (readings_of edges) ++ verdict_text w)) (judges edges k.judged) ∙ sym (ap (λ s. told_of s edges) stop)));
+          ∙ (ap (λ w. all_lines Nothing (readings_of edges) ++ (summary (readings_of edges) ++ verdict_text w)) (follows edges k.followed) ∙ sym (ap (λ s. told_of s edges) stop)));
     }

@@ -1,7 +1,6 @@
 pub mod Backs
 pub mod Writing
 pub mod Accounting
-pub mod Judging
 pub mod Heeding
 pub mod Coming
 pub mod Noting

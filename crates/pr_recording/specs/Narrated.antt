@@ -2,12 +2,10 @@
 use Rattle.std.specs.Prelude.{◌≡◌, ℕ, ◌+◌, List, [], ◌∷◌, ◌++◌, length, Option, Some, None, Result, Ok, Err, IfSome}
 use Rattle.std.specs.Io.KnownBytes.{Appends}
 use Rattle.pr_wire.specs.declared.Edge.{Edge}
-use Rattle.pr_wire.specs.declared.WaveFault.{WaveFault}
+use Rattle.pr_wire.specs.declared.Frame.{Frame}
 use Rattle.pr_wire.specs.declared.WaveFault.TheVariants as wave
-use Rattle.pr_wire.specs.Table.{fault_of}
-use Rattle.pr_report.specs.declared.frame_timer.FrameTimer.{FrameTimer}
-use Rattle.pr_report.specs.declared.timed_frame.TimedFrame.{TimedFrame}
-use Rattle.pr_report.specs.FrameTiming as story
+use Rattle.pr_wire.specs.declared.follower.TraceFollower.{TraceFollower}
+use Rattle.pr_wire.specs.Following.{HasFollowed}
 use Rattle.pr_decode.specs.declared.reading.Reading.{Reading}
 use Rattle.pr_decode.specs.Taking.{HasReadings, last_time}
 use Rattle.pr_report.specs.declared.reading_line.Preceding.TheVariants.{Nothing}
@@ -21,25 +19,16 @@ use Rattle.pr_cli.specs.declared.fault.CliFault.{CliFault}
 use Rattle.pr_cli.specs.declared.fault.CliFault.TheVariants.{Wave, WriteFailed}
 use Rattle.pr_cli.specs.declared.source_reader.SourceReader.{SourceReader}
 use Rattle.pr_recording.specs.declared.reading_log.ReadingLog.{ReadingLog}
-use Rattle.pr_recording.specs.declared.judge.Judge.{Judge}
 use Rattle.pr_recording.specs.declared.decode_report.Ended.{Ended}
 use Rattle.pr_recording.specs.declared.decode_report.DecodeReport.{DecodeReport}
 use Rattle.pr_recording.specs.declared.report_builder.ReportBuilder.{ReportBuilder}
 use Rattle.pr_recording.specs.Decoded.{back_in, in_front, stop_at, told_of}
 
--- Judges of traces.
+-- Verdicts.
 
--- these edges were taken: they have no fault yet, or this one whatever follows
-abbrev pub HasTimed : (edges : List Edge) → FrameTimer → Option WaveFault → Type 0
-HasTimed edges t None = (given : List TimedFrame) × story.HasTold edges given t
-HasTimed edges t (Some w) = (more : List Edge) → fault_of (edges ++ more) ≡ Some w
-
-abbrev pub HasJudged : (edges : List Edge) → Judge → Type 0
-HasJudged edges j = HasTimed edges j.timer j.fault
-
--- how many edges a judge has taken
-abbrev pub edges_judged : Judge → ℕ
-edges_judged j = story.number_taken j.timer
+-- a follower was given these edges
+abbrev pub IsFollowed : (edges : List Edge) → TraceFollower → Type 0
+IsFollowed edges f = (frames : List Frame) × HasFollowed edges frames f
 
 -- Logs of readings.
 
@@ -74,7 +63,7 @@ pub record HasHeeded (edges : List Edge) (written : List ℕ) (n : DecodeReport)
   pub given : List Reading
   pub read : HasReadings edges given n.decoder
   pub last : last_time n.decoder ≡ time_of edges
-  pub judged : HasJudged edges n.judge
+  pub followed : IsFollowed edges n.follower
   pub accounted : HasAccounted given written n.log
   pub taken : n.taken ≡ length edges
 
@@ -85,7 +74,7 @@ pub record HasNarrated (edges : List Edge) (written : List ℕ) (n : DecodeRepor
 
 -- how many edges and readings were taken, by all that count them
 abbrev pub load : DecodeReport → ℕ
-load n = n.taken + (edges_judged n.judge + readings_told n.log)
+load n = n.taken + (n.follower.taken + readings_told n.log)
 
 -- with more edges
 abbrev pub NarratesMore : List Edge → (old new : DecodeReport) → Type 0

@@ -3,14 +3,15 @@
 ghost use Rattle.std.specs.Prelude.{◌≡◌, ◌+◌, ◌^◌, ◌<◌, ◌≤◌, ◌∷◌, ◌++◌, [], List, ℕ, IfOk, OnOk};
 ghost use Rattle.std.specs.Option.{option_to_list};
 ghost use Rattle.pr_wire.specs.declared.Edge.{Edge};
+ghost use Rattle.pr_wire.specs.declared.Frame.{Frame};
+ghost use Rattle.pr_wire.specs.Following.{HasFollowed};
 ghost use Rattle.pr_recording.specs.Decoded.{stop_at};
-ghost use Rattle.pr_recording.specs.Narrated.{EndsEdges, HasNarrated, NarratesMore, load};
+ghost use Rattle.pr_recording.specs.Narrated.{EndsEdges, HasNarrated, IsFollowed, NarratesMore, load};
 
-use crate::judge::Judge;
 use crate::reading_log::ReadingLog;
 use pr_cli::CliFault;
 use pr_decode::{Decoder, GoesBack, readings_add_up};
-use pr_wire::{Edge, WaveFault};
+use pr_wire::{Edge, TraceFollower, WaveFault};
 use std::alloc::{AllocError, Global};
 
 /// The last of what is told of a recording, and why no more is.
@@ -24,7 +25,8 @@ pub struct Ended {
 #[derive(Drop)]
 pub struct DecodeReport {
     decoder: Decoder,
-    judge: Judge,
+    /// Whether the edges taken are a lawful trace.
+    follower: TraceFollower,
     log: ReadingLog,
     /// How many edges were taken.
     taken: usize,
@@ -40,7 +42,7 @@ impl DecodeReport {
     {
         Ok(DecodeReport {
             decoder: Decoder::new(),
-            judge: Judge::new(),
+            follower: TraceFollower::new(),
             log: ReadingLog::new(alloc)?,
             taken: 0,
             back: None,
@@ -58,7 +60,7 @@ impl DecodeReport {
         }
         match self.decoder.take(edge) {
             Ok(reading) => {
-                self.judge.take(edge);
+                follow(&mut self.follower, edge);
                 self.taken += 1;
                 self.log.push_if(reading)
             }
@@ -112,8 +114,22 @@ impl DecodeReport {
         }
         let cut = self.decoder.finish();
         self.log.push_if(cut)?;
-        let lines = self.log.finish(self.judge.verdict())?;
+        let verdict = self.follower.finish().err();
+        let lines = self.log.finish(verdict)?;
         Ok(Ended { lines, stop: None })
+    }
+}
+
+/// Follows the next edge; the follower keeps the first fault for its `finish`.
+fn follow(follower: &mut TraceFollower, edge: Edge)
+    requires few { follower.old.taken + 1 < 2 ^ 64 }
+    ensures followed { (edges : List Edge) (frames : List Frame) → HasFollowed edges frames follower.old →
+        IsFollowed (edges ++ edge ∷ []) follower.new }
+    ensures count { follower.new.taken ≤ follower.old.taken + 1 }
+{
+    match follower.take(edge) {
+        Ok(_) => {}
+        Err(_) => {}
     }
 }
 

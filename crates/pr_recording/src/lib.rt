@@ -7,7 +7,7 @@
 //!
 //! - `decode` reads block by block, and writes what a block settles before it reads the next.
 //!   `report_builder` makes the edges of the samples; `decode_report` takes them up to where time goes back,
-//!   and hands each to a decoder and to `judge`, which says whether they are a lawful trace;
+//!   and hands each to a decoder and to pr_wire's follower, which says whether they are a lawful trace;
 //!   `reading_log` has the lines that are not written yet, and a survey of all readings.
 //! - `pages` has the same loop, with `capture_printer` in the report's place: it prints what the decoder
 //!   gives, and keeps the papers alone.
@@ -22,7 +22,6 @@ mod capture_printer;
 mod decode;
 mod decode_report;
 mod frame;
-mod judge;
 mod laws;
 mod pages;
 mod printer_pair;

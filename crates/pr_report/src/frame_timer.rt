@@ -1,18 +1,17 @@
 //! The frames of a trace with their moments, edge by edge.
 
-ghost use Rattle.std.specs.Prelude.{◌≡◌, ◌≢◌, ◌^◌, ◌+◌, ◌<◌, List, [], ◌∷◌, ◌++◌, Ok, Err, Some, IfOk, IfErr, OnOk, OnErr, MatchResult};
+ghost use Rattle.std.specs.Prelude.{◌≡◌, ◌≢◌, ◌^◌, ◌+◌, ◌<◌, List, [], ◌∷◌, ◌++◌, Some, IfOk, IfErr, OnOk, OnErr};
 ghost use Rattle.std.specs.Option.{option_to_list};
 ghost use Rattle.std.specs.Result.{result_err};
 ghost use Rattle.pr_wire.specs.declared.Edge.{Edge};
 ghost use Rattle.pr_wire.specs.declared.WaveFault.TheVariants.{NoMemory};
-ghost use Rattle.pr_wire.specs.Reached.{step_of};
 ghost use Rattle.pr_wire.specs.Table.{fault_of};
 ghost use Rattle.pr_report.specs.declared.timed_frame.TimedFrame.{TimedFrame};
 ghost use Rattle.pr_report.specs.Moments.{look_with, timed_frames, with_moments};
-ghost use Rattle.pr_report.specs.FrameTiming.{HasTold, Moves, number_taken};
+ghost use Rattle.pr_report.specs.FrameTiming.{HasTold, number_taken};
 
 use crate::timed_frame::TimedFrame;
-use pr_wire::{BusState, Edge, Frame, WaveFault, allowed_traces};
+use pr_wire::{BusState, Edge, Frame, TraceFollower, WaveFault};
 
 /// Gives the frames of a trace with their moments, edge by edge and without memory.
 ///
@@ -20,12 +19,8 @@ use pr_wire::{BusState, Edge, Frame, WaveFault, allowed_traces};
 /// these frames given"; every call answers by all lists of which that can be said.
 #[derive(Drop)]
 pub struct FrameTimer {
-    /// How many edges were taken.
-    taken: usize,
-    /// The last of them.
-    last: Option<Edge>,
-    /// The state of the bus that they have reached.
-    place: BusState,
+    /// The edges taken, by where they lead; it has refused none.
+    follower: TraceFollower,
     /// The moment of the last look; 0 before the first.
     look: u64,
 }
@@ -37,40 +32,18 @@ impl FrameTimer {
         ensures count { number_taken result ≡ 0 }
     {
         FrameTimer {
-            taken: 0,
-            last: None,
-            place: BusState::Idle(0),
+            follower: TraceFollower::new(),
             look: 0,
-        }
-    }
-
-    /// Goes on to the state that the next edge reaches, and gives the frame that it ends.
-    fn go_on(&mut self, edge: Edge) -> Result<Option<Frame>, WaveFault>
-        ensures moved { MatchResult (step_of self.old.last self.old.place self.old.taken edge)
-            (λ s. (result ≡ Ok s.frame) × (self.new ≡ record self.old { place = s.place }))
-            (λ w. (result ≡ Err w) × (self.new ≡ self.old)) }
-        ensures memory { IfErr result (λ fault. fault ≢ NoMemory) }
-    {
-        let Some(last) = self.last else {
-            if !edge.is_start() {
-                return Err(WaveFault::Start(0));
-            }
-            self.place = BusState::Idle(0);
-            return Ok(None);
-        };
-        match self.place.advance(last, edge) {
-            Ok(frame) => Ok(frame),
-            Err(flaw) => Err(flaw.at(self.taken)),
         }
     }
 
     /// Notes the state reached where it is a look, and gives the frame, if there is one, with the
     /// moments of its look and of its acknowledgement there.
     fn note(&mut self, frame: Option<Frame>) -> Option<TimedFrame>
-        ensures frame { result ≡ with_moments self.old.look frame self.old.place }
-        ensures look { self.new ≡ record self.old { look = look_with self.old.look self.old.place } }
+        ensures frame { result ≡ with_moments self.old.look frame self.old.follower.state }
+        ensures look { self.new ≡ record self.old { look = look_with self.old.look self.old.follower.state } }
     {
-        match (&self.place, frame) {
+        match (&self.follower.state, frame) {
             (BusState::Ready(look, _), _) => {
                 self.look = *look;
                 None
@@ -84,18 +57,6 @@ impl FrameTimer {
             }),
             _ => None,
         }
-    }
-
-    /// Takes an edge, and gives the frame that it ends.
-    fn step(&mut self, edge: Edge) -> Result<Option<TimedFrame>, WaveFault>
-        requires room { self.old.taken + 1 < 2 ^ 64 }
-        ensures moved { Moves self.old edge result self.new }
-        ensures memory { IfErr result (λ fault. fault ≢ NoMemory) }
-    {
-        let frame = self.go_on(edge)?;
-        self.last = Some(edge);
-        self.taken += 1;
-        Ok(self.note(frame))
     }
 
     /// Takes the next edge of a trace, `0 111` included, and gives the frame that it ends, with its
@@ -121,8 +82,14 @@ impl FrameTimer {
         ensures stays { OnErr result (self.new ≡ self.old) }
         ensures memory { IfErr result (λ fault. fault ≢ NoMemory) }
     {
-        allowed_traces();
-        self.step(edge)
+        let refused = self.follower.refused;
+        match self.follower.take(edge) {
+            Ok(frame) => Ok(self.note(frame)),
+            Err(fault) => {
+                self.follower.refused = refused;
+                Err(fault)
+            }
+        }
     }
 
     /// Whether the edges taken are a lawful trace. The frames given are then all of theirs, and also
@@ -137,14 +104,6 @@ impl FrameTimer {
         ensures fault { (edges : List Edge) (given : List TimedFrame) → HasTold edges given self.now → result_err result ≡ fault_of edges }
         ensures memory { IfErr result (λ fault. fault ≢ NoMemory) }
     {
-        allowed_traces();
-        if self.last.is_none() {
-            return Err(WaveFault::Start(0));
-        }
-        if self.place.may_end() {
-            Ok(())
-        } else {
-            Err(WaveFault::Truncated(self.taken))
-        }
+        self.follower.finish()
     }
 }
