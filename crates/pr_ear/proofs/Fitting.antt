@@ -1,5 +1,5 @@
 -- Standings that fit their last edge: they are stored as ears, and so are those one edge further.
-use Rattle.std.proofs.Common.{◌≡◌, ℕ, zero, suc, ◌+◌, ◌<◌, ◌≤◌, Bool, true, false, eqb, Option, Some, None, Result, Ok, Err, refl, sym, subst, ap, ◌∙◌, arith}
+use Rattle.std.proofs.Common.{◌≡◌, ℕ, zero, suc, ◌+◌, ◌<◌, ◌≤◌, Bool, true, false, Option, Some, None, Result, Ok, Err, refl, sym, subst, ap, ◌∙◌, arith}
 use Rattle.std.proofs.lemmas.Bool.{eq-eqb, eqb-true}
 use Rattle.std.specs.Result.{MatchResult}
 use Rattle.std.specs.Prelude.{◌≢◌, ◌==◌, if◌then◌else◌}
@@ -17,13 +17,14 @@ use Rattle.pr_wire.specs.Table.{by_row, fault_at, is_start, verdict}
 use Rattle.pr_ear.specs.declared.WireEdge.{WireEdge}
 use Rattle.pr_ear.specs.declared.numbers.Ear.{Ear}
 use Rattle.pr_ear.specs.declared.numbers.PlaceNumbers.{PlaceNumbers}
-use Rattle.pr_ear.specs.declared.standing.Refusal.{Refusal}
-use Rattle.pr_ear.specs.declared.standing.Refusal.TheVariants.{Start, Flawed}
+use Rattle.pr_wire.specs.declared.follower.Refusal.{Refusal}
+use Rattle.pr_wire.specs.declared.follower.Refusal.TheVariants.{Start, Flawed}
 use Rattle.pr_ear.specs.declared.standing.Standing.{Standing}
 use Rattle.pr_ear.specs.EarNumbers.{stored_place, CanLead, HasNone, HasSome, IsEar, IsPlace}
 use Rattle.pr_ear.specs.Hearing.{bit_of, edge_of}
 use Rattle.pr_ear.specs.Numbers.{begun_number, place_by, refusal_by, refusal_number, standing_by, stored, stored_last, wire_of, HasFewBits}
-use Rattle.pr_ear.specs.Taken.{refused_at, CanListen, CanStand, FitsLast, IsBefore, IsBehind, IsFirstRefusal, IsLaterRefusal, RefusesAs}
+use Rattle.pr_wire.specs.Following.{refusal_at}
+use Rattle.pr_ear.specs.Taken.{CanListen, CanStand, FitsLast, IsBefore, IsBehind, IsFirstRefusal, IsLaterRefusal, RefusesAs}
 use Rattle.pr_ear.proofs.Leading.{leads-next}
 use Rattle.pr_ear.proofs.Standings.{idle-late, start_step, verdict-later, IsMoved}
 use Rattle.pr_ear.proofs.Stored.{both, edge-back, place-back}
@@ -280,11 +281,11 @@ not-first TooEarly n h = (let x : fault.TooEarly n ≡ fault.Start 0 = h in cc)
 not-first TooLate n h = (let x : fault.TooLate n ≡ fault.Start 0 = h in cc)
 not-first Shape n h = (let x : fault.Shape n ≡ fault.Start 0 = h in cc)
 
-refused-first : (r : Refusal) (n : ℕ) → refused_at r n ≡ fault.Start 0 → IsFirstRefusal (Some r)
+refused-first : (r : Refusal) (n : ℕ) → refusal_at r n ≡ fault.Start 0 → IsFirstRefusal (Some r)
 refused-first Start n h = tt
 refused-first (Flawed f) n h = not-first f n h
 
-refused-later : (r : Refusal) (n : ℕ) (f : EdgeError) → refused_at r n ≡ fault_at f n → IsLaterRefusal (Some r)
+refused-later : (r : Refusal) (n : ℕ) (f : EdgeError) → refusal_at r n ≡ fault_at f n → IsLaterRefusal (Some r)
 refused-later Start n f h = not-first f n (sym h)
 refused-later (Flawed g) n f h = tt
 
@@ -303,7 +304,7 @@ stands-refused old mid e r h m = by old.last refl h.fits m
   where
     first : (b : Bool) → IsBefore old
         → MatchResult (start_step b) (λ (s : Step). IsMoved (Err r) (Ok s.frame) × (mid ≡ record old { place = s.place })) (λ (w : WaveFault). RefusesAs old.taken w (Err r) × (mid ≡ old))
-        → (refused_at r old.taken ≡ fault.Start 0) × (mid ≡ old)
+        → (refusal_at r old.taken ≡ fault.Start 0) × (mid ≡ old)
     first true f j = absurd (let x : IsMoved (Err r) (Ok None) = j.0 in cc)
     first false f j = j
 

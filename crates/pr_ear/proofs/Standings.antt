@@ -20,9 +20,10 @@ use Rattle.pr_wire.specs.Laws.{AllowedIsReached, FaultIsReached, OneEdgeMore}
 use Rattle.pr_wire.specs.Table.{by_row, differ, fault_at, fault_of, is_start, verdict, IsAllowed}
 use Rattle.pr_receiver.specs.Given.{if_allowed, frame_at, frame_from, frames_ended}
 use Rattle.pr_receiver.specs.Kept.{kept_of}
-use Rattle.pr_ear.specs.declared.standing.Refusal.{Refusal}
+use Rattle.pr_wire.specs.declared.follower.Refusal.{Refusal}
 use Rattle.pr_ear.specs.declared.standing.Standing.{Standing}
-use Rattle.pr_ear.specs.Taken.{refused_at, CameTo, HasCome, HasRoom, RefusesAs, Stands}
+use Rattle.pr_wire.specs.Following.{refusal_at}
+use Rattle.pr_ear.specs.Taken.{CameTo, HasCome, HasRoom, RefusesAs, Stands}
 use Rattle.pr_ear.proofs.Filling.{fault-stays, reached-append}
 
 -- the elements before each, for two parts
@@ -188,12 +189,12 @@ accepted allowed more device es old mid e frame h works m = by (step_of old.last
 -- what comes of an edge that is refused
 pub refuses : AllowedIsReached → FaultIsReached → OneEdgeMore → (device : ℕ) (es : List Edge) (old mid : Standing) (e : Edge) (refusal : Refusal) → Stands device es old
     → MatchResult (step_of old.last old.place old.taken e) (λ (s : Step). IsMoved (Err refusal) (Ok s.frame) × (mid ≡ record old { place = s.place })) (λ (w : WaveFault). RefusesAs old.taken w (Err refusal) × (mid ≡ old))
-    → (IsAllowed (es ++ e ∷ []) → ⊥) × (fault_of (es ++ e ∷ []) ≡ Some (refused_at refusal old.taken)) × (mid ≡ old)
+    → (IsAllowed (es ++ e ∷ []) → ⊥) × (fault_of (es ++ e ∷ []) ≡ Some (refusal_at refusal old.taken)) × (mid ≡ old)
 refuses allowed fault more device es old mid e refusal h m = by (step_of old.last old.place old.taken e) refl m
   where
     by : (v : Result Step WaveFault) → step_of old.last old.place old.taken e ≡ v
         → MatchResult v (λ (s : Step). IsMoved (Err refusal) (Ok s.frame) × (mid ≡ record old { place = s.place })) (λ (w : WaveFault). RefusesAs old.taken w (Err refusal) × (mid ≡ old))
-        → (IsAllowed (es ++ e ∷ []) → ⊥) × (fault_of (es ++ e ∷ []) ≡ Some (refused_at refusal old.taken)) × (mid ≡ old)
+        → (IsAllowed (es ++ e ∷ []) → ⊥) × (fault_of (es ++ e ∷ []) ≡ Some (refusal_at refusal old.taken)) × (mid ≡ old)
     by (Ok s) k j = absurd (let x : IsMoved (Err refusal) (Ok s.frame) = j.0 in cc)
     by (Err w) k j =
         let leads : reached begin (es ++ e ∷ []) ≡ Err w = stands-more more device es old e h ∙ ap (λ v. led (λ t. Ok (onto h.come e t)) v) k in (
@@ -214,11 +215,11 @@ refused-stays allowed es fs n a = by (reached begin es) refl
 
 -- a standing that refuses stays one of more edges
 pub refusal-stays : AllowedIsReached → FaultIsReached → (device : ℕ) (es fs : List Edge) (s : Standing) (refusal : Refusal) → s.refused ≡ Some refusal → HasCome device es s
-    → HasCome device (es ++ fs) s × (IsAllowed (es ++ fs) → ⊥) × (fault_of (es ++ fs) ≡ Some (refused_at refusal s.taken))
+    → HasCome device (es ++ fs) s × (IsAllowed (es ++ fs) → ⊥) × (fault_of (es ++ fs) ≡ Some (refusal_at refusal s.taken))
 refusal-stays allowed fault device es fs s refusal r h =
     let c : CameTo device es s (Some refusal) = subst (λ o. CameTo device es s o) r h.came in
     let n = refused-stays allowed es fs c.0 in
-    let f = fault-stays allowed fault es fs (refused_at refusal s.taken) c.0 c.1 in
+    let f = fault-stays allowed fault es fs (refusal_at refusal s.taken) c.0 c.1 in
     (record { device_is = h.device_is; came = subst (λ o. CameTo device (es ++ fs) s o) (sym r) (n, f) }, n, f)
 
 -- the standing of accepted edges

@@ -11,8 +11,8 @@ use Rattle.pr_wire.specs.Packed.{bits_in}
 use Rattle.pr_ear.specs.declared.WireEdge.{WireEdge}
 use Rattle.pr_ear.specs.declared.numbers.Ear.{Ear}
 use Rattle.pr_ear.specs.declared.numbers.PlaceNumbers.{PlaceNumbers}
-use Rattle.pr_ear.specs.declared.standing.Refusal.{Refusal}
-use Rattle.pr_ear.specs.declared.standing.Refusal.TheVariants.{Start, Flawed}
+use Rattle.pr_wire.specs.declared.follower.Refusal.{Refusal}
+use Rattle.pr_wire.specs.declared.follower.Refusal.TheVariants.{Start, Flawed}
 use Rattle.pr_ear.specs.declared.standing.Standing.{Standing}
 use Rattle.pr_ear.specs.EarNumbers.{stored_place}
 use Rattle.pr_ear.specs.Hearing.{bit_of, edge_of}

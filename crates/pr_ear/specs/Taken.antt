@@ -5,27 +5,22 @@ use Rattle.pr_wire.specs.declared.Edge.{Edge}
 use Rattle.pr_wire.specs.declared.Frame.{Frame}
 use Rattle.pr_wire.specs.Pieces.{IsLawful}
 use Rattle.pr_wire.specs.declared.WaveFault.{WaveFault}
-use Rattle.pr_wire.specs.declared.WaveFault.TheVariants as fault
 use Rattle.pr_wire.specs.declared.bus_state.BusState.{BusState}
 use Rattle.pr_wire.specs.declared.bus_state.BusState.TheVariants.{Idle}
+use Rattle.pr_wire.specs.Following.{refusal_at}
 use Rattle.pr_wire.specs.Reached.{Reached, begin, reached}
-use Rattle.pr_wire.specs.Table.{fault_at, fault_of, IsAllowed}
+use Rattle.pr_wire.specs.Table.{fault_of, IsAllowed}
 use Rattle.pr_receiver.specs.Given.{frames_ended, input_at}
 use Rattle.pr_receiver.specs.Kept.{kept_of}
 use Rattle.pr_receiver.specs.declared.listener.Listener.{Listener}
 use Rattle.pr_ear.specs.declared.WireEdge.{WireEdge}
 use Rattle.pr_ear.specs.declared.numbers.Ear.{Ear}
-use Rattle.pr_ear.specs.declared.standing.Refusal.{Refusal}
-use Rattle.pr_ear.specs.declared.standing.Refusal.TheVariants.{Start, Flawed}
+use Rattle.pr_wire.specs.declared.follower.Refusal.{Refusal}
+use Rattle.pr_wire.specs.declared.follower.Refusal.TheVariants.{Start, Flawed}
 use Rattle.pr_ear.specs.declared.standing.Standing.{Standing}
 use Rattle.pr_ear.specs.Hearing.{edge_of, IsDevice}
 use Rattle.pr_ear.specs.EarNumbers.{stored_place, CanLead, IsEar}
 use Rattle.pr_ear.specs.Numbers.{standing_by}
-
--- the fault with which an edge was refused, at its index
-abbrev pub refused_at : Refusal → ℕ → WaveFault
-refused_at Start n = fault.Start 0
-refused_at (Flawed flaw) n = fault_at flaw n
 
 -- so many edges have come, and no more than microseconds; only behind the first is it otherwise
 abbrev pub HasRoom : Option Edge → BusState → ℕ → Type 0
@@ -45,7 +40,7 @@ pub record Stands (device : ℕ) (edges : List Edge) (s : Standing) : Type 0 whe
 -- the edges were accepted, or refused with their first fault
 abbrev pub CameTo : ℕ → List Edge → Standing → Option Refusal → Type 0
 CameTo device edges s None = Stands device edges s
-CameTo device edges s (Some refusal) = (IsAllowed edges → ⊥) × (fault_of edges ≡ Some (refused_at refusal s.taken))
+CameTo device edges s (Some refusal) = (IsAllowed edges → ⊥) × (fault_of edges ≡ Some (refusal_at refusal s.taken))
 
 -- a standing is that of a device to which these edges were given
 pub record HasCome (device : ℕ) (edges : List Edge) (s : Standing) : Type 0 where
@@ -65,7 +60,7 @@ IsRightEnd edges (Err fault) = fault_of edges ≡ Some fault
 -- an edge is refused with this fault
 abbrev pub RefusesAs : ℕ → WaveFault → Result (Option Frame) Refusal → Type 0
 RefusesAs n fault (Ok frame) = ⊥
-RefusesAs n fault (Err refusal) = refused_at refusal n ≡ fault
+RefusesAs n fault (Err refusal) = refusal_at refusal n ≡ fault
 
 -- what a device keeps of frames: only one that listens was called by the last of them
 pub record CanListen (l : Listener) : Type 0 where

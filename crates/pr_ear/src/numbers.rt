@@ -10,10 +10,10 @@ ghost use Rattle.pr_ear.specs.Taken.{CanStand};
 ghost use Rattle.pr_ear.specs.Numbers.{bits_by, begun_number, byte_place_by, few, place_by, refusal_by, refusal_number, sending_by, standing_by, stored, stored_last, wire_of, HasFewBits};
 
 use crate::fits::is_ear;
-use crate::standing::{Refusal, Standing};
+use crate::standing::Standing;
 use crate::{WireEdge, edge_for};
 use pr_receiver::Listener;
-use pr_wire::{BusState, ByteRole, Edge, EdgeError, Levels, Step};
+use pr_wire::{BusState, ByteRole, Edge, EdgeError, Levels, Refusal, Step};
 
 /// A place of the table of lawful traces. What a place has not is 0.
 #[repr(C)]

@@ -11,33 +11,11 @@ ghost use Rattle.pr_receiver.specs.Given.{input_of_any};
 ghost use Rattle.pr_receiver.specs.Kept.{kept_of};
 ghost use Rattle.pr_receiver.specs.declared.listener.Listener.{Listener};
 ghost use Rattle.pr_ear.specs.Hearing.{IsDevice};
-ghost use Rattle.pr_ear.specs.Taken.{refused_at, CanListen, CanStand, HasCome, IsRight, IsRightEnd, RefusesAs};
+ghost use Rattle.pr_ear.specs.Taken.{CanListen, CanStand, HasCome, IsRight, IsRightEnd, RefusesAs};
 
 use pr_page::Input;
 use pr_receiver::{Listener, frames_are_heard_in_turn};
-use pr_wire::{BusState, Edge, EdgeError, Frame, WaveFault, allowed_traces, lawful_traces};
-
-/// Why an edge was refused.
-#[derive(Clone, Copy, Debug, PartialEq, Eq)]
-pub enum Refusal {
-    /// It is the first and not `0 111`.
-    Start,
-    /// The table of lawful traces does not allow it.
-    Flawed(EdgeError),
-}
-
-impl Refusal {
-    /// The fault of the edge at an index that was refused so.
-    pub fn at(self, index: usize) -> WaveFault
-        ensures value { result ≡ refused_at self index }
-        ensures memory { result ≢ NoMemory }
-    {
-        match self {
-            Refusal::Start => WaveFault::Start(0),
-            Refusal::Flawed(flaw) => flaw.at(index),
-        }
-    }
-}
+use pr_wire::{BusState, Edge, Frame, Refusal, WaveFault, allowed_traces, lawful_traces};
 
 /// How far the edges have come.
 #[derive(Drop)]

@@ -1,7 +1,8 @@
 use Rattle.std.proofs.Common.{◌∷◌, [], ◌≡◌, ◌+◌, ap, sym, subst, ◌∙◌, arith, Some}
 use Rattle.pr_receiver.specs.Given.{frames_ended, input_of_any}
 use Rattle.pr_ear.specs.declared.standing.Standing.{Standing}
-use Rattle.pr_ear.specs.Taken.{refused_at, CanListen}
+use Rattle.pr_wire.specs.Following.{refusal_at}
+use Rattle.pr_ear.specs.Taken.{CanListen}
 use Rattle.pr_ear.proofs.Standings.{accepted, refusal-stays, refuses, stands-of, still-accepted}
 use Rattle.pr_ear.proofs.Fitting.{moves-on, stands-refused}
 use Rattle.pr_ear.proofs.standing.Standing.edge.Goals as goal
@@ -49,7 +50,7 @@ pub returns-in-Err-clause-right : goal.returns-in-Err-clause-right
 returns-in-Err-clause-right c = λ device edges h.
     let s = stands-of device edges c.args.self.now c.in_default.is h in
     let r = refuses c.allowed_traces.ensures.allowed c.allowed_traces.ensures.fault c.allowed_traces.ensures.step device edges c.args.self.now c.go_on.new.self c.args.edge c.in-Err.refusal s c.in-Err.ensures.moved in
-    (r.0, r.1 ∙ ap (λ x. Some x) (sym (c.at-in-Err.ensures.value ∙ ap (λ (n : Standing). refused_at c.in-Err.refusal n.taken) r.2)))
+    (r.0, r.1 ∙ ap (λ x. Some x) (sym (c.at-in-Err.ensures.value ∙ ap (λ (n : Standing). refusal_at c.in-Err.refusal n.taken) r.2)))
 
 pub returns-in-Err-clause-come : goal.returns-in-Err-clause-come
 returns-in-Err-clause-come c = λ device edges h.
@@ -57,5 +58,5 @@ returns-in-Err-clause-come c = λ device edges h.
     let r = refuses c.allowed_traces.ensures.allowed c.allowed_traces.ensures.fault c.allowed_traces.ensures.step device edges c.args.self.now c.go_on.new.self c.args.edge c.in-Err.refusal s c.in-Err.ensures.moved in
     record {
       device_is = ap (λ (n : Standing). n.listener.device) r.2 ∙ h.device_is;
-      came = (r.0, r.1 ∙ ap (λ (n : Standing). Some (refused_at c.in-Err.refusal n.taken)) (sym r.2));
+      came = (r.0, r.1 ∙ ap (λ (n : Standing). Some (refusal_at c.in-Err.refusal n.taken)) (sym r.2));
     }
