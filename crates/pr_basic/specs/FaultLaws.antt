@@ -10,14 +10,17 @@ use Rattle.pr_basic.specs.declared.fault.ScriptFault.{ScriptFault}
 -- a text has a first fault exactly where it has it by rules that tell no place
 abbrev pub PlacesChangeNoFault : Type 0
 PlacesChangeNoFault = (bytes : List ℕ) (fault : ScriptFault)
-    → (IsFirstFault bytes fault → IsFirstFaultAlone bytes fault) × (IsFirstFaultAlone bytes fault → IsFirstFault bytes fault)
+    → (IsFirstFault bytes fault → IsFirstFaultAlone bytes fault)
+    × (IsFirstFaultAlone bytes fault → IsFirstFault bytes fault)
 
 -- the first fault of a text stands in a line, whose number it tells
 abbrev pub FaultsTellTheirLine : Type 0
 FaultsTellTheirLine = (bytes : List ℕ) (fault : ScriptFault) (place : ℕ) → IsFirstFaultAt bytes fault place
-    → (f : LineFault) × (start : ℕ) × (line : List ℕ) × (number : ℕ) × IsLineAt bytes place start line number × (fault ≡ at_number f number)
+    → (f : LineFault) × (start : ℕ) × (line : List ℕ) × (number : ℕ) × IsLineAt bytes place start line number
+    × (fault ≡ at_number f number)
 
 -- a place stands in one line
 abbrev pub PlacesHaveOneLine : Type 0
 PlacesHaveOneLine = (text : List ℕ) (place start begin : ℕ) (line other : List ℕ) (number count : ℕ)
-    → IsLineAt text place start line number → IsLineAt text place begin other count → (start ≡ begin) × (line ≡ other) × (number ≡ count)
+    → IsLineAt text place start line number → IsLineAt text place begin other count → (start ≡ begin) × (line ≡ other)
+    × (number ≡ count)

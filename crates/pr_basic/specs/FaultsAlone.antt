@@ -27,7 +27,8 @@ GoesTooFarAlone part = (l : Lexeme) × (ls : List Lexeme)
 -- the faults outside lists
 abbrev pub IsFaultOutsideListsAlone : LineFault → List Lexeme → Type 0
 -- no keyword where a statement must begin; what cannot go on the statement; a comma of CMD or PRINT# with no list after it
-IsFaultOutsideListsAlone UnknownWord part = ((l : Lexeme) × (ls : List Lexeme) × (part ≡ l ∷ ls) × (begins_statement l ≡ false))
+IsFaultOutsideListsAlone UnknownWord part =
+    ((l : Lexeme) × (ls : List Lexeme) × (part ≡ l ∷ ls) × (begins_statement l ≡ false))
     ⊎ (GoesTooFarAlone part
     ⊎ ((k : Keyword) × (takes_list k ≡ true) × AfterFile k part (Comma ∷ [])))
 -- a file that is missing or above 255
@@ -43,7 +44,8 @@ IsFaultOutsideListsAlone f part = ⊥
 -- the faults of a list's next item, after so many bytes of the list
 abbrev pub IsItemFaultAlone : LineFault → ℕ → List Lexeme → Type 0
 -- what begins no item; a missing parenthesis
-IsItemFaultAlone UnknownWord n next = ((l : Lexeme) × (rest : List Lexeme) × (next ≡ l ∷ rest) × (begins_item l ≡ false))
+IsItemFaultAlone UnknownWord n next =
+    ((l : Lexeme) × (rest : List Lexeme) × (next ≡ l ∷ rest) × (begins_item l ≡ false))
     ⊎ (((rest : List Lexeme) × (next ≡ Word word.Chr ∷ rest) × Lacks OpenParen rest)
     ⊎ ((ds : List ℕ) × (rest : List Lexeme) × (next ≡ Word word.Chr ∷ OpenParen ∷ Digits ds ∷ rest)
     × (number_of ds ≤ 255) × Lacks CloseParen rest))
@@ -54,7 +56,8 @@ IsItemFaultAlone BadNumber n next =
 IsItemFaultAlone BadByte n next =
     ((good : List ℕ) × (b : ℕ) × (more : List ℕ) × (rest : List Lexeme) × (next ≡ Quoted (good ++ b ∷ more) ∷ rest)
     × (list_all is_printable good ≡ true) × (is_printable b ≡ false) × (n + length good ≤ byte_limit))
-    ⊎ ((ds : List ℕ) × (rest : List Lexeme) × (next ≡ Word word.Chr ∷ OpenParen ∷ Digits ds ∷ rest) × (255 < number_of ds))
+    ⊎ ((ds : List ℕ) × (rest : List Lexeme) × (next ≡ Word word.Chr ∷ OpenParen ∷ Digits ds ∷ rest)
+    × (255 < number_of ds))
 -- the 256th byte: one of a string that may stand there, or that of a whole CHR$
 IsItemFaultAlone TooLong n next =
     ((good : List ℕ) × (b : ℕ) × (more : List ℕ) × (rest : List Lexeme) × (next ≡ Quoted (good ++ b ∷ more) ∷ rest)
@@ -74,7 +77,8 @@ pub record IsListFaultAlone (f : LineFault) (n : ℕ) (list : List Lexeme) : Typ
 
 -- the first fault of a statement
 abbrev pub IsStatementFaultAlone : LineFault → List Lexeme → Type 0
-IsStatementFaultAlone f part = IsFaultOutsideListsAlone f part ⊎ ((list : List Lexeme) × HasList part list × IsListFaultAlone f 0 list)
+IsStatementFaultAlone f part =
+    IsFaultOutsideListsAlone f part ⊎ ((list : List Lexeme) × HasList part list × IsListFaultAlone f 0 list)
 
 -- the first fault of a part of a line, where there is room for so many more statements: where there is none, a statement's keyword is one
 abbrev pub IsPartFaultAlone : ℕ → LineFault → List Lexeme → Type 0
@@ -95,7 +99,8 @@ pub record ArePartsFaultAlone (room : ℕ) (f : LineFault) (ps : List (List Lexe
 -- the first fault of a line without its end: a line number above 63999, or a fault after the line's number, if there is one
 abbrev pub IsLineFaultAlone : ℕ → LineFault → List ℕ → Type 0
 IsLineFaultAlone room f line = (lexemes : List Lexeme) × AreLexemes line lexemes
-    × (((f ≡ BadNumber) × (ds : List ℕ) × (rest : List Lexeme) × (lexemes ≡ Digits ds ∷ rest) × (line_number_limit < number_of ds))
+    × (((f ≡ BadNumber) × (ds : List ℕ) × (rest : List Lexeme) × (lexemes ≡ Digits ds ∷ rest)
+    × (line_number_limit < number_of ds))
     ⊎ ((rest : List Lexeme) × HasNumber lexemes rest × ArePartsFaultAlone room f (parts rest)))
 
 -- good lines, no more statements than there is room for, and then a line with a fault; the line's place from 0

@@ -50,7 +50,8 @@ front (b ∷ bs) =
 -- the lexemes after the bytes of the last one that are left
 unfoldable pub lexemes_after : ℕ → List ℕ → List Lexeme
 lexemes_after skip [] = []
-lexemes_after zero (b ∷ bs) = if is_space b then lexemes_after 0 bs else (front (b ∷ bs)).0 ∷ lexemes_after ((front (b ∷ bs)).1 - 1) bs
+lexemes_after zero (b ∷ bs) =
+    if is_space b then lexemes_after 0 bs else (front (b ∷ bs)).0 ∷ lexemes_after ((front (b ∷ bs)).1 - 1) bs
 lexemes_after (suc skip) (b ∷ bs) = lexemes_after skip bs
 
 -- the lexemes of a line

@@ -55,7 +55,8 @@ pub record Performs (old new : Seen) (found number : ℕ) (answer : Option Stop)
 
 -- bytes printed to the output device
 abbrev pub printing : List ℕ → Seen → Seen
-printing bytes old = if nat_lt 3 old.output then adding (map Byte bytes) old else record old { screen = old.screen ++ bytes }
+printing bytes old =
+    if nat_lt 3 old.output then adding (map Byte bytes) old else record old { screen = old.screen ++ bytes }
 
 -- the bus works, and its items are those of the elements
 pub record IsWorking (seen : Seen) : Type 0 where

@@ -22,7 +22,8 @@ abbrev pub ◌>>=◌ : {A B E : Type 0} → Result A E → (A → Result B E) �
 -- a number within bounds, and the lexemes after it; the faults of a missing number and of one outside
 unfoldable pub number_in : ℕ → ℕ → LineFault → LineFault → List Lexeme → Result (ℕ × List Lexeme) Placed
 number_in low high missing outside (Digits ds ∷ ls) =
-    if nat_le low (number_of ds) && nat_le (number_of ds) high then Ok (number_of ds, ls) else Err (outside, start_of (Digits ds ∷ ls))
+    if nat_le low (number_of ds) && nat_le (number_of ds) high then Ok (number_of ds, ls)
+    else Err (outside, start_of (Digits ds ∷ ls))
 number_in low high missing outside ls = Err (missing, start_of ls)
 
 -- a comma, or the fault of a missing one
@@ -63,8 +64,10 @@ byte_added at bytes b = if nat_lt (length bytes) byte_limit then Ok (bytes ++ b 
 -- after it, or not at all
 unfoldable pub string_added : List Lexeme → List ℕ → List ℕ → Result (List ℕ) Placed
 string_added at bytes s =
-    if nat_lt byte_limit (length bytes + prefix_len is_printable s) then Err (TooLong, within at (1 + (byte_limit - length bytes)))
-    else (if nat_lt (prefix_len is_printable s) (length s) then Err (BadByte, within at (1 + prefix_len is_printable s)) else Ok (bytes ++ s))
+    if nat_lt byte_limit (length bytes + prefix_len is_printable s)
+    then Err (TooLong, within at (1 + (byte_limit - length bytes)))
+    else (if nat_lt (prefix_len is_printable s) (length s)
+    then Err (BadByte, within at (1 + prefix_len is_printable s)) else Ok (bytes ++ s))
 
 -- `)` after a number
 unfoldable pub closed_in : ℕ → List Lexeme → Result (ℕ × List Lexeme) Placed
@@ -87,7 +90,8 @@ line_in bytes ends (Semicolon ∷ ls) = line_in bytes false ls
 line_in bytes ends (Quoted s ∷ ls) = string_added (Quoted s ∷ ls) bytes s >>= λ more. line_in more true ls
 line_in bytes ends (Word word.Chr ∷ OpenParen ∷ Digits ds ∷ CloseParen ∷ ls) =
     if nat_le (number_of ds) 255
-    then byte_added (Word word.Chr ∷ OpenParen ∷ Digits ds ∷ CloseParen ∷ ls) bytes (number_of ds) >>= (λ more. line_in more true ls)
+    then byte_added (Word word.Chr ∷ OpenParen ∷ Digits ds ∷ CloseParen ∷ ls) bytes (number_of ds)
+    >>= (λ more. line_in more true ls)
     else Err (BadByte, start_of (Digits ds ∷ CloseParen ∷ ls))
 line_in bytes ends (Word word.Chr ∷ OpenParen ∷ Digits ds ∷ ls) =
     if nat_le (number_of ds) 255 then Err (UnknownWord, start_of ls) else Err (BadByte, start_of (Digits ds ∷ ls))

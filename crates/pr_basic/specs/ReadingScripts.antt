@@ -21,7 +21,8 @@ pub record Passed : Type 0 where
 -- a line's optional number of at most 63999, and the lexemes after it
 unfoldable pub split_number : List Lexeme → Result (List Lexeme × List Lexeme) (LineFault × Passed)
 split_number (Digits ds ∷ ls) =
-    if nat_le (number_of ds) line_number_limit then Ok (Digits ds ∷ [], ls) else Err (BadNumber, record { done = []; inside = 0 })
+    if nat_le (number_of ds) line_number_limit then Ok (Digits ds ∷ [], ls)
+    else Err (BadNumber, record { done = []; inside = 0 })
 split_number ls = Ok ([], ls)
 
 -- the digits that stand first
@@ -36,7 +37,8 @@ is_begun (l ∷ ls) = begins_statement l
 
 -- one part, where there is room for so many more statements
 abbrev pub counted : ℕ → List Lexeme → Result (Option Statement) Placed
-counted room part = if room == 0 then (if is_begun part then Err (TooMany, start_of part) else statement_in part) else statement_in part
+counted room part =
+    if room == 0 then (if is_begun part then Err (TooMany, start_of part) else statement_in part) else statement_in part
 
 -- the room after a part
 abbrev pub room_after : ℕ → Option Statement → ℕ

@@ -19,7 +19,8 @@ abbrev pub placed : Flaw → Placed
 placed e = (e.fault, within (here e.rest.now) e.inside)
 
 -- a value and the bytes after it stand for that value and the lexemes after it, in the same part
-abbrev pub Reads : {X : Type 0} → Result (X × Bor (List ℕ)) Flaw → Result (X × List Lexeme) Placed → List Lexeme → Type 0
+abbrev pub Reads : {X : Type 0} → Result (X × Bor (List ℕ)) Flaw → Result (X × List Lexeme) Placed → List Lexeme
+    → Type 0
 Reads (Ok p) said more = (said ≡ Ok (p.0, here p.1.now)) × (later p.1.now ≡ more)
 Reads (Err e) said more = said ≡ Err (placed e)
 
@@ -55,7 +56,8 @@ ReadsOn (Err e) bytes = IsRest e.rest.now bytes
 
 -- the list that went on with a lexeme and the bytes behind it goes on with the rest
 abbrev pub TakesItem : Text → Text → Lexeme → List ℕ → Bor (List ℕ) → Type 0
-TakesItem old new l bytes rest = (line_in old.bytes old.ends (l ∷ here bytes) ≡ line_in new.bytes new.ends (here rest.now))
+TakesItem old new l bytes rest =
+    (line_in old.bytes old.ends (l ∷ here bytes) ≡ line_in new.bytes new.ends (here rest.now))
     × (later rest.now ≡ later bytes) × (length rest.now ≤ length bytes)
 
 -- a whole part, of which a list was read
@@ -69,7 +71,8 @@ ReadsStatement (Ok p) said more = (said ≡ Ok p.0) × (later p.1.now ≡ more)
 ReadsStatement (Err e) said more = Fails e said
 
 -- a fault stands in a line: what is left there are the bytes after the lexemes before its place
-pub record StandsIn {Y : Type 0} (f : LineFault) (rest : List ℕ) (inside : ℕ) (line : List ℕ) (said : Result Y (LineFault × Passed)) : Type 0 where
+pub record StandsIn {Y : Type 0} (f : LineFault) (rest : List ℕ) (inside : ℕ) (line : List ℕ)
+    (said : Result Y (LineFault × Passed)) : Type 0 where
   pub done : List Lexeme
   pub told : said ≡ Err (f, record { done = done; inside = inside })
   pub left : rest ≡ past (length done) line

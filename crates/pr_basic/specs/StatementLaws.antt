@@ -35,14 +35,16 @@ is_byte_unanswered present sent (Some b) = not (is_answered present sent (item.S
 -- LISTEN or any item before it in the run is not answered
 abbrev pub is_missing : StatusMode → Present → List Element → File → Bool
 is_missing Each present before file =
-    not (is_answered present (items_of before) (item.Attention (command.listen + file.device) (second_from command.secondary file.second)))
+    not (is_answered present (items_of before)
+    (item.Attention (command.listen + file.device) (second_from command.secondary file.second)))
     || is_byte_unanswered present (items_of before) (held_of before)
 is_missing Kept present before file = is_lacking present 0 (items_of (before ++ listen_to file ∷ []))
 
 -- CMD and PRINT# stop where the file is not open, and where its device is missing
 abbrev pub command_stop : StatusMode → Present → List Element → Option File → Option Stop
 command_stop mode present before None = Some FileNotOpen
-command_stop mode present before (Some file) = if is_missing mode present before file then Some DeviceNotPresent else None
+command_stop mode present before (Some file) =
+    if is_missing mode present before file then Some DeviceNotPresent else None
 
 -- the stop of a statement: of OPEN by the file table, of CMD and PRINT# by the file and its device, and no other statement stops
 abbrev pub stop_in : StatusMode → Present → List Element → Setting → Statement → Option Stop
@@ -61,7 +63,8 @@ is_unanswered_in Kept present before all = is_lacking present 0 (items_of all)
 -- a statement stops with DEVICE NOT PRESENT exactly where its file's device is missing, and else as the file table says
 abbrev pub StopsExactly : Type 0
 StopsExactly = (mode : StatusMode) (present : Present) (before : List Element) (at : Setting) (statement : Statement) →
-    (effect_of present (found_of mode present before) before at statement).stop ≡ stop_in mode present before at statement
+    (effect_of present (found_of mode present before) before at statement).stop
+    ≡ stop_in mode present before at statement
 
 -- the status of a statement is 128 exactly where such an item is not answered, else 0
 abbrev pub StatusExactly : Type 0
@@ -71,9 +74,12 @@ StatusExactly = (mode : StatusMode) (present : Present) (before es : List Elemen
 
 -- the next statement finds the status that this one leaves, or 0
 abbrev pub StatusFoundNext : Type 0
-StatusFoundNext = (mode : StatusMode) (present : Present) (found : ℕ) (before es : List Element) → found ≡ found_of mode present before →
+StatusFoundNext =
+    (mode : StatusMode) (present : Present) (found : ℕ) (before es : List Element) → found
+    ≡ found_of mode present before →
     found_by mode (status_of present found before (before ++ es)) ≡ found_of mode present (before ++ es)
 
 -- a statement sends its items after those of what stood before it
 abbrev pub SentAfterEarlier : Type 0
-SentAfterEarlier = (before es : List Element) → items_of (before ++ es) ≡ items_of before ++ sent_in before (before ++ es)
+SentAfterEarlier =
+    (before es : List Element) → items_of (before ++ es) ≡ items_of before ++ sent_in before (before ++ es)

@@ -18,7 +18,8 @@ given_list (Err w) = []
 pub record IsHearing (forgotten trace : List Edge) (port : WiredPort) : Type 0 where
   pub taken : HasReceived trace port.receiver
   pub works : refusal_of port.receiver ≡ None
-  pub inputs : inputs_with (device_of port.receiver) forgotten ++ port.inputs.items ≡ inputs_with (device_of port.receiver) trace
+  pub inputs : inputs_with (device_of port.receiver) forgotten ++ port.inputs.items
+      ≡ inputs_with (device_of port.receiver) trace
 
 -- the printer with this number has heard these edges if it is present, and nothing if it is not
 pub record Hears (device : ℕ) (present : Bool) (forgotten trace : List Edge) (port : WiredPort) : Type 0 where
@@ -31,18 +32,21 @@ pub record Hears (device : ℕ) (present : Bool) (forgotten trace : List Edge) (
 -- a printer has heard these edges behind whatever it had heard
 abbrev pub HearsOn : List Edge → WiredPort → WiredPort → Type 0
 HearsOn edges old new =
-    (forgotten trace : List Edge) → IsAllowed (trace ++ edges) → IsHearing forgotten trace old → IsHearing forgotten (trace ++ edges) new
+    (forgotten trace : List Edge) → IsAllowed (trace ++ edges) → IsHearing forgotten trace old
+    → IsHearing forgotten (trace ++ edges) new
 
 -- the printer with this number, if it is present, has heard these edges behind whatever it had heard; if it is not, it has heard nothing
 abbrev pub ListensAs : ℕ → List Edge → WiredPort → WiredPort → Type 0
 ListensAs device edges old new =
-    (present : Bool) (forgotten trace : List Edge) → IsAllowed (trace ++ edges) → Hears device present forgotten trace old
+    (present : Bool) (forgotten trace : List Edge) → IsAllowed (trace ++ edges)
+    → Hears device present forgotten trace old
     → Hears device present forgotten (trace ++ edges) new
 
 -- the printer with this number has forgotten the inputs given so far
 abbrev pub ForgetsAs : ℕ → WiredPort → WiredPort → Type 0
 ForgetsAs device old new =
-    (present : Bool) (forgotten trace : List Edge) → Hears device present forgotten trace old → Hears device present trace trace new
+    (present : Bool) (forgotten trace : List Edge) → Hears device present forgotten trace old
+    → Hears device present trace trace new
 
 -- it is the ear that it was, with its inputs
 pub record IsSamePort (old new : WiredPort) : Type 0 where

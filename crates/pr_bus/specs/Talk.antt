@@ -42,7 +42,8 @@ pub record IsSameTuned (t u : Talker) : Type 0 where
 
 -- the moments of a frame for those that listen
 abbrev pub heard_frame : Talker → ℕ → Bool → ℕ → FrameTimes
-heard_frame t look eoi byte = frame_times look eoi byte (left t.computer) (data_hearers eoi (heeding t.four ++ heeding t.five))
+heard_frame t look eoi byte =
+    frame_times look eoi byte (left t.computer) (data_hearers eoi (heeding t.four ++ heeding t.five))
 
 -- the printers that are present
 abbrev pub printers_of : Talker → List TimedPrinter
@@ -76,14 +77,18 @@ end_of t ack unlisten = cond unlisten (closed_at t ack) (freed_at t ack)
 -- the lines after an attention
 abbrev pub rest_of : Talker → ℕ → Bool → Lines
 rest_of t ack unlisten =
-    cond unlisten Free (cond ((t.four.present && t.four.listens) || (t.five.present && t.five.listens)) Pulled (Due (due_at t ack)))
+    cond unlisten Free
+    (cond ((t.four.present && t.four.listens) || (t.five.present && t.five.listens)) Pulled (Due (due_at t ack)))
 
 -- a second command's frame, after the first acknowledgement
 abbrev pub second_of : Talker → ℕ → Option ℕ → Option SecondFrame
 second_of t k None = None
 second_of t k (Some b) =
     let look = k + delay_at Aw (left t.computer) 0 in
-    Some (record { look = look; sent = frame_times look false b (drop 1 (left t.computer)) (command_hearers 0 (printers_of t)) })
+    Some (record {
+      look = look;
+      sent = frame_times look false b (drop 1 (left t.computer)) (command_hearers 0 (printers_of t));
+    })
 
 -- how many numbers a second command takes of the computer, and which of a printer
 abbrev pub second_takes : Option ℕ → ℕ
@@ -96,4 +101,8 @@ second_taking (Some b) ps = map (taking 2) ps
 
 -- a printer after it heard who shall listen
 abbrev pub tuned_to : ℕ → one.TimedPrinter → one.TimedPrinter
-tuned_to first p = record p { listens = if first == command.unlisten then false else (p.listens || first == command.listen + p.device) }
+tuned_to first p =
+    record p {
+      listens = if first == command.unlisten then false
+          else (p.listens || first == command.listen + p.device);
+    }

@@ -37,7 +37,8 @@ pub record IsAt (w : WiresState) (t : Talker) : Type 0 where
   pub state : state_of w.items t ≡ state_from w.present w.delays w.items
 
 -- both printers have heard the timed trace of these items, and keep what they were given since the mark
-pub record AreHearing (present : Present) (delays : DelayNumbers) (mark : Option ℕ) (items : List Item) (log : Log) : Type 0 where
+pub record AreHearing (present : Present) (delays : DelayNumbers) (mark : Option ℕ) (items : List Item)
+    (log : Log) : Type 0 where
   pub four : Hears 4 present.four (trace_until present delays mark items) (trace_from present delays items) log.four
   pub five : Hears 5 present.five (trace_until present delays mark items) (trace_from present delays items) log.five
 

@@ -43,7 +43,8 @@ Tells IsText IsFault old new (NoInput index) = ⊥
 -- the text of a script's pages, and the error that stopped its run
 abbrev pub IsPagesText : Start → Format → List ℕ → Stopping → List ℕ → Type 0
 IsPagesText start format script stop text =
-    (outcome : Outcome) × (length script ≤ script_limit) × IsTextOf start format script outcome text × (stop ≡ outcome.stop)
+    (outcome : Outcome) × (length script ≤ script_limit) × IsTextOf start format script outcome text
+    × (stop ≡ outcome.stop)
 
 -- the trace of a script's run, as text or as a dump, and the error that stopped the run
 abbrev pub IsBusText : Start → TraceFormat → List ℕ → Stopping → List ℕ → Type 0
@@ -53,12 +54,14 @@ IsBusText start format script stop text =
 
 -- the text of a printer's page
 abbrev pub IsPaperText : Bool → Format → List ℕ → Stopping → List ℕ → Type 0
-IsPaperText lower format bytes stop text = (length bytes ≤ raw_limit) × (stop ≡ None) × IsRawText lower format bytes text
+IsPaperText lower format bytes stop text =
+    (length bytes ≤ raw_limit) × (stop ≡ None) × IsRawText lower format bytes text
 
 -- the lines of the frames of a lawful trace text
 abbrev pub IsFramesText : List ℕ → Stopping → List ℕ → Type 0
 IsFramesText trace stop text =
-    (frames : List Frame) × (length trace ≤ trace_limit) × (stop ≡ None) × IsLawfulText trace frames × (text ≡ frame_lines frames)
+    (frames : List Frame) × (length trace ≤ trace_limit) × (stop ≡ None) × IsLawfulText trace frames
+    × (text ≡ frame_lines frames)
 
 -- why a script gives no text; memory can be refused at any time
 abbrev pub IsScriptRefusal : List ℕ → CliFault → Type 0

@@ -19,34 +19,40 @@ abbrev pub Refuses : ℕ → List ℕ → List ℕ → Answer → Type 0
 Refuses fault old new answer = (answer ≡ refusal (fault, 0)) × (new ≡ old)
 
 -- the pages of a script
-abbrev pub TellsPages : Option Present → Option StatusMode → Option Format → DelayNumbers → List ℕ → List ℕ → List ℕ → Answer → Type 0
+abbrev pub TellsPages : Option Present → Option StatusMode → Option Format → DelayNumbers → List ℕ → List ℕ → List ℕ
+    → Answer → Type 0
 TellsPages None _ _ delays script old new answer = Refuses 22 old new answer
 TellsPages (Some present) None _ delays script old new answer = Refuses 23 old new answer
 TellsPages (Some present) (Some mode) None delays script old new answer = Refuses 24 old new answer
 TellsPages (Some present) (Some mode) (Some format) delays script old new answer =
     (told : Told) × (answer ≡ answer_of told)
-    × Tells (IsPagesText (record { present = present; delays = delays; mode = mode }) format script) (IsScriptRefusal script) old new told
+    × Tells (IsPagesText (record { present = present; delays = delays; mode = mode }) format script)
+    (IsScriptRefusal script) old new told
 
 -- the trace of a script's run
-abbrev pub TellsBus : Option Present → Option StatusMode → Option TraceFormat → DelayNumbers → List ℕ → List ℕ → List ℕ → Answer → Type 0
+abbrev pub TellsBus : Option Present → Option StatusMode → Option TraceFormat → DelayNumbers → List ℕ → List ℕ → List ℕ
+    → Answer → Type 0
 TellsBus None _ _ delays script old new answer = Refuses 22 old new answer
 TellsBus (Some present) None _ delays script old new answer = Refuses 23 old new answer
 TellsBus (Some present) (Some mode) None delays script old new answer = Refuses 24 old new answer
 TellsBus (Some present) (Some mode) (Some format) delays script old new answer =
     (told : Told) × (answer ≡ answer_of told)
-    × Tells (IsBusText (record { present = present; delays = delays; mode = mode }) format script) (IsScriptRefusal script) old new told
+    × Tells (IsBusText (record { present = present; delays = delays; mode = mode }) format script)
+    (IsScriptRefusal script) old new told
 
 -- the page of a printer's bytes
 abbrev pub TellsRaw : Option Bool → Option Format → List ℕ → List ℕ → List ℕ → Answer → Type 0
 TellsRaw None _ bytes old new answer = Refuses 25 old new answer
 TellsRaw (Some lower) None bytes old new answer = Refuses 24 old new answer
 TellsRaw (Some lower) (Some format) bytes old new answer =
-    (told : Told) × (answer ≡ answer_of told) × Tells (IsPaperText lower format bytes) (IsPaperRefusal bytes) old new told
+    (told : Told) × (answer ≡ answer_of told)
+    × Tells (IsPaperText lower format bytes) (IsPaperRefusal bytes) old new told
 
 -- the page of a printer's inputs, as numbers
 abbrev pub TellsPrint : Option Format → List ℕ → List ℕ → List ℕ → Answer → Type 0
 TellsPrint None inputs old new answer = Refuses 24 old new answer
-TellsPrint (Some format) inputs old new answer = (told : Told) × (answer ≡ answer_of told) × TellsInputs format inputs old new told
+TellsPrint (Some format) inputs old new answer =
+    (told : Told) × (answer ≡ answer_of told) × TellsInputs format inputs old new told
 
 -- the frames of a trace text
 abbrev pub TellsCheck : List ℕ → List ℕ → List ℕ → Answer → Type 0

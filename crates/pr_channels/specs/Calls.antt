@@ -28,7 +28,8 @@ chkout_of None old = (old, Some FileNotOpen)
 chkout_of (Some file) old = listened file.device (adding (listen_to file ∷ []) old)
   where
     listened : ℕ → Seen → Seen × Option Stop
-    listened device new = if new.status == 128 then (new, Some DeviceNotPresent) else (record new { output = device }, None)
+    listened device new =
+        if new.status == 128 then (new, Some DeviceNotPresent) else (record new { output = device }, None)
 
 -- a byte goes to the screen or to the bus
 abbrev pub chrout_of : ℕ → Seen → Seen

@@ -19,7 +19,8 @@ AddingNone = (old : Seen) → old.sent ≡ items_of old.elements → adding [] o
 
 -- one more file against which nothing stands makes a file table of a file table
 abbrev pub TableWithOneMore : Type 0
-TableWithOneMore = (files : Files) (file : File) → IsTable files → open_stop files file.number ≡ None → IsTable (files ++ file ∷ [])
+TableWithOneMore =
+    (files : Files) (file : File) → IsTable files → open_stop files file.number ≡ None → IsTable (files ++ file ∷ [])
 
 -- some of the files of a file table are a file table
 abbrev pub TableWithSome : Type 0

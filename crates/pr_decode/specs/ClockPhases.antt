@@ -33,7 +33,8 @@ longer s e = record s { rest = s.rest ++ e ∷ [] }
 abbrev pub stretches_from : ClockPhase → (last : Edge) → List Edge → List ClockPhase
 stretches_from s last [] = s ∷ []
 stretches_from s last (e ∷ es) =
-    if goes_on s.first last e then stretches_from (longer s e) e es else s ∷ stretches_from (begun (calls last e) e) e es
+    if goes_on s.first last e then stretches_from (longer s e) e es
+    else s ∷ stretches_from (begun (calls last e) e) e es
 
 -- the stretches of a recording, however it begins
 abbrev pub stretches : List Edge → List ClockPhase

@@ -21,7 +21,8 @@ abbrev pub outline : ClockPhase → Outline
 outline s = record {
   attention = s.attention;
   time = s.first.time;
-  released = if s.first.levels.clock then Some (record { level = s.first.levels.line; late = first_late s.first.time s.rest }) else None;
+  released = if s.first.levels.clock
+      then Some (record { level = s.first.levels.line; late = first_late s.first.time s.rest }) else None;
 }
 
 -- the acknowledgement in the stretch behind so many

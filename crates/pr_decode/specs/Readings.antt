@@ -37,7 +37,8 @@ opening (l ∷ r ∷ p ∷ f ∷ es) = Some (record {
   ready_for_data = r.time;
   pulse = Some (record { pulled = p.time; released = f.time });
 })
-opening (l ∷ r ∷ es) = Some (record { command = not r.levels.atn; ready_to_send = l.time; ready_for_data = r.time; pulse = None })
+opening (l ∷ r ∷ es) =
+    Some (record { command = not r.levels.atn; ready_to_send = l.time; ready_for_data = r.time; pulse = None })
 opening es = None
 
 -- a stretch is one where CLOCK is released; none is where ATN's pull begins it
@@ -60,7 +61,8 @@ is_none (Some t) = false
 -- a stretch with CLOCK released ends a bit, if the next one follows in time and ATN is pulled by neither; CLOCK is then pulled in
 -- that one, since it is not as it was
 abbrev pub ends_bit : (high next : ClockPhase) → Bool
-ends_bit high next = not high.attention && not next.attention && is_none (first_late high.first.time (high.rest ++ next.first ∷ []))
+ends_bit high next =
+    not high.attention && not next.attention && is_none (first_late high.first.time (high.rest ++ next.first ∷ []))
 
 -- a bit: CLOCK pulled, CLOCK released, and the edge that pulls it again
 pub record Bit : Type 0 where
@@ -172,7 +174,8 @@ is_called (s ∷ ss) = s.attention
 abbrev pub begun_by : Option Opening → ClockPhase → List ClockPhase → Option (Reading × ℕ)
 begun_by None low ss = None
 begun_by (Some o) low ss =
-    if low.attention || is_called ss then None else (let b = bits_from 8 low ss in Some (reading o low.first.time b, number_of b.bits))
+    if low.attention || is_called ss then None
+    else (let b = bits_from 8 low ss in Some (reading o low.first.time b, number_of b.bits))
 
 abbrev pub begins : ClockPhase → List ClockPhase → Option (Reading × ℕ)
 begins s [] = None

@@ -33,7 +33,8 @@ weight n =
 -- one half more, behind those of so many bits
 abbrev pub widened : (bits : ℕ) → Halves → ℕ → Halves
 widened bits h n =
-    if bits == 0 then record { shortest = n; longest = n } else record { shortest = min h.shortest n; longest = max h.longest n }
+    if bits == 0 then record { shortest = n; longest = n }
+    else record { shortest = min h.shortest n; longest = max h.longest n }
 
 -- a byte whose bits begin with an edge
 abbrev pub begun_transfer : Opening → Edge → Transfer
@@ -72,14 +73,17 @@ abbrev pub began : (attention : Bool) → Edge → ClockPhase
 began attention e = record { attention = attention; first = e; last = e; turns = turned (not e.levels.clock) Still e }
 
 abbrev pub with_edge : ClockPhase → Edge → ClockPhase
-with_edge s e = record { attention = s.attention; first = s.first; last = e; turns = turned (not s.first.levels.clock) s.turns e }
+with_edge s e =
+    record { attention = s.attention; first = s.first; last = e; turns = turned (not s.first.levels.clock) s.turns e }
 
 -- the opening that turns are
 abbrev pub opened : DataTransitions → Option Opening
 opened Still = None
 opened (Once a) = None
-opened (Twice a b) = Some (record { command = not b.levels.atn; ready_to_send = a.time; ready_for_data = b.time; pulse = None })
-opened (Thrice a b c) = Some (record { command = not b.levels.atn; ready_to_send = a.time; ready_for_data = b.time; pulse = None })
+opened (Twice a b) =
+    Some (record { command = not b.levels.atn; ready_to_send = a.time; ready_for_data = b.time; pulse = None })
+opened (Thrice a b c) =
+    Some (record { command = not b.levels.atn; ready_to_send = a.time; ready_for_data = b.time; pulse = None })
 opened (Often a b c d) = Some (record {
   command = not b.levels.atn;
   ready_to_send = a.time;
@@ -118,7 +122,8 @@ abbrev pub low_ended : Transfer → ClockPhase → Edge → Option Reading
 low_ended t s e = if t.bits == 8 then frame_ended t s e else bits_ended t s e
 
 abbrev pub high_ended : Transfer → ClockPhase → Edge → Option Reading
-high_ended t s e = if is_late s.first.time e then Some (IncompleteByte t (glitch.ClockTimeout e.time)) else called_at t s e
+high_ended t s e =
+    if is_late s.first.time e then Some (IncompleteByte t (glitch.ClockTimeout e.time)) else called_at t s e
 
 abbrev pub ended_by : Option Transfer → ClockPhase → Edge → Option Reading
 ended_by None s e = None

@@ -34,7 +34,8 @@ first_low (b ∷ bs) last = b.low
 -- bits behind one another, and so many bits with others
 abbrev pub AreBits : List Bit → ClockPhase → Type 0
 AreBits [] last = Unit {0}
-AreBits (b ∷ bs) last = (ends_bit b.high (first_low bs last) ≡ true) × (b.down ≡ (first_low bs last).first) × AreBits bs last
+AreBits (b ∷ bs) last =
+    (ends_bit b.high (first_low bs last) ≡ true) × (b.down ≡ (first_low bs last).first) × AreBits bs last
 
 abbrev pub with_more : List Bit → ℕ → ℕ
 with_more [] n = n
@@ -133,4 +134,5 @@ IsBefore e d = StandsBefore e.time (last_time d)
 
 -- the readings given are all that the edges taken settle
 abbrev pub GivenAreSettled : Type 0
-GivenAreSettled = (edges : List Edge) (given : List Reading) (d : Decoder) → HasReadings edges given d → settled_of edges ≡ given
+GivenAreSettled =
+    (edges : List Edge) (given : List Reading) (d : Decoder) → HasReadings edges given d → settled_of edges ≡ given

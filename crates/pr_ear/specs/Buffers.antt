@@ -22,4 +22,5 @@ pub record IsFilled (device : ℕ) (edges : List WireEdge) (old new : List ℕ) 
 -- further numbers are laid behind those that were, of which there were so many
 abbrev pub KeepsOn : ℕ → List ℕ → List ℕ → List ℕ → Type 0
 KeepsOn count more old new =
-    (numbers first : List ℕ) → count ≡ length numbers → old ≡ laid_over numbers first → new ≡ laid_over (numbers ++ more) first
+    (numbers first : List ℕ) → count ≡ length numbers → old ≡ laid_over numbers first → new
+    ≡ laid_over (numbers ++ more) first

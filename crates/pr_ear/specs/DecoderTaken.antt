@@ -112,7 +112,12 @@ pulse_from eoi pulled released = if eoi == 1 then Some (record { pulled = pulled
 
 abbrev pub byte_from : WireByte → Transfer
 byte_from b = record {
-  opening = record { command = b.command == 1; ready_to_send = b.look; ready_for_data = b.ready; pulse = pulse_from b.eoi b.answered b.answer_ended };
+  opening = record {
+    command = b.command == 1;
+    ready_to_send = b.look;
+    ready_for_data = b.ready;
+    pulse = pulse_from b.eoi b.answered b.answer_ended;
+  };
   pull = b.pull;
   bits = b.bits;
   byte = b.byte;

@@ -37,7 +37,8 @@ settled_by edges = settled_of (map edge_of edges)
 -- what is told of one edge more is right: the reading that it settles; or that it stands before the last
 abbrev pub TellsNext : List WireEdge → WireEdge → DecoderTold → Type 0
 TellsNext edges edge (Done reading) =
-    (settled_by (edges ++ edge ∷ []) ≡ settled_by edges ++ option_to_list reading) × (StandsBefore edge.time (last_moment edges) → ⊥)
+    (settled_by (edges ++ edge ∷ []) ≡ settled_by edges ++ option_to_list reading)
+    × (StandsBefore edge.time (last_moment edges) → ⊥)
 TellsNext edges edge GoesBack = StandsBefore edge.time (last_moment edges)
 TellsNext edges edge NoDecoder = ⊥
 
@@ -105,8 +106,10 @@ reading_numbers None = record { byte = no_byte; end = 0; kind = 0 }
 reading_numbers (Some (Frame t (frame.Acknowledged time))) = record { byte = byte_numbers t; end = time; kind = 1 }
 reading_numbers (Some (Frame t (frame.Unacknowledged time))) = record { byte = byte_numbers t; end = time; kind = 2 }
 reading_numbers (Some (Frame t frame.Cut)) = record { byte = byte_numbers t; end = 0; kind = 3 }
-reading_numbers (Some (IncompleteByte t (glitch.Attention time))) = record { byte = byte_numbers t; end = time; kind = 4 }
-reading_numbers (Some (IncompleteByte t (glitch.ClockTimeout time))) = record { byte = byte_numbers t; end = time; kind = 5 }
+reading_numbers (Some (IncompleteByte t (glitch.Attention time))) =
+    record { byte = byte_numbers t; end = time; kind = 4 }
+reading_numbers (Some (IncompleteByte t (glitch.ClockTimeout time))) =
+    record { byte = byte_numbers t; end = time; kind = 5 }
 reading_numbers (Some (IncompleteByte t glitch.Cut)) = record { byte = byte_numbers t; end = 0; kind = 6 }
 
 -- what is told, as numbers: the reading, and the answer

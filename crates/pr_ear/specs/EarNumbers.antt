@@ -23,7 +23,17 @@ sending_number Data = 2
 -- the numbers of a place that has no others
 abbrev pub plain_place : (place since : ℕ) → PlaceNumbers
 plain_place place since =
-    record { since = since; released = 0; place = place; sending = 0; eoi = 0; count = 0; byte = 0; bit = 0; unlistened = 0 }
+    record {
+      since = since;
+      released = 0;
+      place = place;
+      sending = 0;
+      eoi = 0;
+      count = 0;
+      byte = 0;
+      bit = 0;
+      unlistened = 0;
+    }
 
 -- the numbers of a place in which a byte is sent
 abbrev pub byte_place : (place since : ℕ) → ByteRole → Bool → List Bool → (bit : ℕ) → PlaceNumbers
@@ -47,7 +57,8 @@ stored_place (Bit since sending eoi seen bit) = byte_place 6 since sending eoi s
 stored_place (High since sending eoi seen bit) = byte_place 7 since sending eoi seen (bit_of bit)
 stored_place (Last since sending eoi seen) = byte_place 8 since sending eoi seen 0
 stored_place (Ack since sending byte) = record (plain_place 9 since) { sending = sending_number sending; byte = byte }
-stored_place (Freed since unlistened released) = record (plain_place 10 since) { bit = bit_of released; unlistened = bit_of unlistened }
+stored_place (Freed since unlistened released) =
+    record (plain_place 10 since) { bit = bit_of released; unlistened = bit_of unlistened }
 
 -- an edge has these levels of ATN, CLOCK and DATA
 pub record HasLevels (e : Edge) (atn clock line : Bool) : Type 0 where
@@ -70,11 +81,15 @@ CanLead e (Call since false) = StandsAt e since false false true
 CanLead e (Call since true) = HasLevels e false false false × (since ≤ e.time) × (e.time ≤ since + 1000)
 CanLead e (Ready since sending) = StandsAt e since (atn_of sending) true false
 CanLead e (Free since sending) = StandsAt e since (atn_of sending) true true
-CanLead e (Pulse since released) = StandsAt e since true true false × (released + 200 ≤ since) × (since ≤ released + 250)
+CanLead e (Pulse since released) =
+    StandsAt e since true true false × (released + 200 ≤ since) × (since ≤ released + 250)
 CanLead e (After since) = StandsAt e since true true true
-CanLead e (Bit since sending eoi seen bit) = StandsAt e since (atn_of sending) false bit × (length seen ≤ 7) × IsMarked eoi sending
-CanLead e (High since sending eoi seen bit) = StandsAt e since (atn_of sending) true bit × (length seen ≤ 7) × IsMarked eoi sending
-CanLead e (Last since sending eoi seen) = StandsAt e since (atn_of sending) false true × (length seen ≡ 8) × IsMarked eoi sending
+CanLead e (Bit since sending eoi seen bit) =
+    StandsAt e since (atn_of sending) false bit × (length seen ≤ 7) × IsMarked eoi sending
+CanLead e (High since sending eoi seen bit) =
+    StandsAt e since (atn_of sending) true bit × (length seen ≤ 7) × IsMarked eoi sending
+CanLead e (Last since sending eoi seen) =
+    StandsAt e since (atn_of sending) false true × (length seen ≡ 8) × IsMarked eoi sending
 CanLead e (Ack since sending byte) = StandsAt e since (atn_of sending) false false
 CanLead e (Freed since unlistened false) = StandsAt e since true false false
 CanLead e (Freed since unlistened true) = HasLevels e true false true × (since < e.time) × (e.time ≤ since + 60)

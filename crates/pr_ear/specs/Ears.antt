@@ -41,7 +41,8 @@ TellsEnd edges NoEar = ⊥
 abbrev pub ear_answer_of : EarTold → EarAnswer
 ear_answer_of (Done None) = record { code = 0; fault = 0; place = 0; heard = 0; input = 0 }
 ear_answer_of (Done (Some input)) = record { code = 0; fault = 0; place = 0; heard = 1; input = number_of input }
-ear_answer_of (Unlawful fault) = record { code = 2; fault = fault_code fault; place = fault_index fault; heard = 0; input = 0 }
+ear_answer_of (Unlawful fault) =
+    record { code = 2; fault = fault_code fault; place = fault_index fault; heard = 0; input = 0 }
 ear_answer_of NoDevice = record { code = 2; fault = 21; place = 0; heard = 0; input = 0 }
 ear_answer_of NoEar = record { code = 2; fault = 26; place = 0; heard = 0; input = 0 }
 
@@ -54,5 +55,6 @@ EarsHearTheSame =
 -- a law: where edges are not allowed, their first fault stays the first, whatever edges come behind them
 abbrev pub FirstFaultsStay : Type 0
 FirstFaultsStay =
-    (edges more : List WireEdge) (fault : WaveFault) → (AreAllowed edges → ⊥) → fault_of (map edge_of edges) ≡ Some fault
+    (edges more : List WireEdge) (fault : WaveFault) → (AreAllowed edges → ⊥) → fault_of (map edge_of edges)
+    ≡ Some fault
     → (AreAllowed (edges ++ more) → ⊥) × (fault_of (map edge_of (edges ++ more)) ≡ Some fault)

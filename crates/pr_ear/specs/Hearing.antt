@@ -20,7 +20,10 @@ is_released level = not (level == 0)
 
 -- an edge of the caller's
 abbrev pub edge_of : WireEdge → Edge
-edge_of e = record { time = e.time; levels = record { atn = is_released e.atn; clock = is_released e.clock; line = is_released e.data } }
+edge_of e = record {
+  time = e.time;
+  levels = record { atn = is_released e.atn; clock = is_released e.clock; line = is_released e.data };
+}
 
 -- a truth value, as a number
 abbrev pub bit_of : Bool → ℕ
@@ -41,13 +44,16 @@ pub record IsDevice (device : ℕ) : Type 0 where
 -- the edges are a lawful trace, and these are the numbers of what a device hears of the frames that it spells
 abbrev pub AreHeard : ℕ → List WireEdge → List ℕ → Type 0
 AreHeard device edges numbers =
-    (frames : List Frame) × IsDevice device × Spells (map edge_of edges) frames × (numbers ≡ map number_of (heard_of device frames))
+    (frames : List Frame) × IsDevice device × Spells (map edge_of edges) frames
+    × (numbers ≡ map number_of (heard_of device frames))
 
 -- what is told is right, by the buffer before and after
 abbrev pub Tells : ℕ → List WireEdge → List ℕ → List ℕ → Told → Type 0
 Tells device edges old new (Heard n) =
-    (numbers : List ℕ) × AreHeard device edges numbers × (n ≡ length numbers) × (n ≤ length old) × (new ≡ numbers ++ drop n old)
-Tells device edges old new (Unlawful fault) = IsDevice device × (fault_of (map edge_of edges) ≡ Some fault) × (new ≡ old)
+    (numbers : List ℕ) × AreHeard device edges numbers × (n ≡ length numbers) × (n ≤ length old)
+    × (new ≡ numbers ++ drop n old)
+Tells device edges old new (Unlawful fault) =
+    IsDevice device × (fault_of (map edge_of edges) ≡ Some fault) × (new ≡ old)
 Tells device edges old new (TooSmall n) =
     (numbers : List ℕ) × AreHeard device edges numbers × (n ≡ length numbers) × (length old < n) × (new ≡ old)
 Tells device edges old new NoDevice = (IsDevice device → ⊥) × (new ≡ old)

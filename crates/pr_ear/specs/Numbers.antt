@@ -23,7 +23,8 @@ sending_by n = if n == 0 then First else (if n == 1 then Second else Data)
 
 -- an edge in a caller's numbers
 abbrev pub wire_of : Edge → WireEdge
-wire_of e = record { time = e.time; atn = bit_of e.levels.atn; clock = bit_of e.levels.clock; «data» = bit_of e.levels.line }
+wire_of e = record
+    { time = e.time; atn = bit_of e.levels.atn; clock = bit_of e.levels.clock; «data» = bit_of e.levels.line }
 
 -- so many bits have come; a byte has no more than eight
 abbrev pub few : ℕ → ℕ

@@ -50,7 +50,8 @@ pub record HasCome (device : ℕ) (edges : List Edge) (s : Standing) : Type 0 wh
 -- what comes of one edge more is right
 abbrev pub IsRight : ℕ → List Edge → Edge → Result (Option Input) WaveFault → Type 0
 IsRight device edges edge (Ok input) = IsAllowed (edges ++ edge ∷ []) × (input ≡ input_at device edges edge)
-IsRight device edges edge (Err fault) = (IsAllowed (edges ++ edge ∷ []) → ⊥) × (fault_of (edges ++ edge ∷ []) ≡ Some fault)
+IsRight device edges edge (Err fault) =
+    (IsAllowed (edges ++ edge ∷ []) → ⊥) × (fault_of (edges ++ edge ∷ []) ≡ Some fault)
 
 -- what comes of an end behind the edges is right
 abbrev pub IsRightEnd : List Edge → Result (Unit {0}) WaveFault → Type 0

@@ -5,7 +5,8 @@ use Rattle.pr_options.specs.CommandLine.{print1525}
 
 -- one of the subcommands
 abbrev pub IsOurs : Text → Type 0
-IsOurs name = (name ≡ codes "pages") ⊎ ((name ≡ codes "bus") ⊎ ((name ≡ codes "check") ⊎ ((name ≡ codes "decode") ⊎ (name ≡ codes "raw"))))
+IsOurs name = (name ≡ codes "pages") ⊎
+    ((name ≡ codes "bus") ⊎ ((name ≡ codes "check") ⊎ ((name ≡ codes "decode") ⊎ (name ≡ codes "raw"))))
 
 -- words name no other subcommand
 abbrev pub NamesOurs : Type 0

@@ -8,7 +8,8 @@ use Rattle.pr_bus.specs.declared.wires.Delays.{Delays}
 
 -- one to five digits, which spell at most 65535
 abbrev pub is_raw_number : List ℕ → Bool
-is_raw_number text = nat_le 1 (length text) && (nat_le (length text) 5 && (list_all is_digit text && nat_le (number_of text) 65535))
+is_raw_number text =
+    nat_le 1 (length text) && (nat_le (length text) 5 && (list_all is_digit text && nat_le (number_of text) 65535))
 
 -- the words of a list: an empty list has none, else they are parted by commas
 abbrev pub words_of : List ℕ → List (List ℕ)

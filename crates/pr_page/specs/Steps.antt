@@ -109,7 +109,8 @@ state_after_tokens s (t ∷ tokens) = state_after_tokens (state_after_token s t)
 abbrev pub step : PrinterState → Input → PrinterState
 step s (Select lower) = record s { lower = lower; taken = s.taken + 1 }
 step s (Byte b) =
-    record (state_after_tokens s (tokens_by s.pending s.lower b)) { pending = pending_after s.pending b; taken = s.taken + 1 }
+    record (state_after_tokens s (tokens_by s.pending s.lower b))
+    { pending = pending_after s.pending b; taken = s.taken + 1 }
 
 -- what is kept after inputs
 abbrev pub state_after : PrinterState → List Input → PrinterState

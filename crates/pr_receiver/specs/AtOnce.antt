@@ -20,10 +20,12 @@ EndNoFrame before edges = frames_ended (before ++ edges) ≡ frames_ended before
 
 -- edges behind others bring a device this input, if it is one, and no other
 abbrev pub BringInput : ℕ → List Edge → List Edge → Option Input → Type 0
-BringInput device before edges input = inputs_with device (before ++ edges) ≡ inputs_with device before ++ option_to_list input
+BringInput device before edges input =
+    inputs_with device (before ++ edges) ≡ inputs_with device before ++ option_to_list input
 
 -- a receiver has taken so many edges in front, edge by edge, and this input came with the last of them; if none, it is as it was
-pub record TakesAtOnce (old : Progress) (edges : List Edge) (n : ℕ) (input : Option Input) (new : Progress) : Type 0 where
+pub record TakesAtOnce (old : Progress) (edges : List Edge) (n : ℕ) (input : Option Input)
+    (new : Progress) : Type 0 where
   pub taken : (before : List Edge) → HasReceived before old → HasReceived (before ++ take n edges) new
   pub inputs : (before : List Edge) → HasReceived before old → BringInput (device_of old) before (take n edges) input
   pub ends : 0 < n → (before : List Edge) → HasReceived before old → EndOneFrame before (take n edges)

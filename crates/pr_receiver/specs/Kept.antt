@@ -6,4 +6,5 @@ use Rattle.pr_receiver.specs.declared.listener.Listener.{Listener}
 
 -- what a device keeps of frames
 abbrev pub kept_of : ℕ → List Frame → Listener
-kept_of device frames = record { device = device; listens = is_listening device frames; called = is_called device frames }
+kept_of device frames =
+    record { device = device; listens = is_listening device frames; called = is_called device frames }

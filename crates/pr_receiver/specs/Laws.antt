@@ -12,7 +12,8 @@ use Rattle.pr_receiver.specs.Given.{frames_ended, input_at, inputs_behind, input
 -- a trace gives a device, edge by edge, exactly what it hears of the frames that the trace spells
 abbrev pub TracesGiveWhatIsHeard : Type 0
 TracesGiveWhatIsHeard =
-    (device : ℕ) (edges : List Edge) (frames : List Frame) → Spells edges frames → inputs_with device edges ≡ heard_of device frames
+    (device : ℕ) (edges : List Edge) (frames : List Frame) → Spells edges frames → inputs_with device edges
+    ≡ heard_of device frames
 
 -- the edges of a trace end just the frames that it spells
 abbrev pub TracesEndWhatTheySpell : Type 0
@@ -20,7 +21,8 @@ TracesEndWhatTheySpell = (edges : List Edge) (frames : List Frame) → Spells ed
 
 -- the frames that the edges of a front end are a front of those that all the edges end
 abbrev pub FrontsEndAFront : Type 0
-FrontsEndAFront = (edges more : List Edge) → (later : List Frame) × (frames_ended (edges ++ more) ≡ frames_ended edges ++ later)
+FrontsEndAFront =
+    (edges more : List Edge) → (later : List Frame) × (frames_ended (edges ++ more) ≡ frames_ended edges ++ later)
 
 -- the frames that the edges of a front of a trace end are a front of those that the trace spells
 abbrev pub FrontsOfTracesEndAFront : Type 0
@@ -30,7 +32,8 @@ FrontsOfTracesEndAFront =
 
 -- whatever the edges, they give a device what it hears of the frames that they end
 abbrev pub EdgesGiveWhatIsHeard : Type 0
-EdgesGiveWhatIsHeard = (device : ℕ) (edges : List Edge) → inputs_with device edges ≡ heard_of device (frames_ended edges)
+EdgesGiveWhatIsHeard =
+    (device : ℕ) (edges : List Edge) → inputs_with device edges ≡ heard_of device (frames_ended edges)
 
 -- the inputs of edges and more edges are those of the first, then those of the others
 abbrev pub InputsOfTwoParts : Type 0
@@ -42,7 +45,8 @@ InputsOfTwoParts =
 abbrev pub InputsOfOneMore : Type 0
 InputsOfOneMore =
     (device : ℕ) (before : List Edge) (edge : Edge)
-    → inputs_with device (before ++ edge ∷ []) ≡ inputs_with device before ++ option_to_list (input_at device before edge)
+    → inputs_with device (before ++ edge ∷ []) ≡ inputs_with device before
+    ++ option_to_list (input_at device before edge)
 
 -- a lawful trace is allowed
 abbrev pub LawfulIsAllowed : Type 0
@@ -68,4 +72,5 @@ ListeningAfterOneMore =
 -- only the last frame can have called the device
 abbrev pub CalledAfterOneMore : Type 0
 CalledAfterOneMore =
-    (device : ℕ) (frames : List Frame) (frame : Frame) → is_called device (frames ++ frame ∷ []) ≡ is_listen device frame
+    (device : ℕ) (frames : List Frame) (frame : Frame) → is_called device (frames ++ frame ∷ [])
+    ≡ is_listen device frame

@@ -23,7 +23,8 @@ look_with look _ = look
 -- a frame that an edge ends has begun with the last look, and ends in the place reached, where it is acknowledged
 abbrev pub with_moments : (look : ℕ) → Option Frame → BusState → Option TimedFrame
 with_moments look None p = None
-with_moments look (Some f) (Ack k s byte) = Some (record { look = look; acknowledged = k; sending = s; byte = f.byte; eoi = f.eoi })
+with_moments look (Some f) (Ack k s byte) =
+    Some (record { look = look; acknowledged = k; sending = s; byte = f.byte; eoi = f.eoi })
 with_moments look (Some f) _ = None
 
 -- what comes of an edge that the table of lawful traces allows; with one that it does not allow the story ends

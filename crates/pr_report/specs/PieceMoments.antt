@@ -8,7 +8,8 @@ use Rattle.pr_report.specs.declared.timed_frame.TimedFrame.{TimedFrame}
 
 -- a frame of a piece, sent from a release of CLOCK on
 abbrev pub frame_timed : ByteRole → (look : ℕ) → FrameTimes → TimedFrame
-frame_timed s look f = record { look = look; acknowledged = f.ack; sending = s; byte = byte_sent f; eoi = has_pulse f.pulse }
+frame_timed s look f =
+    record { look = look; acknowledged = f.ack; sending = s; byte = byte_sent f; eoi = has_pulse f.pulse }
 
 -- the frames of a piece
 abbrev pub second_timed : Option SecondFrame → List TimedFrame

@@ -36,7 +36,13 @@ is_behind_data b = false
 abbrev pub story_frame : Preceding → Transfer → (acknowledged : ℕ) → TimedFrame
 story_frame b t k =
     let sent : ByteRole = sending_of b t.opening.command t.byte in
-    record { look = t.opening.ready_to_send; acknowledged = k; sending = sent; byte = t.byte; eoi = is_some t.opening.pulse }
+    record {
+      look = t.opening.ready_to_send;
+      acknowledged = k;
+      sending = sent;
+      byte = t.byte;
+      eoi = is_some t.opening.pulse;
+    }
 
 -- a byte that is not acknowledged: what it is, and its look
 abbrev pub byte_word : (is_command : Bool) → List ℕ

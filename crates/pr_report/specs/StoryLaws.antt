@@ -9,12 +9,15 @@ use Rattle.pr_report.specs.PieceMoments.{pieces_timed}
 
 -- without their moments the frames of a lawful trace are those that it spells
 abbrev pub TracesTellWhatTheySpell : Type 0
-TracesTellWhatTheySpell = (edges : List Edge) (frames : List Frame) → Spells edges frames → map frame_told (timed_frames edges) ≡ frames
+TracesTellWhatTheySpell =
+    (edges : List Edge) (frames : List Frame) → Spells edges frames → map frame_told (timed_frames edges) ≡ frames
 
 -- the frames of a lawful trace are those of its pieces, with the moments of these
 abbrev pub TracesTellTheirMoments : Type 0
-TracesTellTheirMoments = (edges : List Edge) (pieces : List Piece) → IsCut edges pieces → timed_frames edges ≡ pieces_timed pieces
+TracesTellTheirMoments =
+    (edges : List Edge) (pieces : List Piece) → IsCut edges pieces → timed_frames edges ≡ pieces_timed pieces
 
 -- more edges only add frames
 abbrev pub MoreEdgesAddFrames : Type 0
-MoreEdgesAddFrames = (edges more : List Edge) → (later : List TimedFrame) × (timed_frames (edges ++ more) ≡ timed_frames edges ++ later)
+MoreEdgesAddFrames =
+    (edges more : List Edge) → (later : List TimedFrame) × (timed_frames (edges ++ more) ≡ timed_frames edges ++ later)

@@ -18,7 +18,8 @@ IsReached (Some n) items = n ≤ length items
 
 -- the inputs are what the device heard of the items after the mark: none if it is absent, and with
 -- those before the mark at most two for each item
-pub record IsHeardSinceMark (present : Present) (mark : Option ℕ) (items : List Item) (device : ℕ) (inputs : List Input) : Type 0 where
+pub record IsHeardSinceMark (present : Present) (mark : Option ℕ) (items : List Item) (device : ℕ)
+    (inputs : List Input) : Type 0 where
   pub heard : heard_by present device (items_before mark items) ++ inputs ≡ heard_by present device items
   pub absent : is_present present device ≡ false → inputs ≡ []
   pub bounded : length (heard_by present device items) ≤ 2 * length items

@@ -8,7 +8,8 @@ use Rattle.pr_serial.specs.Heard.{is_present, heard_by}
 use Rattle.pr_serial.specs.HeardSinceMark.{items_before}
 
 -- it is the printer with this number, and keeps what it heard of these items since the mark
-pub record Hears (present : Present) (number : ℕ) (mark : Option ℕ) (items : List Item) (port : PrinterPort) : Type 0 where
+pub record Hears (present : Present) (number : ℕ) (mark : Option ℕ) (items : List Item)
+    (port : PrinterPort) : Type 0 where
   pub device : port.device ≡ number
   pub present_is : port.present ≡ is_present present number
   pub listens : port.listens ≡ is_listener number items

@@ -11,7 +11,9 @@ use Rattle.pr_serial.specs.Steps.{flushed, sent_at_once, held_at, answers_after,
 
 -- one more element sends the byte held back and, if it is an attention, itself
 abbrev pub ItemsOfOneMore : Type 0
-ItemsOfOneMore = (es : List Element) (e : Element) → items_of (es ++ e ∷ []) ≡ items_of es ++ (flushed (held_of es) e ++ sent_at_once e)
+ItemsOfOneMore =
+    (es : List Element) (e : Element) → items_of (es ++ e ∷ []) ≡ items_of es
+    ++ (flushed (held_of es) e ++ sent_at_once e)
 
 -- after one more element only that one may be held back
 abbrev pub HeldAfterOneMore : Type 0
@@ -28,7 +30,8 @@ ItemsOfTwoParts = (es fs : List Element) → held_of es ≡ None → items_of (e
 -- an UNLISTEN ends listening, a LISTEN to the device begins it, and nothing else changes it
 abbrev pub ListenerAfterOneMore : Type 0
 ListenerAfterOneMore = (device : ℕ) (items : List Item) (item : Item) →
-    is_listener device (items ++ item ∷ []) ≡ (if is_unlisten item then false else (is_listener device items || is_listen device item))
+    is_listener device (items ++ item ∷ [])
+    ≡ (if is_unlisten item then false else (is_listener device items || is_listen device item))
 
 -- whether a later item lacks an answer is told by the answers to the later ones
 abbrev pub LackingAmongLater : Type 0
@@ -63,7 +66,8 @@ HeardOfTwoParts = (present : Present) (device : ℕ) (xs ys : List Item) → is_
 
 -- a device that is never called hears nothing
 abbrev pub HeardUncalled : Type 0
-HeardUncalled = (present : Present) (device : ℕ) (items : List Item) → IsNotCalled device items → heard_by present device items ≡ []
+HeardUncalled =
+    (present : Present) (device : ℕ) (items : List Item) → IsNotCalled device items → heard_by present device items ≡ []
 
 -- an item gives a device at most two inputs
 abbrev pub InputsOfAnItem : Type 0
@@ -71,4 +75,5 @@ InputsOfAnItem = (device : ℕ) (items : List Item) (item : Item) → length (in
 
 -- a device hears at most two inputs for each item
 abbrev pub HeardIsBounded : Type 0
-HeardIsBounded = (present : Present) (device : ℕ) (items : List Item) → length (heard_by present device items) ≤ 2 * length items
+HeardIsBounded =
+    (present : Present) (device : ℕ) (items : List Item) → length (heard_by present device items) ≤ 2 * length items

@@ -4,7 +4,8 @@ use Rattle.pr_base.specs.Bytes as command
 
 -- a secondary address: a number of 0 to 15 selects a channel or closes it
 abbrev pub IsSecondary : ℕ → Type 0
-IsSecondary s = ((command.secondary ≤ s) × (s ≤ command.secondary + 15)) ⊎ ((command.close ≤ s) × (s ≤ command.close + 15))
+IsSecondary s =
+    ((command.secondary ≤ s) × (s ≤ command.secondary + 15)) ⊎ ((command.close ≤ s) × (s ≤ command.close + 15))
 
 -- an attention that may be sent: LISTEN or UNLISTEN, and after LISTEN perhaps a secondary address
 abbrev pub MaySend : ℕ → Option ℕ → Type 0

@@ -32,16 +32,19 @@ StepsOnlyAddEdges = (run : RunningState) (statements : List Statement) → run.i
 -- the steps of a list of statements make the trace of the whole run of it
 abbrev pub StepsMakeTheTrace : Type 0
 StepsMakeTheTrace = (mode : StatusMode) (present : Present) (delays : DelayNumbers) (statements : List Statement) →
-    trace_so_far (stepped_through (begun mode present delays) statements) ≡ trace_from present delays (items_sent mode present statements)
+    trace_so_far (stepped_through (begun mode present delays) statements)
+    ≡ trace_from present delays (items_sent mode present statements)
 
 -- in a list without CMD and PRINT that has no stop, leaving out one device spares the others
 abbrev pub Isolation : Type 0
 Isolation = (left_out : ℕ) (mode : StatusMode) (present : Present) (statements : List Statement) →
-    AreAddressed statements → GoesOn mode present statements → IsSpared mode present left_out statements (without left_out statements)
+    AreAddressed statements → GoesOn mode present statements
+    → IsSpared mode present left_out statements (without left_out statements)
 
 -- so the page of each other printer is the same
 abbrev pub IsolatedPages : Type 0
-IsolatedPages = (left_out : ℕ) (mode : StatusMode) (present : Present) (statements : List Statement) (all rest : Outcome) →
+IsolatedPages =
+    (left_out : ℕ) (mode : StatusMode) (present : Present) (statements : List Statement) (all rest : Outcome) →
     AreAddressed statements → GoesOn mode present statements →
     IsOutcome mode present statements all → IsOutcome mode present (without left_out statements) rest →
     KeepsPapers left_out all rest

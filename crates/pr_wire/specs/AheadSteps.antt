@@ -42,7 +42,8 @@ pub record BringsByte (pull : Edge) (edges : List Edge) (byte : ℕ) : Type 0 wh
   pub leads : (s : ByteRole) (eoi : Bool) (before : List Frame) (count : ℕ) → atn_of s ≡ pull.levels.atn
       → let ack : Edge = last_of edges 17 in
       reached (behind pull (Bit pull.time s eoi [] pull.levels.line) before count) (take 17 edges)
-      ≡ Ok (behind ack (Ack ack.time s byte) (record { attention = not (atn_of s); byte = byte; eoi = eoi } ∷ before) (count + 17))
+      ≡ Ok (behind ack (Ack ack.time s byte) (record { attention = not (atn_of s); byte = byte; eoi = eoi }
+      ∷ before) (count + 17))
   pub sooner : (s : ByteRole) (eoi : Bool) → atn_of s ≡ pull.levels.atn
       → EndsNoneSooner pull (Bit pull.time s eoi [] pull.levels.line) edges 17
 
@@ -63,7 +64,8 @@ pub record IsBegunBy (last : Edge) (s : Start) (look free : Edge) : Type 0 where
 
 -- CLOCK is pulled, and brings the first bit of a frame without end-or-identify
 abbrev pub IsPulledBy : ByteRole → Edge → Edge → Type 0
-IsPulledBy s free pull = IsEdgeIn pull (record { atn = atn_of s; clock = false; line = pull.levels.line }) free.time 1 199
+IsPulledBy s free pull =
+    IsEdgeIn pull (record { atn = atn_of s; clock = false; line = pull.levels.line }) free.time 1 199
 
 -- end-or-identify is answered, and CLOCK is pulled and brings the first bit
 pub record IsAnsweredBy (free pulse release pull : Edge) : Type 0 where

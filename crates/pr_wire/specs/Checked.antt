@@ -32,7 +32,8 @@ pub record IsScanned (text : List ℕ) (edges : List Edge) (part : LinePart) : T
   pub part_is : part ≡ part_with Nothing line
 
 -- no line is bad so far: their edges were given to the follower
-pub record IsFollowed (text : List ℕ) (frames : List Frame) (part : LinePart) (count : ℕ) (follower : TraceFollower) : Type 0 where
+pub record IsFollowed (text : List ℕ) (frames : List Frame) (part : LinePart) (count : ℕ)
+    (follower : TraceFollower) : Type 0 where
   pub edges : List Edge
   pub scanned : IsScanned text edges part
   pub count_is : length edges ≡ count
@@ -50,7 +51,8 @@ HasChecked text frames c = IsTaken c.is_bad text frames c.part (line_count c) c.
 -- the checker has taken these bytes too, after whatever it had taken, and the frame that they end came by, if they end one
 abbrev pub ChecksMore : List ℕ → Option Frame → Checker → Checker → Type 0
 ChecksMore more frame old new =
-    (text : List ℕ) (frames : List Frame) → HasChecked text frames old → HasChecked (text ++ more) (with_frame frames frame) new
+    (text : List ℕ) (frames : List Frame) → HasChecked text frames old
+    → HasChecked (text ++ more) (with_frame frames frame) new
 
 -- one edge more was given to a follower, and ends this frame, if it ends one
 abbrev pub GoesOn : TraceFollower → Edge → Option Frame → TraceFollower → Type 0

@@ -60,7 +60,8 @@ pub record Refuses (old : TraceFollower) (w : WaveFault) (new : TraceFollower) :
 abbrev pub Moves : TraceFollower → Edge → Result (Option Frame) WaveFault → TraceFollower → Type 0
 Moves f edge result new =
     MatchResult (step_of f.last f.state f.taken edge)
-    (λ (s : Step). (result ≡ Ok s.frame) × (new ≡ record { taken = f.taken + 1; last = Some edge; state = s.place; refused = None }))
+    (λ (s : Step). (result ≡ Ok s.frame)
+    × (new ≡ record { taken = f.taken + 1; last = Some edge; state = s.place; refused = None }))
     (λ (w : WaveFault). (result ≡ Err w) × Refuses f w new)
 
 -- these edges are allowed, and end these frames
@@ -68,13 +69,15 @@ abbrev pub LeadBy : (edges : List Edge) → (frames : List Frame) → Type 0
 LeadBy edges frames = MatchResult (reached begin edges) (λ r. r.before ≡ reverse frames) (λ _. ⊥)
 
 -- so many edges in front are accepted at once, and the last of them alone ends a frame, this one
-pub record TakesFrame (old : TraceFollower) (edges : List Edge) (n : ℕ) (frame : Frame) (new : TraceFollower) : Type 0 where
+pub record TakesFrame (old : TraceFollower) (edges : List Edge) (n : ℕ) (frame : Frame)
+    (new : TraceFollower) : Type 0 where
   pub some : 0 < n
   pub within : n ≤ length edges
   pub works : old.refused ≡ None
   pub accepted : (before : List Edge) (frames : List Frame) → HasAccepted before frames old
       → HasAccepted (before ++ take n edges) (frames ++ frame ∷ []) new
-  pub sooner : (before : List Edge) (frames : List Frame) → HasAccepted before frames old → LeadBy (before ++ take (n - 1) edges) frames
+  pub sooner : (before : List Edge) (frames : List Frame) → HasAccepted before frames old
+      → LeadBy (before ++ take (n - 1) edges) frames
   pub count : new.taken ≡ old.taken + n
   pub last : new.last ≡ Some (last_of edges n)
   pub stays : new.refused ≡ None

@@ -7,7 +7,8 @@ use Rattle.pr_base.specs.Digits.{is_digit, number_after}
 abbrev pub word_at : List ℕ → ℕ → ℕ
 word_at text i =
     from_le_bytes w32
-    (slice_index_or text i 0 ∷ slice_index_or text (i + 1) 0 ∷ slice_index_or text (i + 2) 0 ∷ slice_index_or text (i + 3) 0 ∷ [])
+    (slice_index_or text i 0 ∷ slice_index_or text (i + 1) 0 ∷ slice_index_or text (i + 2) 0
+    ∷ slice_index_or text (i + 3) 0 ∷ [])
 
 -- so many digits stand in front, and spell these thousands
 pub record SpellsThousands (text : List ℕ) (len time : ℕ) : Type 0 where

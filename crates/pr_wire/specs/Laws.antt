@@ -24,13 +24,15 @@ AllowedIsReached = (edges : List Edge) → IsAllowed edges ↔ ((r : Reached) ×
 -- the lawful lists are the allowed ones that may end where they lead
 abbrev pub LawfulIsAllowedToEnd : Type 0
 LawfulIsAllowedToEnd =
-    (edges : List Edge) → IsLawful edges ↔ ((r : Reached) × (reached begin edges ≡ Ok r) × (may_stop r.last r.place ≡ true))
+    (edges : List Edge)
+    → IsLawful edges ↔ ((r : Reached) × (reached begin edges ≡ Ok r) × (may_stop r.last r.place ≡ true))
 
 -- a trace spells the frames that its edges come by, where they may end
 abbrev pub SpellsTheFramesReached : Type 0
 SpellsTheFramesReached =
     (edges : List Edge) (frames : List Frame)
-    → Spells edges frames ↔ ((r : Reached) × (reached begin edges ≡ Ok r) × (may_stop r.last r.place ≡ true) × (r.before ≡ reverse frames))
+    → Spells edges frames ↔
+    ((r : Reached) × (reached begin edges ≡ Ok r) × (may_stop r.last r.place ≡ true) × (r.before ≡ reverse frames))
 
 -- the fault of a list is that of its first edge that has one, or of its end
 abbrev pub FaultIsReached : Type 0
@@ -38,9 +40,11 @@ FaultIsReached = (edges : List Edge) → fault_of edges ≡ fault_by (reached be
 
 -- one edge more goes one step on, and what was reached counts the edges
 pub record OneEdgeMore : Type 0 where
-  pub step : (edges : List Edge) (e : Edge) → reached begin (edges ++ e ∷ []) ≡ led (λ r. one_more r e) (reached begin edges)
+  pub step : (edges : List Edge) (e : Edge) → reached begin (edges ++ e ∷ [])
+      ≡ led (λ r. one_more r e) (reached begin edges)
   pub count : (edges : List Edge) (r : Reached) → reached begin edges ≡ Ok r → r.count ≡ length edges
 
 -- whatever the numbers, a delay lies within the bounds of its kind
 abbrev pub DelaysLieWithinBounds : Type 0
-DelaysLieWithinBounds = (k : Kind) (numbers : List ℕ) (i : ℕ) → IsWithin (delay_at k numbers i) (bounds_of k).0 (bounds_of k).2
+DelaysLieWithinBounds =
+    (k : Kind) (numbers : List ℕ) (i : ℕ) → IsWithin (delay_at k numbers i) (bounds_of k).0 (bounds_of k).2

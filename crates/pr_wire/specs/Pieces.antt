@@ -54,7 +54,8 @@ pub data Piece : Type 0 where
   -- ATN pulled, and released where nobody answers
   Unanswered : (atn release : ℕ) → Piece
   -- ATN pulled, DATA pulled unless it was, CLOCK released for the first command, perhaps a second, the end
-  Attention : (atn : ℕ) (answer : Option ℕ) (look : ℕ) (first : FrameTimes) (second : Option SecondFrame) (end : Ending) → Piece
+  Attention : (atn : ℕ) (answer : Option ℕ) (look : ℕ) (first : FrameTimes) (second : Option SecondFrame)
+      (end : Ending) → Piece
   -- CLOCK released, and a frame
   DataByte : (look : ℕ) (sent : FrameTimes) → Piece
   -- CLOCK released where nobody listens
@@ -68,7 +69,8 @@ last_pull c (b ∷ bs) = last_pull b.down bs
 -- each bit's moments follow the pull of CLOCK that brings it
 abbrev pub AreClocked : ℕ → List BitTimes → Type 0
 AreClocked c [] = Unit {0}
-AreClocked c (b ∷ bs) = IsWithin b.up (c + 20) (c + 200) × IsWithin b.down (b.up + 20) (b.up + 200) × AreClocked b.down bs
+AreClocked c (b ∷ bs) =
+    IsWithin b.up (c + 20) (c + 200) × IsWithin b.down (b.up + 20) (b.up + 200) × AreClocked b.down bs
 
 -- CLOCK is pulled after DATA's release, in a data byte perhaps with an EOI answer between
 abbrev pub IsOpened : Bool → ℕ → Option EoiAnswer → ℕ → Type 0
@@ -199,7 +201,8 @@ pulse_edges (Some p) = edge_at p.pulled true true false ∷ edge_at p.released t
 
 -- the edges of a frame after CLOCK's release
 abbrev pub frame_edges : Bool → FrameTimes → List Edge
-frame_edges x f = edge_at f.free x true true ∷ pulse_edges f.pulse ++ bit_edges x f.pull f.bits ++ edge_at f.ack x false false ∷ []
+frame_edges x f =
+    edge_at f.free x true true ∷ pulse_edges f.pulse ++ bit_edges x f.pull f.bits ++ edge_at f.ack x false false ∷ []
 
 -- ATN pulled, with DATA as it was
 abbrev pub call_edge : Between → ℕ → Edge
@@ -209,7 +212,8 @@ call_edge _ a = edge_at a false false true
 -- DATA pulled in answer, and CLOCK released, perhaps in one microsecond
 abbrev pub answer_edges : Option ℕ → ℕ → List Edge
 answer_edges None look = edge_at look false true false ∷ []
-answer_edges (Some d) look = (if d == look then [] else edge_at d false false false ∷ []) ++ edge_at look false true false ∷ []
+answer_edges (Some d) look =
+    (if d == look then [] else edge_at d false false false ∷ []) ++ edge_at look false true false ∷ []
 
 abbrev pub second_edges : Option SecondFrame → List Edge
 second_edges None = []

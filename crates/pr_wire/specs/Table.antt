@@ -64,11 +64,13 @@ row (Ready l s) t _ _ _ = None
 row (Free d s) t x false b = where_true (same x (atn_of s)) (within (d + 1) (d + 199) (Bit t s false [] b))
 row (Free d Data) t true true false = within (d + 200) (d + 250) (Pulse t d)
 row (Free d s) t _ _ _ = None
-row (Pulse p d) t true true true = Some (record { earliest = p + 80; latest = Some (d + 450); place = After t; frame = None })
+row (Pulse p d) t true true true =
+    Some (record { earliest = p + 80; latest = Some (d + 450); place = After t; frame = None })
 row (Pulse p d) t _ _ _ = None
 row (After q) t true false b = within (q + 1) (q + 60) (Bit t Data true [] b)
 row (After q) t _ _ _ = None
-row (Bit c s eoi seen b) t x true b' = where_true (same x (atn_of s) && same b b') (within (c + 20) (c + 200) (High t s eoi seen b))
+row (Bit c s eoi seen b) t x true b' =
+    where_true (same x (atn_of s) && same b b') (within (c + 20) (c + 200) (High t s eoi seen b))
 row (Bit c s eoi seen b) t _ _ _ = None
 row (High u s eoi seen b) t x false b' =
     where_true (same x (atn_of s)) (if nat_lt (length seen) 7
@@ -77,7 +79,12 @@ row (High u s eoi seen b) t x false b' =
 row (High u s eoi seen b) t _ _ _ = None
 row (Last z s eoi seen) t x false false =
     where_true (same x (atn_of s))
-    (Some (record { earliest = z + 1; latest = Some (z + 80); place = Ack t s (byte_of seen); frame = Some (frame_of s eoi seen) }))
+    (Some (record {
+      earliest = z + 1;
+      latest = Some (z + 80);
+      place = Ack t s (byte_of seen);
+      frame = Some (frame_of s eoi seen);
+    }))
 row (Last z s eoi seen) t _ _ _ = None
 row (Ack k First byte) t false true false = within (k + 1000) (k + 2000) (Ready t Second)
 row (Ack k First byte) t true false false = within (k + 100) (k + 200) (Freed t (byte == command.unlisten) false)

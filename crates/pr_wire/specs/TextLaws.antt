@@ -11,7 +11,8 @@ TextIsReadBack = (edges : List Edge) → All (λ e. e.time < 2 ^ 64) edges → I
 pub record TextSpellsOnce : Type 0 where
   pub edges : (text : List ℕ) (es fs : List Edge) → IsTraceText text es → IsTraceText text fs → es ≡ fs
   pub bad : (text : List ℕ) (n : ℕ) (es : List Edge) → IsFirstBad n text → IsTraceText text es → ⊥
-  pub says : (text : List ℕ) (es fs : List Edge) (m n : Option ℕ) → SaysEdges text es m → SaysEdges text fs n → (es ≡ fs) × (m ≡ n)
+  pub says : (text : List ℕ) (es fs : List Edge) (m n : Option ℕ) → SaysEdges text es m → SaysEdges text fs n
+      → (es ≡ fs) × (m ≡ n)
 
 -- each text says something
 abbrev pub TextSaysSomething : Type 0

@@ -8,7 +8,8 @@ use Rattle.pr_base.specs.Digits.{is_digit, number_after}
 -- the time that some digits spell, where there are any and it is below 2^64
 unfoldable pub time_in : List ℕ → Option ℕ
 time_in digits =
-    if nat_lt 0 (length digits) && nat_lt (number_after 0 digits) 18446744073709551616 then Some (number_after 0 digits) else None
+    if nat_lt 0 (length digits) && nat_lt (number_after 0 digits) 18446744073709551616
+    then Some (number_after 0 digits) else None
 
 abbrev pub level_in : ℕ → Option Bool
 level_in b = if b == 48 then Some false else (if b == 49 then Some true else None)
@@ -44,15 +45,18 @@ tail_in time digits bs = None
 -- the edge of a text's first line, and the line's length
 unfoldable pub line_in : List ℕ → Option EdgeLine
 line_in text =
-    tail_in (time_in (take (prefix_len is_digit text) text)) (prefix_len is_digit text) (drop (prefix_len is_digit text) text)
+    tail_in (time_in (take (prefix_len is_digit text) text)) (prefix_len is_digit text)
+    (drop (prefix_len is_digit text) text)
 
 -- what follows the digits of a line that ends with byte 10 alone, and the edge with their time
 unfoldable pub ended_in : Option ℕ → ℕ → List ℕ → Option EdgeLine
 ended_in time digits (s ∷ a ∷ c ∷ d ∷ end ∷ more) =
-    if s == 32 && end == 10 then line_with time (levels_with (level_in a) (level_in c) (level_in d)) (Some 1) digits else None
+    if s == 32 && end == 10 then line_with time (levels_with (level_in a) (level_in c) (level_in d)) (Some 1) digits
+    else None
 ended_in time digits bs = None
 
 -- the edge of a text's first line, which ends with byte 10 alone, and the line's length
 unfoldable pub ended_line_in : List ℕ → Option EdgeLine
 ended_line_in text =
-    ended_in (time_in (take (prefix_len is_digit text) text)) (prefix_len is_digit text) (drop (prefix_len is_digit text) text)
+    ended_in (time_in (take (prefix_len is_digit text) text)) (prefix_len is_digit text)
+    (drop (prefix_len is_digit text) text)

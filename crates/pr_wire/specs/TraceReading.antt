@@ -31,8 +31,10 @@ FaultsIn bytes old NoMemory = ⊥
 
 -- what a reader answers at the text's end
 abbrev pub EndsText : TraceReader → Result (Option Edge) TraceFault → Type 0
-EndsText r (Ok edge) = (text : List ℕ) (edges : List Edge) → HasReadTrace text edges r → SaysEdges text (edges ++ option_to_list edge) None
-EndsText r (Err (BadLine n)) = (text : List ℕ) (edges : List Edge) → HasReadTrace text edges r → SaysEdges text edges (Some n)
+EndsText r (Ok edge) =
+    (text : List ℕ) (edges : List Edge) → HasReadTrace text edges r → SaysEdges text (edges ++ option_to_list edge) None
+EndsText r (Err (BadLine n)) =
+    (text : List ℕ) (edges : List Edge) → HasReadTrace text edges r → SaysEdges text edges (Some n)
 EndsText r (Err NoMemory) = ⊥
 
 -- whatever follows what a reader has taken, the edges that it has given come first
