@@ -375,12 +375,15 @@ impl<'a> CsvReader<'a> {
 
     /// Ends the line that has begun, and gives its sample, if it has one.
     fn end_line(&mut self) -> Result<Option<Edge>, CaptureFault>
+        // the caller's part
         requires few { line_number self.old + 1 < 2 ^ 64 }
+        // what it gives
         ensures read { IfOk result (λ sample. ReadsMore (10 ∷ []) sample self.old self.new) }
-        ensures refused { IfErr result (λ f. FaultsIn (10 ∷ []) self.old f) }
         ensures number { IfOk result (λ sample. line_number self.new ≡ line_number self.old + 1) }
         ensures line { IfOk result (λ sample. self.new.line.items ≡ []) }
         ensures names { IfOk result (λ sample. self.new.place ≡ Names → sample ≡ None) }
+        // when it refuses, and what that leaves
+        ensures refused { IfErr result (λ f. FaultsIn (10 ∷ []) self.old f) }
     {
         let sample = self
             .place
@@ -411,13 +414,16 @@ impl<'a> CsvReader<'a> {
     /// The first fault of the text, whose line these bytes end; [`CaptureFault::NoMemory`] where the
     /// growth of the line was refused. Nothing is promised of the reader afterwards.
     pub fn take_front(&mut self, block: &[u8]) -> Result<(usize, Option<Edge>), CaptureFault>
+        // the caller's part
         requires few { line_number self.old + 1 < 2 ^ 64 }
         requires some { 0 < length block.now }
+        // what it gives
         ensures read { IfOk result (λ r. ReadsMore (take r.0 block.now) r.1 self.old self.new) }
-        ensures refused { IfErr result (λ f. RefusesTable block.now self.old f) }
         ensures some { IfOk result (λ r. 0 < r.0) }
         ensures within { IfOk result (λ r. r.0 ≤ length block.now) }
         ensures number { IfOk result (λ r. line_number self.new ≤ line_number self.old + 1) }
+        // when it refuses, and what that leaves
+        ensures refused { IfErr result (λ f. RefusesTable block.now self.old f) }
     {
         let len = line_len(block);
         self.go_on(&block[..len])?;

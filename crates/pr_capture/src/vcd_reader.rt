@@ -110,13 +110,16 @@ impl<'a> VcdReader<'a> {
     /// of the word, or of what is kept of a section, was refused. Nothing is promised of the reader
     /// afterwards.
     pub fn take_front(&mut self, block: &[u8]) -> Result<(usize, Option<Edge>), CaptureFault>
+        // the caller's part
         requires few { line_number self.old + 1 < 2 ^ 64 }
         requires some { 0 < length block.now }
+        // what it gives
         ensures read { IfOk result (λ r. ReadsMore (take r.0 block.now) r.1 self.old self.new) }
-        ensures refused { IfErr result (λ f. RefusesDump block.now self.old f) }
         ensures some { IfOk result (λ r. 0 < r.0) }
         ensures within { IfOk result (λ r. r.0 ≤ length block.now) }
         ensures number { IfOk result (λ r. line_number self.new ≤ line_number self.old + 1) }
+        // when it refuses, and what that leaves
+        ensures refused { IfErr result (λ f. RefusesDump block.now self.old f) }
     {
         let len = word_len(block);
         self.go_on(&block[..len])?;

@@ -131,12 +131,15 @@ fn keep(out: &mut [u16], count: usize, input: Option<Input>) -> usize
 /// Goes over a trace once, and gives the number of inputs that a device hears. As many of them as
 /// the buffer has room for are put at its front.
 fn fill(device: u8, edges: &[WireEdge], out: &mut [u16]) -> Result<usize, WaveFault>
+    // the caller's part
     requires least { 4 ≤ device }
     requires greatest { device ≤ 30 }
+    // what it gives
     ensures filled { IfOk result (λ n. IsFilled device edges.now out.old out.new n) }
+    ensures length { length out.new ≡ length out.old }
+    // when it refuses, and what that leaves
     ensures fault { IfErr result (λ fault. fault_of (map edge_of edges.now) ≡ Some fault) }
     ensures memory { IfErr result (λ fault. fault ≢ NoMemory) }
-    ensures length { length out.new ≡ length out.old }
 {
     allowed_traces();
     inputs_add_up();

@@ -22,10 +22,12 @@ impl Progress {
     /// Takes the edges of a frame at once, where this state and the other's find them next.
     #[inline(always)]
     pub fn pass_frame_with(&mut self, other: &mut Progress, edges: &[Edge]) -> PassedBoth
+        // the caller's part
         requires room { self.old.follower.taken + length edges.now < 2 ^ 64 }
         requires other_room { other.old.follower.taken + length edges.now < 2 ^ 64 }
         requires sound { IsSound self.old }
         requires other_sound { IsSound other.old }
+        // what it gives
         ensures within { result.count ≤ length edges.now }
         ensures passes { MayPass self.old edges.now result.count result.input self.new }
         ensures other_passes { MayPass other.old edges.now result.count result.other other.new }

@@ -42,10 +42,12 @@ impl FirstLines {
     /// Reads on until there are `count` lines, and tells whether there are: each spells an edge and
     /// ends with byte 10 alone.
     pub fn read_to(&mut self, text: &[u8], count: usize) -> bool
+        // the caller's part
         requires few { count ≤ answered_edges }
         requires more { self.old.count ≤ count }
         requires within { self.old.len ≤ length text.now }
         requires bytes { self.old.count ≤ self.old.len }
+        // what it gives
         ensures lines { AreFirstLines text.now self.old → AreFirstLines text.now self.new }
         ensures few { self.new.count ≤ count }
         ensures count { result ≡ true → self.new.count ≡ count }

@@ -32,12 +32,15 @@ impl TraceReader {
 
     /// Ends the line that has begun, and gives its edge.
     fn end_line(&mut self) -> Result<Edge, TraceFault>
+        // the caller's part
         requires few { edge_count self.old + 1 < 2 ^ 64 }
+        // what it gives
         ensures read { IfOk result (λ edge. ReadsMore (10 ∷ []) (Some edge) self.old self.new) }
-        ensures refused { IfErr result (λ fault. FaultsIn (10 ∷ []) self.old fault) }
-        ensures memory { IfErr result (λ fault. fault ≢ TraceFault.NoMemory) }
         ensures count { OnOk result (edge_count self.new ≡ edge_count self.old + 1) }
         ensures part { OnOk result (is_nothing self.new.part ≡ true) }
+        // when it refuses, and what that leaves
+        ensures refused { IfErr result (λ fault. FaultsIn (10 ∷ []) self.old fault) }
+        ensures memory { IfErr result (λ fault. fault ≢ TraceFault.NoMemory) }
     {
         let Some(edge) = self.part.edge() else {
             return Err(TraceFault::BadLine(self.count + 1));

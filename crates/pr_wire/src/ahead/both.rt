@@ -31,12 +31,14 @@ impl BusState {
         last: Edge,
         edges: &[Edge],
     ) -> Option<WholeFrame>
+        // what it gives
         ensures some { IfSome result (λ whole. 0 < whole.len) }
         ensures enough { IfSome result (λ whole. whole.len ≤ length edges.now) }
         ensures passes { IfSome result (λ whole. PassesFrame last self.old edges.now whole.len self.new whole.frame) }
         ensures other_passes { IfSome result (λ whole. PassesFrame last other.old edges.now whole.len other.new whole.frame) }
         ensures sooner { IfSome result (λ whole. EndsNoneSooner last self.old edges.now whole.len) }
         ensures other_sooner { IfSome result (λ whole. EndsNoneSooner last other.old edges.now whole.len) }
+        // when it refuses, and what that leaves
         ensures stays { IsNone result → self.new ≡ self.old }
         ensures other_stays { IsNone result → other.new ≡ other.old }
     {
