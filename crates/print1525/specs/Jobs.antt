@@ -17,10 +17,10 @@ use Rattle.pr_cli.specs.Pages.{AnswersPages, IsRunFault, ReadsToEnd, WritesNothi
 use Rattle.pr_cli.specs.Bus.{AnswersBus, WritesNoEdge}
 use Rattle.pr_cli.specs.Check.{AnswersCheck, trace_limit}
 use Rattle.pr_cli.specs.Report.{AnswersReport, IsReportFault, WritesNoReport}
-use Rattle.pr_cli.specs.Report as report_on
+use Rattle.pr_cli.specs.Report as check
 use Rattle.pr_cli.specs.Raw.{AnswersRaw, IsRawFault}
 use Rattle.pr_recording.specs.Decoded.{AnswersDecode, IsDecodeFault}
-use Rattle.pr_recording.specs.Decoded as recording
+use Rattle.pr_recording.specs.Decoded as decode
 use Rattle.pr_recording.specs.Pages as reprint
 
 -- what `check` answers: the frames of a trace text, or else a report on an input of any format
@@ -46,3 +46,29 @@ AnswersJob (Bus present delays mode f) text old new result = AnswersBus (start_o
 AnswersJob (Check input r) text old new result = IsDone (AnswersTrace input input.source r text old new) result
 AnswersJob (Decode input f) text old new result = IsDone (AnswersRecording input f text old new) result
 AnswersJob (Raw lower f) text old new result = IsDone (AnswersRaw lower f text old new) result
+
+-- Whatever the reader tells.
+
+-- a fault of the job: want of memory always as itself
+abbrev pub IsJobFault : Job → CliFault → Type 0
+IsJobFault (Pages present delays mode f) fault = IsRunFault fault
+IsJobFault (Bus present delays mode f) fault = IsRunFault fault
+IsJobFault (Check input r) fault = IsReportFault fault
+IsJobFault (Decode input f) fault = IsDecodeFault fault
+IsJobFault (Raw lower f) fault = IsRawFault fault
+
+-- the input has been read to its end, but where the job's subcommand ends earlier
+abbrev pub ReadsInput : Job → Option (List ℕ) → Result Ending CliFault → Type 0
+ReadsInput (Pages present delays mode f) left result = ReadsToEnd left result
+ReadsInput (Bus present delays mode f) left result = ReadsToEnd left result
+ReadsInput (Check input r) left result = IsDone (check.ReadsAll r left) result
+ReadsInput (Decode input f) left result = IsDone (decode.ReadsAll left) result
+ReadsInput (Raw lower f) left result = ReadsToEnd left result
+
+-- a refusal leaves the writer's bytes as they were, but where the job's subcommand writes as it reads
+abbrev pub KeepsOutput : Job → Option (List ℕ) → Option (List ℕ) → Result Ending CliFault → Type 0
+KeepsOutput (Pages present delays mode f) old new result = WritesNothing old new result
+KeepsOutput (Bus present delays mode f) old new result = WritesNoEdge old new result
+KeepsOutput (Check input r) old new result = IsDone (WritesNoReport r old new) result
+KeepsOutput (Decode input f) old new result = Unit {0}
+KeepsOutput (Raw lower f) old new result = WritesNothing old new result

@@ -1,10 +1,11 @@
 //! A job done over any reader and writer, and the exit statuses.
 
 ghost use Rattle.std.specs.Prelude.{◌≡◌, ◌↔◌, false, true, IfErr, IfSome, IsErrOf};
-ghost use Rattle.pr_cli.specs.Report.{IsReportFault};
+ghost use Rattle.pr_cli.specs.Report.{IsReportFault, ReadsAll, WritesNoReport};
 ghost use Rattle.pr_input.specs.Watched.{has_failed, wrapped};
+ghost use Rattle.pr_recording.specs.Decoded as decode;
 ghost use Rattle.pr_recording.specs.Decoded.{IsDecodeFault};
-ghost use Rattle.print1525.specs.Jobs.{AnswersJob, AnswersRecording, AnswersTrace};
+ghost use Rattle.print1525.specs.Jobs.{AnswersJob, AnswersRecording, AnswersTrace, IsJobFault, KeepsOutput, ReadsInput};
 
 use pr_capture::{Source, TraceInput};
 use pr_cli::{
@@ -37,6 +38,9 @@ pub fn do_job<R: Read, W: Write>(
     requires output { has_failed output.old ≡ false }
     ensures job { IfSome (R.remaining (wrapped input.old)) (λ text.
         AnswersJob job.entry text (W.contents (wrapped output.old)) (W.contents (wrapped output.new)) result) }
+    ensures at_end { ReadsInput job.entry (R.remaining (wrapped input.new)) result }
+    ensures nothing { KeepsOutput job.entry (W.contents (wrapped output.old)) (W.contents (wrapped output.new)) result }
+    ensures own { IfErr result (IsJobFault job.entry) }
     ensures read_failed { IsErrOf result CliFault.ReadFailed ↔ (has_failed input.new ≡ true) }
     ensures write_failed { IsErrOf result CliFault.WriteFailed ↔ (has_failed output.new ≡ true) }
 {
@@ -75,6 +79,8 @@ fn check_trace<R: Read, W: Write>(
     ensures trace { IfSome (R.remaining (wrapped input.old)) (λ text.
         AnswersTrace trace.entry trace.entry.source report text
         (W.contents (wrapped output.old)) (W.contents (wrapped output.new)) result) }
+    ensures at_end { ReadsAll report (R.remaining (wrapped input.new)) result }
+    ensures nothing { WritesNoReport report (W.contents (wrapped output.old)) (W.contents (wrapped output.new)) result }
     ensures own { IfErr result IsReportFault }
     ensures read_failed { IsErrOf result CliFault.ReadFailed ↔ (has_failed input.new ≡ true) }
     ensures write_failed { IsErrOf result CliFault.WriteFailed ↔ (has_failed output.new ≡ true) }
@@ -98,6 +104,7 @@ fn decode_recording<R: Read, W: Write>(
     ensures recording { IfSome (R.remaining (wrapped input.old)) (λ text.
         AnswersRecording trace.entry format text
         (W.contents (wrapped output.old)) (W.contents (wrapped output.new)) result) }
+    ensures at_end { decode.ReadsAll (R.remaining (wrapped input.new)) result }
     ensures own { IfErr result IsDecodeFault }
     ensures read_failed { IsErrOf result CliFault.ReadFailed ↔ (has_failed input.new ≡ true) }
     ensures write_failed { IsErrOf result CliFault.WriteFailed ↔ (has_failed output.new ≡ true) }
