@@ -1,0 +1,61 @@
+//! The exit statuses.
+
+ghost use Rattle.std.specs.Prelude.{◌≡◌};
+ghost use Rattle.print1525.specs.Statuses.{ending_status, fault_status, refusal_status};
+
+use pr_cli::{CliFault, Ending};
+use pr_options::JobFault;
+
+/// The job is done: the run's last statement was performed, the trace is lawful, or the page is
+/// written.
+const DONE: u8 = 0;
+
+/// A BASIC error ended the run.
+const STOPPED: u8 = 1;
+
+/// The command line or the input is refused.
+pub const REFUSED: u8 = 2;
+
+/// Memory was refused, or a read or a write failed.
+const FAILED: u8 = 3;
+
+/// The exit status of a job that ended so.
+pub fn ending_status(ending: Ending) -> u8
+    ensures { result ≡ ending_status ending }
+{
+    match ending {
+        Ending::Done => DONE,
+        Ending::Stopped => STOPPED,
+    }
+}
+
+/// The exit status of a job that failed so.
+pub fn fault_status(fault: CliFault) -> u8
+    ensures { result ≡ fault_status fault }
+{
+    match fault {
+        CliFault::Script(_)
+        | CliFault::Trace(_)
+        | CliFault::Wave(_)
+        | CliFault::Capture(_)
+        | CliFault::TooLarge => REFUSED,
+        CliFault::NoMemory | CliFault::ReadFailed | CliFault::WriteFailed => FAILED,
+    }
+}
+
+/// The exit status where words ask for no job. A request for help or for the version is answered.
+pub fn refusal_status(fault: &JobFault) -> u8
+    ensures { result ≡ refusal_status fault.now }
+{
+    match fault {
+        JobFault::Line(error) => {
+            if error.use_stderr() {
+                REFUSED
+            } else {
+                DONE
+            }
+        }
+        JobFault::NoMemory => FAILED,
+        _ => REFUSED,
+    }
+}
