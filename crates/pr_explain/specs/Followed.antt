@@ -1,0 +1,36 @@
+-- Linking words, for proofs: how far edges were followed. No reader needs to believe them.
+use Rattle.std.specs.Prelude.{◌≡◌, ℕ, ◌+◌, Bool, false, nat_lt, if◌then◌else◌, List, [], ◌∷◌, ◌++◌, length, Option, Some, None}
+use Rattle.pr_wire.specs.declared.Edge.{Edge}
+use Rattle.pr_wire.specs.declared.Frame.{Frame}
+use Rattle.pr_wire.specs.declared.follower.TraceFollower.{TraceFollower}
+use Rattle.pr_wire.specs.Following.{HasAccepted, kept_fault}
+use Rattle.pr_wire.specs.Table.{fault_of}
+use Rattle.pr_explain.specs.declared.edges.Followed.{Followed}
+
+-- a follower has accepted the edges before these
+pub record HasFront (edges rest : List Edge) (f : TraceFollower) : Type 0 where
+  pub before : List Edge
+  pub frames : List Frame
+  pub cut : edges ≡ before ++ rest
+  pub accepted : HasAccepted before frames f
+  pub count : f.taken ≡ length before
+
+-- edges were followed to their end, or to the first that is not allowed
+abbrev pub EndsAt : List Edge → TraceFollower → Option Edge → (rest : List Edge) → Type 0
+EndsAt edges f None rest = (rest ≡ []) × (f.refused ≡ None)
+EndsAt edges f (Some e) rest = (more : List Edge) × (rest ≡ e ∷ more) × (fault_of edges ≡ kept_fault f)
+
+pub record Follows (edges : List Edge) (r : Followed) : Type 0 where
+  pub rest : List Edge
+  pub front : HasFront edges rest r.follower
+  pub ends : EndsAt edges r.follower r.refused rest
+
+-- an edge is earlier than the last one, if there is a last one
+abbrev pub stands_before : Edge → (last : Option Edge) → Bool
+stands_before e None = false
+stands_before e (Some last) = nat_lt e.time last.time
+
+-- the index of the first edge that is earlier than the one before it
+abbrev pub back_from : (index : ℕ) → (last : Option Edge) → List Edge → Option ℕ
+back_from i last [] = None
+back_from i last (e ∷ es) = if stands_before e last then Some i else back_from (i + 1) (Some e) es
