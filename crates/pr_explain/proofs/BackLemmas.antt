@@ -1,11 +1,10 @@
 -- Edges in which time goes back.
 use Rattle.std.proofs.Common.{◌≡◌, ℕ, ◌+◌, ◌<◌, ◌≤◌, Bool, true, false, List, [], ◌∷◌, ◌++◌, length, refl, ap, subst, ◌∙◌, sym, arith, append_assoc, append-nil, length-append, Option, Some, None}
-use Rattle.std.specs.Prelude.{MatchOption, nat_lt, option_map, if◌then◌else◌}
+use Rattle.std.specs.Prelude.{MatchOption, nat_lt, if◌then◌else◌}
 use Rattle.std.proofs.lemmas.Grind.{common_steps}
 use Rattle.pr_wire.specs.declared.Edge.{Edge}
-use Rattle.pr_explain.specs.declared.edges.Back.{Back}
-use Rattle.pr_explain.specs.Places.{Backs, back_from}
-use Rattle.pr_explain.specs.TraceTold.{AreInOrder, AreInOrderBehind, GoesBackAt}
+use Rattle.pr_explain.specs.Followed.{back_from}
+use Rattle.pr_explain.specs.TracePlaces.{AreInOrder, AreInOrderBehind, GoesBackAt}
 
 -- the edges up to the last one are in order
 pub record SeenTo (all rest : List Edge) (last : Edge) (index : ℕ) : Type 0 where
@@ -63,11 +62,7 @@ walk all (e ∷ es) last i s v h = by (nat_lt e.time last.time) refl h (λ more.
         let later : last.time ≤ e.time = grind (arith, common_steps, k) in
         on (seen_more all es last e i s later) h
 
-indexed : (all : List Edge) (v : Option Back) → MatchOption (option_map (λ (b : Back). b.index) v) (AreInOrder all) (λ n. GoesBackAt all n) → MatchOption v (AreInOrder all) (λ b. Backs all b)
-indexed all None h = h
-indexed all (Some b) h = h
-
-pub back_found : (edges : List Edge) (v : Option Back) → option_map (λ (b : Back). b.index) v ≡ back_from 0 None edges → MatchOption v (AreInOrder edges) (λ b. Backs edges b)
+pub back_found : (edges : List Edge) (v : Option ℕ) → v ≡ back_from 0 None edges → MatchOption v (AreInOrder edges) (λ n. GoesBackAt edges n)
 back_found [] None h = tt
-back_found [] (Some b) h = absurd (cc)
-back_found (e ∷ es) v h = indexed (e ∷ es) v (walk (e ∷ es) es e 1 (seen_first e es) (option_map (λ (b : Back). b.index) v) (sym h))
+back_found [] (Some n) h = absurd (cc)
+back_found (e ∷ es) v h = walk (e ∷ es) es e 1 (seen_first e es) v (sym h)

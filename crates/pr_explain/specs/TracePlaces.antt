@@ -53,12 +53,13 @@ abbrev pub StopAfter : (whole : Bool) → (before after : List Edge) → Type 0
 StopAfter whole before [] = IsTrue whole
 StopAfter whole before (e ∷ es) = IsAllowed (before ++ e ∷ []) → ⊥
 
--- edges stop being lawful here: their first fault, the edges that may follow those before it, and by how much it misses them
+-- edges stop being lawful here: how many are allowed, their first fault, the edges that may follow, and by how much the next misses these
 pub record AreStopped (whole : Bool) (edges : List Edge) (p : EdgePlace) : Type 0 where
   pub before : List Edge
   pub after : List Edge
   pub cut : edges ≡ before ++ after
   pub allowed : IsAllowed before
+  pub index : p.index ≡ length before
   pub stop : StopAfter whole before after
   pub fault : fault_of edges ≡ Some p.fault
   pub expected : AreRowsAfter p.expected before
@@ -105,6 +106,10 @@ pub record IsTracePlace (input : TraceInput) (bytes : List ℕ) (p : TracePlace)
   pub own : Option CliFault
   pub says : Says input bytes edges own
   pub is_place : IsPlaceOf edges own p
+
+-- a trace is lawful, which has no place
+abbrev pub IsNowhere : TracePlace → Type 0
+IsNowhere p = (p.line ≡ None) × (p.edge ≡ None)
 
 -- Recordings.
 

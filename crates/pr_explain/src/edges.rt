@@ -13,9 +13,12 @@ use pr_wire::{Edge, Levels, TraceFollower, WaveFault, allowed_traces};
 /// Where the edges of a trace stop being lawful.
 #[derive(Clone, Copy, Debug, PartialEq, Eq)]
 pub struct EdgePlace {
-    /// Their first fault, with the index of its edge, from 0.
+    /// The index of the first edge that is not allowed, from 0; or how many there are, where they end too
+    /// soon.
+    pub index: usize,
+    /// The first fault.
     pub fault: WaveFault,
-    /// The edges that may follow those before it.
+    /// The edges that may follow those that are allowed.
     pub expected: [Option<Row>; 3],
     /// By how much the edge misses the interval of its levels, if an edge to these levels may follow.
     pub missed: Option<Miss>,
@@ -37,7 +40,7 @@ pub fn follow(edges: &[Edge]) -> Followed
     let mut follower = TraceFollower::new();
     let mut rest = edges;
     while let [edge, more @ ..] = rest {
-        if follower.take(*edge).is_err() {
+        if let Err(_fault) = follower.take(*edge) {
             return Followed {
                 follower,
                 refused: Some(*edge),
@@ -58,20 +61,19 @@ fn rows_after(follower: &TraceFollower) -> [Option<Row>; 3]
     allowed_traces();
     match follower.last {
         Some(last) => rows_behind(&follower.state, last),
-        None => [Some(first_row()), None, None],
-    }
-}
-
-/// The row of the first edge: all lines released at time 0.
-fn first_row() -> Row {
-    Row {
-        levels: Levels {
-            atn: true,
-            clock: true,
-            line: true,
-        },
-        earliest: 0,
-        latest: Some(0),
+        None => {
+            let levels = Levels {
+                atn: true,
+                clock: true,
+                line: true,
+            };
+            let first = Row {
+                levels,
+                earliest: 0,
+                latest: Some(0),
+            };
+            [Some(first), None, None]
+        }
     }
 }
 
@@ -79,11 +81,14 @@ fn first_row() -> Row {
 pub fn place_in(followed: &Followed, is_whole: bool) -> Option<EdgePlace>
     ensures { (edges : List Edge) → Follows edges followed.now → StopsAt is_whole edges result }
 {
+    allowed_traces();
+    let index = followed.follower.taken;
     let expected = rows_after(&followed.follower);
     if let Some(edge) = followed.refused {
         let fault = followed.follower.fault()?;
         let missed = missed_by(row_to(edge.levels, &expected), edge.time);
         return Some(EdgePlace {
+            index,
             fault,
             expected,
             missed,
@@ -95,6 +100,7 @@ pub fn place_in(followed: &Followed, is_whole: bool) -> Option<EdgePlace>
     match followed.follower.finish() {
         Ok(()) => None,
         Err(fault) => Some(EdgePlace {
+            index,
             fault,
             expected,
             missed: None,

@@ -1,6 +1,7 @@
 //! Why a script is refused.
 
-ghost use Rattle.std.specs.Prelude.{◌≡◌, ◌+◌, ◌-◌, ◌≤◌, length, IfOk};
+ghost use Rattle.std.specs.Prelude.{◌≡◌, ◌+◌, ◌-◌, ◌≤◌, [], None, length, IfOk};
+ghost use Rattle.std.specs.String.{string_bytes};
 ghost use Rattle.pr_basic.specs.FaultPlaces.{IsFirstFaultAt};
 ghost use Rattle.pr_basic.specs.LineAt.{IsLineAt};
 ghost use Rattle.pr_explain.specs.ScriptPlaces.{IsLabel, IsScriptPlace};
@@ -50,7 +51,8 @@ pub fn explain_script(
     alloc: Global,
     script: &[u8],
 ) -> Result<Explanation<Option<ScriptPlace>>, NoMemory>
-    ensures { IfOk result (λ told. IsScriptPlace script.now told.place) }
+    ensures place { IfOk result (λ told. IsScriptPlace script.now told.place) }
+    ensures nothing { IfOk result (λ told. told.place ≡ None → string_bytes told.text ≡ []) }
 {
     let mut text = String::new(alloc);
     let refused = match read_script_at(alloc, script) {

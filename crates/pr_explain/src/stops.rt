@@ -1,6 +1,7 @@
 //! The BASIC error that stopped a run, in BASIC's own words.
 
 ghost use Rattle.std.specs.Prelude.{◌≡◌, List, ◌∷◌, [], ◌<◌, ◌≤◌, length, IfOk, None};
+ghost use Rattle.std.specs.String.{string_bytes};
 ghost use Rattle.pr_base.specs.Lines.{lines_of};
 ghost use Rattle.pr_basic.specs.Grammar.{IsScript};
 ghost use Rattle.pr_explain.specs.StopPlaces.{IsDeviceAt, IsStatementLine, IsStopPlace, cause_of, is_absent, opened, opened_by};
@@ -75,7 +76,8 @@ pub fn explain_stop(
     statement: usize,
     present: Present,
 ) -> Result<Explanation<Option<StopPlace>>, NoMemory>
-    ensures { IfOk result (λ told. IsStopPlace script.now stop statement present told.place) }
+    ensures place { IfOk result (λ told. IsStopPlace script.now stop statement present told.place) }
+    ensures nothing { IfOk result (λ told. told.place ≡ None → string_bytes told.text ≡ []) }
 {
     let mut text = String::new(alloc);
     let statements = match read_script(alloc, script) {

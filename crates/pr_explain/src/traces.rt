@@ -1,9 +1,10 @@
 //! Why a trace or a recording is refused, in any format.
 
-ghost use Rattle.std.specs.Prelude.{◌≡◌, None, IfOk, IfSome, MatchOption};
+ghost use Rattle.std.specs.Prelude.{◌≡◌, [], None, IfOk, IfSome, MatchOption};
+ghost use Rattle.std.specs.String.{string_bytes};
 ghost use Rattle.pr_cli.specs.Reported.{IsOwnFault};
 ghost use Rattle.pr_explain.specs.Followed.{back_from, stands_before};
-ghost use Rattle.pr_explain.specs.TracePlaces.{AreInOrder, GoesBackAt, IsPlaceRead, IsReadingPlace, IsTracePlace};
+ghost use Rattle.pr_explain.specs.TracePlaces.{AreInOrder, GoesBackAt, IsNowhere, IsPlaceRead, IsReadingPlace, IsTracePlace};
 
 use crate::Explanation;
 use crate::edges::{EdgePlace, follow, place_in};
@@ -51,7 +52,8 @@ pub fn explain_trace(
     trace: &[u8],
     input: TraceInput<'_>,
 ) -> Result<Explanation<TracePlace>, NoMemory>
-    ensures { IfOk result (λ told. IsTracePlace input.entry trace.now told.place) }
+    ensures place { IfOk result (λ told. IsTracePlace input.entry trace.now told.place) }
+    ensures nothing { IfOk result (λ told. IsNowhere told.place → string_bytes told.text ≡ []) }
 {
     let said = read_input(alloc, trace, input)?;
     let edges = said.edges.as_slice();
@@ -87,7 +89,8 @@ pub fn explain_reading(
     recording: &[u8],
     input: TraceInput<'_>,
 ) -> Result<Explanation<Option<ReadingPlace>>, NoMemory>
-    ensures { IfOk result (λ told. IsReadingPlace input.entry recording.now told.place) }
+    ensures place { IfOk result (λ told. IsReadingPlace input.entry recording.now told.place) }
+    ensures nothing { IfOk result (λ told. told.place ≡ None → string_bytes told.text ≡ []) }
 {
     let said = read_input(alloc, recording, input)?;
     let edges = said.edges.as_slice();

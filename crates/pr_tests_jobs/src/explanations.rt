@@ -5,10 +5,13 @@ use crate::refusals::most_refusals;
 use pr_basic::StatusMode;
 use pr_capture::{Signals, Source, TraceInput};
 use pr_channels::Stop;
-use pr_explain::{explain_reading, explain_script, explain_stop, explain_trace};
+use pr_explain::{
+    EdgePlace, Miss, ReadingPlace, Row, ScriptPlace, StopCause, StopPlace, TracePlace, explain_reading,
+    explain_script, explain_stop, explain_trace,
+};
 use pr_serial::Present;
-use pr_wire::NoMemory;
 use pr_wire::example::TRACE_TEXT;
+use pr_wire::{Levels, NoMemory, WaveFault};
 use std::process::Abort;
 
 const BOTH: Present = Present {
@@ -232,7 +235,7 @@ fn errors_of_statements(rt: HostRuntime) {
             statement,
             present,
         );
-        let is_well = told.is_ok_and(|text| text.as_slice() == wanted.as_bytes());
+        let is_well = told.is_ok_and(|told| told.text.as_bytes() == wanted.as_bytes());
         assert!(rt; is_well, "statement {statement} of {script}");
     }
 }
@@ -259,26 +262,159 @@ fn names_that_are_no_text(rt: HostRuntime) {
         the first column, called t, is the time in seconds\n  the recording has the signals ATN, D1, DATA\n  \
         --names tells which signals are ATN, CLOCK and DATA, as in --names ATN,CLOCK,DATA\n";
     let told = explain_trace(rt.alloc(), b"t,ATN,D1,DATA\n", input);
-    assert!(rt; told.is_ok_and(|text| text.as_slice() == wanted.as_slice()));
+    assert!(rt; told.is_ok_and(|told| told.text.as_bytes() == wanted.as_slice()));
+}
+
+/// A trace text as it is.
+const TEXT: TraceInput<'static> = TraceInput {
+    source: Source::Text,
+    signals: signals(b"CLOCK"),
+    start: 0,
+};
+
+const fn row(levels: (bool, bool, bool), earliest: u64, latest: Option<u64>) -> Option<Row> {
+    let (atn, clock, line) = levels;
+    let levels = Levels { atn, clock, line };
+    Some(Row {
+        levels,
+        earliest,
+        latest,
+    })
+}
+
+/// The one edge that may follow `0 111`.
+const FIRST_CALL: [Option<Row>; 3] = [row((false, false, true), 100, None), None, None];
+
+/// The edges that may follow `100 001` where no printer has answered.
+const UNANSWERED: [Option<Row>; 3] = [
+    row((false, false, false), 101, Some(1100)),
+    row((false, true, false), 1100, Some(1100)),
+    row((true, true, true), 1100, Some(2100)),
+];
+
+/// A trace text, its line that cannot be read, and where its edges stop being lawful.
+const PLACES: [(&str, Option<usize>, Option<EdgePlace>); 6] = [
+    (TRACE_TEXT, None, None),
+    (
+        "",
+        None,
+        Some(EdgePlace {
+            index: 0,
+            fault: WaveFault::Start(0),
+            expected: [row((true, true, true), 0, Some(0)), None, None],
+            missed: None,
+        }),
+    ),
+    (
+        "0 111\n40 001\n?\n",
+        Some(3),
+        Some(EdgePlace {
+            index: 1,
+            fault: WaveFault::TooEarly(1),
+            expected: FIRST_CALL,
+            missed: Some(Miss::Early(60)),
+        }),
+    ),
+    ("0 111\n100 001\n?\n", Some(3), None),
+    (
+        "0 111\n100 001\n1103 000\n",
+        None,
+        Some(EdgePlace {
+            index: 2,
+            fault: WaveFault::TooLate(2),
+            expected: UNANSWERED,
+            missed: Some(Miss::Late(3)),
+        }),
+    ),
+    (
+        "0 111\n100 001\n",
+        None,
+        Some(EdgePlace {
+            index: 2,
+            fault: WaveFault::Truncated(2),
+            expected: UNANSWERED,
+            missed: None,
+        }),
+    ),
+];
+
+#[test]
+fn places_of_traces(rt: HostRuntime) {
+    for (text, line, edge) in PLACES {
+        let told = explain_trace(rt.alloc(), text.as_bytes(), TEXT);
+        let place = TracePlace { line, edge };
+        assert!(rt; told.is_ok_and(|told| told.place == place), "{text}");
+    }
+}
+
+#[test]
+fn places_of_recordings(rt: HostRuntime) {
+    let rows = [
+        ("0 111\n0 001\n9 001\n", None),
+        ("5 111\n6 001\n4 001\n?", Some(ReadingPlace::Edge(2))),
+        ("0 111\n4 001\n?\n", Some(ReadingPlace::Line(3))),
+    ];
+    for (text, place) in rows {
+        let told = explain_reading(rt.alloc(), text.as_bytes(), TEXT);
+        assert!(rt; told.is_ok_and(|told| told.place == place), "{text}");
+    }
+}
+
+#[test]
+fn places_of_scripts(rt: HostRuntime) {
+    let rows = [
+        ("10 OPEN 4,4\r\n20 PRINT#4,\"A\";CHR$(65)\n", None),
+        ("OPEN 4,4\nPRINT#4,CHR$(256)\n", Some((2, 14, None))),
+        ("20 PRINT+", Some((1, 9, Some(20)))),
+    ];
+    for (text, place) in rows {
+        let place = place.map(|(line, column, basic_line)| ScriptPlace {
+            line,
+            column,
+            basic_line,
+        });
+        let told = explain_script(rt.alloc(), text.as_bytes());
+        assert!(rt; told.is_ok_and(|told| told.place == place), "{text}");
+    }
+}
+
+/// A statement, its place, its device, and whether that is absent, by what the error comes from.
+const STOPS: [(usize, Present, Option<(usize, Option<u8>, StopCause)>); 6] = [
+    (0, NONE, None),
+    (7, NONE, Some((3, Some(5), StopCause::NoPrinter))),
+    (7, BOTH, Some((3, Some(5), StopCause::Unheard { is_absent: false }))),
+    (7, ONLY_FOUR, Some((3, Some(5), StopCause::Unheard { is_absent: true }))),
+    (10, BOTH, Some((6, None, StopCause::Unheard { is_absent: false }))),
+    (11, BOTH, None),
+];
+
+#[test]
+fn places_of_stops(rt: HostRuntime) {
+    let script = HELD_BACK.as_bytes();
+    for (statement, present, place) in STOPS {
+        let place = place.map(|(line, device, cause)| StopPlace {
+            statement,
+            line,
+            basic_line: None,
+            device,
+            cause,
+        });
+        let stop = Stop::DeviceNotPresent;
+        let told = explain_stop(rt.alloc(), script, StatusMode::Each, stop, statement, present);
+        assert!(rt; told.is_ok_and(|told| told.place == place), "{statement}");
+    }
 }
 
 /// Nothing is said of a good script, a lawful trace, and a recording that is read to its end.
 #[test]
 fn nothing_to_explain(rt: HostRuntime) {
-    let input = TraceInput {
-        source: Source::Text,
-        signals: signals(b"CLOCK"),
-        start: 0,
-    };
     let script = b"10 OPEN 4,4\r\n20 PRINT#4,\"A\";CHR$(65)\n";
-    let told = [
-        explain_script(rt.alloc(), script),
-        explain_trace(rt.alloc(), TRACE_TEXT.as_bytes(), input),
-        explain_reading(rt.alloc(), b"0 111\n0 001\n9 001\n", input),
-    ];
-    for (number, text) in told.into_iter().enumerate() {
-        assert!(rt; text.is_ok_and(|text| text.is_empty()), "{number}");
-    }
+    let told = explain_script(rt.alloc(), script);
+    assert!(rt; told.is_ok_and(|told| told.text.is_empty()));
+    let told = explain_trace(rt.alloc(), TRACE_TEXT.as_bytes(), TEXT);
+    assert!(rt; told.is_ok_and(|told| told.text.is_empty()));
+    let told = explain_reading(rt.alloc(), b"0 111\n0 001\n9 001\n", TEXT);
+    assert!(rt; told.is_ok_and(|told| told.text.is_empty()));
 }
 
 /// A script, a trace or a recording, and the end of its explanation.
@@ -307,9 +443,9 @@ fn explained(
     rt: &(impl Abort + AllocGlobal),
     text: &[u8],
     source: Option<Source>,
-) -> Result<Vec<u8>, NoMemory> {
+) -> Result<String, NoMemory> {
     let Some(source) = source else {
-        return explain_script(rt.alloc(), text);
+        return Ok(explain_script(rt.alloc(), text)?.text);
     };
     let start = match source {
         Source::Text => 0,
@@ -321,7 +457,7 @@ fn explained(
         signals,
         start,
     };
-    explain_trace(rt.alloc(), text, input)
+    Ok(explain_trace(rt.alloc(), text, input)?.text)
 }
 
 /// How many explanations are refused memory. The others are as with ample memory.
@@ -329,14 +465,14 @@ fn refusals(rt: &(impl Abort + AllocGlobal)) -> usize {
     let mut refused = 0_usize;
     for (text, source, end) in EXPLAINED {
         match explained(rt, text, source) {
-            Ok(told) => assert!(rt; told.as_slice().ends_with(end)),
+            Ok(told) => assert!(rt; told.as_bytes().ends_with(end)),
             Err(_refused) => refused = refused.saturating_add(1),
         }
     }
     let script = b"10 OPEN 4,5\n20 PRINT#4,\"A\"";
     let stop = Stop::DeviceNotPresent;
     match explain_stop(rt.alloc(), script, StatusMode::Each, stop, 2, NONE) {
-        Ok(told) => assert!(rt; told.as_slice().ends_with(b"which printers there are\n")),
+        Ok(told) => assert!(rt; told.text.as_bytes().ends_with(b"which printers there are\n")),
         Err(_refused) => refused = refused.saturating_add(1),
     }
     refused
