@@ -8,6 +8,12 @@ use pr_wire::NoMemory;
 /// The most names that are shown (profile).
 const NAMES: usize = 20;
 
+/// Words that begin no section up to the next `$end`: changes are in these as elsewhere.
+const ALONE: [&[u8]; 5] = [b"$end", b"$dumpvars", b"$dumpall", b"$dumpon", b"$dumpoff"];
+
+/// Kinds of signals without levels: numbers, texts and events.
+const WITHOUT_LEVELS: [&[u8]; 4] = [b"real", b"realtime", b"string", b"event"];
+
 /// Adds a name after so many others, unless it is empty or enough are shown, and gives how many there are
 /// with it.
 fn push_name(text: &mut String, count: usize, name: &[u8]) -> Result<usize, NoMemory> {
@@ -44,7 +50,7 @@ pub fn push_dump_names(text: &mut String, dump: &[u8]) -> Result<(), NoMemory> {
         rest = more;
         if word == b"$enddefinitions".as_slice() {
             rest = &[];
-        } else if word.starts_with(b"$") && !stands_alone(word) {
+        } else if word.starts_with(b"$") && !ALONE.contains(&word) {
             let (section, more) = split_section(more);
             rest = more;
             if word == b"$var".as_slice() {
@@ -55,23 +61,6 @@ pub fn push_dump_names(text: &mut String, dump: &[u8]) -> Result<(), NoMemory> {
     push_names_end(text, count, "no signal with levels of one bit")
 }
 
-/// Whether a word begins no section up to the next `$end`: changes are in these as elsewhere.
-fn stands_alone(word: &[u8]) -> bool {
-    word == b"$end".as_slice()
-        || word == b"$dumpvars".as_slice()
-        || word == b"$dumpall".as_slice()
-        || word == b"$dumpon".as_slice()
-        || word == b"$dumpoff".as_slice()
-}
-
-/// Whether signals of a kind have levels: not numbers, texts and events.
-fn has_levels(kind: &[u8]) -> bool {
-    kind != b"real".as_slice()
-        && kind != b"realtime".as_slice()
-        && kind != b"string".as_slice()
-        && kind != b"event".as_slice()
-}
-
 /// The name of the signal that has this section, if it can be a line of the bus: it has levels, and one
 /// bit. Else nothing.
 fn signal_name(section: &[u8]) -> &[u8] {
@@ -79,7 +68,7 @@ fn signal_name(section: &[u8]) -> &[u8] {
     let (size, rest) = split_word(rest);
     let (_code, rest) = split_word(rest);
     let (name, _) = split_word(rest);
-    if has_levels(kind) && size == b"1".as_slice() {
+    if !WITHOUT_LEVELS.contains(&kind) && size == b"1".as_slice() {
         name
     } else {
         &[]

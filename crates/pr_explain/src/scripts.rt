@@ -7,7 +7,7 @@ ghost use Rattle.pr_basic.specs.LineAt.{IsLineAt};
 ghost use Rattle.pr_explain.specs.ScriptPlaces.{IsLabel, IsScriptPlace};
 
 use crate::Explanation;
-use crate::context::{expected_at, is_in_string, takes_item};
+use crate::context::{cut_before, expected_at, takes_item};
 use crate::texts::{Cut, Escaped, without_end};
 use crate::words::{foreign_word, is_number, word_at};
 use pr_basic::{
@@ -135,7 +135,7 @@ fn push_place(
 
 /// The word at a place; inside a string, the byte.
 fn word_in(line: CutLine<'_>) -> &[u8] {
-    let len = if is_in_string(line.before) {
+    let len = if cut_before(line.before).is_in_string {
         line.rest.len().min(1)
     } else {
         word_at(line.rest).len

@@ -139,7 +139,8 @@ fn push_stop(
     mode: StatusMode,
     stop: Stop,
 ) -> Result<(), NoMemory> {
-    write!(text, "?{}  ERROR", name_of(stop))?;
+    let (name, _) = words_of(stop);
+    write!(text, "?{name}  ERROR")?;
     if let Some(label) = place.basic_line {
         write!(text, " IN {label}")?;
     }
@@ -149,26 +150,17 @@ fn push_stop(
     write!(text, "\n")
 }
 
-/// The error's name, as BASIC writes it.
-fn name_of(stop: Stop) -> &'static str {
+/// The error's name, as BASIC writes it, and what it means by itself.
+fn words_of(stop: Stop) -> (&'static str, &'static str) {
     match stop {
-        Stop::TooManyFiles => "TOO MANY FILES",
-        Stop::FileOpen => "FILE OPEN",
-        Stop::FileNotOpen => "FILE NOT OPEN",
-        Stop::DeviceNotPresent => "DEVICE NOT PRESENT",
-        Stop::NotInputFile => "NOT INPUT FILE",
-    }
-}
-
-/// What the error means by itself.
-fn reason_of(stop: Stop) -> &'static str {
-    match stop {
-        Stop::TooManyFiles => "ten files are open already",
-        Stop::FileOpen => "the file is open already",
-        Stop::FileNotOpen => "the file is not open",
-        Stop::DeviceNotPresent =>
+        Stop::TooManyFiles => ("TOO MANY FILES", "ten files are open already"),
+        Stop::FileOpen => ("FILE OPEN", "the file is open already"),
+        Stop::FileNotOpen => ("FILE NOT OPEN", "the file is not open"),
+        Stop::DeviceNotPresent => (
+            "DEVICE NOT PRESENT",
             "no printer has answered; --present says which printers there are",
-        Stop::NotInputFile => "file 0 cannot be opened",
+        ),
+        Stop::NotInputFile => ("NOT INPUT FILE", "file 0 cannot be opened"),
     }
 }
 
@@ -199,7 +191,8 @@ fn push_reason(
         ),
         (StopCause::Unheard { .. }, StatusMode::Each, _) => write!(text, "{UNHEARD}"),
         (StopCause::Files, _, _) | (StopCause::NoPrinter, StatusMode::Each, None) => {
-            write!(text, "{}", reason_of(stop))
+            let (_, reason) = words_of(stop);
+            write!(text, "{reason}")
         }
     }
 }

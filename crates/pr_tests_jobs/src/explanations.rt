@@ -6,7 +6,7 @@ use pr_basic::StatusMode;
 use pr_capture::{Signals, Source, TraceInput};
 use pr_channels::Stop;
 use pr_explain::{
-    EdgePlace, Miss, ReadingPlace, Row, ScriptPlace, StopCause, StopPlace, TracePlace, explain_reading,
+    EdgePlace, Miss, ReadingPlace, Row, ScriptPlace, StopCause, StopPlace, explain_reading,
     explain_script, explain_stop, explain_trace,
 };
 use pr_serial::Present;
@@ -43,9 +43,9 @@ const HELD_BACK: &str =
     "OPEN 4,4,7:OPEN 5,5:OPEN 9,9\nCMD 4:CLOSE 4:PRINT \"X\"\nPRINT#5,\"Y\"\nCMD 9\nPRINT#9\nPRINT#3\n";
 
 /// A script, the status mode, the printers, an error, its statement, and the explanation.
-type Row = (&'static str, StatusMode, Present, Stop, usize, &'static str);
+type StopRow = (&'static str, StatusMode, Present, Stop, usize, &'static str);
 
-const ROWS: [Row; 22] = [
+const ROWS: [StopRow; 22] = [
     (
         "10 OPEN 4,4\n20 OPEN 7,7:PRINT#7,\"A:B\":REM :\n30 CLOSE 7\n",
         StatusMode::Each,
@@ -266,14 +266,16 @@ fn names_that_are_no_text(rt: HostRuntime) {
 }
 
 /// A trace text as it is.
-const TEXT: TraceInput<'static> = TraceInput {
-    source: Source::Text,
-    signals: signals(b"CLOCK"),
-    start: 0,
-};
+const fn text_input() -> TraceInput<'static> {
+    TraceInput {
+        source: Source::Text,
+        signals: signals(b"CLOCK"),
+        start: 0,
+    }
+}
 
-const fn row(levels: (bool, bool, bool), earliest: u64, latest: Option<u64>) -> Option<Row> {
-    let (atn, clock, line) = levels;
+/// A row to levels of ATN, CLOCK and DATA.
+fn row(atn: bool, clock: bool, line: bool, earliest: u64, latest: Option<u64>) -> Option<Row> {
     let levels = Levels { atn, clock, line };
     Some(Row {
         levels,
@@ -282,69 +284,55 @@ const fn row(levels: (bool, bool, bool), earliest: u64, latest: Option<u64>) -> 
     })
 }
 
-/// The one edge that may follow `0 111`.
-const FIRST_CALL: [Option<Row>; 3] = [row((false, false, true), 100, None), None, None];
-
-/// The edges that may follow `100 001` where no printer has answered.
-const UNANSWERED: [Option<Row>; 3] = [
-    row((false, false, false), 101, Some(1100)),
-    row((false, true, false), 1100, Some(1100)),
-    row((true, true, true), 1100, Some(2100)),
-];
-
-/// A trace text, its line that cannot be read, and where its edges stop being lawful.
-const PLACES: [(&str, Option<usize>, Option<EdgePlace>); 6] = [
-    (TRACE_TEXT, None, None),
-    (
-        "",
-        None,
-        Some(EdgePlace {
-            index: 0,
-            fault: WaveFault::Start(0),
-            expected: [row((true, true, true), 0, Some(0)), None, None],
-            missed: None,
-        }),
-    ),
-    (
-        "0 111\n40 001\n?\n",
-        Some(3),
-        Some(EdgePlace {
-            index: 1,
-            fault: WaveFault::TooEarly(1),
-            expected: FIRST_CALL,
-            missed: Some(Miss::Early(60)),
-        }),
-    ),
-    ("0 111\n100 001\n?\n", Some(3), None),
-    (
-        "0 111\n100 001\n1103 000\n",
-        None,
-        Some(EdgePlace {
-            index: 2,
-            fault: WaveFault::TooLate(2),
-            expected: UNANSWERED,
-            missed: Some(Miss::Late(3)),
-        }),
-    ),
-    (
-        "0 111\n100 001\n",
-        None,
-        Some(EdgePlace {
-            index: 2,
-            fault: WaveFault::Truncated(2),
-            expected: UNANSWERED,
-            missed: None,
-        }),
-    ),
-];
+/// Where the edges of a text stop being lawful, and the line that cannot be read.
+fn place_of(
+    rt: &impl AllocGlobal,
+    text: &str,
+) -> Result<(Option<usize>, Option<EdgePlace>), NoMemory> {
+    let told = explain_trace(rt.alloc(), text.as_bytes(), text_input())?;
+    Ok((told.place.line, told.place.edge))
+}
 
 #[test]
-fn places_of_traces(rt: HostRuntime) {
-    for (text, line, edge) in PLACES {
-        let told = explain_trace(rt.alloc(), text.as_bytes(), TEXT);
-        let place = TracePlace { line, edge };
-        assert!(rt; told.is_ok_and(|told| told.place == place), "{text}");
+fn places_of_traces(rt: HostRuntime) -> Result<(), NoMemory> {
+    let called = [row(false, false, true, 100, None), None, None];
+    let unanswered = [
+        row(false, false, false, 101, Some(1100)),
+        row(false, true, false, 1100, Some(1100)),
+        row(true, true, true, 1100, Some(2100)),
+    ];
+    let rows = [
+        (
+            "",
+            (0, WaveFault::Start(0), [row(true, true, true, 0, Some(0)), None, None], None),
+        ),
+        (
+            "0 111\n40 001\n",
+            (1, WaveFault::TooEarly(1), called, Some(Miss::Early(60))),
+        ),
+        (
+            "0 111\n100 001\n1103 000\n",
+            (2, WaveFault::TooLate(2), unanswered, Some(Miss::Late(3))),
+        ),
+        (
+            "0 111\n100 001\n",
+            (2, WaveFault::Truncated(2), unanswered, None),
+        ),
+    ];
+    for (text, (index, fault, expected, missed)) in rows {
+        let edge = EdgePlace {
+            index,
+            fault,
+            expected,
+            missed,
+        };
+        assert!(rt; place_of(&rt, text)? == (None, Some(edge)), "{text}");
     }
+    assert!(rt; place_of(&rt, TRACE_TEXT)? == (None, None));
+    assert!(rt; place_of(&rt, "0 111\n100 001\n?\n")? == (Some(3), None));
+    let (line, edge) = place_of(&rt, "0 111\n0 001\n?\n")?;
+    assert!(rt; line == Some(3) && edge.is_some_and(|edge| edge.fault == WaveFault::Order(1)));
+    Ok(())
 }
 
 #[test]
@@ -355,7 +343,7 @@ fn places_of_recordings(rt: HostRuntime) {
         ("0 111\n4 001\n?\n", Some(ReadingPlace::Line(3))),
     ];
     for (text, place) in rows {
-        let told = explain_reading(rt.alloc(), text.as_bytes(), TEXT);
+        let told = explain_reading(rt.alloc(), text.as_bytes(), text_input());
         assert!(rt; told.is_ok_and(|told| told.place == place), "{text}");
     }
 }
@@ -411,9 +399,9 @@ fn nothing_to_explain(rt: HostRuntime) {
     let script = b"10 OPEN 4,4\r\n20 PRINT#4,\"A\";CHR$(65)\n";
     let told = explain_script(rt.alloc(), script);
     assert!(rt; told.is_ok_and(|told| told.text.is_empty()));
-    let told = explain_trace(rt.alloc(), TRACE_TEXT.as_bytes(), TEXT);
+    let told = explain_trace(rt.alloc(), TRACE_TEXT.as_bytes(), text_input());
     assert!(rt; told.is_ok_and(|told| told.text.is_empty()));
-    let told = explain_reading(rt.alloc(), b"0 111\n0 001\n9 001\n", TEXT);
+    let told = explain_reading(rt.alloc(), b"0 111\n0 001\n9 001\n", text_input());
     assert!(rt; told.is_ok_and(|told| told.text.is_empty()));
 }
 
