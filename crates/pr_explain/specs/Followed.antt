@@ -1,12 +1,14 @@
--- Linking words, for proofs: how far edges were followed. No reader needs to believe them.
-use Rattle.std.specs.Prelude.{◌≡◌, ℕ, ◌+◌, Bool, false, nat_lt, if◌then◌else◌, List, [], ◌∷◌, ◌++◌, length, Option, Some, None}
+-- Linking words, for proofs: how far edges were followed, and the device of a statement. No reader needs to believe them.
+use Rattle.std.specs.Prelude.{◌≡◌, ℕ, suc, ◌+◌, Bool, false, nat_lt, if◌then◌else◌, List, [], ◌∷◌, ◌++◌, length, Option, Some, None}
 use Rattle.pr_wire.specs.declared.Edge.{Edge}
 use Rattle.pr_wire.specs.declared.Frame.{Frame}
 use Rattle.pr_wire.specs.declared.WaveFault.{WaveFault}
 use Rattle.pr_wire.specs.declared.follower.TraceFollower.{TraceFollower}
 use Rattle.pr_wire.specs.Following.{HasAccepted, kept_fault}
 use Rattle.pr_wire.specs.Table.{IsAllowed, fault_of}
+use Rattle.pr_basic.specs.declared.statement.Statement.{Statement}
 use Rattle.pr_explain.specs.declared.edges.Followed.{Followed}
+use Rattle.pr_explain.specs.StopPlaces.{device_of}
 
 -- a follower has accepted the edges before these, and refused none
 pub record HasFront (edges rest : List Edge) (f : TraceFollower) : Type 0 where
@@ -46,3 +48,12 @@ stands_before e (Some last) = nat_lt e.time last.time
 abbrev pub back_from : (index : ℕ) → (last : Option Edge) → List Edge → Option ℕ
 back_from i last [] = None
 back_from i last (e ∷ es) = if stands_before e last then Some i else back_from (i + 1) (Some e) es
+
+-- the device of a statement, counted from 1
+pub record IsDeviceAt (statements : List Statement) (number : ℕ) (device : Option ℕ) : Type 0 where
+  pub before : List Statement
+  pub at : Statement
+  pub after : List Statement
+  pub cut : statements ≡ before ++ at ∷ after
+  pub numbered : number ≡ suc (length before)
+  pub of_statement : device ≡ device_of before at

@@ -44,14 +44,6 @@ device_of before (Cmd file line) = opened file before None
 device_of before (PrintTo file line) = opened file before None
 device_of before _ = None
 
-pub record IsDeviceAt (statements : List Statement) (number : ℕ) (device : Option ℕ) : Type 0 where
-  pub before : List Statement
-  pub at : Statement
-  pub after : List Statement
-  pub cut : statements ≡ before ++ at ∷ after
-  pub numbered : number ≡ suc (length before)
-  pub of_statement : device ≡ device_of before at
-
 -- a device is a printer that is not there
 abbrev pub is_absent : Present → Option ℕ → Bool
 is_absent present None = false
@@ -66,13 +58,16 @@ cause_of _ present device = Files
 
 -- this is the place of an error at a statement of a script
 pub record IsErrorPlace (script : List ℕ) (stop : Stop) (statement : ℕ) (present : Present) (p : StopPlace) : Type 0 where
-  pub statements : List Statement
+  pub before : List Statement
+  pub at : Statement
+  pub after : List Statement
   pub line : List ℕ
-  pub is_script : IsScript script statements
+  pub is_script : IsScript script (before ++ at ∷ after)
+  pub numbered : statement ≡ suc (length before)
   pub is_statement : p.statement ≡ statement
   pub is_line : IsStatementLine script statement line p.line
   pub labelled : IsLabel line p.basic_line
-  pub device : IsDeviceAt statements statement p.device
+  pub device : p.device ≡ device_of before at
   pub cause : p.cause ≡ cause_of stop present p.device
 
 -- an error at a statement has its place; a text that has no such statement has none

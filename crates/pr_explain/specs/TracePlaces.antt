@@ -1,6 +1,6 @@
 -- Trusted: the places that the explanations of traces and of recordings have: the line that cannot be read, and where the edges stop being
 -- lawful, or go back in time.
-use Rattle.std.specs.Prelude.{◌≡◌, ◌↔◌, IsTrue, ℕ, ◌+◌, ◌-◌, ◌<◌, ◌≤◌, ◌^◌, nat_lt, Bool, true, false, if◌then◌else◌, List, [], ◌∷◌, ◌++◌, length, Option, Some, None}
+use Rattle.std.specs.Prelude.{◌≡◌, ◌↔◌, IsTrue, ℕ, ◌+◌, ◌-◌, ◌<◌, ◌≤◌, ◌^◌, nat_lt, Bool, true, false, if◌then◌else◌, List, [], ◌∷◌, ◌++◌, length, take, Option, Some, None}
 use Rattle.std.specs.List.{list_any}
 use Rattle.pr_wire.specs.declared.Edge.{Edge}
 use Rattle.pr_wire.specs.declared.Levels.{Levels}
@@ -107,9 +107,9 @@ pub record IsTracePlace (input : TraceInput) (bytes : List ℕ) (p : TracePlace)
   pub says : Says input bytes edges own
   pub is_place : IsPlaceOf edges own p
 
--- a trace is lawful, which has no place
-abbrev pub IsNowhere : TracePlace → Type 0
-IsNowhere p = (p.line ≡ None) × (p.edge ≡ None)
+-- the place of a lawful trace: none
+abbrev pub nowhere : TracePlace
+nowhere = record { line = None; edge = None }
 
 -- Recordings.
 
@@ -122,16 +122,9 @@ abbrev pub AreInOrder : List Edge → Type 0
 AreInOrder [] = Unit {0}
 AreInOrder (e ∷ es) = AreInOrderBehind e.time es
 
--- the edge of this index is the first that is earlier than the one before it
-pub record GoesBackAt (edges : List Edge) (index : ℕ) : Type 0 where
-  pub before : List Edge
-  pub last : Edge
-  pub edge : Edge
-  pub after : List Edge
-  pub cut : edges ≡ (before ++ last ∷ []) ++ edge ∷ after
-  pub is_first : AreInOrder (before ++ last ∷ [])
-  pub back : edge.time < last.time
-  pub number : index ≡ length before + 1
+-- the edge of this index is the first that is earlier than the one before it: the edges before it are in order, and with it they are not
+abbrev pub GoesBackAt : List Edge → (index : ℕ) → Type 0
+GoesBackAt edges index = AreInOrder (take index edges) × (AreInOrder (take (index + 1) edges) → ⊥)
 
 -- the place of what a recording says: the first edge with which time goes back; or the line of its fault, if it has one
 abbrev pub IsPlaceRead : List Edge → (own : Option CliFault) → Option ReadingPlace → Type 0

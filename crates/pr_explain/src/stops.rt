@@ -4,7 +4,8 @@ ghost use Rattle.std.specs.Prelude.{◌≡◌, List, ◌∷◌, [], ◌<◌, ◌
 ghost use Rattle.std.specs.String.{string_bytes};
 ghost use Rattle.pr_base.specs.Lines.{lines_of};
 ghost use Rattle.pr_basic.specs.Grammar.{IsScript};
-ghost use Rattle.pr_explain.specs.StopPlaces.{IsDeviceAt, IsStatementLine, IsStopPlace, cause_of, is_absent, opened, opened_by};
+ghost use Rattle.pr_explain.specs.Followed.{IsDeviceAt};
+ghost use Rattle.pr_explain.specs.StopPlaces.{IsStatementLine, IsStopPlace, cause_of, is_absent, opened, opened_by};
 
 use crate::Explanation;
 use crate::texts::{Cut, without_end};

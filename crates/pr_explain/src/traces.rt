@@ -4,7 +4,7 @@ ghost use Rattle.std.specs.Prelude.{◌≡◌, [], None, IfOk, IfSome, MatchOpti
 ghost use Rattle.std.specs.String.{string_bytes};
 ghost use Rattle.pr_cli.specs.Reported.{IsOwnFault};
 ghost use Rattle.pr_explain.specs.Followed.{back_from, stands_before};
-ghost use Rattle.pr_explain.specs.TracePlaces.{AreInOrder, GoesBackAt, IsNowhere, IsPlaceRead, IsReadingPlace, IsTracePlace};
+ghost use Rattle.pr_explain.specs.TracePlaces.{AreInOrder, GoesBackAt, IsPlaceRead, IsReadingPlace, IsTracePlace, nowhere};
 
 use crate::Explanation;
 use crate::edges::{EdgePlace, follow, place_in};
@@ -53,7 +53,7 @@ pub fn explain_trace(
     input: TraceInput<'_>,
 ) -> Result<Explanation<TracePlace>, NoMemory>
     ensures place { IfOk result (λ told. IsTracePlace input.entry trace.now told.place) }
-    ensures nothing { IfOk result (λ told. IsNowhere told.place → string_bytes told.text ≡ []) }
+    ensures nothing { IfOk result (λ told. told.place ≡ nowhere → string_bytes told.text ≡ []) }
 {
     let said = read_input(alloc, trace, input)?;
     let edges = said.edges.as_slice();

@@ -1,5 +1,6 @@
 -- Trusted: what came of a call, as numbers.
-use Rattle.std.specs.Prelude.{ℕ, ◌+◌, Option, Some, None}
+use Rattle.std.specs.Prelude.{ℕ, ◌+◌, Some, None}
+use Rattle.std.specs.Option.{option_map_or, unwrap_or}
 use Rattle.pr_wire.specs.declared.WaveFault.TheVariants as wave
 use Rattle.pr_wire.specs.declared.text.TraceFault.TheVariants as trace
 use Rattle.pr_capture.specs.declared.fault.CaptureFault.{CaptureFault}
@@ -8,9 +9,6 @@ use Rattle.pr_capture.specs.declared.fault.Wire.{Wire}
 use Rattle.pr_capture.specs.declared.fault.Wire.TheVariants as wire
 use Rattle.pr_cli.specs.declared.fault.CliFault.{CliFault}
 use Rattle.pr_cli.specs.declared.fault.CliFault.TheVariants.{Trace, Wave, Capture, TooLarge}
-use Rattle.pr_explain.specs.declared.edges.EdgePlace.{EdgePlace}
-use Rattle.pr_explain.specs.declared.scripts.ScriptPlace.{ScriptPlace}
-use Rattle.pr_explain.specs.declared.stops.StopPlace.{StopPlace}
 use Rattle.pr_explain.specs.declared.traces.ReadingPlace.{ReadingPlace}
 use Rattle.pr_explain.specs.declared.traces.ReadingPlace.TheVariants.{Edge, Line}
 use Rattle.pr_explain.specs.declared.traces.TracePlace.{TracePlace}
@@ -62,27 +60,11 @@ answer_of (TooSmall n) = plain 4 n
 answer_of (Refused TooLarge) = refusal (9, 0) 0
 answer_of (Refused _) = plain 3 0
 
--- the places of explanations, as numbers
-
--- the line, or 0 where there is no place
-abbrev pub line_of_script : Option ScriptPlace → ℕ
-line_of_script None = 0
-line_of_script (Some p) = p.line
-
-abbrev pub line_of_stop : Option StopPlace → ℕ
-line_of_stop None = 0
-line_of_stop (Some p) = p.line
-
 -- the line that cannot be read, or else the index of the edge, or else 0
-abbrev pub line_or_edge : Option ℕ → Option EdgePlace → ℕ
-line_or_edge (Some line) edge = line
-line_or_edge None (Some p) = p.index
-line_or_edge None None = 0
-
 abbrev pub place_of_trace : TracePlace → ℕ
-place_of_trace p = line_or_edge p.line p.edge
+place_of_trace p = unwrap_or p.line (option_map_or (λ e. e.index) p.edge 0)
 
-abbrev pub place_of_reading : Option ReadingPlace → ℕ
-place_of_reading None = 0
-place_of_reading (Some (Edge index)) = index
-place_of_reading (Some (Line line)) = line
+-- the index of the edge, or the line
+abbrev pub number_read : ReadingPlace → ℕ
+number_read (Edge index) = index
+number_read (Line line) = line

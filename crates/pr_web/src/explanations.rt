@@ -1,8 +1,9 @@
 //! Why a script, a trace or a recording is refused, and the error that stopped a run.
 
 ghost use Rattle.std.specs.Prelude.{◌≡◌, length};
-ghost use Rattle.pr_web.specs.Answers.{line_of_script, line_of_stop, place_of_reading, place_of_trace, plain};
-ghost use Rattle.pr_web.specs.Asked.{Explains, ExplainsReading, ExplainsStop, ExplainsTrace, IsScriptTold};
+ghost use Rattle.std.specs.Option.{option_map_or};
+ghost use Rattle.pr_web.specs.Answers.{number_read, place_of_trace, plain};
+ghost use Rattle.pr_web.specs.Asked.{ExplainsReading, ExplainsScript, ExplainsStop, ExplainsTrace};
 ghost use Rattle.pr_web.specs.Giving.{Hands};
 ghost use Rattle.pr_web.specs.Settings.{presence, source_of, stop_of};
 
@@ -37,7 +38,7 @@ fn unexplained() -> Answer
 
 /// The line of a script's first fault; 0, where it has none.
 fn line_of_script(place: Option<ScriptPlace>) -> usize
-    ensures { result ≡ line_of_script place }
+    ensures { result ≡ option_map_or (λ p. p.line) place 0 }
 {
     match place {
         Some(place) => place.line,
@@ -47,7 +48,7 @@ fn line_of_script(place: Option<ScriptPlace>) -> usize
 
 /// The line of a statement at which a run stopped; 0, where there is none.
 fn line_of_stop(place: Option<StopPlace>) -> usize
-    ensures { result ≡ line_of_stop place }
+    ensures { result ≡ option_map_or (λ p. p.line) place 0 }
 {
     match place {
         Some(place) => place.line,
@@ -70,7 +71,7 @@ fn place_of_trace(place: TracePlace) -> usize
 /// The index of the edge with which a recording goes back in time, or else the line that cannot be
 /// read; or else 0.
 fn place_of_reading(place: Option<ReadingPlace>) -> usize
-    ensures { result ≡ place_of_reading place }
+    ensures { result ≡ option_map_or number_read place 0 }
 {
     match place {
         Some(ReadingPlace::Edge(index)) => index,
@@ -88,7 +89,7 @@ pub extern "C" fn print1525_explain_script(
     out: &mut [u8],
     answer: &mut Answer,
 )
-    ensures tells { Explains (IsScriptTold script.now) out.old out.new answer.new }
+    ensures tells { ExplainsScript script.now out.old out.new answer.new }
     ensures length { length out.new ≡ length out.old }
 {
     *answer = match explain_script(alloc, script) {
