@@ -1,13 +1,11 @@
--- The line in which a statement stands, and the words for an error.
+-- The line of a statement.
 use Rattle.std.proofs.Common.{◌≡◌, ℕ, zero, suc, ◌+◌, ◌-◌, ◌<◌, ◌≤◌, List, [], ◌∷◌, ◌++◌, length, get_or, take, drop, refl, ap, subst, sym, ◌∙◌, arith, append_assoc, append-nil, length-append, Option}
 use Rattle.std.proofs.lemmas.Grind.{common_steps}
 use Rattle.pr_base.specs.Lines.{lines_of}
 use Rattle.pr_basic.specs.Limits.{statement_limit}
 use Rattle.pr_basic.specs.Grammar.{AreLines, IsLine, IsScript, without_return}
 use Rattle.pr_basic.specs.declared.statement.Statement.{Statement}
-use Rattle.pr_channels.specs.declared.faults.Stop.{Stop}
-use Rattle.pr_explain.specs.StopTold.{IsStatementLine, TellsStop, stop_words}
-use Rattle.pr_explain.specs.Told.{IsLabel}
+use Rattle.pr_explain.specs.StopPlaces.{IsStatementLine}
 
 -- a line ends at its first byte 10
 pub cut_here : (bs : List ℕ) (i : ℕ) → i < length bs → get_or bs i 0 ≡ 10 → ((k : ℕ) → k < i → get_or bs k 0 ≡ 10 → ⊥) → lines_of bs ≡ take i bs ∷ lines_of (drop (suc i) bs)
@@ -163,15 +161,3 @@ none_left script statement number left [] stays none statements is some within =
     let h = stays statements is some within in
     let empty : h.later ≡ [] = h.are_left in
     absurd (omega (arith, h.some, h.within, ap length empty))
-
--- the words for an error, and more behind them
-pub stop_told : (script : List ℕ) (stop : Stop) (statement number : ℕ) (line : List ℕ) (label : Option ℕ) (front text rest : List ℕ) (all : List ℕ) → IsStatementLine script statement line number → IsLabel line label → front ≡ []
-    → text ≡ front ++ stop_words stop label statement number → all ≡ text ++ rest → TellsStop script stop statement all
-stop_told script stop statement number line label front text rest all stands labelled none words more = record {
-  line = line;
-  number = number;
-  label = label;
-  stands = stands;
-  labelled = labelled;
-  told = (rest, more ∙ ap (λ v. v ++ rest) (words ∙ ap (λ v. v ++ stop_words stop label statement number) none));
-}
