@@ -1,7 +1,7 @@
 //! The faults of trace texts and of recordings: a line, and what it should have.
 
 ghost use Rattle.std.specs.Prelude.{◌≡◌, ◌≢◌, ◌++◌, codes, None, IfOk, IfSome, OnOk};
-ghost use Rattle.pr_cli.specs.Reported.{IsOwnFault};
+ghost use Rattle.pr_cli.specs.Sources.{IsOwnFault};
 ghost use Rattle.pr_explain.specs.Places.{IsLineTold};
 ghost use Rattle.pr_explain.specs.Shown.{BeginsLine, IsFresh, IsWithin};
 ghost use Rattle.pr_explain.specs.TraceTold.{capture_line, fault_line};
