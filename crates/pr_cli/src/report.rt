@@ -6,7 +6,7 @@ ghost use Rattle.pr_cli.specs.Check.{trace_limit};
 ghost use Rattle.pr_cli.specs.Report.{AnswersReport, IsReportFault, ReadsAll, WritesNoReport};
 ghost use Rattle.pr_cli.specs.Inputs.{IsNoReading, edges_read, lines_ahead};
 ghost use Rattle.pr_cli.specs.Reported.{EndsReported, GivesReport, HasReadAll, IsRefused, WritesText, edges_taken};
-ghost use Rattle.pr_input.specs.Watched.{has_failed, wrapped};
+ghost use Rattle.pr_input.specs.Watched.{has_failed, is_flushed, wrapped};
 
 use crate::check::CHECK_LIMIT;
 use crate::fault::CliFault;
@@ -56,6 +56,7 @@ pub fn check_as_over<R: Read, W: Write>(
     ensures own { IfErr result IsReportFault }
     ensures read_failed { IsErrOf result CliFault.ReadFailed ↔ (has_failed input.new ≡ true) }
     ensures write_failed { IsErrOf result CliFault.WriteFailed ↔ (has_failed output.new ≡ true) }
+    ensures flushed { OnOk result (is_flushed output.new ≡ true) }
 {
     let text = report_input(alloc, input, trace, report, CHECK_LIMIT)?;
     let text = unless_withheld(report, text)?;
@@ -81,6 +82,7 @@ fn write_report<W: Write>(output: &mut Watched<W>, text: ReportText) -> Result<(
     requires refused { IsRefused text }
     ensures written { WritesText text (W.contents (wrapped output.old)) (W.contents (wrapped output.new)) result }
     ensures failed { IsErrOf result CliFault.WriteFailed ↔ (has_failed output.new ≡ true) }
+    ensures flushed { OnOk result (is_flushed output.new ≡ true) }
 {
     match write_whole(output, text.lines.as_slice()) {
         Ok(()) => {}

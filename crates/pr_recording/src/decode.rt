@@ -5,7 +5,7 @@ ghost use Rattle.std.specs.Io.KnownBytes.{Appends};
 ghost use Rattle.pr_cli.specs.Check.{trace_limit};
 ghost use Rattle.pr_input.specs.PartlyWritten.{AppendsFront};
 ghost use Rattle.pr_cli.specs.Inputs.{edges_read, lines_ahead};
-ghost use Rattle.pr_input.specs.Watched.{has_failed, wrapped};
+ghost use Rattle.pr_input.specs.Watched.{has_failed, is_flushed, wrapped};
 ghost use Rattle.pr_recording.specs.Decoded.{AnswersDecode, IsDecodeFault, ReadsAll};
 ghost use Rattle.pr_recording.specs.Narrated.{EndsNarrated, GivesUp, WritesEnd, lines_in, load};
 
@@ -54,6 +54,7 @@ pub fn decode_over<R: Read, W: Write>(
     ensures own { IfErr result IsDecodeFault }
     ensures read_failed { IsErrOf result CliFault.ReadFailed ↔ (has_failed input.new ≡ true) }
     ensures write_failed { IsErrOf result CliFault.WriteFailed ↔ (has_failed output.new ≡ true) }
+    ensures flushed { OnOk result (is_flushed output.new ≡ true) }
 {
     decode_input(alloc, input, output, trace, CHECK_LIMIT)
 }
@@ -79,6 +80,7 @@ pub fn decode_input<R: Read, W: Write>(
     ensures own { IfErr result IsDecodeFault }
     ensures read_failed { IsErrOf result CliFault.ReadFailed ↔ (has_failed input.new ≡ true) }
     ensures write_failed { IsErrOf result CliFault.WriteFailed ↔ (has_failed output.new ≡ true) }
+    ensures flushed { OnOk result (is_flushed output.new ≡ true) }
 {
     readings_add_up();
     read_edges_come_first();
@@ -133,6 +135,7 @@ fn write_end<W: Write>(output: &mut Watched<W>, ended: Ended) -> Result<(), CliF
     requires stop { ended.stop ≢ Some CliFault.WriteFailed }
     ensures written { WritesEnd ended (W.contents (wrapped output.old)) (W.contents (wrapped output.new)) result }
     ensures failed { IsErrOf result CliFault.WriteFailed ↔ (has_failed output.new ≡ true) }
+    ensures flushed { OnOk result (is_flushed output.new ≡ true) }
 {
     match write_whole(output, ended.lines.as_slice()) {
         Ok(()) => {}

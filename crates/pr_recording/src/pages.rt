@@ -3,7 +3,7 @@
 ghost use Rattle.std.specs.Prelude.{◌≡◌, ◌≢◌, ◌+◌, ◌^◌, ◌<◌, ◌≤◌, ◌↔◌, length, false, true, None, IfErr, IfOk, IfSome, IsErrOf, OnOk};
 ghost use Rattle.std.specs.Io.KnownBytes.{Keeps};
 ghost use Rattle.pr_cli.specs.Inputs.{IsNoReading, edges_read, lines_ahead};
-ghost use Rattle.pr_input.specs.Watched.{has_failed, wrapped};
+ghost use Rattle.pr_input.specs.Watched.{has_failed, is_flushed, wrapped};
 ghost use Rattle.pr_recording.specs.Copied.{EndsPrinted, edges_copied, inputs_printed};
 ghost use Rattle.pr_recording.specs.Copying.{GivesPrint, HasReadPages, WritesPrint};
 ghost use Rattle.pr_recording.specs.Decoded.{IsDecodeFault, ReadsAll};
@@ -61,6 +61,7 @@ pub fn reprint_over<R: Read, W: Write>(
     ensures own { IfErr result IsDecodeFault }
     ensures read_failed { IsErrOf result CliFault.ReadFailed ↔ (has_failed input.new ≡ true) }
     ensures write_failed { IsErrOf result CliFault.WriteFailed ↔ (has_failed output.new ≡ true) }
+    ensures flushed { OnOk result (is_flushed output.new ≡ true) }
 {
     read_edges_come_first();
     let printed = print_input(alloc, input, trace, PRINT_LIMIT)?;
@@ -136,6 +137,7 @@ fn write_pages<W: Write>(
     ensures written { WritesPrint format printed (W.contents (wrapped output.old)) (W.contents (wrapped output.new)) result }
     ensures own { IfErr result IsDecodeFault }
     ensures failed { IsErrOf result CliFault.WriteFailed ↔ (has_failed output.new ≡ true) }
+    ensures flushed { OnOk result (is_flushed output.new ≡ true) }
 {
     let Printed { pages, stop } = printed;
     let present = pages.present;
