@@ -201,6 +201,11 @@ inputs_end r last kept says = λ limit start now input given h. record {
     at_end None more is e = absurd (cc)
     at_end (Some ys) more is e = let k : ys ≡ more = cc in sym k ∙ e
 
+pub inputs_end_on : (r : InputReader) {E : Type 0} (v : Result LastEdges E) → IfOk v (λ last. last.fault ≡ None → fault_read r ≡ None) → IfOk v (λ last. SaysAll r.edges last)
+    → IfOk v (λ last. EndsInputs r last)
+inputs_end_on r (Ok last) kept says = inputs_end r last kept says
+inputs_end_on r (Err e) kept says = tt
+
 -- what follows for whoever takes the last edges too
 pub reading_ends : (r : InputReader) (last : LastEdges) (taken : List Edge → Type 0) (follows : List Edge → Option CliFault → Type 0) → EndsInputs r last
     → ((given : List Edge) → taken given → follows (given ++ last.edges.items) last.fault) → EndsReading r taken follows
@@ -212,7 +217,7 @@ reading_ends r last taken follows ends after = λ limit start now input given h 
       own = e.own;
       kept = e.kept;
       says = e.says;
-      follows = rw e.follows (after given t);
+      follows = rw (e.follows.0, e.follows.1) (after given t);
     }
 
 -- before the first block

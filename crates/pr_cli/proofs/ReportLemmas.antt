@@ -1,5 +1,5 @@
 -- The report on an input.
-use Rattle.std.proofs.Common.{◌≡◌, ◌≤◌, ℕ, List, [], length, refl, sym, subst, ◌∙◌, Option, Some, None, Result, Ok, Err}
+use Rattle.std.proofs.Common.{◌≡◌, ◌<◌, ◌≤◌, ℕ, List, [], length, refl, sym, subst, ◌∙◌, Option, Some, None, Result, Ok, Err}
 use Rattle.std.specs.Prelude.{IfSome, IsErrAnd}
 use Rattle.std.specs.Io.KnownBytes.{IsAtEnd}
 use Rattle.std.proofs.KnownBytes.{Appends-nil}
@@ -10,7 +10,7 @@ use Rattle.pr_report.specs.declared.report.Report.{Report}
 use Rattle.pr_report.specs.declared.report.Report.TheVariants as report
 use Rattle.pr_capture.specs.declared.format.TraceInput.{TraceInput}
 use Rattle.pr_cli.specs.Check.{trace_limit}
-use Rattle.pr_cli.specs.Inputs.{EndsHere, HasTakenBefore, IsTooLong, SaysWhole, fault_read}
+use Rattle.pr_cli.specs.Inputs.{HasTakenAll, HasTakenBefore, IsNoReading, IsTooLong, SaysWhole, fault_read}
 use Rattle.pr_cli.specs.Report.{refusal, AnswersReport, IsReport, IsWhole, MayBeWritten, Reports, WritesReport}
 use Rattle.pr_cli.specs.Reported.{AreLines, EndsReport, EndsReported, GivesReport, HasReported, IsRefused, IsReportOf, IsTraceFault, WritesText}
 use Rattle.pr_cli.specs.Sources.{IsOwnFault}
@@ -49,7 +49,7 @@ ends_well limit start now input report r frames t h stops ends =
     record {
       gives = known start e.edges e.fault e.own follows (e.says stops);
       refused = follows.faults e.own;
-      at_end = λ whole. stops (e.kept (none e.fault follows.is_refused e.own whole));
+      at_end = λ whole. stops (e.kept (none e.fault (fault_of e.edges) follows.is_refused e.own whole));
     }
   where
     known : (start : Option (List ℕ)) (edges : List Edge) (own : Option CliFault) → IfSome own IsOwnFault → EndsReport report edges own t → IfSome start (SaysWhole limit input edges own)
@@ -57,9 +57,29 @@ ends_well limit start now input report r frames t h stops ends =
     known None edges own o e says = tt
     known (Some text) edges own o e says = record { edges = edges; own = own; is_own = o; says = says; ends = e }
 
-    none : (own : Option CliFault) {w : Option WaveFault} → t.refused ≡ refusal own w → IfSome own IsOwnFault → IsWhole t.refused → own ≡ None
-    none None e o whole = refl
-    none (Some f) e o whole = absurd (not_whole t.refused f e o whole)
+    none : (own : Option CliFault) (w : Option WaveFault) → t.refused ≡ refusal own w → IfSome own IsOwnFault → IsWhole t.refused → own ≡ None
+    none None w e o whole = refl
+    none (Some f) w e o whole = absurd (not_whole t.refused f e o whole)
+
+-- there is no report where the input was not read, or memory was refused
+pub gives_none : (limit : ℕ) (start now : Option (List ℕ)) (input : TraceInput) (report : Report) (r : InputReader) (taken : List Edge → Type 0) (v : Result ReportText CliFault) (f : CliFault)
+    → HasTakenAll limit start now input r taken → IsErrAnd v (λ x. x ≡ f) → IsNoReading f → (f ≡ TooLarge → IsTooLong now r) → IfSome start (λ text. GivesReport limit input report v text)
+gives_none limit start now input report r taken (Ok t) f h e none long = absurd e
+gives_none limit start now input report r taken (Err x) f h e none long = rw e (by f none (λ is. long is limit start input h.given h.read))
+  where
+    all : (start : Option (List ℕ)) (P : List ℕ → Type 0) → ((text : List ℕ) → P text) → IfSome start P
+    all None P p = tt
+    all (Some text) P p = p text
+
+    by : (f : CliFault) → IsNoReading f → (f ≡ TooLarge → IfSome start (λ text. limit < length text)) → IfSome start (λ text. GivesReport limit input report (Err f) text)
+    by TooLarge none long = long refl
+    by NoMemory none long = all start (λ text. GivesReport limit input report (Err NoMemory) text) (λ text. tt)
+    by ReadFailed none long = all start (λ text. GivesReport limit input report (Err ReadFailed) text) (λ text. tt)
+    by (Script fault) none long = absurd none
+    by (Trace fault) none long = absurd none
+    by (Wave fault) none long = absurd none
+    by (Capture fault) none long = absurd none
+    by WriteFailed none long = absurd none
 
 -- what holds of known bytes
 pub if_known : (known : Option (List ℕ)) (P Q : List ℕ → Type 0) → IfSome known P → ((text : List ℕ) → P text → Q text) → IfSome known Q

@@ -149,13 +149,13 @@ pub record SaysWhole (limit : ℕ) (input : TraceInput) (edges : List Edge) (fau
 
 -- what an input says that was read to its end, or to its first fault, and what follows of that
 pub record EndsHere (limit : ℕ) (start now : Option (List ℕ)) (input : TraceInput) (r : InputReader)
-    (follows : (edges : List Edge) → (fault : Option CliFault) → Type 0) : Type 0 where
+    (claim : (edges : List Edge) → (fault : Option CliFault) → Type 0) : Type 0 where
   pub edges : List Edge
   pub fault : Option CliFault
   pub own : IfSome fault IsOwnFault
   pub kept : fault ≡ None → fault_read r ≡ None
   pub says : (fault_read r ≡ None → IsAtEnd now) → IfSome start (SaysWhole limit input edges fault)
-  pub follows : follows edges fault
+  pub follows : claim edges fault
 
 -- that follows for whoever has taken the edges known before the last block
 abbrev pub EndsReading : InputReader → (taken : List Edge → Type 0) → (follows : List Edge → Option CliFault → Type 0) → Type 0
@@ -171,15 +171,15 @@ EndsInputs r last = (limit : ℕ) (start now : Option (List ℕ)) (input : Trace
 
 -- Who takes edges: all that are known, or all before the last block.
 
-pub record HasTakenAll (limit : ℕ) (start now : Option (List ℕ)) (input : TraceInput) (r : InputReader) (taken : List Edge → Type 0) : Type 0 where
+pub record HasTakenAll (limit : ℕ) (start now : Option (List ℕ)) (input : TraceInput) (r : InputReader) (claim : List Edge → Type 0) : Type 0 where
   pub given : List Edge
   pub read : HasReadEdges limit start now input given r
-  pub taken : taken (given ++ edges_read r)
+  pub taken : claim (given ++ edges_read r)
 
-pub record HasTakenBefore (limit : ℕ) (start now : Option (List ℕ)) (input : TraceInput) (r : InputReader) (taken : List Edge → Type 0) : Type 0 where
+pub record HasTakenBefore (limit : ℕ) (start now : Option (List ℕ)) (input : TraceInput) (r : InputReader) (claim : List Edge → Type 0) : Type 0 where
   pub given : List Edge
   pub read : HasReadEdges limit start now input given r
-  pub taken : taken given
+  pub taken : claim given
 
 -- Laws.
 

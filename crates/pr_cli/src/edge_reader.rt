@@ -104,14 +104,16 @@ impl<'a> EdgeReader<'a> {
             mut edges,
             fault,
         } = self;
-        let fault = match fault {
-            Some(fault) => {
+        match fault {
+            Some(_) => {
                 push_last(&mut edges, maker)?;
-                Some(fault)
+                Ok(LastEdges { edges, fault })
             }
-            None => end_source(reader, maker, &mut edges)?,
-        };
-        Ok(LastEdges { edges, fault })
+            None => {
+                let fault = end_source(reader, maker, &mut edges)?;
+                Ok(LastEdges { edges, fault })
+            }
+        }
     }
 }
 

@@ -1,6 +1,6 @@
 //! The lines of a report on edges that come one by one.
 
-ghost use Rattle.std.specs.Prelude.{◌≡◌, ◌+◌, ◌^◌, ◌<◌, ◌≤◌, ◌∷◌, ◌++◌, [], List, IfOk, OnOk};
+ghost use Rattle.std.specs.Prelude.{◌≡◌, ◌+◌, ◌^◌, ◌<◌, ◌≤◌, ◌∷◌, ◌++◌, [], List, length, IfOk, OnOk};
 ghost use Rattle.pr_wire.specs.declared.Edge.{Edge};
 ghost use Rattle.pr_report.specs.declared.report.Report.{Report};
 ghost use Rattle.pr_cli.specs.Report.{refusal};

@@ -146,9 +146,9 @@ impl<W: Write> Write for Watched<W> {
         ensures flushed { OnOk result (is_flushed self.new ≡ true) }
     {
         let answer = flush_again(&mut self.inner);
-        match &answer {
-            Ok(()) => self.flushed = true,
-            Err(_) => self.failed = true,
+        self.flushed = answer.is_ok();
+        if answer.is_err() {
+            self.failed = true;
         }
         answer
     }

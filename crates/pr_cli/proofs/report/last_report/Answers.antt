@@ -5,6 +5,6 @@ use Rattle.pr_cli.proofs.report.last_report.Goals as goal
 
 pub returns : goal.returns
 returns c =
-    if_ok _ _ (λ text. EndsReported c.args.reader c.args.frames text) c.finish.ensures
+    if_ok c.finish-2.result _ (λ text. EndsReported c.args.reader c.args.frames text) c.finish-2.ensures
     (λ text ends report. reading_ends c.args.reader c.in_ok-last.last (λ edges. HasReported report edges c.args.frames) (λ edges own. EndsReport report edges own text) c.in_ok-last.ensures.ends
     (λ given h. ends report _ (c.in_ok-take_all.ensures.reported report given h)))

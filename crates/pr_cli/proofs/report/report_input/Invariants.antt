@@ -7,7 +7,7 @@ use Rattle.pr_cli.proofs.report.report_input.Given as goal
 abbrev pub invariant-blocks : goal.invariant-blocks
 invariant-blocks g l = record {
   read : HasTakenAll l.limit (g.R.Read.remaining l.fn.input.inner) (g.R.Read.remaining l.input.inner) l.fn.trace l.reader (λ edges. HasReported l.fn.report edges l.frames);
-  open : fault_read l.reader ≡ None;
+  faultless : fault_read l.reader ≡ None;
   lines : lines_ahead l.reader ≤ l.limit + 1;
   edges : edges_taken l.frames + bytes_left l.reader ≤ l.limit;
   fresh : l.input.failed ≡ false;

@@ -8,7 +8,7 @@ use Rattle.pr_recording.proofs.decode.decode_input.Given as goal
 abbrev pub invariant-blocks : goal.invariant-blocks
 invariant-blocks g l = record {
   read : HasTakenAll l.limit (g.R.Read.remaining l.fn.input.inner) (g.R.Read.remaining l.input.inner) l.fn.trace l.reader (HasWritten (g.W.Write.contents l.fn.output.inner) (g.W.Write.contents l.output.inner) l.report);
-  open : fault_read l.reader ≡ None;
+  faultless : fault_read l.reader ≡ None;
   lines : lines_ahead l.reader ≤ l.limit + 1;
   load : load l.report + 3 * bytes_left l.reader ≤ 3 * l.limit;
   fresh : l.input.failed ≡ false;
