@@ -4,6 +4,7 @@
  * FAULT_READ=N   the Nth read of standard input fails
  * FAULT_WRITE=N  the Nth write to standard output fails
  * FAULT_SLOW=1   each read and write moves one byte
+ * FAULT_SIGNAL=1 a signal interrupts each read and write, and each moves bytes when it is made again
  * FAULT_MARK=F   the file F is made when a fault happens
  */
 #define _GNU_SOURCE
@@ -79,9 +80,22 @@ static size_t moved(size_t size)
     return size > 1 && number("FAULT_SLOW") ? 1 : size;
 }
 
+/* Whether a signal interrupts this call: every other one. */
+static int interrupted(int *before)
+{
+    *before = !*before && number("FAULT_SIGNAL");
+    if (*before)
+        errno = EINTR;
+    return *before;
+}
+
+static int read_interrupted, write_interrupted;
+
 ssize_t read(int file, void *place, size_t size)
 {
     if (file == 0) {
+        if (interrupted(&read_interrupted))
+            return -1;
         if (fails("FAULT_READ", &reads)) {
             errno = EIO;
             return -1;
@@ -94,6 +108,8 @@ ssize_t read(int file, void *place, size_t size)
 ssize_t write(int file, const void *bytes, size_t size)
 {
     if (file == 1) {
+        if (interrupted(&write_interrupted))
+            return -1;
         if (fails("FAULT_WRITE", &writes)) {
             errno = EIO;
             return -1;

@@ -126,6 +126,11 @@ abbrev pub whole_micros : (scale : ℕ) → (number : Option ℕ) → Option ℕ
 whole_micros scale None = None
 whole_micros scale (Some n) = if nat_lt (n * scale / 1000000000) 18446744073709551616 then Some (n * scale / 1000000000) else None
 
+-- digits, at least one
+abbrev pub is_number : (letters : List ℕ) → Bool
+is_number [] = false
+is_number (d ∷ ds) = list_all is_digit (d ∷ ds)
+
 -- the microseconds that digits spell by the dump's own scale
 abbrev pub time_at : (scale : ℕ) → (digits : List ℕ) → Option ℕ
 time_at scale [] = None
@@ -177,10 +182,10 @@ stamped scale seen line digits =
 -- The whole.
 
 -- a piece leads from one place to the next, or has a fault. In the header other words than those of sections say nothing, but for
--- a time stamp, which shows that the header did not end; among the changes sections say nothing
+-- `#` and digits, which show that the header did not end; among the changes sections say nothing
 abbrev pub step : Signals → Place → Piece → Result Place CaptureFault
 step s (Header scale c) (Section line k inside) = headed s scale c line k inside
-step s (Header scale c) (Stamp line digits) = Err (NoDefinitions line)
+step s (Header scale c) (Stamp line digits) = if is_number digits then Err (NoDefinitions line) else Ok (Header scale c)
 step s (Header scale c) (Change line level code) = Ok (Header scale c)
 step s (Header scale c) (Stray line) = Ok (Header scale c)
 step s (Header scale c) (Unended line) = Err (NoEnd line)

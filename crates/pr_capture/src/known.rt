@@ -5,7 +5,7 @@ ghost use Rattle.pr_capture.specs.VcdPieces.Piece.{Change, Section, Stamp, Stray
 ghost use Rattle.pr_capture.specs.VcdReading.{changed, header_ended, sample_of, stamped};
 ghost use Rattle.pr_capture.specs.VcdSteps.{codes_of, place_at, place_of, words_in, ReadsPiece};
 
-use crate::changes::{Seen, level_behind, level_if, time_at};
+use crate::changes::{Seen, is_number, level_behind, level_if, time_at};
 use crate::csv::time_or;
 use crate::entries::Keyword;
 use crate::fault::{CaptureFault, Wire};
@@ -138,7 +138,7 @@ impl Known {
         }
     }
 
-    /// Goes on behind a time stamp.
+    /// Goes on behind a time stamp. In the header `#` without digits says nothing.
     pub fn take_stamp(
         &mut self,
         signals: &Signals<'_>,
@@ -148,7 +148,11 @@ impl Known {
         ensures { ReadsPiece signals.now (Stamp line digits.now) (place_of self.old) result (place_of self.new) }
     {
         let Stage::InChanges(scale, seen) = self.stage else {
-            return Err(CaptureFault::NoDefinitions(line));
+            return if is_number(digits) {
+                Err(CaptureFault::NoDefinitions(line))
+            } else {
+                Ok(None)
+            };
         };
         let seen = stamped(scale, seen, line, digits)?;
         self.stage = Stage::InChanges(scale, seen);

@@ -8,7 +8,7 @@ use Rattle.pr_capture.specs.declared.format.Source.{Source}
 use Rattle.pr_capture.specs.declared.format.Source.TheVariants as source
 use Rattle.pr_capture.specs.declared.format.TraceInput.{TraceInput}
 use Rattle.pr_cli.specs.Report.{edges_made}
-use Rattle.pr_cli.specs.Reported.{HasGathered, MadeEdgesComeFirst, MakesAll, MakesMore}
+use Rattle.pr_cli.specs.Sources.{HasGathered, MadeEdgesComeFirst, MakesAll, MakesMore}
 use Rattle.pr_cli.specs.declared.edge_maker.EdgeMaker.{EdgeMaker}
 
 pub made_gathered : (input : TraceInput) (g : EdgeDetector) → (input.source ≡ source.Text → ⊥) → gathering.HasGathered input.start [] [] g → HasGathered input [] [] (Some g)

@@ -1,9 +1,8 @@
--- An input that is reported block by block.
-use Rattle.std.proofs.Common.{◌≡◌, ◌⊎◌, ◌≤◌, ℕ, ◌+◌, ◌-◌, List, [], ◌++◌, length, take, drop, refl, ap, sym, subst, ◌∙◌, arith, append-nil, append_assoc, length-append, take-append-drop, inl, inr, Option, Some, None, Result, Ok, Err}
-use Rattle.std.specs.Prelude.{IfErr, IfOk, IfSome, IsErrAnd}
-use Rattle.std.specs.Option.{option_to_list}
-use Rattle.std.specs.Io.KnownBytes.{Consumes, IsAtEnd}
-use Rattle.std.proofs.KnownBytes.{Appends-nil, Consumes-nil, Consumes-trans}
+-- The report on an input.
+use Rattle.std.proofs.Common.{◌≡◌, ◌<◌, ◌≤◌, ℕ, List, [], length, refl, sym, subst, ◌∙◌, Option, Some, None, Result, Ok, Err}
+use Rattle.std.specs.Prelude.{IfSome, IsErrAnd}
+use Rattle.std.specs.Io.KnownBytes.{IsAtEnd}
+use Rattle.std.proofs.KnownBytes.{Appends-nil}
 use Rattle.pr_wire.specs.declared.Edge.{Edge}
 use Rattle.pr_wire.specs.declared.WaveFault.{WaveFault}
 use Rattle.pr_wire.specs.Table.{fault_of}
@@ -11,170 +10,15 @@ use Rattle.pr_report.specs.declared.report.Report.{Report}
 use Rattle.pr_report.specs.declared.report.Report.TheVariants as report
 use Rattle.pr_capture.specs.declared.format.TraceInput.{TraceInput}
 use Rattle.pr_cli.specs.Check.{trace_limit}
-use Rattle.pr_cli.specs.Report.{edges_made, refusal, AnswersReport, IsReport, IsWhole, MayBeWritten, Reports, SaysSamples, WritesReport}
-use Rattle.pr_cli.specs.Reported.{AreLines, EndsInput, EndsNoted, EndsSamples, GivesMore, GivesReport, HasGiven, HasHeard, HasNoted, HearsMore, IsOwnFault, IsRefused, IsReportOf, IsTraceFault, NotesBlock, RefusesInput, WritesText}
+use Rattle.pr_cli.specs.Inputs.{HasTakenAll, HasTakenBefore, IsNoReading, IsTooLong, SaysWhole, fault_read}
+use Rattle.pr_cli.specs.Report.{refusal, AnswersReport, IsReport, IsWhole, MayBeWritten, Reports, WritesReport}
+use Rattle.pr_cli.specs.Reported.{AreLines, EndsReport, EndsReported, GivesReport, HasReported, IsRefused, IsReportOf, IsTraceFault, WritesText}
+use Rattle.pr_cli.specs.Sources.{IsOwnFault}
+use Rattle.pr_cli.specs.declared.input_reader.InputReader.{InputReader}
+use Rattle.pr_cli.specs.declared.reporter.FrameReporter.{FrameReporter}
 use Rattle.pr_cli.specs.declared.reporter.ReportText.{ReportText}
-use Rattle.pr_cli.specs.declared.reporter.TraceReporter.{TraceReporter}
-use Rattle.pr_cli.specs.declared.source_reader.SourceReader.{SourceReader}
 use Rattle.pr_cli.specs.declared.fault.CliFault.{CliFault}
 use Rattle.pr_cli.specs.declared.fault.CliFault.TheVariants.{Script, Trace, Wave, Capture, TooLarge, NoMemory, ReadFailed, WriteFailed}
-
--- a fault that is no want of memory is the input's own
-own_is : (P Q : Type 0) (f : CliFault) → (f ≡ NoMemory → ⊥) → (f ≡ NoMemory) ⊎ (P × Q) → P × Q
-own_is P Q f n (inl m) = absurd (n m)
-own_is P Q f n (inr o) = o
-
--- an input that ends here
-pub noted_ends : (limit : ℕ) (input : TraceInput) (report : Report) (text : List ℕ) (r : SourceReader) (n m : TraceReporter) (sample : Option Edge) (t : ReportText) → length text ≤ limit
-    → EndsInput r (Ok sample) → HearsMore (option_to_list sample) n m → EndsSamples m None t → HasNoted input report text r n → IsReportOf limit input report text t
-noted_ends limit input report text r n m sample t short ends hears done h = record {
-  samples = h.samples ++ option_to_list sample;
-  own = None;
-  says = ends input text h.samples h.given;
-  is_own = tt;
-  short = λ _. short;
-  ends = done input report (h.samples ++ option_to_list sample) (hears input report h.samples h.heard);
-}
-
--- or has a fault at its end
-pub noted_faulty : (limit : ℕ) (input : TraceInput) (report : Report) (text : List ℕ) (r : SourceReader) (n : TraceReporter) (f g : CliFault) (t : ReportText) → g ≡ f → (f ≡ NoMemory → ⊥)
-    → EndsInput r (Err f) → EndsSamples n (Some g) t → HasNoted input report text r n → IsReportOf limit input report text t
-noted_faulty limit input report text r n f g t same other ends done h =
-    let own = own_is _ _ f other ends in
-    let k : EndsSamples n (Some f) t = rw same at done in
-    record {
-      samples = h.samples;
-      own = Some f;
-      says = own.1 input text h.samples h.given;
-      is_own = own.0;
-      short = λ e. absurd (cc);
-      ends = k input report h.samples h.heard;
-    }
-
--- a front of a block was taken, and its samples were reported
-pub record NotesFront (block rest : List ℕ) (r : SourceReader) (n : TraceReporter) (s : SourceReader) (m : TraceReporter) : Type 0 where
-  pub front : List ℕ
-  pub whole : block ≡ front ++ rest
-  pub noted : (input : TraceInput) (report : Report) (t : List ℕ) → HasNoted input report t r n → HasNoted input report (t ++ front) s m
-
-pub front_none : (block : List ℕ) (r : SourceReader) (n : TraceReporter) → NotesFront block block r n r n
-front_none block r n = record {
-  front = [];
-  whole = refl;
-  noted = λ input report t h. let P : List ℕ → Type 0 = λ v. HasNoted input report v r n in subst P (sym (append-nil t)) h;
-}
-
-pub front_more : (block rest : List ℕ) (r s v : SourceReader) (n m o : TraceReporter) (len : ℕ) (sample : Option Edge) → NotesFront block rest r n s m → GivesMore (take len rest) sample s v
-    → HearsMore (option_to_list sample) m o → NotesFront block (drop len rest) r n v o
-front_more block rest r s v n m o len sample f gives hears = record {
-  front = f.front ++ take len rest;
-  whole = f.whole ∙ (ap (λ l. f.front ++ l) (sym (take-append-drop len rest)) ∙ sym (append_assoc f.front (take len rest) (drop len rest)));
-  noted = λ input report t h.
-      let k = f.noted input report t h in
-      let P : List ℕ → Type 0 = λ l. HasGiven input l (k.samples ++ option_to_list sample) v in
-      record {
-        samples = k.samples ++ option_to_list sample;
-        given = subst P (append_assoc t f.front (take len rest)) (gives input (t ++ f.front) k.samples k.given);
-        heard = hears input report k.samples k.heard;
-      };
-}
-
--- all of it was
-pub front_all : (block rest : List ℕ) (r s : SourceReader) (n m : TraceReporter) → rest ≡ [] → NotesFront block rest r n s m → NotesBlock block r n None s m
-front_all block rest r s n m e f = λ input report t h.
-    let P : List ℕ → Type 0 = λ l. HasNoted input report (t ++ l) s m in
-    subst P (sym (f.whole ∙ (ap (λ l. f.front ++ l) e ∙ append-nil f.front))) (f.noted input report t h)
-
--- or all up to the input's fault
-pub front_faulty : (block rest : List ℕ) (r s v : SourceReader) (n m : TraceReporter) (f g : CliFault) → g ≡ f → (f ≡ NoMemory → ⊥) → RefusesInput rest s f → NotesFront block rest r n s m
-    → NotesBlock block r n (Some g) v m
-front_faulty block rest r s v n m f g same other refuses k =
-    let own = own_is _ _ f other refuses in
-    rw same (
-      own.0,
-      λ input report t h more.
-          let a = k.noted input report t h in
-          let whole : ((t ++ k.front) ++ rest) ++ more ≡ (t ++ block) ++ more = ap (λ l. l ++ more) (append_assoc t k.front rest ∙ ap (λ l. t ++ l) (sym k.whole)) in
-          let P : List ℕ → Type 0 = λ l. SaysSamples input input.source l a.samples (Some f) in
-          (a.samples, subst P whole (own.1 input (t ++ k.front) a.samples a.given more), a.heard),
-    )
-
--- the bytes that came from a reader were reported, and so many more may come
-pub record ReadSoFar (limit : ℕ) (before after : Option (List ℕ)) (input : TraceInput) (report : Report) (r : SourceReader) (n : TraceReporter) (left : ℕ) : Type 0 where
-  pub text : List ℕ
-  pub taken : Consumes before after text
-  pub noted : HasNoted input report text r n
-  pub room : length text + left ≡ limit
-
-pub read_none : (limit : ℕ) (a : Option (List ℕ)) (input : TraceInput) (report : Report) (r : SourceReader) (n : TraceReporter) → HasGiven input [] [] r → HasHeard input report [] n
-    → ReadSoFar limit a a input report r n limit
-read_none limit a input report r n given heard =
-    record { text = []; taken = Consumes-nil a; noted = record { samples = []; given = given; heard = heard }; room = omega arith }
-
-pub read_more : (limit : ℕ) (a b d : Option (List ℕ)) (input : TraceInput) (report : Report) (r s : SourceReader) (n m : TraceReporter) (left count : ℕ) (block : List ℕ) → ReadSoFar limit a b input report r n left
-    → Consumes b d block → length block ≡ count → count ≤ left → NotesBlock block r n None s m → ReadSoFar limit a d input report s m (left - count)
-read_more limit a b d input report r s n m left count block h k l w notes = record {
-  text = h.text ++ block;
-  taken = Consumes-trans a b d h.text block h.taken k;
-  noted = notes input report h.text h.noted;
-  room = omega (arith, length-append h.text block, h.room);
-}
-
--- what holds of the bytes that came up to the end holds of all
-pub at_end : (a b : Option (List ℕ)) (text : List ℕ) (P : List ℕ → Type 0) → Consumes a b text → IsAtEnd b → P text → IfSome a P
-at_end None b text P c e p = tt
-at_end (Some xs) None text P c e p = absurd c
-at_end (Some xs) (Some ys) text P c e p = subst P (sym (c ∙ (ap (λ l. text ++ l) e ∙ append-nil text))) p
-
--- what holds of them whatever follows holds of all
-pub at_once : (a b : Option (List ℕ)) (text : List ℕ) (P : List ℕ → Type 0) → Consumes a b text → ((more : List ℕ) → P (text ++ more)) → IfSome a P
-at_once None b text P c p = tt
-at_once (Some xs) None text P c p = absurd c
-at_once (Some xs) (Some ys) text P c p = subst P (sym c) (p ys)
-
--- nothing was taken at the end
-pub ended_at : (b d : Option (List ℕ)) (n : ℕ) (bytes : List ℕ) → n ≡ 0 → Consumes b d (take n bytes) → IsAtEnd d → IsAtEnd b
-ended_at None d n bytes z c e = tt
-ended_at (Some xs) None n bytes z c e = absurd c
-ended_at (Some xs) (Some ys) n bytes z c e = let k : xs ≡ take 0 bytes ++ ys = rw z at c in k ∙ e
-
--- the report on an input that has ended
-gives_end : (limit : ℕ) (input : TraceInput) (report : Report) (text : List ℕ) (r : SourceReader) (n : TraceReporter) (v : Result ReportText CliFault) → length text ≤ limit
-    → EndsNoted r n v → IfErr v (λ f. f ≡ NoMemory) → HasNoted input report text r n → GivesReport limit input report v text
-gives_end limit input report text r n (Ok t) short ends own h = ends limit input report text short h
-gives_end limit input report text r n (Err f) short ends own h = rw own tt
-
-pub read_whole : (limit : ℕ) (a b : Option (List ℕ)) (input : TraceInput) (report : Report) (r : SourceReader) (n : TraceReporter) (left : ℕ) (v : Result ReportText CliFault)
-    → ReadSoFar limit a b input report r n left → IsAtEnd b → EndsNoted r n v → IfErr v (λ f. f ≡ NoMemory) → IfSome a (λ text. GivesReport limit input report v text)
-read_whole limit a b input report r n left v h e ends own = at_end a b h.text _ h.taken e (gives_end limit input report h.text r n v (omega (arith, h.room)) ends own h.noted)
-
-pub whole_refused : (limit : ℕ) (a b : Option (List ℕ)) (input : TraceInput) (report : Report) (r : SourceReader) (n : TraceReporter) (left : ℕ) (v : Result ReportText CliFault)
-    → ReadSoFar limit a b input report r n left → EndsNoted r n v → IfOk v IsRefused
-whole_refused limit a b input report r n left (Ok t) h ends = let k = ends limit input report h.text (omega (arith, h.room)) h.noted in k.ends.faults k.is_own
-whole_refused limit a b input report r n left (Err f) h ends = tt
-
--- the report on an input whose fault stands in the last block
-pub read_faulty : (limit : ℕ) (a b d : Option (List ℕ)) (input : TraceInput) (report : Report) (r s : SourceReader) (n m : TraceReporter) (left : ℕ) (block : List ℕ) (f : CliFault) (t : ReportText)
-    → ReadSoFar limit a b input report r n left → Consumes b d block → NotesBlock block r n (Some f) s m → EndsSamples m (Some f) t → IfSome a (λ text. GivesReport limit input report (Ok t) text)
-read_faulty limit a b d input report r s n m left block f t h k notes done =
-    at_once a d (h.text ++ block) _ (Consumes-trans a b d h.text block h.taken k) (λ more.
-    let w = notes.1 input report h.text h.noted more in
-    record {
-      samples = w.0;
-      own = Some f;
-      says = w.1;
-      is_own = notes.0;
-      short = λ e. absurd (cc);
-      ends = done input report w.0 w.2;
-    })
-
--- why it is refused
-pub faulty_refused : (limit : ℕ) (a b : Option (List ℕ)) (input : TraceInput) (report : Report) (r s : SourceReader) (n m : TraceReporter) (left : ℕ) (block : List ℕ) (f : CliFault) (t : ReportText)
-    → ReadSoFar limit a b input report r n left → NotesBlock block r n (Some f) s m → EndsSamples m (Some f) t → (t.refused ≡ Some f) × IsOwnFault f × IfSome t.refused IsTraceFault
-faulty_refused limit a b input report r s n m left block f t h notes done =
-    let w = notes.1 input report h.text h.noted [] in
-    let e = done input report w.0 w.2 in
-    (e.is_refused, notes.0, e.faults notes.0)
 
 -- an input with a fault of its own is not known to be whole
 pub not_whole : (v : Option CliFault) (f : CliFault) → v ≡ Some f → IsOwnFault f → IsWhole v → ⊥
@@ -191,6 +35,52 @@ not_whole (Some g) f e o w = by g (let same : f ≡ g = cc in let P : CliFault �
     by ReadFailed o w = w
     by WriteFailed o w = w
 
+-- the report on an input that has ended, or has had its fault
+pub record EndsWell (limit : ℕ) (start now : Option (List ℕ)) (input : TraceInput) (report : Report) (t : ReportText) : Type 0 where
+  pub gives : IfSome start (λ text. GivesReport limit input report (Ok t) text)
+  pub refused : IsRefused t
+  pub at_end : IsWhole t.refused → IsAtEnd now
+
+pub ends_well : (limit : ℕ) (start now : Option (List ℕ)) (input : TraceInput) (report : Report) (r : InputReader) (frames : FrameReporter) (t : ReportText)
+    → HasTakenBefore limit start now input r (λ edges. HasReported report edges frames) → (fault_read r ≡ None → IsAtEnd now) → EndsReported r frames t → EndsWell limit start now input report t
+ends_well limit start now input report r frames t h stops ends =
+    let e = ends report limit start now input h.given h.read h.taken in
+    let follows : EndsReport report e.edges e.fault t = e.follows in
+    record {
+      gives = known start e.edges e.fault e.own follows (e.says stops);
+      refused = follows.faults e.own;
+      at_end = λ whole. stops (e.kept (none e.fault (fault_of e.edges) follows.is_refused e.own whole));
+    }
+  where
+    known : (start : Option (List ℕ)) (edges : List Edge) (own : Option CliFault) → IfSome own IsOwnFault → EndsReport report edges own t → IfSome start (SaysWhole limit input edges own)
+        → IfSome start (λ text. GivesReport limit input report (Ok t) text)
+    known None edges own o e says = tt
+    known (Some text) edges own o e says = record { edges = edges; own = own; is_own = o; says = says; ends = e }
+
+    none : (own : Option CliFault) (w : Option WaveFault) → t.refused ≡ refusal own w → IfSome own IsOwnFault → IsWhole t.refused → own ≡ None
+    none None w e o whole = refl
+    none (Some f) w e o whole = absurd (not_whole t.refused f e o whole)
+
+-- there is no report where the input was not read, or memory was refused
+pub gives_none : (limit : ℕ) (start now : Option (List ℕ)) (input : TraceInput) (report : Report) (r : InputReader) (taken : List Edge → Type 0) (v : Result ReportText CliFault) (f : CliFault)
+    → HasTakenAll limit start now input r taken → IsErrAnd v (λ x. x ≡ f) → IsNoReading f → (f ≡ TooLarge → IsTooLong now r) → IfSome start (λ text. GivesReport limit input report v text)
+gives_none limit start now input report r taken (Ok t) f h e none long = absurd e
+gives_none limit start now input report r taken (Err x) f h e none long = rw e (by f none (λ is. long is limit start input h.given h.read))
+  where
+    all : (start : Option (List ℕ)) (P : List ℕ → Type 0) → ((text : List ℕ) → P text) → IfSome start P
+    all None P p = tt
+    all (Some text) P p = p text
+
+    by : (f : CliFault) → IsNoReading f → (f ≡ TooLarge → IfSome start (λ text. limit < length text)) → IfSome start (λ text. GivesReport limit input report (Err f) text)
+    by TooLarge none long = long refl
+    by NoMemory none long = all start (λ text. GivesReport limit input report (Err NoMemory) text) (λ text. tt)
+    by ReadFailed none long = all start (λ text. GivesReport limit input report (Err ReadFailed) text) (λ text. tt)
+    by (Script fault) none long = absurd none
+    by (Trace fault) none long = absurd none
+    by (Wave fault) none long = absurd none
+    by (Capture fault) none long = absurd none
+    by WriteFailed none long = absurd none
+
 -- what holds of known bytes
 pub if_known : (known : Option (List ℕ)) (P Q : List ℕ → Type 0) → IfSome known P → ((text : List ℕ) → P text → Q text) → IfSome known Q
 if_known None P Q h f = tt
@@ -198,9 +88,9 @@ if_known (Some text) P Q h f = f text h
 
 -- an input that is not refused by itself is short
 short_is : (limit : ℕ) (input : TraceInput) (r : Report) (text : List ℕ) (t : ReportText) → IsReportOf limit input r text t → IsWhole t.refused → length text ≤ limit
-short_is limit input r text t h w = h.short (by h.own h.is_own (sym h.ends.is_refused) w)
+short_is limit input r text t h w = h.says.short (by h.own h.is_own (sym h.ends.is_refused) w)
   where
-    by : (own : Option CliFault) → IfSome own IsOwnFault → refusal own (fault_of (edges_made input.source input.start h.samples)) ≡ t.refused → IsWhole t.refused → own ≡ None
+    by : (own : Option CliFault) → IfSome own IsOwnFault → refusal own (fault_of (h.edges)) ≡ t.refused → IsWhole t.refused → own ≡ None
     by None o e w = refl
     by (Some f) o e w = absurd (not_whole t.refused f (sym e) o w)
 
@@ -208,15 +98,15 @@ short_is limit input r text t h w = h.short (by h.own h.is_own (sym h.ends.is_re
 reports : (limit : ℕ) (input : TraceInput) (r : Report) (text : List ℕ) (t : ReportText) → (r ≡ report.Frames → t.refused ≡ None) → IsReportOf limit input r text t
     → Reports input r text t.refused t.lines.items
 reports limit input r text t told h = record {
-  edges = edges_made input.source input.start h.samples;
+  edges = h.edges;
   fault = h.own;
-  says = record { samples = h.samples; are_samples = h.says; are_edges = refl };
+  says = h.says.says;
   is_refused = h.ends.is_refused;
   is_report = by r t.refused told h.ends.are_lines;
 }
   where
-    by : (r : Report) (v : Option CliFault) → (r ≡ report.Frames → v ≡ None) → AreLines r (edges_made input.source input.start h.samples) v t.lines.items
-        → IsReport r (edges_made input.source input.start h.samples) v t.lines.items
+    by : (r : Report) (v : Option CliFault) → (r ≡ report.Frames → v ≡ None) → AreLines r (h.edges) v t.lines.items
+        → IsReport r (h.edges) v t.lines.items
     by report.Frames None n l = l
     by report.Frames (Some f) n l = absurd (let k : Some f ≡ None = n refl in cc)
     by report.Story None n l = l
@@ -226,9 +116,9 @@ reports limit input r text t told h = record {
 withheld : (limit : ℕ) (input : TraceInput) (text : List ℕ) (t : ReportText) (f : CliFault) → t.refused ≡ Some f → IsReportOf limit input report.Frames text t
     → Reports input report.Frames text (Some f) []
 withheld limit input text t f e h = record {
-  edges = edges_made input.source input.start h.samples;
+  edges = h.edges;
   fault = h.own;
-  says = record { samples = h.samples; are_samples = h.says; are_edges = refl };
+  says = h.says.says;
   is_refused = sym e ∙ h.ends.is_refused;
   is_report = refl;
 }

@@ -1,4 +1,4 @@
--- Reports: edges by their frames, samples by their edges, inputs by their samples.
+-- Reports: edges by their frames.
 use Rattle.std.proofs.Common.{◌≡◌, ℕ, ◌+◌, Bool, false, List, [], ◌∷◌, ◌++◌, refl, ap, sym, subst, ◌∙◌, append-nil, append_assoc, Option, Some, None, Result, Ok, Err}
 use Rattle.std.specs.Prelude.{codes, flat_map, map, IfOk, IfSome, OnOk}
 use Rattle.std.specs.Option.{option_to_list}
@@ -19,13 +19,12 @@ use Rattle.pr_report.specs.StoryText.{is_data, story_line, story_lines, story_of
 use Rattle.pr_report.specs.FrameTiming.{HasTold}
 use Rattle.pr_report.specs.declared.report.Report.{Report}
 use Rattle.pr_report.specs.declared.report.Report.TheVariants as report
-use Rattle.pr_capture.specs.declared.format.TraceInput.{TraceInput}
 use Rattle.pr_cli.specs.FrameText.{frame_line, frame_lines}
 use Rattle.pr_cli.specs.Report.{refusal, IsReport}
-use Rattle.pr_cli.specs.Reported.{data_behind, last_line, lines_of_frame, lines_of_frames, AreLines, EndsReport, EndsSamples, HasEnded, HasHeard, HasMade, HasReported, IsOwnFault, IsTraceFault, MakesAll, MakesMore, ReportsMore, TellsSoFar}
+use Rattle.pr_cli.specs.Reported.{data_behind, last_line, lines_of_frame, lines_of_frames, AreLines, EndsReport, HasEnded, HasReported, IsTraceFault, ReportsMore, TellsSoFar}
+use Rattle.pr_cli.specs.Sources.{IsOwnFault}
 use Rattle.pr_cli.specs.declared.reporter.FrameReporter.{FrameReporter}
 use Rattle.pr_cli.specs.declared.reporter.ReportText.{ReportText}
-use Rattle.pr_cli.specs.declared.reporter.TraceReporter.{TraceReporter}
 use Rattle.pr_cli.specs.declared.fault.CliFault.{CliFault}
 use Rattle.pr_cli.specs.declared.fault.CliFault.TheVariants.{Script, Trace, Wave, Capture, TooLarge, NoMemory, ReadFailed, WriteFailed}
 
@@ -236,26 +235,6 @@ report_ends lawful tell report edges r own fault t ends is lines h =
     by : timed_frames edges ≡ h.given → (t.refused ≡ None → fault_of edges ≡ None) → (v : Option CliFault) → t.refused ≡ v → AreLines report edges v t.lines.items
     by timed none None e = lawful_report lawful tell report edges h.given t.lines.items (none e) timed (lines ∙ rw (h.lines, e) refl)
     by timed none (Some f) e = lines ∙ rw (h.lines, e) (append-nil (lines_of_frames report h.given) ∙ ap (lines_of_frames report) (sym timed))
-
--- samples: none yet
-pub heard_none : (input : TraceInput) (report : Report) (r : TraceReporter) → HasMade input [] [] r.maker → HasReported report [] r.frames → HasHeard input report [] r
-heard_none input report r m h = record { edges = []; made = m; reported = h }
-
--- the reporter takes a sample
-pub hears_more : (old new : TraceReporter) (s : Edge) (e : Option Edge) → MakesMore s old.maker e new.maker → ReportsMore (option_to_list e) old.frames new.frames
-    → (input : TraceInput) (report : Report) (samples : List Edge) → HasHeard input report samples old → HasHeard input report (samples ++ s ∷ []) new
-hears_more old new s e makes reports input report samples k = record {
-  edges = k.edges ++ option_to_list e;
-  made = makes input samples k.edges k.made;
-  reported = reports report k.edges k.reported;
-}
-
--- the end of samples
-pub samples_end : (r : TraceReporter) (frames : FrameReporter) (e : Option Edge) (own : Option CliFault) (t : ReportText) → MakesAll r.maker e → ReportsMore (option_to_list e) r.frames frames
-    → ((report : Report) (edges : List Edge) → HasReported report edges frames → EndsReport report edges own t) → EndsSamples r own t
-samples_end r frames e own t makes reports ends = λ input report samples k.
-    let P : List Edge → Type 0 = λ es. EndsReport report es own t in
-    subst P (makes input samples k.edges k.made) (ends report (k.edges ++ option_to_list e) (reports report k.edges k.reported))
 
 -- what holds where a call went well holds of what follows from it
 pub on_ok : {X E : Type 0} (r : Result X E) (P Q : Type 0) → OnOk r P → (P → Q) → OnOk r Q

@@ -1,20 +1,11 @@
--- Linking words, for proofs: what a reader of a trace in any format has given, which lines were made of it, and what a part of `check`
--- answers. No reader needs to believe them.
-use Rattle.std.specs.Prelude.{◌≡◌, ◌⊎◌, ℕ, ◌<◌, ◌≤◌, Bool, false, List, [], ◌∷◌, ◌++◌, codes, flat_map, length, Option, Some, None, Result, Ok, Err, IfSome}
-use Rattle.std.specs.Option.{option_to_list}
+-- Linking words, for proofs: which lines were made of the frames of a trace, and what a part of `check` answers. No reader needs to
+-- believe them.
+use Rattle.std.specs.Prelude.{◌≡◌, ℕ, ◌<◌, Bool, false, List, [], ◌∷◌, ◌++◌, codes, flat_map, length, Option, Some, None, Result, Ok, Err, IfSome}
 use Rattle.std.specs.Io.KnownBytes.{Appends, IsAtEnd}
 use Rattle.pr_wire.specs.declared.Edge.{Edge}
 use Rattle.pr_wire.specs.declared.WaveFault.{WaveFault}
 use Rattle.pr_wire.specs.declared.WaveFault.TheVariants as wave
-use Rattle.pr_wire.specs.declared.text.TraceFault.TheVariants as trace
 use Rattle.pr_wire.specs.Table.{fault_of}
-use Rattle.pr_wire.specs.TraceReading as text
-use Rattle.pr_capture.specs.declared.fault.CaptureFault.TheVariants as capture
-use Rattle.pr_capture.specs.declared.edge_detector.EdgeDetector.{EdgeDetector}
-use Rattle.pr_capture.specs.CsvSteps as csv
-use Rattle.pr_capture.specs.VcdSteps as vcd
-use Rattle.pr_capture.specs.Gathering as gathering
-use Rattle.pr_capture.specs.Samples.{edges_of}
 use Rattle.pr_report.specs.declared.frame_timer.FrameTimer.{FrameTimer}
 use Rattle.pr_report.specs.declared.timed_frame.TimedFrame.{TimedFrame}
 use Rattle.pr_report.specs.Moments.{frame_told, timed_frames}
@@ -22,77 +13,23 @@ use Rattle.pr_report.specs.StoryText.{is_data, story_line, story_lines}
 use Rattle.pr_report.specs.FrameTiming.{HasTold, number_taken}
 use Rattle.pr_report.specs.declared.report.Report.{Report}
 use Rattle.pr_report.specs.declared.report.Report.TheVariants as report
-use Rattle.pr_capture.specs.declared.format.Source.TheVariants as source
 use Rattle.pr_capture.specs.declared.format.TraceInput.{TraceInput}
 use Rattle.pr_cli.specs.FrameText.{frame_line}
-use Rattle.pr_cli.specs.Report.{edges_made, refusal, IsReport, IsWhole, SaysSamples}
+use Rattle.pr_cli.specs.Inputs.{EndsReading, SaysWhole}
+use Rattle.pr_cli.specs.Report.{refusal, IsReport, IsWhole}
+use Rattle.pr_cli.specs.Sources.{IsOwnFault}
 use Rattle.pr_input.specs.PartlyWritten.{AppendsFront}
-use Rattle.pr_cli.specs.declared.edge_maker.EdgeMaker.{EdgeMaker}
 use Rattle.pr_cli.specs.declared.reporter.FrameReporter.{FrameReporter}
 use Rattle.pr_cli.specs.declared.reporter.ReportText.{ReportText}
-use Rattle.pr_cli.specs.declared.reporter.TraceReporter.{TraceReporter}
-use Rattle.pr_cli.specs.declared.source_reader.SourceReader.{SourceReader}
-use Rattle.pr_cli.specs.declared.source_reader.SourceReader.TheVariants as reader
+use Rattle.pr_cli.specs.declared.input_reader.InputReader.{InputReader}
 use Rattle.pr_cli.specs.declared.fault.CliFault.{CliFault}
 use Rattle.pr_cli.specs.declared.fault.CliFault.TheVariants.{Script, Trace, Wave, Capture, TooLarge, NoMemory, ReadFailed, WriteFailed}
-
--- Readers.
-
--- how many lines a reader has read, with the one that has begun in some formats
-abbrev pub lines_read : SourceReader → ℕ
-lines_read (reader.Text r) = text.edge_count r
-lines_read (reader.Vcd r) = vcd.line_number r
-lines_read (reader.Csv r) = csv.line_number r
-
--- the reader has taken a text in the format of the input, and has given these samples, or edges
-abbrev pub HasGiven : TraceInput → (text : List ℕ) → (samples : List Edge) → SourceReader → Type 0
-HasGiven input t samples (reader.Text r) = (input.source ≡ source.Text) × text.HasReadTrace t samples r
-HasGiven input t samples (reader.Vcd r) = (input.source ≡ source.Vcd) × vcd.HasReadDump input.signals t samples r
-HasGiven input t samples (reader.Csv r) = (input.source ≡ source.Csv) × csv.HasReadTable input.signals t samples r
-
--- the reader has taken these bytes too, behind whatever it had taken, and has given this sample, if it gives one
-abbrev pub GivesMore : (bytes : List ℕ) → Option Edge → (old new : SourceReader) → Type 0
-GivesMore bytes sample old new = (input : TraceInput) (t : List ℕ) (samples : List Edge) → HasGiven input t samples old
-    → HasGiven input (t ++ bytes) (samples ++ option_to_list sample) new
-
--- a fault of an input itself
-abbrev pub IsOwnFault : CliFault → Type 0
-IsOwnFault (Trace (trace.BadLine n)) = Unit {0}
-IsOwnFault (Capture capture.NoMemory) = ⊥
-IsOwnFault (Capture fault) = Unit {0}
-IsOwnFault _ = ⊥
 
 -- a fault of a trace, itself or of its edges
 abbrev pub IsTraceFault : CliFault → Type 0
 IsTraceFault (Wave wave.NoMemory) = ⊥
 IsTraceFault (Wave fault) = Unit {0}
 IsTraceFault fault = IsOwnFault fault
-
--- a fault is want of memory, or that of every input that goes on so
-abbrev pub RefusesInput : (bytes : List ℕ) → (old : SourceReader) → CliFault → Type 0
-RefusesInput bytes old f = (f ≡ NoMemory) ⊎ (IsOwnFault f
-    × ((input : TraceInput) (t : List ℕ) (samples : List Edge) → HasGiven input t samples old
-    → (more : List ℕ) → SaysSamples input input.source ((t ++ bytes) ++ more) samples (Some f)))
-
--- what a reader answers at the input's end
-abbrev pub EndsInput : SourceReader → Result (Option Edge) CliFault → Type 0
-EndsInput r (Ok sample) = (input : TraceInput) (t : List ℕ) (samples : List Edge) → HasGiven input t samples r
-    → SaysSamples input input.source t (samples ++ option_to_list sample) None
-EndsInput r (Err f) = (f ≡ NoMemory) ⊎ (IsOwnFault f
-    × ((input : TraceInput) (t : List ℕ) (samples : List Edge) → HasGiven input t samples r
-    → SaysSamples input input.source t samples (Some f)))
-
--- whatever follows the text that a reader has taken, the samples that it has given come first
-abbrev pub GivenSamplesComeFirst : Type 0
-GivenSamplesComeFirst =
-    (input : TraceInput) (t more : List ℕ) (given samples : List Edge) (fault : Option CliFault) (r : SourceReader)
-    → HasGiven input t given r
-    → SaysSamples input input.source (t ++ more) samples fault → (later : List Edge) × (samples ≡ given ++ later)
-
--- each text says something in each format
-abbrev pub EachTextSaysSamples : Type 0
-EachTextSaysSamples =
-    (input : TraceInput) (t : List ℕ) → (samples : List Edge) × (fault : Option CliFault) × SaysSamples input input.source t samples fault
 
 -- Lines of frames.
 
@@ -167,78 +104,15 @@ pub record EndsReport (report : Report) (edges : List Edge) (own : Option CliFau
   pub are_lines : AreLines report edges t.refused t.lines.items
   pub faults : IfSome own IsOwnFault → IfSome t.refused IsTraceFault
 
--- Reports on samples.
-
--- these edges were made of these samples
-abbrev pub HasGathered : TraceInput → (samples edges : List Edge) → Option EdgeDetector → Type 0
-HasGathered input samples edges None = (input.source ≡ source.Text) × (edges ≡ samples)
-HasGathered input samples edges (Some g) =
-    ((ss : List Edge) → edges_made input.source input.start ss ≡ edges_of input.start ss)
-    × gathering.HasGathered input.start samples edges g
-
-abbrev pub HasMade : TraceInput → (samples edges : List Edge) → EdgeMaker → Type 0
-HasMade input samples edges m = HasGathered input samples edges m.gatherer
-
--- with a sample more comes this edge, if any
-abbrev pub MakesMore : Edge → EdgeMaker → Option Edge → EdgeMaker → Type 0
-MakesMore sample old e new = (input : TraceInput) (samples edges : List Edge) → HasMade input samples edges old
-    → HasMade input (samples ++ sample ∷ []) (edges ++ option_to_list e) new
-
--- and at the end of the samples
-abbrev pub MakesAll : EdgeMaker → Option Edge → Type 0
-MakesAll m e = (input : TraceInput) (samples edges : List Edge) → HasMade input samples edges m
-    → edges ++ option_to_list e ≡ edges_made input.source input.start samples
-
--- whatever samples follow those that a maker has taken, the edges that it has given come first
-abbrev pub MadeEdgesComeFirst : Type 0
-MadeEdgesComeFirst =
-    (input : TraceInput) (samples more edges : List Edge) (m : EdgeMaker) → HasMade input samples edges m
-    → (later : List Edge) × (edges_made input.source input.start (samples ++ more) ≡ edges ++ later)
-
--- the reporter has taken these samples
-pub record HasHeard (input : TraceInput) (report : Report) (samples : List Edge) (r : TraceReporter) : Type 0 where
-  pub edges : List Edge
-  pub made : HasMade input samples edges r.maker
-  pub reported : HasReported report edges r.frames
-
--- how many edges it has taken
-abbrev pub edges_heard : TraceReporter → ℕ
-edges_heard r = edges_taken r.frames
-
--- the reporter has taken these samples too
-abbrev pub HearsMore : (more : List Edge) → (old new : TraceReporter) → Type 0
-HearsMore more old new = (input : TraceInput) (report : Report) (samples : List Edge) → HasHeard input report samples old
-    → HasHeard input report (samples ++ more) new
-
--- the report on samples of an input with this fault, if it has one
-abbrev pub EndsSamples : TraceReporter → (own : Option CliFault) → ReportText → Type 0
-EndsSamples r own t = (input : TraceInput) (report : Report) (samples : List Edge) → HasHeard input report samples r
-    → EndsReport report (edges_made input.source input.start samples) own t
-
--- Blocks.
-
--- a text was taken, and its samples were reported
-pub record HasNoted (input : TraceInput) (report : Report) (t : List ℕ) (r : SourceReader) (n : TraceReporter) : Type 0 where
-  pub samples : List Edge
-  pub given : HasGiven input t samples r
-  pub heard : HasHeard input report samples n
-
--- what a block comes to: its samples were reported, or those before the input's fault
-abbrev pub NotesBlock : (block : List ℕ) → SourceReader → TraceReporter → Option CliFault → SourceReader → TraceReporter → Type 0
-NotesBlock block r n None s m = (input : TraceInput) (report : Report) (t : List ℕ) → HasNoted input report t r n
-    → HasNoted input report (t ++ block) s m
-NotesBlock block r n (Some f) s m = IsOwnFault f × ((input : TraceInput) (report : Report) (t : List ℕ) → HasNoted input report t r n
-    → (more : List ℕ) → (samples : List Edge) × SaysSamples input input.source ((t ++ block) ++ more) samples (Some f)
-    × HasHeard input report samples m)
+-- Reports on inputs.
 
 -- the report on an input, whole or up to its fault
 pub record IsReportOf (limit : ℕ) (input : TraceInput) (report : Report) (text : List ℕ) (t : ReportText) : Type 0 where
-  pub samples : List Edge
+  pub edges : List Edge
   pub own : Option CliFault
-  pub says : SaysSamples input input.source text samples own
   pub is_own : IfSome own IsOwnFault
-  pub short : own ≡ None → length text ≤ limit
-  pub ends : EndsReport report (edges_made input.source input.start samples) own t
+  pub says : SaysWhole limit input edges own text
+  pub ends : EndsReport report edges own t
 
 -- the report on an input of at most so many bytes, or why there is none
 abbrev pub GivesReport : ℕ → TraceInput → Report → Result ReportText CliFault → List ℕ → Type 0
@@ -261,19 +135,10 @@ HasReadAll left (Err fault) = Unit {0}
 abbrev pub IsRefused : ReportText → Type 0
 IsRefused t = IfSome t.refused IsTraceFault
 
--- a fault of reading, or want of memory
-abbrev pub IsNoReport : CliFault → Type 0
-IsNoReport TooLarge = Unit {0}
-IsNoReport NoMemory = Unit {0}
-IsNoReport ReadFailed = Unit {0}
-IsNoReport _ = ⊥
-
--- what an input comes to that ends here
-abbrev pub EndsNoted : SourceReader → TraceReporter → Result ReportText CliFault → Type 0
-EndsNoted r n (Ok t) =
-    (limit : ℕ) (input : TraceInput) (report : Report) (text : List ℕ) → length text ≤ limit → HasNoted input report text r n
-    → IsReportOf limit input report text t
-EndsNoted r n (Err fault) = Unit {0}
+-- the report on an input that ends here, or has had its fault, where the lines of the edges before the last block were made
+abbrev pub EndsReported : InputReader → FrameReporter → ReportText → Type 0
+EndsReported r frames t =
+    (report : Report) → EndsReading r (λ edges. HasReported report edges frames) (λ edges own. EndsReport report edges own t)
 
 -- what the lines of a report come to that are written
 abbrev pub WritesText : ReportText → Option (List ℕ) → Option (List ℕ) → Result (Unit {0}) CliFault → Type 0

@@ -1,7 +1,7 @@
 //! The edges of an input in any format.
 
 ghost use Rattle.std.specs.Prelude.{[]};
-ghost use Rattle.pr_cli.specs.Reported.{HasMade, MadeEdgesComeFirst, MakesAll, MakesMore};
+ghost use Rattle.pr_cli.specs.Sources.{HasMade, MadeEdgesComeFirst, MakesAll, MakesMore};
 
 use pr_capture::{EdgeDetector, Source, TraceInput, given_edges_come_first};
 use pr_wire::Edge;

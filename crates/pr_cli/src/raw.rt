@@ -5,7 +5,7 @@ ghost use Rattle.pr_page.specs.Taken.{number_taken};
 ghost use Rattle.pr_cli.specs.Pages.{ReadsToEnd, WritesNothing};
 ghost use Rattle.pr_cli.specs.Printed.{GivesPaper, HasReadAll, IsReadingFault, PrintsOn};
 ghost use Rattle.pr_cli.specs.Raw.{AnswersRaw, IsRawFault, printed_on, raw_limit};
-ghost use Rattle.pr_input.specs.Watched.{has_failed, wrapped};
+ghost use Rattle.pr_input.specs.Watched.{has_failed, is_flushed, wrapped};
 
 use crate::fault::CliFault;
 use crate::format::text_in_format;
@@ -53,6 +53,7 @@ pub fn raw_over<R: Read, W: Write>(
     ensures own { IfErr result IsRawFault }
     ensures read_failed { IsErrOf result CliFault.ReadFailed ↔ (has_failed input.new ≡ true) }
     ensures write_failed { IsErrOf result CliFault.WriteFailed ↔ (has_failed output.new ≡ true) }
+    ensures flushed { OnOk result (is_flushed output.new ≡ true) }
 {
     let paper = print_input(alloc, input, lower, RAW_LIMIT)?;
     let four_alone = Present {

@@ -1,21 +1,20 @@
 //! A trace in any format in, a report on its frames out.
 
 ghost use Rattle.std.specs.Prelude.{◌≡◌, ◌+◌, ◌^◌, ◌<◌, ◌≤◌, ◌↔◌, length, false, true, None, Some, IfErr, IfOk, IfSome, IsErrOf, OnErr, OnOk};
-ghost use Rattle.std.specs.Option.{option_to_list};
 ghost use Rattle.pr_report.specs.declared.report.Report.{Report};
 ghost use Rattle.pr_cli.specs.Check.{trace_limit};
 ghost use Rattle.pr_cli.specs.Report.{AnswersReport, IsReportFault, ReadsAll, WritesNoReport};
-ghost use Rattle.pr_cli.specs.Reported.{EndsNoted, GivesReport, HasReadAll, HearsMore, IsNoReport, IsRefused, NotesBlock, WritesText, edges_heard, lines_read};
-ghost use Rattle.pr_input.specs.Watched.{has_failed, wrapped};
+ghost use Rattle.pr_cli.specs.Inputs.{IsNoReading, edges_read, lines_ahead};
+ghost use Rattle.pr_cli.specs.Reported.{EndsReported, GivesReport, HasReadAll, IsRefused, WritesText, edges_taken};
+ghost use Rattle.pr_input.specs.Watched.{has_failed, is_flushed, wrapped};
 
 use crate::check::CHECK_LIMIT;
-use crate::fault::{CliFault, own_fault};
-use crate::reporter::{ReportText, TraceReporter};
-use crate::source_reader::SourceReader;
+use crate::fault::CliFault;
+use crate::input_reader::InputReader;
+use crate::reporter::{FrameReporter, ReportText};
 use pr_capture::TraceInput;
 use pr_input::{BLOCK, Watched, WriteFault, write_whole};
 use pr_report::Report;
-use pr_wire::Edge;
 use std::alloc::{AllocError, Global};
 use std::io::{Read, Write};
 
@@ -57,6 +56,7 @@ pub fn check_as_over<R: Read, W: Write>(
     ensures own { IfErr result IsReportFault }
     ensures read_failed { IsErrOf result CliFault.ReadFailed ↔ (has_failed input.new ≡ true) }
     ensures write_failed { IsErrOf result CliFault.WriteFailed ↔ (has_failed output.new ≡ true) }
+    ensures flushed { OnOk result (is_flushed output.new ≡ true) }
 {
     let text = report_input(alloc, input, trace, report, CHECK_LIMIT)?;
     let text = unless_withheld(report, text)?;
@@ -82,6 +82,7 @@ fn write_report<W: Write>(output: &mut Watched<W>, text: ReportText) -> Result<(
     requires refused { IsRefused text }
     ensures written { WritesText text (W.contents (wrapped output.old)) (W.contents (wrapped output.new)) result }
     ensures failed { IsErrOf result CliFault.WriteFailed ↔ (has_failed output.new ≡ true) }
+    ensures flushed { OnOk result (is_flushed output.new ≡ true) }
 {
     match write_whole(output, text.lines.as_slice()) {
         Ok(()) => {}
@@ -113,85 +114,30 @@ pub fn report_input<R: Read>(
     ensures report { IfSome (R.remaining (wrapped input.old)) (λ text. GivesReport limit trace.entry report result text) }
     ensures at_end { HasReadAll (R.remaining (wrapped input.new)) result }
     ensures refused { IfOk result IsRefused }
-    ensures own { IfErr result IsNoReport }
+    ensures own { IfErr result IsNoReading }
     ensures failed { IsErrOf result CliFault.ReadFailed ↔ (has_failed input.new ≡ true) }
 {
-    let mut reader = SourceReader::new(alloc, trace);
-    let mut reporter = TraceReporter::new(alloc, trace, report);
-    let mut left = limit;
+    let mut reader = InputReader::new(alloc, trace, limit);
+    let mut frames = FrameReporter::new(alloc, report);
     let mut block = [0u8; BLOCK];
-    'pieces: loop {
-        match input.read(&mut block) {
-            Err(_) => return Err(CliFault::ReadFailed),
-            Ok(0) => return last_report(reader, reporter),
-            Ok(n) => {
-                if n > left {
-                    return Err(CliFault::TooLarge);
-                }
-                left -= n;
-                if let Some(fault) = report_block(&mut reader, &mut reporter, &block[..n])? {
-                    return Ok(reporter.finish(Some(fault))?);
-                }
-            }
+    'blocks: loop {
+        if !reader.read_block(input, &mut block)? {
+            return Ok(last_report(reader, frames)?);
         }
-    }
-}
-
-/// Reports on the bytes of a block. Gives the input's fault, where one stands there.
-fn report_block(
-    reader: &mut SourceReader<'_>,
-    reporter: &mut TraceReporter,
-    block: &[u8],
-) -> Result<Option<CliFault>, AllocError>
-    requires lines { lines_read reader.old + length block.now + 1 < 2 ^ 64 }
-    requires edges { edges_heard reporter.old + length block.now + 1 < 2 ^ 64 }
-    ensures noted { IfOk result (λ fault. NotesBlock block.now reader.old reporter.old fault reader.new reporter.new) }
-    ensures lines { IfOk result (λ fault. fault ≡ None → lines_read reader.new ≤ lines_read reader.old + length block.now) }
-    ensures edges { OnOk result (edges_heard reporter.new ≤ edges_heard reporter.old + length block.now) }
-{
-    let mut rest = block;
-    while !rest.is_empty() {
-        match reader.take_front(rest) {
-            Ok((len, sample)) => {
-                report_if_some(reporter, sample)?;
-                rest = &rest[len..];
-            }
-            Err(fault) => return Ok(Some(own_fault(fault)?)),
-        }
-    }
-    Ok(None)
-}
-
-/// Reports on a sample, if there is one.
-fn report_if_some(reporter: &mut TraceReporter, sample: Option<Edge>) -> Result<(), AllocError>
-    requires few { edges_heard reporter.old + 1 < 2 ^ 64 }
-    ensures heard { OnOk result (HearsMore (option_to_list sample) reporter.old reporter.new) }
-    ensures count { OnOk result (edges_heard reporter.new ≤ edges_heard reporter.old + 1) }
-{
-    match sample {
-        Some(sample) => reporter.take(sample),
-        None => Ok(()),
+        frames.take_all(reader.edges())?;
     }
 }
 
 /// Ends an input, and gives the report on it.
 fn last_report(
-    reader: SourceReader<'_>,
-    mut reporter: TraceReporter,
-) -> Result<ReportText, CliFault>
-    requires lines { lines_read reader + 1 < 2 ^ 64 }
-    requires edges { edges_heard reporter + 2 < 2 ^ 64 }
-    ensures report { EndsNoted reader.entry reporter result }
-    ensures own { IfErr result (λ fault. fault ≡ CliFault.NoMemory) }
+    reader: InputReader<'_>,
+    mut frames: FrameReporter,
+) -> Result<ReportText, AllocError>
+    requires lines { lines_ahead reader + 1 < 2 ^ 64 }
+    requires edges { edges_taken frames + length (edges_read reader) + 3 < 2 ^ 64 }
+    ensures { IfOk result (λ text. EndsReported reader.entry frames text) }
 {
-    match reader.finish() {
-        Ok(sample) => {
-            report_if_some(&mut reporter, sample)?;
-            Ok(reporter.finish(None)?)
-        }
-        Err(fault) => {
-            let own = own_fault(fault)?;
-            Ok(reporter.finish(Some(own))?)
-        }
-    }
+    let last = reader.finish()?;
+    frames.take_all(last.edges.as_slice())?;
+    frames.finish(last.fault)
 }

@@ -1,16 +1,13 @@
-//! The lines of a report on edges or samples that come one by one.
+//! The lines of a report on edges that come one by one.
 
-ghost use Rattle.std.specs.Prelude.{◌≡◌, ◌+◌, ◌^◌, ◌<◌, ◌≤◌, ◌∷◌, ◌++◌, [], List, IfOk, OnOk};
-ghost use Rattle.std.specs.Option.{option_to_list};
+ghost use Rattle.std.specs.Prelude.{◌≡◌, ◌+◌, ◌^◌, ◌<◌, ◌≤◌, ◌∷◌, ◌++◌, [], List, length, IfOk, OnOk};
 ghost use Rattle.pr_wire.specs.declared.Edge.{Edge};
 ghost use Rattle.pr_report.specs.declared.report.Report.{Report};
 ghost use Rattle.pr_cli.specs.Report.{refusal};
-ghost use Rattle.pr_cli.specs.Reported.{AddsLines, EndsReport, EndsSamples, HasEnded, HasHeard, HasReported, HearsMore, ReportsMore, edges_heard, edges_taken, last_line};
+ghost use Rattle.pr_cli.specs.Reported.{AddsLines, EndsReport, HasEnded, HasReported, ReportsMore, edges_taken, last_line};
 
-use crate::edge_maker::EdgeMaker;
 use crate::fault::CliFault;
 use crate::frame_text::push_frame;
-use pr_capture::TraceInput;
 use pr_report::{FrameTimer, Report, TimedFrame, frames_are_told, is_data, push_story_line};
 use pr_wire::{Edge, WaveFault, lawful_traces};
 use std::alloc::{AllocError, Global};
@@ -64,7 +61,7 @@ impl FrameReporter {
 
     /// Takes the next edge, and adds the lines of the frame that it ends. Behind a fault it takes no
     /// edge.
-    pub fn take(&mut self, edge: Edge) -> Result<(), AllocError>
+    fn take(&mut self, edge: Edge) -> Result<(), AllocError>
         requires few { edges_taken self.old + 1 < 2 ^ 64 }
         ensures reported { OnOk result (ReportsMore (edge ∷ []) self.old self.new) }
         ensures count { OnOk result (edges_taken self.new ≤ edges_taken self.old + 1) }
@@ -82,16 +79,16 @@ impl FrameReporter {
         }
     }
 
-    /// Takes the next edge, if there is one.
-    fn take_if(&mut self, edge: Option<Edge>) -> Result<(), AllocError>
-        requires few { edges_taken self.old + 1 < 2 ^ 64 }
-        ensures reported { OnOk result (ReportsMore (option_to_list edge) self.old self.new) }
-        ensures count { OnOk result (edges_taken self.new ≤ edges_taken self.old + 1) }
+    /// Takes the next edges, in order.
+    pub fn take_all(&mut self, edges: &[Edge]) -> Result<(), AllocError>
+        requires few { edges_taken self.old + length edges.now < 2 ^ 64 }
+        ensures reported { OnOk result (ReportsMore edges.now self.old self.new) }
+        ensures count { OnOk result (edges_taken self.new ≤ edges_taken self.old + length edges.now) }
     {
-        match edge {
-            Some(edge) => self.take(edge),
-            None => Ok(()),
+        for edge in edges {
+            self.take(*edge)?;
         }
+        Ok(())
     }
 
     /// Why the edges are no lawful trace, if they are none.
@@ -106,7 +103,7 @@ impl FrameReporter {
 
     /// Ends the edges of an input with this fault, if it has one: where nothing is refused, `lawful`
     /// stands behind the lines of their frames.
-    fn finish(self, own: Option<CliFault>) -> Result<ReportText, AllocError>
+    pub fn finish(self, own: Option<CliFault>) -> Result<ReportText, AllocError>
         ensures { IfOk result (λ text.
             (report : Report) (edges : List Edge) → HasReported report edges self → EndsReport report edges own text) }
     {
@@ -137,44 +134,4 @@ fn with_last_line(mut lines: Vec<u8>, refused: Option<CliFault>) -> Result<Vec<u
         lines.extend_from_slice(b"lawful\n")?;
     }
     Ok(lines)
-}
-
-/// A report on samples of an input: its edges are made of them, where the input has samples.
-#[derive(Drop)]
-pub struct TraceReporter {
-    maker: EdgeMaker,
-    frames: FrameReporter,
-}
-
-impl TraceReporter {
-    /// A reporter that has taken nothing of an input. It takes no memory.
-    pub fn new(alloc: Global, input: TraceInput<'_>, report: Report) -> TraceReporter
-        ensures heard { HasHeard input.entry report [] result }
-        ensures count { edges_heard result ≡ 0 }
-    {
-        TraceReporter {
-            maker: EdgeMaker::new(input),
-            frames: FrameReporter::new(alloc, report),
-        }
-    }
-
-    /// Takes the next sample, or the next edge of an input that has edges.
-    pub fn take(&mut self, sample: Edge) -> Result<(), AllocError>
-        requires few { edges_heard self.old + 1 < 2 ^ 64 }
-        ensures heard { OnOk result (HearsMore (sample ∷ []) self.old self.new) }
-        ensures count { OnOk result (edges_heard self.new ≤ edges_heard self.old + 1) }
-    {
-        let edge = self.maker.take(sample);
-        self.frames.take_if(edge)
-    }
-
-    /// Ends the samples of an input with this fault, if it has one.
-    pub fn finish(mut self, own: Option<CliFault>) -> Result<ReportText, AllocError>
-        requires few { edges_heard self + 1 < 2 ^ 64 }
-        ensures { IfOk result (λ text. EndsSamples self own text) }
-    {
-        let last = self.maker.finish();
-        self.frames.take_if(last)?;
-        self.frames.finish(own)
-    }
 }

@@ -5,7 +5,7 @@
 
 ghost use Rattle.std.specs.Prelude.{◌≡◌, ◌≤◌, ◌++◌, ◌↔◌, [], decimal, false, length, take, true, IfOk, IsErr, OnErr, OnOk};
 ghost use Rattle.std.specs.Io.KnownBytes.{Appends};
-ghost use Rattle.pr_input.specs.Watched.{has_failed, wrapped};
+ghost use Rattle.pr_input.specs.Watched.{has_failed, is_flushed, wrapped};
 ghost use Rattle.pr_input.specs.PartlyWritten.{AppendsFront};
 
 use itoa::Buffer;
@@ -133,6 +133,7 @@ impl Text {
         ensures ok { OnOk result (Appends (W.contents (wrapped output.old)) (W.contents (wrapped output.new)) self.now) }
         ensures err { OnErr result (AppendsFront (W.contents (wrapped output.old)) (W.contents (wrapped output.new)) self.now) }
         ensures failed { IsErr result ↔ (has_failed output.new ≡ true) }
+        ensures flushed { OnOk result (is_flushed output.new ≡ true) }
     {
         for block in self.full.as_slice() {
             write_piece(output, block.as_slice())?;

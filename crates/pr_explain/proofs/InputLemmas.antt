@@ -5,7 +5,7 @@ use Rattle.std.specs.Option.{option_to_list}
 use Rattle.pr_wire.specs.declared.Edge.{Edge}
 use Rattle.pr_capture.specs.declared.format.TraceInput.{TraceInput}
 use Rattle.pr_cli.specs.Report.{Says, SaysSamples}
-use Rattle.pr_cli.specs.Reported.{EndsInput, GivesMore, HasGiven, HasMade, IsOwnFault, MakesAll, MakesMore, RefusesInput}
+use Rattle.pr_cli.specs.Sources.{EndsInput, GivesMore, HasGiven, HasMade, IsOwnFault, MakesAll, MakesMore, RefusesInput}
 use Rattle.pr_cli.specs.declared.edge_maker.EdgeMaker.{EdgeMaker}
 use Rattle.pr_cli.specs.declared.source_reader.SourceReader.{SourceReader}
 use Rattle.pr_cli.specs.declared.fault.CliFault.{CliFault}

@@ -4,7 +4,7 @@ use Rattle.std.specs.Option.{option_to_list}
 use Rattle.pr_wire.specs.declared.Edge.{Edge}
 use Rattle.pr_capture.specs.declared.format.TraceInput.{TraceInput}
 use Rattle.pr_cli.specs.Report.{edges_made}
-use Rattle.pr_cli.specs.Reported.{HasMade}
+use Rattle.pr_cli.specs.Sources.{HasMade}
 use Rattle.pr_cli.specs.declared.edge_maker.EdgeMaker.{EdgeMaker}
 
 -- with a sample more, if there is one, these edges are kept

@@ -2,7 +2,7 @@
 
 ghost use Rattle.std.specs.Prelude.{◌≡◌, ◌≤◌, length, IfOk, IfSome, OnOk};
 ghost use Rattle.pr_cli.specs.Report.{Says};
-ghost use Rattle.pr_cli.specs.Reported.{IsOwnFault};
+ghost use Rattle.pr_cli.specs.Sources.{IsOwnFault};
 ghost use Rattle.pr_explain.specs.Reading.{EndsEdges, TakesSample};
 
 use pr_capture::TraceInput;

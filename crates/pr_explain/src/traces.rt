@@ -2,7 +2,7 @@
 
 ghost use Rattle.std.specs.Prelude.{◌≡◌, [], None, IfOk, IfSome, MatchOption};
 ghost use Rattle.std.specs.String.{string_bytes};
-ghost use Rattle.pr_cli.specs.Reported.{IsOwnFault};
+ghost use Rattle.pr_cli.specs.Sources.{IsOwnFault};
 ghost use Rattle.pr_explain.specs.Followed.{back_from, stands_before};
 ghost use Rattle.pr_explain.specs.TracePlaces.{AreInOrder, GoesBackAt, IsPlaceRead, IsReadingPlace, IsTracePlace, nowhere};
 

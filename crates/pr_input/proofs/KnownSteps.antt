@@ -3,7 +3,7 @@ use Rattle.std.proofs.Common.{◌≡◌, ◌<◌, ◌+◌, ◌-◌, ℕ, List, �
 use Rattle.std.proofs.lemmas.Grind.{common_steps}
 use Rattle.std.proofs.lemmas.List.{take-append-drop, take_all}
 use Rattle.std.proofs.KnownBytes.{Appends-trans}
-use Rattle.std.specs.Io.KnownBytes.{Appends, Consumes, IsAtEnd}
+use Rattle.std.specs.Io.KnownBytes.{Appends, Consumes, IsAtEnd, Keeps}
 use Rattle.pr_input.specs.PartlyWritten.{AppendsFront}
 
 -- a part written, and then the rest
@@ -32,3 +32,16 @@ too_many (Some xs) (Some ys) (Some zs) bytes f limit h k e = rw (h, k) (omega (a
 -- what a slice from n on has
 pub tail_from : (n : ℕ) (text : List ℕ) → take (length text - n) (drop n text) ≡ drop n text
 tail_from n text = take_all (length text - n) (drop n text) (omega (arith, length-drop n text))
+
+-- a reader's bytes, and a writer's, that stayed before a call
+pub kept_then_consumed : (a b c : Option (List ℕ)) (bs : List ℕ) → Keeps a b → Consumes b c bs → Consumes a c bs
+kept_then_consumed None b c bs h k = tt
+kept_then_consumed (Some xs) None c bs h k = absurd h
+kept_then_consumed (Some xs) (Some ys) None bs h k = absurd k
+kept_then_consumed (Some xs) (Some ys) (Some zs) bs h k = sym h ∙ k
+
+pub kept_then_appended : (a b c : Option (List ℕ)) (bs : List ℕ) → Keeps a b → Appends b c bs → Appends a c bs
+kept_then_appended None b c bs h k = tt
+kept_then_appended (Some xs) None c bs h k = absurd h
+kept_then_appended (Some xs) (Some ys) None bs h k = absurd k
+kept_then_appended (Some xs) (Some ys) (Some zs) bs h k = k ∙ ap (λ l. l ++ bs) h

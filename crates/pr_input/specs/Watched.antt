@@ -1,4 +1,4 @@
--- Trusted: a reader or a writer that remembers whether it has failed.
+-- Trusted: a reader or a writer that remembers whether it has failed, and whether what was written has been flushed.
 use Rattle.std.specs.Prelude.{ℕ, Bool, true, ◌&&◌, ◌==◌, not, Result, Ok, Err}
 use Rattle.pr_input.specs.declared.watched.Watched.{Watched}
 
@@ -9,6 +9,10 @@ wrapped w = w.inner
 -- whether a call through it has failed so far
 abbrev pub has_failed : {T : Type 0} → Watched T → Bool
 has_failed w = w.failed
+
+-- whether a flush through it has succeeded since the last write through it, if there was one
+abbrev pub is_flushed : {T : Type 0} → Watched T → Bool
+is_flushed w = w.flushed
 
 -- a write of n bytes fails: an error, or an answer that none of some bytes was taken
 abbrev pub write_fails : {E : Type 0} → Result ℕ E → ℕ → Bool

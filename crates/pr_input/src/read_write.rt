@@ -1,11 +1,11 @@
 //! Input read whole up to a limit, and text written whole.
 //!
-//! The loops are the crate's own: `read_to_end` and `write_all` try an interrupted call again, so
-//! they could answer `Ok` although a call through the [`Watched`] has failed.
+//! The loops are the crate's own: of `read_to_end` and `write_all` nobody knows here that an error is one
+//! that the [`Watched`] has seen.
 
 ghost use Rattle.std.specs.Prelude.{◌≡◌, ◌≤◌, ◌<◌, ◌↔◌, IfSome, IfOk, IsErr, IsErrOf, OnOk, OnErr, false, true, length};
 ghost use Rattle.std.specs.Io.KnownBytes.{Appends, IsAtEnd, Keeps};
-ghost use Rattle.pr_input.specs.Watched.{has_failed, wrapped};
+ghost use Rattle.pr_input.specs.Watched.{has_failed, is_flushed, wrapped};
 ghost use Rattle.pr_input.specs.PartlyWritten.{AppendsFront};
 
 use crate::watched::Watched;
@@ -85,6 +85,7 @@ pub fn write_whole<W: Write>(output: &mut Watched<W>, text: &[u8]) -> Result<(),
     ensures ok { OnOk result (Appends (W.contents (wrapped output.old)) (W.contents (wrapped output.new)) text.now) }
     ensures err { OnErr result (AppendsFront (W.contents (wrapped output.old)) (W.contents (wrapped output.new)) text.now) }
     ensures failed { IsErr result ↔ (has_failed output.new ≡ true) }
+    ensures flushed { OnOk result (is_flushed output.new ≡ true) }
 {
     write_piece(output, text)?;
     flush(output)
@@ -122,6 +123,7 @@ pub fn flush<W: Write>(output: &mut Watched<W>) -> Result<(), WriteFault>
     requires fresh { has_failed output.old ≡ false }
     ensures kept { Keeps (W.contents (wrapped output.old)) (W.contents (wrapped output.new)) }
     ensures failed { IsErr result ↔ (has_failed output.new ≡ true) }
+    ensures flushed { OnOk result (is_flushed output.new ≡ true) }
 {
     match output.flush() {
         Ok(()) => Ok(()),

@@ -1,32 +1,37 @@
-//! A reader or a writer that remembers whether it has failed.
+//! A reader or a writer that remembers whether it has failed, and whether it is flushed.
 
-ghost use Rattle.std.specs.Prelude.{◌≡◌, ◌||◌, false, is_err, length};
+ghost use Rattle.std.specs.Prelude.{◌≡◌, ◌||◌, false, true, is_err, length, OnOk};
 ghost use Rattle.std.specs.Io.{ReadsAtMost, WritesAtMost};
 ghost use Rattle.std.specs.Io.KnownBytes.{Keeps, ReadConsumes, WriteAppends};
-ghost use Rattle.pr_input.specs.Watched.{has_failed, wrapped, write_fails};
+ghost use Rattle.pr_input.specs.Watched.{has_failed, is_flushed, wrapped, write_fails};
 
 use std::io;
-use std::io::{Read, Write};
+use std::io::{ErrorKind, Read, Write};
 
-/// A reader or a writer, and whether a call through it has failed.
+/// A reader or a writer, whether a call through it has failed, and whether all that was written through it
+/// has been flushed.
 ///
-/// It is set for good exactly when a read, a write or a flush through it fails, or when a write of
-/// some bytes answers 0. So a caller can tell a failed read or write from every other refusal.
+/// It has failed for good exactly when a read, a write or a flush through it fails, or when a write of
+/// some bytes answers 0. So a caller can tell a failed read or write from every other refusal. A call
+/// that a signal interrupts is made again, and has not failed.
 #[derive(Drop)]
 pub struct Watched<T> {
     inner: T,
     failed: bool,
+    flushed: bool,
 }
 
 impl<T> Watched<T> {
-    /// Nothing has failed yet. It takes no memory.
+    /// Nothing has failed yet, and nothing was written. It takes no memory.
     pub fn new(inner: T) -> Watched<T>
         ensures inner { wrapped result ≡ inner }
         ensures failed { has_failed result ≡ false }
+        ensures flushed { is_flushed result ≡ true }
     {
         Watched {
             inner,
             failed: false,
+            flushed: true,
         }
     }
 
@@ -43,6 +48,57 @@ impl<T> Watched<T> {
     {
         self.failed
     }
+
+    /// Whether a flush has succeeded since the last write, if there was one.
+    pub fn is_flushed(&self) -> bool
+        ensures { result ≡ is_flushed self.now }
+    {
+        self.flushed
+    }
+}
+
+/// Reads, and again as long as the call is interrupted.
+fn read_again<R: Read>(inner: &mut R, buf: &mut [u8]) -> io::Result<usize>
+    ensures bound { ReadsAtMost result buf.new }
+    ensures bytes { ReadConsumes (R.remaining inner.old) (R.remaining inner.new) result buf.new }
+{
+    'tries: for _ in 0..u64::MAX {
+        match inner.read(buf) {
+            Ok(n) => return Ok(n),
+            Err(e) if e.kind() == ErrorKind::Interrupted => {}
+            Err(e) => return Err(e),
+        }
+    }
+    Err(io::Error::from(ErrorKind::Interrupted))
+}
+
+/// Writes, and again as long as the call is interrupted.
+fn write_again<W: Write>(inner: &mut W, buf: &[u8]) -> io::Result<usize>
+    ensures bound { WritesAtMost result buf.now }
+    ensures bytes { WriteAppends (W.contents inner.old) (W.contents inner.new) result buf.now }
+{
+    'tries: for _ in 0..u64::MAX {
+        match inner.write(buf) {
+            Ok(n) => return Ok(n),
+            Err(e) if e.kind() == ErrorKind::Interrupted => {}
+            Err(e) => return Err(e),
+        }
+    }
+    Err(io::Error::from(ErrorKind::Interrupted))
+}
+
+/// Flushes, and again as long as the call is interrupted.
+fn flush_again<W: Write>(inner: &mut W) -> io::Result<()>
+    ensures { Keeps (W.contents inner.old) (W.contents inner.new) }
+{
+    'tries: for _ in 0..u64::MAX {
+        match inner.flush() {
+            Ok(()) => return Ok(()),
+            Err(e) if e.kind() == ErrorKind::Interrupted => {}
+            Err(e) => return Err(e),
+        }
+    }
+    Err(io::Error::from(ErrorKind::Interrupted))
 }
 
 impl<R: Read> Read for Watched<R> {
@@ -53,7 +109,7 @@ impl<R: Read> Read for Watched<R> {
         ensures bytes { ReadConsumes (R.remaining (wrapped self.old)) (R.remaining (wrapped self.new)) result buf.new }
         ensures failed { has_failed self.new ≡ (has_failed self.old || is_err result) }
     {
-        let answer = self.inner.read(buf);
+        let answer = read_again(&mut self.inner, buf);
         if answer.is_err() {
             self.failed = true;
         }
@@ -68,8 +124,10 @@ impl<W: Write> Write for Watched<W> {
         ensures bound { WritesAtMost result buf.now }
         ensures bytes { WriteAppends (W.contents (wrapped self.old)) (W.contents (wrapped self.new)) result buf.now }
         ensures failed { has_failed self.new ≡ (has_failed self.old || write_fails result (length buf.now)) }
+        ensures flushed { is_flushed self.new ≡ false }
     {
-        let answer = self.inner.write(buf);
+        self.flushed = false;
+        let answer = write_again(&mut self.inner, buf);
         match &answer {
             Ok(0) => {
                 if !buf.is_empty() {
@@ -85,8 +143,10 @@ impl<W: Write> Write for Watched<W> {
     fn flush(&mut self) -> io::Result<()>
         ensures bytes { Keeps (W.contents (wrapped self.old)) (W.contents (wrapped self.new)) }
         ensures failed { has_failed self.new ≡ (has_failed self.old || is_err result) }
+        ensures flushed { OnOk result (is_flushed self.new ≡ true) }
     {
-        let answer = self.inner.flush();
+        let answer = flush_again(&mut self.inner);
+        self.flushed = answer.is_ok();
         if answer.is_err() {
             self.failed = true;
         }

@@ -1,8 +1,8 @@
 -- What is answered for an input, by what was told of it.
-use Rattle.std.proofs.Common.{◌≡◌, ◌≤◌, ℕ, ◌+◌, ◌-◌, ◌<◌, List, [], ◌++◌, length, take, refl, ap, sym, subst, ◌∙◌, arith, append-nil, append_assoc, length-append, Option, Some, None, Result, Ok, Err}
+use Rattle.std.proofs.Common.{◌≡◌, ◌≤◌, ℕ, ◌<◌, List, [], ◌++◌, length, refl, ap, sym, subst, ◌∙◌, append-nil, append_assoc, Option, Some, None, Result, Ok, Err}
 use Rattle.std.specs.Prelude.{IfErr, IfSome, IsErrAnd}
-use Rattle.std.specs.Io.KnownBytes.{Appends, Consumes, IsAtEnd}
-use Rattle.std.proofs.KnownBytes.{Appends-nil, Appends-trans, Consumes-nil, Consumes-trans}
+use Rattle.std.specs.Io.KnownBytes.{Appends, IsAtEnd}
+use Rattle.std.proofs.KnownBytes.{Appends-nil, Appends-trans}
 use Rattle.pr_wire.specs.declared.Edge.{Edge}
 use Rattle.pr_wire.specs.declared.WaveFault.TheVariants as wave
 use Rattle.pr_wire.specs.declared.text.TraceFault.TheVariants as trace
@@ -10,145 +10,134 @@ use Rattle.pr_capture.specs.declared.fault.CaptureFault.{CaptureFault}
 use Rattle.pr_capture.specs.declared.fault.CaptureFault.TheVariants as capture
 use Rattle.pr_capture.specs.declared.format.TraceInput.{TraceInput}
 use Rattle.pr_input.specs.PartlyWritten.{AppendsFront}
-use Rattle.pr_cli.specs.Report.{edges_made}
-use Rattle.pr_cli.specs.Reported.{HasGiven, IsOwnFault}
+use Rattle.pr_cli.specs.Inputs.{EachTextSaysEdges, HasReadEdges, HasTakenAll, HasTakenBefore, IsNoReading, IsTooLong, ReadEdgesComeFirst, ReadsEdges, SaysFirst, SaysWhole, edges_read, fault_read}
+use Rattle.pr_cli.specs.Sources.{IsOwnFault}
 use Rattle.pr_cli.specs.declared.fault.CliFault.{CliFault}
 use Rattle.pr_cli.specs.declared.fault.CliFault.TheVariants.{Script, Trace, Wave, Capture, TooLarge, NoMemory, ReadFailed, WriteFailed}
-use Rattle.pr_cli.specs.declared.source_reader.SourceReader.{SourceReader}
+use Rattle.pr_cli.specs.declared.input_reader.InputReader.{InputReader}
+use Rattle.pr_recording.specs.declared.decode_report.DecodeReport.{DecodeReport}
 use Rattle.pr_recording.specs.declared.decode_report.Ended.{Ended}
-use Rattle.pr_recording.specs.declared.report_builder.ReportBuilder.{ReportBuilder}
 use Rattle.pr_recording.specs.Decoded.{AnswersDecode, IsDecodeFault, Leaves, ReadsAll, back_in, stop_at, told_of}
-use Rattle.pr_recording.specs.Narrated.{EndsEdges, EndsNoted, EndsSamples, GivesUp, HasHeard, HasNoted, IsStop, NotesBlock, WritesEnd, lines_in}
-use Rattle.pr_recording.proofs.Coming.{ComesTo, Laws, coming}
+use Rattle.pr_recording.specs.Narrated.{EndsEdges, EndsNarrated, GivesUp, HasNarrated, IsStop, NarratesMore, WritesEnd, lines_in}
+use Rattle.pr_recording.proofs.Coming.{Laws, coming}
 use Rattle.pr_recording.proofs.Writing.{front_behind, front_none, whole_behind}
 
--- the bytes that came from a reader were told, what was given up was written, and so many more may come
-pub record ReadSoFar (limit : ℕ) (before after old now : Option (List ℕ)) (input : TraceInput) (r : SourceReader) (t : ReportBuilder) (left : ℕ) : Type 0 where
-  pub text : List ℕ
+-- these edges were told, and what was given up was written
+pub record HasWritten (old now : Option (List ℕ)) (n : DecodeReport) (edges : List Edge) : Type 0 where
   pub written : List ℕ
-  pub taken : Consumes before after text
-  pub noted : HasNoted input text written r t
+  pub narrated : HasNarrated edges written n
   pub wrote : Appends old now written
-  pub room : length text + left ≡ limit
 
-pub read_none : (limit : ℕ) (a o : Option (List ℕ)) (input : TraceInput) (r : SourceReader) (t : ReportBuilder) → HasGiven input [] [] r → HasHeard input [] [] t → ReadSoFar limit a a o o input r t limit
-read_none limit a o input r t given heard = record {
-  text = [];
-  written = [];
-  taken = Consumes-nil a;
-  noted = record { samples = []; given = given; heard = heard };
-  wrote = Appends-nil o;
-  room = omega arith;
+-- before the first block
+pub told_none : (limit : ℕ) (start old : Option (List ℕ)) (input : TraceInput) (r : InputReader) (n : DecodeReport) → HasReadEdges limit start start input [] r → edges_read r ≡ [] → HasNarrated [] [] n
+    → HasTakenAll limit start start input r (HasWritten old old n)
+told_none limit start old input r n read none h = record { given = []; read = read; taken = rw none (record { written = []; narrated = h; wrote = Appends-nil old }) }
+
+-- a block was read
+pub told_before : (limit : ℕ) (start a b old now : Option (List ℕ)) (input : TraceInput) (r s : InputReader) (n : DecodeReport) → HasTakenAll limit start a input r (HasWritten old now n) → ReadsEdges a b r s
+    → HasTakenBefore limit start b input s (HasWritten old now n)
+told_before limit start a b old now input r s n h reads = record { given = h.given ++ edges_read r; read = reads limit start input h.given h.read; taken = h.taken }
+
+-- its edges were told
+pub told_all : (limit : ℕ) (start now old out : Option (List ℕ)) (input : TraceInput) (r : InputReader) (n m : DecodeReport) → HasTakenBefore limit start now input r (HasWritten old out n)
+    → NarratesMore (edges_read r) n m → HasTakenAll limit start now input r (HasWritten old out m)
+told_all limit start now old out input r n m h narrates = record {
+  given = h.given;
+  read = h.read;
+  taken = record { written = h.taken.written; narrated = narrates h.given h.taken.written h.taken.narrated; wrote = h.taken.wrote };
 }
 
--- a block more
-pub read_block : (limit : ℕ) (a b d old now : Option (List ℕ)) (input : TraceInput) (r s : SourceReader) (t u : ReportBuilder) (left count : ℕ) (block : List ℕ) → ReadSoFar limit a b old now input r t left
-    → Consumes b d block → length block ≡ count → count ≤ left → NotesBlock block r t None s u → ReadSoFar limit a d old now input s u (left - count)
-read_block limit a b d old now input r s t u left count block h k l w notes = record {
-  text = h.text ++ block;
-  written = h.written;
-  taken = Consumes-trans a b d h.text block h.taken k;
-  noted = notes input h.text h.written h.noted;
-  wrote = h.wrote;
-  room = omega (arith, length-append h.text block, h.room);
+-- and its lines were written
+pub told_written : (limit : ℕ) (start a old now new : Option (List ℕ)) (input : TraceInput) (r : InputReader) (n m : DecodeReport) → HasTakenAll limit start a input r (HasWritten old now n)
+    → Appends now new (lines_in n) → GivesUp n m → HasTakenAll limit start a input r (HasWritten old new m)
+told_written limit start a old now new input r n m h k up = record {
+  given = h.given;
+  read = h.read;
+  taken = record {
+    written = h.taken.written ++ lines_in n;
+    narrated = up (h.given ++ edges_read r) h.taken.written h.taken.narrated;
+    wrote = Appends-trans old now new h.taken.written (lines_in n) h.taken.wrote k;
+  };
 }
 
--- its lines are written
-pub read_written : (limit : ℕ) (a b old now new : Option (List ℕ)) (input : TraceInput) (r : SourceReader) (t u : ReportBuilder) (left : ℕ) → ReadSoFar limit a b old now input r t left
-    → Appends now new (lines_in t) → GivesUp t u → ReadSoFar limit a b old new input r u left
-read_written limit a b old now new input r t u left h k up = record {
-  text = h.text;
-  written = h.written ++ lines_in t;
-  taken = h.taken;
-  noted = record { samples = h.noted.samples; given = h.noted.given; heard = up input h.noted.samples h.written h.noted.heard };
-  wrote = Appends-trans old now new h.written (lines_in t) h.wrote k;
-  room = h.room;
-}
-
--- what holds of the bytes that came up to the end holds of all
-at_end : (a b : Option (List ℕ)) (text : List ℕ) (P : List ℕ → Type 0) → Consumes a b text → IsAtEnd b → P text → IfSome a P
-at_end None b text P c e p = tt
-at_end (Some xs) None text P c e p = absurd c
-at_end (Some xs) (Some ys) text P c e p = subst P (sym (c ∙ (ap (λ l. text ++ l) e ∙ append-nil text))) p
-
--- what holds of them whatever follows holds of all
-at_once : (a b : Option (List ℕ)) (text : List ℕ) (P : List ℕ → Type 0) → Consumes a b text → ((more : List ℕ) → P (text ++ more)) → IfSome a P
-at_once None b text P c p = tt
-at_once (Some xs) None text P c p = absurd c
-at_once (Some xs) (Some ys) text P c p = subst P (sym c) (p ys)
-
--- nothing was taken at the end
-pub ended_at : (b d : Option (List ℕ)) (n : ℕ) (bytes : List ℕ) → n ≡ 0 → Consumes b d (take n bytes) → IsAtEnd d → IsAtEnd b
-ended_at None d n bytes z c e = tt
-ended_at (Some xs) None n bytes z c e = absurd c
-ended_at (Some xs) (Some ys) n bytes z c e = let k : xs ≡ take 0 bytes ++ ys = rw z at c in k ∙ e
-
--- a beginning was written
-begins : (limit : ℕ) (input : TraceInput) (text front lines : List ℕ) (old now new : Option (List ℕ)) (v : Result (Unit {0}) CliFault) → ComesTo input text (front ++ lines) → Appends old now front
-    → AppendsFront now new lines → ((stop : Option CliFault) (told : List ℕ) → AppendsFront old new told → Leaves limit (length text) stop told old new v) → AnswersDecode limit input text old new v
-begins limit input text front lines old now new v k wrote short leaves = record {
-  edges = k.edges;
-  own = k.own;
-  says = k.says;
-  leaves = leaves (stop_at (back_in k.edges) k.own) (told_of (stop_at (back_in k.edges) k.own) k.edges)
-      (front_behind old now new front lines (told_of (stop_at (back_in k.edges) k.own) k.edges) k.rest k.told wrote short);
-}
-
--- the answer where no more is read, or written
-pub partly : Laws → (limit : ℕ) (a b old now new : Option (List ℕ)) (input : TraceInput) (r : SourceReader) (t : ReportBuilder) (left : ℕ) (v : Result (Unit {0}) CliFault)
-    → ReadSoFar limit a b old now input r t left → AppendsFront now new (lines_in t)
-    → ((n : ℕ) (stop : Option CliFault) (told : List ℕ) → AppendsFront old new told → Leaves limit n stop told old new v) → IfSome a (λ text. AnswersDecode limit input text old new v)
-partly laws limit a b old now new input r t left v h short leaves =
-    at_once a b h.text (λ text. AnswersDecode limit input text old new v) h.taken
-    (λ more. begins limit input (h.text ++ more) h.written (lines_in t) old now new v (coming laws input h.text h.written r t h.noted more) h.wrote short (leaves (length (h.text ++ more))))
-
--- the answer where more bytes came than may
-pub too_large : Laws → (limit : ℕ) (a b d old now : Option (List ℕ)) (input : TraceInput) (r : SourceReader) (t : ReportBuilder) (left : ℕ) (block : List ℕ) → ReadSoFar limit a b old now input r t left
-    → Consumes b d block → left < length block → IfSome a (λ text. AnswersDecode limit input text old now (Err TooLarge))
-too_large laws limit a b d old now input r t left block h k many =
-    at_once a d (h.text ++ block) (λ text. AnswersDecode limit input text old now (Err TooLarge)) (Consumes-trans a b d h.text block h.taken k)
-    (λ more.
-    let c : ComesTo input ((h.text ++ block) ++ more) (h.written ++ lines_in t) =
-    let P : List ℕ → Type 0 = λ l. ComesTo input l (h.written ++ lines_in t) in
-    subst P (sym (append_assoc h.text block more)) (coming laws input h.text h.written r t h.noted (block ++ more)) in
-    let long : limit < length ((h.text ++ block) ++ more) = omega (arith, h.room, many, length-append h.text block, length-append (h.text ++ block) more) in
-    begins limit input ((h.text ++ block) ++ more) h.written (lines_in t) old now now (Err TooLarge) c h.wrote (front_none now (lines_in t)) (λ stop told front. (long, front)))
-
--- what holds of want of memory holds of an answer that was made of it
-by_memory : (v : Result (Unit {0}) CliFault) (P : Result (Unit {0}) CliFault → Type 0) → IsErrAnd v (λ f. f ≡ NoMemory) → P (Err NoMemory) → P v
-by_memory (Ok u) P e p = absurd e
-by_memory (Err f) P e p = rw e p
-
--- the answer where memory was refused
-pub partly_refused : Laws → (limit : ℕ) (a b old now : Option (List ℕ)) (input : TraceInput) (r : SourceReader) (t : ReportBuilder) (left : ℕ) (v : Result (Unit {0}) CliFault)
-    → ReadSoFar limit a b old now input r t left → IsErrAnd v (λ f. f ≡ NoMemory) → IfSome a (λ text. AnswersDecode limit input text old now v)
-partly_refused laws limit a b old now input r t left v h memory =
-    by_memory v (λ w. IfSome a (λ text. AnswersDecode limit input text old now w)) memory
-    (partly laws limit a b old now now input r t left (Err NoMemory) h (front_none now (lines_in t)) (λ n stop told k. k))
-
--- the answer where a write failed
-pub partly_unwritten : Laws → (limit : ℕ) (a b old now new : Option (List ℕ)) (input : TraceInput) (r : SourceReader) (t : ReportBuilder) (left : ℕ) (v : Result (Unit {0}) CliFault) (f : CliFault)
-    → ReadSoFar limit a b old now input r t left → IsErrAnd v (λ x. x ≡ f) → f ≡ WriteFailed → AppendsFront now new (lines_in t) → IfSome a (λ text. AnswersDecode limit input text old new v)
-partly_unwritten laws limit a b old now new input r t left (Ok u) f h e failed k = absurd e
-partly_unwritten laws limit a b old now new input r t left (Err x) f h e failed k =
-    rw (e, failed) (partly laws limit a b old now new input r t left (Err WriteFailed) h k (λ n stop told front. front))
-
--- before anything was read
-first_refused : Laws → (limit : ℕ) (a old : Option (List ℕ)) (input : TraceInput) → IfSome a (λ text. AnswersDecode limit input text old old (Err NoMemory))
-first_refused laws limit None old input = tt
-first_refused laws limit (Some text) old input =
-    let s = laws.some input text in
-    let edges = edges_made input.source input.start s.0 in
+-- a beginning was written of what is told of edges that come first
+begins : Laws → (limit : ℕ) (input : TraceInput) (text : List ℕ) (edges : List Edge) (n : DecodeReport) (old now new : Option (List ℕ)) (v : Result (Unit {0}) CliFault) → SaysFirst input text edges
+    → HasWritten old now n edges → AppendsFront now new (lines_in n) → ((stop : Option CliFault) (told : List ℕ) → AppendsFront old new told → Leaves limit (length text) stop told old new v)
+    → AnswersDecode limit input text old new v
+begins laws limit input text edges n old now new v f h short leaves =
+    let P : List Edge → Type 0 = λ l. (rest : List ℕ) × (told_of (stop_at (back_in l) f.fault) l ≡ (h.written ++ lines_in n) ++ rest) in
+    let k = subst P (sym f.first) (coming laws edges f.later h.written n f.fault h.narrated) in
+    let stop = stop_at (back_in f.edges) f.fault in
     record {
-      edges = edges;
-      own = s.1;
-      says = record { samples = s.0; are_samples = s.2; are_edges = refl };
-      leaves = front_none old (told_of (stop_at (back_in edges) s.1) edges);
+      edges = f.edges;
+      own = f.fault;
+      says = f.says;
+      leaves = leaves stop (told_of stop f.edges) (front_behind old now new h.written (lines_in n) (told_of stop f.edges) k.0 k.1 h.wrote short);
     }
 
-pub at_first : Laws → (limit : ℕ) (a old : Option (List ℕ)) (input : TraceInput) (v : Result (Unit {0}) CliFault) → IsErrAnd v (λ f. f ≡ NoMemory)
+-- what holds of known bytes
+if_known : (known : Option (List ℕ)) (P Q : List ℕ → Type 0) → IfSome known P → ((text : List ℕ) → P text → Q text) → IfSome known Q
+if_known None P Q h f = tt
+if_known (Some text) P Q h f = f text h
+
+-- the answer where no more is read, or written
+pub partly : Laws → ReadEdgesComeFirst → (limit : ℕ) (start now old mid new : Option (List ℕ)) (input : TraceInput) (r : InputReader) (n : DecodeReport) (v : Result (Unit {0}) CliFault) (f : CliFault)
+    → HasTakenAll limit start now input r (HasWritten old mid n) → IsErrAnd v (λ x. x ≡ f) → f ≡ WriteFailed → AppendsFront mid new (lines_in n)
+    → IfSome start (λ text. AnswersDecode limit input text old new v)
+partly laws first limit start now old mid new input r n (Ok u) f h e failed k = absurd e
+partly laws first limit start now old mid new input r n (Err x) f h e failed k =
+    rw (e, failed) (if_known start (λ text. SaysFirst input text (h.given ++ edges_read r)) (λ text. AnswersDecode limit input text old new (Err WriteFailed)) (first limit start now input h.given r h.read)
+    (λ text says. begins laws limit input text (h.given ++ edges_read r) n old mid new (Err WriteFailed) says h.taken k (λ stop told front. front)))
+
+-- the answer where nothing more is written
+pub unwritten : Laws → ReadEdgesComeFirst → (limit : ℕ) (start now old mid : Option (List ℕ)) (input : TraceInput) (r : InputReader) (n : DecodeReport) (v : Result (Unit {0}) CliFault) (f : CliFault)
+    → HasTakenAll limit start now input r (HasWritten old mid n) → IsErrAnd v (λ x. x ≡ f) → IsNoReading f → (f ≡ TooLarge → IsTooLong now r)
+    → IfSome start (λ text. AnswersDecode limit input text old mid v)
+unwritten laws first limit start now old mid input r n (Ok u) f h e none long = absurd e
+unwritten laws first limit start now old mid input r n (Err x) f h e none long =
+    rw e (by f none (λ is. long is limit start input h.given h.read))
+  where
+    says : IfSome start (λ text. SaysFirst input text (h.given ++ edges_read r))
+    says = first limit start now input h.given r h.read
+
+    all : (v : Result (Unit {0}) CliFault) → ((text : List ℕ) (stop : Option CliFault) (told : List ℕ) → AppendsFront old mid told → Leaves limit (length text) stop told old mid v)
+        → IfSome start (λ text. AnswersDecode limit input text old mid v)
+    all v leaves =
+        if_known start (λ text. SaysFirst input text (h.given ++ edges_read r)) (λ text. AnswersDecode limit input text old mid v) says
+        (λ text s. begins laws limit input text (h.given ++ edges_read r) n old mid mid v s h.taken (front_none mid (lines_in n)) (leaves text))
+
+    both : (start : Option (List ℕ)) (P Q R : List ℕ → Type 0) → IfSome start P → IfSome start Q → ((text : List ℕ) → P text → Q text → R text) → IfSome start R
+    both None P Q R p q f = tt
+    both (Some text) P Q R p q f = f text p q
+
+    by : (f : CliFault) → IsNoReading f → (f ≡ TooLarge → IfSome start (λ text. limit < length text)) → IfSome start (λ text. AnswersDecode limit input text old mid (Err f))
+    by NoMemory none long = all (Err NoMemory) (λ text stop told front. front)
+    by ReadFailed none long = all (Err ReadFailed) (λ text stop told front. front)
+    by TooLarge none long =
+        both start (λ text. SaysFirst input text (h.given ++ edges_read r)) (λ text. limit < length text) (λ text. AnswersDecode limit input text old mid (Err TooLarge)) says (long refl)
+        (λ text s more. begins laws limit input text (h.given ++ edges_read r) n old mid mid (Err TooLarge) s h.taken (front_none mid (lines_in n)) (λ stop told front. (more, front)))
+    by (Script fault) none long = absurd none
+    by (Trace fault) none long = absurd none
+    by (Wave fault) none long = absurd none
+    by (Capture fault) none long = absurd none
+    by WriteFailed none long = absurd none
+
+-- the answer where memory was refused
+pub refused : Laws → ReadEdgesComeFirst → (limit : ℕ) (start now old mid : Option (List ℕ)) (input : TraceInput) (r : InputReader) (n : DecodeReport) (v : Result (Unit {0}) CliFault)
+    → HasTakenAll limit start now input r (HasWritten old mid n) → IsErrAnd v (λ x. x ≡ NoMemory) → IfSome start (λ text. AnswersDecode limit input text old mid v)
+refused laws first limit start now old mid input r n v h e = unwritten laws first limit start now old mid input r n v NoMemory h e tt (λ is. absurd (cc))
+
+-- before anything was read
+first_refused : EachTextSaysEdges → (limit : ℕ) (a old : Option (List ℕ)) (input : TraceInput) → IfSome a (λ text. AnswersDecode limit input text old old (Err NoMemory))
+first_refused some limit None old input = tt
+first_refused some limit (Some text) old input =
+    let s = some input text in
+    record { edges = s.edges; own = s.fault; says = s.says; leaves = front_none old (told_of (stop_at (back_in s.edges) s.fault) s.edges) }
+
+pub at_first : EachTextSaysEdges → (limit : ℕ) (a old : Option (List ℕ)) (input : TraceInput) (v : Result (Unit {0}) CliFault) → IsErrAnd v (λ f. f ≡ NoMemory)
     → IfSome a (λ text. AnswersDecode limit input text old old v)
-at_first laws limit a old input v memory = by_memory v (λ w. IfSome a (λ text. AnswersDecode limit input text old old w)) memory (first_refused laws limit a old input)
+at_first some limit a old input (Ok u) e = absurd e
+at_first some limit a old input (Err f) e = rw e (first_refused some limit a old input)
 
 -- why an input stops
 pub is_stop : (back : Option ℕ) (own : Option CliFault) → IfSome own IsOwnFault → IfSome (stop_at back own) IsStop
@@ -194,7 +183,7 @@ known_stop None f e h = absurd (cc)
 known_stop (Some g) f e h = let k : g ≡ f = cc in let P : CliFault → Type 0 = λ x. IsStop x in subst P k h
 
 -- where nothing stops, the input has no fault
-no_own : (back : Option ℕ) (own : Option CliFault) → stop_at back own ≡ None → own ≡ None
+pub no_own : (back : Option ℕ) (own : Option CliFault) → stop_at back own ≡ None → own ≡ None
 no_own None own h = h
 no_own (Some n) own h = absurd (cc)
 
@@ -227,53 +216,6 @@ leaves_end limit len edges written own e old now new v short ends is_own wrote w
     by (Err WriteFailed) w =
         front_behind old now new written e.lines.items (told_of (stop_at (back_in edges) own) edges) [] (sym told ∙ sym (append-nil (written ++ e.lines.items))) wrote w
 
--- the answer at the input's end
-pub at_last : (limit : ℕ) (a b old now new : Option (List ℕ)) (input : TraceInput) (r : SourceReader) (t : ReportBuilder) (left : ℕ) (e : Ended) (v : Result (Unit {0}) CliFault)
-    → ReadSoFar limit a b old now input r t left → IsAtEnd b → EndsNoted r t e → WritesEnd e now new v → IfSome a (λ text. AnswersDecode limit input text old new v)
-at_last limit a b old now new input r t left e v h end ends writes =
-    at_end a b h.text (λ text. AnswersDecode limit input text old new v) h.taken end
-    (let k = ends input h.text h.written h.noted in
-    record {
-      edges = edges_made input.source input.start k.0;
-      own = k.1;
-      says = record { samples = k.0; are_samples = k.2; are_edges = refl };
-      leaves = leaves_end limit (length h.text) (edges_made input.source input.start k.0) h.written k.1 e old now new v (λ none. omega (arith, h.room)) k.4 k.3 h.wrote writes;
-    })
-
--- the answer at the input's fault
-pub at_fault : (limit : ℕ) (a b d old now new : Option (List ℕ)) (input : TraceInput) (r s : SourceReader) (t u : ReportBuilder) (left : ℕ) (block : List ℕ) (f : CliFault) (e : Ended) (v : Result (Unit {0}) CliFault)
-    → ReadSoFar limit a b old now input r t left → Consumes b d block → NotesBlock block r t (Some f) s u → EndsSamples u (Some f) e → WritesEnd e now new v
-    → IfSome a (λ text. AnswersDecode limit input text old new v)
-at_fault limit a b d old now new input r s t u left block f e v h k notes ends writes =
-    at_once a d (h.text ++ block) (λ text. AnswersDecode limit input text old new v) (Consumes-trans a b d h.text block h.taken k)
-    (λ more.
-    let w = notes.1 input h.text h.written h.noted more in
-    let edges = edges_made input.source input.start w.0 in
-    record {
-      edges = edges;
-      own = Some f;
-      says = record { samples = w.0; are_samples = w.1; are_edges = refl };
-      leaves = leaves_end limit (length ((h.text ++ block) ++ more)) edges h.written (Some f) e old now new v (λ none. absurd (cc)) (ends input w.0 h.written w.2) notes.0 h.wrote writes;
-    })
-
--- why it stops at its end
-pub last_stop : (limit : ℕ) (a b old now : Option (List ℕ)) (input : TraceInput) (r : SourceReader) (t : ReportBuilder) (left : ℕ) (e : Ended) → ReadSoFar limit a b old now input r t left → EndsNoted r t e
-    → IfSome e.stop IsStop
-last_stop limit a b old now input r t left e h ends =
-    let k = ends input h.text h.written h.noted in
-    let P : Option CliFault → Type 0 = λ v. IfSome v IsStop in
-    subst P (sym k.4.stop) (is_stop (back_in (edges_made input.source input.start k.0)) k.1 k.3)
-
--- and at its fault: it does
-pub fault_stop : (limit : ℕ) (a b old now : Option (List ℕ)) (input : TraceInput) (r s : SourceReader) (t u : ReportBuilder) (left : ℕ) (block : List ℕ) (f : CliFault) (e : Ended)
-    → ReadSoFar limit a b old now input r t left → NotesBlock block r t (Some f) s u → EndsSamples u (Some f) e → IfSome e.stop IsStop × (e.stop ≡ None → ⊥)
-fault_stop limit a b old now input r s t u left block f e h notes ends =
-    let w = notes.1 input h.text h.written h.noted [] in
-    let edges = edges_made input.source input.start w.0 in
-    let k = ends input w.0 h.written w.2 in
-    let P : Option CliFault → Type 0 = λ v. IfSome v IsStop in
-    (subst P (sym k.stop) (is_stop (back_in edges) (Some f) notes.0), λ none. absurd (let n : Some f ≡ None = no_own (back_in edges) (Some f) (sym k.stop ∙ none) in cc))
-
 -- a stop is no failed write
 pub no_write : (v : Option CliFault) → IfSome v IsStop → v ≡ Some WriteFailed → ⊥
 no_write v h e = known_stop v WriteFailed e h
@@ -300,11 +242,64 @@ own_fault e now new (Err f) h w = by f w
     by ReadFailed w = tt
     by WriteFailed w = tt
 
--- the end was read, where all is told
-pub not_all : (e : Ended) (left now new : Option (List ℕ)) (v : Result (Unit {0}) CliFault) → (e.stop ≡ None → ⊥) → WritesEnd e now new v → ReadsAll left v
-not_all e left now new (Ok u) h w = absurd (h w.0)
-not_all e left now new (Err f) h w = tt
+-- what is answered at an input's end, or at its fault
+pub record AnswersLast (limit : ℕ) (start left old new : Option (List ℕ)) (input : TraceInput) (e : Ended) (v : Result (Unit {0}) CliFault) : Type 0 where
+  pub decode : IfSome start (λ text. AnswersDecode limit input text old new v)
+  pub at_end : ReadsAll left v
+  pub own : IfErr v IsDecodeFault
+  pub reading : v ≡ Err ReadFailed → ⊥
 
-pub all_read : (left : Option (List ℕ)) (v : Result (Unit {0}) CliFault) → IsAtEnd left → ReadsAll left v
-all_read left (Ok u) h = h
-all_read left (Err f) h = tt
+-- why it stops there
+pub last_stop : (limit : ℕ) (start left old now : Option (List ℕ)) (input : TraceInput) (r : InputReader) (n : DecodeReport) (e : Ended) → HasTakenBefore limit start left input r (HasWritten old now n)
+    → EndsNarrated r n e → IfSome e.stop IsStop
+last_stop limit start left old now input r n e h ends =
+    let k = ends h.taken.written limit start left input h.given h.read h.taken.narrated in
+    let follows : EndsEdges k.edges h.taken.written k.fault e = k.follows in
+    let P : Option CliFault → Type 0 = λ v. IfSome v IsStop in
+    subst P (sym follows.stop) (is_stop (back_in k.edges) k.fault k.own)
+
+pub at_last : (limit : ℕ) (start left old now new : Option (List ℕ)) (input : TraceInput) (r : InputReader) (n : DecodeReport) (e : Ended) (v : Result (Unit {0}) CliFault)
+    → HasTakenBefore limit start left input r (HasWritten old now n) → (fault_read r ≡ None → IsAtEnd left) → EndsNarrated r n e → WritesEnd e now new v → AnswersLast limit start left old new input e v
+at_last limit start left old now new input r n e v h stops ends writes =
+    let k = ends h.taken.written limit start left input h.given h.read h.taken.narrated in
+    let follows : EndsEdges k.edges h.taken.written k.fault e = k.follows in
+    let stop = last_stop limit start left old now input r n e h ends in
+    record {
+      decode = known start k.edges k.fault k.own follows (k.says stops);
+      at_end = read v (λ none. stops (k.kept (no_own (back_in k.edges) k.fault (sym follows.stop ∙ none)))) writes;
+      own = own_fault e now new v stop writes;
+      reading = no_read e now new v stop writes;
+    }
+  where
+    known : (start : Option (List ℕ)) (edges : List Edge) (own : Option CliFault) → IfSome own IsOwnFault → EndsEdges edges h.taken.written own e → IfSome start (SaysWhole limit input edges own)
+        → IfSome start (λ text. AnswersDecode limit input text old new v)
+    known None edges own o k says = tt
+    known (Some text) edges own o k says = record {
+      edges = edges;
+      own = own;
+      says = says.says;
+      leaves = leaves_end limit (length text) edges h.taken.written own e old now new v says.short k o h.taken.wrote writes;
+    }
+
+    read : (v : Result (Unit {0}) CliFault) → (e.stop ≡ None → IsAtEnd left) → WritesEnd e now new v → ReadsAll left v
+    read (Ok u) f w = f w.0
+    read (Err x) f w = tt
+
+-- a fault of reading is one of a recording, and no failed write
+pub reading_fault : (v : Result (Unit {0}) CliFault) (f : CliFault) → IsErrAnd v (λ x. x ≡ f) → IsNoReading f → IfErr v IsDecodeFault
+reading_fault (Ok u) f e none = tt
+reading_fault (Err x) f e none = rw e (by f none)
+  where
+    by : (f : CliFault) → IsNoReading f → IsDecodeFault f
+    by TooLarge none = tt
+    by NoMemory none = tt
+    by ReadFailed none = tt
+    by (Script fault) none = absurd none
+    by (Trace fault) none = absurd none
+    by (Wave fault) none = absurd none
+    by (Capture fault) none = absurd none
+    by WriteFailed none = absurd none
+
+pub reading_no_write : (v : Result (Unit {0}) CliFault) (f : CliFault) → IsErrAnd v (λ x. x ≡ f) → IsNoReading f → v ≡ Err WriteFailed → ⊥
+reading_no_write (Ok u) f e none is = absurd e
+reading_no_write (Err x) f e none is = let k : f ≡ WriteFailed = cc in let P : CliFault → Type 0 = λ y. IsNoReading y in subst P k none

@@ -1,4 +1,4 @@
--- What was told so far stands in front of what is told of the whole input, whatever follows.
+-- What was told so far comes first in what is told of all edges, whatever follows.
 use Rattle.std.proofs.Common.{◌≡◌, ℕ, List, [], ◌++◌, refl, ap, sym, ◌∙◌, append-nil, append_assoc, Option, Some, None}
 use Rattle.std.specs.Option.{option_to_list}
 use Rattle.pr_wire.specs.declared.Edge.{Edge}
@@ -11,14 +11,10 @@ use Rattle.pr_report.specs.declared.reading_line.Preceding.TheVariants.{Nothing}
 use Rattle.pr_report.specs.ReadingText.{all_lines, behind_all}
 use Rattle.pr_report.specs.Summary.{summary}
 use Rattle.pr_report.specs.Verdict.{verdict_text}
-use Rattle.pr_capture.specs.declared.format.TraceInput.{TraceInput}
-use Rattle.pr_cli.specs.Report.{edges_made, Says}
-use Rattle.pr_cli.specs.Reported.{EachTextSaysSamples, GivenSamplesComeFirst, MadeEdgesComeFirst}
 use Rattle.pr_cli.specs.declared.fault.CliFault.{CliFault}
-use Rattle.pr_cli.specs.declared.source_reader.SourceReader.{SourceReader}
-use Rattle.pr_recording.specs.declared.report_builder.ReportBuilder.{ReportBuilder}
+use Rattle.pr_recording.specs.declared.decode_report.DecodeReport.{DecodeReport}
 use Rattle.pr_recording.specs.Decoded.{back_in, in_front, stop_at, told_of}
-use Rattle.pr_recording.specs.Narrated.{HasNoted, lines_in}
+use Rattle.pr_recording.specs.Narrated.{HasNarrated, lines_in}
 use Rattle.pr_recording.proofs.Accounting.{lines_add}
 use Rattle.pr_recording.proofs.Backs.{front_more}
 
@@ -27,17 +23,6 @@ pub record Laws : Type 0 where
   pub more : MoreEdgesAddReadings
   pub cut : OnlyTheLastIsCut
   pub given : GivenAreSettled
-  pub first : GivenSamplesComeFirst
-  pub some : EachTextSaysSamples
-  pub made : MadeEdgesComeFirst
-
--- what an input says, and what is told of it, which begins so
-pub record ComesTo (input : TraceInput) (text front : List ℕ) : Type 0 where
-  pub edges : List Edge
-  pub own : Option CliFault
-  pub says : Says input text edges own
-  pub rest : List ℕ
-  pub told : told_of (stop_at (back_in edges) own) edges ≡ front ++ rest
 
 -- what is told of edges begins with the lines of what those in front settle
 told_begins : OnlyTheLastIsCut → (edges : List Edge) (own : Option CliFault) → (rest : List ℕ) × (told_of (stop_at (back_in edges) own) edges ≡ all_lines Nothing (settled_of (in_front (back_in edges) edges)) ++ rest)
@@ -63,24 +48,15 @@ given_begins laws before all given later is has =
     let m = laws.more (in_front (back_in before) before) f.0 in
     (m.0, ap (λ l. settled_of (in_front (back_in l) l)) is ∙ (ap settled_of f.1 ∙ (m.1 ∙ ap (λ rs. rs ++ m.0) has)))
 
--- what was told so far
-pub coming : Laws → (input : TraceInput) (text written : List ℕ) (r : SourceReader) (t : ReportBuilder) → HasNoted input text written r t → (more : List ℕ) → ComesTo input (text ++ more) (written ++ lines_in t)
-coming laws input text written r t h more =
-    let says = laws.some input (text ++ more) in
-    let first = laws.first input text more h.samples says.0 says.1 r h.given says.2 in
-    let made = laws.made input h.samples first.0 h.heard.edges t.maker h.heard.made in
-    let edges = edges_made input.source input.start says.0 in
-    let is : edges ≡ h.heard.edges ++ made.0 = ap (λ l. edges_made input.source input.start l) first.1 ∙ made.1 in
-    let k = h.heard.narrated.heeded in
-    let given = given_begins laws h.heard.edges edges k.given made.0 is (laws.given (in_front (back_in h.heard.edges) h.heard.edges) k.given t.report.decoder k.read) in
-    let begins = told_begins laws.cut edges says.1 in
+-- what was told so far of edges comes first in what is told of them and more
+pub coming : Laws → (edges later : List Edge) (written : List ℕ) (n : DecodeReport) (own : Option CliFault) → HasNarrated edges written n
+    → (rest : List ℕ) × (told_of (stop_at (back_in (edges ++ later)) own) (edges ++ later) ≡ (written ++ lines_in n) ++ rest)
+coming laws edges later written n own h =
+    let all = edges ++ later in
+    let k = h.heeded in
+    let given = given_begins laws edges all k.given later refl (laws.given (in_front (back_in edges) edges) k.given n.decoder k.read) in
+    let begins = told_begins laws.cut all own in
     let behind = all_lines (behind_all Nothing k.given) given.0 in
-    let lines : all_lines Nothing (settled_of (in_front (back_in edges) edges)) ≡ (written ++ lines_in t) ++ behind =
+    let lines : all_lines Nothing (settled_of (in_front (back_in all) all)) ≡ (written ++ lines_in n) ++ behind =
     ap (λ rs. all_lines Nothing rs) given.1 ∙ (lines_add Nothing k.given given.0 ∙ ap (λ l. l ++ behind) (sym k.accounted.lines)) in
-    record {
-      edges = edges;
-      own = says.1;
-      says = record { samples = says.0; are_samples = says.2; are_edges = refl };
-      rest = behind ++ begins.0;
-      told = begins.1 ∙ (ap (λ l. l ++ begins.0) lines ∙ append_assoc (written ++ lines_in t) behind begins.0);
-    }
+    (behind ++ begins.0, begins.1 ∙ (ap (λ l. l ++ begins.0) lines ∙ append_assoc (written ++ lines_in n) behind begins.0))

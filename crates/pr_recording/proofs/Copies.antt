@@ -10,13 +10,10 @@ use Rattle.pr_recording.specs.declared.printer_pair.BusPrinters.{BusPrinters}
 use Rattle.pr_recording.specs.declared.printer_pair.PrintedPages.{PrintedPages}
 use Rattle.pr_recording.specs.PrintedPages.{ArePapers}
 use Rattle.pr_recording.specs.Taking.{HasReprinted}
-use Rattle.pr_capture.specs.declared.format.TraceInput.{TraceInput}
-use Rattle.pr_cli.specs.Reported.{HasMade, MakesAll, MakesMore}
 use Rattle.pr_cli.specs.declared.fault.CliFault.{CliFault}
 use Rattle.pr_recording.specs.declared.capture_printer.CapturePrinter.{CapturePrinter}
-use Rattle.pr_recording.specs.declared.capture_printer.PageMaker.{PageMaker}
 use Rattle.pr_recording.specs.declared.capture_printer.Printed.{Printed}
-use Rattle.pr_recording.specs.Copied.{CopiesMore, EndsCopy, EndsPages, HasCopied, HasPaged, HasPrinted, PagesMore, PrintsReading}
+use Rattle.pr_recording.specs.Copied.{CopiesMore, EndsCopy, HasCopied, HasPrinted, PrintsReading}
 use Rattle.pr_recording.specs.Decoded.{back_in, in_front, stop_at}
 use Rattle.pr_recording.specs.Narrated.{time_of}
 use Rattle.pr_recording.specs.Pages.{readings_up_to}
@@ -141,29 +138,3 @@ ends_whole c own cut last p is stop reads prints papers = λ edges h.
       papers = same_papers (k.given ++ option_to_list cut) (readings_up_to p.stop edges) p.pages
           (sym (reads edges k.given k.read) ∙ sym (ap (λ s. readings_up_to s edges) stop)) (papers (k.given ++ option_to_list cut) (prints k.given k.reprinted));
     }
-
--- Samples.
-
-pub paged_none : (input : TraceInput) (m : PageMaker) → HasMade input [] [] m.maker → HasCopied [] m.printer → HasPaged input [] m
-paged_none input m made copied = record { edges = []; made = made; copied = copied }
-
-pub pages_one : (old new : PageMaker) (s : Edge) (e : Option Edge) → MakesMore s old.maker e new.maker → CopiesMore (option_to_list e) old.printer new.printer → PagesMore (s ∷ []) old new
-pages_one old new s e makes copies = λ input samples h. record {
-  edges = h.edges ++ option_to_list e;
-  made = makes input samples h.edges h.made;
-  copied = copies h.edges h.copied;
-}
-
--- a sample more, if there is one
-pub pages_some : (old new : PageMaker) (o : Option Edge) (s : Edge) (e : Option Edge) → o ≡ Some s → MakesMore s old.maker e new.maker → CopiesMore (option_to_list e) old.printer new.printer → PagesMore (option_to_list o) old new
-pages_some old new o s e is makes copies = rw is (pages_one old new s e makes copies)
-
-pub pages_none : (m : PageMaker) → PagesMore [] m m
-pages_none m = λ input samples h. let P : List Edge → Type 0 = λ l. HasPaged input l m in subst P (sym (append-nil samples)) h
-
--- the end of samples
-pub samples_end : (m : PageMaker) (c : CapturePrinter) (last : Option Edge) (own : Option CliFault) (p : Printed) → MakesAll m.maker last → CopiesMore (option_to_list last) m.printer c
-    → ((edges : List Edge) → HasCopied edges c → EndsCopy edges own p) → EndsPages m own p
-samples_end m c last own p makes copies ends = λ input samples h.
-    let P : List Edge → Type 0 = λ l. EndsCopy l own p in
-    subst P (makes input samples h.edges h.made) (ends (h.edges ++ option_to_list last) (copies h.edges h.copied))

@@ -1,27 +1,26 @@
 -- Linking words, for proofs: what was printed of an input, and what is written of it. No reader needs to believe them.
-use Rattle.std.specs.Prelude.{◌≡◌, ℕ, ◌<◌, ◌≤◌, List, length, Option, Some, None, Result, Ok, Err}
+use Rattle.std.specs.Prelude.{◌≡◌, ℕ, ◌<◌, List, length, Option, Some, None, Result, Ok, Err, IfSome}
 use Rattle.std.specs.Io.KnownBytes.{Appends, IsAtEnd, Keeps}
-use Rattle.pr_wire.specs.declared.WaveFault.TheVariants as wave
+use Rattle.pr_wire.specs.declared.Edge.{Edge}
 use Rattle.pr_render.specs.declared.format.Format.{Format}
 use Rattle.pr_capture.specs.declared.format.TraceInput.{TraceInput}
 use Rattle.pr_cli.specs.Formats.{text_in}
 use Rattle.pr_input.specs.PartlyWritten.{AppendsFront}
-use Rattle.pr_cli.specs.Reported.{IsOwnFault}
+use Rattle.pr_cli.specs.Inputs.{SaysWhole}
+use Rattle.pr_cli.specs.Sources.{IsOwnFault}
 use Rattle.pr_cli.specs.declared.fault.CliFault.{CliFault}
-use Rattle.pr_cli.specs.declared.fault.CliFault.TheVariants.{Wave, TooLarge, NoMemory, ReadFailed, WriteFailed}
+use Rattle.pr_cli.specs.declared.fault.CliFault.TheVariants.{TooLarge, NoMemory, ReadFailed, WriteFailed}
 use Rattle.pr_recording.specs.declared.capture_printer.Printed.{Printed}
-use Rattle.pr_recording.specs.Copied.{IsPrintOf}
+use Rattle.pr_recording.specs.Copied.{EndsCopy}
 use Rattle.pr_recording.specs.Pages.{papers_alone}
 
--- why no more is printed of an input: time goes back, or it has a fault of its own
-abbrev pub IsPrintStop : CliFault → Type 0
-IsPrintStop (Wave (wave.Order n)) = Unit {0}
-IsPrintStop fault = IsOwnFault fault
-
--- what was printed of an input of at most so many bytes, or why nothing was
+-- what was printed of an input of at most so many bytes, or up to its fault, or why nothing was
 pub record PrintsWhole (limit : ℕ) (input : TraceInput) (text : List ℕ) (p : Printed) : Type 0 where
-  pub print : IsPrintOf input text p
-  pub short : p.stop ≡ None → length text ≤ limit
+  pub edges : List Edge
+  pub own : Option CliFault
+  pub is_own : IfSome own IsOwnFault
+  pub says : SaysWhole limit input edges own text
+  pub ends : EndsCopy edges own p
 
 abbrev pub GivesPrint : ℕ → TraceInput → Result Printed CliFault → List ℕ → Type 0
 GivesPrint limit input (Ok p) text = PrintsWhole limit input text p
@@ -34,13 +33,6 @@ GivesPrint limit input (Err _) text = ⊥
 abbrev pub HasReadPages : Option (List ℕ) → Result Printed CliFault → Type 0
 HasReadPages left (Ok p) = p.stop ≡ None → IsAtEnd left
 HasReadPages left (Err fault) = Unit {0}
-
--- a fault of reading, or want of memory
-abbrev pub IsNoPrint : CliFault → Type 0
-IsNoPrint TooLarge = Unit {0}
-IsNoPrint NoMemory = Unit {0}
-IsNoPrint ReadFailed = Unit {0}
-IsNoPrint _ = ⊥
 
 -- what the pages that were printed come to in the writer
 abbrev pub text_of_print : Format → Printed → List ℕ

@@ -11,17 +11,15 @@ use Rattle.pr_decode.specs.Taking.{HasReadings, last_time}
 use Rattle.pr_report.specs.declared.reading_line.Preceding.TheVariants.{Nothing}
 use Rattle.pr_report.specs.ReadingText.{all_lines, behind_all}
 use Rattle.pr_report.specs.Taking as survey
-use Rattle.pr_capture.specs.declared.format.TraceInput.{TraceInput}
 use Rattle.pr_input.specs.PartlyWritten.{AppendsFront}
-use Rattle.pr_cli.specs.Report.{edges_made, SaysSamples}
-use Rattle.pr_cli.specs.Reported.{HasGiven, HasMade, IsOwnFault}
+use Rattle.pr_cli.specs.Inputs.{EndsReading}
+use Rattle.pr_cli.specs.Sources.{IsOwnFault}
 use Rattle.pr_cli.specs.declared.fault.CliFault.{CliFault}
 use Rattle.pr_cli.specs.declared.fault.CliFault.TheVariants.{Wave, WriteFailed}
-use Rattle.pr_cli.specs.declared.source_reader.SourceReader.{SourceReader}
+use Rattle.pr_cli.specs.declared.input_reader.InputReader.{InputReader}
 use Rattle.pr_recording.specs.declared.reading_log.ReadingLog.{ReadingLog}
 use Rattle.pr_recording.specs.declared.decode_report.Ended.{Ended}
 use Rattle.pr_recording.specs.declared.decode_report.DecodeReport.{DecodeReport}
-use Rattle.pr_recording.specs.declared.report_builder.ReportBuilder.{ReportBuilder}
 use Rattle.pr_recording.specs.Decoded.{back_in, in_front, stop_at, told_of}
 
 -- Verdicts.
@@ -85,57 +83,17 @@ pub record EndsEdges (edges : List Edge) (written : List ℕ) (own : Option CliF
   pub stop : t.stop ≡ stop_at (back_in edges) own
   pub lines : written ++ t.lines.items ≡ told_of t.stop edges
 
--- Reports on samples.
-
--- these samples were taken
-pub record HasHeard (input : TraceInput) (samples : List Edge) (written : List ℕ) (t : ReportBuilder) : Type 0 where
-  pub edges : List Edge
-  pub made : HasMade input samples edges t.maker
-  pub narrated : HasNarrated edges written t.report
-
-abbrev pub edges_heard : ReportBuilder → ℕ
-edges_heard t = load t.report
-
 -- the lines that were not given up yet
-abbrev pub lines_in : ReportBuilder → List ℕ
-lines_in t = t.report.log.lines.items
-
--- with more samples
-abbrev pub HearsMore : List Edge → (old new : ReportBuilder) → Type 0
-HearsMore more old new = (input : TraceInput) (samples : List Edge) (written : List ℕ) → HasHeard input samples written old
-    → HasHeard input (samples ++ more) written new
+abbrev pub lines_in : DecodeReport → List ℕ
+lines_in n = n.log.lines.items
 
 -- the lines so far are given up
-abbrev pub GivesUp : (old new : ReportBuilder) → Type 0
-GivesUp old new = (input : TraceInput) (samples : List Edge) (written : List ℕ) → HasHeard input samples written old
-    → HasHeard input samples (written ++ lines_in old) new
+abbrev pub GivesUp : (old new : DecodeReport) → Type 0
+GivesUp old new = (edges : List Edge) (written : List ℕ) → HasNarrated edges written old → HasNarrated edges (written ++ lines_in old) new
 
--- the end of samples
-abbrev pub EndsSamples : ReportBuilder → (own : Option CliFault) → Ended → Type 0
-EndsSamples t own e = (input : TraceInput) (samples : List Edge) (written : List ℕ) → HasHeard input samples written t
-    → EndsEdges (edges_made input.source input.start samples) written own e
-
--- Blocks.
-
--- a text was taken, and its samples were told
-pub record HasNoted (input : TraceInput) (text written : List ℕ) (r : SourceReader) (t : ReportBuilder) : Type 0 where
-  pub samples : List Edge
-  pub given : HasGiven input text samples r
-  pub heard : HasHeard input samples written t
-
--- what a block comes to: its samples were told, or those before the input's fault
-abbrev pub NotesBlock : (block : List ℕ) → SourceReader → ReportBuilder → Option CliFault → SourceReader → ReportBuilder → Type 0
-NotesBlock block r t None s u = (input : TraceInput) (text written : List ℕ) → HasNoted input text written r t
-    → HasNoted input (text ++ block) written s u
-NotesBlock block r t (Some f) s u = IsOwnFault f × ((input : TraceInput) (text written : List ℕ) → HasNoted input text written r t
-    → (more : List ℕ) → (samples : List Edge) × SaysSamples input input.source ((text ++ block) ++ more) samples (Some f)
-    × HasHeard input samples written u)
-
--- what an input comes to that ends here, or has this fault here
-abbrev pub EndsNoted : SourceReader → ReportBuilder → Ended → Type 0
-EndsNoted r t e = (input : TraceInput) (text written : List ℕ) → HasNoted input text written r t
-    → (samples : List Edge) × (own : Option CliFault) × SaysSamples input input.source text samples own × IfSome own IsOwnFault
-    × EndsEdges (edges_made input.source input.start samples) written own e
+-- the end of an input of which the edges before the last block were told
+abbrev pub EndsNarrated : InputReader → DecodeReport → Ended → Type 0
+EndsNarrated r n e = (written : List ℕ) → EndsReading r (λ edges. HasNarrated edges written n) (λ edges own. EndsEdges edges written own e)
 
 -- why no more is told of an input: time goes back, or it has a fault of its own
 abbrev pub IsStop : CliFault → Type 0

@@ -1,15 +1,13 @@
 //! What printers print of a recording whose edges come one by one.
 
-ghost use Rattle.std.specs.Prelude.{◌≡◌, ◌+◌, ◌^◌, ◌<◌, ◌≤◌, ◌∷◌, [], List, IfOk, OnOk};
-ghost use Rattle.std.specs.Option.{option_to_list};
+ghost use Rattle.std.specs.Prelude.{◌≡◌, ◌+◌, ◌^◌, ◌<◌, ◌≤◌, ◌∷◌, [], List, length, IfOk, OnOk};
 ghost use Rattle.pr_wire.specs.declared.Edge.{Edge};
 ghost use Rattle.pr_recording.specs.Taking.{number_taken};
-ghost use Rattle.pr_recording.specs.Copied.{CopiesMore, EndsCopy, EndsPages, HasCopied, HasPaged, PagesMore, PrintsReading, edges_copied, edges_paged, inputs_paged, inputs_printed};
+ghost use Rattle.pr_recording.specs.Copied.{CopiesMore, EndsCopy, HasCopied, PrintsReading, edges_copied, inputs_printed};
 
 use crate::decode_report::stop_at;
 use crate::printer_pair::{PrintedPages, PrinterPair};
-use pr_capture::TraceInput;
-use pr_cli::{CliFault, EdgeMaker};
+use pr_cli::CliFault;
 use pr_decode::{Decoder, GoesBack, Reading, readings_add_up};
 use pr_page::NoMemory;
 use pr_wire::Edge;
@@ -63,7 +61,7 @@ impl CapturePrinter {
     }
 
     /// Takes the next edge. Preceding one at which time goes back it takes none.
-    pub fn take(&mut self, edge: Edge) -> Result<(), NoMemory>
+    fn take(&mut self, edge: Edge) -> Result<(), NoMemory>
         requires room { inputs_printed self.old < 2 ^ 32 }
         requires few { edges_copied self.old + 1 < 2 ^ 64 }
         ensures copied { OnOk result (CopiesMore (edge ∷ []) self.old self.new) }
@@ -85,18 +83,18 @@ impl CapturePrinter {
         }
     }
 
-    /// Takes the next edge, if there is one.
-    pub fn take_if(&mut self, edge: Option<Edge>) -> Result<(), NoMemory>
-        requires room { inputs_printed self.old < 2 ^ 32 }
-        requires few { edges_copied self.old + 1 < 2 ^ 64 }
-        ensures copied { OnOk result (CopiesMore (option_to_list edge) self.old self.new) }
-        ensures edges { edges_copied self.new ≤ edges_copied self.old + 1 }
-        ensures inputs { inputs_printed self.new ≤ inputs_printed self.old + 1 }
+    /// Takes the next edges, in order.
+    pub fn take_all(&mut self, edges: &[Edge]) -> Result<(), NoMemory>
+        requires room { inputs_printed self.old + length edges.now ≤ 2 ^ 32 }
+        requires few { edges_copied self.old + length edges.now < 2 ^ 64 }
+        ensures copied { OnOk result (CopiesMore edges.now self.old self.new) }
+        ensures edges { OnOk result (edges_copied self.new ≤ edges_copied self.old + length edges.now) }
+        ensures inputs { OnOk result (inputs_printed self.new ≤ inputs_printed self.old + length edges.now) }
     {
-        match edge {
-            Some(edge) => self.take(edge),
-            None => Ok(()),
+        for edge in edges {
+            self.take(*edge)?;
         }
+        Ok(())
     }
 
     /// Ends the edges of an input with this fault, if it has one. Where nothing stops them, what the end
@@ -115,53 +113,5 @@ impl CapturePrinter {
         print_if(&mut self.reprint, cut)?;
         let pages = self.reprint.finish();
         Ok(Printed { pages, stop: None })
-    }
-}
-
-/// Prints what the samples of an input say, or its edges where it has edges.
-#[derive(Drop)]
-pub struct PageMaker {
-    maker: EdgeMaker,
-    printer: CapturePrinter,
-}
-
-impl PageMaker {
-    /// A maker that has taken nothing of an input. It takes no memory.
-    pub fn new(alloc: Global, input: TraceInput<'_>) -> PageMaker
-        ensures paged { HasPaged input.entry [] result }
-        ensures edges { edges_paged result ≡ 0 }
-        ensures inputs { inputs_paged result ≡ 0 }
-    {
-        PageMaker {
-            maker: EdgeMaker::new(input),
-            printer: CapturePrinter::new(alloc),
-        }
-    }
-
-    /// Takes the next sample, or the next edge of an input that has edges, if there is one.
-    pub fn take_if(&mut self, sample: Option<Edge>) -> Result<(), NoMemory>
-        requires room { inputs_paged self.old < 2 ^ 32 }
-        requires few { edges_paged self.old + 1 < 2 ^ 64 }
-        ensures paged { OnOk result (PagesMore (option_to_list sample) self.old self.new) }
-        ensures edges { edges_paged self.new ≤ edges_paged self.old + 1 }
-        ensures inputs { inputs_paged self.new ≤ inputs_paged self.old + 1 }
-    {
-        let Some(sample) = sample else {
-            return Ok(());
-        };
-        let edge = self.maker.take(sample);
-        self.printer.take_if(edge)
-    }
-
-    /// Ends the samples of an input with this fault, if it has one.
-    pub fn finish(self, own: Option<CliFault>) -> Result<Printed, NoMemory>
-        requires room { inputs_paged self + 1 < 2 ^ 32 }
-        requires few { edges_paged self + 1 < 2 ^ 64 }
-        ensures { IfOk result (λ printed. EndsPages self own printed) }
-    {
-        let PageMaker { maker, mut printer } = self;
-        let last = maker.finish();
-        printer.take_if(last)?;
-        printer.finish(own)
     }
 }

@@ -4,17 +4,16 @@ ghost use Rattle.std.specs.Prelude.{◌≡◌, ◌≢◌, ◌+◌, ◌*◌, ◌^
 ghost use Rattle.std.specs.Io.KnownBytes.{Appends};
 ghost use Rattle.pr_cli.specs.Check.{trace_limit};
 ghost use Rattle.pr_input.specs.PartlyWritten.{AppendsFront};
-ghost use Rattle.pr_cli.specs.Reported.{lines_read};
-ghost use Rattle.pr_input.specs.Watched.{has_failed, wrapped};
+ghost use Rattle.pr_cli.specs.Inputs.{edges_read, lines_ahead};
+ghost use Rattle.pr_input.specs.Watched.{has_failed, is_flushed, wrapped};
 ghost use Rattle.pr_recording.specs.Decoded.{AnswersDecode, IsDecodeFault, ReadsAll};
-ghost use Rattle.pr_recording.specs.Narrated.{EndsNoted, GivesUp, NotesBlock, WritesEnd, edges_heard, lines_in};
+ghost use Rattle.pr_recording.specs.Narrated.{EndsNarrated, GivesUp, WritesEnd, lines_in, load};
 
-use crate::decode_report::Ended;
-use crate::report_builder::ReportBuilder;
+use crate::decode_report::{DecodeReport, Ended};
 use pr_capture::TraceInput;
 use pr_cli::{
-    BLOCK, CHECK_LIMIT, CliFault, SourceReader, Watched, WriteFault, made_edges_come_first,
-    own_fault, texts_say_samples, write_piece, write_whole,
+    BLOCK, CHECK_LIMIT, CliFault, InputReader, Watched, WriteFault, read_edges_come_first,
+    write_piece, write_whole,
 };
 use pr_decode::readings_add_up;
 use std::alloc::{AllocError, Global};
@@ -55,6 +54,7 @@ pub fn decode_over<R: Read, W: Write>(
     ensures own { IfErr result IsDecodeFault }
     ensures read_failed { IsErrOf result CliFault.ReadFailed ↔ (has_failed input.new ≡ true) }
     ensures write_failed { IsErrOf result CliFault.WriteFailed ↔ (has_failed output.new ≡ true) }
+    ensures flushed { OnOk result (is_flushed output.new ≡ true) }
 {
     decode_input(alloc, input, output, trace, CHECK_LIMIT)
 }
@@ -80,91 +80,49 @@ pub fn decode_input<R: Read, W: Write>(
     ensures own { IfErr result IsDecodeFault }
     ensures read_failed { IsErrOf result CliFault.ReadFailed ↔ (has_failed input.new ≡ true) }
     ensures write_failed { IsErrOf result CliFault.WriteFailed ↔ (has_failed output.new ≡ true) }
+    ensures flushed { OnOk result (is_flushed output.new ≡ true) }
 {
     readings_add_up();
-    texts_say_samples();
-    made_edges_come_first();
-    let mut reader = SourceReader::new(alloc, trace);
-    let mut builder = ReportBuilder::new(alloc, trace)?;
-    let mut left = limit;
+    read_edges_come_first();
+    let mut reader = InputReader::new(alloc, trace, limit);
+    let mut report = DecodeReport::new(alloc)?;
     let mut block = [0u8; BLOCK];
-    'pieces: loop {
-        match input.read(&mut block) {
-            Err(_) => return Err(CliFault::ReadFailed),
-            Ok(0) => return write_end(output, end_input(reader, builder)?),
-            Ok(n) => {
-                if n > left {
-                    return Err(CliFault::TooLarge);
-                }
-                left -= n;
-                if let Some(fault) = tell_block(&mut reader, &mut builder, &block[..n])? {
-                    return write_end(output, builder.finish(Some(fault))?);
-                }
-                write_lines(output, &mut builder)?;
-            }
+    'blocks: loop {
+        if !reader.read_block(input, &mut block)? {
+            return write_end(output, end_input(reader, report)?);
         }
+        report.take_all(reader.edges())?;
+        write_lines(output, &mut report)?;
     }
-}
-
-/// Tells the bytes of a block. Gives the input's fault, where one stands there.
-fn tell_block(
-    reader: &mut SourceReader<'_>,
-    builder: &mut ReportBuilder,
-    block: &[u8],
-) -> Result<Option<CliFault>, AllocError>
-    requires lines { lines_read reader.old + length block.now + 1 < 2 ^ 64 }
-    requires edges { edges_heard builder.old + 3 * length block.now + 3 < 2 ^ 64 }
-    ensures noted { IfOk result (λ fault. NotesBlock block.now reader.old builder.old fault reader.new builder.new) }
-    ensures lines { IfOk result (λ fault. fault ≡ None → lines_read reader.new ≤ lines_read reader.old + length block.now) }
-    ensures edges { OnOk result (edges_heard builder.new ≤ edges_heard builder.old + 3 * length block.now) }
-{
-    let mut rest = block;
-    while !rest.is_empty() {
-        match reader.take_front(rest) {
-            Ok((len, sample)) => {
-                builder.take_if(sample)?;
-                rest = &rest[len..];
-            }
-            Err(fault) => return Ok(Some(own_fault(fault)?)),
-        }
-    }
-    Ok(None)
 }
 
 /// Ends an input, and gives the last of what is told of it.
-fn end_input(reader: SourceReader<'_>, mut builder: ReportBuilder) -> Result<Ended, AllocError>
-    requires lines { lines_read reader + 1 < 2 ^ 64 }
-    requires edges { edges_heard builder + 9 < 2 ^ 64 }
-    ensures { IfOk result (λ ended. EndsNoted reader.entry builder ended) }
+fn end_input(reader: InputReader<'_>, mut report: DecodeReport) -> Result<Ended, AllocError>
+    requires lines { lines_ahead reader + 1 < 2 ^ 64 }
+    requires edges { load report + 3 * length (edges_read reader) + 9 < 2 ^ 64 }
+    ensures { IfOk result (λ ended. EndsNarrated reader.entry report ended) }
 {
-    match reader.finish() {
-        Ok(sample) => {
-            builder.take_if(sample)?;
-            builder.finish(None)
-        }
-        Err(fault) => {
-            let own = own_fault(fault)?;
-            builder.finish(Some(own))
-        }
-    }
+    let last = reader.finish()?;
+    report.take_all(last.edges.as_slice())?;
+    report.finish(last.fault)
 }
 
 /// Writes the lines that are not written yet.
 fn write_lines<W: Write>(
     output: &mut Watched<W>,
-    builder: &mut ReportBuilder,
+    report: &mut DecodeReport,
 ) -> Result<(), CliFault>
     requires fresh { has_failed output.old ≡ false }
-    ensures ok { OnOk result (Appends (W.contents (wrapped output.old)) (W.contents (wrapped output.new)) (lines_in builder.old)) }
-    ensures err { OnErr result (AppendsFront (W.contents (wrapped output.old)) (W.contents (wrapped output.new)) (lines_in builder.old)) }
-    ensures given { OnOk result (GivesUp builder.old builder.new) }
-    ensures count { OnOk result (edges_heard builder.new ≡ edges_heard builder.old) }
+    ensures ok { OnOk result (Appends (W.contents (wrapped output.old)) (W.contents (wrapped output.new)) (lines_in report.old)) }
+    ensures err { OnErr result (AppendsFront (W.contents (wrapped output.old)) (W.contents (wrapped output.new)) (lines_in report.old)) }
+    ensures given { OnOk result (GivesUp report.old report.new) }
+    ensures count { OnOk result (load report.new ≡ load report.old) }
     ensures own { IfErr result (λ fault. fault ≡ CliFault.WriteFailed) }
     ensures failed { IsErr result ↔ (has_failed output.new ≡ true) }
 {
-    match write_piece(output, builder.lines()) {
+    match write_piece(output, report.lines()) {
         Ok(()) => {
-            builder.clear();
+            report.clear();
             Ok(())
         }
         Err(WriteFault) => Err(CliFault::WriteFailed),
@@ -177,6 +135,7 @@ fn write_end<W: Write>(output: &mut Watched<W>, ended: Ended) -> Result<(), CliF
     requires stop { ended.stop ≢ Some CliFault.WriteFailed }
     ensures written { WritesEnd ended (W.contents (wrapped output.old)) (W.contents (wrapped output.new)) result }
     ensures failed { IsErrOf result CliFault.WriteFailed ↔ (has_failed output.new ≡ true) }
+    ensures flushed { OnOk result (is_flushed output.new ≡ true) }
 {
     match write_whole(output, ended.lines.as_slice()) {
         Ok(()) => {}

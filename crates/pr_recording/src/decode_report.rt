@@ -1,12 +1,11 @@
 //! What is told of edges that come one by one.
 
-ghost use Rattle.std.specs.Prelude.{◌≡◌, ◌+◌, ◌^◌, ◌<◌, ◌≤◌, ◌∷◌, ◌++◌, [], List, ℕ, IfOk, OnOk};
-ghost use Rattle.std.specs.Option.{option_to_list};
+ghost use Rattle.std.specs.Prelude.{◌≡◌, ◌+◌, ◌*◌, ◌^◌, ◌<◌, ◌≤◌, ◌∷◌, [], List, ℕ, length, IfOk, OnOk};
 ghost use Rattle.pr_wire.specs.declared.Edge.{Edge};
 ghost use Rattle.pr_wire.specs.declared.Frame.{Frame};
 ghost use Rattle.pr_wire.specs.Following.{HasFollowed};
 ghost use Rattle.pr_recording.specs.Decoded.{stop_at};
-ghost use Rattle.pr_recording.specs.Narrated.{EndsEdges, HasNarrated, IsFollowed, NarratesMore, load};
+ghost use Rattle.pr_recording.specs.Narrated.{EndsEdges, GivesUp, HasNarrated, IsFollowed, NarratesMore, lines_in, load};
 
 use crate::reading_log::ReadingLog;
 use pr_cli::CliFault;
@@ -50,7 +49,7 @@ impl DecodeReport {
     }
 
     /// Takes the next edge. Preceding one at which time goes back it takes none.
-    pub fn take(&mut self, edge: Edge) -> Result<(), AllocError>
+    fn take(&mut self, edge: Edge) -> Result<(), AllocError>
         requires room { load self.old + 3 < 2 ^ 64 }
         ensures narrated { OnOk result (NarratesMore (edge ∷ []) self.old self.new) }
         ensures load { OnOk result (load self.new ≤ load self.old + 3) }
@@ -71,29 +70,28 @@ impl DecodeReport {
         }
     }
 
-    /// Takes the next edge, if there is one.
-    pub fn take_if(&mut self, edge: Option<Edge>) -> Result<(), AllocError>
-        requires room { load self.old + 3 < 2 ^ 64 }
-        ensures narrated { OnOk result (NarratesMore (option_to_list edge) self.old self.new) }
-        ensures load { OnOk result (load self.new ≤ load self.old + 3) }
+    /// Takes the next edges, in order.
+    pub fn take_all(&mut self, edges: &[Edge]) -> Result<(), AllocError>
+        requires room { load self.old + 3 * length edges.now < 2 ^ 64 }
+        ensures narrated { OnOk result (NarratesMore edges.now self.old self.new) }
+        ensures load { OnOk result (load self.new ≤ load self.old + 3 * length edges.now) }
     {
-        match edge {
-            Some(edge) => self.take(edge),
-            None => Ok(()),
+        for edge in edges {
+            self.take(*edge)?;
         }
+        Ok(())
     }
 
     /// The lines that are not written yet.
     pub fn lines(&self) -> &[u8]
-        ensures { result.now ≡ self.now.log.lines.items }
+        ensures { result.now ≡ lines_in self.now }
     {
         self.log.lines()
     }
 
     /// Gives up these lines, once they are written.
     pub fn clear(&mut self)
-        ensures cleared { (edges : List Edge) (written : List ℕ) → HasNarrated edges written self.old →
-            HasNarrated edges (written ++ self.old.log.lines.items) self.new }
+        ensures cleared { GivesUp self.old self.new }
         ensures load { load self.new ≡ load self.old }
     {
         self.log.clear();

@@ -6,7 +6,7 @@
 //! it in their place, as `specs/Pages.antt` defines them.
 //!
 //! - `decode` reads block by block, and writes what a block settles before it reads the next.
-//!   `report_builder` makes the edges of the samples; `decode_report` takes them up to where time goes back,
+//!   `decode_report` takes the edges that pr_cli's `InputReader` gives up to where time goes back,
 //!   and hands each to a decoder and to pr_wire's follower, which says whether they are a lawful trace;
 //!   `reading_log` has the lines that are not written yet, and a survey of all readings.
 //! - `pages` has the same loop, with `capture_printer` in the report's place: it prints what the decoder
@@ -26,7 +26,6 @@ mod laws;
 mod pages;
 mod printer_pair;
 mod reading_log;
-mod report_builder;
 
 pub use capture_printer::Printed;
 pub use decode::{decode_input, decode_over};

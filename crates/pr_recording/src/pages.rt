@@ -2,19 +2,19 @@
 
 ghost use Rattle.std.specs.Prelude.{◌≡◌, ◌≢◌, ◌+◌, ◌^◌, ◌<◌, ◌≤◌, ◌↔◌, length, false, true, None, IfErr, IfOk, IfSome, IsErrOf, OnOk};
 ghost use Rattle.std.specs.Io.KnownBytes.{Keeps};
-ghost use Rattle.pr_cli.specs.Reported.{lines_read};
-ghost use Rattle.pr_input.specs.Watched.{has_failed, wrapped};
-ghost use Rattle.pr_recording.specs.Copied.{EndsText, PrintsBlock, edges_paged, inputs_paged};
-ghost use Rattle.pr_recording.specs.Copying.{GivesPrint, HasReadPages, IsNoPrint, IsPrintStop, WritesPrint};
+ghost use Rattle.pr_cli.specs.Inputs.{IsNoReading, edges_read, lines_ahead};
+ghost use Rattle.pr_input.specs.Watched.{has_failed, is_flushed, wrapped};
+ghost use Rattle.pr_recording.specs.Copied.{EndsPrinted, edges_copied, inputs_printed};
+ghost use Rattle.pr_recording.specs.Copying.{GivesPrint, HasReadPages, WritesPrint};
 ghost use Rattle.pr_recording.specs.Decoded.{IsDecodeFault, ReadsAll};
+ghost use Rattle.pr_recording.specs.Narrated.{IsStop};
 ghost use Rattle.pr_recording.specs.Pages.{AnswersPages, papers_alone, print_limit};
 
-use crate::capture_printer::{PageMaker, Printed};
+use crate::capture_printer::{CapturePrinter, Printed};
 use crate::printer_pair::PrintedPages;
 use pr_capture::TraceInput;
 use pr_cli::{
-    BLOCK, CliFault, SourceReader, Watched, WriteFault, own_fault, text_in_format,
-    texts_say_samples,
+    BLOCK, CliFault, InputReader, Watched, WriteFault, read_edges_come_first, text_in_format,
 };
 use pr_page::Sequence;
 use pr_render::Format;
@@ -61,8 +61,9 @@ pub fn reprint_over<R: Read, W: Write>(
     ensures own { IfErr result IsDecodeFault }
     ensures read_failed { IsErrOf result CliFault.ReadFailed ↔ (has_failed input.new ≡ true) }
     ensures write_failed { IsErrOf result CliFault.WriteFailed ↔ (has_failed output.new ≡ true) }
+    ensures flushed { OnOk result (is_flushed output.new ≡ true) }
 {
-    texts_say_samples();
+    read_edges_come_first();
     let printed = print_input(alloc, input, trace, PRINT_LIMIT)?;
     write_pages(alloc, output, printed, format)
 }
@@ -83,75 +84,31 @@ pub fn print_input<R: Read>(
     requires few { limit ≤ print_limit }
     ensures print { IfSome (R.remaining (wrapped input.old)) (λ text. GivesPrint limit trace.entry result text) }
     ensures at_end { HasReadPages (R.remaining (wrapped input.new)) result }
-    ensures stop { IfOk result (λ printed. IfSome printed.stop IsPrintStop) }
-    ensures own { IfErr result IsNoPrint }
+    ensures stop { IfOk result (λ printed. IfSome printed.stop IsStop) }
+    ensures own { IfErr result IsNoReading }
     ensures failed { IsErrOf result CliFault.ReadFailed ↔ (has_failed input.new ≡ true) }
 {
-    let mut reader = SourceReader::new(alloc, trace);
-    let mut maker = PageMaker::new(alloc, trace);
-    let mut left = limit;
+    let mut reader = InputReader::new(alloc, trace, limit);
+    let mut printer = CapturePrinter::new(alloc);
     let mut block = [0u8; BLOCK];
-    'pieces: loop {
-        match input.read(&mut block) {
-            Err(_) => return Err(CliFault::ReadFailed),
-            Ok(0) => return Ok(end_print(reader, maker)?),
-            Ok(n) => {
-                if n > left {
-                    return Err(CliFault::TooLarge);
-                }
-                left -= n;
-                if let Some(fault) = print_block(&mut reader, &mut maker, &block[..n])? {
-                    return Ok(maker.finish(Some(fault))?);
-                }
-            }
+    'blocks: loop {
+        if !reader.read_block(input, &mut block)? {
+            return Ok(end_print(reader, printer)?);
         }
+        printer.take_all(reader.edges())?;
     }
-}
-
-/// Prints what the bytes of a block say. Gives the input's fault, where one stands there.
-fn print_block(
-    reader: &mut SourceReader<'_>,
-    maker: &mut PageMaker,
-    block: &[u8],
-) -> Result<Option<CliFault>, AllocError>
-    requires lines { lines_read reader.old + length block.now + 1 < 2 ^ 64 }
-    requires edges { edges_paged maker.old + length block.now + 1 < 2 ^ 64 }
-    requires inputs { inputs_paged maker.old + length block.now < 2 ^ 32 }
-    ensures printed { IfOk result (λ fault. PrintsBlock block.now reader.old maker.old fault reader.new maker.new) }
-    ensures lines { IfOk result (λ fault. fault ≡ None → lines_read reader.new ≤ lines_read reader.old + length block.now) }
-    ensures edges { OnOk result (edges_paged maker.new ≤ edges_paged maker.old + length block.now) }
-    ensures inputs { OnOk result (inputs_paged maker.new ≤ inputs_paged maker.old + length block.now) }
-{
-    let mut rest = block;
-    while !rest.is_empty() {
-        match reader.take_front(rest) {
-            Ok((len, sample)) => {
-                maker.take_if(sample)?;
-                rest = &rest[len..];
-            }
-            Err(fault) => return Ok(Some(own_fault(fault)?)),
-        }
-    }
-    Ok(None)
 }
 
 /// Ends an input, and gives what was printed of it.
-fn end_print(reader: SourceReader<'_>, mut maker: PageMaker) -> Result<Printed, AllocError>
-    requires lines { lines_read reader + 1 < 2 ^ 64 }
-    requires edges { edges_paged maker + 2 < 2 ^ 64 }
-    requires inputs { inputs_paged maker + 2 < 2 ^ 32 }
-    ensures { IfOk result (λ printed. EndsText reader.entry maker printed) }
+fn end_print(reader: InputReader<'_>, mut printer: CapturePrinter) -> Result<Printed, AllocError>
+    requires lines { lines_ahead reader + 1 < 2 ^ 64 }
+    requires edges { edges_copied printer + length (edges_read reader) + 2 < 2 ^ 64 }
+    requires inputs { inputs_printed printer + length (edges_read reader) + 2 < 2 ^ 32 }
+    ensures { IfOk result (λ printed. EndsPrinted reader.entry printer printed) }
 {
-    match reader.finish() {
-        Ok(sample) => {
-            maker.take_if(sample)?;
-            maker.finish(None)
-        }
-        Err(fault) => {
-            let own = own_fault(fault)?;
-            maker.finish(Some(own))
-        }
-    }
+    let last = reader.finish()?;
+    printer.take_all(last.edges.as_slice())?;
+    Ok(printer.finish(last.fault)?)
 }
 
 /// The outcome that is these papers and nothing else.
@@ -176,10 +133,11 @@ fn write_pages<W: Write>(
     format: Format,
 ) -> Result<(), CliFault>
     requires fresh { has_failed output.old ≡ false }
-    requires stop { IfSome printed.stop IsPrintStop }
+    requires stop { IfSome printed.stop IsStop }
     ensures written { WritesPrint format printed (W.contents (wrapped output.old)) (W.contents (wrapped output.new)) result }
     ensures own { IfErr result IsDecodeFault }
     ensures failed { IsErrOf result CliFault.WriteFailed ↔ (has_failed output.new ≡ true) }
+    ensures flushed { OnOk result (is_flushed output.new ≡ true) }
 {
     let Printed { pages, stop } = printed;
     let present = pages.present;

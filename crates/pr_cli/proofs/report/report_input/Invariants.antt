@@ -1,16 +1,18 @@
-use Rattle.std.proofs.Common.{◌≡◌, ◌+◌, ◌≤◌, false}
-use Rattle.pr_cli.specs.Reported.{edges_heard, lines_read}
-use Rattle.pr_cli.proofs.ReportLemmas.{ReadSoFar}
+use Rattle.std.proofs.Common.{◌≡◌, ◌+◌, ◌<◌, ◌≤◌, false, length, None}
+use Rattle.pr_cli.specs.Inputs.{HasTakenAll, bytes_left, fault_read, lines_ahead}
+use Rattle.pr_cli.specs.Reported.{HasReported, edges_taken}
 use Rattle.pr_cli.proofs.report.report_input.Given as goal
 
--- the bytes so far were taken from the front and reported, and nothing has failed
-abbrev pub invariant-pieces : goal.invariant-pieces
-invariant-pieces g l = record {
-  read : ReadSoFar l.limit (g.R.Read.remaining l.fn.input.inner) (g.R.Read.remaining l.input.inner) l.fn.trace l.fn.report l.reader l.reporter l.left;
-  lines : lines_read l.reader + l.left ≤ l.limit + 1;
-  edges : edges_heard l.reporter + l.left ≤ l.limit;
+-- all edges so far were reported, and nothing has failed
+abbrev pub invariant-blocks : goal.invariant-blocks
+invariant-blocks g l = record {
+  read : HasTakenAll l.limit (g.R.Read.remaining l.fn.input.inner) (g.R.Read.remaining l.input.inner) l.fn.trace l.reader (λ edges. HasReported l.fn.report edges l.frames);
+  faultless : fault_read l.reader ≡ None;
+  lines : lines_ahead l.reader ≤ l.limit + 1;
+  edges : edges_taken l.frames + bytes_left l.reader ≤ l.limit;
   fresh : l.input.failed ≡ false;
+  room : 0 < length l.block;
 }
 
-abbrev pub decreases-pieces : goal.decreases-pieces
-decreases-pieces g l = l.left
+abbrev pub decreases-blocks : goal.decreases-blocks
+decreases-blocks g l = bytes_left l.reader

@@ -1,5 +1,5 @@
 use Rattle.std.proofs.Common.{◌+◌, ◌≤◌, length}
-use Rattle.pr_cli.specs.Reported.{lines_read}
+use Rattle.pr_cli.specs.Sources.{lines_read}
 use Rattle.pr_explain.proofs.InputLemmas.{ReadFront}
 use Rattle.pr_explain.proofs.input.read_input.Given as goal
 

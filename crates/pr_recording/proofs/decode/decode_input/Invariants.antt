@@ -1,18 +1,20 @@
-use Rattle.std.proofs.Common.{◌≡◌, ◌+◌, ◌*◌, ◌≤◌, false}
-use Rattle.pr_cli.specs.Reported.{lines_read}
-use Rattle.pr_recording.specs.Narrated.{edges_heard}
-use Rattle.pr_recording.proofs.Answering.{ReadSoFar}
+use Rattle.std.proofs.Common.{◌≡◌, ◌+◌, ◌*◌, ◌<◌, ◌≤◌, false, length, None}
+use Rattle.pr_cli.specs.Inputs.{HasTakenAll, bytes_left, fault_read, lines_ahead}
+use Rattle.pr_recording.specs.Narrated.{load}
+use Rattle.pr_recording.proofs.Answering.{HasWritten}
 use Rattle.pr_recording.proofs.decode.decode_input.Given as goal
 
--- the bytes so far were taken from the front and told, what was settled is written, and nothing has failed
-abbrev pub invariant-pieces : goal.invariant-pieces
-invariant-pieces g l = record {
-  read : ReadSoFar l.limit (g.R.Read.remaining l.fn.input.inner) (g.R.Read.remaining l.input.inner) (g.W.Write.contents l.fn.output.inner) (g.W.Write.contents l.output.inner) l.fn.trace l.reader l.builder l.left;
-  lines : lines_read l.reader + l.left ≤ l.limit + 1;
-  edges : edges_heard l.builder + 3 * l.left ≤ 3 * l.limit;
+-- all edges so far were told, what was settled is written, and nothing has failed
+abbrev pub invariant-blocks : goal.invariant-blocks
+invariant-blocks g l = record {
+  read : HasTakenAll l.limit (g.R.Read.remaining l.fn.input.inner) (g.R.Read.remaining l.input.inner) l.fn.trace l.reader (HasWritten (g.W.Write.contents l.fn.output.inner) (g.W.Write.contents l.output.inner) l.report);
+  faultless : fault_read l.reader ≡ None;
+  lines : lines_ahead l.reader ≤ l.limit + 1;
+  load : load l.report + 3 * bytes_left l.reader ≤ 3 * l.limit;
   fresh : l.input.failed ≡ false;
   clean : l.output.failed ≡ false;
+  room : 0 < length l.block;
 }
 
-abbrev pub decreases-pieces : goal.decreases-pieces
-decreases-pieces g l = l.left
+abbrev pub decreases-blocks : goal.decreases-blocks
+decreases-blocks g l = bytes_left l.reader

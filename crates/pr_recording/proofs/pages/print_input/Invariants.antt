@@ -1,18 +1,19 @@
-use Rattle.std.proofs.Common.{◌≡◌, ◌+◌, ◌≤◌, false}
-use Rattle.pr_cli.specs.Reported.{lines_read}
-use Rattle.pr_recording.specs.Copied.{edges_paged, inputs_paged}
-use Rattle.pr_recording.proofs.Printing.{ReadSoFar}
+use Rattle.std.proofs.Common.{◌≡◌, ◌+◌, ◌<◌, ◌≤◌, false, length, None}
+use Rattle.pr_cli.specs.Inputs.{HasTakenAll, bytes_left, fault_read, lines_ahead}
+use Rattle.pr_recording.specs.Copied.{HasCopied, edges_copied, inputs_printed}
 use Rattle.pr_recording.proofs.pages.print_input.Given as goal
 
--- the bytes so far were taken from the front and printed, and nothing has failed
-abbrev pub invariant-pieces : goal.invariant-pieces
-invariant-pieces g l = record {
-  read : ReadSoFar l.limit (g.R.Read.remaining l.fn.input.inner) (g.R.Read.remaining l.input.inner) l.fn.trace l.reader l.maker l.left;
-  lines : lines_read l.reader + l.left ≤ l.limit + 1;
-  edges : edges_paged l.maker + l.left ≤ l.limit;
-  inputs : inputs_paged l.maker + l.left ≤ l.limit;
+-- all edges so far were printed, and nothing has failed
+abbrev pub invariant-blocks : goal.invariant-blocks
+invariant-blocks g l = record {
+  read : HasTakenAll l.limit (g.R.Read.remaining l.fn.input.inner) (g.R.Read.remaining l.input.inner) l.fn.trace l.reader (λ edges. HasCopied edges l.printer);
+  faultless : fault_read l.reader ≡ None;
+  lines : lines_ahead l.reader ≤ l.limit + 1;
+  edges : edges_copied l.printer + bytes_left l.reader ≤ l.limit;
+  inputs : inputs_printed l.printer + bytes_left l.reader ≤ l.limit;
   fresh : l.input.failed ≡ false;
+  room : 0 < length l.block;
 }
 
-abbrev pub decreases-pieces : goal.decreases-pieces
-decreases-pieces g l = l.left
+abbrev pub decreases-blocks : goal.decreases-blocks
+decreases-blocks g l = bytes_left l.reader

@@ -1,0 +1,194 @@
+-- Linking words, for proofs: which edges were read of an input that comes block by block. No reader needs to believe them.
+use Rattle.std.specs.Prelude.{◌≡◌, ℕ, ◌+◌, ◌<◌, ◌≤◌, Bool, true, false, List, [], ◌++◌, length, Option, Some, None, IfSome}
+use Rattle.std.specs.Io.KnownBytes.{Consumes, IsAtEnd}
+use Rattle.std.specs.Option.{option_to_list}
+use Rattle.pr_wire.specs.declared.Edge.{Edge}
+use Rattle.pr_capture.specs.declared.format.TraceInput.{TraceInput}
+use Rattle.pr_cli.specs.Report.{edges_made, Says, SaysSamples}
+use Rattle.pr_cli.specs.Sources.{HasGiven, HasMade, IsOwnFault, lines_read}
+use Rattle.pr_cli.specs.declared.edge_maker.EdgeMaker.{EdgeMaker}
+use Rattle.pr_cli.specs.declared.edge_reader.EdgeReader.{EdgeReader}
+use Rattle.pr_cli.specs.declared.edge_reader.LastEdges.{LastEdges}
+use Rattle.pr_cli.specs.declared.input_reader.InputReader.{InputReader}
+use Rattle.pr_cli.specs.declared.source_reader.SourceReader.{SourceReader}
+use Rattle.pr_cli.specs.declared.fault.CliFault.{CliFault}
+use Rattle.pr_cli.specs.declared.fault.CliFault.TheVariants.{TooLarge, NoMemory, ReadFailed}
+
+-- What an input says.
+
+-- an input says these edges first
+pub record SaysFirst (input : TraceInput) (text : List ℕ) (given : List Edge) : Type 0 where
+  pub edges : List Edge
+  pub fault : Option CliFault
+  pub says : Says input text edges fault
+  pub later : List Edge
+  pub first : edges ≡ given ++ later
+
+-- the bytes of an input in blocks.
+
+-- a text was taken, and these edges of it are known
+pub record HasReached (input : TraceInput) (text : List ℕ) (edges : List Edge) (r : SourceReader) (m : EdgeMaker) : Type 0 where
+  pub samples : List Edge
+  pub given : HasGiven input text samples r
+  pub made : HasMade input samples edges m
+
+-- whatever follows, an input says samples that make these edges, and then has this fault
+pub record IsFaulty (input : TraceInput) (text : List ℕ) (edges : List Edge) (m : EdgeMaker) (f : CliFault) : Type 0 where
+  pub samples : List Edge
+  pub says : SaysSamples input input.source text samples (Some f)
+  pub made : HasMade input samples edges m
+
+-- and the text has no fault, or has this one whatever follows
+abbrev pub HasReachedOr : TraceInput → (text : List ℕ) → (edges : List Edge) → SourceReader → EdgeMaker → Option CliFault → Type 0
+HasReachedOr input text edges r m None = HasReached input text edges r m
+HasReachedOr input text edges r m (Some f) = IsOwnFault f × ((more : List ℕ) → IsFaulty input (text ++ more) edges m f)
+
+-- with a sample more, if there is one, these edges are known
+abbrev pub AddsSample : Option Edge → (there : List Edge) → EdgeMaker → (all : List Edge) → EdgeMaker → Type 0
+AddsSample sample there old all new = (input : TraceInput) (samples before : List Edge) → HasMade input samples (before ++ there) old
+    → HasMade input (samples ++ option_to_list sample) (before ++ all) new
+
+-- and at the end of the samples
+abbrev pub AddsLast : (there : List Edge) → EdgeMaker → (all : List Edge) → Type 0
+AddsLast there m all = (input : TraceInput) (samples before : List Edge) → HasMade input samples (before ++ there) m
+    → before ++ all ≡ edges_made input.source input.start samples
+
+-- the edges that a block makes known come after those there
+abbrev pub GivesBlock :
+    (block : List ℕ) → (there : List Edge) → SourceReader → EdgeMaker → Option CliFault → (all : List Edge) → SourceReader → EdgeMaker → Type 0
+GivesBlock block there r m fault all s n = (input : TraceInput) (text : List ℕ) (before : List Edge) → HasReached input text (before ++ there) r m
+    → HasReachedOr input (text ++ block) (before ++ all) s n fault
+
+-- what an input says that has had no fault before its end
+abbrev pub EndsSource : SourceReader → EdgeMaker → (there all : List Edge) → Option CliFault → Type 0
+EndsSource r m there all fault = (input : TraceInput) (text : List ℕ) (before : List Edge) → HasReached input text (before ++ there) r m
+    → Says input text (before ++ all) fault × IfSome fault IsOwnFault
+
+-- the edges of the last block
+abbrev pub edges_in : EdgeReader → List Edge
+edges_in r = r.edges.items
+
+-- the fault of the text that a reader has taken, if it has one
+abbrev pub fault_in : EdgeReader → Option CliFault
+fault_in r = r.fault
+
+-- how many lines were read of an input that may go on, with the one that has begun in some formats
+abbrev pub lines_at : Option CliFault → SourceReader → ℕ
+lines_at None r = lines_read r
+lines_at (Some f) r = 0
+
+abbrev pub lines_taken : EdgeReader → ℕ
+lines_taken r = lines_at r.fault r.reader
+
+-- the reader has taken this text: these edges of it are known, and then those of the last block
+abbrev pub HasEdges : TraceInput → (text : List ℕ) → (given : List Edge) → EdgeReader → Type 0
+HasEdges input text given r = HasReachedOr input text (given ++ edges_in r) r.reader r.maker r.fault
+
+-- a block more was taken
+abbrev pub GivesEdges : (block : List ℕ) → (old new : EdgeReader) → Type 0
+GivesEdges block old new = (input : TraceInput) (text : List ℕ) (given : List Edge) → HasEdges input text given old
+    → HasEdges input (text ++ block) (given ++ edges_in old) new
+
+-- what an input says that ends here, or has had its fault whatever follows
+abbrev pub SaysAll : EdgeReader → LastEdges → Type 0
+SaysAll r last = (input : TraceInput) (text more : List ℕ) (given : List Edge) → HasEdges input text given r
+    → (fault_in r ≡ None → more ≡ []) → Says input (text ++ more) (given ++ last.edges.items) last.fault × IfSome last.fault IsOwnFault
+
+-- Reading blocks.
+
+-- the edges of the last block
+abbrev pub edges_read : InputReader → List Edge
+edges_read r = edges_in r.edges
+
+-- the input has had its fault
+abbrev pub fault_read : InputReader → Option CliFault
+fault_read r = fault_in r.edges
+
+-- how many bytes may still come
+abbrev pub bytes_left : InputReader → ℕ
+bytes_left r = r.left
+
+-- how many lines were read, or may still be: each takes at least a byte
+abbrev pub lines_ahead : InputReader → ℕ
+lines_ahead r = lines_taken r.edges + r.left
+
+-- these bytes came from a reader: these edges of them are known, and then those of the last block; the rest of the limit may still come
+pub record HasReadEdges (limit : ℕ) (start now : Option (List ℕ)) (input : TraceInput) (given : List Edge) (r : InputReader) : Type 0 where
+  pub text : List ℕ
+  pub taken : Consumes start now text
+  pub known : HasEdges input text given r.edges
+  pub room : length text + r.left ≡ limit
+
+-- a block more was read
+abbrev pub ReadsEdges : (before after : Option (List ℕ)) → (old new : InputReader) → Type 0
+ReadsEdges before after old new =
+    (limit : ℕ) (start : Option (List ℕ)) (input : TraceInput) (given : List Edge) → HasReadEdges limit start before input given old
+    → HasReadEdges limit start after input (given ++ edges_read old) new
+
+-- an input that does not go on has ended, or has its fault
+abbrev pub StopsWell : (goes_on : Bool) → Option (List ℕ) → InputReader → Type 0
+StopsWell true left r = fault_read r ≡ None
+StopsWell false left r = fault_read r ≡ None → IsAtEnd left
+
+-- the input has more bytes than the limit
+abbrev pub IsTooLong : Option (List ℕ) → InputReader → Type 0
+IsTooLong before r = (limit : ℕ) (start : Option (List ℕ)) (input : TraceInput) (given : List Edge)
+    → HasReadEdges limit start before input given r → IfSome start (λ text. limit < length text)
+
+-- a fault of reading, or want of memory
+abbrev pub IsNoReading : CliFault → Type 0
+IsNoReading TooLarge = Unit {0}
+IsNoReading NoMemory = Unit {0}
+IsNoReading ReadFailed = Unit {0}
+IsNoReading _ = ⊥
+
+-- a text of at most so many bytes says these edges, or more bytes say them and then have this fault
+pub record SaysWhole (limit : ℕ) (input : TraceInput) (edges : List Edge) (fault : Option CliFault) (text : List ℕ) : Type 0 where
+  pub says : Says input text edges fault
+  pub short : fault ≡ None → length text ≤ limit
+
+-- what an input says that was read to its end, or to its first fault, and what follows of that
+pub record EndsHere (limit : ℕ) (start now : Option (List ℕ)) (input : TraceInput) (r : InputReader)
+    (claim : (edges : List Edge) → (fault : Option CliFault) → Type 0) : Type 0 where
+  pub edges : List Edge
+  pub fault : Option CliFault
+  pub own : IfSome fault IsOwnFault
+  pub kept : fault ≡ None → fault_read r ≡ None
+  pub says : (fault_read r ≡ None → IsAtEnd now) → IfSome start (SaysWhole limit input edges fault)
+  pub follows : claim edges fault
+
+-- that follows for whoever has taken the edges known before the last block
+abbrev pub EndsReading : InputReader → (taken : List Edge → Type 0) → (follows : List Edge → Option CliFault → Type 0) → Type 0
+EndsReading r taken follows =
+    (limit : ℕ) (start now : Option (List ℕ)) (input : TraceInput) (given : List Edge)
+    → HasReadEdges limit start now input given r → taken given → EndsHere limit start now input r follows
+
+-- the last edges of an input, and its fault
+abbrev pub EndsInputs : InputReader → LastEdges → Type 0
+EndsInputs r last = (limit : ℕ) (start now : Option (List ℕ)) (input : TraceInput) (given : List Edge)
+    → HasReadEdges limit start now input given r
+    → EndsHere limit start now input r (λ edges fault. (edges ≡ given ++ last.edges.items) × (fault ≡ last.fault))
+
+-- Who takes edges: all that are known, or all before the last block.
+
+pub record HasTakenAll (limit : ℕ) (start now : Option (List ℕ)) (input : TraceInput) (r : InputReader) (claim : List Edge → Type 0) : Type 0 where
+  pub given : List Edge
+  pub read : HasReadEdges limit start now input given r
+  pub taken : claim (given ++ edges_read r)
+
+pub record HasTakenBefore (limit : ℕ) (start now : Option (List ℕ)) (input : TraceInput) (r : InputReader) (claim : List Edge → Type 0) : Type 0 where
+  pub given : List Edge
+  pub read : HasReadEdges limit start now input given r
+  pub taken : claim given
+
+-- Laws.
+
+-- whatever follows what was read of an input, it says the edges known first
+abbrev pub ReadEdgesComeFirst : Type 0
+ReadEdgesComeFirst =
+    (limit : ℕ) (start now : Option (List ℕ)) (input : TraceInput) (given : List Edge) (r : InputReader)
+    → HasReadEdges limit start now input given r → IfSome start (λ text. SaysFirst input text (given ++ edges_read r))
+
+-- each text says something in each format
+abbrev pub EachTextSaysEdges : Type 0
+EachTextSaysEdges = (input : TraceInput) (text : List ℕ) → SaysFirst input text []
