@@ -1,5 +1,5 @@
 -- Edges that are followed to the first that is not allowed.
-use Rattle.std.proofs.Common.{◌≡◌, ℕ, ◌+◌, ◌<◌, ◌≤◌, Bool, true, false, not, ◌&&◌, ◌||◌, List, [], ◌∷◌, ◌++◌, length, refl, ap, subst, sym, ◌∙◌, arith, append_assoc, append-nil, length-append, Option, Some, None, Result, Ok, Err}
+use Rattle.std.proofs.Common.{◌≡◌, ℕ, ◌+◌, ◌<◌, ◌≤◌, ◌^◌, Bool, true, false, not, ◌&&◌, ◌||◌, List, [], ◌∷◌, ◌++◌, length, refl, ap, subst, sym, ◌∙◌, arith, append_assoc, append-nil, length-append, Option, Some, None, Result, Ok, Err}
 use Rattle.std.specs.Prelude.{◌↔◌, ◌==◌, IsTrue, if◌then◌else◌, nat_lt}
 use Rattle.std.specs.List.{list_any}
 use Rattle.std.specs.Result.{result_err}
@@ -63,25 +63,24 @@ first_row = record { levels = record { atn = true; clock = true; line = true }; 
 zero : (t : ℕ) → (t == 0) ≡ (not (nat_lt t 0) && not (nat_lt 0 t))
 zero t = grind (arith, common_steps)
 
+and_true : (z : Bool) → z && true ≡ z
+and_true true = refl
+and_true false = refl
+
+and_false : (z : Bool) → z && false ≡ false
+and_false true = refl
+and_false false = refl
+
+or_false : (z : Bool) → z || false ≡ z
+or_false true = refl
+or_false false = refl
+
 -- tests in another order
 tests : (z n a c l : Bool) → z ≡ n → (z && (a && (c && l))) ≡ (a && (c && (l && n))) || false
-tests z true true true true e = e ∙ refl
-tests z false true true true e = rw e refl
-tests z n true true false e = by z
-  where
-    by : (z : Bool) → z && false ≡ false
-    by true = refl
-    by false = refl
-tests z n true false l e = by z
-  where
-    by : (z : Bool) → z && false ≡ false
-    by true = refl
-    by false = refl
-tests z n false c l e = by z
-  where
-    by : (z : Bool) → z && false ≡ false
-    by true = refl
-    by false = refl
+tests z n true true true e = and_true z ∙ (e ∙ sym (or_false n))
+tests z n true true false e = and_false z
+tests z n true false l e = and_false z
+tests z n false c l e = and_false z
 
 taken_if : (b : Bool) (s : Step) (w : WaveFault) → is_taken (if b then Ok s else Err w) ≡ b
 taken_if true s w = refl
@@ -141,7 +140,7 @@ follows_to edges rest more e f g w allowed is h count first followed refuses =
       frames = h.frames;
       rest = rest;
       cut = h.cut;
-      accepted = h.accepted ∙ ap (λ r. Ok (record { last = r.last; place = r.state; before = _; count = r.taken })) (sym refuses.stays);
+      accepted = h.accepted ∙ ap (λ r. Ok (where_led r h.frames)) (sym refuses.stays);
       count = ap (λ r. r.taken) refuses.stays ∙ omega (arith, count, ap length h.cut, length-append h.before rest);
       ends = (more, is, record {
         fault = w;

@@ -37,16 +37,19 @@ pub struct Followed {
 pub fn follow(edges: &[Edge]) -> Followed
     ensures { Follows edges.now result }
 {
+    allowed_traces();
     let mut follower = TraceFollower::new();
     let mut rest = edges;
     while let [edge, more @ ..] = rest {
-        if let Err(_fault) = follower.take(*edge) {
-            return Followed {
-                follower,
-                refused: Some(*edge),
-            };
+        match follower.take(*edge) {
+            Ok(_frame) => rest = more,
+            Err(_fault) => {
+                return Followed {
+                    follower,
+                    refused: Some(*edge),
+                };
+            }
         }
-        rest = more;
     }
     Followed {
         follower,

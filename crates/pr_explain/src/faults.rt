@@ -1,6 +1,7 @@
 //! The line of a trace text or of a recording that cannot be read, and what it should have.
 
-ghost use Rattle.std.specs.Prelude.{◌≡◌};
+ghost use Rattle.std.specs.Prelude.{◌≡◌, Some};
+ghost use Rattle.pr_cli.specs.Reported.{IsOwnFault};
 ghost use Rattle.pr_explain.specs.TracePlaces.{capture_line, fault_line};
 
 use crate::names::{begins_with_number, push_dump_names, push_table_names};
@@ -10,7 +11,7 @@ use pr_cli::CliFault;
 use pr_wire::{NoMemory, TraceFault};
 
 /// The line of a fault of an input, from 1. Other faults have none.
-pub fn line_of(fault: CliFault) -> Option<usize>
+fn line_of(fault: CliFault) -> Option<usize>
     ensures { result ≡ fault_line fault }
 {
     match fault {
@@ -40,16 +41,25 @@ fn line_of_capture(fault: CaptureFault) -> Option<usize>
     }
 }
 
-/// Adds the line of an input that has this fault of its own, and what it should have.
+/// The line of a fault of an input's own, from 1.
+pub fn own_line(fault: CliFault) -> usize
+    requires { IsOwnFault fault }
+    ensures { fault_line fault ≡ Some result }
+{
+    match line_of(fault) {
+        Some(line) => line,
+        None => unreachable!(),
+    }
+}
+
+/// Adds the line of an input, of this number, that has this fault, and what it should have.
 pub fn push_fault(
     text: &mut String,
     bytes: &[u8],
     input: TraceInput<'_>,
     fault: CliFault,
+    number: usize,
 ) -> Result<(), NoMemory> {
-    let Some(number) = line_of(fault) else {
-        return Ok(());
-    };
     let line = line_with(bytes, number);
     write!(text, "  line {number}: {}\n", Cut(without_end(line)))?;
     let signals = input.signals;

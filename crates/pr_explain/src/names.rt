@@ -111,7 +111,7 @@ fn split_word(bytes: &[u8]) -> (&[u8], &[u8])
         }
         start = i + 1;
     }
-    (&bytes[start..], &[])
+    (&bytes[start.min(bytes.len())..], &[])
 }
 
 /// Whether the first field of a line is digits, points, signs and, after a digit, the letter of an
@@ -184,5 +184,6 @@ fn unframed(field: &[u8]) -> &[u8] {
             end = i + 1;
         }
     }
-    &field[start..end]
+    let end = end.min(field.len());
+    &field[start.min(end)..end]
 }
