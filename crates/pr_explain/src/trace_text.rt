@@ -156,9 +156,10 @@ fn push_refused(
     place: EdgePlace,
     start: u64,
 ) -> Result<(), NoMemory> {
-    let (Some(edge), Some(last)) = (followed.refused, followed.follower.last) else {
+    let (Some(refused), Some(last)) = (followed.refused, followed.follower.last) else {
         return Ok(());
     };
+    let edge = refused.edge;
     write!(text, "{}\n  the edge before it: ", Shown { edge, start })?;
     push_last(text, followed, place, start)?;
     match (place.fault, place.missed) {

@@ -1,15 +1,20 @@
-use Rattle.std.proofs.Common.{rules, List, ◌≡◌, ℕ, ◌+◌, ◌-◌, ◌*◌, ◌<◌, ◌≤◌, length, ◌/◌, ◌%◌, Bool, true, false, nat_eq, nat_lt, [], ◌∷◌, ◌++◌, slice_index_or, slice_set, bit_and, bit_or, Fits, w8, w32, w64, Bor, MutBor}
-use Rattle.pr_wire.specs.declared.Edge.{Edge}
-use Rattle.pr_wire.specs.declared.Frame.{Frame}
-use Rattle.pr_wire.specs.Following.{HasAccepted}
-use Rattle.pr_explain.specs.Followed.{Follows}
-use Rattle.pr_explain.specs.TracePlaces.{AreRowsAfter, StopsAt}
+use Rattle.std.proofs.Common.{arith, ap, length, subst}
+use Rattle.pr_explain.specs.Followed.{HasFront}
+use Rattle.pr_explain.proofs.EdgeLemmas.{follows_to, front_more, split_front}
 use Rattle.pr_explain.proofs.edges.follow.Goals as goal
 
--- src/edges.rt:43:5
 pub loop-rest-preserved : goal.loop-rest-preserved
-loop-rest-preserved c = ?
+loop-rest-preserved c =
+    let is = split_front c.loop-rest.rest.now _ c.in-len1-up.len_at_least in
+    record {
+      front =
+          front_more _ _ _ c.loop-rest.follower c.take.new.self _ (subst (λ l. HasFront c.args.edges.now l c.loop-rest.follower) is c.loop-rest.invariant.front)
+          c.in-Ok.ensures.accepted c.in-Ok.ensures.works.1;
+      count = omega (arith, c.in-Ok.ensures.count, ap length is, c.loop-rest.invariant.count);
+    }
 
--- src/edges.rt:47:17
 pub returns-in-Err : goal.returns-in-Err
-returns-in-Err c = ?
+returns-in-Err c =
+    let is = split_front c.loop-rest.rest.now _ c.in-len1-up.len_at_least in
+    follows_to c.args.edges.now c.loop-rest.rest.now _ _ c.loop-rest.follower c.take.new.self c.in-Err.fault c.allowed_traces.ensures.allowed is c.loop-rest.invariant.front c.loop-rest.invariant.count c.in-Err.ensures.fault
+    (λ es fs h. (_, c.in-Err.ensures.followed es fs h)) c.in-Err.ensures.refuses
