@@ -17,13 +17,18 @@ use Rattle.pr_wire.specs.Following.{HasAccepted, HasFollowed, Refuses, outcome, 
 use Rattle.pr_wire.specs.Laws.{AllowedIsReached, OneEdgeMore}
 use Rattle.pr_wire.specs.Reached.{Reached, begin, first_step, indexed, led, one_more, onto, reached, step_of}
 use Rattle.pr_wire.specs.Table.{IsAllowed, fault_of, verdict}
+use Rattle.pr_capture.specs.declared.format.TraceInput.{TraceInput}
+use Rattle.pr_cli.specs.Report.{Says}
+use Rattle.pr_cli.specs.declared.fault.CliFault.{CliFault}
 use Rattle.pr_explain.specs.declared.edges.EdgePlace.{EdgePlace}
 use Rattle.pr_explain.specs.declared.edges.Followed.{Followed}
 use Rattle.pr_explain.specs.declared.edges.Refused.{Refused}
 use Rattle.pr_explain.specs.declared.rows.Row.{Row}
+use Rattle.pr_explain.specs.declared.traces.ReadingPlace.{ReadingPlace}
+use Rattle.pr_explain.specs.declared.traces.TracePlace.{TracePlace}
 use Rattle.pr_explain.specs.Followed.{EndsAt, Follows, HasFront, IsRefused}
 use Rattle.pr_explain.specs.Rows.{AreRowsBehind, is_step, takes}
-use Rattle.pr_explain.specs.TracePlaces.{AreRowsAfter, AreStopped, StopAfter, StopsAt, missed_by, missed_first, row_to}
+use Rattle.pr_explain.specs.TracePlaces.{AreRowsAfter, AreStopped, IsPlaceOf, IsPlaceRead, IsReadingPlace, IsTracePlace, StopAfter, StopsAt, missed_by, missed_first, row_to}
 
 -- a step is taken
 abbrev is_taken : Result Step WaveFault → Bool
@@ -217,3 +222,14 @@ stops_at_end whole edges r v w rows p allowed all is none h gives are index faul
       expected = subst (λ l. AreRowsAfter l h.before) (sym expected) (are h.before h.frames h.accepted);
       missed = missed;
     }
+
+-- the place of what an input says
+pub trace_place : (input : TraceInput) (bytes : List ℕ) (edges all : List Edge) (own : Option CliFault) (p : TracePlace) (followed : Followed) → Says input bytes all own → edges ≡ all → Follows edges followed
+    → ((es : List Edge) → Follows es followed → IsPlaceOf es own p) → IsTracePlace input bytes p
+trace_place input bytes edges all own p followed says same follows gives =
+    record { edges = all; own = own; says = says; is_place = subst (λ l. IsPlaceOf l own p) same (gives edges follows) }
+
+pub reading_place : (input : TraceInput) (bytes : List ℕ) (edges all : List Edge) (own : Option CliFault) (v p : Option ReadingPlace) → Says input bytes all own → edges ≡ all → IsPlaceRead edges own v → v ≡ p
+    → IsReadingPlace input bytes p
+reading_place input bytes edges all own v p says same is found =
+    record { edges = all; own = own; says = says; is_place = subst (λ o. IsPlaceRead all own o) found (subst (λ l. IsPlaceRead l own v) same is) }

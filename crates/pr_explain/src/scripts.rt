@@ -74,6 +74,7 @@ pub fn explain_script(
 /// The line of the first fault.
 fn line_of(script: &[u8], place: usize, fault: ScriptFault) -> LineAt<'_>
     requires { IsFirstFaultAt script.now fault place }
+    ensures first { IsFirstFaultAt script.now fault place }
     ensures line { IsLineAt script.now place result.start result.bytes.now result.number }
 {
     faults_tell_their_line();

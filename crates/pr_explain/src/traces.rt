@@ -62,6 +62,9 @@ pub fn explain_trace(
     let followed = follow(edges);
     let place = place_of(&followed, fault);
     let mut text = String::new(alloc);
+    if place.line.is_none() && place.edge.is_none() {
+        return Ok(Explanation { place, text });
+    }
     if let (Some(fault), Some(number)) = (fault, place.line) {
         push_fault(&mut text, trace, input, fault, number)?;
     }
@@ -111,16 +114,21 @@ pub fn explain_reading(
     let said = read_input(alloc, recording, input)?;
     let fault = said.fault;
     let edges = said.edges.as_slice();
-    let place = place_read(edges, fault);
     let mut text = String::new(alloc);
+    let Some(place) = place_read(edges, fault) else {
+        return Ok(Explanation { place: None, text });
+    };
     match (place, fault) {
-        (Some(ReadingPlace::Edge(index)), _) => push_back(&mut text, edges, index, input)?,
-        (Some(ReadingPlace::Line(number)), Some(fault)) => {
+        (ReadingPlace::Edge(index), _) => push_back(&mut text, edges, index, input)?,
+        (ReadingPlace::Line(number), Some(fault)) => {
             push_fault(&mut text, recording, input, fault, number)?;
         }
-        _ => {}
+        (ReadingPlace::Line(_), None) => {}
     }
-    Ok(Explanation { place, text })
+    Ok(Explanation {
+        place: Some(place),
+        text,
+    })
 }
 
 /// Where edges go back in time, or else the line of the fault after them, if there is one.
