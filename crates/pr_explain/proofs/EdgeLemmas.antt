@@ -28,7 +28,7 @@ use Rattle.pr_explain.specs.declared.traces.ReadingPlace.{ReadingPlace}
 use Rattle.pr_explain.specs.declared.traces.TracePlace.{TracePlace}
 use Rattle.pr_explain.specs.Followed.{EndsAt, Follows, HasFront, IsRefused}
 use Rattle.pr_explain.specs.Rows.{AreRowsBehind, is_step, takes}
-use Rattle.pr_explain.specs.TracePlaces.{AreRowsAfter, AreStopped, IsPlaceOf, IsPlaceRead, IsReadingPlace, IsTracePlace, StopAfter, StopsAt, missed_by, missed_first, row_to}
+use Rattle.pr_explain.specs.TracePlaces.{AreRowsAfter, AreStopped, IsPlaceOf, IsPlaceRead, IsReadingPlace, IsTracePlace, StopAfter, StopsAt, fault_line, missed_by, missed_first, row_to}
 
 -- a step is taken
 abbrev is_taken : Result Step WaveFault → Bool
@@ -233,3 +233,15 @@ pub reading_place : (input : TraceInput) (bytes : List ℕ) (edges all : List Ed
     → IsReadingPlace input bytes p
 reading_place input bytes edges all own v p says same is found =
     record { edges = all; own = own; says = says; is_place = subst (λ o. IsPlaceRead all own o) found (subst (λ l. IsPlaceRead l own v) same is) }
+
+-- the place of whole edges, and of those before a line that cannot be read
+pub place_whole : (edges : List Edge) (own : Option CliFault) (edge : Option EdgePlace) → own ≡ None → StopsAt true edges edge → IsPlaceOf edges own (record { line = None; edge = edge })
+place_whole edges own edge is stops =
+    let p : TracePlace = record { line = None; edge = edge } in
+    subst (λ o. IsPlaceOf edges o p) (sym is) (refl, stops)
+
+pub place_cut : (edges : List Edge) (own : Option CliFault) (fault : CliFault) (n : ℕ) (edge : Option EdgePlace) → own ≡ Some fault → fault_line fault ≡ Some n → StopsAt false edges edge
+    → IsPlaceOf edges own (record { line = Some n; edge = edge })
+place_cut edges own fault n edge is line stops =
+    let p : TracePlace = record { line = Some n; edge = edge } in
+    subst (λ o. IsPlaceOf edges o p) (sym is) (n, refl, line, stops)
