@@ -154,10 +154,14 @@ follows_to edges rest more e f g w allowed is h count first followed refuses =
       cut = h.cut;
       accepted = h.accepted ∙ ap (λ r. Ok (where_led r h.frames)) (sym refuses.stays);
       count = ap (λ r. r.taken) refuses.stays ∙ omega (arith, count, ap length h.cut, length-append h.before rest);
-      ends = (more, is, record {
-        first = ap fault_of (h.cut ∙ ap (λ l. h.before ++ l) is) ∙ first h.before more h.frames of_f;
-        refused = λ a. let x = (allowed (h.before ++ e ∷ [])).0 a in absurd (let n : Err w ≡ Ok x.0 = sym not_ok ∙ x.1 in cc);
-      });
+      ends = (
+        more,
+        is,
+        record {
+          first = ap fault_of (h.cut ∙ ap (λ l. h.before ++ l) is) ∙ first h.before more h.frames of_f;
+          refused = λ a. let x = (allowed (h.before ++ e ∷ [])).0 a in absurd (let n : Err w ≡ Ok x.0 = sym not_ok ∙ x.1 in cc);
+        },
+      );
     }
 
 -- where edges stop of which one is not allowed

@@ -25,7 +25,7 @@ pub struct EdgePlace {
 }
 
 /// An edge that is not allowed.
-#[derive(Clone, Copy, Debug, PartialEq, Eq)]
+#[derive(Clone, Copy)]
 pub struct Refused {
     pub edge: Edge,
     pub fault: WaveFault,

@@ -71,9 +71,7 @@ pub fn push_fault(
         (CliFault::Capture(CaptureFault::NoSignal(_, wire)), Source::Csv) => {
             push_columns(text, line, wire, signals)
         }
-        (CliFault::Capture(fault), Source::Vcd) => {
-            write!(text, "  {}\n", rule_of_dumps(fault))
-        }
+        (CliFault::Capture(fault), Source::Vcd) => { write!(text, "  {}\n", rule_of_dumps(fault)) }
         (CliFault::Capture(fault), Source::Csv) => write!(text, "  {}\n", rule_of_tables(fault)),
         _ => push_text_rule(text, line),
     }
@@ -91,7 +89,11 @@ fn push_missing(
         Wire::Clock => ("CLOCK", signals.clock),
         Wire::Data => ("DATA", signals.line),
     };
-    write!(text, "  {line} is looked for as {}, and {no_signal} has that name\n", Cut(name))
+    write!(
+        text,
+        "  {line} is looked for as {}, and {no_signal} has that name\n",
+        Cut(name)
+    )
 }
 
 /// Why a line cannot name the columns of a table.
@@ -184,7 +186,10 @@ fn push_text_rule(text: &mut String, line: &[u8]) -> Result<(), NoMemory> {
          released, 0 pulled), as in 100 001\n"
     )?;
     if line.starts_with(b"$") {
-        write!(text, "  --from vcd reads Value Change Dumps, which have such lines\n")
+        write!(
+            text,
+            "  --from vcd reads Value Change Dumps, which have such lines\n"
+        )
     } else if line.contains(&b',') {
         write!(text, "  --from csv reads tables, which have such lines\n")
     } else {

@@ -141,7 +141,11 @@ pub fn push_table_names(text: &mut String, line: &[u8]) -> Result<(), NoMemory> 
     if name.is_empty() {
         write!(text, "  the first column is the time in seconds\n")?;
     } else {
-        write!(text, "  the first column, called {}, is the time in seconds\n", Cut(name))?;
+        write!(
+            text,
+            "  the first column, called {}, is the time in seconds\n",
+            Cut(name)
+        )?;
     }
     let mut count = 0;
     while !rest.is_empty() {

@@ -161,7 +161,10 @@ fn push_hints(text: &mut String, line: CutLine<'_>, fault: ScriptFault) -> Resul
     }
     let wants_number = !matches!(fault, ScriptFault::UnknownWord(_));
     if let Some(name) = foreign_word(line.before, line.rest, wants_number) {
-        write!(text, "  {name} not among OPEN, CMD, PRINT, PRINT#, CLOSE, REM and CHR$\n")?;
+        write!(
+            text,
+            "  {name} not among OPEN, CMD, PRINT, PRINT#, CLOSE, REM and CHR$\n"
+        )?;
     }
     Ok(())
 }

@@ -145,7 +145,11 @@ fn push_stop(
     if let Some(label) = place.basic_line {
         write!(text, " IN {label}")?;
     }
-    write!(text, " (statement {})\n  line {}: ", place.statement, place.line)?;
+    write!(
+        text,
+        " (statement {})\n  line {}: ",
+        place.statement, place.line
+    )?;
     write!(text, "{}\n  ", Cut(without_end(line)))?;
     push_reason(text, place, mode, stop)?;
     write!(text, "\n")

@@ -107,7 +107,12 @@ pub struct Shown {
 impl fmt::Display for Shown {
     fn fmt<W: fmt::Write>(&self, f: &mut fmt::Formatter<W>) -> fmt::Result {
         let (time, start) = (self.edge.time, self.start);
-        write!(f, "{time} {}{}", Digits(self.edge.levels), Recorded { time, start })
+        write!(
+            f,
+            "{time} {}{}",
+            Digits(self.edge.levels),
+            Recorded { time, start }
+        )
     }
 }
 

@@ -195,7 +195,11 @@ fn push_back(
         write!(text, "{}\n", Shown { edge: *edge, start })?;
     }
     if let Some(edge) = index.checked_sub(1).and_then(|before| edges.get(before)) {
-        write!(text, "  the edge before it: {}\n", Shown { edge: *edge, start })?;
+        write!(
+            text,
+            "  the edge before it: {}\n",
+            Shown { edge: *edge, start }
+        )?;
     }
     write!(text, "  it is earlier than the edge before it\n")
 }
