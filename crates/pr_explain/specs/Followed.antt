@@ -2,12 +2,12 @@
 use Rattle.std.specs.Prelude.{◌≡◌, ℕ, suc, ◌+◌, Bool, false, nat_lt, if◌then◌else◌, List, [], ◌∷◌, ◌++◌, length, Option, Some, None}
 use Rattle.pr_wire.specs.declared.Edge.{Edge}
 use Rattle.pr_wire.specs.declared.Frame.{Frame}
-use Rattle.pr_wire.specs.declared.WaveFault.{WaveFault}
 use Rattle.pr_wire.specs.declared.follower.TraceFollower.{TraceFollower}
-use Rattle.pr_wire.specs.Following.{HasAccepted, kept_fault}
+use Rattle.pr_wire.specs.Following.{HasAccepted}
 use Rattle.pr_wire.specs.Table.{IsAllowed, fault_of}
 use Rattle.pr_basic.specs.declared.statement.Statement.{Statement}
 use Rattle.pr_explain.specs.declared.edges.Followed.{Followed}
+use Rattle.pr_explain.specs.declared.edges.Refused.{Refused}
 use Rattle.pr_explain.specs.StopPlaces.{device_of}
 
 -- a follower has accepted the edges before these, and refused none
@@ -18,17 +18,15 @@ pub record HasFront (edges rest : List Edge) (f : TraceFollower) : Type 0 where
   pub accepted : HasAccepted before frames f
   pub works : f.refused ≡ None
 
--- a follower has refused an edge, which makes the first fault of all
-pub record IsRefused (edges before : List Edge) (e : Edge) (f : TraceFollower) : Type 0 where
-  pub fault : WaveFault
-  pub kept : kept_fault f ≡ Some fault
-  pub first : fault_of edges ≡ Some fault
-  pub refused : IsAllowed (before ++ e ∷ []) → ⊥
+-- an edge is not allowed after others, and makes the first fault of all
+pub record IsRefused (edges before : List Edge) (r : Refused) : Type 0 where
+  pub first : fault_of edges ≡ Some r.fault
+  pub refused : IsAllowed (before ++ r.edge ∷ []) → ⊥
 
 -- edges were followed to their end, or to the first that is not allowed
-abbrev pub EndsAt : (edges before : List Edge) → TraceFollower → Option Edge → (rest : List Edge) → Type 0
+abbrev pub EndsAt : (edges before : List Edge) → TraceFollower → Option Refused → (rest : List Edge) → Type 0
 EndsAt edges before f None rest = (rest ≡ []) × (f.refused ≡ None)
-EndsAt edges before f (Some e) rest = (more : List Edge) × (rest ≡ e ∷ more) × IsRefused edges before e f
+EndsAt edges before f (Some r) rest = (more : List Edge) × (rest ≡ r.edge ∷ more) × IsRefused edges before r
 
 pub record Follows (edges : List Edge) (r : Followed) : Type 0 where
   pub before : List Edge

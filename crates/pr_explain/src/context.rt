@@ -4,7 +4,7 @@ use crate::words::word_at;
 use pr_basic::ScriptFault;
 
 /// The statement around a place.
-#[derive(Clone, Copy, Debug, PartialEq, Eq)]
+#[derive(Clone, Copy, PartialEq)]
 enum Context {
     /// The place is where a line or a statement begins.
     Start,
@@ -120,7 +120,10 @@ fn wants_more(context: Context, before: &[u8]) -> bool {
 
 /// The last byte that is no space or tab.
 fn last_of(bytes: &[u8]) -> Option<u8> {
-    bytes.iter().copied().rfind(|byte| *byte != b' ' && *byte != b'\t')
+    bytes
+        .iter()
+        .copied()
+        .rfind(|byte| *byte != b' ' && *byte != b'\t')
 }
 
 /// The statement behind these bytes of a line.

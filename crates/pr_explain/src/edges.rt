@@ -1,6 +1,6 @@
 //! Where the edges of a trace stop being lawful.
 
-ghost use Rattle.std.specs.Prelude.{List};
+ghost use Rattle.std.specs.Prelude.{◌≡◌, List, None};
 ghost use Rattle.pr_wire.specs.declared.Edge.{Edge};
 ghost use Rattle.pr_wire.specs.declared.Frame.{Frame};
 ghost use Rattle.pr_wire.specs.Following.{HasAccepted};
@@ -24,29 +24,37 @@ pub struct EdgePlace {
     pub missed: Option<Miss>,
 }
 
+/// An edge that is not allowed.
+#[derive(Clone, Copy)]
+pub struct Refused {
+    pub edge: Edge,
+    pub fault: WaveFault,
+}
+
 /// How far edges are allowed.
 #[derive(Drop)]
 pub struct Followed {
     /// It has accepted the edges that are.
     pub follower: TraceFollower,
     /// The edge after them, which is not, if there is one.
-    pub refused: Option<Edge>,
+    pub refused: Option<Refused>,
 }
 
 /// Follows edges to the first that is not allowed.
 pub fn follow(edges: &[Edge]) -> Followed
     ensures { Follows edges.now result }
 {
+    allowed_traces();
     let mut follower = TraceFollower::new();
     let mut rest = edges;
     while let [edge, more @ ..] = rest {
-        if let Err(_fault) = follower.take(*edge) {
-            return Followed {
-                follower,
-                refused: Some(*edge),
-            };
+        match follower.take(*edge) {
+            Ok(_frame) => rest = more,
+            Err(fault) => {
+                let refused = Some(Refused { edge: *edge, fault });
+                return Followed { follower, refused };
+            }
         }
-        rest = more;
     }
     Followed {
         follower,
@@ -82,25 +90,33 @@ pub fn place_in(followed: &Followed, is_whole: bool) -> Option<EdgePlace>
     ensures { (edges : List Edge) → Follows edges followed.now → StopsAt is_whole edges result }
 {
     allowed_traces();
-    let index = followed.follower.taken;
+    let Some(refused) = followed.refused else {
+        return place_at_end(followed, is_whole);
+    };
     let expected = rows_after(&followed.follower);
-    if let Some(edge) = followed.refused {
-        let fault = followed.follower.fault()?;
-        let missed = missed_by(row_to(edge.levels, &expected), edge.time);
-        return Some(EdgePlace {
-            index,
-            fault,
-            expected,
-            missed,
-        });
-    }
+    let row = row_to(refused.edge.levels, &expected);
+    let missed = missed_by(row, refused.edge.time);
+    Some(EdgePlace {
+        index: followed.follower.taken,
+        fault: refused.fault,
+        expected,
+        missed,
+    })
+}
+
+/// The same of edges that are all allowed.
+fn place_at_end(followed: &Followed, is_whole: bool) -> Option<EdgePlace>
+    ensures { followed.now.refused ≡ None → (edges : List Edge) → Follows edges followed.now → StopsAt is_whole edges result }
+{
+    allowed_traces();
     if !is_whole {
         return None;
     }
+    let expected = rows_after(&followed.follower);
     match followed.follower.finish() {
         Ok(()) => None,
         Err(fault) => Some(EdgePlace {
-            index,
+            index: followed.follower.taken,
             fault,
             expected,
             missed: None,

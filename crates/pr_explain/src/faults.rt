@@ -1,6 +1,7 @@
 //! The line of a trace text or of a recording that cannot be read, and what it should have.
 
-ghost use Rattle.std.specs.Prelude.{◌≡◌};
+ghost use Rattle.std.specs.Prelude.{◌≡◌, Some};
+ghost use Rattle.pr_cli.specs.Sources.{IsOwnFault};
 ghost use Rattle.pr_explain.specs.TracePlaces.{capture_line, fault_line};
 
 use crate::names::{begins_with_number, push_dump_names, push_table_names};
@@ -10,7 +11,7 @@ use pr_cli::CliFault;
 use pr_wire::{NoMemory, TraceFault};
 
 /// The line of a fault of an input, from 1. Other faults have none.
-pub fn line_of(fault: CliFault) -> Option<usize>
+fn line_of(fault: CliFault) -> Option<usize>
     ensures { result ≡ fault_line fault }
 {
     match fault {
@@ -40,16 +41,25 @@ fn line_of_capture(fault: CaptureFault) -> Option<usize>
     }
 }
 
-/// Adds the line of an input that has this fault of its own, and what it should have.
+/// The line of a fault of an input's own, from 1.
+pub fn own_line(fault: CliFault) -> usize
+    requires { IsOwnFault fault }
+    ensures { fault_line fault ≡ Some result }
+{
+    match line_of(fault) {
+        Some(line) => line,
+        None => unreachable!(),
+    }
+}
+
+/// Adds the line of an input, of this number, that has this fault, and what it should have.
 pub fn push_fault(
     text: &mut String,
     bytes: &[u8],
     input: TraceInput<'_>,
     fault: CliFault,
+    number: usize,
 ) -> Result<(), NoMemory> {
-    let Some(number) = line_of(fault) else {
-        return Ok(());
-    };
     let line = line_with(bytes, number);
     write!(text, "  line {number}: {}\n", Cut(without_end(line)))?;
     let signals = input.signals;
@@ -61,9 +71,7 @@ pub fn push_fault(
         (CliFault::Capture(CaptureFault::NoSignal(_, wire)), Source::Csv) => {
             push_columns(text, line, wire, signals)
         }
-        (CliFault::Capture(fault), Source::Vcd) => {
-            write!(text, "  {}\n", rule_of_dumps(fault))
-        }
+        (CliFault::Capture(fault), Source::Vcd) => { write!(text, "  {}\n", rule_of_dumps(fault)) }
         (CliFault::Capture(fault), Source::Csv) => write!(text, "  {}\n", rule_of_tables(fault)),
         _ => push_text_rule(text, line),
     }
@@ -81,7 +89,11 @@ fn push_missing(
         Wire::Clock => ("CLOCK", signals.clock),
         Wire::Data => ("DATA", signals.line),
     };
-    write!(text, "  {line} is looked for as {}, and {no_signal} has that name\n", Cut(name))
+    write!(
+        text,
+        "  {line} is looked for as {}, and {no_signal} has that name\n",
+        Cut(name)
+    )
 }
 
 /// Why a line cannot name the columns of a table.
@@ -174,7 +186,10 @@ fn push_text_rule(text: &mut String, line: &[u8]) -> Result<(), NoMemory> {
          released, 0 pulled), as in 100 001\n"
     )?;
     if line.starts_with(b"$") {
-        write!(text, "  --from vcd reads Value Change Dumps, which have such lines\n")
+        write!(
+            text,
+            "  --from vcd reads Value Change Dumps, which have such lines\n"
+        )
     } else if line.contains(&b',') {
         write!(text, "  --from csv reads tables, which have such lines\n")
     } else {

@@ -111,7 +111,7 @@ fn split_word(bytes: &[u8]) -> (&[u8], &[u8])
         }
         start = i + 1;
     }
-    (&bytes[start..], &[])
+    (&bytes[start.min(bytes.len())..], &[])
 }
 
 /// Whether the first field of a line is digits, points, signs and, after a digit, the letter of an
@@ -141,7 +141,11 @@ pub fn push_table_names(text: &mut String, line: &[u8]) -> Result<(), NoMemory> 
     if name.is_empty() {
         write!(text, "  the first column is the time in seconds\n")?;
     } else {
-        write!(text, "  the first column, called {}, is the time in seconds\n", Cut(name))?;
+        write!(
+            text,
+            "  the first column, called {}, is the time in seconds\n",
+            Cut(name)
+        )?;
     }
     let mut count = 0;
     while !rest.is_empty() {
@@ -184,5 +188,6 @@ fn unframed(field: &[u8]) -> &[u8] {
             end = i + 1;
         }
     }
-    &field[start..end]
+    let end = end.min(field.len());
+    &field[start.min(end)..end]
 }

@@ -74,6 +74,7 @@ pub fn explain_script(
 /// The line of the first fault.
 fn line_of(script: &[u8], place: usize, fault: ScriptFault) -> LineAt<'_>
     requires { IsFirstFaultAt script.now fault place }
+    ensures first { IsFirstFaultAt script.now fault place }
     ensures line { IsLineAt script.now place result.start result.bytes.now result.number }
 {
     faults_tell_their_line();
@@ -160,7 +161,10 @@ fn push_hints(text: &mut String, line: CutLine<'_>, fault: ScriptFault) -> Resul
     }
     let wants_number = !matches!(fault, ScriptFault::UnknownWord(_));
     if let Some(name) = foreign_word(line.before, line.rest, wants_number) {
-        write!(text, "  {name} not among OPEN, CMD, PRINT, PRINT#, CLOSE, REM and CHR$\n")?;
+        write!(
+            text,
+            "  {name} not among OPEN, CMD, PRINT, PRINT#, CLOSE, REM and CHR$\n"
+        )?;
     }
     Ok(())
 }

@@ -34,17 +34,31 @@ impl fmt::Display for InWords<'_> {
             BusState::Pulse(_, _) => write!(f, "end-or-identify is answered"),
             BusState::After(_) => write!(f, "end-or-identify has been answered"),
             BusState::Bit { sending, seen, .. } => {
-                write!(f, "bit {} of {}, CLOCK is pulled", seen.len(), name_of(*sending))
+                write!(
+                    f,
+                    "bit {} of {}, CLOCK is pulled",
+                    seen.len(),
+                    name_of(*sending)
+                )
             }
             BusState::High { sending, seen, .. } => {
-                write!(f, "bit {} of {}, CLOCK is released", seen.len(), name_of(*sending))
+                write!(
+                    f,
+                    "bit {} of {}, CLOCK is released",
+                    seen.len(),
+                    name_of(*sending)
+                )
             }
             BusState::Last(_, role, _, _) => write!(f, "all bits have come of {}", name_of(*role)),
             BusState::Ack(_, role, _) => {
                 write!(f, "a printer has acknowledged {}", name_of(*role))
             }
             BusState::Freed { unlistened, .. } => {
-                write!(f, "attention has ended{}", if *unlistened { " with UNLISTEN" } else { "" })
+                write!(
+                    f,
+                    "attention has ended{}",
+                    if *unlistened { " with UNLISTEN" } else { "" }
+                )
             }
         }
     }
@@ -70,15 +84,16 @@ fn since(state: &BusState) -> u64 {
 /// Adds a line for a state.
 pub fn push_state(text: &mut String, state: &BusState, start: u64) -> Result<(), NoMemory> {
     let time = since(state);
-    write!(text, "  the place there: {}, since {}\n", InWords(state), Moment { time, start })
+    write!(
+        text,
+        "  the place there: {}, since {}\n",
+        InWords(state),
+        Moment { time, start }
+    )
 }
 
 /// Adds a line for each edge that may follow.
-pub fn push_rows(
-    text: &mut String,
-    rows: &[Option<Row>],
-    start: u64,
-) -> Result<(), NoMemory> {
+pub fn push_rows(text: &mut String, rows: &[Option<Row>], start: u64) -> Result<(), NoMemory> {
     let mut may_follow = false;
     for row in rows {
         if let Some(row) = row {
@@ -89,7 +104,10 @@ pub fn push_rows(
     if may_follow {
         return Ok(());
     }
-    write!(text, "  no edge could follow: it would have to come later than {LAST_TIME}\n")
+    write!(
+        text,
+        "  no edge could follow: it would have to come later than {LAST_TIME}\n"
+    )
 }
 
 /// Adds a line for an edge that may follow.
@@ -106,7 +124,10 @@ fn push_row(text: &mut String, row: Row, start: u64) -> Result<(), NoMemory> {
         }
         Some(time) => {
             let latest = Moment { time, start };
-            write!(text, "  could follow: {levels} from {earliest} to {latest}\n")
+            write!(
+                text,
+                "  could follow: {levels} from {earliest} to {latest}\n"
+            )
         }
     }
 }

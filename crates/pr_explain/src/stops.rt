@@ -5,7 +5,7 @@ ghost use Rattle.std.specs.String.{string_bytes};
 ghost use Rattle.pr_base.specs.Lines.{lines_of};
 ghost use Rattle.pr_basic.specs.Grammar.{IsScript};
 ghost use Rattle.pr_explain.specs.Followed.{IsDeviceAt};
-ghost use Rattle.pr_explain.specs.StopPlaces.{IsStatementLine, IsStopPlace, cause_of, is_absent, opened, opened_by};
+ghost use Rattle.pr_explain.specs.StopPlaces.{IsStatementLine, IsStopPlace, cause_of, device_of, is_absent, opened, opened_by};
 
 use crate::Explanation;
 use crate::texts::{Cut, without_end};
@@ -145,7 +145,11 @@ fn push_stop(
     if let Some(label) = place.basic_line {
         write!(text, " IN {label}")?;
     }
-    write!(text, " (statement {})\n  line {}: ", place.statement, place.line)?;
+    write!(
+        text,
+        " (statement {})\n  line {}: ",
+        place.statement, place.line
+    )?;
     write!(text, "{}\n  ", Cut(without_end(line)))?;
     push_reason(text, place, mode, stop)?;
     write!(text, "\n")
@@ -198,16 +202,27 @@ fn push_reason(
     }
 }
 
-/// The device of a statement, counted from 1: its own, or that of the last OPEN of its file before it.
+/// The device of a statement, counted from 1.
 fn device_at(statements: &[Statement], number: usize) -> Option<u8>
     requires some { 0 < number }
     requires within { number ≤ length statements.now }
     ensures { IsDeviceAt statements.now number result }
 {
-    match &statements[number - 1] {
+    let (before, rest) = statements.split_at(number - 1);
+    match rest {
+        [at, ..] => device_of(before, at),
+        [] => unreachable!(),
+    }
+}
+
+/// The device of a statement after others: its own, or that of the last OPEN of its file.
+fn device_of(before: &[Statement], at: &Statement) -> Option<u8>
+    ensures { result ≡ device_of before.now at.now }
+{
+    match at {
         Statement::OpenFile { device, .. } => Some(device.get()),
         Statement::Cmd { file, .. } | Statement::PrintTo { file, .. } => {
-            last_opened(&statements[..number - 1], *file)
+            last_opened(before, *file)
         }
         Statement::Print { .. } | Statement::CloseFile { .. } | Statement::Rem => None,
     }

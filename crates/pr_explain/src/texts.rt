@@ -30,10 +30,18 @@ pub struct Cut<'a>(pub &'a [u8]);
 
 impl fmt::Display for Cut<'_> {
     fn fmt<W: fmt::Write>(&self, f: &mut fmt::Formatter<W>) -> fmt::Result {
-        if self.0.len() <= SHOWN {
-            return write!(f, "{}", Escaped(self.0));
-        }
-        write!(f, "{}..", Escaped(&self.0[..SHOWN]))
+        let shown = front(self.0);
+        let dots = if shown.len() < self.0.len() { ".." } else { "" };
+        write!(f, "{}{dots}", Escaped(shown))
+    }
+}
+
+/// The first [`SHOWN`] bytes of a line, or all where they are fewer.
+fn front(line: &[u8]) -> &[u8] {
+    if line.len() < SHOWN {
+        line
+    } else {
+        &line[..SHOWN]
     }
 }
 
@@ -99,7 +107,12 @@ pub struct Shown {
 impl fmt::Display for Shown {
     fn fmt<W: fmt::Write>(&self, f: &mut fmt::Formatter<W>) -> fmt::Result {
         let (time, start) = (self.edge.time, self.start);
-        write!(f, "{time} {}{}", Digits(self.edge.levels), Recorded { time, start })
+        write!(
+            f,
+            "{time} {}{}",
+            Digits(self.edge.levels),
+            Recorded { time, start }
+        )
     }
 }
 

@@ -70,7 +70,10 @@ pub fn push_index(text: &mut String, index: usize, source: Source) -> Result<(),
 fn push_bad_start(text: &mut String, trace: TraceSaid<'_>, edge: Edge) -> Result<(), NoMemory> {
     let start = start_of(trace.input);
     write!(text, "{}\n", Shown { edge, start })?;
-    write!(text, "  a trace begins with 0 111, all lines released at time 0\n")?;
+    write!(
+        text,
+        "  a trace begins with 0 111, all lines released at time 0\n"
+    )?;
     if trace.input.source == Source::Text {
         return Ok(());
     }
@@ -94,7 +97,10 @@ fn push_bad_start(text: &mut String, trace: TraceSaid<'_>, edge: Edge) -> Result
 /// Adds where a recording may have the start of its trace, by its edges from a time on.
 fn push_start(text: &mut String, trace: TraceSaid<'_>) -> Result<(), NoMemory> {
     let start = start_of(trace.input);
-    write!(text, "  --from-time US says at which microsecond of the recording the trace starts; ")?;
+    write!(
+        text,
+        "  --from-time US says at which microsecond of the recording the trace starts; "
+    )?;
     if start > 0 {
         write!(text, "from {start} on, ")?;
     }
@@ -130,7 +136,11 @@ fn first_idle(edges: &[Edge]) -> Option<Edge> {
         if !levels.atn && !levels.clock && levels.line && before.is_some() {
             return before;
         }
-        before = if are_released(levels) { Some(*edge) } else { None };
+        before = if are_released(levels) {
+            Some(*edge)
+        } else {
+            None
+        };
     }
     None
 }
@@ -156,15 +166,19 @@ fn push_refused(
     place: EdgePlace,
     start: u64,
 ) -> Result<(), NoMemory> {
-    let (Some(edge), Some(last)) = (followed.refused, followed.follower.last) else {
+    let (Some(refused), Some(last)) = (followed.refused, followed.follower.last) else {
         return Ok(());
     };
+    let edge = refused.edge;
     write!(text, "{}\n  the edge before it: ", Shown { edge, start })?;
     push_last(text, followed, place, start)?;
     match (place.fault, place.missed) {
         (WaveFault::TooEarly(_) | WaveFault::TooLate(_), Some(missed)) => push_miss(text, missed),
         (WaveFault::TooEarly(_) | WaveFault::TooLate(_), None) => {
-            write!(text, "  an edge to its levels would have to come later than {LAST_TIME}\n")
+            write!(
+                text,
+                "  an edge to its levels would have to come later than {LAST_TIME}\n"
+            )
         }
         (WaveFault::Order(_), _) if edge.time <= last.time => {
             write!(text, "  it is not later than the edge before it\n")
@@ -181,7 +195,10 @@ fn push_miss(text: &mut String, missed: Miss) -> Result<(), NoMemory> {
         Miss::Late(microseconds) => (microseconds, "late"),
     };
     let ending = if microseconds == 1 { "" } else { "s" };
-    write!(text, "  it comes {microseconds} microsecond{ending} too {when}\n")
+    write!(
+        text,
+        "  it comes {microseconds} microsecond{ending} too {when}\n"
+    )
 }
 
 /// Adds the last edge of a trace that ends too soon, what may follow, and where a trace may end.
@@ -193,8 +210,15 @@ fn push_end(
 ) -> Result<(), NoMemory> {
     write!(text, "  the last edge: ")?;
     push_last(text, followed, place, start)?;
-    if followed.follower.last.is_some_and(|edge| are_released(edge.levels)) {
-        write!(text, "  all lines are released here, but a data byte is under way\n")?;
+    if followed
+        .follower
+        .last
+        .is_some_and(|edge| are_released(edge.levels))
+    {
+        write!(
+            text,
+            "  all lines are released here, but a data byte is under way\n"
+        )?;
     }
     write!(
         text,

@@ -1,14 +1,15 @@
 //! Why a trace or a recording is refused, in any format.
 
-ghost use Rattle.std.specs.Prelude.{◌≡◌, [], None, IfOk, IfSome, MatchOption};
+ghost use Rattle.std.specs.Prelude.{◌≡◌, List, [], None, IfOk, IfSome, MatchOption};
 ghost use Rattle.std.specs.String.{string_bytes};
+ghost use Rattle.pr_wire.specs.declared.Edge.{Edge};
 ghost use Rattle.pr_cli.specs.Sources.{IsOwnFault};
-ghost use Rattle.pr_explain.specs.Followed.{back_from, stands_before};
-ghost use Rattle.pr_explain.specs.TracePlaces.{AreInOrder, GoesBackAt, IsPlaceRead, IsReadingPlace, IsTracePlace, nowhere};
+ghost use Rattle.pr_explain.specs.Followed.{Follows, back_from, stands_before};
+ghost use Rattle.pr_explain.specs.TracePlaces.{AreInOrder, GoesBackAt, IsPlaceOf, IsPlaceRead, IsReadingPlace, IsTracePlace, nowhere};
 
 use crate::Explanation;
-use crate::edges::{EdgePlace, follow, place_in};
-use crate::faults::{line_of, push_fault};
+use crate::edges::{EdgePlace, Followed, follow, place_in};
+use crate::faults::{own_line, push_fault};
 use crate::input::read_input;
 use crate::texts::{Shown, start_of};
 use crate::trace_text::{TraceSaid, push_index, push_stop};
@@ -56,25 +57,43 @@ pub fn explain_trace(
     ensures nothing { IfOk result (λ told. told.place ≡ nowhere → string_bytes told.text ≡ []) }
 {
     let said = read_input(alloc, trace, input)?;
+    let fault = said.fault;
     let edges = said.edges.as_slice();
-    let is_whole = said.fault.is_none();
     let followed = follow(edges);
-    let edge = place_in(&followed, is_whole);
-    let line = said.fault.and_then(line_of);
+    let place = place_of(&followed, fault);
     let mut text = String::new(alloc);
-    if let Some(fault) = said.fault {
-        push_fault(&mut text, trace, input, fault)?;
+    if place.line.is_none() && place.edge.is_none() {
+        return Ok(Explanation { place, text });
     }
-    if let Some(place) = edge {
+    if let (Some(fault), Some(number)) = (fault, place.line) {
+        push_fault(&mut text, trace, input, fault, number)?;
+    }
+    if let Some(edge) = place.edge {
         let trace = TraceSaid {
             input,
             edges,
-            is_whole,
+            is_whole: fault.is_none(),
         };
-        push_stop(&mut text, trace, &followed, place)?;
+        push_stop(&mut text, trace, &followed, edge)?;
     }
-    let place = TracePlace { line, edge };
     Ok(Explanation { place, text })
+}
+
+/// Where a trace is refused that has these edges, up to a fault of its own, if it has one.
+fn place_of(followed: &Followed, fault: Option<CliFault>) -> TracePlace
+    requires { IfSome fault IsOwnFault }
+    ensures { (edges : List Edge) → Follows edges followed.now → IsPlaceOf edges fault result }
+{
+    match fault {
+        None => TracePlace {
+            line: None,
+            edge: place_in(followed, true),
+        },
+        Some(fault) => TracePlace {
+            line: Some(own_line(fault)),
+            edge: place_in(followed, false),
+        },
+    }
 }
 
 /// Says why a recording cannot be read to its end. Its place is the first edge that is earlier than the one
@@ -93,26 +112,33 @@ pub fn explain_reading(
     ensures nothing { IfOk result (λ told. told.place ≡ None → string_bytes told.text ≡ []) }
 {
     let said = read_input(alloc, recording, input)?;
+    let fault = said.fault;
     let edges = said.edges.as_slice();
     let mut text = String::new(alloc);
-    let place = place_read(edges, said.fault);
-    match (place, said.fault) {
-        (Some(ReadingPlace::Edge(index)), _) => push_back(&mut text, edges, index, input)?,
-        (Some(ReadingPlace::Line(_)), Some(fault)) => {
-            push_fault(&mut text, recording, input, fault)?;
+    let Some(place) = place_read(edges, fault) else {
+        return Ok(Explanation { place: None, text });
+    };
+    match (place, fault) {
+        (ReadingPlace::Edge(index), _) => push_back(&mut text, edges, index, input)?,
+        (ReadingPlace::Line(number), Some(fault)) => {
+            push_fault(&mut text, recording, input, fault, number)?;
         }
-        _ => {}
+        (ReadingPlace::Line(_), None) => {}
     }
-    Ok(Explanation { place, text })
+    Ok(Explanation {
+        place: Some(place),
+        text,
+    })
 }
 
-/// Where edges go back in time, or else the line of the fault after them.
+/// Where edges go back in time, or else the line of the fault after them, if there is one.
 fn place_read(edges: &[Edge], fault: Option<CliFault>) -> Option<ReadingPlace>
-    ensures { IfSome fault IsOwnFault → IsPlaceRead edges.now fault result }
+    requires { IfSome fault IsOwnFault }
+    ensures { IsPlaceRead edges.now fault result }
 {
     match (first_back(edges), fault) {
         (Some(index), _) => Some(ReadingPlace::Edge(index)),
-        (None, Some(fault)) => Some(ReadingPlace::Line(line_of(fault)?)),
+        (None, Some(fault)) => Some(ReadingPlace::Line(own_line(fault))),
         (None, None) => None,
     }
 }
@@ -130,8 +156,14 @@ fn goes_back(last: Option<Edge>, edge: Edge) -> bool
 /// The index of the first edge that is earlier than the one before it, if there is one.
 #[tactic(auto, using(crate::proofs::BackLemmas::back_found))]
 fn first_back(edges: &[Edge]) -> Option<usize>
-    ensures finds { result ≡ back_from 0 None edges.now }
-    ensures back { MatchOption result (AreInOrder edges.now) (λ index. GoesBackAt edges.now index) }
+    ensures { MatchOption result (AreInOrder edges.now) (λ index. GoesBackAt edges.now index) }
+{
+    find_back(edges)
+}
+
+/// Finds that edge, by its index.
+fn find_back(edges: &[Edge]) -> Option<usize>
+    ensures { result ≡ back_from 0 None edges.now }
 {
     let mut last = None;
     let mut index: usize = 0;
@@ -163,7 +195,11 @@ fn push_back(
         write!(text, "{}\n", Shown { edge: *edge, start })?;
     }
     if let Some(edge) = index.checked_sub(1).and_then(|before| edges.get(before)) {
-        write!(text, "  the edge before it: {}\n", Shown { edge: *edge, start })?;
+        write!(
+            text,
+            "  the edge before it: {}\n",
+            Shown { edge: *edge, start }
+        )?;
     }
     write!(text, "  it is earlier than the edge before it\n")
 }

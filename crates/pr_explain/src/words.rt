@@ -20,7 +20,7 @@ const WORDS: [&str; 58] = [
 ];
 
 /// What a word is.
-#[derive(Clone, Copy, Debug, PartialEq, Eq)]
+#[derive(Clone, Copy)]
 pub enum WordKind {
     /// A word of this profile, as BASIC writes it.
     Keyword(&'static str),
@@ -37,7 +37,7 @@ pub enum WordKind {
 }
 
 /// A word of a line.
-#[derive(Clone, Copy, Debug, PartialEq, Eq)]
+#[derive(Clone, Copy)]
 pub struct Word {
     pub kind: WordKind,
     /// How many bytes it has.
@@ -205,7 +205,10 @@ fn is_hexadecimal(rest: &[u8]) -> bool {
 
 /// Whether these bytes end in PRINT and spaces after it.
 fn parts_print(before: &[u8]) -> bool {
-    let Some(last) = before.iter().rposition(|byte| *byte != b' ' && *byte != b'\t') else {
+    let Some(last) = before
+        .iter()
+        .rposition(|byte| *byte != b' ' && *byte != b'\t')
+    else {
         return false;
     };
     match last.checked_sub(4) {

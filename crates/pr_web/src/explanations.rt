@@ -11,8 +11,8 @@ use crate::answer::{Answer, Told, give, numbered, refused};
 use crate::settings::{input_for, mode_for, source_for, stop_for};
 use pr_cli::CliFault;
 use pr_explain::{
-    ReadingPlace, ScriptPlace, StopPlace, TracePlace, explain_reading, explain_script, explain_stop,
-    explain_trace,
+    ReadingPlace, ScriptPlace, StopPlace, TracePlace, explain_reading, explain_script,
+    explain_stop, explain_trace,
 };
 use pr_serial::Present;
 use std::alloc::Global;

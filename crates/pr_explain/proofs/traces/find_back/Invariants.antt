@@ -1,6 +1,6 @@
 use Rattle.std.proofs.Common.{◌≡◌, ◌+◌, length, None}
 use Rattle.pr_explain.specs.Followed.{back_from}
-use Rattle.pr_explain.proofs.traces.first_back.Given as goal
+use Rattle.pr_explain.proofs.traces.find_back.Given as goal
 
 -- the first edge with which time goes back is that of what is left
 abbrev pub invariant-loop-rest : goal.invariant-loop-rest
