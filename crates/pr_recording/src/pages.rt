@@ -108,7 +108,7 @@ fn end_print(reader: InputReader<'_>, mut printer: CapturePrinter) -> Result<Pri
 {
     let last = reader.finish()?;
     printer.take_all(last.edges.as_slice())?;
-    Ok(printer.finish(last.fault)?)
+    printer.finish(last.fault)
 }
 
 /// The outcome that is these papers and nothing else.
