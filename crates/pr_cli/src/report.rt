@@ -120,7 +120,7 @@ pub fn report_input<R: Read>(
     let mut reader = InputReader::new(alloc, trace, limit);
     let mut frames = FrameReporter::new(alloc, report);
     let mut block = [0u8; BLOCK];
-    'blocks: loop {
+    'pieces: loop {
         if !reader.read_block(input, &mut block)? {
             return Ok(last_report(reader, frames)?);
         }
