@@ -1,12 +1,12 @@
 -- An input whose edges are read block by block.
-use Rattle.std.proofs.Common.{◌≡◌, ◌⊎◌, ℕ, ◌+◌, ◌-◌, ◌<◌, ◌≤◌, List, [], ◌∷◌, ◌++◌, length, take, drop, refl, ap, sym, subst, ◌∙◌, arith, append-nil, append_assoc, length-append, take-append-drop, inl, inr, Option, Some, None, Result, Ok, Err}
+use Rattle.std.proofs.Common.{◌≡◌, ◌⊎◌, ℕ, ◌-◌, ◌<◌, ◌≤◌, List, [], ◌∷◌, ◌++◌, length, take, drop, refl, ap, sym, subst, ◌∙◌, arith, append-nil, append_assoc, length-append, take-append-drop, inl, inr, Option, Some, None, Result, Ok, Err}
 use Rattle.std.specs.Prelude.{IfOk, IfSome}
 use Rattle.std.specs.Option.{option_to_list}
 use Rattle.std.specs.Io.KnownBytes.{Consumes, IsAtEnd}
 use Rattle.std.proofs.KnownBytes.{Consumes-nil, Consumes-trans}
 use Rattle.pr_wire.specs.declared.Edge.{Edge}
 use Rattle.pr_capture.specs.declared.format.TraceInput.{TraceInput}
-use Rattle.pr_cli.specs.Inputs.{AddsLast, AddsSample, EachTextSaysEdges, EndsSource, GivesBlock, GivesEdges, HasEdges, HasReached, HasReachedOr, HasReadEdges, IsFaulty, IsTooLong, ReadEdgesComeFirst, ReadsEdges, SaysAll, SaysFirst, SaysWhole, EndsHere, EndsInputs, EndsReading, HasTakenAll, HasTakenBefore, edges_in, edges_read, fault_read}
+use Rattle.pr_cli.specs.Inputs.{AddsLast, AddsSample, EachTextSaysEdges, EndsSource, GivesBlock, GivesEdges, HasEdges, HasReached, HasReachedOr, HasReadEdges, IsTooLong, ReadEdgesComeFirst, ReadsEdges, SaysAll, SaysFirst, SaysWhole, EndsInputs, EndsReading, HasTakenAll, HasTakenBefore, edges_in, edges_read, fault_read}
 use Rattle.pr_cli.specs.Report.{edges_made, Says, SaysSamples}
 use Rattle.pr_cli.specs.Sources.{EachTextSaysSamples, EndsInput, GivenSamplesComeFirst, GivesMore, HasGiven, HasMade, IsOwnFault, MadeEdgesComeFirst, MakesAll, MakesMore, RefusesInput}
 use Rattle.pr_cli.specs.declared.edge_maker.EdgeMaker.{EdgeMaker}

@@ -120,7 +120,7 @@ pub fn report_input<R: Read>(
     let mut reader = InputReader::new(alloc, trace, limit);
     let mut frames = FrameReporter::new(alloc, report);
     let mut block = [0u8; BLOCK];
-    'blocks: loop {
+    'pieces: loop {
         if !reader.read_block(input, &mut block)? {
             return Ok(last_report(reader, frames)?);
         }
@@ -129,10 +129,7 @@ pub fn report_input<R: Read>(
 }
 
 /// Ends an input, and gives the report on it.
-fn last_report(
-    reader: InputReader<'_>,
-    mut frames: FrameReporter,
-) -> Result<ReportText, AllocError>
+fn last_report(reader: InputReader<'_>, mut frames: FrameReporter) -> Result<ReportText, AllocError>
     requires lines { lines_ahead reader + 1 < 2 ^ 64 }
     requires edges { edges_taken frames + length (edges_read reader) + 3 < 2 ^ 64 }
     ensures { IfOk result (λ text. EndsReported reader.entry frames text) }

@@ -1,7 +1,13 @@
--- What holds where a call went well holds of what follows from it.
-use Rattle.std.proofs.Common.{Result, Ok, Err}
+-- What follows of what a call gives, and of an input that has ended.
+use Rattle.std.proofs.Common.{List, ◌++◌, Option, Result, Ok, Err}
 use Rattle.std.specs.Prelude.{IfOk, OnOk}
+use Rattle.pr_wire.specs.declared.Edge.{Edge}
+use Rattle.pr_cli.specs.Inputs.{EndsInputs, EndsReading}
+use Rattle.pr_cli.specs.declared.edge_reader.LastEdges.{LastEdges}
+use Rattle.pr_cli.specs.declared.input_reader.InputReader.{InputReader}
+use Rattle.pr_cli.specs.declared.fault.CliFault.{CliFault}
 
+-- what holds where a call went well holds of what follows from it
 pub on_ok : {X E : Type 0} (r : Result X E) (P Q : Type 0) → OnOk r P → (P → Q) → OnOk r Q
 on_ok (Ok x) P Q p f = f p
 on_ok (Err e) P Q p f = tt
@@ -9,3 +15,17 @@ on_ok (Err e) P Q p f = tt
 pub if_ok : {X E : Type 0} (r : Result X E) (P Q : X → Type 0) → IfOk r P → ((x : X) → P x → Q x) → IfOk r Q
 if_ok (Ok x) P Q p f = f x p
 if_ok (Err e) P Q p f = tt
+
+-- what follows for whoever takes the last edges of an input too
+pub reading_ends : (r : InputReader) (last : LastEdges) (taken : List Edge → Type 0) (follows : List Edge → Option CliFault → Type 0) → EndsInputs r last
+    → ((given : List Edge) → taken given → follows (given ++ last.edges.items) last.fault) → EndsReading r taken follows
+reading_ends r last taken follows ends after = λ limit start now input given h t.
+    let e = ends limit start now input given h in
+    record {
+      edges = e.edges;
+      fault = e.fault;
+      own = e.own;
+      kept = e.kept;
+      says = e.says;
+      follows = rw (e.follows.0, e.follows.1) (after given t);
+    }

@@ -87,7 +87,7 @@ pub fn decode_input<R: Read, W: Write>(
     let mut reader = InputReader::new(alloc, trace, limit);
     let mut report = DecodeReport::new(alloc)?;
     let mut block = [0u8; BLOCK];
-    'blocks: loop {
+    'pieces: loop {
         if !reader.read_block(input, &mut block)? {
             return write_end(output, end_input(reader, report)?);
         }

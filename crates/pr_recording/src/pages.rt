@@ -91,7 +91,7 @@ pub fn print_input<R: Read>(
     let mut reader = InputReader::new(alloc, trace, limit);
     let mut printer = CapturePrinter::new(alloc);
     let mut block = [0u8; BLOCK];
-    'blocks: loop {
+    'pieces: loop {
         if !reader.read_block(input, &mut block)? {
             return Ok(end_print(reader, printer)?);
         }
@@ -108,7 +108,7 @@ fn end_print(reader: InputReader<'_>, mut printer: CapturePrinter) -> Result<Pri
 {
     let last = reader.finish()?;
     printer.take_all(last.edges.as_slice())?;
-    Ok(printer.finish(last.fault)?)
+    printer.finish(last.fault)
 }
 
 /// The outcome that is these papers and nothing else.

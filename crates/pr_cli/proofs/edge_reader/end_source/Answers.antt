@@ -1,4 +1,4 @@
-use Rattle.pr_cli.proofs.InputLemmas.{ends_faulty, ends_well}
+use Rattle.pr_cli.proofs.InputLemmas.{ends_well}
 use Rattle.pr_cli.proofs.edge_reader.end_source.Goals as goal
 
 pub returns-in_ok-push_last-in-Ok-clause-says : goal.returns-in_ok-push_last-in-Ok-clause-says

@@ -4,8 +4,8 @@ use Rattle.pr_cli.specs.Reported.{HasReported, edges_taken}
 use Rattle.pr_cli.proofs.report.report_input.Given as goal
 
 -- all edges so far were reported, and nothing has failed
-abbrev pub invariant-blocks : goal.invariant-blocks
-invariant-blocks g l = record {
+abbrev pub invariant-pieces : goal.invariant-pieces
+invariant-pieces g l = record {
   read : HasTakenAll l.limit (g.R.Read.remaining l.fn.input.inner) (g.R.Read.remaining l.input.inner) l.fn.trace l.reader (λ edges. HasReported l.fn.report edges l.frames);
   faultless : fault_read l.reader ≡ None;
   lines : lines_ahead l.reader ≤ l.limit + 1;
@@ -14,5 +14,5 @@ invariant-blocks g l = record {
   room : 0 < length l.block;
 }
 
-abbrev pub decreases-blocks : goal.decreases-blocks
-decreases-blocks g l = bytes_left l.reader
+abbrev pub decreases-pieces : goal.decreases-pieces
+decreases-pieces g l = bytes_left l.reader

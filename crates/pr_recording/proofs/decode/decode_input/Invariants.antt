@@ -5,8 +5,8 @@ use Rattle.pr_recording.proofs.Answering.{HasWritten}
 use Rattle.pr_recording.proofs.decode.decode_input.Given as goal
 
 -- all edges so far were told, what was settled is written, and nothing has failed
-abbrev pub invariant-blocks : goal.invariant-blocks
-invariant-blocks g l = record {
+abbrev pub invariant-pieces : goal.invariant-pieces
+invariant-pieces g l = record {
   read : HasTakenAll l.limit (g.R.Read.remaining l.fn.input.inner) (g.R.Read.remaining l.input.inner) l.fn.trace l.reader (HasWritten (g.W.Write.contents l.fn.output.inner) (g.W.Write.contents l.output.inner) l.report);
   faultless : fault_read l.reader ≡ None;
   lines : lines_ahead l.reader ≤ l.limit + 1;
@@ -16,5 +16,5 @@ invariant-blocks g l = record {
   room : 0 < length l.block;
 }
 
-abbrev pub decreases-blocks : goal.decreases-blocks
-decreases-blocks g l = bytes_left l.reader
+abbrev pub decreases-pieces : goal.decreases-pieces
+decreases-pieces g l = bytes_left l.reader

@@ -4,8 +4,8 @@ use Rattle.pr_recording.specs.Copied.{HasCopied, edges_copied, inputs_printed}
 use Rattle.pr_recording.proofs.pages.print_input.Given as goal
 
 -- all edges so far were printed, and nothing has failed
-abbrev pub invariant-blocks : goal.invariant-blocks
-invariant-blocks g l = record {
+abbrev pub invariant-pieces : goal.invariant-pieces
+invariant-pieces g l = record {
   read : HasTakenAll l.limit (g.R.Read.remaining l.fn.input.inner) (g.R.Read.remaining l.input.inner) l.fn.trace l.reader (λ edges. HasCopied edges l.printer);
   faultless : fault_read l.reader ≡ None;
   lines : lines_ahead l.reader ≤ l.limit + 1;
@@ -15,5 +15,5 @@ invariant-blocks g l = record {
   room : 0 < length l.block;
 }
 
-abbrev pub decreases-blocks : goal.decreases-blocks
-decreases-blocks g l = bytes_left l.reader
+abbrev pub decreases-pieces : goal.decreases-pieces
+decreases-pieces g l = bytes_left l.reader

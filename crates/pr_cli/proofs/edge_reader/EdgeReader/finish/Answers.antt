@@ -1,4 +1,3 @@
-use Rattle.std.proofs.Common.{refl, Some}
 use Rattle.pr_cli.specs.declared.edge_reader.LastEdges.{LastEdges}
 use Rattle.pr_cli.proofs.InputLemmas.{says_open, says_refused}
 use Rattle.pr_cli.proofs.edge_reader.EdgeReader.finish.Goals as goal
