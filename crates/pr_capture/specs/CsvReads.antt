@@ -1,5 +1,6 @@
--- Trusted: how a reader of comma separated values goes on. `HasReadTable` holds of a new reader with no text, each call says what it
--- holds of next, and the answers are those of every text and all samples of which it holds.
+-- Trusted: how a reader of comma separated values goes on. `HasReadTable` holds of a new reader
+-- with no text, each call says what it holds of next, and the answers are those of every text and
+-- all samples of which it holds.
 use Rattle.std.specs.Prelude.{◌≡◌, ◌⊎◌, ℕ, List, ◌++◌, Option, Result, Ok, Err}
 use Rattle.pr_wire.specs.declared.Edge.{Edge}
 use Rattle.pr_capture.specs.declared.csv.CsvReader.{CsvReader}
@@ -11,7 +12,8 @@ use Rattle.pr_capture.specs.CsvSteps.{HasReadTable}
 use Rattle.pr_capture.specs.Recording.{ended, refused, with_samples}
 use Rattle.pr_capture.specs.Samples.{listed}
 
--- the reader has taken these bytes too, behind whatever it had taken, and has given this sample, if it gives one
+-- the reader has taken these bytes too, behind whatever it had taken, and has given this sample, if
+-- it gives one
 abbrev pub ReadsMore : (bytes : List ℕ) → Option Edge → (old new : CsvReader) → Type 0
 ReadsMore bytes sample old new =
     (s : Signals) (text : List ℕ) (samples : List Edge) → HasReadTable s text samples old
@@ -33,4 +35,5 @@ EndsText r (Ok sample) =
     (s : Signals) (text : List ℕ) (samples : List Edge) → HasReadTable s text samples r
     → csv_contents s text ≡ with_samples (samples ++ listed sample) ended
 EndsText r (Err f) =
-    (s : Signals) (text : List ℕ) (samples : List Edge) → HasReadTable s text samples r → csv_contents s text ≡ with_samples samples (refused f)
+    (s : Signals) (text : List ℕ) (samples : List Edge) → HasReadTable s text samples r
+    → csv_contents s text ≡ with_samples samples (refused f)
