@@ -5,7 +5,8 @@ use Rattle.pr_wire.specs.declared.Levels.{Levels}
 use Rattle.pr_wire.specs.declared.Edge.{Edge}
 use Rattle.pr_capture.specs.declared.edge_detector.EdgeDetector.{EdgeDetector}
 use Rattle.pr_capture.specs.Samples.{changes_after, counted_from, edges_of, is_new, last_at_each, listed}
-use Rattle.pr_capture.specs.Gathering.{edge_at_end, edge_before, still_to_come, told_with, GathersMore, HasGathered}
+use Rattle.pr_capture.specs.Gathering.{edge_at_end, edge_before, still_to_come, told_with, HasGathered}
+use Rattle.pr_capture.specs.Gathers.{GathersMore}
 
 -- nothing was taken
 pub gathered-none : (start : ℕ) (g : EdgeDetector) → g.start ≡ start → g.held ≡ None → g.told ≡ None → HasGathered start [] [] g

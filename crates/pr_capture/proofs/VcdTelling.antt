@@ -16,7 +16,8 @@ use Rattle.pr_capture.specs.Words.{end_line, is_space, line_behind, word_of, wor
 use Rattle.pr_capture.specs.VcdPieces.Begun.{Nothing}
 use Rattle.pr_capture.specs.VcdReading.{no_codes, vcd_contents}
 use Rattle.pr_capture.specs.VcdReading.Place.{Header}
-use Rattle.pr_capture.specs.VcdSteps.{begun_of, is_letter, place_of, contents_left, word_contents, AnswersEnd, EndsText, HasReadDump, HoldsMore, MayEnd, ReadsMore, ReadsWords, RefusesDump}
+use Rattle.pr_capture.specs.VcdReads.{EndsText, ReadsMore, RefusesDump}
+use Rattle.pr_capture.specs.VcdSteps.{begun_of, is_letter, place_of, contents_left, word_contents, AnswersEnd, HasReadDump, HoldsMore, MayEnd, ReadsWords}
 use Rattle.pr_capture.proofs.CsvReading.{behind-behind}
 
 -- Letters.

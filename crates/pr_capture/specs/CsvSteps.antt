@@ -1,6 +1,6 @@
--- Linking words: how a reader of comma separated values goes on. The clauses of `CsvReader` say all that a caller needs of
+-- Linking words: what a reader of comma separated values has taken. The clauses of `CsvReader` say all that a caller needs of
 -- them. No reader needs to believe them.
-use Rattle.std.specs.Prelude.{◌≡◌, ◌⊎◌, ℕ, ◌+◌, ◌==◌, ◌&&◌, Bool, true, false, not, List, [], ◌∷◌, ◌++◌, if◌then◌else◌, Option, Some, None, Result, Ok, Err}
+use Rattle.std.specs.Prelude.{◌≡◌, ℕ, ◌+◌, ◌==◌, ◌&&◌, Bool, true, false, not, List, [], ◌∷◌, ◌++◌, if◌then◌else◌, Option, Some, None, Result, Ok, Err}
 use Rattle.std.specs.List.{list_all}
 use Rattle.pr_wire.specs.declared.Edge.{Edge}
 use Rattle.pr_base.specs.Lines.{lines_of}
@@ -8,7 +8,6 @@ use Rattle.pr_capture.specs.declared.csv.RowPlace.{RowPlace}
 use Rattle.pr_capture.specs.declared.csv.RowPlace.TheVariants.{Names, Rows}
 use Rattle.pr_capture.specs.declared.csv.CsvReader.{CsvReader}
 use Rattle.pr_capture.specs.declared.fault.CaptureFault.{CaptureFault}
-use Rattle.pr_capture.specs.declared.fault.CaptureFault.TheVariants.{NoMemory}
 use Rattle.pr_capture.specs.declared.signals.Signals.{Signals}
 use Rattle.pr_capture.specs.Csv.{csv_contents, fields_of, line_contents, row_contents}
 use Rattle.pr_capture.specs.Recording.{ended, refused, with_samples, CaptureContents}
@@ -54,30 +53,6 @@ pub record HasReadTable (s : Signals) (text : List ℕ) (samples : List Edge) (r
 abbrev pub HoldsMore : (bytes : List ℕ) → (old new : CsvReader) → Type 0
 HoldsMore bytes old new = (s : Signals) (text : List ℕ) (samples : List Edge) → HasReadTable s text samples old
     → HasReadTable s (text ++ bytes) samples new
-
--- the same, and has given this sample, if it gives one
-abbrev pub ReadsMore : (bytes : List ℕ) → Option Edge → (old new : CsvReader) → Type 0
-ReadsMore bytes sample old new =
-    (s : Signals) (text : List ℕ) (samples : List Edge) → HasReadTable s text samples old
-    → HasReadTable s (text ++ bytes) (samples ++ listed sample) new
-
--- a fault is that of every text that goes on so
-abbrev pub FaultsIn : (bytes : List ℕ) → (old : CsvReader) → CaptureFault → Type 0
-FaultsIn bytes old f =
-    (s : Signals) (text : List ℕ) (samples : List Edge) → HasReadTable s text samples old
-    → (more : List ℕ) → csv_contents s ((text ++ bytes) ++ more) ≡ with_samples samples (refused f)
-
--- it may also be want of memory
-abbrev pub RefusesTable : (bytes : List ℕ) → (old : CsvReader) → CaptureFault → Type 0
-RefusesTable bytes old f = (f ≡ NoMemory) ⊎ FaultsIn bytes old f
-
--- what a reader answers at the text's end
-abbrev pub EndsText : CsvReader → Result (Option Edge) CaptureFault → Type 0
-EndsText r (Ok sample) =
-    (s : Signals) (text : List ℕ) (samples : List Edge) → HasReadTable s text samples r
-    → csv_contents s text ≡ with_samples (samples ++ listed sample) ended
-EndsText r (Err f) =
-    (s : Signals) (text : List ℕ) (samples : List Edge) → HasReadTable s text samples r → csv_contents s text ≡ with_samples samples (refused f)
 
 -- what a reader answers if a text ends here, of which these samples were given, and which ends with a whole line
 abbrev pub AnswersEnd : CsvReader → (last : Option Edge) → Result (Option Edge) CaptureFault → Type 0

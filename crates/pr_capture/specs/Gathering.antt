@@ -29,11 +29,6 @@ still_to_come g more = changes_after g.told (last_at_each (listed g.held ++ map 
 abbrev pub HasGathered : (start : ℕ) (samples edges : List Edge) → EdgeDetector → Type 0
 HasGathered start samples edges g = (more : List Edge) → edges_of start (samples ++ more) ≡ edges ++ still_to_come g more
 
--- the gatherer has taken these samples too, behind whatever it had taken, and has given these edges
-abbrev pub GathersMore : (samples edges : List Edge) (old new : EdgeDetector) → Type 0
-GathersMore samples edges old new =
-    (start : ℕ) (before given : List Edge) → HasGathered start before given old → HasGathered start (before ++ samples) (given ++ edges) new
-
 -- whatever follows the samples that a gatherer has taken, the edges that it has given come first
 abbrev pub GivenEdgesComeFirst : Type 0
 GivenEdgesComeFirst =

@@ -3,12 +3,15 @@ pub mod VcdLaws
 pub mod VcdWriting
 pub mod Samples
 pub mod Gathering
+pub mod Gathers
 pub mod Recording
 pub mod Csv
 pub mod CsvSteps
+pub mod CsvReads
 pub mod Words
 pub mod VcdPieces
 pub mod VcdReading
 pub mod VcdSteps
+pub mod VcdReads
 pub mod VcdReadingLaws
 pub mod CsvLaws

@@ -1,4 +1,4 @@
--- Linking words: how a reader of Value Change Dumps goes on. The clauses of `VcdReader` say all that a caller needs of them.
+-- Linking words: what a reader of Value Change Dumps has taken. The clauses of `VcdReader` say all that a caller needs of them.
 -- No reader needs to believe them.
 use Rattle.std.specs.Prelude.{◌≡◌, ◌⊎◌, ℕ, Bool, not, List, [], ◌++◌, map, Vec, Option, Some, None, Result, Ok, Err}
 use Rattle.std.specs.Global.{Global}
@@ -98,27 +98,6 @@ pub record HasReadDump (s : Signals) (text : List ℕ) (samples : List Edge) (r 
 abbrev pub HoldsMore : (bytes : List ℕ) → (old new : VcdReader) → Type 0
 HoldsMore bytes old new = (s : Signals) (text : List ℕ) (samples : List Edge) → HasReadDump s text samples old
     → HasReadDump s (text ++ bytes) samples new
-
--- the same, and has given this sample, if it gives one
-abbrev pub ReadsMore : (bytes : List ℕ) → Option Edge → (old new : VcdReader) → Type 0
-ReadsMore bytes sample old new =
-    (s : Signals) (text : List ℕ) (samples : List Edge) → HasReadDump s text samples old
-    → HasReadDump s (text ++ bytes) (samples ++ listed sample) new
-
--- a fault is that of every text that goes on so, or want of memory
-abbrev pub RefusesDump : (bytes : List ℕ) → (old : VcdReader) → CaptureFault → Type 0
-RefusesDump bytes old f =
-    (f ≡ NoMemory) ⊎ ((s : Signals) (text : List ℕ) (samples : List Edge) → HasReadDump s text samples old
-    → (more : List ℕ) → vcd_contents s ((text ++ bytes) ++ more) ≡ with_samples samples (refused f))
-
--- what a reader answers at the text's end
-abbrev pub EndsText : VcdReader → Result (Option Edge) CaptureFault → Type 0
-EndsText r (Ok sample) =
-    (s : Signals) (text : List ℕ) (samples : List Edge) → HasReadDump s text samples r
-    → vcd_contents s text ≡ with_samples (samples ++ listed sample) ended
-EndsText r (Err f) =
-    (f ≡ NoMemory) ⊎ ((s : Signals) (text : List ℕ) (samples : List Edge) → HasReadDump s text samples r
-    → vcd_contents s text ≡ with_samples samples (refused f))
 
 -- what a reader answers if a text ends here, on a line, behind its last word
 abbrev pub AnswersEnd : (end : ℕ) → VcdParser → Result (Option Edge) CaptureFault → Type 0

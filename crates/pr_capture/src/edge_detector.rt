@@ -2,7 +2,8 @@
 
 ghost use Rattle.std.specs.Prelude.{◌≡◌, ◌++◌, ℕ, [], ◌∷◌, List, Some};
 ghost use Rattle.pr_wire.specs.declared.Edge.{Edge};
-ghost use Rattle.pr_capture.specs.Gathering.{GathersMore, HasGathered, edge_at_end, edge_before, told_with};
+ghost use Rattle.pr_capture.specs.Gathers.{GathersMore};
+ghost use Rattle.pr_capture.specs.Gathering.{HasGathered, edge_at_end, edge_before, told_with};
 ghost use Rattle.pr_capture.specs.Samples.{counted_from, edges_of, is_new, listed};
 
 use pr_wire::{Edge, Levels};

@@ -5,7 +5,8 @@ ghost use Rattle.std.specs.List.{list_all, prefix_len};
 ghost use Rattle.pr_capture.specs.declared.fault.CaptureFault.TheVariants.{NoMemory};
 ghost use Rattle.pr_capture.specs.Words.{is_space};
 ghost use Rattle.pr_capture.specs.VcdReadingLaws.{VcdIsReadBack};
-ghost use Rattle.pr_capture.specs.VcdSteps.{is_letter, line_number, word_begun, EndsText, HasReadDump, HoldsMore, MayEnd, ReadsMore, ReadsWords, RefusesDump};
+ghost use Rattle.pr_capture.specs.VcdReads.{EndsText, ReadsMore, RefusesDump};
+ghost use Rattle.pr_capture.specs.VcdSteps.{is_letter, line_number, word_begun, HasReadDump, HoldsMore, MayEnd, ReadsWords};
 
 use crate::fault::CaptureFault;
 use crate::signals::Signals;

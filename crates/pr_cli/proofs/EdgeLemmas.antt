@@ -3,6 +3,7 @@ use Rattle.std.proofs.Common.{◌≡◌, ℕ, List, [], ◌∷◌, ◌++◌, ref
 use Rattle.pr_wire.specs.declared.Edge.{Edge}
 use Rattle.pr_capture.specs.declared.edge_detector.EdgeDetector.{EdgeDetector}
 use Rattle.pr_capture.specs.Gathering as gathering
+use Rattle.pr_capture.specs.Gathers.{GathersMore}
 use Rattle.pr_capture.specs.Samples.{edges_of, listed}
 use Rattle.pr_capture.specs.declared.format.Source.{Source}
 use Rattle.pr_capture.specs.declared.format.Source.TheVariants as source
@@ -20,7 +21,7 @@ made_gathered input g n h = (by input.source refl, h)
     by source.Vcd e ss = rw e refl
 
 -- one sample more, and the edge that is made by it, if any
-pub makes_gathered : (s : Edge) (e : Option Edge) (old new : EdgeMaker) (g h : EdgeDetector) → old.gatherer ≡ Some g → new.gatherer ≡ Some h → gathering.GathersMore (s ∷ []) (listed e) g h → MakesMore s old e new
+pub makes_gathered : (s : Edge) (e : Option Edge) (old new : EdgeMaker) (g h : EdgeDetector) → old.gatherer ≡ Some g → new.gatherer ≡ Some h → GathersMore (s ∷ []) (listed e) g h → MakesMore s old e new
 makes_gathered s None old new g h is was more = λ input samples edges m. rw was (let k : HasGathered input samples edges (Some g) = rw is at m in (k.0, more input.start samples edges k.1))
 makes_gathered s (Some e) old new g h is was more = λ input samples edges m. rw was (let k : HasGathered input samples edges (Some g) = rw is at m in (k.0, more input.start samples edges k.1))
 

@@ -7,17 +7,20 @@ use Rattle.pr_wire.specs.declared.reader.TraceReader.{TraceReader}
 use Rattle.pr_wire.specs.declared.text.TraceFault.{TraceFault}
 use Rattle.pr_wire.specs.declared.text.TraceFault.TheVariants as trace
 use Rattle.pr_wire.specs.TextLaws.{TextSaysSomething}
-use Rattle.pr_wire.specs.TraceReading as text
+use Rattle.pr_wire.specs.TraceReading.{GivenEdgesComeFirst}
+use Rattle.pr_wire.specs.TraceReads as text
 use Rattle.pr_capture.specs.declared.csv.CsvReader.{CsvReader}
 use Rattle.pr_capture.specs.declared.vcd_reader.VcdReader.{VcdReader}
 use Rattle.pr_capture.specs.declared.fault.CaptureFault.{CaptureFault}
 use Rattle.pr_capture.specs.declared.fault.CaptureFault.TheVariants as capture
-use Rattle.pr_capture.specs.CsvSteps as csv
+use Rattle.pr_capture.specs.CsvReads as csv
+use Rattle.pr_capture.specs.CsvSteps as csv_steps
 use Rattle.pr_capture.specs.Csv.{csv_contents}
 use Rattle.pr_capture.specs.Recording.{ended, refused, with_samples, CaptureContents}
 use Rattle.pr_capture.specs.Samples.{listed}
 use Rattle.pr_capture.specs.VcdReading.{vcd_contents}
-use Rattle.pr_capture.specs.VcdSteps as vcd
+use Rattle.pr_capture.specs.VcdReads as vcd
+use Rattle.pr_capture.specs.VcdSteps as vcd_steps
 use Rattle.pr_capture.specs.declared.format.Source.{Source}
 use Rattle.pr_capture.specs.declared.format.Source.TheVariants as source
 use Rattle.pr_capture.specs.declared.format.TraceInput.{TraceInput}
@@ -40,12 +43,12 @@ text_more old new bytes e more = λ input t samples h. (h.0, more t samples h.1)
 
 pub csv_more : (old new : CsvReader) (bytes : List ℕ) (e : Option Edge) → csv.ReadsMore bytes e old new → GivesMore bytes e (reader.Csv old) (reader.Csv new)
 csv_more old new bytes e more = λ input t samples h.
-    let P : List Edge → Type 0 = λ l. csv.HasReadTable input.signals (t ++ bytes) (samples ++ l) new in
+    let P : List Edge → Type 0 = λ l. csv_steps.HasReadTable input.signals (t ++ bytes) (samples ++ l) new in
     (h.0, subst P (listed_is e) (more input.signals t samples h.1))
 
 pub vcd_more : (old new : VcdReader) (bytes : List ℕ) (e : Option Edge) → vcd.ReadsMore bytes e old new → GivesMore bytes e (reader.Vcd old) (reader.Vcd new)
 vcd_more old new bytes e more = λ input t samples h.
-    let P : List Edge → Type 0 = λ l. vcd.HasReadDump input.signals (t ++ bytes) (samples ++ l) new in
+    let P : List Edge → Type 0 = λ l. vcd_steps.HasReadDump input.signals (t ++ bytes) (samples ++ l) new in
     (h.0, subst P (listed_is e) (more input.signals t samples h.1))
 
 -- the format is known
@@ -164,7 +167,7 @@ ended_on r (Ok x) f h p = absurd h
 ended_on r (Err x) f h p = rw h p
 
 -- the samples given come first
-pub given_first : text.GivenEdgesComeFirst → vcd.GivenSamplesComeFirst → csv.GivenSamplesComeFirst → GivenSamplesComeFirst
+pub given_first : GivenEdgesComeFirst → vcd_steps.GivenSamplesComeFirst → csv_steps.GivenSamplesComeFirst → GivenSamplesComeFirst
 given_first texts dumps tables = λ input t more given samples fault r h says. by input t more given samples fault r h says
   where
     by : (input : TraceInput) (t more : List ℕ) (given samples : List Edge) (fault : Option CliFault) (r : SourceReader) → HasGiven input t given r

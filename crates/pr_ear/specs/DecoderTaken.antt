@@ -1,7 +1,6 @@
 -- Linking words: how a decoder is held in numbers, and which edges it has taken. No reader needs to believe them; that a decoder comes back
 -- from its numbers is proved.
-use Rattle.std.specs.Prelude.{◌≡◌, ℕ, Bool, ◌==◌, if◌then◌else◌, List, [], ◌∷◌, ◌++◌, map, Option, Some, None}
-use Rattle.std.specs.Option.{option_to_list}
+use Rattle.std.specs.Prelude.{◌≡◌, ℕ, Bool, ◌==◌, if◌then◌else◌, List, [], map, Option, Some, None}
 use Rattle.pr_wire.specs.declared.Edge.{Edge}
 use Rattle.pr_decode.specs.declared.decoder.Decoder.{Decoder}
 use Rattle.pr_decode.specs.declared.reading.Pulse.{Pulse}
@@ -14,8 +13,6 @@ use Rattle.pr_decode.specs.Taking.{HasReadings, last_time}
 use Rattle.pr_ear.specs.declared.WireEdge.{WireEdge}
 use Rattle.pr_ear.specs.declared.decoder_numbers.WireByte.{WireByte}
 use Rattle.pr_ear.specs.declared.decoder_numbers.WireDecoder.{WireDecoder}
-use Rattle.pr_ear.specs.declared.decoding.DecoderTold.{DecoderTold}
-use Rattle.pr_ear.specs.declared.decoding.DecoderTold.TheVariants.{Done, GoesBack, NoDecoder}
 use Rattle.pr_ear.specs.Decoding.{byte_numbers, last_moment, no_byte}
 use Rattle.pr_ear.specs.DecoderNumbers.{no_edge}
 use Rattle.pr_ear.specs.Hearing.{bit_of, edge_of}
@@ -158,9 +155,3 @@ pub record HasDecoded (edges : List WireEdge) (given : List Reading) (w : WireDe
   pub read : HasReadings (map edge_of edges) given decoder
   pub last : last_time decoder ≡ last_moment edges
   pub numbers : w ≡ stored decoder
-
--- what an edge leaves: it was taken, or the decoder is as it was
-abbrev pub LeavesOf : List WireEdge → (given : List Reading) → WireEdge → DecoderTold → (old new : WireDecoder) → Type 0
-LeavesOf edges given edge (Done reading) old new = HasDecoded (edges ++ edge ∷ []) (given ++ option_to_list reading) new
-LeavesOf edges given edge GoesBack old new = new ≡ old
-LeavesOf edges given edge NoDecoder old new = new ≡ old

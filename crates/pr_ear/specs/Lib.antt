@@ -3,6 +3,7 @@ pub mod Buffers
 pub mod Decoding
 pub mod DecoderNumbers
 pub mod DecoderTaken
+pub mod DecoderLeft
 pub mod EarNumbers
 pub mod Numbers
 pub mod Taken

@@ -8,7 +8,8 @@ ghost use Rattle.pr_ear.specs.declared.decoding.DecoderTold.{DecoderTold};
 ghost use Rattle.pr_ear.specs.declared.decoding.DecoderTold.TheVariants.{Done, GoesBack, NoDecoder};
 ghost use Rattle.pr_ear.specs.Decoding.{TellsCut, TellsNext, decoder_answer_of, reading_of};
 ghost use Rattle.pr_ear.specs.DecoderNumbers.{IsDecoder};
-ghost use Rattle.pr_ear.specs.DecoderTaken.{HasDecoded, LeavesOf};
+ghost use Rattle.pr_ear.specs.DecoderLeft.{LeavesOf};
+ghost use Rattle.pr_ear.specs.DecoderTaken.{HasDecoded};
 
 use crate::decoder_numbers::{WireDecoder, WireReading, numbers_of_reading, restore, store};
 use crate::{Answer, WireEdge, edge_for};

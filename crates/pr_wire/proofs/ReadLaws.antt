@@ -12,7 +12,8 @@ use Rattle.pr_wire.specs.declared.text.TraceFault.TheVariants.{BadLine, NoMemory
 use Rattle.pr_base.specs.Lines.{lines_of}
 use Rattle.pr_wire.specs.LineParts.{part_after, edge_of_part, is_nothing}
 use Rattle.pr_wire.specs.TextSteps.{ended_line_in}
-use Rattle.pr_wire.specs.TraceReading.{EndsText, FaultsIn, HasReadTrace, ReadsMore}
+use Rattle.pr_wire.specs.TraceReading.{HasReadTrace}
+use Rattle.pr_wire.specs.TraceReads.{EndsText, FaultsIn, ReadsMore}
 use Rattle.pr_wire.specs.TraceText.{AreEdgeLines, SaysEdges}
 use Rattle.pr_wire.proofs.TextLaws.{says_behind}
 use Rattle.pr_wire.proofs.ScanLaws.{scanned_none, scanned_byte, scanned_line, scanned_bad, scanned_whole, scanned_ends, scanned_same_lines, says_lines}

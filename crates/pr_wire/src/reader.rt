@@ -2,7 +2,8 @@
 
 ghost use Rattle.std.specs.Prelude.{◌≡◌, ◌≢◌, ◌+◌, ◌^◌, ◌<◌, ◌≤◌, ◌∷◌, [], true, length, take, Some, IfErr, IfOk, OnOk};
 ghost use Rattle.pr_wire.specs.LineParts.{is_nothing};
-ghost use Rattle.pr_wire.specs.TraceReading.{EndsText, FaultsIn, GivenEdgesComeFirst, HasReadTrace, ReadsMore, edge_count};
+ghost use Rattle.pr_wire.specs.TraceReading.{GivenEdgesComeFirst, HasReadTrace, edge_count};
+ghost use Rattle.pr_wire.specs.TraceReads.{EndsText, FaultsIn, ReadsMore};
 
 use crate::Edge;
 use crate::line::read_ended_line;

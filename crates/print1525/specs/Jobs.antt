@@ -1,5 +1,6 @@
--- Trusted: what the program answers for each job, and what it leaves in the reader and in the writer. A job's own presence, delays, mode,
--- input, character set and format are those of the answer.
+-- Trusted: what the program answers for each job, and what it leaves in the reader and in the
+-- writer. A job's own presence, delays, mode, input, character set and format are those of the
+-- answer.
 use Rattle.std.specs.Prelude.{ℕ, List, Option, Result, Ok, Err}
 use Rattle.pr_capture.specs.declared.format.Source.{Source}
 use Rattle.pr_capture.specs.declared.format.Source.TheVariants as source
@@ -24,13 +25,19 @@ use Rattle.pr_recording.specs.Decoded as decode
 use Rattle.pr_recording.specs.Pages as reprint
 
 -- what `check` answers: the frames of a trace text, or else a report on an input of any format
-abbrev pub AnswersTrace : TraceInput → Source → Report → List ℕ → Option (List ℕ) → Option (List ℕ) → Result (Unit {0}) CliFault → Type 0
+abbrev pub AnswersTrace :
+    TraceInput → Source → Report → List ℕ → Option (List ℕ) → Option (List ℕ)
+    → Result (Unit {0}) CliFault → Type 0
 AnswersTrace input source.Text report.Frames text old new result = AnswersCheck text old new result
 AnswersTrace input _ r text old new result = AnswersReport input r text old new result
 
--- what `decode` answers: what a recording says, byte by byte, or the pages that printers print of it
-abbrev pub AnswersRecording : TraceInput → Format → List ℕ → Option (List ℕ) → Option (List ℕ) → Result (Unit {0}) CliFault → Type 0
-AnswersRecording input format.List text old new result = AnswersDecode trace_limit input text old new result
+-- what `decode` answers: what a recording says, byte by byte, or the pages that printers print of
+-- it
+abbrev pub AnswersRecording :
+    TraceInput → Format → List ℕ → Option (List ℕ) → Option (List ℕ) → Result (Unit {0}) CliFault
+    → Type 0
+AnswersRecording input format.List text old new result =
+    AnswersDecode trace_limit input text old new result
 AnswersRecording input f text old new result = reprint.AnswersPages input f text old new result
 
 -- a job that no BASIC error can stop is done where it is answered
@@ -40,11 +47,16 @@ IsDone answers (Ok Stopped) = ⊥
 IsDone answers (Err fault) = answers (Err fault)
 
 -- the answer of a job, by the input's bytes and what the writer held before and after
-abbrev pub AnswersJob : Job → List ℕ → Option (List ℕ) → Option (List ℕ) → Result Ending CliFault → Type 0
-AnswersJob (Pages present delays mode f) text old new result = AnswersPages (start_of present delays mode) f text old new result
-AnswersJob (Bus present delays mode f) text old new result = AnswersBus (start_of present delays mode) f text old new result
-AnswersJob (Check input r) text old new result = IsDone (AnswersTrace input input.source r text old new) result
-AnswersJob (Decode input f) text old new result = IsDone (AnswersRecording input f text old new) result
+abbrev pub AnswersJob :
+    Job → List ℕ → Option (List ℕ) → Option (List ℕ) → Result Ending CliFault → Type 0
+AnswersJob (Pages present delays mode f) text old new result =
+    AnswersPages (start_of present delays mode) f text old new result
+AnswersJob (Bus present delays mode f) text old new result =
+    AnswersBus (start_of present delays mode) f text old new result
+AnswersJob (Check input r) text old new result =
+    IsDone (AnswersTrace input input.source r text old new) result
+AnswersJob (Decode input f) text old new result =
+    IsDone (AnswersRecording input f text old new) result
 AnswersJob (Raw lower f) text old new result = IsDone (AnswersRaw lower f text old new) result
 
 -- Whatever the reader tells.
@@ -65,7 +77,8 @@ ReadsInput (Check input r) left result = IsDone (check.ReadsAll r left) result
 ReadsInput (Decode input f) left result = IsDone (decode.ReadsAll left) result
 ReadsInput (Raw lower f) left result = ReadsToEnd left result
 
--- a refusal leaves the writer's bytes as they were, but where the job's subcommand writes as it reads
+-- a refusal leaves the writer's bytes as they were, but where the job's subcommand writes as it
+-- reads
 abbrev pub KeepsOutput : Job → Option (List ℕ) → Option (List ℕ) → Result Ending CliFault → Type 0
 KeepsOutput (Pages present delays mode f) old new result = WritesNothing old new result
 KeepsOutput (Bus present delays mode f) old new result = WritesNoEdge old new result

@@ -48,13 +48,7 @@ pub fn refusal_status(fault: &JobFault) -> u8
     ensures { result ≡ refusal_status fault.now }
 {
     match fault {
-        JobFault::Line(error) => {
-            if error.use_stderr() {
-                REFUSED
-            } else {
-                DONE
-            }
-        }
+        JobFault::Line(error) => { if error.use_stderr() { REFUSED } else { DONE } }
         JobFault::NoMemory => FAILED,
         _ => REFUSED,
     }

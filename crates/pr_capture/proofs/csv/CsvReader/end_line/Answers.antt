@@ -1,5 +1,5 @@
 use Rattle.std.proofs.Common.{[], ◌∷◌, refl}
-use Rattle.pr_capture.specs.CsvSteps.{FaultsIn}
+use Rattle.pr_capture.specs.CsvReads.{FaultsIn}
 use Rattle.pr_capture.proofs.CsvReading.{faulty-line, handed-on, read-line}
 use Rattle.pr_capture.proofs.csv.CsvReader.end_line.Goals as goal
 

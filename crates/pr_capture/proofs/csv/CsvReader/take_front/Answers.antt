@@ -1,5 +1,5 @@
 use Rattle.std.proofs.Common.{arith, inr, take}
-use Rattle.pr_capture.specs.CsvSteps.{RefusesTable}
+use Rattle.pr_capture.specs.CsvReads.{RefusesTable}
 use Rattle.pr_capture.proofs.CsvReading.{faulty-front, front-inner, handed-on, read-front, read-held}
 use Rattle.pr_capture.proofs.csv.CsvReader.take_front.Goals as goal
 

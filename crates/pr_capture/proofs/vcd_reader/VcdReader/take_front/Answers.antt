@@ -1,5 +1,5 @@
 use Rattle.std.proofs.Common.{arith, take}
-use Rattle.pr_capture.specs.VcdSteps.{RefusesDump}
+use Rattle.pr_capture.specs.VcdReads.{RefusesDump}
 use Rattle.pr_capture.proofs.CsvReading.{handed-on}
 use Rattle.pr_capture.proofs.VcdTelling.{faulty-front, front-letters, read-front, read-held, space-behind}
 use Rattle.pr_capture.proofs.vcd_reader.VcdReader.take_front.Goals as goal

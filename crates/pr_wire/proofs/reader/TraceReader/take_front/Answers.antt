@@ -1,5 +1,5 @@
 use Rattle.std.proofs.Common.{refl, sym, ap, ◌∙◌, [], ◌∷◌, None}
-use Rattle.pr_wire.specs.TraceReading.{FaultsIn}
+use Rattle.pr_wire.specs.TraceReads.{FaultsIn}
 use Rattle.pr_wire.proofs.ReadLaws.{faulty_front, first_byte, handed_on, read_byte, read_whole, reads_same}
 use Rattle.pr_wire.proofs.reader.TraceReader.take_front.Goals as goal
 

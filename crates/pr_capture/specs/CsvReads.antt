@@ -1,0 +1,39 @@
+-- Trusted: how a reader of comma separated values goes on. `HasReadTable` holds of a new reader
+-- with no text, each call says what it holds of next, and the answers are those of every text and
+-- all samples of which it holds.
+use Rattle.std.specs.Prelude.{◌≡◌, ◌⊎◌, ℕ, List, ◌++◌, Option, Result, Ok, Err}
+use Rattle.pr_wire.specs.declared.Edge.{Edge}
+use Rattle.pr_capture.specs.declared.csv.CsvReader.{CsvReader}
+use Rattle.pr_capture.specs.declared.fault.CaptureFault.{CaptureFault}
+use Rattle.pr_capture.specs.declared.fault.CaptureFault.TheVariants.{NoMemory}
+use Rattle.pr_capture.specs.declared.signals.Signals.{Signals}
+use Rattle.pr_capture.specs.Csv.{csv_contents}
+use Rattle.pr_capture.specs.CsvSteps.{HasReadTable}
+use Rattle.pr_capture.specs.Recording.{ended, refused, with_samples}
+use Rattle.pr_capture.specs.Samples.{listed}
+
+-- the reader has taken these bytes too, behind whatever it had taken, and has given this sample, if
+-- it gives one
+abbrev pub ReadsMore : (bytes : List ℕ) → Option Edge → (old new : CsvReader) → Type 0
+ReadsMore bytes sample old new =
+    (s : Signals) (text : List ℕ) (samples : List Edge) → HasReadTable s text samples old
+    → HasReadTable s (text ++ bytes) (samples ++ listed sample) new
+
+-- a fault is that of every text that goes on so
+abbrev pub FaultsIn : (bytes : List ℕ) → (old : CsvReader) → CaptureFault → Type 0
+FaultsIn bytes old f =
+    (s : Signals) (text : List ℕ) (samples : List Edge) → HasReadTable s text samples old
+    → (more : List ℕ) → csv_contents s ((text ++ bytes) ++ more) ≡ with_samples samples (refused f)
+
+-- it may also be want of memory
+abbrev pub RefusesTable : (bytes : List ℕ) → (old : CsvReader) → CaptureFault → Type 0
+RefusesTable bytes old f = (f ≡ NoMemory) ⊎ FaultsIn bytes old f
+
+-- what a reader answers at the text's end
+abbrev pub EndsText : CsvReader → Result (Option Edge) CaptureFault → Type 0
+EndsText r (Ok sample) =
+    (s : Signals) (text : List ℕ) (samples : List Edge) → HasReadTable s text samples r
+    → csv_contents s text ≡ with_samples (samples ++ listed sample) ended
+EndsText r (Err f) =
+    (s : Signals) (text : List ℕ) (samples : List Edge) → HasReadTable s text samples r
+    → csv_contents s text ≡ with_samples samples (refused f)
