@@ -1,4 +1,5 @@
--- Linking words, for proofs: how far edges were followed, and the device of a statement. No reader needs to believe them.
+-- Linking words, for proofs: how far edges were followed, and the device of a statement. No reader
+-- needs to believe them.
 use Rattle.std.specs.Prelude.{◌≡◌, ℕ, suc, ◌+◌, Bool, false, nat_lt, if◌then◌else◌, List, [], ◌∷◌, ◌++◌, length, Option, Some, None}
 use Rattle.pr_wire.specs.declared.Edge.{Edge}
 use Rattle.pr_wire.specs.declared.Frame.{Frame}
@@ -24,9 +25,11 @@ pub record IsRefused (edges before : List Edge) (r : Refused) : Type 0 where
   pub refused : IsAllowed (before ++ r.edge ∷ []) → ⊥
 
 -- edges were followed to their end, or to the first that is not allowed
-abbrev pub EndsAt : (edges before : List Edge) → TraceFollower → Option Refused → (rest : List Edge) → Type 0
+abbrev pub EndsAt :
+    (edges before : List Edge) → TraceFollower → Option Refused → (rest : List Edge) → Type 0
 EndsAt edges before f None rest = (rest ≡ []) × (f.refused ≡ None)
-EndsAt edges before f (Some r) rest = (more : List Edge) × (rest ≡ r.edge ∷ more) × IsRefused edges before r
+EndsAt edges before f (Some r) rest =
+    (more : List Edge) × (rest ≡ r.edge ∷ more) × IsRefused edges before r
 
 pub record Follows (edges : List Edge) (r : Followed) : Type 0 where
   pub before : List Edge

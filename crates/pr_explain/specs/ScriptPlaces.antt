@@ -9,7 +9,8 @@ use Rattle.pr_explain.specs.declared.scripts.ScriptPlace.{ScriptPlace}
 
 -- the BASIC number of a line, if it begins with one
 abbrev pub IsLabel : (line : List ℕ) → Option ℕ → Type 0
-IsLabel line label = MatchOption label ((n : ℕ) → HasBasicNumber line n → ⊥) (λ n. HasBasicNumber line n)
+IsLabel line label =
+    MatchOption label ((n : ℕ) → HasBasicNumber line n → ⊥) (λ n. HasBasicNumber line n)
 
 -- this is the place of a text's first fault
 pub record IsFaultPlace (text : List ℕ) (p : ScriptPlace) : Type 0 where

@@ -1,5 +1,5 @@
--- Trusted: the place that the explanation of a BASIC error has: the statement at which it stopped a run, with its line, its device and what
--- the error comes from.
+-- Trusted: the place that the explanation of a BASIC error has: the statement at which it stopped a
+-- run, with its line, its device and what the error comes from.
 use Rattle.std.specs.Prelude.{◌≡◌, ℕ, suc, ◌+◌, ◌<◌, ◌≤◌, ◌==◌, ◌||◌, Bool, true, false, not, if◌then◌else◌, List, [], ◌∷◌, ◌++◌, length, Option, Some, None}
 use Rattle.pr_base.specs.Lines.{lines_of}
 use Rattle.pr_basic.specs.declared.statement.Statement.{Statement}
@@ -13,9 +13,10 @@ use Rattle.pr_explain.specs.declared.stops.StopCause.{StopCause}
 use Rattle.pr_explain.specs.declared.stops.StopCause.TheVariants.{Files, NoPrinter, Unheard}
 use Rattle.pr_explain.specs.declared.stops.StopPlace.{StopPlace}
 
--- a statement of a script, counted from 1, is in this line, whose number is counted from 1: there are fewer statements in the lines before
--- it, and no fewer in those and the line itself
-pub record IsStatementLine (script : List ℕ) (statement : ℕ) (line : List ℕ) (number : ℕ) : Type 0 where
+-- a statement of a script, counted from 1, is in this line, whose number is counted from 1: there
+-- are fewer statements in the lines before it, and no fewer in those and the line itself
+pub record IsStatementLine (script : List ℕ) (statement : ℕ) (line : List ℕ) (number : ℕ)
+    : Type 0 where
   pub before : List (List ℕ)
   pub after : List (List ℕ)
   pub earlier : List Statement
@@ -37,7 +38,8 @@ abbrev pub opened : (file : ℕ) → List Statement → Option ℕ → Option �
 opened file [] before = before
 opened file (s ∷ ss) before = opened file ss (opened_by s file before)
 
--- the device of a statement after others: that of an OPEN, or of the last OPEN of the file of a CMD or a PRINT#
+-- the device of a statement after others: that of an OPEN, or of the last OPEN of the file of a CMD
+-- or a PRINT#
 abbrev pub device_of : List Statement → Statement → Option ℕ
 device_of before (OpenFile file device second) = Some device
 device_of before (Cmd file line) = opened file before None
@@ -57,7 +59,8 @@ cause_of DeviceNotPresent present device =
 cause_of _ present device = Files
 
 -- this is the place of an error at a statement of a script
-pub record IsErrorPlace (script : List ℕ) (stop : Stop) (statement : ℕ) (present : Present) (p : StopPlace) : Type 0 where
+pub record IsErrorPlace (script : List ℕ) (stop : Stop) (statement : ℕ) (present : Present)
+    (p : StopPlace) : Type 0 where
   pub before : List Statement
   pub at : Statement
   pub after : List Statement
@@ -71,7 +74,9 @@ pub record IsErrorPlace (script : List ℕ) (stop : Stop) (statement : ℕ) (pre
   pub cause : p.cause ≡ cause_of stop present p.device
 
 -- an error at a statement has its place; a text that has no such statement has none
-abbrev pub IsStopPlace : (script : List ℕ) → Stop → (statement : ℕ) → Present → Option StopPlace → Type 0
+abbrev pub IsStopPlace :
+    (script : List ℕ) → Stop → (statement : ℕ) → Present → Option StopPlace → Type 0
 IsStopPlace script stop statement present None =
-    (statements : List Statement) → IsScript script statements → 0 < statement → statement ≤ length statements → ⊥
+    (statements : List Statement) → IsScript script statements
+    → 0 < statement → statement ≤ length statements → ⊥
 IsStopPlace script stop statement present (Some p) = IsErrorPlace script stop statement present p

@@ -1,5 +1,5 @@
--- Trusted: the places that the explanations of traces and of recordings have: the line that cannot be read, and where the edges stop being
--- lawful, or go back in time.
+-- Trusted: the places that the explanations of traces and of recordings have: the line that cannot
+-- be read, and where the edges stop being lawful, or go back in time.
 use Rattle.std.specs.Prelude.{◌≡◌, ◌↔◌, IsTrue, ℕ, ◌+◌, ◌-◌, ◌<◌, ◌≤◌, ◌^◌, nat_lt, Bool, true, false, if◌then◌else◌, List, [], ◌∷◌, ◌++◌, length, take, Option, Some, None}
 use Rattle.std.specs.List.{list_any}
 use Rattle.pr_wire.specs.declared.Edge.{Edge}
@@ -23,10 +23,12 @@ use Rattle.pr_explain.specs.declared.traces.TracePlace.{TracePlace}
 
 -- Edges.
 
--- these rows are the edges that may follow others: an edge is allowed after them exactly if one of the rows takes it
+-- these rows are the edges that may follow others: an edge is allowed after them exactly if one of
+-- the rows takes it
 abbrev pub AreRowsAfter : List (Option Row) → List Edge → Type 0
 AreRowsAfter rows before =
-    (e : Edge) → e.time < 2 ^ 64 → IsTrue (list_any (λ row. takes row e) rows) ↔ IsAllowed (before ++ e ∷ [])
+    (e : Edge) → e.time < 2 ^ 64
+    → IsTrue (list_any (λ row. takes row e) rows) ↔ IsAllowed (before ++ e ∷ [])
 
 -- the row to these levels, if there is one
 abbrev pub row_to : Levels → List (Option Row) → Option Row
@@ -41,9 +43,11 @@ missed_late (Some latest) time = if nat_lt latest time then Some (Late (time - l
 
 abbrev pub missed_by : Option Row → (time : ℕ) → Option Miss
 missed_by None time = None
-missed_by (Some r) time = if nat_lt time r.earliest then Some (Early (r.earliest - time)) else missed_late r.latest time
+missed_by (Some r) time =
+    if nat_lt time r.earliest then Some (Early (r.earliest - time)) else missed_late r.latest time
 
--- of the edges that are not allowed after others the first, by how much it misses the row to its levels
+-- of the edges that are not allowed after others the first, by how much it misses the row to its
+-- levels
 abbrev pub missed_first : List (Option Row) → List Edge → Option Miss
 missed_first rows [] = None
 missed_first rows (e ∷ es) = missed_by (row_to e.levels rows) e.time
@@ -53,7 +57,8 @@ abbrev pub StopAfter : (whole : Bool) → (before after : List Edge) → Type 0
 StopAfter whole before [] = IsTrue whole
 StopAfter whole before (e ∷ es) = IsAllowed (before ++ e ∷ []) → ⊥
 
--- edges stop being lawful here: how many are allowed, their first fault, the edges that may follow, and by how much the next misses these
+-- edges stop being lawful here: how many are allowed, their first fault, the edges that may follow,
+-- and by how much the next misses these
 pub record AreStopped (whole : Bool) (edges : List Edge) (p : EdgePlace) : Type 0 where
   pub before : List Edge
   pub after : List Edge
@@ -96,10 +101,12 @@ fault_line _ = None
 
 -- Traces.
 
--- the place of what an input says: the line of its fault, and where the edges before that, or all of them, stop
+-- the place of what an input says: the line of its fault, and where the edges before that, or all
+-- of them, stop
 abbrev pub IsPlaceOf : List Edge → (own : Option CliFault) → TracePlace → Type 0
 IsPlaceOf edges None p = (p.line ≡ None) × StopsAt true edges p.edge
-IsPlaceOf edges (Some fault) p = (n : ℕ) × (p.line ≡ Some n) × (fault_line fault ≡ Some n) × StopsAt false edges p.edge
+IsPlaceOf edges (Some fault) p =
+    (n : ℕ) × (p.line ≡ Some n) × (fault_line fault ≡ Some n) × StopsAt false edges p.edge
 
 pub record IsTracePlace (input : TraceInput) (bytes : List ℕ) (p : TracePlace) : Type 0 where
   pub edges : List Edge
@@ -122,17 +129,21 @@ abbrev pub AreInOrder : List Edge → Type 0
 AreInOrder [] = Unit {0}
 AreInOrder (e ∷ es) = AreInOrderBehind e.time es
 
--- the edge of this index is the first that is earlier than the one before it: the edges before it are in order, and with it they are not
+-- the edge of this index is the first that is earlier than the one before it: the edges before it
+-- are in order, and with it they are not
 abbrev pub GoesBackAt : List Edge → (index : ℕ) → Type 0
 GoesBackAt edges index = AreInOrder (take index edges) × (AreInOrder (take (index + 1) edges) → ⊥)
 
--- the place of what a recording says: the first edge with which time goes back; or the line of its fault, if it has one
+-- the place of what a recording says: the first edge with which time goes back; or the line of its
+-- fault, if it has one
 abbrev pub IsPlaceRead : List Edge → (own : Option CliFault) → Option ReadingPlace → Type 0
 IsPlaceRead edges own None = AreInOrder edges × (own ≡ None)
 IsPlaceRead edges own (Some (read.Edge index)) = GoesBackAt edges index
-IsPlaceRead edges own (Some (read.Line n)) = AreInOrder edges × (fault : CliFault) × (own ≡ Some fault) × (fault_line fault ≡ Some n)
+IsPlaceRead edges own (Some (read.Line n)) =
+    AreInOrder edges × (fault : CliFault) × (own ≡ Some fault) × (fault_line fault ≡ Some n)
 
-pub record IsReadingPlace (input : TraceInput) (bytes : List ℕ) (p : Option ReadingPlace) : Type 0 where
+pub record IsReadingPlace (input : TraceInput) (bytes : List ℕ) (p : Option ReadingPlace)
+    : Type 0 where
   pub edges : List Edge
   pub own : Option CliFault
   pub says : Says input bytes edges own

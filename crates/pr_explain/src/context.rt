@@ -76,7 +76,8 @@ fn expected_in(context: Context, before: &[u8], rest: &[u8]) -> &'static str {
     }
 }
 
-/// What can stand behind the device or the secondary address of an OPEN, where an unknown word does.
+/// What can stand behind the device or the secondary address of an OPEN, where an unknown word
+/// does.
 fn expected_in_open(before: &[u8], rest: &[u8]) -> &'static str {
     let has_second = cut_before(before).commas > 1;
     match (has_second, rest) {
@@ -108,8 +109,8 @@ pub fn takes_item(before: &[u8]) -> bool {
         && !matches!(last_of(before), Some(b'$' | b'(' | b'0'..=b'9'))
 }
 
-/// Whether a statement can not end behind these bytes of it. In a list a digit belongs to a CHR$ that has
-/// begun.
+/// Whether a statement can not end behind these bytes of it. In a list a digit belongs to a CHR$
+/// that has begun.
 fn wants_more(context: Context, before: &[u8]) -> bool {
     match last_of(before) {
         Some(b',' | b'(' | b'$') => true,

@@ -13,14 +13,15 @@ use pr_wire::{Edge, Levels, TraceFollower, WaveFault, allowed_traces};
 /// Where the edges of a trace stop being lawful.
 #[derive(Clone, Copy, Debug, PartialEq, Eq)]
 pub struct EdgePlace {
-    /// The index of the first edge that is not allowed, from 0; or how many there are, where they end too
-    /// soon.
+    /// The index of the first edge that is not allowed, from 0; or how many there are, where they
+    /// end too soon.
     pub index: usize,
     /// The first fault.
     pub fault: WaveFault,
     /// The edges that may follow those that are allowed.
     pub expected: [Option<Row>; 3],
-    /// By how much the edge misses the interval of its levels, if an edge to these levels may follow.
+    /// By how much the edge misses the interval of its levels, if an edge to these levels may
+    /// follow.
     pub missed: Option<Miss>,
 }
 
@@ -64,7 +65,8 @@ pub fn follow(edges: &[Edge]) -> Followed
 
 /// The edges that may follow those that a follower has accepted.
 fn rows_after(follower: &TraceFollower) -> [Option<Row>; 3]
-    ensures { (edges : List Edge) (frames : List Frame) → HasAccepted edges frames follower.now → AreRowsAfter result edges }
+    ensures { (edges : List Edge) (frames : List Frame) → HasAccepted edges frames follower.now
+        → AreRowsAfter result edges }
 {
     allowed_traces();
     match follower.last {
@@ -85,7 +87,8 @@ fn rows_after(follower: &TraceFollower) -> [Option<Row>; 3]
     }
 }
 
-/// Where edges stop being lawful, if they do. Where more edges may follow them, they do not stop at their end.
+/// Where edges stop being lawful, if they do. Where more edges may follow them, they do not stop at
+/// their end.
 pub fn place_in(followed: &Followed, is_whole: bool) -> Option<EdgePlace>
     ensures { (edges : List Edge) → Follows edges followed.now → StopsAt is_whole edges result }
 {
@@ -106,7 +109,8 @@ pub fn place_in(followed: &Followed, is_whole: bool) -> Option<EdgePlace>
 
 /// The same of edges that are all allowed.
 fn place_at_end(followed: &Followed, is_whole: bool) -> Option<EdgePlace>
-    ensures { followed.now.refused ≡ None → (edges : List Edge) → Follows edges followed.now → StopsAt is_whole edges result }
+    ensures { followed.now.refused ≡ None
+        → (edges : List Edge) → Follows edges followed.now → StopsAt is_whole edges result }
 {
     allowed_traces();
     if !is_whole {

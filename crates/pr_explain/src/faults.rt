@@ -177,8 +177,8 @@ fn rule_of_levels(fault: CaptureFault) -> &'static str {
     }
 }
 
-/// Adds what a line of a trace text should have, and how a line is read that begins as one of another
-/// format does.
+/// Adds what a line of a trace text should have, and how a line is read that begins as one of
+/// another format does.
 fn push_text_rule(text: &mut String, line: &[u8]) -> Result<(), NoMemory> {
     write!(
         text,

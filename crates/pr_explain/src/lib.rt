@@ -1,24 +1,26 @@
 //! More than a line on why a trace or a script is refused, and on the error that stopped a run.
 //!
-//! Each call gives an [`Explanation`]: the place, which contracts pin, and a text, which is for people and
-//! is only tested. [`explain_trace`] gives for a trace in any format the line that cannot be read and where
-//! its edges stop being lawful, with the edges that may follow there and by how much the interval was
-//! missed. [`explain_reading`] gives where a recording cannot be read on, [`explain_script`] the line and the
-//! column of a script's first fault, and [`explain_stop`] the line and the device of a statement at which a BASIC
-//! error stopped a run. [`rows_from`] gives the rows of the table of lawful traces at a place: an edge is
-//! taken there exactly if one of them has its levels and its time. [`rows_behind`] gives those that an edge
-//! after the last one can still meet.
+//! Each call gives an [`Explanation`]: the place, which contracts pin, and a text, which is for
+//! people and is only tested. [`explain_trace`] gives for a trace in any format the line that
+//! cannot be read and where its edges stop being lawful, with the edges that may follow there and
+//! by how much the interval was missed. [`explain_reading`] gives where a recording cannot be read
+//! on, [`explain_script`] the line and the column of a script's first fault, and [`explain_stop`]
+//! the line and the device of a statement at which a BASIC error stopped a run. [`rows_from`] gives
+//! the rows of the table of lawful traces at a place: an edge is taken there exactly if one of them
+//! has its levels and its time. [`rows_behind`] gives those that an edge after the last one can
+//! still meet.
 //!
 //! - `rows` has the rows of the table at a place, and those that can follow the last edge.
-//! - `traces`, `scripts` and `stops` are what is explained. `edges` follows edges to the first that is not
-//!   allowed, and `input` reads a trace in any format as `check` reads it.
-//! - The words: `trace_text` and `states` of edges; `faults` and `names` of a line that cannot be read,
-//!   what it should have, and which signals a recording has; `context` and `words` of the statement around a
-//!   place of a script, and of the word that is there. The place's line and its lexeme are those of
-//!   pr_basic's `line_at` and `lexeme_at`. `texts` has times, levels and escaped bytes.
+//! - `traces`, `scripts` and `stops` are what is explained. `edges` follows edges to the first that
+//!   is not allowed, and `input` reads a trace in any format as `check` reads it.
+//! - The words: `trace_text` and `states` of edges; `faults` and `names` of a line that cannot be
+//!   read, what it should have, and which signals a recording has; `context` and `words` of the
+//!   statement around a place of a script, and of the word that is there. The place's line and its
+//!   lexeme are those of pr_basic's `line_at` and `lexeme_at`. `texts` has times, levels and
+//!   escaped bytes.
 //!
-//! Where memory for an explanation is refused, there is none and the answer stays. A stopped run is run
-//! again, step by step and without its trace, to find its error.
+//! Where memory for an explanation is refused, there is none and the answer stays. A stopped run is
+//! run again, step by step and without its trace, to find its error.
 #![tactic(auto)]
 
 mod context;

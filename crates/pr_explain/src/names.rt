@@ -14,8 +14,8 @@ const ALONE: [&[u8]; 5] = [b"$end", b"$dumpvars", b"$dumpall", b"$dumpon", b"$du
 /// Kinds of signals without levels: numbers, texts and events.
 const WITHOUT_LEVELS: [&[u8]; 4] = [b"real", b"realtime", b"string", b"event"];
 
-/// Adds a name after so many others, unless it is empty or enough are shown, and gives how many there are
-/// with it.
+/// Adds a name after so many others, unless it is empty or enough are shown, and gives how many
+/// there are with it.
 fn push_name(text: &mut String, count: usize, name: &[u8]) -> Result<usize, NoMemory> {
     if name.is_empty() {
         return Ok(count);
@@ -28,7 +28,8 @@ fn push_name(text: &mut String, count: usize, name: &[u8]) -> Result<usize, NoMe
     Ok(count.saturating_add(1))
 }
 
-/// Adds that there are more names than are shown, or none, and how the three lines are called by them.
+/// Adds that there are more names than are shown, or none, and how the three lines are called by
+/// them.
 fn push_names_end(text: &mut String, count: usize, no_signal: &str) -> Result<(), NoMemory> {
     if count == 0 {
         write!(text, "  the recording names {no_signal}")?;
@@ -61,8 +62,8 @@ pub fn push_dump_names(text: &mut String, dump: &[u8]) -> Result<(), NoMemory> {
     push_names_end(text, count, "no signal with levels of one bit")
 }
 
-/// The name of the signal that has this section, if it can be a line of the bus: it has levels, and one
-/// bit. Else nothing.
+/// The name of the signal that has this section, if it can be a line of the bus: it has levels, and
+/// one bit. Else nothing.
 fn signal_name(section: &[u8]) -> &[u8] {
     let (kind, rest) = split_word(section);
     let (size, rest) = split_word(rest);
@@ -134,7 +135,8 @@ fn is_mark_of_number(byte: u8, has_digit: bool) -> bool {
     byte == b'.' || byte == b'-' || byte == b'+' || (has_digit && byte.eq_ignore_ascii_case(&b'e'))
 }
 
-/// Adds which column of a table is that of the time, and the names of the others, by the line of their names.
+/// Adds which column of a table is that of the time, and the names of the others, by the line of
+/// their names.
 pub fn push_table_names(text: &mut String, line: &[u8]) -> Result<(), NoMemory> {
     let (time, mut rest) = split_field(line);
     let name = unframed(time);

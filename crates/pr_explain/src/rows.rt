@@ -14,8 +14,8 @@ use pr_wire::{BusState, ByteRole, Edge, Kind, Levels, bounds};
 const LAST_BIT: usize = 7;
 
 /// An edge that may come next: its levels and its interval, both ends included. A moment of 2^64
-/// microseconds or more is left out, since no edge has one: near the last moment a row ends there, or is
-/// none.
+/// microseconds or more is left out, since no edge has one: near the last moment a row ends there,
+/// or is none.
 #[derive(Clone, Copy, Debug, PartialEq, Eq)]
 pub struct Row {
     /// The levels behind the edge.
@@ -82,8 +82,8 @@ fn between(levels: Levels, since: u64, least: u64, other: u64, greatest: u64) ->
     })
 }
 
-/// The row of an edge to these levels of ATN, CLOCK and DATA that comes a delay of this kind after a
-/// moment.
+/// The row of an edge to these levels of ATN, CLOCK and DATA that comes a delay of this kind after
+/// a moment.
 fn by_kind(atn: bool, clock: bool, line: bool, since: u64, kind: Kind) -> Option<Row>
     ensures takes { (e : Edge) → e.time < 2 ^ 64 →
         takes result e ≡ lies (record { atn = atn; clock = clock; line = line })
@@ -118,8 +118,8 @@ fn after_idle(since: u64) -> [Option<Row>; 3]
     [row, None, None]
 }
 
-/// ATN is pulled, and no printer pulls DATA: one answers, or the computer looks, and goes on or gives
-/// up.
+/// ATN is pulled, and no printer pulls DATA: one answers, or the computer looks, and goes on or
+/// gives up.
 fn after_call(since: u64) -> [Option<Row>; 3]
     ensures rows { AreRows result (BusState.Call since false) }
     ensures moments { list_all has_moment result ≡ true }
@@ -180,8 +180,8 @@ fn after_free(since: u64, sending: ByteRole) -> [Option<Row>; 3]
     [low, high, answer]
 }
 
-/// DATA is released again, at the latest the greatest wait and the greatest answer after its release
-/// before.
+/// DATA is released again, at the latest the greatest wait and the greatest answer after its
+/// release before.
 fn after_pulse(since: u64, free: u64) -> [Option<Row>; 3]
     ensures rows { AreRows result (BusState.Pulse since free) }
     ensures moments { list_all has_moment result ≡ true }
@@ -321,9 +321,9 @@ fn after_released(since: u64, unlistened: bool) -> [Option<Row>; 3]
     [idle, other, None]
 }
 
-/// The rows of the table of lawful traces at a place: at most three edges may follow there. An edge is
-/// taken at the place exactly if one of the rows has its levels and its moment lies within. Each row has
-/// a moment: its earliest is no later than its latest. No two rows have the same levels.
+/// The rows of the table of lawful traces at a place: at most three edges may follow there. An edge
+/// is taken at the place exactly if one of the rows has its levels and its moment lies within. Each
+/// row has a moment: its earliest is no later than its latest. No two rows have the same levels.
 pub fn rows_from(place: &BusState) -> [Option<Row>; 3]
     ensures rows { AreRows result place.now }
     ensures moments { list_all has_moment result ≡ true }
@@ -373,8 +373,8 @@ pub fn rows_from(place: &BusState) -> [Option<Row>; 3]
     }
 }
 
-/// A row without the moments that are not later than the last edge; None, where that leaves no moment, or
-/// the last edge has its levels.
+/// A row without the moments that are not later than the last edge; None, where that leaves no
+/// moment, or the last edge has its levels.
 fn behind(row: Option<Row>, last: Edge) -> Option<Row>
     ensures takes { (e : Edge) → e.time < 2 ^ 64 → takes result e ≡ (takes row e && comes_after last e) }
     ensures moments { has_moment result ≡ true }
@@ -390,9 +390,10 @@ fn behind(row: Option<Row>, last: Edge) -> Option<Row>
     Some(Row { earliest, ..row })
 }
 
-/// The rows of the table of lawful traces at a place behind the edge that came last: [`rows_from`], but for
-/// the moments that are not later than that edge, and for a row with its levels. An edge may follow there
-/// exactly if one of the rows has its levels and its moment lies within. Each row has a moment.
+/// The rows of the table of lawful traces at a place behind the edge that came last: [`rows_from`],
+/// but for the moments that are not later than that edge, and for a row with its levels. An edge
+/// may follow there exactly if one of the rows has its levels and its moment lies within. Each row
+/// has a moment.
 pub fn rows_behind(place: &BusState, last: Edge) -> [Option<Row>; 3]
     ensures rows { AreRowsBehind result last place.now }
     ensures moments { list_all has_moment result ≡ true }

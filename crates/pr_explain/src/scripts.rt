@@ -39,10 +39,12 @@ struct CutLine<'a> {
     rest: &'a [u8],
 }
 
-/// Says why a script is refused. Its place is that of the first fault: the line, the column, and the number of
-/// the BASIC line if that has one. It has none, and no text, exactly where the script is not refused.
+/// Says why a script is refused. Its place is that of the first fault: the line, the column, and
+/// the number of the BASIC line if that has one. It has none, and no text, exactly where the script
+/// is not refused.
 ///
-/// The text shows the line with a caret under the place, the word found there, and what can be there.
+/// The text shows the line with a caret under the place, the word found there, and what can be
+/// there.
 ///
 /// # Errors
 ///
@@ -111,7 +113,8 @@ fn cut_at(line: LineAt<'_>, place: usize) -> CutLine<'_>
     }
 }
 
-/// Adds the line around a place with a caret under it, the place, the word there, and what can be there.
+/// Adds the line around a place with a caret under it, the place, the word there, and what can be
+/// there.
 fn push_place(
     text: &mut String,
     place: ScriptPlace,
@@ -144,8 +147,8 @@ fn word_in(line: CutLine<'_>) -> &[u8] {
     &line.rest[..len]
 }
 
-/// Adds what else there is to say of a word: that spaces are in it, that it is a number to print, that it
-/// is BASIC that this profile does not have.
+/// Adds what else there is to say of a word: that spaces are in it, that it is a number to print,
+/// that it is BASIC that this profile does not have.
 fn push_hints(text: &mut String, line: CutLine<'_>, fault: ScriptFault) -> Result<(), NoMemory> {
     if let Some(word) = word_at(line.rest).unspaced() {
         write!(

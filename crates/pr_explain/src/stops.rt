@@ -28,8 +28,8 @@ pub struct StopPlace {
     pub line: usize,
     /// The number of the BASIC line, if the line begins with one.
     pub basic_line: Option<u32>,
-    /// The device of the statement: that of an OPEN, or of the last OPEN before it of the file of a CMD
-    /// or a PRINT#.
+    /// The device of the statement: that of an OPEN, or of the last OPEN before it of the file of a
+    /// CMD or a PRINT#.
     pub device: Option<u8>,
     /// What the error comes from.
     pub cause: StopCause,
@@ -42,8 +42,8 @@ pub enum StopCause {
     Files,
     /// No printer is there that could answer.
     NoPrinter,
-    /// A printer is there, which answers each LISTEN: none was listening to a byte. Whether the statement's
-    /// device is a printer that is not there.
+    /// A printer is there, which answers each LISTEN: none was listening to a byte. Whether the
+    /// statement's device is a printer that is not there.
     Unheard { is_absent: bool },
 }
 
@@ -58,13 +58,14 @@ struct FirstLine<'a> {
     rest: &'a [u8],
 }
 
-/// Says which error stopped the run of a script at a statement, counted from 1, as BASIC says it. Its place
-/// is the statement, its line, the number of the BASIC line if that has one, its device, and what the
-/// error comes from. It has none, and no text, exactly where the script has no such statement.
+/// Says which error stopped the run of a script at a statement, counted from 1, as BASIC says it.
+/// Its place is the statement, its line, the number of the BASIC line if that has one, its device,
+/// and what the error comes from. It has none, and no text, exactly where the script has no such
+/// statement.
 ///
-/// Where the status goes on from statement to statement, a device that did not answer may be that of a statement
-/// before. Where each statement begins with status 0 and a printer is there, it is the byte printed last
-/// before it that no printer took.
+/// Where the status goes on from statement to statement, a device that did not answer may be that
+/// of a statement before. Where each statement begins with status 0 and a printer is there, it is
+/// the byte printed last before it that no printer took.
 ///
 /// # Errors
 ///
@@ -254,8 +255,8 @@ fn opened_by(statement: &Statement, file: u8, before: Option<u8>) -> Option<u8>
         _ => before,
     }
 }
-/// The line with a statement, counted from 1: the line's number, from 1, and its bytes without the byte
-/// 10 that ends it. The time is linear in the bytes: each line is read once.
+/// The line with a statement, counted from 1: the line's number, from 1, and its bytes without the
+/// byte 10 that ends it. The time is linear in the bytes: each line is read once.
 fn line_of(alloc: Global, script: &[u8], statement: usize) -> Result<(usize, &[u8]), NoMemory>
     ensures { (statements : List Statement) → IsScript script.now statements → 0 < statement → statement ≤ length statements
         → IfOk result (λ found. IsStatementLine script.now statement found.1.now found.0) }

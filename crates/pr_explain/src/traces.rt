@@ -36,14 +36,14 @@ pub enum ReadingPlace {
     Line(usize),
 }
 
-/// Says why a trace is refused. Its place is the line that cannot be read, and where its edges stop being
-/// lawful, with the edges that may follow there; of edges before a line that cannot be read only where
-/// one is not allowed. It has neither, and no text, exactly where the trace is lawful. The trace is read as
-/// `check` reads it.
+/// Says why a trace is refused. Its place is the line that cannot be read, and where its edges stop
+/// being lawful, with the edges that may follow there; of edges before a line that cannot be read
+/// only where one is not allowed. It has neither, and no text, exactly where the trace is lawful.
+/// The trace is read as `check` reads it.
 ///
-/// The text shows the line, and what it should have; the edge, those that could have followed, and by how
-/// much they were missed. Its times count from the start that the input has; the recording's own microseconds are in
-/// brackets where that is not 0.
+/// The text shows the line, and what it should have; the edge, those that could have followed, and
+/// by how much they were missed. Its times count from the start that the input has; the recording's
+/// own microseconds are in brackets where that is not 0.
 ///
 /// # Errors
 ///
@@ -96,9 +96,9 @@ fn place_of(followed: &Followed, fault: Option<CliFault>) -> TracePlace
     }
 }
 
-/// Says why a recording cannot be read to its end. Its place is the first edge that is earlier than the one
-/// before it, or else the line that cannot be read. It has none, and no text, exactly where the recording
-/// can be read. The recording is read as `decode` reads it.
+/// Says why a recording cannot be read to its end. Its place is the first edge that is earlier than
+/// the one before it, or else the line that cannot be read. It has none, and no text, exactly where
+/// the recording can be read. The recording is read as `decode` reads it.
 ///
 /// # Errors
 ///

@@ -106,8 +106,8 @@ fn entry_at(rest: &[u8]) -> Option<Word>
     None
 }
 
-/// How many bytes a word has that is spelled in front, whichever of its letters are capitals, with or
-/// without spaces in it. With spaces in it, it ends where its last letters do: `T OR` is not TO.
+/// How many bytes a word has that is spelled in front, whichever of its letters are capitals, with
+/// or without spaces in it. With spaces in it, it ends where its last letters do: `T OR` is not TO.
 fn spelled(rest: &[u8], word: &[u8]) -> Option<usize>
     ensures { IfSome result (λ len. len ≤ length rest.now) }
 {
@@ -167,9 +167,10 @@ fn letter_count(rest: &[u8]) -> usize
     rest.len()
 }
 
-/// What stands in front, behind the bytes `before` of its line, where it is common BASIC that this profile
-/// does not have: the beginning of a sentence. Where a number is wanted, letters are a variable. `rest`
-/// is without the line's end: byte 10, and byte 13 directly before it or before the text's end.
+/// What stands in front, behind the bytes `before` of its line, where it is common BASIC that this
+/// profile does not have: the beginning of a sentence. Where a number is wanted, letters are a
+/// variable. `rest` is without the line's end: byte 10, and byte 13 directly before it or before
+/// the text's end.
 pub fn foreign_word(before: &[u8], rest: &[u8], wants_number: bool) -> Option<&'static str> {
     match rest {
         [b'?', ..] => return Some("? for PRINT is"),

@@ -304,7 +304,12 @@ fn places_of_traces(rt: HostRuntime) -> Result<(), NoMemory> {
     let rows = [
         (
             "",
-            (0, WaveFault::Start(0), [row(true, true, true, 0, Some(0)), None, None], None),
+            (
+                0,
+                WaveFault::Start(0),
+                [row(true, true, true, 0, Some(0)), None, None],
+                None,
+            ),
         ),
         (
             "0 111\n40 001\n",
@@ -370,9 +375,21 @@ fn places_of_scripts(rt: HostRuntime) {
 const STOPS: [(usize, Present, Option<(usize, Option<u8>, StopCause)>); 6] = [
     (0, NONE, None),
     (7, NONE, Some((3, Some(5), StopCause::NoPrinter))),
-    (7, BOTH, Some((3, Some(5), StopCause::Unheard { is_absent: false }))),
-    (7, ONLY_FOUR, Some((3, Some(5), StopCause::Unheard { is_absent: true }))),
-    (10, BOTH, Some((6, None, StopCause::Unheard { is_absent: false }))),
+    (
+        7,
+        BOTH,
+        Some((3, Some(5), StopCause::Unheard { is_absent: false })),
+    ),
+    (
+        7,
+        ONLY_FOUR,
+        Some((3, Some(5), StopCause::Unheard { is_absent: true })),
+    ),
+    (
+        10,
+        BOTH,
+        Some((6, None, StopCause::Unheard { is_absent: false })),
+    ),
     (11, BOTH, None),
 ];
 
@@ -388,7 +405,14 @@ fn places_of_stops(rt: HostRuntime) {
             cause,
         });
         let stop = Stop::DeviceNotPresent;
-        let told = explain_stop(rt.alloc(), script, StatusMode::Each, stop, statement, present);
+        let told = explain_stop(
+            rt.alloc(),
+            script,
+            StatusMode::Each,
+            stop,
+            statement,
+            present,
+        );
         assert!(rt; told.is_ok_and(|told| told.place == place), "{statement}");
     }
 }
@@ -460,7 +484,11 @@ fn refusals(rt: &(impl Abort + AllocGlobal)) -> usize {
     let script = b"10 OPEN 4,5\n20 PRINT#4,\"A\"";
     let stop = Stop::DeviceNotPresent;
     match explain_stop(rt.alloc(), script, StatusMode::Each, stop, 2, NONE) {
-        Ok(told) => assert!(rt; told.text.as_bytes().ends_with(b"which printers there are\n")),
+        Ok(told) => assert!(rt;
+            told.text
+                .as_bytes()
+                .ends_with(b"which printers there are\n")
+        ),
         Err(_refused) => refused = refused.saturating_add(1),
     }
     refused

@@ -1,4 +1,5 @@
--- Trusted: what a call of the page answers for the settings and the bytes that it is passed, and what it leaves in the buffer.
+-- Trusted: what a call of the page answers for the settings and the bytes that it is passed, and
+-- what it leaves in the buffer.
 use Rattle.std.specs.Prelude.{◌≡◌, ◌⊎◌, ℕ, List, [], Option, Some, None}
 use Rattle.std.specs.Option.{option_map_or}
 use Rattle.pr_channels.specs.declared.faults.Stop.{Stop}
@@ -33,32 +34,43 @@ TellsReprint (Some source) atn clock line inverted start picture bytes old new a
     (input : TraceInput) × IsInput source atn clock line (is_yes inverted) start input
     × (told : Told) × GivesPages input (page_format_of (is_yes picture)) bytes old new told × (answer ≡ answer_of told)
 
--- the explanation of a place is handed over with the place's number, or memory for it was refused; where there is no place there is no text
-abbrev pub Explains : {P : Type 0} → (IsPlace : P → Type 0) → (number : P → ℕ) → (nowhere : P) → (old new : List ℕ) → Answer → Type 0
+-- the explanation of a place is handed over with the place's number, or memory for it was refused;
+-- where there is no place there is no text
+abbrev pub Explains :
+    {P : Type 0} → (IsPlace : P → Type 0) → (number : P → ℕ) → (nowhere : P) → (old new : List ℕ)
+    → Answer → Type 0
 Explains {P} IsPlace number nowhere old new answer =
-    ((p : P) × (text : List ℕ) × IsPlace p × (p ≡ nowhere → text ≡ []) × Hands (number p) text old new answer)
+    ((p : P) × (text : List ℕ) × IsPlace p × (p ≡ nowhere → text ≡ [])
+    × Hands (number p) text old new answer)
     ⊎ ((answer ≡ plain 3 0) × (new ≡ old))
 
 -- why a script is refused
 abbrev pub ExplainsScript : (script : List ℕ) → (old new : List ℕ) → Answer → Type 0
-ExplainsScript script old new answer = Explains (IsScriptPlace script) (λ place. option_map_or (λ p. p.line) place 0) None old new answer
+ExplainsScript script old new answer =
+    Explains (IsScriptPlace script) (λ o. option_map_or (λ p. p.line) o 0) None old new answer
 
 -- the error that stopped the run of a script at a statement of it
-abbrev pub ExplainsStop : Option Stop → (statement : ℕ) → Present → (script : List ℕ) → (old new : List ℕ) → Answer → Type 0
+abbrev pub ExplainsStop :
+    Option Stop → (statement : ℕ) → Present → (script old new : List ℕ) → Answer → Type 0
 ExplainsStop None statement present script old new answer = Refuses 30 old new answer
 ExplainsStop (Some stop) statement present script old new answer =
-    Explains (IsStopPlace script stop statement present) (λ place. option_map_or (λ p. p.line) place 0) None old new answer
+    Explains (IsStopPlace script stop statement present) (λ o. option_map_or (λ p. p.line) o 0) None
+    old new answer
 
 -- why a trace is refused
-abbrev pub ExplainsTrace : Option Source → (atn clock line : List ℕ) → (inverted start : ℕ) → List ℕ → (old new : List ℕ) → Answer → Type 0
+abbrev pub ExplainsTrace :
+    Option Source → (atn clock line : List ℕ) → (inverted start : ℕ) → List ℕ → (old new : List ℕ)
+    → Answer → Type 0
 ExplainsTrace None atn clock line inverted start bytes old new answer = Refuses 29 old new answer
 ExplainsTrace (Some source) atn clock line inverted start bytes old new answer =
     (input : TraceInput) × IsInput source atn clock line (is_yes inverted) start input
     × Explains (IsTracePlace input bytes) place_of_trace nowhere old new answer
 
 -- why a recording cannot be read to its end
-abbrev pub ExplainsReading : Option Source → (atn clock line : List ℕ) → (inverted start : ℕ) → List ℕ → (old new : List ℕ) → Answer → Type 0
+abbrev pub ExplainsReading :
+    Option Source → (atn clock line : List ℕ) → (inverted start : ℕ) → List ℕ → (old new : List ℕ)
+    → Answer → Type 0
 ExplainsReading None atn clock line inverted start bytes old new answer = Refuses 29 old new answer
 ExplainsReading (Some source) atn clock line inverted start bytes old new answer =
     (input : TraceInput) × IsInput source atn clock line (is_yes inverted) start input
-    × Explains (IsReadingPlace input bytes) (λ place. option_map_or number_read place 0) None old new answer
+    × Explains (IsReadingPlace input bytes) (λ o. option_map_or number_read o 0) None old new answer

@@ -33,7 +33,8 @@ abbrev pub FindsText : Made → Result (Option CliFault) CliFault → Type 0
 FindsText made (Ok stop) = HasText made stop
 FindsText made (Err fault) = (made ≡ Err fault) × (is_of_input fault ≡ false)
 
--- the text is handed over: it stands at the front of the buffer, and the rest is as it was; or it has no room; or there is none
+-- the text is handed over: it stands at the front of the buffer, and the rest is as it was; or it
+-- has no room; or there is none
 abbrev pub Gives : Made → List ℕ → (old new : List ℕ) → Told → Type 0
 Gives made text old new (Written stop n) = HasText made stop × (n ≡ length text) × (n ≤ length old) × (new ≡ text ++ drop n old)
 Gives made text old new (TooSmall n) = (stop : Option CliFault) × HasText made stop × (n ≡ length text) × (length old < n) × (new ≡ old)
@@ -51,4 +52,6 @@ GivesPages input format bytes old new told =
 
 -- an explanation is handed over, and its place answered
 abbrev pub Hands : (place : ℕ) → (text : List ℕ) → (old new : List ℕ) → Answer → Type 0
-Hands place text old new answer = (told : Told) × Gives (Ok tt) text old new told × (answer ≡ record (answer_of told) { place = place })
+Hands place text old new answer =
+    (told : Told) × Gives (Ok tt) text old new told
+    × (answer ≡ record (answer_of told) { place = place })

@@ -80,8 +80,8 @@ fn place_of_reading(place: Option<ReadingPlace>) -> usize
     }
 }
 
-/// Puts why a script is refused at the front of the page's buffer, and answers the line of its first fault;
-/// no text and 0, where it is not refused.
+/// Puts why a script is refused at the front of the page's buffer, and answers the line of its
+/// first fault; no text and 0, where it is not refused.
 #[unsafe(no_mangle)]
 pub extern "C" fn print1525_explain_script(
     alloc: Global,
@@ -98,10 +98,10 @@ pub extern "C" fn print1525_explain_script(
     };
 }
 
-/// Puts which error stopped the run of a script, in BASIC's words, at the front of the page's buffer, and answers
-/// the line: the number of the error, and the statement, from 1, as `print1525_pages` answers them; the
-/// printers that were present, and whether the status was kept (0 for no). No text and 0, where the
-/// script has no such statement.
+/// Puts which error stopped the run of a script, in BASIC's words, at the front of the page's
+/// buffer, and answers the line: the number of the error, and the statement, from 1, as
+/// `print1525_pages` answers them; the printers that were present, and whether the status was kept
+/// (0 for no). No text and 0, where the script has no such statement.
 #[unsafe(no_mangle)]
 pub extern "C" fn print1525_explain_stop(
     alloc: Global,
@@ -132,9 +132,10 @@ pub extern "C" fn print1525_explain_stop(
     };
 }
 
-/// Puts why a trace is refused, by `print1525 check`, at the front of the page's buffer, and answers the
-/// line that cannot be read, or else the index of the edge with which it stops being lawful; no text and 0, where it
-/// is not refused. The trace is passed as to [`crate::print1525_readings`].
+/// Puts why a trace is refused, by `print1525 check`, at the front of the page's buffer, and
+/// answers the line that cannot be read, or else the index of the edge with which it stops being
+/// lawful; no text and 0, where it is not refused. The trace is passed as to
+/// [`crate::print1525_readings`].
 #[unsafe(no_mangle)]
 pub extern "C" fn print1525_explain_trace(
     alloc: Global,
@@ -162,9 +163,9 @@ pub extern "C" fn print1525_explain_trace(
     };
 }
 
-/// Puts why a recording cannot be read to its end at the front of the page's buffer, and answers the index
-/// of the edge with which time goes back, or else the line that cannot be read; no text and 0, where it can.
-/// The recording is passed as to [`crate::print1525_readings`].
+/// Puts why a recording cannot be read to its end at the front of the page's buffer, and answers
+/// the index of the edge with which time goes back, or else the line that cannot be read; no text
+/// and 0, where it can. The recording is passed as to [`crate::print1525_readings`].
 #[unsafe(no_mangle)]
 pub extern "C" fn print1525_explain_reading(
     alloc: Global,
