@@ -1,11 +1,11 @@
 -- Edges in which time goes back.
-use Rattle.std.proofs.Common.{◌≡◌, ℕ, ◌+◌, ◌<◌, ◌≤◌, Bool, true, false, List, [], ◌∷◌, ◌++◌, length, refl, ap, subst, ◌∙◌, sym, arith, append_assoc, append-nil, length-append, Option, Some, None}
-use Rattle.std.specs.Prelude.{MatchOption, nat_lt, option_map, if◌then◌else◌}
+use Rattle.std.proofs.Common.{◌≡◌, ℕ, ◌+◌, ◌<◌, ◌≤◌, Bool, true, false, List, [], ◌∷◌, ◌++◌, length, take, refl, ap, subst, ◌∙◌, sym, arith, append_assoc, append-nil, length-append, Option, Some, None}
+use Rattle.std.specs.Prelude.{MatchOption, nat_lt, if◌then◌else◌}
 use Rattle.std.proofs.lemmas.Grind.{common_steps}
+use Rattle.std.proofs.lemmas.List.{take_at}
 use Rattle.pr_wire.specs.declared.Edge.{Edge}
-use Rattle.pr_explain.specs.declared.edges.Back.{Back}
-use Rattle.pr_explain.specs.Places.{Backs, back_from}
-use Rattle.pr_explain.specs.TraceTold.{AreInOrder, AreInOrderBehind, GoesBackAt}
+use Rattle.pr_explain.specs.Followed.{back_from}
+use Rattle.pr_explain.specs.TracePlaces.{AreInOrder, AreInOrderBehind, GoesBackAt}
 
 -- the edges up to the last one are in order
 pub record SeenTo (all rest : List Edge) (last : Edge) (index : ℕ) : Type 0 where
@@ -36,17 +36,24 @@ seen_more all more last e index s k = record {
 pub seen_all : (all rest : List Edge) (last : Edge) (index : ℕ) → rest ≡ [] → SeenTo all rest last index → AreInOrder all
 seen_all all rest last index e s = subst AreInOrder (sym (s.cut ∙ (ap (λ r. (s.before ++ last ∷ []) ++ r) e ∙ append-nil (s.before ++ last ∷ [])))) s.in_order
 
+-- edges in order end in order
+order_behind : (t : ℕ) (es : List Edge) (last e : Edge) → AreInOrderBehind t ((es ++ last ∷ []) ++ e ∷ []) → last.time ≤ e.time
+order_behind t [] last e h = h.1.0
+order_behind t (f ∷ es) last e h = order_behind f.time es last e h.1
+
+order_end : (es : List Edge) (last e : Edge) → AreInOrder ((es ++ last ∷ []) ++ e ∷ []) → last.time ≤ e.time
+order_end [] last e h = h.0
+order_end (f ∷ es) last e h = order_behind f.time es last e h
+
 pub seen_back : (all more : List Edge) (last e : Edge) (index : ℕ) → SeenTo all (e ∷ more) last index → e.time < last.time → GoesBackAt all index
-seen_back all more last e index s k = record {
-  before = s.before;
-  last = last;
-  edge = e;
-  after = more;
-  cut = s.cut;
-  is_first = s.in_order;
-  back = k;
-  number = s.number;
-}
+seen_back all more last e index s k =
+    let front = s.before ++ last ∷ [] in
+    let size : length front ≡ index = omega (arith, length-append s.before (last ∷ []), s.number) in
+    let before : take index all ≡ front = ap (take index) s.cut ∙ take_at front (e ∷ more) index size in
+    let with_it : take (index + 1) all ≡ front ++ e ∷ []
+    = ap (take (index + 1)) (s.cut ∙ sym (append_assoc front (e ∷ []) more))
+    ∙ take_at (front ++ e ∷ []) more (index + 1) (omega (arith, length-append front (e ∷ []), size)) in
+    (subst AreInOrder (sym before) s.in_order, λ h. let later = order_end s.before last e (subst AreInOrder with_it h) in absurd (omega (arith, later, k)))
 
 -- what is found is the first edge with which time goes back
 walk : (all es : List Edge) (last : Edge) (i : ℕ) → SeenTo all es last i → (v : Option ℕ) → back_from i (Some last) es ≡ v → MatchOption v (AreInOrder all) (λ n. GoesBackAt all n)
@@ -63,11 +70,7 @@ walk all (e ∷ es) last i s v h = by (nat_lt e.time last.time) refl h (λ more.
         let later : last.time ≤ e.time = grind (arith, common_steps, k) in
         on (seen_more all es last e i s later) h
 
-indexed : (all : List Edge) (v : Option Back) → MatchOption (option_map (λ (b : Back). b.index) v) (AreInOrder all) (λ n. GoesBackAt all n) → MatchOption v (AreInOrder all) (λ b. Backs all b)
-indexed all None h = h
-indexed all (Some b) h = h
-
-pub back_found : (edges : List Edge) (v : Option Back) → option_map (λ (b : Back). b.index) v ≡ back_from 0 None edges → MatchOption v (AreInOrder edges) (λ b. Backs edges b)
+pub back_found : (edges : List Edge) (v : Option ℕ) → v ≡ back_from 0 None edges → MatchOption v (AreInOrder edges) (λ n. GoesBackAt edges n)
 back_found [] None h = tt
-back_found [] (Some b) h = absurd (cc)
-back_found (e ∷ es) v h = indexed (e ∷ es) v (walk (e ∷ es) es e 1 (seen_first e es) (option_map (λ (b : Back). b.index) v) (sym h))
+back_found [] (Some n) h = absurd (cc)
+back_found (e ∷ es) v h = walk (e ∷ es) es e 1 (seen_first e es) v (sym h)

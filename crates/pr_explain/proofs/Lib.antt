@@ -1,7 +1,5 @@
 pub mod RowLemmas
-pub mod ToldLemmas
-pub mod ShownLemmas
+pub mod EdgeLemmas
 pub mod StopLemmas
-mod InputLemmas
-mod TraceToldLemmas
 pub mod BackLemmas
+mod InputLemmas

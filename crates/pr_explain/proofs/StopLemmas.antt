@@ -1,13 +1,17 @@
--- The line in which a statement stands, and the words for an error.
+-- The line of a statement.
 use Rattle.std.proofs.Common.{◌≡◌, ℕ, zero, suc, ◌+◌, ◌-◌, ◌<◌, ◌≤◌, List, [], ◌∷◌, ◌++◌, length, get_or, take, drop, refl, ap, subst, sym, ◌∙◌, arith, append_assoc, append-nil, length-append, Option}
 use Rattle.std.proofs.lemmas.Grind.{common_steps}
 use Rattle.pr_base.specs.Lines.{lines_of}
 use Rattle.pr_basic.specs.Limits.{statement_limit}
 use Rattle.pr_basic.specs.Grammar.{AreLines, IsLine, IsScript, without_return}
 use Rattle.pr_basic.specs.declared.statement.Statement.{Statement}
+use Rattle.std.specs.Prelude.{slice_index_or}
 use Rattle.pr_channels.specs.declared.faults.Stop.{Stop}
-use Rattle.pr_explain.specs.StopTold.{IsStatementLine, TellsStop, stop_words}
-use Rattle.pr_explain.specs.Told.{IsLabel}
+use Rattle.pr_serial.specs.declared.Present.{Present}
+use Rattle.pr_explain.specs.declared.stops.StopPlace.{StopPlace}
+use Rattle.pr_explain.specs.Followed.{IsDeviceAt}
+use Rattle.pr_explain.specs.ScriptPlaces.{IsLabel}
+use Rattle.pr_explain.specs.StopPlaces.{IsErrorPlace, IsStatementLine, cause_of, device_of}
 
 -- a line ends at its first byte 10
 pub cut_here : (bs : List ℕ) (i : ℕ) → i < length bs → get_or bs i 0 ≡ 10 → ((k : ℕ) → k < i → get_or bs k 0 ≡ 10 → ⊥) → lines_of bs ≡ take i bs ∷ lines_of (drop (suc i) bs)
@@ -164,14 +168,36 @@ none_left script statement number left [] stays none statements is some within =
     let empty : h.later ≡ [] = h.are_left in
     absurd (omega (arith, h.some, h.within, ap length empty))
 
--- the words for an error, and more behind them
-pub stop_told : (script : List ℕ) (stop : Stop) (statement number : ℕ) (line : List ℕ) (label : Option ℕ) (front text rest : List ℕ) (all : List ℕ) → IsStatementLine script statement line number → IsLabel line label → front ≡ []
-    → text ≡ front ++ stop_words stop label statement number → all ≡ text ++ rest → TellsStop script stop statement all
-stop_told script stop statement number line label front text rest all stands labelled none words more = record {
+-- the place of an error
+pub error_place : (script : List ℕ) (stop : Stop) (statement : ℕ) (present : Present) (items all : List Statement) (line : List ℕ) (p : StopPlace) → IsScript script items → all ≡ items → IsDeviceAt all statement p.device
+    → p.statement ≡ statement → IsStatementLine script statement line p.line → IsLabel line p.basic_line → p.cause ≡ cause_of stop present p.device → IsErrorPlace script stop statement present p
+error_place script stop statement present items all line p is same d number stands label cause = record {
+  before = d.before;
+  at = d.at;
+  after = d.after;
   line = line;
-  number = number;
-  label = label;
-  stands = stands;
-  labelled = labelled;
-  told = (rest, more ∙ ap (λ v. v ++ rest) (words ∙ ap (λ v. v ++ stop_words stop label statement number) none));
+  is_script = subst (λ l. IsScript script l) (sym same ∙ d.cut) is;
+  numbered = d.numbered;
+  is_statement = number;
+  is_line = stands;
+  labelled = label;
+  device = d.of_statement;
+  cause = cause;
 }
+
+-- the device of a statement that stands behind others
+pub device_there : (all before rest more : List Statement) (at : Statement) (n : ℕ) (device : Option ℕ) → all ≡ before ++ rest → rest ≡ at ∷ more → length before ≡ n - 1 → 0 < n → device ≡ device_of before at
+    → IsDeviceAt all n device
+device_there all before rest more at n device cut is size some of = record {
+  before = before;
+  at = at;
+  after = more;
+  cut = cut ∙ ap (λ l. before ++ l) is;
+  numbered = omega (arith, size, some);
+  of_statement = of;
+}
+
+-- the first of some statements, and the others
+pub first_of : (rest : List Statement) (d : Statement) → 1 ≤ length rest → rest ≡ slice_index_or rest 0 d ∷ drop 1 rest
+first_of [] d h = absurd (omega arith)
+first_of (x ∷ xs) d h = refl

@@ -4,7 +4,7 @@ use crate::words::word_at;
 use pr_basic::ScriptFault;
 
 /// The statement around a place.
-#[derive(Clone, Copy, Debug, PartialEq, Eq)]
+#[derive(Clone, Copy, PartialEq)]
 enum Context {
     /// The place is where a line or a statement begins.
     Start,
@@ -51,7 +51,7 @@ pub fn expected_at(before: &[u8], rest: &[u8], fault: ScriptFault) -> &'static s
             _ => "a secondary address from 0 to 15 stands here",
         },
         ScriptFault::BadByte(_) => match rest {
-            [b'0'..=b'9', ..] if !is_in_string(before) => CODE,
+            [b'0'..=b'9', ..] if !cut_before(before).is_in_string => CODE,
             _ => "a string has the bytes 32 to 126; CHR$(n) gives the others",
         },
         ScriptFault::TooLong(_) => "a list has at most 255 bytes",
@@ -78,7 +78,7 @@ fn expected_in(context: Context, before: &[u8], rest: &[u8]) -> &'static str {
 
 /// What can stand behind the device or the secondary address of an OPEN, where an unknown word does.
 fn expected_in_open(before: &[u8], rest: &[u8]) -> &'static str {
-    let has_second = comma_count(last_part(before)) > 1;
+    let has_second = cut_before(before).commas > 1;
     match (has_second, rest) {
         (true, [b',' | b'"', ..]) => NO_NAME,
         (true, _) => "the end of OPEN file,device,secondary stands here",
@@ -120,18 +120,15 @@ fn wants_more(context: Context, before: &[u8]) -> bool {
 
 /// The last byte that is no space or tab.
 fn last_of(bytes: &[u8]) -> Option<u8> {
-    let mut last = None;
-    for byte in bytes {
-        if *byte != b' ' && *byte != b'\t' {
-            last = Some(*byte);
-        }
-    }
-    last
+    bytes
+        .iter()
+        .copied()
+        .rfind(|byte| *byte != b' ' && *byte != b'\t')
 }
 
 /// The statement behind these bytes of a line.
 fn context_of(before: &[u8]) -> Context {
-    let part = last_part(before);
+    let Before { part, commas, .. } = cut_before(before);
     let front = without_label(part);
     if front.is_empty() {
         Context::Start
@@ -140,7 +137,7 @@ fn context_of(before: &[u8]) -> Context {
     } else if begins(front, b"close") {
         Context::Close
     } else if begins(front, b"cmd") || begins(front, b"print#") {
-        if comma_count(front) > 0 {
+        if commas > 0 {
             Context::List
         } else {
             Context::File
@@ -150,45 +147,38 @@ fn context_of(before: &[u8]) -> Context {
     }
 }
 
-/// Whether a string has begun in these bytes of a line, and not ended.
-pub fn is_in_string(before: &[u8]) -> bool {
-    let mut is_quoted = false;
-    for byte in before {
-        if *byte == b'"' {
-            is_quoted = !is_quoted;
-        }
-    }
-    is_quoted
+/// What is before a place in its line, cut into what counts there.
+#[derive(Clone, Copy)]
+pub struct Before<'a> {
+    /// What follows the last colon outside strings.
+    part: &'a [u8],
+    /// How many commas are in that outside strings.
+    commas: usize,
+    /// A string has begun, and not ended.
+    pub is_in_string: bool,
 }
 
-/// What stands behind the last colon outside strings.
-fn last_part(before: &[u8]) -> &[u8] {
+/// Cuts what is before a place in its line.
+pub fn cut_before(before: &[u8]) -> Before<'_> {
     let mut start = 0;
-    let mut is_quoted = false;
+    let mut commas: usize = 0;
+    let mut is_in_string = false;
     for (i, byte) in before.iter().enumerate() {
-        if *byte == b'"' {
-            is_quoted = !is_quoted;
-        }
-        if *byte == b':' && !is_quoted {
-            start = i + 1;
-        }
-    }
-    &before[start.min(before.len())..]
-}
-
-/// How many commas stand outside strings.
-fn comma_count(bytes: &[u8]) -> usize {
-    let mut count: usize = 0;
-    let mut is_quoted = false;
-    for byte in bytes {
-        if *byte == b'"' {
-            is_quoted = !is_quoted;
-        }
-        if *byte == b',' && !is_quoted {
-            count = count.saturating_add(1);
+        match *byte {
+            b'"' => is_in_string = !is_in_string,
+            b':' if !is_in_string => {
+                start = i + 1;
+                commas = 0;
+            }
+            b',' if !is_in_string => commas = commas.saturating_add(1),
+            _ => {}
         }
     }
-    count
+    Before {
+        part: &before[start.min(before.len())..],
+        commas,
+        is_in_string,
+    }
 }
 
 /// What stands behind spaces, tabs and digits.

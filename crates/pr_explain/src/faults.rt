@@ -1,26 +1,14 @@
-//! The faults of trace texts and of recordings: a line, and what it should have.
+//! The line of a trace text or of a recording that cannot be read, and what it should have.
 
-ghost use Rattle.std.specs.Prelude.{◌≡◌, ◌≢◌, ◌++◌, codes, None, IfOk, IfSome, OnOk};
+ghost use Rattle.std.specs.Prelude.{◌≡◌, Some};
 ghost use Rattle.pr_cli.specs.Sources.{IsOwnFault};
-ghost use Rattle.pr_explain.specs.Places.{IsLineTold};
-ghost use Rattle.pr_explain.specs.Shown.{BeginsLine, IsFresh, IsWithin};
-ghost use Rattle.pr_explain.specs.TraceTold.{capture_line, fault_line};
+ghost use Rattle.pr_explain.specs.TracePlaces.{capture_line, fault_line};
 
-use crate::names::{begins_with_number, no_signal, push_names, push_time_column};
-use crate::texts::{has_comma, line_with, push, push_cut, push_number, without_end};
+use crate::names::{begins_with_number, push_dump_names, push_table_names};
+use crate::texts::{Cut, line_with, without_end};
 use pr_capture::{CaptureFault, Signals, Source, TraceInput, Wire};
 use pr_cli::CliFault;
 use pr_wire::{NoMemory, TraceFault};
-use std::alloc::Global;
-
-/// A kind of recordings.
-#[derive(Clone, Copy, Debug, PartialEq, Eq)]
-pub enum Recording {
-    /// A Value Change Dump.
-    Dump,
-    /// A table of comma separated values.
-    Table,
-}
 
 /// The line of a fault of an input, from 1. Other faults have none.
 fn line_of(fault: CliFault) -> Option<usize>
@@ -53,55 +41,72 @@ fn line_of_capture(fault: CaptureFault) -> Option<usize>
     }
 }
 
-/// The words for a line of the bus whose signal is looked for.
-fn looked_for(wire: Wire) -> &'static str
-    ensures { BeginsLine result.now }
+/// The line of a fault of an input's own, from 1.
+pub fn own_line(fault: CliFault) -> usize
+    requires { IsOwnFault fault }
+    ensures { fault_line fault ≡ Some result }
 {
-    match wire {
-        Wire::Atn => "  ATN is looked for as ",
-        Wire::Clock => "  CLOCK is looked for as ",
-        Wire::Data => "  DATA is looked for as ",
+    match line_of(fault) {
+        Some(line) => line,
+        None => unreachable!(),
     }
 }
 
-/// The name of that signal.
-fn signal_name<'a>(wire: Wire, signals: Signals<'a>) -> &'a [u8] {
-    match wire {
-        Wire::Atn => signals.atn,
-        Wire::Clock => signals.clock,
-        Wire::Data => signals.line,
+/// Adds the line of an input, of this number, that has this fault, and what it should have.
+pub fn push_fault(
+    text: &mut String,
+    bytes: &[u8],
+    input: TraceInput<'_>,
+    fault: CliFault,
+    number: usize,
+) -> Result<(), NoMemory> {
+    let line = line_with(bytes, number);
+    write!(text, "  line {number}: {}\n", Cut(without_end(line)))?;
+    let signals = input.signals;
+    match (fault, input.source) {
+        (CliFault::Capture(CaptureFault::NoSignal(_, wire)), Source::Vcd) => {
+            push_missing(text, wire, signals, "no signal with levels of one bit")?;
+            push_dump_names(text, bytes)
+        }
+        (CliFault::Capture(CaptureFault::NoSignal(_, wire)), Source::Csv) => {
+            push_columns(text, line, wire, signals)
+        }
+        (CliFault::Capture(fault), Source::Vcd) => { write!(text, "  {}\n", rule_of_dumps(fault)) }
+        (CliFault::Capture(fault), Source::Csv) => write!(text, "  {}\n", rule_of_tables(fault)),
+        _ => push_text_rule(text, line),
     }
 }
 
-/// Adds which name no signal has.
+/// Adds which name no signal of a recording has.
 fn push_missing(
-    text: &mut Vec<u8>,
-    kind: Recording,
+    text: &mut String,
     wire: Wire,
     signals: Signals<'_>,
-) -> Result<(), NoMemory>
-    ensures { OnOk result (IsFresh text.old.items → IsFresh text.new.items) }
-{
-    push(text, looked_for(wire))?;
-    push_cut(text, signal_name(wire, signals))?;
-    push(text, ", and ")?;
-    push(text, no_signal(kind))?;
-    push(text, " has that name\n")
+    no_signal: &str,
+) -> Result<(), NoMemory> {
+    let (line, name) = match wire {
+        Wire::Atn => ("ATN", signals.atn),
+        Wire::Clock => ("CLOCK", signals.clock),
+        Wire::Data => ("DATA", signals.line),
+    };
+    write!(
+        text,
+        "  {line} is looked for as {}, and {no_signal} has that name\n",
+        Cut(name)
+    )
 }
 
-/// Why a line can not name the columns of a table.
-fn no_names(line: &[u8]) -> Option<&'static str>
-    ensures { IfSome result (λ words. BeginsLine words.now) }
-{
+/// Why a line cannot name the columns of a table.
+fn no_names(line: &[u8]) -> Option<&'static str> {
     if without_end(line).is_empty() {
-        Some("  the table has no line that names its columns")
+        Some("the table has no line that names its columns")
     } else if line.starts_with(b"$") {
-        Some("  --from vcd reads Value Change Dumps, which have such lines")
-    } else if !has_comma(line) {
-        Some("  commas part the fields of a table, and the line of its names has none")
+        Some("--from vcd reads Value Change Dumps, which have such lines")
+    } else if !line.contains(&b',') {
+        Some("commas part the fields of a table, and the line of its names has none")
     } else if begins_with_number(line) {
         Some(
-            "  a line before the rows names the columns, as in Time,ATN,CLOCK,DATA, and this one begins with \
+            "a line before the rows names the columns, as in Time,ATN,CLOCK,DATA, and this one begins with \
              a number",
         )
     } else {
@@ -111,25 +116,20 @@ fn no_names(line: &[u8]) -> Option<&'static str>
 
 /// Adds which name no column of a table has, and the names that this line gives.
 fn push_columns(
-    text: &mut Vec<u8>,
+    text: &mut String,
     line: &[u8],
     wire: Wire,
     signals: Signals<'_>,
-) -> Result<(), NoMemory>
-    ensures { OnOk result (IsFresh text.old.items → IsWithin text.new.items) }
-{
-    if let Some(words) = no_names(line) {
-        return push(text, words);
+) -> Result<(), NoMemory> {
+    if let Some(reason) = no_names(line) {
+        return write!(text, "  {reason}\n");
     }
-    push_missing(text, Recording::Table, wire, signals)?;
-    push_time_column(text, line)?;
-    push_names(text, &[], line, Recording::Table)
+    push_missing(text, wire, signals, "no signal")?;
+    push_table_names(text, line)
 }
 
 /// What a dump has where it has this fault.
-fn rule_of_dumps(fault: CaptureFault) -> &'static str
-    ensures { BeginsLine (codes "  " ++ result.now) }
-{
+fn rule_of_dumps(fault: CaptureFault) -> &'static str {
     match fault {
         CaptureFault::BadWord(_) => {
             "behind its header a dump has times (#120), levels (0! or b0 !, with the signal's code) and \
@@ -146,27 +146,23 @@ fn rule_of_dumps(fault: CaptureFault) -> &'static str
         CaptureFault::BadTime(_) => {
             "a time is # and a number of the dump's unit below 2^64, and lies below 2^64 microseconds"
         }
-        _ => rule_of_both(fault),
+        _ => rule_of_levels(fault),
     }
 }
 
 /// What a table has where it has this fault.
-fn rule_of_tables(fault: CaptureFault) -> &'static str
-    ensures { BeginsLine (codes "  " ++ result.now) }
-{
+fn rule_of_tables(fault: CaptureFault) -> &'static str {
     match fault {
         CaptureFault::BadTime(_) => {
             "a row begins with its time in seconds, digits with or without decimals, as in 0.000125; it is below \
              2^64 microseconds"
-        },
-        _ => rule_of_both(fault),
+        }
+        _ => rule_of_levels(fault),
     }
 }
 
 /// What a recording of any kind has where it has this fault.
-fn rule_of_both(fault: CaptureFault) -> &'static str
-    ensures { BeginsLine (codes "  " ++ result.now) }
-{
+fn rule_of_levels(fault: CaptureFault) -> &'static str {
     match fault {
         CaptureFault::GoesBack(_) => "this time is before an earlier one",
         CaptureFault::NoLevel(_, _) => "each of the three lines needs a level",
@@ -183,119 +179,20 @@ fn rule_of_both(fault: CaptureFault) -> &'static str
 
 /// Adds what a line of a trace text should have, and how a line is read that begins as one of another
 /// format does.
-fn push_text_rule(text: &mut Vec<u8>, line: &[u8]) -> Result<(), NoMemory>
-    ensures { OnOk result (IsFresh text.old.items → IsWithin text.new.items) }
-{
-    push(
+fn push_text_rule(text: &mut String, line: &[u8]) -> Result<(), NoMemory> {
+    write!(
         text,
         "  a line is a time in microseconds, a space, and a digit each for ATN, CLOCK and DATA (1 \
-         released, 0 pulled), as in 100 001",
+         released, 0 pulled), as in 100 001\n"
     )?;
     if line.starts_with(b"$") {
-        push(
+        write!(
             text,
-            "\n  --from vcd reads Value Change Dumps, which have such lines",
+            "  --from vcd reads Value Change Dumps, which have such lines\n"
         )
-    } else if has_comma(line) {
-        push(text, "\n  --from csv reads tables, which have such lines")
+    } else if line.contains(&b',') {
+        write!(text, "  --from csv reads tables, which have such lines\n")
     } else {
         Ok(())
     }
-}
-
-/// Adds what a line of a recording should have where it has this fault.
-fn push_capture_rule(
-    text: &mut Vec<u8>,
-    recording: &[u8],
-    kind: Recording,
-    signals: Signals<'_>,
-    fault: CaptureFault,
-    line: &[u8],
-) -> Result<(), NoMemory>
-    ensures { OnOk result (IsFresh text.old.items → IsWithin text.new.items) }
-{
-    match (fault, kind) {
-        (CaptureFault::NoSignal(_, wire), Recording::Dump) => {
-            push_missing(text, kind, wire, signals)?;
-            push_names(text, recording, line, kind)
-        }
-        (CaptureFault::NoSignal(_, wire), Recording::Table) => {
-            push_columns(text, line, wire, signals)
-        }
-        (_, Recording::Dump) => push_words(text, rule_of_dumps(fault)),
-        (_, Recording::Table) => push_words(text, rule_of_tables(fault)),
-    }
-}
-
-/// Adds words behind two spaces.
-fn push_words(text: &mut Vec<u8>, words: &str) -> Result<(), NoMemory>
-    requires { BeginsLine (codes "  " ++ words.now) }
-    ensures { OnOk result (IsFresh text.old.items → IsWithin text.new.items) }
-{
-    push(text, "  ")?;
-    push(text, words)
-}
-
-/// The line of this number, which has a fault, and what it should have; the last of these lines lacks its
-/// end.
-fn line_told(
-    alloc: Global,
-    bytes: &[u8],
-    input: TraceInput<'_>,
-    fault: CliFault,
-    number: usize,
-) -> Result<Vec<u8>, NoMemory>
-    ensures { IfOk result (λ text. IsWithin text.items) }
-{
-    let line = line_with(bytes, number);
-    let mut text = Vec::new(alloc);
-    push_cut(&mut text, without_end(line))?;
-    push(&mut text, "\n")?;
-    push_rule(&mut text, bytes, input, fault, line)?;
-    Ok(text)
-}
-
-/// Adds what a line should have that has this fault.
-fn push_rule(
-    text: &mut Vec<u8>,
-    bytes: &[u8],
-    input: TraceInput<'_>,
-    fault: CliFault,
-    line: &[u8],
-) -> Result<(), NoMemory>
-    ensures { OnOk result (IsFresh text.old.items → IsWithin text.new.items) }
-{
-    let signals = input.signals;
-    match (fault, input.source) {
-        (CliFault::Capture(fault), Source::Vcd) => {
-            push_capture_rule(text, bytes, Recording::Dump, signals, fault, line)
-        }
-        (CliFault::Capture(fault), Source::Csv) => {
-            push_capture_rule(text, bytes, Recording::Table, signals, fault, line)
-        }
-        _ => push_text_rule(text, line),
-    }
-}
-
-/// The line of an input that has this fault of its own, and what it should have.
-pub fn fault_told(
-    alloc: Global,
-    bytes: &[u8],
-    input: TraceInput<'_>,
-    fault: CliFault,
-) -> Result<Vec<u8>, NoMemory>
-    requires { IsOwnFault fault }
-    ensures { IfOk result (λ text. IsLineTold fault text.items) }
-{
-    let Some(number) = line_of(fault) else {
-        unreachable!()
-    };
-    let rest = line_told(alloc, bytes, input, fault, number)?;
-    let mut text = Vec::new(alloc);
-    push(&mut text, "  line ")?;
-    push_number(&mut text, number as u64)?;
-    push(&mut text, ": ")?;
-    text.extend_from_slice(rest.as_slice())?;
-    push(&mut text, "\n")?;
-    Ok(text)
 }

@@ -1,24 +1,24 @@
 //! More than a line on why a trace or a script is refused, and on the error that stopped a run.
 //!
-//! [`rows_from`] gives the rows of the table of lawful traces at a place: an edge is taken there
-//! exactly if one of them has its levels and its moment. [`rows_behind`] gives those that an edge behind
-//! the last one can still meet. [`explain_trace`] says of a trace in any format where it is refused, what
-//! could have followed and by how much it was missed, and [`explain_reading`] why a recording can not be
-//! read to its end; [`explain_script`] shows where a script that is refused has its first fault, and what
-//! can stand there; [`explain_stop`] tells a BASIC error in BASIC's own words. Their texts are lines for
-//! people: no program is to read them. Bytes that can not be seen are escaped in them.
+//! Each call gives an [`Explanation`]: the place, which contracts pin, and a text, which is for people and
+//! is only tested. [`explain_trace`] gives for a trace in any format the line that cannot be read and where
+//! its edges stop being lawful, with the edges that may follow there and by how much the interval was
+//! missed. [`explain_reading`] gives where a recording cannot be read on, [`explain_script`] the line and the
+//! column of a script's first fault, and [`explain_stop`] the line and the device of a statement at which a BASIC
+//! error stopped a run. [`rows_from`] gives the rows of the table of lawful traces at a place: an edge is
+//! taken there exactly if one of them has its levels and its time. [`rows_behind`] gives those that an edge
+//! after the last one can still meet.
 //!
-//! - `rows` has the rows of the table at a place, and those that can follow the last edge; `places` says
-//!   places and rows in words.
-//! - `traces`, `scripts` and `stops` are what is explained. `edges` says why edges are no lawful trace,
-//!   `faults` and `names` which line cannot be read, what it should have, and which signals a recording has.
-//! - `context` and `words` say in which statement a place of a script is, and which word is there. The
-//!   place's line and its lexeme are those of pr_basic's `line_at` and `lexeme_at`.
-//! - `input` reads a trace in any format as `check` reads it. `texts` has numbers, levels and escaped bytes.
+//! - `rows` has the rows of the table at a place, and those that can follow the last edge.
+//! - `traces`, `scripts` and `stops` are what is explained. `edges` follows edges to the first that is not
+//!   allowed, and `input` reads a trace in any format as `check` reads it.
+//! - The words: `trace_text` and `states` of edges; `faults` and `names` of a line that cannot be read,
+//!   what it should have, and which signals a recording has; `context` and `words` of the statement around a
+//!   place of a script, and of the word that is there. The place's line and its lexeme are those of
+//!   pr_basic's `line_at` and `lexeme_at`. `texts` has times, levels and escaped bytes.
 //!
-//! The words for a place come first and the rest after them, so that the contract of the place needs none
-//! of the rest. Where memory for an explanation is refused, less is said and the answer stays. A stopped
-//! run is run again, step by step and without its trace, to find its error.
+//! Where memory for an explanation is refused, there is none and the answer stays. A stopped run is run
+//! again, step by step and without its trace, to find its error.
 #![tactic(auto)]
 
 mod context;
@@ -26,15 +26,26 @@ mod edges;
 mod faults;
 mod input;
 mod names;
-mod places;
 mod rows;
 mod scripts;
+mod states;
 mod stops;
 mod texts;
+mod trace_text;
 mod traces;
 mod words;
 
-pub use rows::{Row, rows_behind, rows_from};
-pub use scripts::explain_script;
-pub use stops::explain_stop;
-pub use traces::{explain_reading, explain_trace};
+pub use edges::EdgePlace;
+pub use rows::{Miss, Row, rows_behind, rows_from};
+pub use scripts::{ScriptPlace, explain_script};
+pub use stops::{StopCause, StopPlace, explain_stop};
+pub use traces::{ReadingPlace, TracePlace, explain_reading, explain_trace};
+
+/// What there is to say of a refusal, or of an error.
+#[derive(Debug, Drop)]
+pub struct Explanation<P> {
+    /// Where it is.
+    pub place: P,
+    /// Lines for people, each with byte 10 at its end. Bytes that cannot be seen are escaped.
+    pub text: String,
+}

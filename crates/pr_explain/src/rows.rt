@@ -6,6 +6,7 @@ ghost use Rattle.pr_wire.specs.declared.bus_state.ByteRole.{ByteRole};
 ghost use Rattle.pr_wire.specs.Delays.{bounds_of};
 ghost use Rattle.std.specs.List.{list_all};
 ghost use Rattle.pr_explain.specs.Rows.{AreRows, AreRowsBehind, all_lead_apart, comes_after, has_moment, lies, takes};
+ghost use Rattle.pr_explain.specs.TracePlaces.{missed_by, row_to};
 
 use pr_wire::{BusState, ByteRole, Edge, Kind, Levels, bounds};
 
@@ -23,6 +24,43 @@ pub struct Row {
     pub earliest: u64,
     /// The greatest moment, in microseconds, if there is one.
     pub latest: Option<u64>,
+}
+
+/// By how many microseconds an edge misses an interval.
+#[derive(Clone, Copy, Debug, PartialEq, Eq)]
+pub enum Miss {
+    /// It comes too early.
+    Early(u64),
+    /// It comes too late.
+    Late(u64),
+}
+
+/// The row to these levels, if there is one.
+pub fn row_to(levels: Levels, rows: &[Option<Row>]) -> Option<Row>
+    ensures { result ≡ row_to levels rows.now }
+{
+    let mut rest = rows;
+    while let [row, more @ ..] = rest {
+        if row.is_some_and(|row| row.levels == levels) {
+            return *row;
+        }
+        rest = more;
+    }
+    None
+}
+
+/// By how much an edge at this moment misses the interval of its row, if it has one and misses it.
+pub fn missed_by(row: Option<Row>, time: u64) -> Option<Miss>
+    ensures { result ≡ missed_by row time }
+{
+    let row = row?;
+    if time < row.earliest {
+        return Some(Miss::Early(row.earliest - time));
+    }
+    match row.latest {
+        Some(latest) if latest < time => Some(Miss::Late(time - latest)),
+        _ => None,
+    }
 }
 
 /// The row of an edge to these levels that comes at least so long after one moment and at most so

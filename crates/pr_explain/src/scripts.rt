@@ -1,12 +1,14 @@
 //! Why a script is refused.
 
-ghost use Rattle.std.specs.Prelude.{◌≡◌, ◌+◌, ◌-◌, ◌++◌, ◌≤◌, length, true, IfOk, OnOk, Some};
+ghost use Rattle.std.specs.Prelude.{◌≡◌, ◌+◌, ◌-◌, ◌≤◌, [], None, length, IfOk};
+ghost use Rattle.std.specs.String.{string_bytes};
 ghost use Rattle.pr_basic.specs.FaultPlaces.{IsFirstFaultAt};
-ghost use Rattle.pr_explain.specs.Told.{IsLabel, IsScriptTold, TellsFault, TellsSpot, is_within_line, label_words, spot_words};
-ghost use Rattle.pr_explain.specs.Shown.{AddsIndented, AddsShown, AddsSpaces};
+ghost use Rattle.pr_basic.specs.LineAt.{IsLineAt};
+ghost use Rattle.pr_explain.specs.ScriptPlaces.{IsLabel, IsScriptPlace};
 
-use crate::context::{expected_at, is_in_string, takes_item};
-use crate::texts::{push, push_cut, push_escaped, push_number, without_end};
+use crate::Explanation;
+use crate::context::{cut_before, expected_at, takes_item};
+use crate::texts::{Cut, Escaped, without_end};
 use crate::words::{foreign_word, is_number, word_at};
 use pr_basic::{
     LineAt, ScriptFault, basic_number, faults_tell_their_line, line_at, read_script_at,
@@ -17,155 +19,151 @@ use std::alloc::{AllocError, Global};
 /// The most bytes of a line that are shown before the place (profile).
 const BEFORE: usize = 60;
 
-/// Where a fault stands: its line with what stands before it there.
-#[derive(Clone, Copy)]
-struct Spot<'a> {
-    /// The line's number, from 1.
-    number: usize,
-    /// What stands before the place in the line.
-    before: &'a [u8],
-    /// What stands from the place on, without the line's end.
-    rest: &'a [u8],
-    /// The number of the BASIC line, if it has one.
-    label: Option<u32>,
+/// Where the first fault of a script is.
+#[derive(Clone, Copy, Debug, PartialEq, Eq)]
+pub struct ScriptPlace {
+    /// The number of the line, from 1.
+    pub line: usize,
+    /// How many bytes of the line are before the fault, and one more.
+    pub column: usize,
+    /// The number of the BASIC line, if the line begins with one.
+    pub basic_line: Option<u32>,
 }
 
-/// Says why a script is refused: the line with a caret under the place of the first fault, its column,
-/// the number of the BASIC line if that has one, the word found there, and what can stand there.
-/// Nothing, where the script is not refused.
+/// A line of a script, cut at a place.
+#[derive(Clone, Copy)]
+struct CutLine<'a> {
+    /// What is before the place in the line.
+    before: &'a [u8],
+    /// What is from the place on, without the line's end.
+    rest: &'a [u8],
+}
+
+/// Says why a script is refused. Its place is that of the first fault: the line, the column, and the number of
+/// the BASIC line if that has one. It has none, and no text, exactly where the script is not refused.
+///
+/// The text shows the line with a caret under the place, the word found there, and what can be there.
 ///
 /// # Errors
 ///
 /// [`NoMemory`] where memory was refused.
-pub fn explain_script(alloc: Global, script: &[u8]) -> Result<Vec<u8>, NoMemory>
-    ensures { IfOk result (λ text. IsScriptTold script.now text.items) }
-{
-    let refused = match read_script_at(alloc, script) {
-        Ok(_) => return Ok(Vec::new(alloc)),
-        Err(refused) => refused,
-    };
-    match refused.fault {
-        ScriptFault::NoMemory => Err(AllocError),
-        fault => place_told(alloc, script, refused.place, fault),
-    }
-}
-
-/// What there is to say of the first fault of a script, which stands at this place.
-fn place_told(
+pub fn explain_script(
     alloc: Global,
     script: &[u8],
-    place: usize,
-    fault: ScriptFault,
-) -> Result<Vec<u8>, NoMemory>
+) -> Result<Explanation<Option<ScriptPlace>>, NoMemory>
+    ensures place { IfOk result (λ told. IsScriptPlace script.now told.place) }
+    ensures nothing { IfOk result (λ told. told.place ≡ None → string_bytes told.text ≡ []) }
+{
+    let mut text = String::new(alloc);
+    let refused = match read_script_at(alloc, script) {
+        Ok(_) => return Ok(Explanation { place: None, text }),
+        Err(refused) => refused,
+    };
+    if refused.fault == ScriptFault::NoMemory {
+        return Err(AllocError);
+    }
+    let line = line_of(script, refused.place, refused.fault);
+    let place = place_in(line, refused.place);
+    push_place(&mut text, place, cut_at(line, refused.place), refused.fault)?;
+    Ok(Explanation {
+        place: Some(place),
+        text,
+    })
+}
+
+/// The line of the first fault.
+fn line_of(script: &[u8], place: usize, fault: ScriptFault) -> LineAt<'_>
     requires { IsFirstFaultAt script.now fault place }
-    ensures { IfOk result (λ text. TellsFault script.now text.items) }
+    ensures first { IsFirstFaultAt script.now fault place }
+    ensures line { IsLineAt script.now place result.start result.bytes.now result.number }
 {
     faults_tell_their_line();
     match line_at(script, place) {
-        Some(line) => fault_told(alloc, spot_in(line, place), fault),
+        Some(line) => line,
         None => unreachable!(),
     }
 }
 
-/// The place behind so many bytes of a script, in its line.
-fn spot_in(line: LineAt<'_>, place: usize) -> Spot<'_>
+/// A place of a script in its line.
+fn place_in(line: LineAt<'_>, place: usize) -> ScriptPlace
     requires from { line.start ≤ place }
     requires to { place ≤ line.start + length line.bytes.now }
-    ensures number { result.number ≡ line.entry.number }
-    ensures column { length result.before.now ≡ place - line.entry.start }
-    ensures label { IsLabel line.entry.bytes.now result.label }
+    ensures line { result.line ≡ line.entry.number }
+    ensures column { result.column ≡ place - line.entry.start + 1 }
+    ensures label { IsLabel line.entry.bytes.now result.basic_line }
+{
+    ScriptPlace {
+        line: line.number,
+        column: place - line.start + 1,
+        basic_line: basic_number(line.bytes),
+    }
+}
+
+/// A line, cut at a place of its script.
+fn cut_at(line: LineAt<'_>, place: usize) -> CutLine<'_>
+    requires from { line.start ≤ place }
+    requires to { place ≤ line.start + length line.bytes.now }
 {
     let (before, behind) = line.bytes.split_at(place - line.start);
-    Spot {
-        number: line.number,
+    CutLine {
         before,
         rest: without_end(behind),
-        label: basic_number(line.bytes),
     }
 }
 
-/// What there is to say of a fault.
-fn fault_told(alloc: Global, spot: Spot<'_>, fault: ScriptFault) -> Result<Vec<u8>, NoMemory>
-    ensures { IfOk result (λ text.
-        TellsSpot (spot_words spot.entry.number (length spot.entry.before.now + 1) spot.entry.label) text.items) }
-{
-    let rest = fault_rest(alloc, spot, fault)?;
-    let mut text = Vec::new(alloc);
-    push_shown_line(&mut text, spot)?;
-    push(&mut text, "^\n  line ")?;
-    push_number(&mut text, spot.number as u64)?;
-    push(&mut text, ", column ")?;
-    push_number(&mut text, spot.before.len() as u64 + 1)?;
-    push_label(&mut text, spot.label)?;
-    text.extend_from_slice(rest.as_slice())?;
-    Ok(text)
-}
-
-/// Adds the number of the BASIC line, if it has one, and a colon.
-fn push_label(text: &mut Vec<u8>, label: Option<u32>) -> Result<(), NoMemory>
-    ensures { OnOk result (text.new.items ≡ text.old.items ++ label_words label) }
-{
-    match label {
-        None => push(text, ": "),
-        Some(label) => push_basic_line(text, u64::from(label)),
+/// Adds the line around a place with a caret under it, the place, the word there, and what can be there.
+fn push_place(
+    text: &mut String,
+    place: ScriptPlace,
+    line: CutLine<'_>,
+    fault: ScriptFault,
+) -> Result<(), NoMemory> {
+    push_shown_line(text, line)?;
+    write!(text, "^\n  line {}, column {}", place.line, place.column)?;
+    if let Some(label) = place.basic_line {
+        write!(text, ", BASIC line {label}")?;
     }
-}
-
-/// Adds the number of a BASIC line and a colon.
-fn push_basic_line(text: &mut Vec<u8>, label: u64) -> Result<(), NoMemory>
-    ensures { OnOk result (text.new.items ≡ text.old.items ++ label_words (Some label)) }
-{
-    push(text, ", BASIC line ")?;
-    push_number(text, label)?;
-    push(text, ": ")
-}
-
-/// What is told behind the place of a fault.
-fn fault_rest(alloc: Global, spot: Spot<'_>, fault: ScriptFault) -> Result<Vec<u8>, NoMemory> {
-    let mut text = Vec::new(alloc);
-    push_word(&mut text, word_in(spot))?;
-    push(&mut text, ": ")?;
-    push(&mut text, expected_at(spot.before, spot.rest, fault))?;
-    push(&mut text, "\n")?;
+    let expected = expected_at(line.before, line.rest, fault);
+    match word_in(line) {
+        [] => write!(text, ": the end of the line: {expected}\n")?,
+        word => write!(text, ": \"{}\": {expected}\n", Cut(word))?,
+    }
     if asks_for_a_word(fault) {
-        push_hints(&mut text, spot, fault)?;
+        push_hints(text, line, fault)?;
     }
-    Ok(text)
+    Ok(())
 }
 
 /// The word at a place; inside a string, the byte.
-fn word_in(spot: Spot<'_>) -> &[u8] {
-    let len = if is_in_string(spot.before) {
-        spot.rest.len().min(1)
+fn word_in(line: CutLine<'_>) -> &[u8] {
+    let len = if cut_before(line.before).is_in_string {
+        line.rest.len().min(1)
     } else {
-        word_at(spot.rest).len
+        word_at(line.rest).len
     };
-    &spot.rest[..len]
+    &line.rest[..len]
 }
 
-/// Adds what else there is to say of a word: that spaces stand in it, that it is a number to print, that it
+/// Adds what else there is to say of a word: that spaces are in it, that it is a number to print, that it
 /// is BASIC that this profile does not have.
-fn push_hints(text: &mut Vec<u8>, spot: Spot<'_>, fault: ScriptFault) -> Result<(), NoMemory> {
-    if let Some(word) = word_at(spot.rest).unspaced() {
-        push(text, "  this is ")?;
-        push(text, word)?;
-        push(
+fn push_hints(text: &mut String, line: CutLine<'_>, fault: ScriptFault) -> Result<(), NoMemory> {
+    if let Some(word) = word_at(line.rest).unspaced() {
+        write!(
             text,
-            " with a space in it; no space stands in a word of BASIC here\n",
+            "  this is {word} with a space in it; no space stands in a word of BASIC here\n"
         )?;
     }
-    if is_number(spot.rest) && takes_item(spot.before) {
-        push(
+    if is_number(line.rest) && takes_item(line.before) {
+        write!(
             text,
-            "  this is a number; in a list here a number stands in a string, as \"5\", or in CHR$( )\n",
+            "  this is a number; in a list here a number stands in a string, as \"5\", or in CHR$( )\n"
         )?;
     }
-    if let Some(name) = foreign_word(spot.before, spot.rest, wants_number(fault)) {
-        push(text, "  ")?;
-        push(text, name)?;
-        push(
+    let wants_number = !matches!(fault, ScriptFault::UnknownWord(_));
+    if let Some(name) = foreign_word(line.before, line.rest, wants_number) {
+        write!(
             text,
-            " not among OPEN, CMD, PRINT, PRINT#, CLOSE, REM and CHR$\n",
+            "  {name} not among OPEN, CMD, PRINT, PRINT#, CLOSE, REM and CHR$\n"
         )?;
     }
     Ok(())
@@ -182,56 +180,12 @@ fn asks_for_a_word(fault: ScriptFault) -> bool {
     )
 }
 
-/// Whether a number of this profile was wanted.
-fn wants_number(fault: ScriptFault) -> bool {
-    asks_for_a_word(fault) && !matches!(fault, ScriptFault::UnknownWord(_))
-}
-
-/// Adds the line around a place, and what stands before a caret under it.
-fn push_shown_line(text: &mut Vec<u8>, spot: Spot<'_>) -> Result<(), NoMemory>
-    ensures { OnOk result (AddsIndented text.old.items text.new.items) }
-{
-    let width = push_line_around(text, spot)?;
-    push(text, "\n")?;
-    push_spaces(text, width)
-}
-
-/// Adds the line around a place, and gives how wide what stands before the place is shown.
-fn push_line_around(text: &mut Vec<u8>, spot: Spot<'_>) -> Result<usize, NoMemory>
-    ensures { OnOk result (AddsShown text.old.items text.new.items) }
-{
-    let start = spot.before.len().saturating_sub(BEFORE);
+/// Adds the line around a place, and what is before a caret under it.
+fn push_shown_line(text: &mut String, line: CutLine<'_>) -> Result<(), NoMemory> {
+    let start = line.before.len().saturating_sub(BEFORE);
     let front = text.len();
-    push(text, margin(start > 0))?;
-    push_escaped(text, &spot.before[start..])?;
+    let margin = if start > 0 { "  .." } else { "  " };
+    write!(text, "{margin}{}", Escaped(&line.before[start..]))?;
     let width = text.len().saturating_sub(front);
-    push_cut(text, spot.rest)?;
-    Ok(width)
-}
-
-/// What stands before a line that is shown, where its front is left out or not.
-fn margin(is_cut: bool) -> &'static str
-    ensures { is_within_line result.now ≡ true }
-{
-    if is_cut { "  .." } else { "  " }
-}
-
-/// Adds so many spaces.
-fn push_spaces(text: &mut Vec<u8>, count: usize) -> Result<(), NoMemory>
-    ensures { OnOk result (AddsSpaces text.old.items text.new.items) }
-{
-    for _ in 0..count {
-        text.push(b' ')?;
-    }
-    Ok(())
-}
-
-/// Adds a word, or that the line ends.
-fn push_word(text: &mut Vec<u8>, word: &[u8]) -> Result<(), NoMemory> {
-    if word.is_empty() {
-        return push(text, "the end of the line");
-    }
-    push(text, "\"")?;
-    push_cut(text, word)?;
-    push(text, "\"")
+    write!(text, "{}\n{:width$}", Cut(line.rest), "")
 }

@@ -1,11 +1,14 @@
 //! The BASIC error that stopped a run, in BASIC's own words.
 
-ghost use Rattle.std.specs.Prelude.{◌≡◌, ℕ, List, ◌∷◌, [], ◌++◌, ◌<◌, ◌≤◌, length, IfOk, OnOk, Some};
+ghost use Rattle.std.specs.Prelude.{◌≡◌, List, ◌∷◌, [], ◌<◌, ◌≤◌, length, IfOk, None};
+ghost use Rattle.std.specs.String.{string_bytes};
 ghost use Rattle.pr_base.specs.Lines.{lines_of};
 ghost use Rattle.pr_basic.specs.Grammar.{IsScript};
-ghost use Rattle.pr_explain.specs.StopTold.{IsStatementLine, TellsStop, in_words, place_words, stop_name, stop_words};
+ghost use Rattle.pr_explain.specs.Followed.{IsDeviceAt};
+ghost use Rattle.pr_explain.specs.StopPlaces.{IsStatementLine, IsStopPlace, cause_of, device_of, is_absent, opened, opened_by};
 
-use crate::texts::{push, push_cut, push_number, without_end};
+use crate::Explanation;
+use crate::texts::{Cut, without_end};
 use pr_basic::{ScriptFault, Statement, StatusMode, basic_number, read_script};
 use pr_channels::Stop;
 use pr_serial::Present;
@@ -15,6 +18,34 @@ use std::alloc::{AllocError, Global};
 /// That the byte that was held back found no listener.
 const UNHEARD: &str =
     "no printer was listening to the byte printed last before this statement, which goes out only here";
+
+/// Where a BASIC error stopped a run.
+#[derive(Clone, Copy, Debug, PartialEq, Eq)]
+pub struct StopPlace {
+    /// The number of the statement, from 1.
+    pub statement: usize,
+    /// The number of its line, from 1.
+    pub line: usize,
+    /// The number of the BASIC line, if the line begins with one.
+    pub basic_line: Option<u32>,
+    /// The device of the statement: that of an OPEN, or of the last OPEN before it of the file of a CMD
+    /// or a PRINT#.
+    pub device: Option<u8>,
+    /// What the error comes from.
+    pub cause: StopCause,
+}
+
+/// What an error comes from.
+#[derive(Clone, Copy, Debug, PartialEq, Eq)]
+pub enum StopCause {
+    /// The files, as the error's name says.
+    Files,
+    /// No printer is there that could answer.
+    NoPrinter,
+    /// A printer is there, which answers each LISTEN: none was listening to a byte. Whether the statement's
+    /// device is a printer that is not there.
+    Unheard { is_absent: bool },
+}
 
 /// The first line of a text.
 #[derive(Clone, Copy)]
@@ -27,36 +58,13 @@ struct FirstLine<'a> {
     rest: &'a [u8],
 }
 
-/// The error's name, as BASIC writes it.
-fn name_of(stop: Stop) -> &'static str
-    ensures { result.now ≡ stop_name stop }
-{
-    match stop {
-        Stop::TooManyFiles => "TOO MANY FILES",
-        Stop::FileOpen => "FILE OPEN",
-        Stop::FileNotOpen => "FILE NOT OPEN",
-        Stop::DeviceNotPresent => "DEVICE NOT PRESENT",
-        Stop::NotInputFile => "NOT INPUT FILE",
-    }
-}
-
-/// What the error means here.
-fn reason_of(stop: Stop) -> &'static str {
-    match stop {
-        Stop::TooManyFiles => "ten files are open already",
-        Stop::FileOpen => "the file is open already",
-        Stop::FileNotOpen => "the file is not open",
-        Stop::DeviceNotPresent =>
-            "no printer has answered; --present says which printers there are",
-        Stop::NotInputFile => "file 0 cannot be opened",
-    }
-}
-
-/// Says which error stopped the run of a script at a statement, counted from 1, as BASIC says it, with
-/// the number of its BASIC line if that has one, and the line. Where the status goes on from statement
-/// to statement, a device that did not answer may be that of a statement before. Where each statement
-/// begins with status 0 and a printer is there, it is the byte printed last before it that no printer
-/// took.
+/// Says which error stopped the run of a script at a statement, counted from 1, as BASIC says it. Its place
+/// is the statement, its line, the number of the BASIC line if that has one, its device, and what the
+/// error comes from. It has none, and no text, exactly where the script has no such statement.
+///
+/// Where the status goes on from statement to statement, a device that did not answer may be that of a statement
+/// before. Where each statement begins with status 0 and a printer is there, it is the byte printed last
+/// before it that no printer took.
 ///
 /// # Errors
 ///
@@ -68,182 +76,184 @@ pub fn explain_stop(
     stop: Stop,
     statement: usize,
     present: Present,
-) -> Result<Vec<u8>, NoMemory>
-    ensures { (statements : List Statement) → IsScript script.now statements → 0 < statement → statement ≤ length statements
-        → IfOk result (λ text. TellsStop script.now stop statement text.items) }
+) -> Result<Explanation<Option<StopPlace>>, NoMemory>
+    ensures place { IfOk result (λ told. IsStopPlace script.now stop statement present told.place) }
+    ensures nothing { IfOk result (λ told. told.place ≡ None → string_bytes told.text ≡ []) }
 {
-    let device = device_at(alloc, script, statement)?;
+    let mut text = String::new(alloc);
+    let statements = match read_script(alloc, script) {
+        Ok(statements) => statements,
+        Err(ScriptFault::NoMemory) => return Err(AllocError),
+        Err(_) => return Ok(Explanation { place: None, text }),
+    };
+    if statement == 0 || statement > statements.len() {
+        return Ok(Explanation { place: None, text });
+    }
+    let device = device_at(statements.as_slice(), statement);
     let (number, line) = line_of(alloc, script, statement)?;
-    let rest = told_behind(alloc, line, mode, stop, device, present)?;
-    let label = basic_number(line);
-    let mut text = Vec::new(alloc);
-    push_place(&mut text, stop, label, statement, number)?;
-    text.extend_from_slice(rest.as_slice())?;
-    Ok(text)
+    let place = StopPlace {
+        statement,
+        line: number,
+        basic_line: basic_number(line),
+        device,
+        cause: cause_of(stop, present, device),
+    };
+    push_stop(&mut text, place, line, mode, stop)?;
+    Ok(Explanation {
+        place: Some(place),
+        text,
+    })
 }
 
-/// Adds the name of an error, the number of the BASIC line, if it has one, the statement and the
-/// number of its line, both from 1.
-fn push_place(
-    text: &mut Vec<u8>,
-    stop: Stop,
-    label: Option<u32>,
-    statement: usize,
-    line: usize,
-) -> Result<(), NoMemory>
-    ensures { OnOk result (text.new.items ≡ text.old.items ++ stop_words stop label statement line) }
+/// What an error at a statement with this device, if it has one, comes from.
+fn cause_of(stop: Stop, present: Present, device: Option<u8>) -> StopCause
+    ensures { result ≡ cause_of stop present device }
 {
-    push(text, "?")?;
-    push(text, name_of(stop))?;
-    push(text, "  ERROR")?;
-    push_label(text, label)?;
-    push_numbers(text, statement as u64, line as u64)
-}
-
-/// Adds the number of the BASIC line, if it has one.
-fn push_label(text: &mut Vec<u8>, label: Option<u32>) -> Result<(), NoMemory>
-    ensures { OnOk result (text.new.items ≡ text.old.items ++ in_words label) }
-{
-    match label {
-        None => Ok(()),
-        Some(label) => push_basic_line(text, u64::from(label)),
+    if stop != Stop::DeviceNotPresent {
+        StopCause::Files
+    } else if present.four || present.five {
+        StopCause::Unheard {
+            is_absent: is_absent(present, device),
+        }
+    } else {
+        StopCause::NoPrinter
     }
 }
 
-/// Adds the number of a BASIC line.
-fn push_basic_line(text: &mut Vec<u8>, label: u64) -> Result<(), NoMemory>
-    ensures { OnOk result (text.new.items ≡ text.old.items ++ in_words (Some label)) }
+/// Whether a device is none of the printers that are there.
+fn is_absent(present: Present, device: Option<u8>) -> bool
+    ensures { result ≡ is_absent present device }
 {
-    push(text, " IN ")?;
-    push_number(text, label)
+    match device {
+        None => false,
+        Some(4) => !present.four,
+        Some(5) => !present.five,
+        Some(_) => true,
+    }
 }
 
-/// Adds the numbers of a statement and of its line, and a colon.
-fn push_numbers(text: &mut Vec<u8>, statement: u64, line: u64) -> Result<(), NoMemory>
-    ensures { OnOk result (text.new.items ≡ text.old.items ++ place_words statement line) }
-{
-    push(text, " (statement ")?;
-    push_number(text, statement)?;
-    push(text, ")\n  line ")?;
-    push_number(text, line)?;
-    push(text, ": ")
-}
-
-/// What is told behind the number of the line: the line, and what the error means here.
-fn told_behind(
-    alloc: Global,
+/// Adds an error with its place, the line, and what the error means here.
+fn push_stop(
+    text: &mut String,
+    place: StopPlace,
     line: &[u8],
     mode: StatusMode,
     stop: Stop,
-    device: Option<u8>,
-    present: Present,
-) -> Result<Vec<u8>, NoMemory> {
-    let mut text = Vec::new(alloc);
-    push_cut(&mut text, without_end(line))?;
-    push(&mut text, "\n  ")?;
-    push_reason(&mut text, mode, stop, device, present)?;
-    push(&mut text, "\n")?;
-    Ok(text)
+) -> Result<(), NoMemory> {
+    let (name, _) = words_of(stop);
+    write!(text, "?{name}  ERROR")?;
+    if let Some(label) = place.basic_line {
+        write!(text, " IN {label}")?;
+    }
+    write!(
+        text,
+        " (statement {})\n  line {}: ",
+        place.statement, place.line
+    )?;
+    write!(text, "{}\n  ", Cut(without_end(line)))?;
+    push_reason(text, place, mode, stop)?;
+    write!(text, "\n")
 }
 
-/// Adds what the error means here, at a statement with this device, if it has one.
+/// The error's name, as BASIC writes it, and what it means by itself.
+fn words_of(stop: Stop) -> (&'static str, &'static str) {
+    match stop {
+        Stop::TooManyFiles => ("TOO MANY FILES", "ten files are open already"),
+        Stop::FileOpen => ("FILE OPEN", "the file is open already"),
+        Stop::FileNotOpen => ("FILE NOT OPEN", "the file is not open"),
+        Stop::DeviceNotPresent => (
+            "DEVICE NOT PRESENT",
+            "no printer has answered; --present says which printers there are",
+        ),
+        Stop::NotInputFile => ("NOT INPUT FILE", "file 0 cannot be opened"),
+    }
+}
+
+/// Adds what the error means here.
 fn push_reason(
-    text: &mut Vec<u8>,
+    text: &mut String,
+    place: StopPlace,
     mode: StatusMode,
     stop: Stop,
-    device: Option<u8>,
-    present: Present,
 ) -> Result<(), NoMemory> {
-    match (stop, mode) {
-        (Stop::DeviceNotPresent, StatusMode::Each) => push_unanswered(text, device, present),
-        (Stop::DeviceNotPresent, StatusMode::Kept) => push(text, kept_reason(present)),
-        _ => push(text, reason_of(stop)),
-    }
-}
-
-/// What was not answered where the status goes on from statement to statement.
-fn kept_reason(present: Present) -> &'static str {
-    if present.four || present.five {
-        "no printer was listening to a byte that went out here or at a statement before (--status kept)"
-    } else {
-        "no printer has answered, here or at a statement before (--status kept); --present says which \
-         printers there are"
-    }
-}
-
-/// Adds what was not answered where the statement began with status 0. Any printer answers a LISTEN,
-/// to whichever device: where one is there, it was the byte that the computer held back until then.
-fn push_unanswered(
-    text: &mut Vec<u8>,
-    device: Option<u8>,
-    present: Present,
-) -> Result<(), NoMemory> {
-    let is_nobody_there = !present.four && !present.five;
-    match device {
-        Some(device) if is_nobody_there => push_silent(text, device),
-        None if is_nobody_there => push(text, reason_of(Stop::DeviceNotPresent)),
-        Some(device) if !is_there(present, device) => {
-            push(text, UNHEARD)?;
-            push(text, "; nor is device ")?;
-            push_number(text, u64::from(device))?;
-            push(text, " there: --present says which printers there are")
+    match (place.cause, mode, place.device) {
+        (StopCause::NoPrinter, StatusMode::Kept, _) => write!(
+            text,
+            "no printer has answered, here or at a statement before (--status kept); --present says which \
+             printers there are"
+        ),
+        (StopCause::NoPrinter, StatusMode::Each, Some(device)) => write!(
+            text,
+            "device {device} does not answer; --present says which printers there are"
+        ),
+        (StopCause::Unheard { .. }, StatusMode::Kept, _) => write!(
+            text,
+            "no printer was listening to a byte that went out here or at a statement before (--status kept)"
+        ),
+        (StopCause::Unheard { is_absent: true }, StatusMode::Each, Some(device)) => write!(
+            text,
+            "{UNHEARD}; nor is device {device} there: --present says which printers there are"
+        ),
+        (StopCause::Unheard { .. }, StatusMode::Each, _) => write!(text, "{UNHEARD}"),
+        (StopCause::Files, _, _) | (StopCause::NoPrinter, StatusMode::Each, None) => {
+            let (_, reason) = words_of(stop);
+            write!(text, "{reason}")
         }
-        _ => push(text, UNHEARD),
     }
 }
 
-/// Whether a device is a printer that is there.
-fn is_there(present: Present, device: u8) -> bool {
-    match device {
-        4 => present.four,
-        5 => present.five,
-        _ => false,
+/// The device of a statement, counted from 1.
+fn device_at(statements: &[Statement], number: usize) -> Option<u8>
+    requires some { 0 < number }
+    requires within { number ≤ length statements.now }
+    ensures { IsDeviceAt statements.now number result }
+{
+    let (before, rest) = statements.split_at(number - 1);
+    match rest {
+        [at, ..] => device_of(before, at),
+        [] => unreachable!(),
     }
 }
 
-/// Adds that a device does not answer.
-fn push_silent(text: &mut Vec<u8>, device: u8) -> Result<(), NoMemory> {
-    push(text, "device ")?;
-    push_number(text, u64::from(device))?;
-    push(
-        text,
-        " does not answer; --present says which printers there are",
-    )
-}
-
-/// The device of a statement, counted from 1, of a script.
-fn device_at(alloc: Global, script: &[u8], statement: usize) -> Result<Option<u8>, NoMemory> {
-    match read_script(alloc, script) {
-        Ok(statements) => Ok(device_of(statements.as_slice(), statement)),
-        Err(ScriptFault::NoMemory) => Err(AllocError),
-        Err(_) => Ok(None),
+/// The device of a statement after others: its own, or that of the last OPEN of its file.
+fn device_of(before: &[Statement], at: &Statement) -> Option<u8>
+    ensures { result ≡ device_of before.now at.now }
+{
+    match at {
+        Statement::OpenFile { device, .. } => Some(device.get()),
+        Statement::Cmd { file, .. } | Statement::PrintTo { file, .. } => {
+            last_opened(before, *file)
+        }
+        Statement::Print { .. } | Statement::CloseFile { .. } | Statement::Rem => None,
     }
 }
 
-/// The device of a statement, counted from 1: its own, or that of the last OPEN of its file before it.
-fn device_of(statements: &[Statement], number: usize) -> Option<u8> {
-    let mut opened = None;
-    let index = number.checked_sub(1)?;
-    let file = match statements.get(index)? {
-        Statement::OpenFile { device, .. } => return Some(device.get()),
-        Statement::Cmd { file, .. } | Statement::PrintTo { file, .. } => *file,
-        Statement::Print { .. } | Statement::CloseFile { .. } | Statement::Rem => return None,
-    };
-    for statement in &statements[..index] {
-        if let Statement::OpenFile {
+/// The device of the last OPEN of a file.
+fn last_opened(statements: &[Statement], file: u8) -> Option<u8>
+    ensures { result ≡ opened file statements.now None }
+{
+    let mut found = None;
+    let mut rest = statements;
+    while let [statement, more @ ..] = rest {
+        found = opened_by(statement, file, found);
+        rest = more;
+    }
+    found
+}
+
+/// The device of a statement that opens a file, or else that of an OPEN before it.
+fn opened_by(statement: &Statement, file: u8, before: Option<u8>) -> Option<u8>
+    ensures { result ≡ opened_by statement.now file before }
+{
+    match statement {
+        Statement::OpenFile {
             file: other,
             device,
             ..
-        } = statement
-        {
-            if *other == file {
-                opened = Some(device.get());
-            }
-        }
+        } if *other == file => Some(device.get()),
+        _ => before,
     }
-    opened
 }
-
 /// The line with a statement, counted from 1: the line's number, from 1, and its bytes without the byte
 /// 10 that ends it. The time is linear in the bytes: each line is read once.
 fn line_of(alloc: Global, script: &[u8], statement: usize) -> Result<(usize, &[u8]), NoMemory>

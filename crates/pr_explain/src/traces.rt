@@ -1,22 +1,48 @@
-//! Why a trace is refused, in any format.
+//! Why a trace or a recording is refused, in any format.
 
-ghost use Rattle.std.specs.Prelude.{IfOk};
-ghost use Rattle.pr_explain.specs.TraceTold.{IsReadingTold, IsTraceTold};
+ghost use Rattle.std.specs.Prelude.{◌≡◌, List, [], None, IfOk, IfSome, MatchOption};
+ghost use Rattle.std.specs.String.{string_bytes};
+ghost use Rattle.pr_wire.specs.declared.Edge.{Edge};
+ghost use Rattle.pr_cli.specs.Sources.{IsOwnFault};
+ghost use Rattle.pr_explain.specs.Followed.{Follows, back_from, stands_before};
+ghost use Rattle.pr_explain.specs.TracePlaces.{AreInOrder, GoesBackAt, IsPlaceOf, IsPlaceRead, IsReadingPlace, IsTracePlace, nowhere};
 
-use crate::edges::{back_in, back_told, edges_told};
-use crate::faults::fault_told;
+use crate::Explanation;
+use crate::edges::{EdgePlace, Followed, follow, place_in};
+use crate::faults::{own_line, push_fault};
 use crate::input::read_input;
-use crate::texts::origin_of;
+use crate::texts::{Shown, start_of};
+use crate::trace_text::{TraceSaid, push_index, push_stop};
 use pr_capture::TraceInput;
-use pr_wire::NoMemory;
+use pr_cli::CliFault;
+use pr_wire::{Edge, NoMemory};
 use std::alloc::Global;
 
-/// Says why a trace is refused: its first fault, with the line, and what the line should have; or where
-/// the first edge stands that is not lawful, what could have followed and by how much it was missed.
-/// Where a line has a fault, an edge before it that is not lawful is told too. Nothing, where the trace
-/// is lawful. It reads the trace as `check` does.
+/// Where a trace is refused.
+#[derive(Clone, Copy, Debug, PartialEq, Eq)]
+pub struct TracePlace {
+    /// The line that cannot be read, from 1, if there is one.
+    pub line: Option<usize>,
+    /// Where the edges, or those before that line, stop being lawful, if they do.
+    pub edge: Option<EdgePlace>,
+}
+
+/// Where a recording cannot be read on.
+#[derive(Clone, Copy, Debug, PartialEq, Eq)]
+pub enum ReadingPlace {
+    /// The edge of this index, from 0, is earlier than the one before it.
+    Edge(usize),
+    /// The line of this number, from 1, cannot be read.
+    Line(usize),
+}
+
+/// Says why a trace is refused. Its place is the line that cannot be read, and where its edges stop being
+/// lawful, with the edges that may follow there; of edges before a line that cannot be read only where
+/// one is not allowed. It has neither, and no text, exactly where the trace is lawful. The trace is read as
+/// `check` reads it.
 ///
-/// Moments are counted from the start that the input has; the recording's own microseconds stand in
+/// The text shows the line, and what it should have; the edge, those that could have followed, and by how
+/// much they were missed. Its times count from the start that the input has; the recording's own microseconds are in
 /// brackets where that is not 0.
 ///
 /// # Errors
@@ -26,24 +52,53 @@ pub fn explain_trace(
     alloc: Global,
     trace: &[u8],
     input: TraceInput<'_>,
-) -> Result<Vec<u8>, NoMemory>
-    ensures { IfOk result (λ text. IsTraceTold input.entry trace.now text.items) }
+) -> Result<Explanation<TracePlace>, NoMemory>
+    ensures place { IfOk result (λ told. IsTracePlace input.entry trace.now told.place) }
+    ensures nothing { IfOk result (λ told. told.place ≡ nowhere → string_bytes told.text ≡ []) }
 {
     let said = read_input(alloc, trace, input)?;
+    let fault = said.fault;
     let edges = said.edges.as_slice();
-    let origin = origin_of(input);
-    let Some(fault) = said.fault else {
-        return edges_told(alloc, edges, origin, true);
-    };
-    let mut text = fault_told(alloc, trace, input, fault)?;
-    let behind = edges_told(alloc, edges, origin, false)?;
-    text.extend_from_slice(behind.as_slice())?;
-    Ok(text)
+    let followed = follow(edges);
+    let place = place_of(&followed, fault);
+    let mut text = String::new(alloc);
+    if place.line.is_none() && place.edge.is_none() {
+        return Ok(Explanation { place, text });
+    }
+    if let (Some(fault), Some(number)) = (fault, place.line) {
+        push_fault(&mut text, trace, input, fault, number)?;
+    }
+    if let Some(edge) = place.edge {
+        let trace = TraceSaid {
+            input,
+            edges,
+            is_whole: fault.is_none(),
+        };
+        push_stop(&mut text, trace, &followed, edge)?;
+    }
+    Ok(Explanation { place, text })
 }
 
-/// Says why a recording can not be read to its end: the first edge that stands before the one in front
-/// of it; or the first fault, with the line, and what the line should have. Nothing, where the recording
-/// can be read. It reads the recording as `decode` does.
+/// Where a trace is refused that has these edges, up to a fault of its own, if it has one.
+fn place_of(followed: &Followed, fault: Option<CliFault>) -> TracePlace
+    requires { IfSome fault IsOwnFault }
+    ensures { (edges : List Edge) → Follows edges followed.now → IsPlaceOf edges fault result }
+{
+    match fault {
+        None => TracePlace {
+            line: None,
+            edge: place_in(followed, true),
+        },
+        Some(fault) => TracePlace {
+            line: Some(own_line(fault)),
+            edge: place_in(followed, false),
+        },
+    }
+}
+
+/// Says why a recording cannot be read to its end. Its place is the first edge that is earlier than the one
+/// before it, or else the line that cannot be read. It has none, and no text, exactly where the recording
+/// can be read. The recording is read as `decode` reads it.
 ///
 /// # Errors
 ///
@@ -52,16 +107,99 @@ pub fn explain_reading(
     alloc: Global,
     recording: &[u8],
     input: TraceInput<'_>,
-) -> Result<Vec<u8>, NoMemory>
-    ensures { IfOk result (λ text. IsReadingTold input.entry recording.now text.items) }
+) -> Result<Explanation<Option<ReadingPlace>>, NoMemory>
+    ensures place { IfOk result (λ told. IsReadingPlace input.entry recording.now told.place) }
+    ensures nothing { IfOk result (λ told. told.place ≡ None → string_bytes told.text ≡ []) }
 {
     let said = read_input(alloc, recording, input)?;
+    let fault = said.fault;
     let edges = said.edges.as_slice();
-    if let Some(back) = back_in(edges) {
-        return back_told(alloc, back, origin_of(input));
+    let mut text = String::new(alloc);
+    let Some(place) = place_read(edges, fault) else {
+        return Ok(Explanation { place: None, text });
+    };
+    match (place, fault) {
+        (ReadingPlace::Edge(index), _) => push_back(&mut text, edges, index, input)?,
+        (ReadingPlace::Line(number), Some(fault)) => {
+            push_fault(&mut text, recording, input, fault, number)?;
+        }
+        (ReadingPlace::Line(_), None) => {}
     }
-    match said.fault {
-        Some(fault) => fault_told(alloc, recording, input, fault),
-        None => Ok(Vec::new(alloc)),
+    Ok(Explanation {
+        place: Some(place),
+        text,
+    })
+}
+
+/// Where edges go back in time, or else the line of the fault after them, if there is one.
+fn place_read(edges: &[Edge], fault: Option<CliFault>) -> Option<ReadingPlace>
+    requires { IfSome fault IsOwnFault }
+    ensures { IsPlaceRead edges.now fault result }
+{
+    match (first_back(edges), fault) {
+        (Some(index), _) => Some(ReadingPlace::Edge(index)),
+        (None, Some(fault)) => Some(ReadingPlace::Line(own_line(fault))),
+        (None, None) => None,
     }
+}
+
+/// Whether an edge is earlier than the one before it, if there is one.
+fn goes_back(last: Option<Edge>, edge: Edge) -> bool
+    ensures { result ≡ stands_before edge last }
+{
+    match last {
+        Some(last) => edge.time < last.time,
+        None => false,
+    }
+}
+
+/// The index of the first edge that is earlier than the one before it, if there is one.
+#[tactic(auto, using(crate::proofs::BackLemmas::back_found))]
+fn first_back(edges: &[Edge]) -> Option<usize>
+    ensures { MatchOption result (AreInOrder edges.now) (λ index. GoesBackAt edges.now index) }
+{
+    find_back(edges)
+}
+
+/// Finds that edge, by its index.
+fn find_back(edges: &[Edge]) -> Option<usize>
+    ensures { result ≡ back_from 0 None edges.now }
+{
+    let mut last = None;
+    let mut index: usize = 0;
+    let mut rest = edges;
+    while let [edge, more @ ..] = rest {
+        if goes_back(last, *edge) {
+            return Some(index);
+        }
+        last = Some(*edge);
+        index += 1;
+        rest = more;
+    }
+    None
+}
+
+/// Adds that the edge of this index is earlier than the one before it.
+fn push_back(
+    text: &mut String,
+    edges: &[Edge],
+    index: usize,
+    input: TraceInput<'_>,
+) -> Result<(), NoMemory> {
+    let start = start_of(input);
+    if start > 0 {
+        write!(text, "  [in brackets: the recording's own microseconds]\n")?;
+    }
+    push_index(text, index, input.source)?;
+    if let Some(edge) = edges.get(index) {
+        write!(text, "{}\n", Shown { edge: *edge, start })?;
+    }
+    if let Some(edge) = index.checked_sub(1).and_then(|before| edges.get(before)) {
+        write!(
+            text,
+            "  the edge before it: {}\n",
+            Shown { edge: *edge, start }
+        )?;
+    }
+    write!(text, "  it is earlier than the edge before it\n")
 }

@@ -20,7 +20,7 @@ const WORDS: [&str; 58] = [
 ];
 
 /// What a word is.
-#[derive(Clone, Copy, Debug, PartialEq, Eq)]
+#[derive(Clone, Copy)]
 pub enum WordKind {
     /// A word of this profile, as BASIC writes it.
     Keyword(&'static str),
@@ -37,7 +37,7 @@ pub enum WordKind {
 }
 
 /// A word of a line.
-#[derive(Clone, Copy, Debug, PartialEq, Eq)]
+#[derive(Clone, Copy)]
 pub struct Word {
     pub kind: WordKind,
     /// How many bytes it has.
@@ -65,30 +65,21 @@ impl Word {
 pub fn word_at(rest: &[u8]) -> Word
     ensures { result.len ≤ length rest.now }
 {
-    match rest {
-        [first, ..] if first.is_ascii_alphabetic() => match entry_at(rest) {
-            Some(word) => word,
-            None => other_at(rest),
-        },
-        [b'0'..=b'9', ..] => Word {
-            kind: WordKind::Digits,
-            len: lexeme_len(rest),
-        },
-        _ => Word {
-            kind: WordKind::Other,
-            len: lexeme_len(rest),
-        },
-    }
-}
-
-/// How many bytes the lexeme in front has.
-fn lexeme_len(rest: &[u8]) -> usize
-    ensures { result ≤ length rest.now }
-{
-    match lexeme_at(rest) {
+    let kind = match rest {
+        [first, ..] if first.is_ascii_alphabetic() => {
+            return match entry_at(rest) {
+                Some(word) => word,
+                None => other_at(rest),
+            };
+        }
+        [b'0'..=b'9', ..] => WordKind::Digits,
+        _ => WordKind::Other,
+    };
+    let len = match lexeme_at(rest) {
         Some(lexeme) => lexeme.len(),
         None => 0,
-    }
+    };
+    Word { kind, len }
 }
 
 /// Whether a number stands in front.
@@ -101,13 +92,13 @@ fn entry_at(rest: &[u8]) -> Option<Word>
     ensures { IfSome result (λ word. word.len ≤ length rest.now) }
 {
     for word in KEYWORDS {
-        if let Some(len) = spelled_whole(rest, word.as_bytes()) {
+        if let Some(len) = spelled(rest, word.as_bytes()) {
             let kind = WordKind::Keyword(word);
             return Some(Word { kind, len });
         }
     }
     for word in WORDS {
-        if let Some(len) = spelled_whole(rest, word.as_bytes()) {
+        if let Some(len) = spelled(rest, word.as_bytes()) {
             let kind = WordKind::Foreign(word);
             return Some(Word { kind, len });
         }
@@ -115,19 +106,8 @@ fn entry_at(rest: &[u8]) -> Option<Word>
     None
 }
 
-/// As [`spelled`]; but a word with spaces in it ends where its last letters do: `T OR` is not TO.
-fn spelled_whole(rest: &[u8], word: &[u8]) -> Option<usize>
-    ensures { IfSome result (λ len. len ≤ length rest.now) }
-{
-    let len = spelled(rest, word)?;
-    match &rest[len..] {
-        [next, ..] if len > word.len() && next.is_ascii_alphabetic() => None,
-        _ => Some(len),
-    }
-}
-
 /// How many bytes a word has that is spelled in front, whichever of its letters are capitals, with or
-/// without spaces in it.
+/// without spaces in it. With spaces in it, it ends where its last letters do: `T OR` is not TO.
 fn spelled(rest: &[u8], word: &[u8]) -> Option<usize>
     ensures { IfSome result (λ len. len ≤ length rest.now) }
 {
@@ -141,7 +121,11 @@ fn spelled(rest: &[u8], word: &[u8]) -> Option<usize>
         }
         left = more;
     }
-    Some(rest.len().saturating_sub(left.len()))
+    let len = rest.len().saturating_sub(left.len());
+    match left {
+        [next, ..] if len > word.len() && next.is_ascii_alphabetic() => None,
+        _ => Some(len),
+    }
 }
 
 /// What stands behind the spaces and tabs in front.
@@ -219,29 +203,18 @@ fn is_hexadecimal(rest: &[u8]) -> bool {
     !digits.is_empty()
 }
 
-/// Whether these bytes end in PRINT and spaces behind it.
+/// Whether these bytes end in PRINT and spaces after it.
 fn parts_print(before: &[u8]) -> bool {
-    let Some(len) = before.len().checked_sub(blanks_behind(before)) else {
+    let Some(last) = before
+        .iter()
+        .rposition(|byte| *byte != b' ' && *byte != b'\t')
+    else {
         return false;
     };
-    let word = &before[..len];
-    match word.len().checked_sub(5) {
-        Some(start) => len < before.len() && word[start..].eq_ignore_ascii_case(b"print"),
+    match last.checked_sub(4) {
+        Some(start) => {
+            last + 1 < before.len() && before[start..last + 1].eq_ignore_ascii_case(b"print")
+        }
         None => false,
     }
-}
-
-/// How many spaces and tabs stand at the end.
-fn blanks_behind(bytes: &[u8]) -> usize
-    ensures { result ≤ length bytes.now }
-{
-    let mut count: usize = 0;
-    for byte in bytes {
-        if *byte == b' ' || *byte == b'\t' {
-            count = count.saturating_add(1);
-        } else {
-            count = 0;
-        }
-    }
-    count.min(bytes.len())
 }

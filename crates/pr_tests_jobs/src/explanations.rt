@@ -5,10 +5,13 @@ use crate::refusals::most_refusals;
 use pr_basic::StatusMode;
 use pr_capture::{Signals, Source, TraceInput};
 use pr_channels::Stop;
-use pr_explain::{explain_reading, explain_script, explain_stop, explain_trace};
+use pr_explain::{
+    EdgePlace, Miss, ReadingPlace, Row, ScriptPlace, StopCause, StopPlace, explain_reading,
+    explain_script, explain_stop, explain_trace,
+};
 use pr_serial::Present;
-use pr_wire::NoMemory;
 use pr_wire::example::TRACE_TEXT;
+use pr_wire::{Levels, NoMemory, WaveFault};
 use std::process::Abort;
 
 const BOTH: Present = Present {
@@ -40,9 +43,9 @@ const HELD_BACK: &str =
     "OPEN 4,4,7:OPEN 5,5:OPEN 9,9\nCMD 4:CLOSE 4:PRINT \"X\"\nPRINT#5,\"Y\"\nCMD 9\nPRINT#9\nPRINT#3\n";
 
 /// A script, the status mode, the printers, an error, its statement, and the explanation.
-type Row = (&'static str, StatusMode, Present, Stop, usize, &'static str);
+type StopRow = (&'static str, StatusMode, Present, Stop, usize, &'static str);
 
-const ROWS: [Row; 22] = [
+const ROWS: [StopRow; 22] = [
     (
         "10 OPEN 4,4\n20 OPEN 7,7:PRINT#7,\"A:B\":REM :\n30 CLOSE 7\n",
         StatusMode::Each,
@@ -232,7 +235,7 @@ fn errors_of_statements(rt: HostRuntime) {
             statement,
             present,
         );
-        let is_well = told.is_ok_and(|text| text.as_slice() == wanted.as_bytes());
+        let is_well = told.is_ok_and(|told| told.text.as_bytes() == wanted.as_bytes());
         assert!(rt; is_well, "statement {statement} of {script}");
     }
 }
@@ -259,26 +262,147 @@ fn names_that_are_no_text(rt: HostRuntime) {
         the first column, called t, is the time in seconds\n  the recording has the signals ATN, D1, DATA\n  \
         --names tells which signals are ATN, CLOCK and DATA, as in --names ATN,CLOCK,DATA\n";
     let told = explain_trace(rt.alloc(), b"t,ATN,D1,DATA\n", input);
-    assert!(rt; told.is_ok_and(|text| text.as_slice() == wanted.as_slice()));
+    assert!(rt; told.is_ok_and(|told| told.text.as_bytes() == wanted.as_slice()));
+}
+
+/// A trace text as it is.
+const fn text_input() -> TraceInput<'static> {
+    TraceInput {
+        source: Source::Text,
+        signals: signals(b"CLOCK"),
+        start: 0,
+    }
+}
+
+/// A row to levels of ATN, CLOCK and DATA.
+fn row(atn: bool, clock: bool, line: bool, earliest: u64, latest: Option<u64>) -> Option<Row> {
+    let levels = Levels { atn, clock, line };
+    Some(Row {
+        levels,
+        earliest,
+        latest,
+    })
+}
+
+/// Where the edges of a text stop being lawful, and the line that cannot be read.
+fn place_of(
+    rt: &impl AllocGlobal,
+    text: &str,
+) -> Result<(Option<usize>, Option<EdgePlace>), NoMemory> {
+    let told = explain_trace(rt.alloc(), text.as_bytes(), text_input())?;
+    Ok((told.place.line, told.place.edge))
+}
+
+#[test]
+fn places_of_traces(rt: HostRuntime) -> Result<(), NoMemory> {
+    let called = [row(false, false, true, 100, None), None, None];
+    let unanswered = [
+        row(false, false, false, 101, Some(1100)),
+        row(false, true, false, 1100, Some(1100)),
+        row(true, true, true, 1100, Some(2100)),
+    ];
+    let rows = [
+        (
+            "",
+            (0, WaveFault::Start(0), [row(true, true, true, 0, Some(0)), None, None], None),
+        ),
+        (
+            "0 111\n40 001\n",
+            (1, WaveFault::TooEarly(1), called, Some(Miss::Early(60))),
+        ),
+        (
+            "0 111\n100 001\n1103 000\n",
+            (2, WaveFault::TooLate(2), unanswered, Some(Miss::Late(3))),
+        ),
+        (
+            "0 111\n100 001\n",
+            (2, WaveFault::Truncated(2), unanswered, None),
+        ),
+    ];
+    for (text, (index, fault, expected, missed)) in rows {
+        let edge = EdgePlace {
+            index,
+            fault,
+            expected,
+            missed,
+        };
+        assert!(rt; place_of(&rt, text)? == (None, Some(edge)), "{text}");
+    }
+    assert!(rt; place_of(&rt, TRACE_TEXT)? == (None, None));
+    assert!(rt; place_of(&rt, "0 111\n100 001\n?\n")? == (Some(3), None));
+    let (line, edge) = place_of(&rt, "0 111\n0 001\n?\n")?;
+    assert!(rt; line == Some(3) && edge.is_some_and(|edge| edge.fault == WaveFault::Order(1)));
+    Ok(())
+}
+
+#[test]
+fn places_of_recordings(rt: HostRuntime) {
+    let rows = [
+        ("0 111\n0 001\n9 001\n", None),
+        ("5 111\n6 001\n4 001\n?", Some(ReadingPlace::Edge(2))),
+        ("0 111\n4 001\n?\n", Some(ReadingPlace::Line(3))),
+    ];
+    for (text, place) in rows {
+        let told = explain_reading(rt.alloc(), text.as_bytes(), text_input());
+        assert!(rt; told.is_ok_and(|told| told.place == place), "{text}");
+    }
+}
+
+#[test]
+fn places_of_scripts(rt: HostRuntime) {
+    let rows = [
+        ("10 OPEN 4,4\r\n20 PRINT#4,\"A\";CHR$(65)\n", None),
+        ("OPEN 4,4\nPRINT#4,CHR$(256)\n", Some((2, 14, None))),
+        ("20 PRINT+", Some((1, 9, Some(20)))),
+    ];
+    for (text, place) in rows {
+        let place = place.map(|(line, column, basic_line)| ScriptPlace {
+            line,
+            column,
+            basic_line,
+        });
+        let told = explain_script(rt.alloc(), text.as_bytes());
+        assert!(rt; told.is_ok_and(|told| told.place == place), "{text}");
+    }
+}
+
+/// A statement, its place, its device, and whether that is absent, by what the error comes from.
+const STOPS: [(usize, Present, Option<(usize, Option<u8>, StopCause)>); 6] = [
+    (0, NONE, None),
+    (7, NONE, Some((3, Some(5), StopCause::NoPrinter))),
+    (7, BOTH, Some((3, Some(5), StopCause::Unheard { is_absent: false }))),
+    (7, ONLY_FOUR, Some((3, Some(5), StopCause::Unheard { is_absent: true }))),
+    (10, BOTH, Some((6, None, StopCause::Unheard { is_absent: false }))),
+    (11, BOTH, None),
+];
+
+#[test]
+fn places_of_stops(rt: HostRuntime) {
+    let script = HELD_BACK.as_bytes();
+    for (statement, present, place) in STOPS {
+        let place = place.map(|(line, device, cause)| StopPlace {
+            statement,
+            line,
+            basic_line: None,
+            device,
+            cause,
+        });
+        let stop = Stop::DeviceNotPresent;
+        let told = explain_stop(rt.alloc(), script, StatusMode::Each, stop, statement, present);
+        assert!(rt; told.is_ok_and(|told| told.place == place), "{statement}");
+    }
 }
 
 /// Nothing is said of a good script, a lawful trace, and a recording that is read to its end.
 #[test]
 fn nothing_to_explain(rt: HostRuntime) {
-    let input = TraceInput {
-        source: Source::Text,
-        signals: signals(b"CLOCK"),
-        start: 0,
-    };
     let script = b"10 OPEN 4,4\r\n20 PRINT#4,\"A\";CHR$(65)\n";
-    let told = [
-        explain_script(rt.alloc(), script),
-        explain_trace(rt.alloc(), TRACE_TEXT.as_bytes(), input),
-        explain_reading(rt.alloc(), b"0 111\n0 001\n9 001\n", input),
-    ];
-    for (number, text) in told.into_iter().enumerate() {
-        assert!(rt; text.is_ok_and(|text| text.is_empty()), "{number}");
-    }
+    let told = explain_script(rt.alloc(), script);
+    assert!(rt; told.is_ok_and(|told| told.text.is_empty()));
+    let told = explain_trace(rt.alloc(), TRACE_TEXT.as_bytes(), text_input());
+    assert!(rt; told.is_ok_and(|told| told.text.is_empty()));
+    let told = explain_reading(rt.alloc(), b"0 111\n0 001\n9 001\n", text_input());
+    assert!(rt; told.is_ok_and(|told| told.text.is_empty()));
 }
 
 /// A script, a trace or a recording, and the end of its explanation.
@@ -307,9 +431,9 @@ fn explained(
     rt: &(impl Abort + AllocGlobal),
     text: &[u8],
     source: Option<Source>,
-) -> Result<Vec<u8>, NoMemory> {
+) -> Result<String, NoMemory> {
     let Some(source) = source else {
-        return explain_script(rt.alloc(), text);
+        return Ok(explain_script(rt.alloc(), text)?.text);
     };
     let start = match source {
         Source::Text => 0,
@@ -321,7 +445,7 @@ fn explained(
         signals,
         start,
     };
-    explain_trace(rt.alloc(), text, input)
+    Ok(explain_trace(rt.alloc(), text, input)?.text)
 }
 
 /// How many explanations are refused memory. The others are as with ample memory.
@@ -329,14 +453,14 @@ fn refusals(rt: &(impl Abort + AllocGlobal)) -> usize {
     let mut refused = 0_usize;
     for (text, source, end) in EXPLAINED {
         match explained(rt, text, source) {
-            Ok(told) => assert!(rt; told.as_slice().ends_with(end)),
+            Ok(told) => assert!(rt; told.as_bytes().ends_with(end)),
             Err(_refused) => refused = refused.saturating_add(1),
         }
     }
     let script = b"10 OPEN 4,5\n20 PRINT#4,\"A\"";
     let stop = Stop::DeviceNotPresent;
     match explain_stop(rt.alloc(), script, StatusMode::Each, stop, 2, NONE) {
-        Ok(told) => assert!(rt; told.as_slice().ends_with(b"which printers there are\n")),
+        Ok(told) => assert!(rt; told.text.as_bytes().ends_with(b"which printers there are\n")),
         Err(_refused) => refused = refused.saturating_add(1),
     }
     refused

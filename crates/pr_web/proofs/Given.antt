@@ -1,23 +1,14 @@
 -- What is made in memory, and handed to the page.
-use Rattle.std.proofs.Common.{ℕ, List, [], Some, None, Ok, refl}
+use Rattle.std.proofs.Common.{ℕ, List, [], Some}
 use Rattle.pr_cli.specs.Check.{trace_limit}
 use Rattle.pr_render.specs.declared.format.Format.{Format}
 use Rattle.pr_capture.specs.declared.format.TraceInput.{TraceInput}
 use Rattle.pr_recording.specs.Decoded.{AnswersDecode}
 use Rattle.pr_recording.specs.Pages.{AnswersPages}
-use Rattle.pr_web.specs.Giving.{Gives, GivesPages, GivesReadings, Hands, Made}
+use Rattle.pr_web.specs.Giving.{Gives, GivesPages, GivesReadings, Made}
 use Rattle.pr_web.specs.declared.answer.Told.{Told}
-use Rattle.pr_web.specs.declared.answer.Told.TheVariants.{Written, TooSmall, Refused}
 
--- an explanation that was made is handed over
-pub hands : (IsText : List ℕ → Type 0) (text old new : List ℕ) (told : Told)
-    → IsText text → Gives (Ok tt) text old new told → Hands IsText old new told
-hands IsText text old new (Written None n) is g = (text, is, refl, g.1, g.2, g.3)
-hands IsText text old new (Written (Some fault) n) is g = cc
-hands IsText text old new (TooSmall n) is g = (text, is, g.2, g.3, g.4)
-hands IsText text old new (Refused fault) is g = cc
-
--- so is what a recording says
+-- what a recording says is handed over
 pub gives-readings : (input : TraceInput) (bytes text old new : List ℕ) (made : Made) (told : Told)
     → AnswersDecode trace_limit input bytes (Some []) (Some text) made → Gives made text old new told → GivesReadings input bytes old new told
 gives-readings input bytes text old new made told a g = (made, text, a, g)

@@ -1,5 +1,6 @@
 -- Trusted: what came of a call, as numbers.
 use Rattle.std.specs.Prelude.{ℕ, ◌+◌, Some, None}
+use Rattle.std.specs.Option.{option_map_or, unwrap_or}
 use Rattle.pr_wire.specs.declared.WaveFault.TheVariants as wave
 use Rattle.pr_wire.specs.declared.text.TraceFault.TheVariants as trace
 use Rattle.pr_capture.specs.declared.fault.CaptureFault.{CaptureFault}
@@ -8,6 +9,9 @@ use Rattle.pr_capture.specs.declared.fault.Wire.{Wire}
 use Rattle.pr_capture.specs.declared.fault.Wire.TheVariants as wire
 use Rattle.pr_cli.specs.declared.fault.CliFault.{CliFault}
 use Rattle.pr_cli.specs.declared.fault.CliFault.TheVariants.{Trace, Wave, Capture, TooLarge}
+use Rattle.pr_explain.specs.declared.traces.ReadingPlace.{ReadingPlace}
+use Rattle.pr_explain.specs.declared.traces.ReadingPlace.TheVariants.{Edge, Line}
+use Rattle.pr_explain.specs.declared.traces.TracePlace.{TracePlace}
 use Rattle.pr_web.specs.declared.answer.Answer.{Answer}
 use Rattle.pr_web.specs.declared.answer.Told.{Told}
 use Rattle.pr_web.specs.declared.answer.Told.TheVariants.{Written, TooSmall, Refused}
@@ -55,3 +59,12 @@ answer_of (Written (Some fault) n) = refusal (fault_numbers fault) n
 answer_of (TooSmall n) = plain 4 n
 answer_of (Refused TooLarge) = refusal (9, 0) 0
 answer_of (Refused _) = plain 3 0
+
+-- the line that cannot be read, or else the index of the edge, or else 0
+abbrev pub place_of_trace : TracePlace → ℕ
+place_of_trace p = unwrap_or p.line (option_map_or (λ e. e.index) p.edge 0)
+
+-- the index of the edge, or the line
+abbrev pub number_read : ReadingPlace → ℕ
+number_read (Edge index) = index
+number_read (Line line) = line

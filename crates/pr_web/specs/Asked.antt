@@ -1,13 +1,14 @@
 -- Trusted: what a call of the page answers for the settings and the bytes that it is passed, and what it leaves in the buffer.
-use Rattle.std.specs.Prelude.{◌≡◌, ℕ, ◌<◌, ◌≤◌, List, length, Option, Some, None}
-use Rattle.pr_basic.specs.declared.statement.Statement.{Statement}
-use Rattle.pr_basic.specs.Grammar.{IsScript}
+use Rattle.std.specs.Prelude.{◌≡◌, ◌⊎◌, ℕ, List, [], Option, Some, None}
+use Rattle.std.specs.Option.{option_map_or}
 use Rattle.pr_channels.specs.declared.faults.Stop.{Stop}
-use Rattle.pr_explain.specs.StopTold.{TellsStop}
-use Rattle.pr_explain.specs.TraceTold.{IsReadingTold, IsTraceTold}
+use Rattle.pr_explain.specs.ScriptPlaces.{IsScriptPlace}
+use Rattle.pr_explain.specs.StopPlaces.{IsStopPlace}
+use Rattle.pr_explain.specs.TracePlaces.{IsReadingPlace, IsTracePlace, nowhere}
+use Rattle.pr_serial.specs.declared.Present.{Present}
 use Rattle.pr_capture.specs.declared.format.Source.{Source}
 use Rattle.pr_capture.specs.declared.format.TraceInput.{TraceInput}
-use Rattle.pr_web.specs.Answers.{answer_of, refusal}
+use Rattle.pr_web.specs.Answers.{answer_of, number_read, place_of_trace, plain, refusal}
 use Rattle.pr_web.specs.Giving.{GivesPages, GivesReadings, Hands}
 use Rattle.pr_web.specs.Settings.{IsInput, is_yes, page_format_of}
 use Rattle.pr_web.specs.declared.answer.Answer.{Answer}
@@ -32,27 +33,32 @@ TellsReprint (Some source) atn clock line inverted start picture bytes old new a
     (input : TraceInput) × IsInput source atn clock line (is_yes inverted) start input
     × (told : Told) × GivesPages input (page_format_of (is_yes picture)) bytes old new told × (answer ≡ answer_of told)
 
--- an explanation
-abbrev pub Explains : (List ℕ → Type 0) → (old new : List ℕ) → Answer → Type 0
-Explains IsText old new answer = (told : Told) × Hands IsText old new told × (answer ≡ answer_of told)
+-- the explanation of a place is handed over with the place's number, or memory for it was refused; where there is no place there is no text
+abbrev pub Explains : {P : Type 0} → (IsPlace : P → Type 0) → (number : P → ℕ) → (nowhere : P) → (old new : List ℕ) → Answer → Type 0
+Explains {P} IsPlace number nowhere old new answer =
+    ((p : P) × (text : List ℕ) × IsPlace p × (p ≡ nowhere → text ≡ []) × Hands (number p) text old new answer)
+    ⊎ ((answer ≡ plain 3 0) × (new ≡ old))
+
+-- why a script is refused
+abbrev pub ExplainsScript : (script : List ℕ) → (old new : List ℕ) → Answer → Type 0
+ExplainsScript script old new answer = Explains (IsScriptPlace script) (λ place. option_map_or (λ p. p.line) place 0) None old new answer
+
+-- the error that stopped the run of a script at a statement of it
+abbrev pub ExplainsStop : Option Stop → (statement : ℕ) → Present → (script : List ℕ) → (old new : List ℕ) → Answer → Type 0
+ExplainsStop None statement present script old new answer = Refuses 30 old new answer
+ExplainsStop (Some stop) statement present script old new answer =
+    Explains (IsStopPlace script stop statement present) (λ place. option_map_or (λ p. p.line) place 0) None old new answer
 
 -- why a trace is refused
 abbrev pub ExplainsTrace : Option Source → (atn clock line : List ℕ) → (inverted start : ℕ) → List ℕ → (old new : List ℕ) → Answer → Type 0
 ExplainsTrace None atn clock line inverted start bytes old new answer = Refuses 29 old new answer
 ExplainsTrace (Some source) atn clock line inverted start bytes old new answer =
-    (input : TraceInput) × IsInput source atn clock line (is_yes inverted) start input × Explains (IsTraceTold input bytes) old new answer
+    (input : TraceInput) × IsInput source atn clock line (is_yes inverted) start input
+    × Explains (IsTracePlace input bytes) place_of_trace nowhere old new answer
 
--- why a recording can not be read to its end
+-- why a recording cannot be read to its end
 abbrev pub ExplainsReading : Option Source → (atn clock line : List ℕ) → (inverted start : ℕ) → List ℕ → (old new : List ℕ) → Answer → Type 0
 ExplainsReading None atn clock line inverted start bytes old new answer = Refuses 29 old new answer
 ExplainsReading (Some source) atn clock line inverted start bytes old new answer =
-    (input : TraceInput) × IsInput source atn clock line (is_yes inverted) start input × Explains (IsReadingTold input bytes) old new answer
-
--- the error that stopped the run of a script at a statement of it
-abbrev pub IsStopTold : (script : List ℕ) → Stop → (statement : ℕ) → (text : List ℕ) → Type 0
-IsStopTold script stop statement text =
-    (statements : List Statement) → IsScript script statements → 0 < statement → statement ≤ length statements → TellsStop script stop statement text
-
-abbrev pub ExplainsStop : Option Stop → (statement : ℕ) → (script : List ℕ) → (old new : List ℕ) → Answer → Type 0
-ExplainsStop None statement script old new answer = Refuses 30 old new answer
-ExplainsStop (Some stop) statement script old new answer = Explains (IsStopTold script stop statement) old new answer
+    (input : TraceInput) × IsInput source atn clock line (is_yes inverted) start input
+    × Explains (IsReadingPlace input bytes) (λ place. option_map_or number_read place 0) None old new answer

@@ -2,11 +2,13 @@
 use Rattle.std.specs.Prelude.{◌≡◌, ℕ, ◌<◌, ◌≤◌, Bool, true, false, List, [], ◌++◌, length, drop, Option, Some, None, Result, Ok, Err}
 use Rattle.pr_cli.specs.Check.{trace_limit}
 use Rattle.pr_cli.specs.declared.fault.CliFault.{CliFault}
-use Rattle.pr_cli.specs.declared.fault.CliFault.TheVariants.{Trace, Wave, Capture, NoMemory}
+use Rattle.pr_cli.specs.declared.fault.CliFault.TheVariants.{Trace, Wave, Capture}
 use Rattle.pr_render.specs.declared.format.Format.{Format}
 use Rattle.pr_capture.specs.declared.format.TraceInput.{TraceInput}
 use Rattle.pr_recording.specs.Decoded.{AnswersDecode}
 use Rattle.pr_recording.specs.Pages.{AnswersPages}
+use Rattle.pr_web.specs.Answers.{answer_of}
+use Rattle.pr_web.specs.declared.answer.Answer.{Answer}
 use Rattle.pr_web.specs.declared.answer.Told.{Told}
 use Rattle.pr_web.specs.declared.answer.Told.TheVariants.{Written, TooSmall, Refused}
 
@@ -47,9 +49,6 @@ abbrev pub GivesPages : TraceInput → Format → List ℕ → (old new : List �
 GivesPages input format bytes old new told =
     (made : Made) × (text : List ℕ) × AnswersPages input format bytes (Some []) (Some text) made × Gives made text old new told
 
--- a text that is such a one is handed over, or there is none
-abbrev pub Hands : (List ℕ → Type 0) → (old new : List ℕ) → Told → Type 0
-Hands IsText old new (Written stop n) =
-    (text : List ℕ) × IsText text × (stop ≡ None) × (n ≡ length text) × (n ≤ length old) × (new ≡ text ++ drop n old)
-Hands IsText old new (TooSmall n) = (text : List ℕ) × IsText text × (n ≡ length text) × (length old < n) × (new ≡ old)
-Hands IsText old new (Refused fault) = (fault ≡ NoMemory) × (new ≡ old)
+-- an explanation is handed over, and its place answered
+abbrev pub Hands : (place : ℕ) → (text : List ℕ) → (old new : List ℕ) → Answer → Type 0
+Hands place text old new answer = (told : Told) × Gives (Ok tt) text old new told × (answer ≡ record (answer_of told) { place = place })

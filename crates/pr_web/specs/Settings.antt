@@ -9,6 +9,7 @@ use Rattle.pr_render.specs.declared.format.Format.TheVariants as format
 use Rattle.pr_capture.specs.declared.format.Source.{Source}
 use Rattle.pr_capture.specs.declared.format.Source.TheVariants as source
 use Rattle.pr_capture.specs.declared.format.TraceInput.{TraceInput}
+use Rattle.pr_serial.specs.declared.Present.{Present}
 
 -- the format of a recording: a trace text, a Value Change Dump, a table of comma separated values
 abbrev pub source_of : ℕ → Option Source
@@ -27,6 +28,10 @@ stop_of number =
 -- whether a number stands for yes
 abbrev pub is_yes : ℕ → Bool
 is_yes number = not (number == 0)
+
+-- the printers that are present
+abbrev pub presence : (four five : ℕ) → Present
+presence four five = record { four = is_yes four; five = is_yes five }
 
 -- how the status goes on: cleared before each statement, or kept
 abbrev pub mode_of : (is_kept : Bool) → StatusMode

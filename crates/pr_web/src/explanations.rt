@@ -1,22 +1,87 @@
 //! Why a script, a trace or a recording is refused, and the error that stopped a run.
 
 ghost use Rattle.std.specs.Prelude.{◌≡◌, length};
-ghost use Rattle.pr_explain.specs.Told.{IsScriptTold};
-ghost use Rattle.pr_explain.specs.TraceTold.{IsReadingTold, IsTraceTold};
-ghost use Rattle.pr_web.specs.Asked.{Explains, ExplainsReading, ExplainsStop, ExplainsTrace, IsStopTold};
+ghost use Rattle.std.specs.Option.{option_map_or};
+ghost use Rattle.pr_web.specs.Answers.{number_read, place_of_trace, plain};
+ghost use Rattle.pr_web.specs.Asked.{ExplainsReading, ExplainsScript, ExplainsStop, ExplainsTrace};
 ghost use Rattle.pr_web.specs.Giving.{Hands};
-ghost use Rattle.pr_web.specs.Settings.{source_of, stop_of};
+ghost use Rattle.pr_web.specs.Settings.{presence, source_of, stop_of};
 
 use crate::answer::{Answer, Told, give, numbered, refused};
 use crate::settings::{input_for, mode_for, source_for, stop_for};
-use pr_capture::TraceInput;
-use pr_channels::Stop;
 use pr_cli::CliFault;
-use pr_explain::{explain_reading, explain_script, explain_stop, explain_trace};
+use pr_explain::{
+    ReadingPlace, ScriptPlace, StopPlace, TracePlace, explain_reading, explain_script,
+    explain_stop, explain_trace,
+};
 use pr_serial::Present;
 use std::alloc::Global;
 
-/// Puts why a script is refused at the front of the page's buffer; nothing, where it is not.
+/// Puts an explanation of this place at the front of a buffer, and answers the place.
+fn explained(place: usize, text: &str, out: &mut [u8]) -> Answer
+    ensures hands { Hands place text.now out.old out.new result }
+    ensures length { length out.new ≡ length out.old }
+{
+    let told = give(Ok(()), text.as_bytes(), out);
+    Answer {
+        place,
+        ..numbered(told)
+    }
+}
+
+/// The answer where memory for an explanation was refused.
+fn unexplained() -> Answer
+    ensures { result ≡ plain 3 0 }
+{
+    numbered(Told::Refused(CliFault::NoMemory))
+}
+
+/// The line of a script's first fault; 0, where it has none.
+fn line_of_script(place: Option<ScriptPlace>) -> usize
+    ensures { result ≡ option_map_or (λ p. p.line) place 0 }
+{
+    match place {
+        Some(place) => place.line,
+        None => 0,
+    }
+}
+
+/// The line of a statement at which a run stopped; 0, where there is none.
+fn line_of_stop(place: Option<StopPlace>) -> usize
+    ensures { result ≡ option_map_or (λ p. p.line) place 0 }
+{
+    match place {
+        Some(place) => place.line,
+        None => 0,
+    }
+}
+
+/// The line of a trace that cannot be read, or else the index of the edge with which it stops being
+/// lawful; or else 0.
+fn place_of_trace(place: TracePlace) -> usize
+    ensures { result ≡ place_of_trace place }
+{
+    match (place.line, place.edge) {
+        (Some(line), _) => line,
+        (None, Some(edge)) => edge.index,
+        (None, None) => 0,
+    }
+}
+
+/// The index of the edge with which a recording goes back in time, or else the line that cannot be
+/// read; or else 0.
+fn place_of_reading(place: Option<ReadingPlace>) -> usize
+    ensures { result ≡ option_map_or number_read place 0 }
+{
+    match place {
+        Some(ReadingPlace::Edge(index)) => index,
+        Some(ReadingPlace::Line(line)) => line,
+        None => 0,
+    }
+}
+
+/// Puts why a script is refused at the front of the page's buffer, and answers the line of its first fault;
+/// no text and 0, where it is not refused.
 #[unsafe(no_mangle)]
 pub extern "C" fn print1525_explain_script(
     alloc: Global,
@@ -24,26 +89,19 @@ pub extern "C" fn print1525_explain_script(
     out: &mut [u8],
     answer: &mut Answer,
 )
-    ensures tells { Explains (IsScriptTold script.now) out.old out.new answer.new }
+    ensures tells { ExplainsScript script.now out.old out.new answer.new }
     ensures length { length out.new ≡ length out.old }
 {
-    *answer = numbered(script_into(alloc, script, out));
+    *answer = match explain_script(alloc, script) {
+        Ok(told) => explained(line_of_script(told.place), told.text.as_str(), out),
+        Err(_) => unexplained(),
+    };
 }
 
-/// Puts why a script is refused at the front of a buffer.
-fn script_into(alloc: Global, script: &[u8], out: &mut [u8]) -> Told
-    ensures hands { Hands (IsScriptTold script.now) out.old out.new result }
-    ensures length { length out.new ≡ length out.old }
-{
-    match explain_script(alloc, script) {
-        Ok(text) => give(Ok(()), text.as_slice(), out),
-        Err(_) => Told::Refused(CliFault::NoMemory),
-    }
-}
-
-/// Puts which error stopped the run of a script, in BASIC's words, at the front of the page's buffer: the
-/// number of the error, and the statement, from 1, as `print1525_pages` answers them; the printers that
-/// were present, and whether the status was kept (0 for no).
+/// Puts which error stopped the run of a script, in BASIC's words, at the front of the page's buffer, and answers
+/// the line: the number of the error, and the statement, from 1, as `print1525_pages` answers them; the
+/// printers that were present, and whether the status was kept (0 for no). No text and 0, where the
+/// script has no such statement.
 #[unsafe(no_mangle)]
 pub extern "C" fn print1525_explain_stop(
     alloc: Global,
@@ -56,7 +114,7 @@ pub extern "C" fn print1525_explain_stop(
     out: &mut [u8],
     answer: &mut Answer,
 )
-    ensures tells { ExplainsStop (stop_of stop) statement script.now out.old out.new answer.new }
+    ensures tells { ExplainsStop (stop_of stop) statement (presence four five) script.now out.old out.new answer.new }
     ensures length { length out.new ≡ length out.old }
 {
     let Some(stop) = stop_for(stop) else {
@@ -67,30 +125,16 @@ pub extern "C" fn print1525_explain_stop(
         four: four != 0,
         five: five != 0,
     };
-    *answer = numbered(stop_into(alloc, script, kept != 0, stop, statement, present, out));
+    let told = explain_stop(alloc, script, mode_for(kept != 0), stop, statement, present);
+    *answer = match told {
+        Ok(told) => explained(line_of_stop(told.place), told.text.as_str(), out),
+        Err(_) => unexplained(),
+    };
 }
 
-/// Puts which error stopped the run of a script at the front of a buffer.
-fn stop_into(
-    alloc: Global,
-    script: &[u8],
-    is_kept: bool,
-    stop: Stop,
-    statement: usize,
-    present: Present,
-    out: &mut [u8],
-) -> Told
-    ensures hands { Hands (IsStopTold script.now stop statement) out.old out.new result }
-    ensures length { length out.new ≡ length out.old }
-{
-    match explain_stop(alloc, script, mode_for(is_kept), stop, statement, present) {
-        Ok(text) => give(Ok(()), text.as_slice(), out),
-        Err(_) => Told::Refused(CliFault::NoMemory),
-    }
-}
-
-/// Puts why a trace is refused, by `print1525 check`, at the front of the page's buffer; nothing, where it
-/// is not. The trace is passed as to [`crate::print1525_readings`].
+/// Puts why a trace is refused, by `print1525 check`, at the front of the page's buffer, and answers the
+/// line that cannot be read, or else the index of the edge with which it stops being lawful; no text and 0, where it
+/// is not refused. The trace is passed as to [`crate::print1525_readings`].
 #[unsafe(no_mangle)]
 pub extern "C" fn print1525_explain_trace(
     alloc: Global,
@@ -112,22 +156,15 @@ pub extern "C" fn print1525_explain_trace(
         return;
     };
     let input = input_for(source, atn, clock, line, inverted != 0, start);
-    *answer = numbered(trace_into(alloc, bytes, input, out));
+    *answer = match explain_trace(alloc, bytes, input) {
+        Ok(told) => explained(place_of_trace(told.place), told.text.as_str(), out),
+        Err(_) => unexplained(),
+    };
 }
 
-/// Puts why a trace is refused at the front of a buffer.
-fn trace_into(alloc: Global, bytes: &[u8], input: TraceInput<'_>, out: &mut [u8]) -> Told
-    ensures hands { Hands (IsTraceTold input.entry bytes.now) out.old out.new result }
-    ensures length { length out.new ≡ length out.old }
-{
-    match explain_trace(alloc, bytes, input) {
-        Ok(text) => give(Ok(()), text.as_slice(), out),
-        Err(_) => Told::Refused(CliFault::NoMemory),
-    }
-}
-
-/// Puts why a recording can not be read to its end at the front of the page's buffer; nothing, where it
-/// can. The recording is passed as to [`crate::print1525_readings`].
+/// Puts why a recording cannot be read to its end at the front of the page's buffer, and answers the index
+/// of the edge with which time goes back, or else the line that cannot be read; no text and 0, where it can.
+/// The recording is passed as to [`crate::print1525_readings`].
 #[unsafe(no_mangle)]
 pub extern "C" fn print1525_explain_reading(
     alloc: Global,
@@ -149,16 +186,8 @@ pub extern "C" fn print1525_explain_reading(
         return;
     };
     let input = input_for(source, atn, clock, line, inverted != 0, start);
-    *answer = numbered(reading_into(alloc, bytes, input, out));
-}
-
-/// Puts why a recording can not be read to its end at the front of a buffer.
-fn reading_into(alloc: Global, bytes: &[u8], input: TraceInput<'_>, out: &mut [u8]) -> Told
-    ensures hands { Hands (IsReadingTold input.entry bytes.now) out.old out.new result }
-    ensures length { length out.new ≡ length out.old }
-{
-    match explain_reading(alloc, bytes, input) {
-        Ok(text) => give(Ok(()), text.as_slice(), out),
-        Err(_) => Told::Refused(CliFault::NoMemory),
-    }
+    *answer = match explain_reading(alloc, bytes, input) {
+        Ok(told) => explained(place_of_reading(told.place), told.text.as_str(), out),
+        Err(_) => unexplained(),
+    };
 }

@@ -78,11 +78,11 @@ fn explanations(rt: HostRuntime) {
     let mut out = [7u8; 999];
     let mut answer = NOTHING;
     let (atn, clock, line) = NAMES;
-    print1525_explain_script(rt.alloc(), b"PRUNT", &mut out, &mut answer);
-    assert!(rt; answer.code == 0);
-    assert!(rt; out.starts_with(b"  PRUNT\n  ^\n  line 1, column 1: \"PRUNT\": "));
+    print1525_explain_script(rt.alloc(), b"OPEN 4,4\nPRUNT", &mut out, &mut answer);
+    assert!(rt; answer.code == 0 && answer.place == 2);
+    assert!(rt; out.starts_with(b"  PRUNT\n  ^\n  line 2, column 1: \"PRUNT\": "));
     print1525_explain_stop(rt.alloc(), b"PRINT#5", 0, 3, 1, 1, 1, &mut out, &mut answer);
-    assert!(rt; answer.code == 0);
+    assert!(rt; answer.code == 0 && answer.place == 1);
     assert!(rt; out.starts_with(b"?FILE NOT OPEN  ERROR (statement 1)\n  line 1: PRINT#5\n"));
     print1525_explain_stop(rt.alloc(), b"PRINT#5", 0, 4, 1, 1, 1, &mut out, &mut answer);
     assert!(rt; answer.code == 2 && answer.fault == 30);
@@ -98,7 +98,7 @@ fn explanations(rt: HostRuntime) {
         &mut out,
         &mut answer,
     );
-    assert!(rt; answer.code == 0);
+    assert!(rt; answer.code == 0 && answer.place == 1);
     assert!(rt; out.starts_with(b"  line 1: "));
     print1525_explain_reading(
         rt.alloc(),
@@ -112,5 +112,5 @@ fn explanations(rt: HostRuntime) {
         &mut out,
         &mut answer,
     );
-    assert!(rt; answer.code == 0 && answer.length == 0);
+    assert!(rt; answer.code == 0 && answer.place == 0 && answer.length == 0);
 }

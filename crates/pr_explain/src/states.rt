@@ -1,0 +1,133 @@
+//! The states of the table of lawful traces, and the edges that may follow there, in words.
+
+use crate::rows::Row;
+use crate::texts::{Digits, Moment};
+use pr_wire::{BusState, ByteRole, NoMemory};
+use std::fmt;
+
+/// The greatest time, in microseconds, and the end of a line about it.
+pub const LAST_TIME: &str = "18446744073709551615, the last moment that an edge can have";
+
+/// What is sent.
+fn name_of(role: ByteRole) -> &'static str {
+    match role {
+        ByteRole::First => "a first command",
+        ByteRole::Second => "a second command",
+        ByteRole::Data => "a data byte",
+    }
+}
+
+/// A state in words, without the time since which it lasts.
+#[derive(Clone, Copy)]
+struct InWords<'a>(&'a BusState);
+
+impl fmt::Display for InWords<'_> {
+    fn fmt<W: fmt::Write>(&self, f: &mut fmt::Formatter<W>) -> fmt::Result {
+        match self.0 {
+            BusState::Idle(_) => write!(f, "idle, all lines are released"),
+            BusState::Call(_, false) => write!(f, "attention, no printer answers yet"),
+            BusState::Call(_, true) => write!(f, "attention, a printer answers"),
+            BusState::Ready(_, role) => {
+                write!(f, "the computer is ready to send {}", name_of(*role))
+            }
+            BusState::Free(_, role) => write!(f, "the printers are ready for {}", name_of(*role)),
+            BusState::Pulse(_, _) => write!(f, "end-or-identify is answered"),
+            BusState::After(_) => write!(f, "end-or-identify has been answered"),
+            BusState::Bit { sending, seen, .. } => {
+                write!(
+                    f,
+                    "bit {} of {}, CLOCK is pulled",
+                    seen.len(),
+                    name_of(*sending)
+                )
+            }
+            BusState::High { sending, seen, .. } => {
+                write!(
+                    f,
+                    "bit {} of {}, CLOCK is released",
+                    seen.len(),
+                    name_of(*sending)
+                )
+            }
+            BusState::Last(_, role, _, _) => write!(f, "all bits have come of {}", name_of(*role)),
+            BusState::Ack(_, role, _) => {
+                write!(f, "a printer has acknowledged {}", name_of(*role))
+            }
+            BusState::Freed { unlistened, .. } => {
+                write!(
+                    f,
+                    "attention has ended{}",
+                    if *unlistened { " with UNLISTEN" } else { "" }
+                )
+            }
+        }
+    }
+}
+
+/// Since when a state lasts.
+fn since(state: &BusState) -> u64 {
+    match state {
+        BusState::Idle(since)
+        | BusState::Call(since, _)
+        | BusState::Ready(since, _)
+        | BusState::Free(since, _)
+        | BusState::Pulse(since, _)
+        | BusState::After(since)
+        | BusState::Bit { since, .. }
+        | BusState::High { since, .. }
+        | BusState::Last(since, _, _, _)
+        | BusState::Ack(since, _, _)
+        | BusState::Freed { since, .. } => *since,
+    }
+}
+
+/// Adds a line for a state.
+pub fn push_state(text: &mut String, state: &BusState, start: u64) -> Result<(), NoMemory> {
+    let time = since(state);
+    write!(
+        text,
+        "  the place there: {}, since {}\n",
+        InWords(state),
+        Moment { time, start }
+    )
+}
+
+/// Adds a line for each edge that may follow.
+pub fn push_rows(text: &mut String, rows: &[Option<Row>], start: u64) -> Result<(), NoMemory> {
+    let mut may_follow = false;
+    for row in rows {
+        if let Some(row) = row {
+            may_follow = true;
+            push_row(text, *row, start)?;
+        }
+    }
+    if may_follow {
+        return Ok(());
+    }
+    write!(
+        text,
+        "  no edge could follow: it would have to come later than {LAST_TIME}\n"
+    )
+}
+
+/// Adds a line for an edge that may follow.
+fn push_row(text: &mut String, row: Row, start: u64) -> Result<(), NoMemory> {
+    let levels = Digits(row.levels);
+    let earliest = Moment {
+        time: row.earliest,
+        start,
+    };
+    match row.latest {
+        None => write!(text, "  could follow: {levels} from {earliest} on\n"),
+        Some(time) if time == row.earliest => {
+            write!(text, "  could follow: {levels} at {earliest}\n")
+        }
+        Some(time) => {
+            let latest = Moment { time, start };
+            write!(
+                text,
+                "  could follow: {levels} from {earliest} to {latest}\n"
+            )
+        }
+    }
+}

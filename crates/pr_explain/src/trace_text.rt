@@ -1,0 +1,228 @@
+//! Why edges are no lawful trace, in words.
+
+use crate::edges::{EdgePlace, Followed};
+use crate::rows::Miss;
+use crate::states::{LAST_TIME, push_rows, push_state};
+use crate::texts::{Shown, start_of};
+use pr_capture::{Source, TraceInput};
+use pr_wire::{Edge, Levels, NoMemory, WaveFault};
+
+/// What a trace and its edges are told from.
+#[derive(Clone, Copy)]
+pub struct TraceSaid<'a> {
+    /// How the trace is read.
+    pub input: TraceInput<'a>,
+    /// Its edges, or those before the line that has a fault.
+    pub edges: &'a [Edge],
+    /// All its edges are known.
+    pub is_whole: bool,
+}
+
+/// Adds where the edges of a trace stop being lawful, and why.
+pub fn push_stop(
+    text: &mut String,
+    trace: TraceSaid<'_>,
+    followed: &Followed,
+    place: EdgePlace,
+) -> Result<(), NoMemory> {
+    let [first, ..] = trace.edges else {
+        return push_no_edge(text, trace.input.source);
+    };
+    if start_of(trace.input) > 0 {
+        write!(text, "  [in brackets: the recording's own microseconds]\n")?;
+    }
+    match place.fault {
+        WaveFault::Start(index) => {
+            push_index(text, index, trace.input.source)?;
+            push_bad_start(text, trace, *first)
+        }
+        WaveFault::Truncated(_) => push_end(text, followed, place, start_of(trace.input)),
+        WaveFault::Order(index)
+        | WaveFault::TooEarly(index)
+        | WaveFault::TooLate(index)
+        | WaveFault::Shape(index) => {
+            push_index(text, index, trace.input.source)?;
+            push_refused(text, followed, place, start_of(trace.input))
+        }
+        WaveFault::NoMemory => Ok(()),
+    }
+}
+
+/// Adds that there is no edge.
+fn push_no_edge(text: &mut String, source: Source) -> Result<(), NoMemory> {
+    match source {
+        Source::Text => write!(text, "  there is no edge: a trace begins with 0 111\n"),
+        Source::Vcd | Source::Csv => {
+            write!(text, "  the recording has no sample of the three lines\n")
+        }
+    }
+}
+
+/// Adds the index of an edge, and its line where it has one.
+pub fn push_index(text: &mut String, index: usize, source: Source) -> Result<(), NoMemory> {
+    match source {
+        Source::Text => write!(text, "  line {}, edge {index}: ", index.saturating_add(1)),
+        Source::Vcd | Source::Csv => write!(text, "  edge {index}: "),
+    }
+}
+
+/// Adds a first edge that is not the start of a trace, and where the start may be.
+fn push_bad_start(text: &mut String, trace: TraceSaid<'_>, edge: Edge) -> Result<(), NoMemory> {
+    let start = start_of(trace.input);
+    write!(text, "{}\n", Shown { edge, start })?;
+    write!(
+        text,
+        "  a trace begins with 0 111, all lines released at time 0\n"
+    )?;
+    if trace.input.source == Source::Text {
+        return Ok(());
+    }
+    push_start(text, trace)?;
+    if edge.levels.atn || edge.levels.clock || edge.levels.line {
+        return Ok(());
+    }
+    if trace.input.signals.is_inverted {
+        write!(
+            text,
+            "  if nothing is sent there, the levels are not inverted: --invert is not wanted\n"
+        )
+    } else {
+        write!(
+            text,
+            "  if nothing is sent there, the probes stand behind inverters: --invert reads 0 as released\n"
+        )
+    }
+}
+
+/// Adds where a recording may have the start of its trace, by its edges from a time on.
+fn push_start(text: &mut String, trace: TraceSaid<'_>) -> Result<(), NoMemory> {
+    let start = start_of(trace.input);
+    write!(
+        text,
+        "  --from-time US says at which microsecond of the recording the trace starts; "
+    )?;
+    if start > 0 {
+        write!(text, "from {start} on, ")?;
+    }
+    match trace.edges.iter().find(|edge| are_released(edge.levels)) {
+        Some(edge) => {
+            let time = start.saturating_add(edge.time);
+            write!(text, "all three lines are first released at {time}")?;
+        }
+        None => {
+            if !trace.is_whole {
+                write!(text, "as far as the recording can be read, ")?;
+            }
+            write!(text, "the three lines are never all released")?;
+        }
+    }
+    if let Some(edge) = first_idle(trace.edges) {
+        let time = start.saturating_add(edge.time);
+        write!(text, ", and an attention follows first behind {time}")?;
+    }
+    write!(text, "\n")
+}
+
+/// Whether all three lines are released.
+fn are_released(levels: Levels) -> bool {
+    levels.atn && levels.clock && levels.line
+}
+
+/// The first edge that releases all three lines and after which an attention begins.
+fn first_idle(edges: &[Edge]) -> Option<Edge> {
+    let mut before = None;
+    for edge in edges {
+        let levels = edge.levels;
+        if !levels.atn && !levels.clock && levels.line && before.is_some() {
+            return before;
+        }
+        before = if are_released(levels) {
+            Some(*edge)
+        } else {
+            None
+        };
+    }
+    None
+}
+
+/// Adds the last edge that is allowed, the state there, and the edges that may follow.
+fn push_last(
+    text: &mut String,
+    followed: &Followed,
+    place: EdgePlace,
+    start: u64,
+) -> Result<(), NoMemory> {
+    if let Some(edge) = followed.follower.last {
+        write!(text, "{}\n", Shown { edge, start })?;
+    }
+    push_state(text, &followed.follower.state, start)?;
+    push_rows(text, &place.expected, start)
+}
+
+/// Adds the first edge that is not lawful, and what is wrong with it.
+fn push_refused(
+    text: &mut String,
+    followed: &Followed,
+    place: EdgePlace,
+    start: u64,
+) -> Result<(), NoMemory> {
+    let (Some(refused), Some(last)) = (followed.refused, followed.follower.last) else {
+        return Ok(());
+    };
+    let edge = refused.edge;
+    write!(text, "{}\n  the edge before it: ", Shown { edge, start })?;
+    push_last(text, followed, place, start)?;
+    match (place.fault, place.missed) {
+        (WaveFault::TooEarly(_) | WaveFault::TooLate(_), Some(missed)) => push_miss(text, missed),
+        (WaveFault::TooEarly(_) | WaveFault::TooLate(_), None) => {
+            write!(
+                text,
+                "  an edge to its levels would have to come later than {LAST_TIME}\n"
+            )
+        }
+        (WaveFault::Order(_), _) if edge.time <= last.time => {
+            write!(text, "  it is not later than the edge before it\n")
+        }
+        (WaveFault::Order(_), _) => write!(text, "  it has the levels of the edge before it\n"),
+        _ => write!(text, "  no edge to its levels may follow\n"),
+    }
+}
+
+/// Adds by how many microseconds an edge comes too early or too late.
+fn push_miss(text: &mut String, missed: Miss) -> Result<(), NoMemory> {
+    let (microseconds, when) = match missed {
+        Miss::Early(microseconds) => (microseconds, "early"),
+        Miss::Late(microseconds) => (microseconds, "late"),
+    };
+    let ending = if microseconds == 1 { "" } else { "s" };
+    write!(
+        text,
+        "  it comes {microseconds} microsecond{ending} too {when}\n"
+    )
+}
+
+/// Adds the last edge of a trace that ends too soon, what may follow, and where a trace may end.
+fn push_end(
+    text: &mut String,
+    followed: &Followed,
+    place: EdgePlace,
+    start: u64,
+) -> Result<(), NoMemory> {
+    write!(text, "  the last edge: ")?;
+    push_last(text, followed, place, start)?;
+    if followed
+        .follower
+        .last
+        .is_some_and(|edge| are_released(edge.levels))
+    {
+        write!(
+            text,
+            "  all lines are released here, but a data byte is under way\n"
+        )?;
+    }
+    write!(
+        text,
+        "  a trace may end at rest (all lines released, and no byte under way), behind a data byte that \
+         a printer has acknowledged, or behind an attention that did not end with UNLISTEN\n"
+    )
+}
