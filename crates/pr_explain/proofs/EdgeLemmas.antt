@@ -7,7 +7,6 @@ use Rattle.std.proofs.lemmas.Grind.{common_steps}
 use Rattle.std.proofs.lemmas.List.{take_rest}
 use Rattle.pr_wire.specs.declared.Edge.{Edge}
 use Rattle.pr_wire.specs.declared.Frame.{Frame}
-use Rattle.pr_wire.specs.declared.Levels.{Levels}
 use Rattle.pr_wire.specs.declared.WaveFault.{WaveFault}
 use Rattle.pr_wire.specs.declared.bus_state.EdgeError.{EdgeError}
 use Rattle.pr_wire.specs.declared.bus_state.Step.{Step}
@@ -26,7 +25,7 @@ use Rattle.pr_explain.specs.declared.edges.Refused.{Refused}
 use Rattle.pr_explain.specs.declared.rows.Row.{Row}
 use Rattle.pr_explain.specs.declared.traces.ReadingPlace.{ReadingPlace}
 use Rattle.pr_explain.specs.declared.traces.TracePlace.{TracePlace}
-use Rattle.pr_explain.specs.Followed.{EndsAt, Follows, HasFront, IsRefused}
+use Rattle.pr_explain.specs.Followed.{EndsAt, Follows, HasFront}
 use Rattle.pr_explain.specs.Rows.{AreRowsBehind, is_step, takes}
 use Rattle.pr_explain.specs.TracePlaces.{AreRowsAfter, AreStopped, IsPlaceOf, IsPlaceRead, IsReadingPlace, IsTracePlace, StopAfter, StopsAt, fault_line, missed_by, missed_first, row_to}
 
