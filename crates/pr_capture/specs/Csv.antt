@@ -73,7 +73,8 @@ columns_of s number (time ∷ fs) = columns_in s number fs
 -- the number that digits spell behind those that spell n, as long as it is below 2 ^ 64
 abbrev pub number_from : ℕ → (digits : List ℕ) → Option ℕ
 number_from n [] = Some n
-number_from n (d ∷ ds) = if nat_lt (10 * n + (d - 48)) 18446744073709551616 then number_from (10 * n + (d - 48)) ds else None
+number_from n (d ∷ ds) =
+    if nat_lt (10 * n + (d - 48)) 18446744073709551616 then number_from (10 * n + (d - 48)) ds else None
 
 -- digits, and what stands behind them
 abbrev pub digits_in : List ℕ → List ℕ
@@ -102,7 +103,8 @@ micros_in whole ds = if length whole == 0 then None else number_from 0 (whole ++
 -- the microseconds that a field spells
 abbrev pub time_in : List ℕ → Option ℕ
 time_in l =
-    if list_all is_framing (behind_decimals (behind_digits l)) then micros_in (digits_in l) (decimals_in (behind_digits l))
+    if list_all is_framing (behind_decimals (behind_digits l))
+    then micros_in (digits_in l) (decimals_in (behind_digits l))
     else None
 
 -- a row's time, in whole microseconds not before that of an earlier row
@@ -123,7 +125,8 @@ level_or number inverted wire None = Err (NoLevel number wire)
 level_or number inverted wire (Some f) = level_of number inverted (without_front f)
 
 -- a row's sample, with its time
-abbrev pub sample_of : Columns → (inverted : Bool) → (number : ℕ) → (fields : List (List ℕ)) → (time : ℕ) → Result Edge CaptureFault
+abbrev pub sample_of : Columns → (inverted : Bool) → (number : ℕ) → (fields : List (List ℕ)) → (time : ℕ)
+    → Result Edge CaptureFault
 sample_of c inverted number fields t =
     level_or number inverted Atn (field_at c.atn fields) >>= λ atn.
     level_or number inverted Clock (field_at c.clock fields) >>= λ clock.
@@ -146,7 +149,8 @@ abbrev pub row_contents : Columns → (inverted : Bool) → (number before : ℕ
 row_contents c inverted number before [] = ended
 row_contents c inverted number before (l ∷ ls) =
     if is_silent l then row_contents c inverted (number + 1) before ls
-    else contents_after_row (row c inverted number before (fields_of false l)) (λ t. row_contents c inverted (number + 1) t ls)
+    else contents_after_row (row c inverted number before (fields_of false l))
+    (λ t. row_contents c inverted (number + 1) t ls)
 
 -- The whole.
 

@@ -16,7 +16,8 @@ use Rattle.pr_capture.specs.Samples.{listed}
 -- how many bytes the first field has
 abbrev pub field_len : (quoted : Bool) → (line : List ℕ) → ℕ
 field_len quoted [] = 0
-field_len quoted (b ∷ bs) = if b == 44 && not quoted then 0 else 1 + field_len (if b == 34 then not quoted else quoted) bs
+field_len quoted (b ∷ bs) =
+    if b == 44 && not quoted then 0 else 1 + field_len (if b == 34 then not quoted else quoted) bs
 
 -- the fields of what stands behind a comma, if there was one
 abbrev pub fields_left : Option (List ℕ) → List (List ℕ)
@@ -34,9 +35,11 @@ contents_from s (Rows c before) number ls = row_contents c s.is_inverted number 
 
 -- a line leads from one place to another and gives a sample, if it gives one, or it has a fault
 abbrev pub ReadsLine :
-    Signals → (number : ℕ) → (line : List ℕ) → (old : RowPlace) → Result (Option Edge) CaptureFault → (new : RowPlace) → Type 0
+    Signals → (number : ℕ) → (line : List ℕ) → (old : RowPlace) → Result (Option Edge) CaptureFault → (new : RowPlace)
+    → Type 0
 ReadsLine s number line old (Ok sample) new =
-    (more : List (List ℕ)) → contents_from s old number (line ∷ more) ≡ with_samples (listed sample) (contents_from s new (number + 1) more)
+    (more : List (List ℕ)) → contents_from s old number (line ∷ more)
+    ≡ with_samples (listed sample) (contents_from s new (number + 1) more)
 ReadsLine s number line old (Err f) new = (more : List (List ℕ)) → contents_from s old number (line ∷ more) ≡ refused f
 
 -- what is told yet, if a text goes on so

@@ -27,7 +27,8 @@ still_to_come g more = changes_after g.told (last_at_each (listed g.held ++ map 
 
 -- these samples were taken, and these edges were given: whatever samples follow, all edges are these and those that come yet
 abbrev pub HasGathered : (start : ℕ) (samples edges : List Edge) → EdgeDetector → Type 0
-HasGathered start samples edges g = (more : List Edge) → edges_of start (samples ++ more) ≡ edges ++ still_to_come g more
+HasGathered start samples edges g =
+    (more : List Edge) → edges_of start (samples ++ more) ≡ edges ++ still_to_come g more
 
 -- whatever follows the samples that a gatherer has taken, the edges that it has given come first
 abbrev pub GivenEdgesComeFirst : Type 0

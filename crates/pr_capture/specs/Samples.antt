@@ -27,7 +27,8 @@ is_new (Some b) l = differ b l
 -- of samples those whose levels are others than those before, if any
 abbrev pub changes_after : (told : Option Levels) → List Edge → List Edge
 changes_after told [] = []
-changes_after told (s ∷ ss) = if is_new told s.levels then s ∷ changes_after (Some s.levels) ss else changes_after told ss
+changes_after told (s ∷ ss) =
+    if is_new told s.levels then s ∷ changes_after (Some s.levels) ss else changes_after told ss
 
 -- the edges that samples make, from a start on
 unfoldable pub edges_of : (start : ℕ) → (samples : List Edge) → List Edge

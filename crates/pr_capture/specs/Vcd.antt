@@ -27,7 +27,8 @@ change_if wire false true = change wire true
 -- the levels that differ from those of the edge before; all three where there is none before
 abbrev pub levels_changes : (before : Option Edge) → Levels → List ℕ
 levels_changes None l = change 65 l.atn ++ change 67 l.clock ++ change 68 l.line
-levels_changes (Some b) l = change_if 65 b.levels.atn l.atn ++ change_if 67 b.levels.clock l.clock ++ change_if 68 b.levels.line l.line
+levels_changes (Some b) l =
+    change_if 65 b.levels.atn l.atn ++ change_if 67 b.levels.clock l.clock ++ change_if 68 b.levels.line l.line
 
 -- an edge behind the edge before, if any
 unfoldable pub edge_changes : (before : Option Edge) → Edge → List ℕ

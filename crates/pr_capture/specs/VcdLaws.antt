@@ -7,4 +7,5 @@ use Rattle.pr_capture.specs.Vcd.{last_edge, vcd_changes}
 pub record VcdAddsUp : Type 0 where
   pub changes : (before : Option Edge) (es fs : List Edge)
       → vcd_changes before (es ++ fs) ≡ vcd_changes before es ++ vcd_changes (last_edge before es) fs
-  pub last : (before : Option Edge) (es fs : List Edge) → last_edge before (es ++ fs) ≡ last_edge (last_edge before es) fs
+  pub last : (before : Option Edge) (es fs : List Edge) → last_edge before (es ++ fs)
+      ≡ last_edge (last_edge before es) fs

@@ -53,7 +53,8 @@ scale_in (count ∷ unit ∷ more ∷ words) = None
 -- the code of a section `$var`, whose words are a kind, a size, a code and a name, if it is a signal of one bit with
 -- the name that is wanted
 abbrev pub code_in : (wanted : List ℕ) → (inside : List (List ℕ)) → Option (List ℕ)
-code_in wanted (kind ∷ size ∷ code ∷ name ∷ more) = if bytes_eq size (codes "1") && is_named wanted name then Some code else None
+code_in wanted (kind ∷ size ∷ code ∷ name ∷ more) =
+    if bytes_eq size (codes "1") && is_named wanted name then Some code else None
 code_in wanted _ = None
 
 -- the codes of the wires that are known, and of a signal with CLOCK's second name
@@ -74,7 +75,8 @@ clock_code c = first_some c.clock c.second
 abbrev pub has_levels : (kind : Option (List ℕ)) → Bool
 has_levels None = true
 has_levels (Some k) =
-    not (bytes_eq k (codes "real") || bytes_eq k (codes "realtime") || bytes_eq k (codes "string") || bytes_eq k (codes "event"))
+    not (bytes_eq k (codes "real") || bytes_eq k (codes "realtime") || bytes_eq k (codes "string")
+    || bytes_eq k (codes "event"))
 
 -- of several signals with one name the first counts
 abbrev pub with_signal : Signals → Codes → (inside : List (List ℕ)) → Codes
@@ -113,7 +115,8 @@ header_ended line scale c =
     Ok (Changes n c nothing_seen)
 
 -- a section of the header
-abbrev pub headed : Signals → (scale : Option ℕ) → Codes → (line : ℕ) → Keyword → (inside : List (List ℕ)) → Result Place CaptureFault
+abbrev pub headed : Signals → (scale : Option ℕ) → Codes → (line : ℕ) → Keyword → (inside : List (List ℕ))
+    → Result Place CaptureFault
 headed s scale c line Timescale inside = scale_or line (scale_in inside) >>= λ n. Ok (Header (Some n) c)
 headed s scale c line Var inside = Ok (Header scale (with_signal s c inside))
 headed s scale c line Definitions inside = header_ended line scale c
@@ -124,7 +127,8 @@ headed s scale c line Other inside = Ok (Header scale c)
 -- whole microseconds, as long as they are below 2 ^ 64
 abbrev pub whole_micros : (scale : ℕ) → (number : Option ℕ) → Option ℕ
 whole_micros scale None = None
-whole_micros scale (Some n) = if nat_lt (n * scale / 1000000000) 18446744073709551616 then Some (n * scale / 1000000000) else None
+whole_micros scale (Some n) =
+    if nat_lt (n * scale / 1000000000) 18446744073709551616 then Some (n * scale / 1000000000) else None
 
 -- digits, at least one
 abbrev pub is_number : (letters : List ℕ) → Bool
@@ -147,7 +151,8 @@ all_known (Some a) (Some c) (Some l) = true
 all_known _ _ _ = false
 
 -- a level of a wire; x and z leave it not known, as long as the three levels have not all been known at once
-abbrev pub level_behind : (known : Bool) → (line : ℕ) → (inverted : Bool) → (level : ℕ) → Result (Option Bool) CaptureFault
+abbrev pub level_behind : (known : Bool) → (line : ℕ) → (inverted : Bool) → (level : ℕ)
+    → Result (Option Bool) CaptureFault
 level_behind known line inverted b =
     if (b == 120 || b == 88 || b == 122 || b == 90) && not known then Ok None
     else (level_in line inverted b >>= λ l. Ok (Some l))
@@ -170,7 +175,8 @@ with_level c seen code level = record {
 abbrev pub changed : (inverted : Bool) → Codes → Seen → (line level : ℕ) → (code : List ℕ) → Result Seen CaptureFault
 changed inverted c seen line level code =
     if is_code c.atn code || is_code (clock_code c) code || is_code c.line code
-    then (level_behind (all_known seen.atn seen.clock seen.line) line inverted level >>= λ l. Ok (with_level c seen code l))
+    then (level_behind (all_known seen.atn seen.clock seen.line) line inverted level
+    >>= λ l. Ok (with_level c seen code l))
     else Ok seen
 
 -- a time stamp, in whole microseconds not before that of an earlier one

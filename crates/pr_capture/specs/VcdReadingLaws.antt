@@ -18,9 +18,12 @@ pub record IsAsWritten (s : Signals) : Type 0 where
 abbrev pub RunsOn : (before : Option Edge) → List Edge → Type 0
 RunsOn before [] = Unit {0}
 RunsOn None (e ∷ es) = (e.time + 1000 < 2 ^ 64) × RunsOn (Some e) es
-RunsOn (Some b) (e ∷ es) = (b.time < e.time) × (differ b.levels e.levels ≡ true) × (e.time + 1000 < 2 ^ 64) × RunsOn (Some e) es
+RunsOn (Some b) (e ∷ es) =
+    (b.time < e.time) × (differ b.levels e.levels ≡ true) × (e.time + 1000 < 2 ^ 64) × RunsOn (Some e) es
 
 -- what is written of edges has no fault, and is read as these edges
 pub record VcdIsReadBack : Type 0 where
-  pub sound : (s : Signals) (es : List Edge) → IsAsWritten s → RunsOn None es → (vcd_contents s (vcd_of es)).fault ≡ None
-  pub edges : (s : Signals) (es : List Edge) → IsAsWritten s → RunsOn None es → edges_of 0 (vcd_contents s (vcd_of es)).samples ≡ es
+  pub sound : (s : Signals) (es : List Edge) → IsAsWritten s → RunsOn None es → (vcd_contents s (vcd_of es)).fault
+      ≡ None
+  pub edges : (s : Signals) (es : List Edge) → IsAsWritten s → RunsOn None es
+      → edges_of 0 (vcd_contents s (vcd_of es)).samples ≡ es

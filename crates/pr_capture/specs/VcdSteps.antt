@@ -66,10 +66,13 @@ abbrev pub word_contents : Signals → (end : ℕ) → VcdParser → List Word �
 word_contents s end p ws = piece_contents s end (place_of p.known) (pieces_behind (begun_of p) ws)
 
 -- words, one or none, lead on and give a sample, if they give one, or have a fault
-abbrev pub ReadsWords : Signals → List Word → (old : VcdParser) → Result (Option Edge) CaptureFault → (new : VcdParser) → Type 0
+abbrev pub ReadsWords : Signals → List Word → (old : VcdParser) → Result (Option Edge) CaptureFault → (new : VcdParser)
+    → Type 0
 ReadsWords s ws old (Ok sample) new =
-    (end : ℕ) (more : List Word) → word_contents s end old (ws ++ more) ≡ with_samples (listed sample) (word_contents s end new more)
-ReadsWords s ws old (Err f) new = (f ≡ NoMemory) ⊎ ((end : ℕ) (more : List Word) → word_contents s end old (ws ++ more) ≡ refused f)
+    (end : ℕ) (more : List Word) → word_contents s end old (ws ++ more)
+    ≡ with_samples (listed sample) (word_contents s end new more)
+ReadsWords s ws old (Err f) new =
+    (f ≡ NoMemory) ⊎ ((end : ℕ) (more : List Word) → word_contents s end old (ws ++ more) ≡ refused f)
 
 -- a text may end here
 abbrev pub MayEnd : VcdParser → Type 0
@@ -83,7 +86,8 @@ is_letter b = not (is_space b)
 
 -- what is told yet, if a text goes on so
 abbrev pub contents_left : VcdReader → (more : List ℕ) → CaptureContents
-contents_left r more = word_contents r.signals (end_line r.number more) r.progress (words_behind r.number r.letters.items more)
+contents_left r more =
+    word_contents r.signals (end_line r.number more) r.progress (words_behind r.number r.letters.items more)
 
 -- the word that has begun, if one has
 abbrev pub word_begun : VcdReader → List Word

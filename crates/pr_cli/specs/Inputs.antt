@@ -27,25 +27,29 @@ pub record SaysFirst (input : TraceInput) (text : List ℕ) (given : List Edge) 
 -- the bytes of an input in blocks.
 
 -- a text was taken, and these edges of it are known
-pub record HasReached (input : TraceInput) (text : List ℕ) (edges : List Edge) (r : SourceReader) (m : EdgeMaker) : Type 0 where
+pub record HasReached (input : TraceInput) (text : List ℕ) (edges : List Edge) (r : SourceReader)
+    (m : EdgeMaker) : Type 0 where
   pub samples : List Edge
   pub given : HasGiven input text samples r
   pub made : HasMade input samples edges m
 
 -- whatever follows, an input says samples that make these edges, and then has this fault
-pub record IsFaulty (input : TraceInput) (text : List ℕ) (edges : List Edge) (m : EdgeMaker) (f : CliFault) : Type 0 where
+pub record IsFaulty (input : TraceInput) (text : List ℕ) (edges : List Edge) (m : EdgeMaker)
+    (f : CliFault) : Type 0 where
   pub samples : List Edge
   pub says : SaysSamples input input.source text samples (Some f)
   pub made : HasMade input samples edges m
 
 -- and the text has no fault, or has this one whatever follows
-abbrev pub HasReachedOr : TraceInput → (text : List ℕ) → (edges : List Edge) → SourceReader → EdgeMaker → Option CliFault → Type 0
+abbrev pub HasReachedOr : TraceInput → (text : List ℕ) → (edges : List Edge) → SourceReader → EdgeMaker
+    → Option CliFault → Type 0
 HasReachedOr input text edges r m None = HasReached input text edges r m
 HasReachedOr input text edges r m (Some f) = IsOwnFault f × ((more : List ℕ) → IsFaulty input (text ++ more) edges m f)
 
 -- with a sample more, if there is one, these edges are known
 abbrev pub AddsSample : Option Edge → (there : List Edge) → EdgeMaker → (all : List Edge) → EdgeMaker → Type 0
-AddsSample sample there old all new = (input : TraceInput) (samples before : List Edge) → HasMade input samples (before ++ there) old
+AddsSample sample there old all new =
+    (input : TraceInput) (samples before : List Edge) → HasMade input samples (before ++ there) old
     → HasMade input (samples ++ option_to_list sample) (before ++ all) new
 
 -- and at the end of the samples
@@ -55,13 +59,16 @@ AddsLast there m all = (input : TraceInput) (samples before : List Edge) → Has
 
 -- the edges that a block makes known come after those there
 abbrev pub GivesBlock :
-    (block : List ℕ) → (there : List Edge) → SourceReader → EdgeMaker → Option CliFault → (all : List Edge) → SourceReader → EdgeMaker → Type 0
-GivesBlock block there r m fault all s n = (input : TraceInput) (text : List ℕ) (before : List Edge) → HasReached input text (before ++ there) r m
+    (block : List ℕ) → (there : List Edge) → SourceReader → EdgeMaker → Option CliFault → (all : List Edge)
+    → SourceReader → EdgeMaker → Type 0
+GivesBlock block there r m fault all s n =
+    (input : TraceInput) (text : List ℕ) (before : List Edge) → HasReached input text (before ++ there) r m
     → HasReachedOr input (text ++ block) (before ++ all) s n fault
 
 -- what an input says that has had no fault before its end
 abbrev pub EndsSource : SourceReader → EdgeMaker → (there all : List Edge) → Option CliFault → Type 0
-EndsSource r m there all fault = (input : TraceInput) (text : List ℕ) (before : List Edge) → HasReached input text (before ++ there) r m
+EndsSource r m there all fault =
+    (input : TraceInput) (text : List ℕ) (before : List Edge) → HasReached input text (before ++ there) r m
     → Says input text (before ++ all) fault × IfSome fault IsOwnFault
 
 -- the edges of the last block
@@ -92,7 +99,8 @@ GivesEdges block old new = (input : TraceInput) (text : List ℕ) (given : List 
 -- what an input says that ends here, or has had its fault whatever follows
 abbrev pub SaysAll : EdgeReader → LastEdges → Type 0
 SaysAll r last = (input : TraceInput) (text more : List ℕ) (given : List Edge) → HasEdges input text given r
-    → (fault_in r ≡ None → more ≡ []) → Says input (text ++ more) (given ++ last.edges.items) last.fault × IfSome last.fault IsOwnFault
+    → (fault_in r ≡ None → more ≡ []) → Says input (text ++ more) (given ++ last.edges.items) last.fault
+    × IfSome last.fault IsOwnFault
 
 -- Reading blocks.
 
@@ -113,7 +121,8 @@ abbrev pub lines_ahead : InputReader → ℕ
 lines_ahead r = lines_taken r.edges + r.left
 
 -- these bytes came from a reader: these edges of them are known, and then those of the last block; the rest of the limit may still come
-pub record HasReadEdges (limit : ℕ) (start now : Option (List ℕ)) (input : TraceInput) (given : List Edge) (r : InputReader) : Type 0 where
+pub record HasReadEdges (limit : ℕ) (start now : Option (List ℕ)) (input : TraceInput) (given : List Edge)
+    (r : InputReader) : Type 0 where
   pub text : List ℕ
   pub taken : Consumes start now text
   pub known : HasEdges input text given r.edges
@@ -122,7 +131,8 @@ pub record HasReadEdges (limit : ℕ) (start now : Option (List ℕ)) (input : T
 -- a block more was read
 abbrev pub ReadsEdges : (before after : Option (List ℕ)) → (old new : InputReader) → Type 0
 ReadsEdges before after old new =
-    (limit : ℕ) (start : Option (List ℕ)) (input : TraceInput) (given : List Edge) → HasReadEdges limit start before input given old
+    (limit : ℕ) (start : Option (List ℕ)) (input : TraceInput) (given : List Edge)
+    → HasReadEdges limit start before input given old
     → HasReadEdges limit start after input (given ++ edges_read old) new
 
 -- an input that does not go on has ended, or has its fault
@@ -143,7 +153,8 @@ IsNoReading ReadFailed = Unit {0}
 IsNoReading _ = ⊥
 
 -- a text of at most so many bytes says these edges, or more bytes say them and then have this fault
-pub record SaysWhole (limit : ℕ) (input : TraceInput) (edges : List Edge) (fault : Option CliFault) (text : List ℕ) : Type 0 where
+pub record SaysWhole (limit : ℕ) (input : TraceInput) (edges : List Edge) (fault : Option CliFault)
+    (text : List ℕ) : Type 0 where
   pub says : Says input text edges fault
   pub short : fault ≡ None → length text ≤ limit
 
@@ -158,7 +169,8 @@ pub record EndsHere (limit : ℕ) (start now : Option (List ℕ)) (input : Trace
   pub follows : claim edges fault
 
 -- that follows for whoever has taken the edges known before the last block
-abbrev pub EndsReading : InputReader → (taken : List Edge → Type 0) → (follows : List Edge → Option CliFault → Type 0) → Type 0
+abbrev pub EndsReading : InputReader → (taken : List Edge → Type 0) → (follows : List Edge → Option CliFault → Type 0)
+    → Type 0
 EndsReading r taken follows =
     (limit : ℕ) (start now : Option (List ℕ)) (input : TraceInput) (given : List Edge)
     → HasReadEdges limit start now input given r → taken given → EndsHere limit start now input r follows
@@ -171,12 +183,14 @@ EndsInputs r last = (limit : ℕ) (start now : Option (List ℕ)) (input : Trace
 
 -- Who takes edges: all that are known, or all before the last block.
 
-pub record HasTakenAll (limit : ℕ) (start now : Option (List ℕ)) (input : TraceInput) (r : InputReader) (claim : List Edge → Type 0) : Type 0 where
+pub record HasTakenAll (limit : ℕ) (start now : Option (List ℕ)) (input : TraceInput) (r : InputReader)
+    (claim : List Edge → Type 0) : Type 0 where
   pub given : List Edge
   pub read : HasReadEdges limit start now input given r
   pub taken : claim (given ++ edges_read r)
 
-pub record HasTakenBefore (limit : ℕ) (start now : Option (List ℕ)) (input : TraceInput) (r : InputReader) (claim : List Edge → Type 0) : Type 0 where
+pub record HasTakenBefore (limit : ℕ) (start now : Option (List ℕ)) (input : TraceInput) (r : InputReader)
+    (claim : List Edge → Type 0) : Type 0 where
   pub given : List Edge
   pub read : HasReadEdges limit start now input given r
   pub taken : claim given

@@ -16,7 +16,8 @@ word_if holds word = if holds then word else []
 -- the words on a mark, after its dot column
 abbrev pub mark_words : Mark → List ℕ
 mark_words (Cell code lower reverse wide) =
-    codes " cell " ++ decimal code ++ word_if lower (codes " lower") ++ word_if reverse (codes " reverse") ++ word_if wide (codes " wide")
+    codes " cell " ++ decimal code ++ word_if lower (codes " lower") ++ word_if reverse (codes " reverse")
+    ++ word_if wide (codes " wide")
 mark_words (Dots value) = codes " dots " ++ decimal value
 
 -- a mark's line
@@ -47,8 +48,10 @@ stop_text (Some stop) = codes "stop " ++ decimal (stop_number stop.1) ++ codes "
 
 -- what stands behind the printers
 unfoldable pub end_text : List ℕ → List ℕ → Option (ℕ × Stop) → List ℕ
-end_text statuses screen stop = numbers_text (codes "status") statuses ++ numbers_text (codes "screen") screen ++ stop_text stop
+end_text statuses screen stop =
+    numbers_text (codes "status") statuses ++ numbers_text (codes "screen") screen ++ stop_text stop
 
 -- the page text of an outcome
 unfoldable pub page_text : Outcome → List ℕ
-page_text outcome = paper_text 4 outcome.paper4 ++ paper_text 5 outcome.paper5 ++ end_text outcome.statuses outcome.screen outcome.stop
+page_text outcome =
+    paper_text 4 outcome.paper4 ++ paper_text 5 outcome.paper5 ++ end_text outcome.statuses outcome.screen outcome.stop

@@ -35,7 +35,8 @@ abbrev pub IsTold : CaptureContents → (samples : List Edge) → (fault : Optio
 IsTold told samples fault = (told.samples ≡ samples) × (option_map (λ f. Capture f) told.fault ≡ fault)
 
 -- a text in a format says these samples, or edges, up to its fault if it has one
-abbrev pub SaysSamples : TraceInput → Source → (text : List ℕ) → (samples : List Edge) → (fault : Option CliFault) → Type 0
+abbrev pub SaysSamples : TraceInput → Source → (text : List ℕ) → (samples : List Edge) → (fault : Option CliFault)
+    → Type 0
 SaysSamples input source.Text text samples fault =
     (bad : Option ℕ) × SaysEdges text samples bad × (option_map (λ n. Trace (trace.BadLine n)) bad ≡ fault)
 SaysSamples input source.Csv text samples fault = IsTold (csv_contents input.signals text) samples fault
@@ -68,7 +69,8 @@ IsReport report.Story edges None text = text ≡ story_of edges
 IsReport report.Story edges (Some fault) text = text ≡ story_lines false (timed_frames edges)
 
 -- the report on what an input says, and why it is refused, if it is
-pub record Reports (input : TraceInput) (r : Report) (text : List ℕ) (refused : Option CliFault) (written : List ℕ) : Type 0 where
+pub record Reports (input : TraceInput) (r : Report) (text : List ℕ) (refused : Option CliFault)
+    (written : List ℕ) : Type 0 where
   pub edges : List Edge
   pub fault : Option CliFault
   pub says : Says input text edges fault
@@ -76,8 +78,10 @@ pub record Reports (input : TraceInput) (r : Report) (text : List ℕ) (refused 
   pub is_report : IsReport r edges refused written
 
 -- the report was written, and the trace is refused so, or is not
-abbrev pub WritesReport : TraceInput → Report → List ℕ → (refused : Option CliFault) → Option (List ℕ) → Option (List ℕ) → Type 0
-WritesReport input r text refused old new = (written : List ℕ) × Reports input r text refused written × Appends old new written
+abbrev pub WritesReport : TraceInput → Report → List ℕ → (refused : Option CliFault) → Option (List ℕ)
+    → Option (List ℕ) → Type 0
+WritesReport input r text refused old new =
+    (written : List ℕ) × Reports input r text refused written × Appends old new written
 
 -- an input is whole where nothing is refused, or its edges are
 abbrev pub IsWhole : (refused : Option CliFault) → Type 0
@@ -100,7 +104,8 @@ pub record WritesFront (input : TraceInput) (r : Report) (text : List ℕ) (old 
   pub front : AppendsFront old new written
 
 -- the answer, by the text read and what the writer held before and after
-abbrev pub AnswersReport : TraceInput → Report → List ℕ → Option (List ℕ) → Option (List ℕ) → Result (Unit {0}) CliFault → Type 0
+abbrev pub AnswersReport : TraceInput → Report → List ℕ → Option (List ℕ) → Option (List ℕ)
+    → Result (Unit {0}) CliFault → Type 0
 AnswersReport input r text old new (Ok _) = (length text ≤ trace_limit) × WritesReport input r text None old new
 AnswersReport input r text old new (Err (Script fault)) = ⊥
 AnswersReport input r text old new (Err (Trace fault)) = WritesReport input r text (Some (Trace fault)) old new

@@ -77,7 +77,8 @@ pub record AddsLines (f : TimedFrame) (old new : FrameReporter) : Type 0 where
 
 -- the reporter has taken these edges too
 abbrev pub ReportsMore : (more : List Edge) → (old new : FrameReporter) → Type 0
-ReportsMore more old new = (report : Report) (edges : List Edge) → HasReported report edges old → HasReported report (edges ++ more) new
+ReportsMore more old new =
+    (report : Report) (edges : List Edge) → HasReported report edges old → HasReported report (edges ++ more) new
 
 -- the fault of the edges taken, if they have one; the frames are all of theirs
 pub record IsEdgeFault (edges : List Edge) (given : List TimedFrame) (fault : Option WaveFault) : Type 0 where
@@ -86,7 +87,8 @@ pub record IsEdgeFault (edges : List Edge) (given : List TimedFrame) (fault : Op
   pub memory : fault ≡ Some wave.NoMemory → ⊥
 
 abbrev pub HasEnded : FrameReporter → Option WaveFault → Type 0
-HasEnded r fault = (report : Report) (edges : List Edge) → (h : HasReported report edges r) → IsEdgeFault edges h.given fault
+HasEnded r fault =
+    (report : Report) (edges : List Edge) → (h : HasReported report edges r) → IsEdgeFault edges h.given fault
 
 -- the last line of a report
 abbrev pub last_line : (refused : Option CliFault) → List ℕ
@@ -138,7 +140,8 @@ IsRefused t = IfSome t.refused IsTraceFault
 -- the report on an input that ends here, or has had its fault, where the lines of the edges before the last block were made
 abbrev pub EndsReported : InputReader → FrameReporter → ReportText → Type 0
 EndsReported r frames t =
-    (report : Report) → EndsReading r (λ edges. HasReported report edges frames) (λ edges own. EndsReport report edges own t)
+    (report : Report)
+    → EndsReading r (λ edges. HasReported report edges frames) (λ edges own. EndsReport report edges own t)
 
 -- what the lines of a report come to that are written
 abbrev pub WritesText : ReportText → Option (List ℕ) → Option (List ℕ) → Result (Unit {0}) CliFault → Type 0

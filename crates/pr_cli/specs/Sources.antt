@@ -70,7 +70,8 @@ GivenSamplesComeFirst =
 -- each text says something in each format
 abbrev pub EachTextSaysSamples : Type 0
 EachTextSaysSamples =
-    (input : TraceInput) (t : List ℕ) → (samples : List Edge) × (fault : Option CliFault) × SaysSamples input input.source t samples fault
+    (input : TraceInput) (t : List ℕ) → (samples : List Edge) × (fault : Option CliFault)
+    × SaysSamples input input.source t samples fault
 
 -- Makers of edges.
 

@@ -74,12 +74,15 @@ impl<'a> EdgeReader<'a> {
     ///
     /// `AllocError` where memory was refused.
     pub fn take_block(&mut self, block: &[u8]) -> Result<bool, AllocError>
+        // the caller's part
         requires open { fault_in self.old ≡ None }
         requires lines { lines_taken self.old + length block.now + 1 < 2 ^ 64 }
-        ensures known { OnOk result (GivesEdges block.now self.old self.new) }
+        // what it gives
         ensures goes_on { IfOk result (λ goes_on. goes_on ≡ is_none (fault_in self.new)) }
         ensures lines { OnOk result (lines_taken self.new ≤ lines_taken self.old + length block.now) }
         ensures few { OnOk result (length (edges_in self.new) ≤ length block.now) }
+        // when it refuses, and what that leaves
+        ensures known { OnOk result (GivesEdges block.now self.old self.new) }
     {
         self.edges.clear();
         self.fault = take_samples(&mut self.reader, &mut self.maker, block, &mut self.edges)?;

@@ -142,7 +142,9 @@ impl Texts {
     /// Puts the lines of the first marks into a block, and says of how many marks and how many
     /// bytes these are.
     fn fill(&self, block: &mut [u8], marks: &[Placed]) -> (usize, usize)
+        // the caller's part
         requires { length block.old ≡ 1024 }
+        // what it gives
         ensures text { take result.1 block.new ++ flat_map mark_text (drop result.0 marks.now) ≡ flat_map mark_text marks.now }
         ensures marks { result.0 ≤ length marks.now }
         ensures few { result.0 ≤ 32 }

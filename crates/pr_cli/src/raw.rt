@@ -44,16 +44,19 @@ pub fn raw_over<R: Read, W: Write>(
     lower: bool,
     format: Format,
 ) -> Result<(), CliFault>
+    // the caller's part
     requires input { has_failed input.old ≡ false }
     requires output { has_failed output.old ≡ false }
+    // what it gives
     ensures raw { IfSome (R.remaining (wrapped input.old)) (λ bytes.
         AnswersRaw lower format bytes (W.contents (wrapped output.old)) (W.contents (wrapped output.new)) result) }
     ensures at_end { ReadsToEnd (R.remaining (wrapped input.new)) result }
+    ensures flushed { OnOk result (is_flushed output.new ≡ true) }
+    // when it refuses, and what that leaves
     ensures nothing { WritesNothing (W.contents (wrapped output.old)) (W.contents (wrapped output.new)) result }
     ensures own { IfErr result IsRawFault }
     ensures read_failed { IsErrOf result CliFault.ReadFailed ↔ (has_failed input.new ≡ true) }
     ensures write_failed { IsErrOf result CliFault.WriteFailed ↔ (has_failed output.new ≡ true) }
-    ensures flushed { OnOk result (is_flushed output.new ≡ true) }
 {
     let paper = print_input(alloc, input, lower, RAW_LIMIT)?;
     let four_alone = Present {
@@ -96,10 +99,13 @@ pub fn print_input<R: Read>(
     lower: bool,
     limit: usize,
 ) -> Result<Paper, CliFault>
+    // the caller's part
     requires fresh { has_failed input.old ≡ false }
     requires few { limit ≤ raw_limit }
+    // what it gives
     ensures paper { IfSome (R.remaining (wrapped input.old)) (λ bytes. GivesPaper limit lower result bytes) }
     ensures at_end { HasReadAll (R.remaining (wrapped input.new)) result }
+    // when it refuses, and what that leaves
     ensures own { IfErr result IsReadingFault }
     ensures failed { IsErrOf result CliFault.ReadFailed ↔ (has_failed input.new ≡ true) }
 {

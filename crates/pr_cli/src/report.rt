@@ -47,16 +47,19 @@ pub fn check_as_over<R: Read, W: Write>(
     trace: TraceInput<'_>,
     report: Report,
 ) -> Result<(), CliFault>
+    // the caller's part
     requires input { has_failed input.old ≡ false }
     requires output { has_failed output.old ≡ false }
+    // what it gives
     ensures check { IfSome (R.remaining (wrapped input.old)) (λ text.
         AnswersReport trace.entry report text (W.contents (wrapped output.old)) (W.contents (wrapped output.new)) result) }
     ensures at_end { ReadsAll report (R.remaining (wrapped input.new)) result }
+    ensures flushed { OnOk result (is_flushed output.new ≡ true) }
+    // when it refuses, and what that leaves
     ensures nothing { WritesNoReport report (W.contents (wrapped output.old)) (W.contents (wrapped output.new)) result }
     ensures own { IfErr result IsReportFault }
     ensures read_failed { IsErrOf result CliFault.ReadFailed ↔ (has_failed input.new ≡ true) }
     ensures write_failed { IsErrOf result CliFault.WriteFailed ↔ (has_failed output.new ≡ true) }
-    ensures flushed { OnOk result (is_flushed output.new ≡ true) }
 {
     let text = report_input(alloc, input, trace, report, CHECK_LIMIT)?;
     let text = unless_withheld(report, text)?;
@@ -109,10 +112,13 @@ pub fn report_input<R: Read>(
     report: Report,
     limit: usize,
 ) -> Result<ReportText, CliFault>
+    // the caller's part
     requires fresh { has_failed input.old ≡ false }
     requires few { limit ≤ trace_limit }
+    // what it gives
     ensures report { IfSome (R.remaining (wrapped input.old)) (λ text. GivesReport limit trace.entry report result text) }
     ensures at_end { HasReadAll (R.remaining (wrapped input.new)) result }
+    // when it refuses, and what that leaves
     ensures refused { IfOk result IsRefused }
     ensures own { IfErr result IsNoReading }
     ensures failed { IsErrOf result CliFault.ReadFailed ↔ (has_failed input.new ≡ true) }

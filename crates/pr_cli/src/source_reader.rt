@@ -36,12 +36,15 @@ impl<'a> SourceReader<'a> {
     ///
     /// The first fault of the input, where these bytes end it, or [`CliFault::NoMemory`].
     pub fn take_front(&mut self, block: &[u8]) -> Result<(usize, Option<Edge>), CliFault>
+        // the caller's part
         requires few { lines_read self.old + 1 < 2 ^ 64 }
         requires some { 0 < length block.now }
+        // what it gives
         ensures given { IfOk result (λ r. GivesMore (take r.0 block.now) r.1 self.old self.new) }
         ensures some { IfOk result (λ r. 0 < r.0) }
         ensures within { IfOk result (λ r. r.0 ≤ length block.now) }
         ensures lines { OnOk result (lines_read self.new ≤ lines_read self.old + 1) }
+        // when it refuses, and what that leaves
         ensures refused { IfErr result (λ f. RefusesInput block.now self.old f) }
     {
         match self {

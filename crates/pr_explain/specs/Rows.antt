@@ -12,7 +12,9 @@ use Rattle.pr_explain.specs.declared.rows.Row.{Row}
 -- an edge has these levels, and lies in this interval
 abbrev pub lies : Levels → ℕ → Option ℕ → Edge → Bool
 lies l low high e =
-    same l.atn e.levels.atn && (same l.clock e.levels.clock && (same l.line e.levels.line && (not (nat_lt e.time low) && not (is_late e.time high))))
+    same l.atn e.levels.atn
+    && (same l.clock e.levels.clock
+    && (same l.line e.levels.line && (not (nat_lt e.time low) && not (is_late e.time high))))
 
 -- a row takes an edge; no row takes none
 abbrev pub takes : Option Row → Edge → Bool
@@ -54,4 +56,5 @@ comes_after last e = nat_lt last.time e.time && differ last.levels e.levels
 
 -- these are the rows at a place behind the last edge: an edge may follow it there exactly if one of them takes it
 abbrev pub AreRowsBehind : List (Option Row) → Edge → BusState → Type 0
-AreRowsBehind rows last p = (e : Edge) → e.time < 2 ^ 64 → list_any (λ row. takes row e) rows ≡ is_step (verdict last p e)
+AreRowsBehind rows last p =
+    (e : Edge) → e.time < 2 ^ 64 → list_any (λ row. takes row e) rows ≡ is_step (verdict last p e)

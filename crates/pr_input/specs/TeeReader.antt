@@ -12,4 +12,5 @@ kept k = option_map (λ v. v.items) k.bytes
 
 -- more bytes are kept behind the others, or nothing is kept any more
 abbrev pub KeepsMore : {R : Type 0} → List ℕ → TeeReader R → TeeReader R → Type 0
-KeepsMore more before after = IfSome (kept after) (λ bytes. option_map (λ front. front ++ more) (kept before) ≡ Some bytes)
+KeepsMore more before after =
+    IfSome (kept after) (λ bytes. option_map (λ front. front ++ more) (kept before) ≡ Some bytes)

@@ -47,10 +47,13 @@ pub fn read_whole<R: Read>(
     input: &mut Watched<R>,
     limit: usize,
 ) -> Result<Vec<u8>, ReadFault>
+    // the caller's part
     requires fresh { has_failed input.old ≡ false }
+    // what it gives
     ensures ok { IfOk result (λ v. IfSome (R.remaining (wrapped input.old)) (λ bytes. v.items ≡ bytes)) }
     ensures at_end { IfOk result (λ _. IsAtEnd (R.remaining (wrapped input.new))) }
     ensures within { IfOk result (λ v. length v.items ≤ limit) }
+    // when it refuses, and what that leaves
     ensures large { IsErrOf result ReadFault.TooLarge → IfSome (R.remaining (wrapped input.old)) (λ bytes. limit < length bytes) }
     ensures failed { IsErrOf result ReadFault.ReadFailed ↔ (has_failed input.new ≡ true) }
 {

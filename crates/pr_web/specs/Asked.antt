@@ -20,7 +20,8 @@ abbrev pub Refuses : ℕ → (old new : List ℕ) → Answer → Type 0
 Refuses fault old new answer = (answer ≡ refusal (fault, 0) 0) × (new ≡ old)
 
 -- what a recording says
-abbrev pub TellsReadings : Option Source → (atn clock line : List ℕ) → (inverted start : ℕ) → List ℕ → (old new : List ℕ) → Answer → Type 0
+abbrev pub TellsReadings : Option Source → (atn clock line : List ℕ) → (inverted start : ℕ) → List ℕ
+    → (old new : List ℕ) → Answer → Type 0
 TellsReadings None atn clock line inverted start bytes old new answer = Refuses 29 old new answer
 TellsReadings (Some source) atn clock line inverted start bytes old new answer =
     (input : TraceInput) × IsInput source atn clock line (is_yes inverted) start input
@@ -28,7 +29,8 @@ TellsReadings (Some source) atn clock line inverted start bytes old new answer =
 
 -- the pages that printers print of it
 abbrev pub TellsReprint :
-    Option Source → (atn clock line : List ℕ) → (inverted start picture : ℕ) → List ℕ → (old new : List ℕ) → Answer → Type 0
+    Option Source → (atn clock line : List ℕ) → (inverted start picture : ℕ) → List ℕ → (old new : List ℕ) → Answer
+    → Type 0
 TellsReprint None atn clock line inverted start picture bytes old new answer = Refuses 29 old new answer
 TellsReprint (Some source) atn clock line inverted start picture bytes old new answer =
     (input : TraceInput) × IsInput source atn clock line (is_yes inverted) start input

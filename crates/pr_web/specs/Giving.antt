@@ -36,19 +36,23 @@ FindsText made (Err fault) = (made ≡ Err fault) × (is_of_input fault ≡ fals
 -- the text is handed over: it stands at the front of the buffer, and the rest is as it was; or it
 -- has no room; or there is none
 abbrev pub Gives : Made → List ℕ → (old new : List ℕ) → Told → Type 0
-Gives made text old new (Written stop n) = HasText made stop × (n ≡ length text) × (n ≤ length old) × (new ≡ text ++ drop n old)
-Gives made text old new (TooSmall n) = (stop : Option CliFault) × HasText made stop × (n ≡ length text) × (length old < n) × (new ≡ old)
+Gives made text old new (Written stop n) =
+    HasText made stop × (n ≡ length text) × (n ≤ length old) × (new ≡ text ++ drop n old)
+Gives made text old new (TooSmall n) =
+    (stop : Option CliFault) × HasText made stop × (n ≡ length text) × (length old < n) × (new ≡ old)
 Gives made text old new (Refused fault) = (made ≡ Err fault) × (is_of_input fault ≡ false) × (new ≡ old)
 
 -- what a recording says is handed over
 abbrev pub GivesReadings : TraceInput → List ℕ → (old new : List ℕ) → Told → Type 0
 GivesReadings input bytes old new told =
-    (made : Made) × (text : List ℕ) × AnswersDecode trace_limit input bytes (Some []) (Some text) made × Gives made text old new told
+    (made : Made) × (text : List ℕ) × AnswersDecode trace_limit input bytes (Some []) (Some text) made
+    × Gives made text old new told
 
 -- the pages that printers print of it are
 abbrev pub GivesPages : TraceInput → Format → List ℕ → (old new : List ℕ) → Told → Type 0
 GivesPages input format bytes old new told =
-    (made : Made) × (text : List ℕ) × AnswersPages input format bytes (Some []) (Some text) made × Gives made text old new told
+    (made : Made) × (text : List ℕ) × AnswersPages input format bytes (Some []) (Some text) made
+    × Gives made text old new told
 
 -- an explanation is handed over, and its place answered
 abbrev pub Hands : (place : ℕ) → (text : List ℕ) → (old new : List ℕ) → Answer → Type 0

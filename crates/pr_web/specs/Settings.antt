@@ -45,7 +45,8 @@ page_format_of true = format.Picture
 
 -- a recording with these names of its signals, of levels as they stand or inverted, which starts at
 -- this microsecond
-pub record IsInput (source : Source) (atn clock line : List ℕ) (is_inverted : Bool) (start : ℕ) (input : TraceInput) : Type 0 where
+pub record IsInput (source : Source) (atn clock line : List ℕ) (is_inverted : Bool) (start : ℕ)
+    (input : TraceInput) : Type 0 where
   pub of_source : input.source ≡ source
   pub of_atn : input.signals.atn.now ≡ atn
   pub of_clock : input.signals.clock.now ≡ clock

@@ -34,11 +34,14 @@ pub fn do_job<R: Read, W: Write>(
     output: &mut Watched<W>,
     job: Job<'_>,
 ) -> Result<Ending, CliFault>
+    // the caller's part
     requires input { has_failed input.old ≡ false }
     requires output { has_failed output.old ≡ false }
+    // what it gives
     ensures job { IfSome (R.remaining (wrapped input.old)) (λ text.
         AnswersJob job.entry text (W.contents (wrapped output.old)) (W.contents (wrapped output.new)) result) }
     ensures at_end { ReadsInput job.entry (R.remaining (wrapped input.new)) result }
+    // when it refuses, and what that leaves
     ensures nothing { KeepsOutput job.entry (W.contents (wrapped output.old)) (W.contents (wrapped output.new)) result }
     ensures own { IfErr result (IsJobFault job.entry) }
     ensures read_failed { IsErrOf result CliFault.ReadFailed ↔ (has_failed input.new ≡ true) }
@@ -74,12 +77,15 @@ fn check_trace<R: Read, W: Write>(
     trace: TraceInput<'_>,
     report: Report,
 ) -> Result<(), CliFault>
+    // the caller's part
     requires input { has_failed input.old ≡ false }
     requires output { has_failed output.old ≡ false }
+    // what it gives
     ensures trace { IfSome (R.remaining (wrapped input.old)) (λ text.
         AnswersTrace trace.entry trace.entry.source report text
         (W.contents (wrapped output.old)) (W.contents (wrapped output.new)) result) }
     ensures at_end { ReadsAll report (R.remaining (wrapped input.new)) result }
+    // when it refuses, and what that leaves
     ensures nothing { WritesNoReport report (W.contents (wrapped output.old)) (W.contents (wrapped output.new)) result }
     ensures own { IfErr result IsReportFault }
     ensures read_failed { IsErrOf result CliFault.ReadFailed ↔ (has_failed input.new ≡ true) }
@@ -99,12 +105,15 @@ fn decode_recording<R: Read, W: Write>(
     trace: TraceInput<'_>,
     format: Format,
 ) -> Result<(), CliFault>
+    // the caller's part
     requires input { has_failed input.old ≡ false }
     requires output { has_failed output.old ≡ false }
+    // what it gives
     ensures recording { IfSome (R.remaining (wrapped input.old)) (λ text.
         AnswersRecording trace.entry format text
         (W.contents (wrapped output.old)) (W.contents (wrapped output.new)) result) }
     ensures at_end { decode.ReadsAll (R.remaining (wrapped input.new)) result }
+    // when it refuses, and what that leaves
     ensures own { IfErr result IsDecodeFault }
     ensures read_failed { IsErrOf result CliFault.ReadFailed ↔ (has_failed input.new ≡ true) }
     ensures write_failed { IsErrOf result CliFault.WriteFailed ↔ (has_failed output.new ≡ true) }
