@@ -35,10 +35,25 @@ pub printed_all : (limit : ℕ) (start now : Option (List ℕ)) (input : TraceIn
     → CopiesMore (edges_read r) c d → HasTakenAll limit start now input r (λ edges. HasCopied edges d)
 printed_all limit start now input r c d h copies = record { given = h.given; read = h.read; taken = copies h.given h.taken }
 
--- more bytes came than may
-pub too_large : (limit : ℕ) (start now : Option (List ℕ)) (input : TraceInput) (r : InputReader) (taken : List Edge → Type 0) → HasTakenAll limit start now input r taken → IsTooLong now r
-    → IfSome start (λ text. limit < length text)
-too_large limit start now input r taken h long = long limit start input h.given h.read
+-- nothing is printed where the input was not read, or memory was refused
+pub prints_none : (limit : ℕ) (start now : Option (List ℕ)) (input : TraceInput) (r : InputReader) (taken : List Edge → Type 0) (v : Result Printed CliFault) (f : CliFault)
+    → HasTakenAll limit start now input r taken → IsErrAnd v (λ x. x ≡ f) → IsNoReading f → (f ≡ TooLarge → IsTooLong now r) → IfSome start (λ text. GivesPrint limit input v text)
+prints_none limit start now input r taken (Ok p) f h e none long = absurd e
+prints_none limit start now input r taken (Err x) f h e none long = rw e (by f none (λ is. long is limit start input h.given h.read))
+  where
+    all : (start : Option (List ℕ)) (P : List ℕ → Type 0) → ((text : List ℕ) → P text) → IfSome start P
+    all None P p = tt
+    all (Some text) P p = p text
+
+    by : (f : CliFault) → IsNoReading f → (f ≡ TooLarge → IfSome start (λ text. limit < length text)) → IfSome start (λ text. GivesPrint limit input (Err f) text)
+    by TooLarge none long = long refl
+    by NoMemory none long = all start (λ text. GivesPrint limit input (Err NoMemory) text) (λ text. tt)
+    by ReadFailed none long = all start (λ text. GivesPrint limit input (Err ReadFailed) text) (λ text. tt)
+    by (Script fault) none long = absurd none
+    by (Trace fault) none long = absurd none
+    by (Wave fault) none long = absurd none
+    by (Capture fault) none long = absurd none
+    by WriteFailed none long = absurd none
 
 -- what was printed at an input's end, or at its fault
 pub record PrintsLast (limit : ℕ) (start left : Option (List ℕ)) (input : TraceInput) (p : Printed) : Type 0 where

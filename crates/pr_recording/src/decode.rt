@@ -24,7 +24,8 @@ use std::io::{Read, Write};
 /// project's profile.
 ///
 /// The recording may begin anywhere and have any levels. It is read block by block; what a block settles
-/// is written before the next is read, and nothing of it is kept but 1.3 megabytes of counters.
+/// is written before the next is read, and nothing of it is kept but one block's edges and 1.3 megabytes
+/// of counters.
 ///
 /// # Errors
 ///
