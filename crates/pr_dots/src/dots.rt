@@ -1,0 +1,57 @@
+//! Which dots a paper has.
+
+ghost use Rattle.std.specs.Prelude.{◌≡◌, ◌+◌, ◌≤◌};
+ghost use Rattle.std.specs.List.{list_any};
+ghost use Rattle.pr_dots.specs.Dots.{column_dots, columns_dots, columns_of, has_dot, is_at, row_dots};
+
+use crate::columns::columns;
+use pr_page::{Paper, Placed, Row};
+
+/// The seven dots of a column.
+const BITS: [u8; 7] = [0, 1, 2, 3, 4, 5, 6];
+
+/// Whether a column at `column` with its top at `top` has a dot at (x, y).
+fn column_has_dot(column: u64, top: u128, value: u8, x: u64, y: u128) -> bool
+    requires { top ≤ 18446744073709551615 }
+    ensures { result ≡ list_any (is_at x y) (column_dots column top value) }
+{
+    BITS.iter().any(|bit| value >> *bit & 1 == 1 && column == x && top + 2 * u128::from(*bit) == y)
+}
+
+/// Whether a mark has a dot at (x, y), on a row at a distance.
+fn mark_has_dot(placed: Placed, top: u128, x: u64, y: u128) -> bool
+    requires { top ≤ 18446744073709551615 }
+    ensures { result ≡ list_any (is_at x y) (columns_dots placed.x top (columns_of placed.mark)) }
+{
+    let mut column = u64::from(placed.x);
+    let mut found = false;
+    for value in columns(placed.mark).as_slice() {
+        found = found || column_has_dot(column, top, *value, x, y);
+        column += 1;
+    }
+    found
+}
+
+/// Whether a row has a dot at (x, y).
+fn row_has_dot(row: &Row, x: u64, y: u128) -> bool
+    ensures { result ≡ list_any (is_at x y) (row_dots row.now) }
+{
+    let top = u128::from(row.y);
+    row.marks
+        .as_slice()
+        .iter()
+        .any(|placed| mark_has_dot(*placed, top, x, y))
+}
+
+/// Whether a paper has a dot at dot column `x` (1/60 inch from the left) and `y` 1/126 inch from the top.
+/// Marks that are held have no place yet, and no dots.
+#[tactic(auto, unfolding(crate::specs::Dots::has_dot, crate::specs::Dots::dots_of))]
+pub fn has_dot(paper: &Paper, x: u64, y: u128) -> bool
+    ensures { result ≡ has_dot paper.now x y }
+{
+    paper
+        .rows
+        .as_slice()
+        .iter()
+        .any(|row| row_has_dot(row, x, y))
+}
