@@ -23,12 +23,13 @@ abbrev pub columns_of : Mark → List ℕ
 columns_of (Cell code lower reverse wide) = flat_map (printed_columns reverse wide) (shape lower code)
 columns_of (Dots value) = value ∷ []
 
--- the dots of a column at x whose top is at y: that of bit b is 2b lower
+-- the dot of a column's bit, if it has one: the column is at x, its top at y, and bit b is 2b lower
+abbrev pub bit_dots : (x y value b : ℕ) → List Dot
+bit_dots x y value b = if value / 2 ^ b % 2 == 1 then record { x = x; y = y + 2 * b } ∷ [] else []
+
+-- the dots of a column
 abbrev pub column_dots : (x y value : ℕ) → List Dot
-column_dots x y value = flat_map dot_of (0 ∷ 1 ∷ 2 ∷ 3 ∷ 4 ∷ 5 ∷ 6 ∷ [])
-  where
-    dot_of : ℕ → List Dot
-    dot_of b = if value / 2 ^ b % 2 == 1 then record { x = x; y = y + 2 * b } ∷ [] else []
+column_dots x y value = flat_map (bit_dots x y value) (0 ∷ 1 ∷ 2 ∷ 3 ∷ 4 ∷ 5 ∷ 6 ∷ [])
 
 -- the dots of columns side by side, the first of them at x
 abbrev pub columns_dots : (x y : ℕ) → List ℕ → List Dot

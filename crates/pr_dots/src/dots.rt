@@ -1,21 +1,33 @@
 //! Which dots a paper has.
 
-ghost use Rattle.std.specs.Prelude.{◌≡◌, ◌+◌, ◌≤◌};
+ghost use Rattle.std.specs.Prelude.{◌≡◌, ◌<◌, ◌≤◌};
 ghost use Rattle.std.specs.List.{list_any};
-ghost use Rattle.pr_dots.specs.Dots.{column_dots, columns_dots, columns_of, has_dot, is_at, row_dots};
+ghost use Rattle.pr_dots.specs.Dots.{bit_dots, column_dots, columns_dots, columns_of, has_dot, is_at, row_dots};
 
-use crate::columns::columns;
+use crate::mark_columns::columns;
 use pr_page::{Paper, Placed, Row};
 
-/// The seven dots of a column.
-const BITS: [u8; 7] = [0, 1, 2, 3, 4, 5, 6];
+/// Whether the dot of a column's bit is at (x, y).
+fn bit_has_dot(column: u64, top: u128, value: u8, bit: u8, x: u64, y: u128) -> bool
+    requires within { top ≤ 18446744073709551615 }
+    requires bit { bit < 7 }
+    ensures { result ≡ list_any (is_at x y) (bit_dots column top value bit) }
+{
+    (value >> bit) % 2 == 1 && column == x && top + 2 * u128::from(bit) == y
+}
 
 /// Whether a column at `column` with its top at `top` has a dot at (x, y).
 fn column_has_dot(column: u64, top: u128, value: u8, x: u64, y: u128) -> bool
     requires { top ≤ 18446744073709551615 }
     ensures { result ≡ list_any (is_at x y) (column_dots column top value) }
 {
-    BITS.iter().any(|bit| value >> *bit & 1 == 1 && column == x && top + 2 * u128::from(*bit) == y)
+    bit_has_dot(column, top, value, 0, x, y)
+        || bit_has_dot(column, top, value, 1, x, y)
+        || bit_has_dot(column, top, value, 2, x, y)
+        || bit_has_dot(column, top, value, 3, x, y)
+        || bit_has_dot(column, top, value, 4, x, y)
+        || bit_has_dot(column, top, value, 5, x, y)
+        || bit_has_dot(column, top, value, 6, x, y)
 }
 
 /// Whether a mark has a dot at (x, y), on a row at a distance.

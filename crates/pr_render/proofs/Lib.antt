@@ -1,1 +1,1 @@
-pub mod Drawn
+pub mod Defining

@@ -1,8 +1,7 @@
 pub mod Characters
-pub mod Laws
+pub mod Defined
 pub mod Parts
-pub mod Pens
 pub mod Plain
+pub mod Strips
 pub mod Svg
-pub mod Tables
 pub mod Words

@@ -1,0 +1,10 @@
+use Rattle.std.proofs.Common.{◌≡◌, ◌++◌, drop}
+use Rattle.std.specs.Prelude.{flat_map}
+use Rattle.pr_render.specs.Svg.{letters_svg}
+use Rattle.pr_render.proofs.sheets.push_row_letters.Given as goal
+
+-- the text so far and that of what is left make the whole
+abbrev pub invariant-loop-row : goal.invariant-loop-row
+invariant-loop-row l =
+    l.text.items ++ flat_map (λ r. letters_svg r.y r.marks) (drop l.row-index l.rows)
+    ≡ l.fn.text.items ++ flat_map (λ r. letters_svg r.y r.marks) l.rows
