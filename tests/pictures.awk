@@ -39,7 +39,7 @@ function has_bit(value, k) { return int(value / 2 ^ k) % 2 }
 # a mark's name, its definition, and marks by their names
 function name_of(i) {
     if (kind[i] == "dots") return "d" code[i]
-    return (style[i] ~ /lower/ ? "l" : "u") code[i] (style[i] ~ /reverse/ ? "r" : "") (style[i] ~ /wide/ ? "w" : "")
+    return (style[i] ~ /lower/ ? "l" : "u") (style[i] ~ /reverse/ ? "r" : "") (style[i] ~ /wide/ ? "w" : "") code[i]
 }
 function definition(i,   column, count, c, k, path) {
     count = columns_of(i, column)

@@ -1,1 +1,3 @@
 pub mod Defining
+pub mod Drawn
+pub mod Names

@@ -28,11 +28,11 @@ disc_of dot = record { across = 21 * dot.x + 10; down = 10 * dot.y + 10 }
 unfoldable pub disc_svg : Disc → List ℕ
 disc_svg disc = codes "M" ++ decimal disc.across ++ codes " " ++ decimal disc.down ++ codes "h0"
 
--- a mark's name: `d` and its value for a column of dots; of a cell `u` (graphic/upper case) or `l` (lower/upper case) and its code,
--- with `r` if it is reversed and `w` if it is wide
+-- a mark's name: `d` and the value of a column of dots; of a cell `u` (graphic/upper case) or `l` (lower/upper case), `r` if it is
+-- reversed, `w` if it is wide, and its code
 unfoldable pub name_svg : Mark → List ℕ
 name_svg (Cell code lower reverse wide) =
-    either_text lower (codes "l") (codes "u") ++ decimal code ++ text_if reverse (codes "r") ++ text_if wide (codes "w")
+    either_text lower (codes "l") (codes "u") ++ text_if reverse (codes "r") ++ text_if wide (codes "w") ++ decimal code
 name_svg (Dots value) = codes "d" ++ decimal value
 
 -- the discs of a mark, as they are defined once

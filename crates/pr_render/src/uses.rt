@@ -22,9 +22,9 @@ fn push_name(text: &mut Vec<u8>, mark: Mark) -> Result<(), AllocError>
             wide,
         } => {
             text.push(if lower { b'l' } else { b'u' })?;
-            push_small(text, u64::from(code))?;
             push_if(text, reverse, b"r")?;
-            push_if(text, wide, b"w")
+            push_if(text, wide, b"w")?;
+            push_small(text, u64::from(code))
         }
         Mark::Dots(value) => {
             text.push(b'd')?;
