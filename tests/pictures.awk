@@ -62,7 +62,7 @@ function letters(y, from, to,   i, k, text, shown, width, picture) {
             text = text (sign[k] == 160 ? " " : escaped(sign[k]))
             if (sign[k] != 32 && sign[k] != 160) shown = 1
         }
-        if (shown) picture = picture "<text x=\"" 21 * place[i] "\" y=\"" 10 * y + 140 "\" textLength=\"" 21 * width * (k - i) "\">" text "</text>\n"
+        if (shown) picture = picture "<text x=\"" 21 * place[i] "\" y=\"" 10 * y + 140 "\" textLength=\"" 21 * width * (k - i) "\" lengthAdjust=\"spacingAndGlyphs\">" text "</text>\n"
     }
     return picture
 }

@@ -69,6 +69,10 @@ held_begin = codes "<g opacity=\".4\" transform=\"translate(0 "
 unfoldable pub letters_begin : List ℕ
 letters_begin = codes "<g fill-opacity=\"0\" font-size=\"140\" xml:space=\"preserve\">\n"
 
+-- behind the width of a strip, to which the characters of any font are drawn out
+unfoldable pub letters_fitted : List ℕ
+letters_fitted = codes "\" lengthAdjust=\"spacingAndGlyphs\">"
+
 -- behind the distance of the marks held: a dashed rule, and a line that says what they are
 unfoldable pub held_note : List ℕ
 held_note = codes ")\">\n<path stroke=\"#a33\" stroke-width=\"20\" stroke-dasharray=\"126\" d=\"M0 60h10080\"/>\n<text font-size=\"120\" fill=\"#a33\" x=\"7350\" y=\"200\">held by the printer, not yet printed</text>\n</g>\n"

@@ -13,7 +13,7 @@ use Rattle.pr_system.specs.declared.outcome.Outcome.{Outcome}
 use Rattle.pr_dots.specs.Dots.{Dot, columns_dots, columns_of}
 use Rattle.pr_render.specs.Characters.{character}
 use Rattle.pr_render.specs.Words.{either_text, is_blank, stop_name, text_if}
-use Rattle.pr_render.specs.Parts.{definitions_begin, definitions_end, desk, document_about, document_begin, held_begin, held_note, height_begin, ink_begin, letters_begin, notes_begin, paper_folds, paper_piece, row_begin, sheet_end, sheet_marks, sheet_name, sheet_paper, status_begin, stop_begin, text_end, units_begin, units_between}
+use Rattle.pr_render.specs.Parts.{definitions_begin, definitions_end, desk, document_about, document_begin, held_begin, held_note, height_begin, ink_begin, letters_begin, letters_fitted, notes_begin, paper_folds, paper_piece, row_begin, sheet_end, sheet_marks, sheet_name, sheet_paper, status_begin, stop_begin, text_end, units_begin, units_between}
 
 -- a disc of a picture: its middle, in units from the left and from the top
 pub record Disc : Type 0 where
@@ -132,7 +132,7 @@ shows (u ∷ us) = not (is_blank u) || shows us
 unfoldable pub characters_svg : ℕ → Strip → List ℕ
 characters_svg y strip =
     codes "<text x=\"" ++ decimal (21 * strip.x) ++ codes "\" y=\"" ++ decimal (10 * y + 140) ++ codes "\" textLength=\""
-    ++ decimal (21 * cells_width strip.wide (length strip.characters)) ++ codes "\">" ++ flat_map character_text strip.characters ++ text_end
+    ++ decimal (21 * cells_width strip.wide (length strip.characters)) ++ letters_fitted ++ flat_map character_text strip.characters ++ text_end
 
 -- the same, if they are not all blank
 abbrev pub strip_svg : ℕ → Strip → List ℕ

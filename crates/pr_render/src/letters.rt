@@ -6,7 +6,7 @@ ghost use Rattle.pr_render.specs.Svg.{cells_width, character_text, characters_sv
 
 use crate::adding::{is_blank, push_number, push_small};
 use crate::characters::character;
-use crate::parts::text_end;
+use crate::parts::{letters_fitted, text_end};
 use pr_page::{Mark, Placed};
 use std::alloc::{AllocError, Global};
 use std::marker::Model;
@@ -182,7 +182,7 @@ impl Cells {
         push_number(text, 10 * y + 140)?;
         text.extend_from_slice(b"\" textLength=\"")?;
         push_small(text, 21 * cells_width(self.wide, characters.len() as u64))?;
-        text.extend_from_slice(b"\">")?;
+        text.extend_from_slice(letters_fitted())?;
         push_each(text, characters)?;
         text.extend_from_slice(text_end())
     }

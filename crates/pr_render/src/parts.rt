@@ -1,7 +1,7 @@
 //! The fixed parts of the picture.
 
 ghost use Rattle.std.specs.Prelude.{◌≡◌};
-ghost use Rattle.pr_render.specs.Parts.{definitions_begin, definitions_end, desk, document_about, document_begin, height_begin, held_begin, held_note, ink_begin, letters_begin, notes_begin, paper_folds, paper_piece, row_begin, sheet_end, sheet_marks, sheet_name, sheet_paper, status_begin, stop_begin, text_end, units_begin, units_between};
+ghost use Rattle.pr_render.specs.Parts.{definitions_begin, definitions_end, desk, document_about, document_begin, height_begin, held_begin, held_note, ink_begin, letters_begin, letters_fitted, notes_begin, paper_folds, paper_piece, row_begin, sheet_end, sheet_marks, sheet_name, sheet_paper, status_begin, stop_begin, text_end, units_begin, units_between};
 
 /// The document's first tag, up to its width.
 #[tactic(auto, unfolding(crate::specs::Parts::document_begin))]
@@ -137,6 +137,14 @@ pub fn letters_begin() -> &'static [u8]
     ensures { result.now ≡ letters_begin }
 {
     b"<g fill-opacity=\"0\" font-size=\"140\" xml:space=\"preserve\">\n"
+}
+
+/// Behind the width of a strip, to which the characters of any font are drawn out.
+#[tactic(auto, unfolding(crate::specs::Parts::letters_fitted))]
+pub fn letters_fitted() -> &'static [u8]
+    ensures { result.now ≡ letters_fitted }
+{
+    b"\" lengthAdjust=\"spacingAndGlyphs\">"
 }
 
 /// Behind the distance of the marks held: a dashed rule, and a line that says what they are.
