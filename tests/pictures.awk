@@ -62,7 +62,7 @@ function letters(y, from, to,   i, k, text, shown, width, picture) {
             text = text (sign[k] == 160 ? " " : escaped(sign[k]))
             if (sign[k] != 32 && sign[k] != 160) shown = 1
         }
-        if (shown) picture = picture "<text x=\"" 21 * place[i] "\" y=\"" 10 * y + 140 "\" textLength=\"" 21 * width * (k - i) "\" lengthAdjust=\"spacingAndGlyphs\">" text "</text>\n"
+        if (shown) picture = picture "<text x=\"" 21 * place[i] "\" y=\"" 10 * y + 140 "\" textLength=\"" 21 * width * (k - i) "\" lengthAdjust=\"spacingAndGlyphs\" xml:space=\"preserve\">" text "</text>\n"
     }
     return picture
 }
@@ -104,7 +104,7 @@ function sheet(device, x, lines,   i, picture, y, hidden) {
         picture = picture "<g opacity=\".4\" transform=\"translate(0 " 10 * (y + 21) ")\">\n" uses(first[device, "held"], last[device, "held"]) "</g>\n"
         hidden = hidden letters(y + 21, first[device, "held"], last[device, "held"])
     }
-    picture = picture "</g>\n<g fill-opacity=\"0\" font-size=\"140\" xml:space=\"preserve\">\n" hidden "</g>\n"
+    picture = picture "</g>\n<g fill-opacity=\"0\" font-size=\"140\">\n" hidden "</g>\n"
     if (held[device]) picture = picture "<g transform=\"translate(0 " 10 * y ")\">\n<path stroke=\"#a33\" stroke-width=\"20\" stroke-dasharray=\"126\" d=\"M0 60h10080\"/>\n<text font-size=\"120\" fill=\"#a33\" x=\"7350\" y=\"200\">held by the printer, not yet printed</text>\n</g>\n"
     return picture "</g>\n</g>\n"
 }

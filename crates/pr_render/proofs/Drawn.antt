@@ -1,5 +1,5 @@
 -- What the elements of a picture draw.
-use Rattle.std.proofs.Common.{◌≡◌, ℕ, ◌+◌, ◌*◌, ◌/◌, ◌%◌, ◌^◌, Bool, true, false, cond, List, [], ◌∷◌, ◌++◌, refl, sym, ap, ◌∙◌, absurd, arith, append_assoc, append-nil}
+use Rattle.std.proofs.Common.{◌≡◌, ℕ, ◌+◌, ◌*◌, ◌/◌, ◌%◌, ◌^◌, Bool, true, false, cond, List, [], ◌∷◌, ◌++◌, refl, sym, ap, ◌∙◌, arith, append_assoc, append-nil}
 use Rattle.std.specs.Prelude.{◌==◌, ◌&&◌, ◌||◌, not, flat_map, map}
 use Rattle.std.specs.List.{filter, list_all, list_any}
 use Rattle.std.proofs.lemmas.Bool.{and_from, and_parts, eq-eqb, eqb-true}
@@ -33,17 +33,8 @@ filter-same f m p none (d ∷ ds) = grind (arith, common_steps, none d, filter-s
 once : {A : Type 0} (f : Mark → List A) (m : Mark) (ms : List Mark) → list_any (λ n. number_of n == number_of m) ms ≡ true
     → chosen f m (each_once ms) ≡ f m
 once f m [] among = grind (arith, among)
-once f m (n ∷ ms) among = by (number_of n == number_of m) refl
+once f m (n ∷ ms) among = by (number_of n == number_of m) refl (once f m ms)
   where
-    by : (is : Bool) → (number_of n == number_of m) ≡ is → chosen f m (n ∷ filter (differ n) (each_once ms)) ≡ f m
-    by true is =
-        let same : n ≡ m = numbers-tell n m (eqb-true (number_of n) (number_of m) is) in
-        let others = filter-none f m (differ n) (λ d. apart (number_of n) (number_of d) (number_of m) is) (each_once ms) in
-        rw (is, others) (append-nil (f n) ∙ ap f same)
-    by false is =
-        let others = filter-same f m (differ n) (λ d. alike (number_of n) (number_of d) (number_of m) is) (each_once ms) in
-        rw (is, others) (once f m ms (later (number_of n == number_of m) (list_any (λ n. number_of n == number_of m) ms) is among))
-
     apart : (a b c : ℕ) → (a == c) ≡ true → not (a == b) ≡ true → (b == c) ≡ false
     apart a b c is other = grind (arith, is, other)
 
@@ -53,6 +44,17 @@ once f m (n ∷ ms) among = by (number_of n == number_of m) refl
     later : (a b : Bool) → a ≡ false → (a || b) ≡ true → b ≡ true
     later true b is either = grind (arith, is)
     later false b is either = either
+
+    by : (is : Bool) → (number_of n == number_of m) ≡ is
+        → (list_any (λ n. number_of n == number_of m) ms ≡ true → chosen f m (each_once ms) ≡ f m)
+        → chosen f m (n ∷ filter (differ n) (each_once ms)) ≡ f m
+    by true is rest =
+        let same : n ≡ m = numbers-tell n m (eqb-true (number_of n) (number_of m) is) in
+        let others = filter-none f m (differ n) (λ d. apart (number_of n) (number_of d) (number_of m) is) (each_once ms) in
+        rw (is, others) (append-nil (f n) ∙ ap f same)
+    by false is rest =
+        let others = filter-same f m (differ n) (λ d. alike (number_of n) (number_of d) (number_of m) is) (each_once ms) in
+        rw (is, others) (rest (later (number_of n == number_of m) (list_any (λ n. number_of n == number_of m) ms) is among))
 
 -- what is used by a name, by numbers
 used-chosen : (ds : List Mark) (m : Mark) (across down : ℕ) → list_all is_of_bytes ds ≡ true → is_of_bytes m ≡ true
@@ -74,21 +76,24 @@ bytes-once (m ∷ ms) all =
     let parts = and_parts (is_of_bytes m) (list_all is_of_bytes ms) all in
     and_from (is_of_bytes m) (list_all is_of_bytes (filter (differ m) (each_once ms))) parts.0 (bytes-filter (differ m) (each_once ms) (bytes-once ms parts.1))
 
+-- a disc
+abbrev disc_at : ℕ → ℕ → Disc
+disc_at a b = record { across = a; down = b }
+
 -- the disc of a bit that is moved
 bit-moved : (x y i j v b : ℕ) → j ≡ x + i
     → map (moved (21 * x) (10 * y)) (map disc_of (bit_dots i 0 v b)) ≡ map disc_of (bit_dots j y v b)
 bit-moved x y i j v b at = by (v / 2 ^ b % 2 == 1)
   where
-    by : (is : Bool) → map (moved (21 * x) (10 * y)) (map disc_of (cond is (record { x = i; y = 0 + 2 * b } ∷ []) []))
-        ≡ map disc_of (cond is (record { x = j; y = y + 2 * b } ∷ []) [])
-    by true = ap (λ d. d ∷ []) (both (21 * x + (21 * i + 10)) (10 * y + (10 * (0 + 2 * b) + 10)) (21 * j + 10) (10 * (y + 2 * b) + 10) (omega (arith, at)) (omega arith))
-    by false = refl
-
-    both : (a b c d : ℕ) → a ≡ c → b ≡ d → record_of a b ≡ record_of c d
+    both : (a b c d : ℕ) → a ≡ c → b ≡ d → disc_at a b ≡ disc_at c d
     both a b c d p q = rw (p, q) refl
 
-    record_of : ℕ → ℕ → Disc
-    record_of a b = record { across = a; down = b }
+    by : (is : Bool) → map (moved (21 * x) (10 * y)) (map disc_of (cond is (record { x = i; y = 0 + 2 * b } ∷ []) []))
+        ≡ map disc_of (cond is (record { x = j; y = y + 2 * b } ∷ []) [])
+    by true =
+        ap (λ d. d ∷ [])
+        (both (21 * x + (21 * i + 10)) (10 * y + (10 * (0 + 2 * b) + 10)) (21 * j + 10) (10 * (y + 2 * b) + 10) (omega (arith, at)) (omega arith))
+    by false = refl
 
 -- the discs of bits
 bits-moved : (x y i j v : ℕ) → j ≡ x + i → (bs : List ℕ)

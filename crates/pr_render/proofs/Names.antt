@@ -1,5 +1,5 @@
 -- Marks by their names and by their numbers.
-use Rattle.std.proofs.Common.{◌≡◌, ⊥, ℕ, ◌+◌, ◌*◌, ◌<◌, ◌≤◌, ◌%◌, ◌/◌, ◌^◌, Bool, true, false, cond, List, [], ◌∷◌, ◌++◌, length, refl, sym, ap, ◌∙◌, absurd, arith, get_or, decimal}
+use Rattle.std.proofs.Common.{◌≡◌, ℕ, ◌+◌, ◌*◌, ◌<◌, ◌≤◌, ◌%◌, ◌/◌, ◌^◌, Bool, true, false, cond, List, [], ◌∷◌, ◌++◌, length, refl, sym, ap, ◌∙◌, arith, get_or, decimal}
 use Rattle.std.specs.Prelude.{◌==◌, ◌&&◌, codes, nat_lt}
 use Rattle.std.proofs.lemmas.Bool.{and_parts, eq-eqb, eqb-true}
 use Rattle.std.proofs.lemmas.Fmt.{decimal_by_steps, decimal_injective}
@@ -11,7 +11,7 @@ use Rattle.pr_render.specs.Svg.{name_svg, number_of}
 use Rattle.pr_render.specs.Words.{either_text, text_if}
 
 -- a text begins with a digit
-BeginsWithDigit : List ℕ → Type 0
+abbrev BeginsWithDigit : List ℕ → Type 0
 BeginsWithDigit text = (0 < length text) × (get_or text 0 0 < 58)
 
 -- a number does
@@ -97,7 +97,7 @@ numbers-tell (Cell c l r w) (Cell d m s v) is =
     let four = bit-tells w v 4 (cond l 1 0 + cond r 2 0) (cond m 1 0 + cond s 2 0)
     (below-four (cond l 1 0) (cond r 2 0) (bit-small l 1) (bit-small r 2)) (below-four (cond m 1 0) (cond s 2 0) (bit-small m 1) (bit-small s 2)) nine.1 in
     let two = bit-tells r s 2 (cond l 1 0) (cond m 1 0) (below-two (cond l 1 0) (bit-small l 1)) (below-two (cond m 1 0) (bit-small m 1)) four.1 in
-    let one = bit-tells l m 1 0 0 (omega arith) (omega arith) two.1 in
+    let one = bit-tells l m 1 0 0 (omega arith) (omega arith) (omega (arith, two.1)) in
     rw (nine.0, four.0, two.0, one.0) refl
   where
     nines : (c d a e i b f j : ℕ) → a ≤ 1 → e ≤ 2 → i ≤ 4 → b ≤ 1 → f ≤ 2 → j ≤ 4

@@ -67,11 +67,11 @@ held_begin = codes "<g opacity=\".4\" transform=\"translate(0 "
 
 -- letters that are not seen
 unfoldable pub letters_begin : List ℕ
-letters_begin = codes "<g fill-opacity=\"0\" font-size=\"140\" xml:space=\"preserve\">\n"
+letters_begin = codes "<g fill-opacity=\"0\" font-size=\"140\">\n"
 
--- behind the width of a strip, to which the characters of any font are drawn out
+-- behind the width of a strip, to which the characters of any font are drawn out, and blanks stay
 unfoldable pub letters_fitted : List ℕ
-letters_fitted = codes "\" lengthAdjust=\"spacingAndGlyphs\">"
+letters_fitted = codes "\" lengthAdjust=\"spacingAndGlyphs\" xml:space=\"preserve\">"
 
 -- behind the distance of the marks held: a dashed rule, and a line that says what they are
 unfoldable pub held_note : List ℕ

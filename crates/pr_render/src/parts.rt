@@ -136,15 +136,15 @@ pub fn held_begin() -> &'static [u8]
 pub fn letters_begin() -> &'static [u8]
     ensures { result.now ≡ letters_begin }
 {
-    b"<g fill-opacity=\"0\" font-size=\"140\" xml:space=\"preserve\">\n"
+    b"<g fill-opacity=\"0\" font-size=\"140\">\n"
 }
 
-/// Behind the width of a strip, to which the characters of any font are drawn out.
+/// Behind the width of a strip, to which the characters of any font are drawn out, and blanks stay.
 #[tactic(auto, unfolding(crate::specs::Parts::letters_fitted))]
 pub fn letters_fitted() -> &'static [u8]
     ensures { result.now ≡ letters_fitted }
 {
-    b"\" lengthAdjust=\"spacingAndGlyphs\">"
+    b"\" lengthAdjust=\"spacingAndGlyphs\" xml:space=\"preserve\">"
 }
 
 /// Behind the distance of the marks held: a dashed rule, and a line that says what they are.

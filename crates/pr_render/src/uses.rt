@@ -1,10 +1,10 @@
 //! Marks by their names: where each is defined, and where it is used.
 
-ghost use Rattle.std.specs.Prelude.{◌≡◌, ◌<◌, ◌≤◌, [], ◌∷◌, ◌++◌, flat_map, map, OnOk, IfOk};
+ghost use Rattle.std.specs.Prelude.{◌≡◌, ◌<◌, ◌≤◌, ◌++◌, flat_map, length, map, OnOk};
 ghost use Rattle.pr_dots.specs.Dots.{bit_dots, column_dots, columns_dots};
 ghost use Rattle.pr_render.specs.Svg.{definition_svg, disc_of, disc_svg, name_svg, number_of, use_svg};
 
-use crate::adding::{push_between, push_if, push_small};
+use crate::adding::{push_if, push_small};
 use pr_dots::columns;
 use pr_page::{Mark, Placed};
 use std::alloc::AllocError;
@@ -126,7 +126,9 @@ fn push_use(text: &mut Vec<u8>, placed: Placed) -> Result<(), AllocError>
 {
     text.extend_from_slice(b"<use href=\"#")?;
     push_name(text, placed.mark)?;
-    push_between(text, b"\" x=\"", 21 * u64::from(placed.x), b"\"/>\n")
+    text.extend_from_slice(b"\" x=\"")?;
+    push_small(text, 21 * u64::from(placed.x))?;
+    text.extend_from_slice(b"\"/>\n")
 }
 
 /// Adds the marks of a line.

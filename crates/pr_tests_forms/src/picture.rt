@@ -67,14 +67,14 @@ const FOUR_BEGIN: &str =
 
 /// What stands between the marks of that row and its letters.
 const LETTERS: &str =
-    "</g>\n</g>\n<g fill-opacity=\"0\" font-size=\"140\" xml:space=\"preserve\">\n";
+    "</g>\n</g>\n<g fill-opacity=\"0\" font-size=\"140\">\n";
 
 /// What stands behind them.
 const FOUR_END: &str = "</g>\n</g>\n</g>\n";
 
 /// The sheet of printer 5, which holds an `a`.
 const FIVE_SHEET: &str =
-    "<text font-size=\"210\" fill=\"#555\" y=\"-210\">Printer 5</text>\n<rect width=\"12600\" height=\"1890\" fill=\"url(#paper)\" stroke=\"#b4afa2\" stroke-width=\"10\"/>\n<rect y=\"630\" width=\"12600\" height=\"1260\" fill=\"url(#folds)\"/>\n<g transform=\"translate(1260 630)\">\n<g fill=\"none\" stroke=\"#222\" stroke-width=\"22\" stroke-linecap=\"round\">\n<g opacity=\".4\" transform=\"translate(0 210)\">\n<use href=\"#l65\" x=\"0\"/>\n</g>\n</g>\n<g fill-opacity=\"0\" font-size=\"140\" xml:space=\"preserve\">\n<text x=\"0\" y=\"350\" textLength=\"126\" lengthAdjust=\"spacingAndGlyphs\">a</text>\n</g>\n<g transform=\"translate(0 0)\">\n<path stroke=\"#a33\" stroke-width=\"20\" stroke-dasharray=\"126\" d=\"M0 60h10080\"/>\n<text font-size=\"120\" fill=\"#a33\" x=\"7350\" y=\"200\">held by the printer, not yet printed</text>\n</g>\n</g>\n</g>\n";
+    "<text font-size=\"210\" fill=\"#555\" y=\"-210\">Printer 5</text>\n<rect width=\"12600\" height=\"1890\" fill=\"url(#paper)\" stroke=\"#b4afa2\" stroke-width=\"10\"/>\n<rect y=\"630\" width=\"12600\" height=\"1260\" fill=\"url(#folds)\"/>\n<g transform=\"translate(1260 630)\">\n<g fill=\"none\" stroke=\"#222\" stroke-width=\"22\" stroke-linecap=\"round\">\n<g opacity=\".4\" transform=\"translate(0 210)\">\n<use href=\"#l65\" x=\"0\"/>\n</g>\n</g>\n<g fill-opacity=\"0\" font-size=\"140\">\n<text x=\"0\" y=\"350\" textLength=\"126\" lengthAdjust=\"spacingAndGlyphs\" xml:space=\"preserve\">a</text>\n</g>\n<g transform=\"translate(0 0)\">\n<path stroke=\"#a33\" stroke-width=\"20\" stroke-dasharray=\"126\" d=\"M0 60h10080\"/>\n<text font-size=\"120\" fill=\"#a33\" x=\"7350\" y=\"200\">held by the printer, not yet printed</text>\n</g>\n</g>\n</g>\n";
 
 /// What stands below the sheets.
 const BELOW: &str =
@@ -84,21 +84,21 @@ const BELOW: &str =
 const A: &str = "<use href=\"#u65\" x=\"0\"/>\n";
 
 const LETTER_A: &str =
-    "<text x=\"0\" y=\"140\" textLength=\"126\" lengthAdjust=\"spacingAndGlyphs\">A</text>\n";
+    "<text x=\"0\" y=\"140\" textLength=\"126\" lengthAdjust=\"spacingAndGlyphs\" xml:space=\"preserve\">A</text>\n";
 
 /// A reversed `W` over the edge of the paper, likewise.
 const EDGE: &str = "<use href=\"#urw87\" x=\"9954\"/>\n";
 
 const LETTER_EDGE: &str =
-    "<text x=\"9954\" y=\"140\" textLength=\"252\" lengthAdjust=\"spacingAndGlyphs\">W</text>\n";
+    "<text x=\"9954\" y=\"140\" textLength=\"252\" lengthAdjust=\"spacingAndGlyphs\" xml:space=\"preserve\">W</text>\n";
 
 /// The sheet with rows at several distances, and what stands below it.
 const DISTANCES: &str =
-    "<text font-size=\"210\" fill=\"#555\" y=\"-210\">Printer 4</text>\n<rect width=\"12600\" height=\"3150\" fill=\"url(#paper)\" stroke=\"#b4afa2\" stroke-width=\"10\"/>\n<rect y=\"630\" width=\"12600\" height=\"2520\" fill=\"url(#folds)\"/>\n<g transform=\"translate(1260 630)\">\n<g fill=\"none\" stroke=\"#222\" stroke-width=\"22\" stroke-linecap=\"round\">\n<g transform=\"translate(0 210)\">\n<use href=\"#u65\" x=\"0\"/>\n</g>\n<g transform=\"translate(0 420)\">\n</g>\n<g transform=\"translate(0 560)\">\n<use href=\"#d1\" x=\"0\"/>\n</g>\n<g transform=\"translate(0 1180)\">\n<use href=\"#u66\" x=\"126\"/>\n</g>\n<g transform=\"translate(0 1600)\">\n<use href=\"#u67\" x=\"252\"/>\n</g>\n</g>\n<g fill-opacity=\"0\" font-size=\"140\" xml:space=\"preserve\">\n<text x=\"0\" y=\"350\" textLength=\"126\" lengthAdjust=\"spacingAndGlyphs\">A</text>\n<text x=\"126\" y=\"1320\" textLength=\"126\" lengthAdjust=\"spacingAndGlyphs\">B</text>\n<text x=\"252\" y=\"1740\" textLength=\"126\" lengthAdjust=\"spacingAndGlyphs\">C</text>\n</g>\n</g>\n</g>\n<text font-size=\"210\" fill=\"#555\" transform=\"translate(630 4410)\">\n</text>\n</svg>\n";
+    "<text font-size=\"210\" fill=\"#555\" y=\"-210\">Printer 4</text>\n<rect width=\"12600\" height=\"3150\" fill=\"url(#paper)\" stroke=\"#b4afa2\" stroke-width=\"10\"/>\n<rect y=\"630\" width=\"12600\" height=\"2520\" fill=\"url(#folds)\"/>\n<g transform=\"translate(1260 630)\">\n<g fill=\"none\" stroke=\"#222\" stroke-width=\"22\" stroke-linecap=\"round\">\n<g transform=\"translate(0 210)\">\n<use href=\"#u65\" x=\"0\"/>\n</g>\n<g transform=\"translate(0 420)\">\n</g>\n<g transform=\"translate(0 560)\">\n<use href=\"#d1\" x=\"0\"/>\n</g>\n<g transform=\"translate(0 1180)\">\n<use href=\"#u66\" x=\"126\"/>\n</g>\n<g transform=\"translate(0 1600)\">\n<use href=\"#u67\" x=\"252\"/>\n</g>\n</g>\n<g fill-opacity=\"0\" font-size=\"140\">\n<text x=\"0\" y=\"350\" textLength=\"126\" lengthAdjust=\"spacingAndGlyphs\" xml:space=\"preserve\">A</text>\n<text x=\"126\" y=\"1320\" textLength=\"126\" lengthAdjust=\"spacingAndGlyphs\" xml:space=\"preserve\">B</text>\n<text x=\"252\" y=\"1740\" textLength=\"126\" lengthAdjust=\"spacingAndGlyphs\" xml:space=\"preserve\">C</text>\n</g>\n</g>\n</g>\n<text font-size=\"210\" fill=\"#555\" transform=\"translate(630 4410)\">\n</text>\n</svg>\n";
 
 /// The end of the picture of `each_growth_refused`.
 const GROWN: &str =
-    "<text x=\"0\" y=\"350\" textLength=\"252\" lengthAdjust=\"spacingAndGlyphs\">AB</text>\n</g>\n<g transform=\"translate(0 0)\">\n<path stroke=\"#a33\" stroke-width=\"20\" stroke-dasharray=\"126\" d=\"M0 60h10080\"/>\n<text font-size=\"120\" fill=\"#a33\" x=\"7350\" y=\"200\">held by the printer, not yet printed</text>\n</g>\n</g>\n</g>\n<text font-size=\"210\" fill=\"#555\" transform=\"translate(630 3150)\">\n</text>\n</svg>\n";
+    "<text x=\"0\" y=\"350\" textLength=\"252\" lengthAdjust=\"spacingAndGlyphs\" xml:space=\"preserve\">AB</text>\n</g>\n<g transform=\"translate(0 0)\">\n<path stroke=\"#a33\" stroke-width=\"20\" stroke-dasharray=\"126\" d=\"M0 60h10080\"/>\n<text font-size=\"120\" fill=\"#a33\" x=\"7350\" y=\"200\">held by the printer, not yet printed</text>\n</g>\n</g>\n</g>\n<text font-size=\"210\" fill=\"#555\" transform=\"translate(630 3150)\">\n</text>\n</svg>\n";
 
 /// A cell, neither reversed nor wide.
 const fn cell(x: u16, code: u8, lower: bool) -> Placed {
