@@ -53,9 +53,9 @@ paper_folds = codes "\" fill=\"url(#paper)\" stroke=\"#b4afa2\" stroke-width=\"1
 unfoldable pub sheet_marks : List ℕ
 sheet_marks = codes "\" fill=\"url(#folds)\"/>\n<g transform=\"translate(1260 630)\">\n"
 
--- discs: a little wider than a dot column, and drawn by strokes without length
+-- the marks of a sheet: strokes a little wider than a dot column, and letters that are not seen
 unfoldable pub ink_begin : List ℕ
-ink_begin = codes "<g fill=\"none\" stroke=\"#222\" stroke-width=\"22\" stroke-linecap=\"round\">\n"
+ink_begin = codes "<g stroke-width=\"22\" stroke-linecap=\"round\" fill-opacity=\"0\" font-size=\"140\">\n"
 
 -- a group at a distance
 unfoldable pub row_begin : List ℕ
@@ -65,9 +65,13 @@ row_begin = codes "<g transform=\"translate(0 "
 unfoldable pub held_begin : List ℕ
 held_begin = codes "<g opacity=\".4\" transform=\"translate(0 "
 
--- letters that are not seen
-unfoldable pub letters_begin : List ℕ
-letters_begin = codes "<g fill-opacity=\"0\" font-size=\"140\">\n"
+-- a mark's definition, up to its name
+unfoldable pub mark_begin : List ℕ
+mark_begin = codes "<path stroke=\"#222\" id=\""
+
+-- between the place of a strip and its width: its base line is seven dots down
+unfoldable pub letters_width : List ℕ
+letters_width = codes "\" y=\"140\" textLength=\""
 
 -- behind the width of a strip, to which the characters of any font are drawn out, and blanks stay
 unfoldable pub letters_fitted : List ℕ

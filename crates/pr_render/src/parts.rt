@@ -1,7 +1,7 @@
 //! The fixed parts of the picture.
 
 ghost use Rattle.std.specs.Prelude.{◌≡◌};
-ghost use Rattle.pr_render.specs.Parts.{definitions_begin, definitions_end, desk, document_about, document_begin, height_begin, held_begin, held_note, ink_begin, letters_begin, letters_fitted, notes_begin, paper_folds, paper_piece, row_begin, sheet_end, sheet_marks, sheet_name, sheet_paper, status_begin, stop_begin, text_end, units_begin, units_between};
+ghost use Rattle.pr_render.specs.Parts.{definitions_begin, definitions_end, desk, document_about, document_begin, height_begin, held_begin, held_note, ink_begin, letters_fitted, letters_width, mark_begin, notes_begin, paper_folds, paper_piece, row_begin, sheet_end, sheet_marks, sheet_name, sheet_paper, status_begin, stop_begin, text_end, units_begin, units_between};
 
 /// The document's first tag, up to its width.
 #[tactic(auto, unfolding(crate::specs::Parts::document_begin))]
@@ -107,12 +107,12 @@ pub fn sheet_marks() -> &'static [u8]
     b"\" fill=\"url(#folds)\"/>\n<g transform=\"translate(1260 630)\">\n"
 }
 
-/// Discs: a little wider than a dot column, and drawn by strokes without length.
+/// The marks of a sheet: strokes a little wider than a dot column, and letters that are not seen.
 #[tactic(auto, unfolding(crate::specs::Parts::ink_begin))]
 pub fn ink_begin() -> &'static [u8]
     ensures { result.now ≡ ink_begin }
 {
-    b"<g fill=\"none\" stroke=\"#222\" stroke-width=\"22\" stroke-linecap=\"round\">\n"
+    b"<g stroke-width=\"22\" stroke-linecap=\"round\" fill-opacity=\"0\" font-size=\"140\">\n"
 }
 
 /// A group at a distance.
@@ -131,12 +131,20 @@ pub fn held_begin() -> &'static [u8]
     b"<g opacity=\".4\" transform=\"translate(0 "
 }
 
-/// Letters that are not seen.
-#[tactic(auto, unfolding(crate::specs::Parts::letters_begin))]
-pub fn letters_begin() -> &'static [u8]
-    ensures { result.now ≡ letters_begin }
+/// A mark's definition, up to its name.
+#[tactic(auto, unfolding(crate::specs::Parts::mark_begin))]
+pub fn mark_begin() -> &'static [u8]
+    ensures { result.now ≡ mark_begin }
 {
-    b"<g fill-opacity=\"0\" font-size=\"140\">\n"
+    b"<path stroke=\"#222\" id=\""
+}
+
+/// Between the place of a strip and its width: its base line is seven dots down.
+#[tactic(auto, unfolding(crate::specs::Parts::letters_width))]
+pub fn letters_width() -> &'static [u8]
+    ensures { result.now ≡ letters_width }
+{
+    b"\" y=\"140\" textLength=\""
 }
 
 /// Behind the width of a strip, to which the characters of any font are drawn out, and blanks stay.

@@ -5,6 +5,7 @@ ghost use Rattle.pr_dots.specs.Dots.{bit_dots, column_dots, columns_dots};
 ghost use Rattle.pr_render.specs.Svg.{definition_svg, disc_of, disc_svg, name_svg, number_of, use_svg};
 
 use crate::adding::{push_if, push_small};
+use crate::parts::mark_begin;
 use pr_dots::columns;
 use pr_page::{Mark, Placed};
 use std::alloc::AllocError;
@@ -91,7 +92,7 @@ fn push_columns(text: &mut Vec<u8>, columns: &[u8]) -> Result<(), AllocError>
 pub fn push_definition(text: &mut Vec<u8>, mark: Mark) -> Result<(), AllocError>
     ensures { OnOk result (text.new.items ≡ text.old.items ++ definition_svg mark) }
 {
-    text.extend_from_slice(b"<path id=\"")?;
+    text.extend_from_slice(mark_begin())?;
     push_name(text, mark)?;
     text.extend_from_slice(b"\" d=\"")?;
     push_columns(text, columns(mark).as_slice())?;

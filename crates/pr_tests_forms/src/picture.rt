@@ -35,19 +35,19 @@ const ABOUT: &str =
 
 /// The definition of `A`.
 const DEFINED_A: &str =
-    "<path id=\"u65\" d=\"M10 30h0M10 50h0M10 70h0M10 90h0M10 110h0M10 130h0M31 10h0M31 70h0M52 10h0M52 70h0M73 10h0M73 70h0M94 30h0M94 50h0M94 70h0M94 90h0M94 110h0M94 130h0\"/>\n";
+    "<path stroke=\"#222\" id=\"u65\" d=\"M10 30h0M10 50h0M10 70h0M10 90h0M10 110h0M10 130h0M31 10h0M31 70h0M52 10h0M52 70h0M73 10h0M73 70h0M94 30h0M94 50h0M94 70h0M94 90h0M94 110h0M94 130h0\"/>\n";
 
 /// The definition of `a`.
 const DEFINED_SMALL_A: &str =
-    "<path id=\"l65\" d=\"M10 110h0M31 50h0M31 90h0M31 130h0M52 50h0M52 90h0M52 130h0M73 70h0M73 90h0M73 110h0M73 130h0M94 130h0\"/>\n";
+    "<path stroke=\"#222\" id=\"l65\" d=\"M10 110h0M31 50h0M31 90h0M31 130h0M52 50h0M52 90h0M52 130h0M73 70h0M73 90h0M73 110h0M73 130h0M94 130h0\"/>\n";
 
 /// The definition of a wide reversed `W`.
 const DEFINED_EDGE: &str =
-    "<path id=\"urw87\" d=\"M52 10h0M52 30h0M52 50h0M52 70h0M52 90h0M52 130h0M73 10h0M73 30h0M73 50h0M73 70h0M73 90h0M73 130h0M94 10h0M94 30h0M94 50h0M94 110h0M94 130h0M115 10h0M115 30h0M115 50h0M115 110h0M115 130h0M136 10h0M136 30h0M136 50h0M136 70h0M136 90h0M136 130h0M157 10h0M157 30h0M157 50h0M157 70h0M157 90h0M157 130h0M220 10h0M220 30h0M220 50h0M220 70h0M220 90h0M220 110h0M220 130h0M241 10h0M241 30h0M241 50h0M241 70h0M241 90h0M241 110h0M241 130h0\"/>\n";
+    "<path stroke=\"#222\" id=\"urw87\" d=\"M52 10h0M52 30h0M52 50h0M52 70h0M52 90h0M52 130h0M73 10h0M73 30h0M73 50h0M73 70h0M73 90h0M73 130h0M94 10h0M94 30h0M94 50h0M94 110h0M94 130h0M115 10h0M115 30h0M115 50h0M115 110h0M115 130h0M136 10h0M136 30h0M136 50h0M136 70h0M136 90h0M136 130h0M157 10h0M157 30h0M157 50h0M157 70h0M157 90h0M157 130h0M220 10h0M220 30h0M220 50h0M220 70h0M220 90h0M220 110h0M220 130h0M241 10h0M241 30h0M241 50h0M241 70h0M241 90h0M241 110h0M241 130h0\"/>\n";
 
 /// The definitions of the other marks of `rows_by_their_distance`.
 const DEFINED_OTHERS: &str =
-    "<path id=\"d1\" d=\"M10 10h0\"/>\n<path id=\"u66\" d=\"M10 10h0M10 30h0M10 50h0M10 70h0M10 90h0M10 110h0M10 130h0M31 10h0M31 70h0M31 130h0M52 10h0M52 70h0M52 130h0M73 10h0M73 70h0M73 130h0M94 30h0M94 50h0M94 90h0M94 110h0\"/>\n<path id=\"u67\" d=\"M10 30h0M10 50h0M10 70h0M10 90h0M10 110h0M31 10h0M31 130h0M52 10h0M52 130h0M73 10h0M73 130h0M94 30h0M94 110h0\"/>\n";
+    "<path stroke=\"#222\" id=\"d1\" d=\"M10 10h0\"/>\n<path stroke=\"#222\" id=\"u66\" d=\"M10 10h0M10 30h0M10 50h0M10 70h0M10 90h0M10 110h0M10 130h0M31 10h0M31 70h0M31 130h0M52 10h0M52 70h0M52 130h0M73 10h0M73 70h0M73 130h0M94 30h0M94 50h0M94 90h0M94 110h0\"/>\n<path stroke=\"#222\" id=\"u67\" d=\"M10 30h0M10 50h0M10 70h0M10 90h0M10 110h0M31 10h0M31 130h0M52 10h0M52 130h0M73 10h0M73 130h0M94 30h0M94 110h0\"/>\n";
 
 /// The end of the definitions.
 const DEFINED: &str = "</defs>\n";
@@ -63,18 +63,14 @@ const SECOND: &str = "<g transform=\"translate(13860 1050)\">\n";
 
 /// The sheet of printer 4 up to the marks of its only row.
 const FOUR_BEGIN: &str =
-    "<text font-size=\"210\" fill=\"#555\" y=\"-210\">Printer 4</text>\n<rect width=\"12600\" height=\"1890\" fill=\"url(#paper)\" stroke=\"#b4afa2\" stroke-width=\"10\"/>\n<rect y=\"630\" width=\"12600\" height=\"1260\" fill=\"url(#folds)\"/>\n<g transform=\"translate(1260 630)\">\n<g fill=\"none\" stroke=\"#222\" stroke-width=\"22\" stroke-linecap=\"round\">\n<g transform=\"translate(0 0)\">\n";
-
-/// What stands between the marks of that row and its letters.
-const LETTERS: &str =
-    "</g>\n</g>\n<g fill-opacity=\"0\" font-size=\"140\">\n";
+    "<text font-size=\"210\" fill=\"#555\" y=\"-210\">Printer 4</text>\n<rect width=\"12600\" height=\"1890\" fill=\"url(#paper)\" stroke=\"#b4afa2\" stroke-width=\"10\"/>\n<rect y=\"630\" width=\"12600\" height=\"1260\" fill=\"url(#folds)\"/>\n<g transform=\"translate(1260 630)\">\n<g stroke-width=\"22\" stroke-linecap=\"round\" fill-opacity=\"0\" font-size=\"140\">\n<g transform=\"translate(0 0)\">\n";
 
 /// What stands behind them.
-const FOUR_END: &str = "</g>\n</g>\n</g>\n";
+const FOUR_END: &str = "</g>\n</g>\n</g>\n</g>\n";
 
 /// The sheet of printer 5, which holds an `a`.
 const FIVE_SHEET: &str =
-    "<text font-size=\"210\" fill=\"#555\" y=\"-210\">Printer 5</text>\n<rect width=\"12600\" height=\"1890\" fill=\"url(#paper)\" stroke=\"#b4afa2\" stroke-width=\"10\"/>\n<rect y=\"630\" width=\"12600\" height=\"1260\" fill=\"url(#folds)\"/>\n<g transform=\"translate(1260 630)\">\n<g fill=\"none\" stroke=\"#222\" stroke-width=\"22\" stroke-linecap=\"round\">\n<g opacity=\".4\" transform=\"translate(0 210)\">\n<use href=\"#l65\" x=\"0\"/>\n</g>\n</g>\n<g fill-opacity=\"0\" font-size=\"140\">\n<text x=\"0\" y=\"350\" textLength=\"126\" lengthAdjust=\"spacingAndGlyphs\" xml:space=\"preserve\">a</text>\n</g>\n<g transform=\"translate(0 0)\">\n<path stroke=\"#a33\" stroke-width=\"20\" stroke-dasharray=\"126\" d=\"M0 60h10080\"/>\n<text font-size=\"120\" fill=\"#a33\" x=\"7350\" y=\"200\">held by the printer, not yet printed</text>\n</g>\n</g>\n</g>\n";
+    "<text font-size=\"210\" fill=\"#555\" y=\"-210\">Printer 5</text>\n<rect width=\"12600\" height=\"1890\" fill=\"url(#paper)\" stroke=\"#b4afa2\" stroke-width=\"10\"/>\n<rect y=\"630\" width=\"12600\" height=\"1260\" fill=\"url(#folds)\"/>\n<g transform=\"translate(1260 630)\">\n<g stroke-width=\"22\" stroke-linecap=\"round\" fill-opacity=\"0\" font-size=\"140\">\n<g opacity=\".4\" transform=\"translate(0 210)\">\n<use href=\"#l65\" x=\"0\"/>\n<text x=\"0\" y=\"140\" textLength=\"126\" lengthAdjust=\"spacingAndGlyphs\" xml:space=\"preserve\">a</text>\n</g>\n</g>\n<g transform=\"translate(0 0)\">\n<path stroke=\"#a33\" stroke-width=\"20\" stroke-dasharray=\"126\" d=\"M0 60h10080\"/>\n<text font-size=\"120\" fill=\"#a33\" x=\"7350\" y=\"200\">held by the printer, not yet printed</text>\n</g>\n</g>\n</g>\n";
 
 /// What stands below the sheets.
 const BELOW: &str =
@@ -94,11 +90,11 @@ const LETTER_EDGE: &str =
 
 /// The sheet with rows at several distances, and what stands below it.
 const DISTANCES: &str =
-    "<text font-size=\"210\" fill=\"#555\" y=\"-210\">Printer 4</text>\n<rect width=\"12600\" height=\"3150\" fill=\"url(#paper)\" stroke=\"#b4afa2\" stroke-width=\"10\"/>\n<rect y=\"630\" width=\"12600\" height=\"2520\" fill=\"url(#folds)\"/>\n<g transform=\"translate(1260 630)\">\n<g fill=\"none\" stroke=\"#222\" stroke-width=\"22\" stroke-linecap=\"round\">\n<g transform=\"translate(0 210)\">\n<use href=\"#u65\" x=\"0\"/>\n</g>\n<g transform=\"translate(0 420)\">\n</g>\n<g transform=\"translate(0 560)\">\n<use href=\"#d1\" x=\"0\"/>\n</g>\n<g transform=\"translate(0 1180)\">\n<use href=\"#u66\" x=\"126\"/>\n</g>\n<g transform=\"translate(0 1600)\">\n<use href=\"#u67\" x=\"252\"/>\n</g>\n</g>\n<g fill-opacity=\"0\" font-size=\"140\">\n<text x=\"0\" y=\"350\" textLength=\"126\" lengthAdjust=\"spacingAndGlyphs\" xml:space=\"preserve\">A</text>\n<text x=\"126\" y=\"1320\" textLength=\"126\" lengthAdjust=\"spacingAndGlyphs\" xml:space=\"preserve\">B</text>\n<text x=\"252\" y=\"1740\" textLength=\"126\" lengthAdjust=\"spacingAndGlyphs\" xml:space=\"preserve\">C</text>\n</g>\n</g>\n</g>\n<text font-size=\"210\" fill=\"#555\" transform=\"translate(630 4410)\">\n</text>\n</svg>\n";
+    "<text font-size=\"210\" fill=\"#555\" y=\"-210\">Printer 4</text>\n<rect width=\"12600\" height=\"3150\" fill=\"url(#paper)\" stroke=\"#b4afa2\" stroke-width=\"10\"/>\n<rect y=\"630\" width=\"12600\" height=\"2520\" fill=\"url(#folds)\"/>\n<g transform=\"translate(1260 630)\">\n<g stroke-width=\"22\" stroke-linecap=\"round\" fill-opacity=\"0\" font-size=\"140\">\n<g transform=\"translate(0 210)\">\n<use href=\"#u65\" x=\"0\"/>\n<text x=\"0\" y=\"140\" textLength=\"126\" lengthAdjust=\"spacingAndGlyphs\" xml:space=\"preserve\">A</text>\n</g>\n<g transform=\"translate(0 420)\">\n</g>\n<g transform=\"translate(0 560)\">\n<use href=\"#d1\" x=\"0\"/>\n</g>\n<g transform=\"translate(0 1180)\">\n<use href=\"#u66\" x=\"126\"/>\n<text x=\"126\" y=\"140\" textLength=\"126\" lengthAdjust=\"spacingAndGlyphs\" xml:space=\"preserve\">B</text>\n</g>\n<g transform=\"translate(0 1600)\">\n<use href=\"#u67\" x=\"252\"/>\n<text x=\"252\" y=\"140\" textLength=\"126\" lengthAdjust=\"spacingAndGlyphs\" xml:space=\"preserve\">C</text>\n</g>\n</g>\n</g>\n</g>\n<text font-size=\"210\" fill=\"#555\" transform=\"translate(630 4410)\">\n</text>\n</svg>\n";
 
 /// The end of the picture of `each_growth_refused`.
 const GROWN: &str =
-    "<text x=\"0\" y=\"350\" textLength=\"252\" lengthAdjust=\"spacingAndGlyphs\" xml:space=\"preserve\">AB</text>\n</g>\n<g transform=\"translate(0 0)\">\n<path stroke=\"#a33\" stroke-width=\"20\" stroke-dasharray=\"126\" d=\"M0 60h10080\"/>\n<text font-size=\"120\" fill=\"#a33\" x=\"7350\" y=\"200\">held by the printer, not yet printed</text>\n</g>\n</g>\n</g>\n<text font-size=\"210\" fill=\"#555\" transform=\"translate(630 3150)\">\n</text>\n</svg>\n";
+    "<text x=\"0\" y=\"140\" textLength=\"252\" lengthAdjust=\"spacingAndGlyphs\" xml:space=\"preserve\">AB</text>\n</g>\n</g>\n<g transform=\"translate(0 0)\">\n<path stroke=\"#a33\" stroke-width=\"20\" stroke-dasharray=\"126\" d=\"M0 60h10080\"/>\n<text font-size=\"120\" fill=\"#a33\" x=\"7350\" y=\"200\">held by the printer, not yet printed</text>\n</g>\n</g>\n</g>\n<text font-size=\"210\" fill=\"#555\" transform=\"translate(630 3150)\">\n</text>\n</svg>\n";
 
 /// A cell, neither reversed nor wide.
 const fn cell(x: u16, code: u8, lower: bool) -> Placed {
@@ -227,7 +223,6 @@ fn wide_cell_at_the_edge(rt: HostRuntime) {
             FIRST,
             FOUR_BEGIN,
             EDGE,
-            LETTERS,
             LETTER_EDGE,
             FOUR_END,
             BELOW,
@@ -255,7 +250,6 @@ fn printers_that_are_there(rt: HostRuntime) {
                 FIRST,
                 FOUR_BEGIN,
                 A,
-                LETTERS,
                 LETTER_A,
                 FOUR_END,
                 SECOND,
