@@ -93,7 +93,7 @@ function line(from, to,   i, c, u, ink, shown, blank, text) {
 function count_bits(value,   k, n) { for (k = 0; k < 7; k++) n += int(value / 2 ^ k) % 2; return n }
 
 function sheet(device, x, lines,   i, picture, y) {
-    picture = "<g transform=\"translate(" x " 1050)\">\n<text font-size=\"210\" fill=\"#555\" y=\"-210\">Printer " device "</text>\n<rect width=\"12600\" height=\"" 210 * lines "\" fill=\"url(#paper)\" stroke=\"#b4afa2\" stroke-width=\"10\"/>\n<rect y=\"630\" width=\"12600\" height=\"" 210 * (lines - 3) "\" fill=\"url(#folds)\"/>\n<g transform=\"translate(1260 630)\">\n<g stroke-width=\"22\" stroke-linecap=\"round\" fill-opacity=\"0\" font-size=\"140\">\n"
+    picture = "<g transform=\"translate(" x " 1050)\">\n<text font-size=\"210\" fill=\"#555\" y=\"-210\">Printer " device "</text>\n<rect width=\"12600\" height=\"" 210 * lines "\" fill=\"url(#paper)\" stroke=\"#b4afa2\" stroke-width=\"10\"/>\n<rect y=\"1260\" width=\"12600\" height=\"" 210 * (lines - 6) "\" fill=\"url(#folds)\"/>\n<g transform=\"translate(1260 630)\">\n<g stroke-width=\"22\" stroke-linecap=\"round\" fill-opacity=\"0\" font-size=\"140\">\n"
     y = 0
     for (i = 1; i <= rows[device]; i++) {
         picture = picture "<g transform=\"translate(0 " 10 * top[device, i] ")\">\n" uses(first[device, i], last[device, i]) letters(first[device, i], last[device, i]) "</g>\n"
@@ -144,7 +144,7 @@ function picture(   four, five, lines, width, height, text, noted) {
     width = four && five ? 129 : 66
     noted = status_line()
     height = lines + 9 + (stop != "") + (noted != "")
-    text = "<svg xmlns=\"http://www.w3.org/2000/svg\" version=\"1.1\" width=\"" width "pc\" height=\"" height "pc\" viewBox=\"0 0 " 210 * width " " 210 * height "\">\n<desc>Pages of VIC-1525 printers. Each dot is where a needle strikes; the shapes of characters are this project's own.</desc>\n<pattern id=\"paper\" width=\"12600\" height=\"630\" patternUnits=\"userSpaceOnUse\"><rect width=\"12600\" height=\"630\" fill=\"#fff\"/><g fill=\"#e9e6df\" stroke=\"#b4afa2\" stroke-width=\"10\"><circle cx=\"315\" cy=\"315\" r=\"100\"/><circle cx=\"12285\" cy=\"315\" r=\"100\"/><path stroke-dasharray=\"35\" d=\"M630 0v630M11970 0v630\"/></g></pattern>\n<pattern id=\"folds\" y=\"630\" width=\"12600\" height=\"13860\" patternUnits=\"userSpaceOnUse\"><path stroke=\"#b4afa2\" stroke-width=\"10\" stroke-dasharray=\"70\" d=\"M0 13855h12600\"/></pattern>\n<rect width=\"100%\" height=\"100%\" fill=\"#e9e6df\"/>\n<defs>\n"
+    text = "<svg xmlns=\"http://www.w3.org/2000/svg\" version=\"1.1\" width=\"" width "pc\" height=\"" height "pc\" viewBox=\"0 0 " 210 * width " " 210 * height "\">\n<desc>Pages of VIC-1525 printers. Each dot is where a needle strikes; the shapes of characters are this project's own.</desc>\n<pattern id=\"paper\" width=\"12600\" height=\"630\" patternUnits=\"userSpaceOnUse\"><rect width=\"12600\" height=\"630\" fill=\"#fff\"/><g fill=\"#e9e6df\" stroke=\"#b4afa2\" stroke-width=\"10\"><circle cx=\"315\" cy=\"315\" r=\"100\"/><circle cx=\"12285\" cy=\"315\" r=\"100\"/><path stroke-dasharray=\"35\" d=\"M630 0v630M11970 0v630\"/></g></pattern>\n<pattern id=\"folds\" y=\"7560\" width=\"12600\" height=\"13860\" patternUnits=\"userSpaceOnUse\"><path stroke=\"#b4afa2\" stroke-width=\"10\" stroke-dasharray=\"70\" d=\"M0 6930h12600\"/></pattern>\n<rect width=\"100%\" height=\"100%\" fill=\"#e9e6df\"/>\n<defs>\n"
     if (four) text = text definitions(4)
     if (five) text = text definitions(5)
     text = text "</defs>\n"

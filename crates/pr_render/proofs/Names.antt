@@ -22,28 +22,28 @@ decimal-begins = decimal_by_steps (λ n ds. BeginsWithDigit ds) one more
     one n small = (omega arith, omega arith)
 
     more : (n : ℕ) (ds : List ℕ) → 10 ≤ n → BeginsWithDigit ds → BeginsWithDigit (ds ++ ((48 + n % 10) ∷ []))
-    more n [] large begins = grind (arith, begins)
-    more n (d ∷ ds) large begins = (grind (arith, common_steps), begins.1)
+    more n [] large begins = grind (arith, begins.0)
+    more n (d ∷ ds) large begins = (omega arith, begins.1)
 
 -- flags before texts that begin with a digit are told apart
 flags-tell : (r w s v : Bool) (ds es : List ℕ) → BeginsWithDigit ds → BeginsWithDigit es
     → (text_if r (codes "r") ++ text_if w (codes "w")) ++ ds ≡ (text_if s (codes "r") ++ text_if v (codes "w")) ++ es
     → (r ≡ s) × (w ≡ v) × (ds ≡ es)
 flags-tell true true true true ds es a b is = (refl, refl, cc)
-flags-tell true true true false ds es a b is = grind (arith, common_steps, a, b, is)
-flags-tell true true false true ds es a b is = grind (arith, common_steps, a, b, is)
-flags-tell true true false false ds es a b is = grind (arith, common_steps, a, b, is)
-flags-tell true false true true ds es a b is = grind (arith, common_steps, a, b, is)
+flags-tell true true true false ds es a b is = grind (arith, common_steps, a.0, a.1, b.0, b.1, is)
+flags-tell true true false true ds es a b is = grind (arith, common_steps, a.0, a.1, b.0, b.1, is)
+flags-tell true true false false ds es a b is = grind (arith, common_steps, a.0, a.1, b.0, b.1, is)
+flags-tell true false true true ds es a b is = grind (arith, common_steps, a.0, a.1, b.0, b.1, is)
 flags-tell true false true false ds es a b is = (refl, refl, cc)
-flags-tell true false false true ds es a b is = grind (arith, common_steps, a, b, is)
-flags-tell true false false false ds es a b is = grind (arith, common_steps, a, b, is)
-flags-tell false true true true ds es a b is = grind (arith, common_steps, a, b, is)
-flags-tell false true true false ds es a b is = grind (arith, common_steps, a, b, is)
+flags-tell true false false true ds es a b is = grind (arith, common_steps, a.0, a.1, b.0, b.1, is)
+flags-tell true false false false ds es a b is = grind (arith, common_steps, a.0, a.1, b.0, b.1, is)
+flags-tell false true true true ds es a b is = grind (arith, common_steps, a.0, a.1, b.0, b.1, is)
+flags-tell false true true false ds es a b is = grind (arith, common_steps, a.0, a.1, b.0, b.1, is)
 flags-tell false true false true ds es a b is = (refl, refl, cc)
-flags-tell false true false false ds es a b is = grind (arith, common_steps, a, b, is)
-flags-tell false false true true ds es a b is = grind (arith, common_steps, a, b, is)
-flags-tell false false true false ds es a b is = grind (arith, common_steps, a, b, is)
-flags-tell false false false true ds es a b is = grind (arith, common_steps, a, b, is)
+flags-tell false true false false ds es a b is = grind (arith, common_steps, a.0, a.1, b.0, b.1, is)
+flags-tell false false true true ds es a b is = grind (arith, common_steps, a.0, a.1, b.0, b.1, is)
+flags-tell false false true false ds es a b is = grind (arith, common_steps, a.0, a.1, b.0, b.1, is)
+flags-tell false false false true ds es a b is = grind (arith, common_steps, a.0, a.1, b.0, b.1, is)
 flags-tell false false false false ds es a b is = (refl, refl, is)
 
 -- what stands behind the first sign

@@ -23,7 +23,7 @@ document_about = codes "\">\n<desc>Pages of VIC-1525 printers. Each dot is where
 
 -- half an inch of continuous paper, with a hole in each edge and the lines at which the edges tear off; and the fold at the end of 11 inches
 unfoldable pub paper_piece : List ℕ
-paper_piece = codes "<pattern id=\"paper\" width=\"12600\" height=\"630\" patternUnits=\"userSpaceOnUse\"><rect width=\"12600\" height=\"630\" fill=\"#fff\"/><g fill=\"#e9e6df\" stroke=\"#b4afa2\" stroke-width=\"10\"><circle cx=\"315\" cy=\"315\" r=\"100\"/><circle cx=\"12285\" cy=\"315\" r=\"100\"/><path stroke-dasharray=\"35\" d=\"M630 0v630M11970 0v630\"/></g></pattern>\n<pattern id=\"folds\" y=\"630\" width=\"12600\" height=\"13860\" patternUnits=\"userSpaceOnUse\"><path stroke=\"#b4afa2\" stroke-width=\"10\" stroke-dasharray=\"70\" d=\"M0 13855h12600\"/></pattern>\n"
+paper_piece = codes "<pattern id=\"paper\" width=\"12600\" height=\"630\" patternUnits=\"userSpaceOnUse\"><rect width=\"12600\" height=\"630\" fill=\"#fff\"/><g fill=\"#e9e6df\" stroke=\"#b4afa2\" stroke-width=\"10\"><circle cx=\"315\" cy=\"315\" r=\"100\"/><circle cx=\"12285\" cy=\"315\" r=\"100\"/><path stroke-dasharray=\"35\" d=\"M630 0v630M11970 0v630\"/></g></pattern>\n<pattern id=\"folds\" y=\"7560\" width=\"12600\" height=\"13860\" patternUnits=\"userSpaceOnUse\"><path stroke=\"#b4afa2\" stroke-width=\"10\" stroke-dasharray=\"70\" d=\"M0 6930h12600\"/></pattern>\n"
 
 -- the desk under the sheets
 unfoldable pub desk : List ℕ
@@ -47,7 +47,7 @@ sheet_paper = codes "</text>\n<rect width=\"12600\" height=\""
 
 -- the rest of the paper, and its folds below the first line, up to their height
 unfoldable pub paper_folds : List ℕ
-paper_folds = codes "\" fill=\"url(#paper)\" stroke=\"#b4afa2\" stroke-width=\"10\"/>\n<rect y=\"630\" width=\"12600\" height=\""
+paper_folds = codes "\" fill=\"url(#paper)\" stroke=\"#b4afa2\" stroke-width=\"10\"/>\n<rect y=\"1260\" width=\"12600\" height=\""
 
 -- the rest of the folds, and the group of the sheet's marks
 unfoldable pub sheet_marks : List ℕ

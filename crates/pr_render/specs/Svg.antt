@@ -182,7 +182,7 @@ name_line device x = codes "<g transform=\"translate(" ++ decimal x ++ sheet_nam
 
 -- paper of so many picas, with its folds at each 11 inches from the first line on
 unfoldable pub paper_svg : ℕ → List ℕ
-paper_svg picas = sheet_paper ++ decimal (210 * picas) ++ paper_folds ++ decimal (210 * (picas - 3)) ++ sheet_marks
+paper_svg picas = sheet_paper ++ decimal (210 * picas) ++ paper_folds ++ decimal (210 * (picas - 6)) ++ sheet_marks
 
 -- the marks of a paper: the rows, and 1/6 inch below them the marks held
 unfoldable pub ink_svg : Paper → List ℕ

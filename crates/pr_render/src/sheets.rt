@@ -132,7 +132,7 @@ fn push_paper(text: &mut Vec<u8>, picas: u128) -> Result<(), AllocError>
     text.extend_from_slice(sheet_paper())?;
     push_number(text, 210 * picas)?;
     text.extend_from_slice(paper_folds())?;
-    push_number(text, 210 * picas.saturating_sub(3))?;
+    push_number(text, 210 * picas.saturating_sub(6))?;
     text.extend_from_slice(sheet_marks())
 }
 
