@@ -46,8 +46,9 @@ impl Defined {
         if self.marks[number] {
             return Ok(());
         }
+        push_definition(text, mark)?;
         self.marks[number] = true;
-        push_definition(text, mark)
+        Ok(())
     }
 
     /// Adds the definitions of marks that have not been defined.

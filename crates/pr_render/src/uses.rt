@@ -1,6 +1,6 @@
 //! Marks by their names: where each is defined, and where it is used.
 
-ghost use Rattle.std.specs.Prelude.{◌≡◌, ◌<◌, ◌≤◌, ◌++◌, flat_map, length, map, OnOk};
+ghost use Rattle.std.specs.Prelude.{◌≡◌, ◌*◌, ◌<◌, ◌≤◌, ◌++◌, flat_map, length, map, OnOk};
 ghost use Rattle.pr_dots.specs.Dots.{bit_dots, column_dots, columns_dots};
 ghost use Rattle.pr_render.specs.Svg.{definition_svg, disc_of, disc_svg, name_svg, number_of, use_svg};
 
@@ -120,15 +120,22 @@ pub fn number_of(mark: Mark) -> usize
     }
 }
 
-/// Adds a mark on its line.
+/// How far a dot column is from the first one, in units.
+fn across(x: u16) -> u64
+    ensures { result ≡ 21 * x }
+{
+    21 * u64::from(x)
+}
+
+/// Adds a mark at a dot column.
 #[tactic(auto, unfolding(crate::specs::Svg::use_svg))]
-fn push_use(text: &mut Vec<u8>, placed: Placed) -> Result<(), AllocError>
-    ensures { OnOk result (text.new.items ≡ text.old.items ++ use_svg placed) }
+fn push_use(text: &mut Vec<u8>, x: u16, mark: Mark) -> Result<(), AllocError>
+    ensures { OnOk result (text.new.items ≡ text.old.items ++ use_svg (record { x = x; mark = mark })) }
 {
     text.extend_from_slice(b"<use href=\"#")?;
-    push_name(text, placed.mark)?;
+    push_name(text, mark)?;
     text.extend_from_slice(b"\" x=\"")?;
-    push_small(text, 21 * u64::from(placed.x))?;
+    push_small(text, across(x))?;
     text.extend_from_slice(b"\"/>\n")
 }
 
@@ -137,7 +144,7 @@ pub fn push_uses(text: &mut Vec<u8>, marks: &[Placed]) -> Result<(), AllocError>
     ensures { OnOk result (text.new.items ≡ text.old.items ++ flat_map use_svg marks.now) }
 {
     for placed in marks {
-        push_use(text, *placed)?;
+        push_use(text, placed.x, placed.mark)?;
     }
     Ok(())
 }
