@@ -92,6 +92,10 @@ const LETTER_EDGE: &str =
 const DISTANCES: &str =
     "<text font-size=\"210\" fill=\"#555\" y=\"-210\">Printer 4</text>\n<rect width=\"12600\" height=\"3150\" fill=\"url(#paper)\" stroke=\"#b4afa2\" stroke-width=\"10\"/>\n<rect y=\"1260\" width=\"12600\" height=\"1890\" fill=\"url(#folds)\"/>\n<g transform=\"translate(1260 630)\">\n<g stroke-width=\"22\" stroke-linecap=\"round\" fill-opacity=\"0\" font-size=\"140\">\n<g transform=\"translate(0 210)\">\n<use href=\"#u65\" x=\"0\"/>\n<text x=\"0\" y=\"140\" textLength=\"126\" lengthAdjust=\"spacingAndGlyphs\" xml:space=\"preserve\">A</text>\n</g>\n<g transform=\"translate(0 420)\">\n</g>\n<g transform=\"translate(0 560)\">\n<use href=\"#d1\" x=\"0\"/>\n</g>\n<g transform=\"translate(0 1180)\">\n<use href=\"#u66\" x=\"126\"/>\n<text x=\"126\" y=\"140\" textLength=\"126\" lengthAdjust=\"spacingAndGlyphs\" xml:space=\"preserve\">B</text>\n</g>\n<g transform=\"translate(0 1600)\">\n<use href=\"#u67\" x=\"252\"/>\n<text x=\"252\" y=\"140\" textLength=\"126\" lengthAdjust=\"spacingAndGlyphs\" xml:space=\"preserve\">C</text>\n</g>\n</g>\n</g>\n</g>\n<text font-size=\"210\" fill=\"#555\" transform=\"translate(630 4410)\">\n</text>\n</svg>\n";
 
+/// Two empty sheets, and what stands below them.
+const EMPTY: &str =
+    "<g transform=\"translate(630 1050)\">\n<text font-size=\"210\" fill=\"#555\" y=\"-210\">Printer 4</text>\n<rect width=\"12600\" height=\"1260\" fill=\"url(#paper)\" stroke=\"#b4afa2\" stroke-width=\"10\"/>\n<rect y=\"1260\" width=\"12600\" height=\"0\" fill=\"url(#folds)\"/>\n<g transform=\"translate(1260 630)\">\n<g stroke-width=\"22\" stroke-linecap=\"round\" fill-opacity=\"0\" font-size=\"140\">\n</g>\n</g>\n</g>\n<g transform=\"translate(13860 1050)\">\n<text font-size=\"210\" fill=\"#555\" y=\"-210\">Printer 5</text>\n<rect width=\"12600\" height=\"1260\" fill=\"url(#paper)\" stroke=\"#b4afa2\" stroke-width=\"10\"/>\n<rect y=\"1260\" width=\"12600\" height=\"0\" fill=\"url(#folds)\"/>\n<g transform=\"translate(1260 630)\">\n<g stroke-width=\"22\" stroke-linecap=\"round\" fill-opacity=\"0\" font-size=\"140\">\n</g>\n</g>\n</g>\n<text font-size=\"210\" fill=\"#555\" transform=\"translate(630 2520)\">\n</text>\n</svg>\n";
+
 /// The end of the picture of `each_growth_refused`.
 const GROWN: &str =
     "<text x=\"0\" y=\"140\" textLength=\"252\" lengthAdjust=\"spacingAndGlyphs\" xml:space=\"preserve\">AB</text>\n</g>\n</g>\n<g transform=\"translate(0 0)\">\n<path stroke=\"#a33\" stroke-width=\"20\" stroke-dasharray=\"126\" d=\"M0 60h10080\"/>\n<text font-size=\"120\" fill=\"#a33\" x=\"7350\" y=\"200\">held by the printer, not yet printed</text>\n</g>\n</g>\n</g>\n<text font-size=\"210\" fill=\"#555\" transform=\"translate(630 3150)\">\n</text>\n</svg>\n";
@@ -277,6 +281,27 @@ fn printers_that_are_there(rt: HostRuntime) {
     for (present, parts, lines) in rows {
         shows(&rt, &outcome, present, parts, lines);
     }
+}
+
+/// A printer that is there and printed nothing has a sheet only if no other has one.
+#[test]
+fn printers_that_printed_nothing(rt: HostRuntime) {
+    const TWO: &str = "width=\"129pc\" height=\"15pc\" viewBox=\"0 0 27090 3150\"";
+    let paper4 = paper(&rt, &[(0, &[cell(0, 65, false)])]);
+    let outcome = printed(&rt, paper4, Sequence::new(rt.alloc()));
+    let parts = [
+        BEGIN, SIZE, ABOUT, DEFINED_A, DEFINED, FIRST, FOUR_BEGIN, A, LETTER_A, FOUR_END, BELOW,
+    ];
+    shows(&rt, &outcome, BOTH, &parts, "Printer 4\nA\nPrinter 5\n");
+    let nothing = holding(&rt, Sequence::new(rt.alloc()));
+    let outcome = printed(&rt, nothing, Sequence::new(rt.alloc()));
+    shows(
+        &rt,
+        &outcome,
+        BOTH,
+        &[BEGIN, TWO, ABOUT, DEFINED, EMPTY],
+        "Printer 4\nPrinter 5\n",
+    );
 }
 
 /// How many calls are refused memory. Each other one gives what it gives with ample memory.
