@@ -1,5 +1,5 @@
 -- Which marks are still to be defined.
-use Rattle.std.proofs.Common.{◌≡◌, ℕ, ◌+◌, ◌<◌, Bool, true, false, cond, List, [], ◌∷◌, ◌++◌, length, refl, sym, ap, ◌∙◌, arith}
+use Rattle.std.proofs.Common.{◌≡◌, ℕ, ◌+◌, ◌<◌, Bool, true, false, cond, List, [], ◌∷◌, ◌++◌, length, refl, sym, ap, ◌∙◌, arith, append_assoc}
 use Rattle.std.specs.Prelude.{◌==◌, not, flat_map, replicate, slice_index_or, slice_set}
 use Rattle.std.specs.List.{filter}
 use Rattle.std.proofs.lemmas.Grind.{common_steps, get_or-set_at}
@@ -42,6 +42,22 @@ defined_now defined mark rest within is =
     rw is (ap (λ ms. definition_svg mark ++ flat_map definition_svg ms)
     (filter-both (is_new defined) (differ mark) (is_new (slice_set defined (number_of mark) true))
     (λ x. others defined (number_of mark) (number_of x) within) (each_once rest)))
+
+-- the same, where the definition has been added
+pub defined_next : (defined view : List Bool) (mark : Mark) (number : ℕ) (rest : List Mark) (text new_text : List ℕ)
+    → view ≡ defined → number ≡ number_of mark → number < length defined → slice_index_or defined number false ≡ false
+    → new_text ≡ text ++ definition_svg mark
+    → new_text ++ new_definitions (slice_set defined number true) rest ≡ text ++ new_definitions view (mark ∷ rest)
+defined_next defined view mark number rest text new_text at is within none added =
+    let here : number_of mark < length defined = rw (sym is) within in
+    let not_yet : slice_index_or defined (number_of mark) false ≡ false = rw (sym is) none in
+    let step : new_definitions view (mark ∷ rest) ≡ definition_svg mark ++ new_definitions (slice_set defined number true) rest =
+    ap (λ d. new_definitions d (mark ∷ rest)) at
+    ∙ (defined_now defined mark rest here not_yet
+    ∙ ap (λ k. definition_svg mark ++ new_definitions (slice_set defined k true) rest) (sym is)) in
+    ap (λ t. t ++ new_definitions (slice_set defined number true) rest) added
+    ∙ (append_assoc text (definition_svg mark) (new_definitions (slice_set defined number true) rest)
+    ∙ ap (λ t. text ++ t) (sym step))
 
 -- at first each mark wants one
 none-defined : (marks : List Mark) → new_definitions (replicate 2304 false) marks ≡ flat_map definition_svg (each_once marks)

@@ -65,6 +65,22 @@ row_begin = codes "<g transform=\"translate(0 "
 unfoldable pub held_begin : List ℕ
 held_begin = codes "<g opacity=\".4\" transform=\"translate(0 "
 
+-- the use of a mark, up to its name
+unfoldable pub use_begin : List ℕ
+use_begin = codes "<use href=\"#"
+
+-- between its name and its place
+unfoldable pub use_place : List ℕ
+use_place = codes "\" x=\""
+
+-- the end of a use or of a definition
+unfoldable pub use_end : List ℕ
+use_end = codes "\"/>\n"
+
+-- between a definition's name and its path
+unfoldable pub mark_path : List ℕ
+mark_path = codes "\" d=\""
+
 -- a mark's definition, up to its name
 unfoldable pub mark_begin : List ℕ
 mark_begin = codes "<path stroke=\"#222\" id=\""

@@ -13,7 +13,7 @@ use Rattle.pr_system.specs.declared.outcome.Outcome.{Outcome}
 use Rattle.pr_dots.specs.Dots.{Dot, columns_dots, columns_of}
 use Rattle.pr_render.specs.Characters.{character}
 use Rattle.pr_render.specs.Words.{either_text, is_blank, stop_name, text_if}
-use Rattle.pr_render.specs.Parts.{definitions_begin, definitions_end, desk, document_about, document_begin, held_begin, held_note, height_begin, ink_begin, letters_fitted, letters_width, mark_begin, notes_begin, paper_folds, paper_piece, row_begin, sheet_end, sheet_marks, sheet_name, sheet_paper, status_begin, stop_begin, text_end, units_begin, units_between}
+use Rattle.pr_render.specs.Parts.{definitions_begin, definitions_end, desk, document_about, document_begin, held_begin, held_note, height_begin, ink_begin, letters_fitted, letters_width, mark_begin, mark_path, notes_begin, paper_folds, paper_piece, row_begin, sheet_end, sheet_marks, sheet_name, sheet_paper, status_begin, stop_begin, text_end, units_begin, units_between, use_begin, use_end, use_place}
 
 -- a disc of a picture: its middle, in units from the left and from the top
 pub record Disc : Type 0 where
@@ -42,7 +42,7 @@ mark_discs mark = map disc_of (columns_dots 0 0 (columns_of mark))
 -- a mark's definition, under its name
 unfoldable pub definition_svg : Mark → List ℕ
 definition_svg mark =
-    mark_begin ++ name_svg mark ++ codes "\" d=\"" ++ flat_map disc_svg (mark_discs mark) ++ codes "\"/>\n"
+    mark_begin ++ name_svg mark ++ mark_path ++ flat_map disc_svg (mark_discs mark) ++ use_end
 
 -- a number for each mark, and no two have the same
 abbrev pub number_of : Mark → ℕ
@@ -65,7 +65,7 @@ marks_of paper = map (λ p. p.mark) (flat_map (λ r. r.marks) paper.rows ++ pape
 
 -- a mark on its line, by its name
 unfoldable pub use_svg : Placed → List ℕ
-use_svg placed = codes "<use href=\"#" ++ name_svg placed.mark ++ codes "\" x=\"" ++ decimal (21 * placed.x) ++ codes "\"/>\n"
+use_svg placed = use_begin ++ name_svg placed.mark ++ use_place ++ decimal (21 * placed.x) ++ use_end
 
 -- a character that stands for itself in an SVG: ASCII from the space on, but no quote, ampersand, apostrophe, less or greater
 abbrev pub stands_for_itself : ℕ → Bool

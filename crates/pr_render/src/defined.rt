@@ -38,7 +38,7 @@ impl Defined {
     }
 
     /// Adds the definition of a mark, unless it has been defined.
-    #[tactic(auto, using(crate::proofs::Defining::defined_already, crate::proofs::Defining::defined_now))]
+    #[tactic(auto, using(crate::proofs::Defining::defined_already))]
     fn define(&mut self, text: &mut Vec<u8>, mark: Mark) -> Result<(), AllocError>
         ensures { OnOk result (HasDefined (mark ∷ []) text.old.items self.old text.new.items self.new) }
     {

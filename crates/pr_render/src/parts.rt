@@ -1,7 +1,7 @@
 //! The fixed parts of the picture.
 
 ghost use Rattle.std.specs.Prelude.{◌≡◌};
-ghost use Rattle.pr_render.specs.Parts.{definitions_begin, definitions_end, desk, document_about, document_begin, height_begin, held_begin, held_note, ink_begin, letters_fitted, letters_width, mark_begin, notes_begin, paper_folds, paper_piece, row_begin, sheet_end, sheet_marks, sheet_name, sheet_paper, status_begin, stop_begin, text_end, units_begin, units_between};
+ghost use Rattle.pr_render.specs.Parts.{definitions_begin, definitions_end, desk, document_about, document_begin, height_begin, held_begin, held_note, ink_begin, letters_fitted, letters_width, mark_begin, mark_path, notes_begin, paper_folds, paper_piece, row_begin, sheet_end, sheet_marks, sheet_name, sheet_paper, status_begin, stop_begin, text_end, units_begin, units_between, use_begin, use_end, use_place};
 
 /// The document's first tag, up to its width.
 #[tactic(auto, unfolding(crate::specs::Parts::document_begin))]
@@ -129,6 +129,38 @@ pub fn held_begin() -> &'static [u8]
     ensures { result.now ≡ held_begin }
 {
     b"<g opacity=\".4\" transform=\"translate(0 "
+}
+
+/// The use of a mark, up to its name.
+#[tactic(auto, unfolding(crate::specs::Parts::use_begin))]
+pub fn use_begin() -> &'static [u8]
+    ensures { result.now ≡ use_begin }
+{
+    b"<use href=\"#"
+}
+
+/// Between its name and its place.
+#[tactic(auto, unfolding(crate::specs::Parts::use_place))]
+pub fn use_place() -> &'static [u8]
+    ensures { result.now ≡ use_place }
+{
+    b"\" x=\""
+}
+
+/// The end of a use or of a definition.
+#[tactic(auto, unfolding(crate::specs::Parts::use_end))]
+pub fn use_end() -> &'static [u8]
+    ensures { result.now ≡ use_end }
+{
+    b"\"/>\n"
+}
+
+/// Between a definition's name and its path.
+#[tactic(auto, unfolding(crate::specs::Parts::mark_path))]
+pub fn mark_path() -> &'static [u8]
+    ensures { result.now ≡ mark_path }
+{
+    b"\" d=\""
 }
 
 /// A mark's definition, up to its name.

@@ -5,7 +5,7 @@ ghost use Rattle.pr_dots.specs.Dots.{bit_dots, column_dots, columns_dots};
 ghost use Rattle.pr_render.specs.Svg.{definition_svg, disc_of, disc_svg, name_svg, number_of, use_svg};
 
 use crate::adding::{push_if, push_small};
-use crate::parts::mark_begin;
+use crate::parts::{mark_begin, mark_path, use_begin, use_end, use_place};
 use pr_dots::columns;
 use pr_page::{Mark, Placed};
 use std::alloc::AllocError;
@@ -94,9 +94,9 @@ pub fn push_definition(text: &mut Vec<u8>, mark: Mark) -> Result<(), AllocError>
 {
     text.extend_from_slice(mark_begin())?;
     push_name(text, mark)?;
-    text.extend_from_slice(b"\" d=\"")?;
+    text.extend_from_slice(mark_path())?;
     push_columns(text, columns(mark).as_slice())?;
-    text.extend_from_slice(b"\"/>\n")
+    text.extend_from_slice(use_end())
 }
 
 /// A number for each mark: no two have the same.
@@ -132,11 +132,11 @@ fn across(x: u16) -> u64
 fn push_use(text: &mut Vec<u8>, x: u16, mark: Mark) -> Result<(), AllocError>
     ensures { OnOk result (text.new.items ≡ text.old.items ++ use_svg (record { x = x; mark = mark })) }
 {
-    text.extend_from_slice(b"<use href=\"#")?;
+    text.extend_from_slice(use_begin())?;
     push_name(text, mark)?;
-    text.extend_from_slice(b"\" x=\"")?;
+    text.extend_from_slice(use_place())?;
     push_small(text, across(x))?;
-    text.extend_from_slice(b"\"/>\n")
+    text.extend_from_slice(use_end())
 }
 
 /// Adds the marks of a line.
