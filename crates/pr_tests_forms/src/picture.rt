@@ -1,6 +1,7 @@
 //! Pictures and lines of papers that no run of the program gives.
 
 use pr_page::{Mark, Paper, Placed, Row, Sequence};
+use pr_render::laws::{discs_are_the_dots, lines_show_each_cell, names_tell_marks};
 use pr_render::{svg, text};
 use pr_serial::Present;
 use pr_system::Outcome;
@@ -302,6 +303,14 @@ fn printers_that_printed_nothing(rt: HostRuntime) {
         &[BEGIN, TWO, ABOUT, DEFINED, EMPTY],
         "Printer 4\nPrinter 5\n",
     );
+}
+
+/// The laws, with nothing to run.
+#[test]
+fn laws(_rt: HostRuntime) {
+    discs_are_the_dots();
+    lines_show_each_cell();
+    names_tell_marks();
 }
 
 /// How many calls are refused memory. Each other one gives what it gives with ample memory.
