@@ -1,5 +1,6 @@
-# A page text drawn once more, apart from the proved code. usage: awk -v as=svg|text -v present=both|4|5|none [-v apart=1] -f pictures.awk PAGE-TEXT
-# With apart each cell is an element of its own.
+# A page text drawn once more, apart from the proved code, with the characters of examples/characters.txt.
+# usage: awk -v as=svg|text|dots -v present=both|4|5|none -v characters=FILE -f pictures.awk PAGE-TEXT
+# dots: a line `PRINTER X Y` for each dot
 # a character in UTF-8, also where awk writes it so by itself (gawk in a UTF-8 locale)
 function utf8(u) {
     if (u < 128 || sprintf("%c", 9608) == "\342\226\210") return sprintf("%c", u)
@@ -9,63 +10,65 @@ function utf8(u) {
 }
 function escaped(u) { return u > 126 || u == 34 || u == 38 || u == 39 || u == 60 || u == 62 ? "&#" u ";" : sprintf("%c", u) }
 
-# the Unicode character of a code
+# the code as which a code is printed, and its Unicode character
+function printed_as(code) { return code >= 96 && code < 128 ? code + 96 : code == 255 ? 222 : code >= 224 ? code - 64 : code }
 function character(code, lower) {
-    if (code >= 96 && code < 128) code += 96
-    if (code == 255) code = 222
-    if (code >= 224) code -= 64
+    code = printed_as(code)
     if (lower && code >= 65 && code <= 90) return code + 32
     if (lower && code >= 193 && code <= 218) return code - 128
     if (lower && code in other) return other[code]
     return code in graphic ? graphic[code] : code
 }
-function bits(x, value,   k, gap, ink, path) {
-    path = "M" x ".5-7"
-    for (k = 0; k < 8; k++) {
-        if (k < 7 && int(value / 2 ^ k) % 2) { ink++; continue }
-        if (ink) path = path (gap ? "m0 " gap : "") "v" ink
-        if (ink) gap = 0
-        ink = 0
-        gap++
+
+# the columns of a mark, in column[0] and on; how many there are
+function columns_of(i, column,   c, k, set, place, count, value) {
+    if (kind[i] == "dots") { column[0] = code[i]; return 1 }
+    place = printed_as(code[i])
+    set = style[i] ~ /lower/ ? "lower" : "upper"
+    for (c = 0; c < 6; c++) {
+        value = 0
+        for (k = 0; k < 7; k++) if (substr(shape[set, place, k], c + 1, 1) == "#") value += 2 ^ k
+        if (style[i] ~ /reverse/) value = 127 - value
+        column[count++] = value
+        if (style[i] ~ /wide/) column[count++] = value
     }
-    return path
+    return count
+}
+function has_bit(value, k) { return int(value / 2 ^ k) % 2 }
+
+# a mark's name, its definition, and marks by their names
+function name_of(i) {
+    if (kind[i] == "dots") return "d" code[i]
+    return (style[i] ~ /lower/ ? "l" : "u") (style[i] ~ /reverse/ ? "r" : "") (style[i] ~ /wide/ ? "w" : "") code[i]
+}
+function definition(i,   column, count, c, k, path) {
+    count = columns_of(i, column)
+    for (c = 0; c < count; c++) for (k = 0; k < 7; k++) if (has_bit(column[c], k)) path = path "M" 21 * c + 10 " " 20 * k + 10 "h0"
+    return "<path stroke=\"#222\" id=\"" name_of(i) "\" d=\"" path "\"/>\n"
+}
+function uses(from, to,   i, picture) {
+    for (i = from; i <= to; i++) picture = picture "<use href=\"#" name_of(i) "\" x=\"" 21 * place[i] "\"/>\n"
+    return picture
 }
 
-# a letter that every font has, or a blank; and a cell of either behind such cells from another on, printed alike
-function plain(u) { return u == 160 || u >= 32 && u < 127 }
-function joins(i, k) {
-    return !apart && plain(sign[i]) && plain(sign[k]) && kind[k] == "cell" && style[k] == style[i] && place[k] == place[i] + (k - i) * (style[i] ~ /wide/ ? 12 : 6)
-}
-
-# the marks from one to another as elements
-function elements(from, to,   i, k, x, shown, reverse, wide, text, path, picture) {
-    for (i = from; i <= to; i++) {
-        x = place[i]
-        if (kind[i] == "dots") {
-            picture = picture (path ? "" : "<path stroke=\"#000\" d=\"") bits(x, code[i])
-            path = 1
-            continue
-        }
-        if (path) picture = picture "\"/>\n"
-        path = 0
+# the letters of marks: cells side by side of one width are one element
+function letters(from, to,   i, k, text, shown, width, picture) {
+    for (i = from; i <= to; i = k) {
+        k = i + 1
+        if (kind[i] == "dots") continue
+        width = style[i] ~ /wide/ ? 12 : 6
         text = shown = ""
-        for (k = i; k == i || k <= to && joins(i, k); k++) {
+        for (k = i; k == i || k <= to && kind[k] == "cell" && (style[k] ~ /wide/ ? 12 : 6) == width && place[k] == place[i] + (k - i) * width; k++) {
             text = text (sign[k] == 160 ? " " : escaped(sign[k]))
             if (sign[k] != 32 && sign[k] != 160) shown = 1
         }
-        reverse = style[i] ~ /reverse/
-        wide = style[i] ~ /wide/
-        if (reverse) picture = picture "<rect x=\"" x "\" y=\"-7\" width=\"" (k - i) * (wide ? 12 : 6) "\" height=\"7\"/>\n"
-        if (shown && reverse) picture = picture "<text fill=\"#fff\" transform=\"translate(" x " -1) scale(" (wide ? 2 : 1) " .8)"
-        else if (shown) picture = picture (wide ? "<text transform=\"translate(" x ") scale(2 1)" : "<text x=\"" x)
-        if (shown) picture = picture "\" xml:space=\"preserve\" textLength=\"" 6 * (k - i) "\" lengthAdjust=\"spacingAndGlyphs\">" text "</text>\n"
-        i = k - 1
+        if (shown) picture = picture "<text x=\"" 21 * place[i] "\" y=\"140\" textLength=\"" 21 * width * (k - i) "\" lengthAdjust=\"spacingAndGlyphs\" xml:space=\"preserve\">" text "</text>\n"
     }
-    return picture (path ? "\"/>\n" : "")
+    return picture
 }
 
 # the marks from one to another as a line
-function line(margin, from, to,   i, c, u, ink, shown, blank, text) {
+function line(from, to,   i, c, u, ink, shown, blank, text) {
     for (c = 0; c < 80; c++) {
         u = 32
         ink = 0
@@ -85,26 +88,31 @@ function line(margin, from, to,   i, c, u, ink, shown, blank, text) {
         text = text utf8(u)
     }
     sub(/ +$/, "", text)
-    return margin text "\n"
+    return text "\n"
 }
 function count_bits(value,   k, n) { for (k = 0; k < 7; k++) n += int(value / 2 ^ k) % 2; return n }
 
-function group(y, from, to) { return "<g transform=\"translate(0 " y + 14 ") scale(1 2)\">\n" elements(from, to) "</g>\n" }
 function sheet(device, x, lines,   i, picture, y) {
-    picture = "<g transform=\"translate(" x " 1050)\">\n<text font-size=\"210\" fill=\"#555\" y=\"-210\">Printer " device "</text>\n<rect width=\"12600\" height=\"" 210 * lines "\" fill=\"url(#paper)\" stroke=\"#b4afa2\" stroke-width=\"10\"/>\n<g transform=\"translate(1260 630) scale(21 10)\" font-size=\"9.966\" shape-rendering=\"crispEdges\">\n"
-    for (i = 1; i <= rows[device]; i++) { y = top[device, i] + 21; picture = picture group(top[device, i], first[device, i], last[device, i]) }
-    if (held[device]) picture = picture "<g transform=\"translate(0 " y + 0 ") scale(1 2)\">\n<path shape-rendering=\"auto\" stroke=\"#a33\" stroke-dasharray=\"6\" d=\"M0 3h480\"/>\n<text font-size=\"6\" fill=\"#a33\" x=\"350\" y=\"10\">held by the printer, not yet printed</text>\n</g>\n<g opacity=\".4\">\n" group(y + 21, first[device, "held"], last[device, "held"]) "</g>\n"
+    picture = "<g transform=\"translate(" x " 1050)\">\n<text font-size=\"210\" fill=\"#555\" y=\"-210\">Printer " device "</text>\n<rect width=\"12600\" height=\"" 210 * lines "\" fill=\"url(#paper)\" stroke=\"#b4afa2\" stroke-width=\"10\"/>\n<rect y=\"1260\" width=\"12600\" height=\"" 210 * (lines - 6) "\" fill=\"url(#folds)\"/>\n<g transform=\"translate(1260 630)\">\n<g stroke-width=\"22\" stroke-linecap=\"round\" fill-opacity=\"0\" font-size=\"140\">\n"
+    y = 0
+    for (i = 1; i <= rows[device]; i++) {
+        picture = picture "<g transform=\"translate(0 " 10 * top[device, i] ")\">\n" uses(first[device, i], last[device, i]) letters(first[device, i], last[device, i]) "</g>\n"
+        y = top[device, i] + 21
+    }
+    if (held[device]) picture = picture "<g opacity=\".4\" transform=\"translate(0 " 10 * (y + 21) ")\">\n" uses(first[device, "held"], last[device, "held"]) letters(first[device, "held"], last[device, "held"]) "</g>\n"
+    picture = picture "</g>\n"
+    if (held[device]) picture = picture "<g transform=\"translate(0 " 10 * y ")\">\n<path stroke=\"#a33\" stroke-width=\"20\" stroke-dasharray=\"126\" d=\"M0 60h10080\"/>\n<text font-size=\"120\" fill=\"#a33\" x=\"7350\" y=\"200\">held by the printer, not yet printed</text>\n</g>\n"
     return picture "</g>\n</g>\n"
 }
 function sheet_lines(device,   i, y, free, text) {
     text = "Printer " device "\n"
     for (i = 1; i <= rows[device]; i++) {
         y = top[device, i]
-        for (; free + 21 <= y; free += 21) text = text "|\n"
-        text = text line("|", first[device, i], last[device, i])
+        for (; free + 21 <= y; free += 21) text = text "\n"
+        text = text line(first[device, i], last[device, i])
         free = y + 21
     }
-    return text (held[device] ? line(":", first[device, "held"], last[device, "held"]) : "")
+    return text (held[device] ? "Held, not yet printed:\n" line(first[device, "held"], last[device, "held"]) : "")
 }
 function end_of(device) { return (rows[device] ? top[device, rows[device]] + 21 : 0) + (held[device] ? 42 : 0) }
 function numbers(name, list, between,   n, i, part, text) {
@@ -113,20 +121,51 @@ function numbers(name, list, between,   n, i, part, text) {
     for (i = 1; i <= n; i++) text = text (i % 18 ? "" : between) " " part[i]
     return text
 }
-function picture(   four, five, lines, width, height, text) {
-    four = present == "both" || present == 4
-    five = present == "both" || present == 5
+# the first four statuses that are not 0, with their statements
+function status_line(   n, i, part, count, text) {
+    n = split(statuses, part, " ")
+    for (i = 1; i <= n; i++) {
+        if (part[i] == 0) continue
+        if (count++ == 4) { text = text ", and more"; break }
+        text = text (count > 1 ? ", " : "") part[i] " in statement " i
+    }
+    return text
+}
+function definitions(device,   i, text) {
+    for (i = 1; i <= marks; i++) if (printer[i] == device && !(name_of(i) in defined)) { defined[name_of(i)] = 1; text = text definition(i) }
+    return text
+}
+function picture(   four, five, lines, width, height, text, noted) {
+    four = (present == "both" || present == 4) && (rows[4] || held[4])
+    five = (present == "both" || present == 5) && (rows[5] || held[5])
+    if (!four && !five) { four = present == "both" || present == 4; five = present == "both" || present == 5 }
     lines = end_of(4) > end_of(5) ? end_of(4) : end_of(5)
     lines = 3 * int((lines + 188) / 63)
     width = four && five ? 129 : 66
-    height = lines + 9 + (stop != "") + int(split(statuses, part, " ") / 18)
-    text = "<svg xmlns=\"http://www.w3.org/2000/svg\" version=\"1.1\" width=\"" width "pc\" height=\"" height "pc\" viewBox=\"0 0 " 210 * width " " 210 * height "\" font-family=\"DejaVu Sans Mono,Menlo,Consolas,monospace\">\n<desc>Pages of VIC-1525 printers. Places, widths and dots are exact; the shapes of characters are those of the viewer's font.</desc>\n<pattern id=\"paper\" width=\"12600\" height=\"630\" patternUnits=\"userSpaceOnUse\"><rect width=\"12600\" height=\"630\" fill=\"#fff\"/><g fill=\"#e9e6df\" stroke=\"#b4afa2\" stroke-width=\"10\"><circle cx=\"315\" cy=\"315\" r=\"100\"/><circle cx=\"12285\" cy=\"315\" r=\"100\"/><path stroke-dasharray=\"35\" d=\"M630 0v630M11970 0v630\"/></g></pattern>\n<rect width=\"100%\" height=\"100%\" fill=\"#e9e6df\"/>\n"
+    noted = status_line()
+    height = lines + 9 + (stop != "") + (noted != "")
+    text = "<svg xmlns=\"http://www.w3.org/2000/svg\" version=\"1.1\" width=\"" width "pc\" height=\"" height "pc\" viewBox=\"0 0 " 210 * width " " 210 * height "\">\n<desc>Pages of VIC-1525 printers. Each dot is where a needle strikes; the shapes of characters are this project's own.</desc>\n<pattern id=\"paper\" width=\"12600\" height=\"630\" patternUnits=\"userSpaceOnUse\"><rect width=\"12600\" height=\"630\" fill=\"#fff\"/><g fill=\"#e9e6df\" stroke=\"#b4afa2\" stroke-width=\"10\"><circle cx=\"315\" cy=\"315\" r=\"100\"/><circle cx=\"12285\" cy=\"315\" r=\"100\"/><path stroke-dasharray=\"35\" d=\"M630 0v630M11970 0v630\"/></g></pattern>\n<pattern id=\"folds\" y=\"7560\" width=\"12600\" height=\"13860\" patternUnits=\"userSpaceOnUse\"><path stroke=\"#b4afa2\" stroke-width=\"10\" stroke-dasharray=\"70\" d=\"M0 6930h12600\"/></pattern>\n<rect width=\"100%\" height=\"100%\" fill=\"#e9e6df\"/>\n<defs>\n"
+    if (four) text = text definitions(4)
+    if (five) text = text definitions(5)
+    text = text "</defs>\n"
     if (four) text = text sheet(4, 630, lines)
     if (five) text = text sheet(5, four ? 13860 : 630, lines)
     text = text "<text font-size=\"210\" fill=\"#555\" transform=\"translate(630 " 210 * (lines + 6) ")\">\n"
     if (stop != "") text = text "<tspan x=\"0\" dy=\"210\" fill=\"#a33\">" stop "</tspan>\n"
-    if (statuses != "") text = text "<tspan x=\"0\" dy=\"210\">" numbers("status", statuses, "</tspan>\n<tspan x=\"0\" dy=\"210\">") "</tspan>\n"
+    if (noted != "") text = text "<tspan x=\"0\" dy=\"210\">Status " noted "</tspan>\n"
     return text "</text>\n</svg>\n"
+}
+
+# each dot of the rows, once
+function dots(   device, i, k, c, b, count, column, spot, seen) {
+    for (device = 4; device <= 5; device++) for (i = 1; i <= rows[device]; i++) for (k = first[device, i]; k <= last[device, i]; k++) {
+        count = columns_of(k, column)
+        for (c = 0; c < count; c++) for (b = 0; b < 7; b++) if (has_bit(column[c], b)) {
+            spot = device " " place[k] + c " " top[device, i] + 2 * b
+            if (!(spot in seen)) print spot
+            seen[spot] = 1
+        }
+    }
 }
 function text_lines(   text) {
     if (present == "both" || present == 4) text = sheet_lines(4)
@@ -140,6 +179,10 @@ BEGIN {
     for (i = 1; i < n; i += 2) graphic[pair[i]] = pair[i + 1]
     n = split("169 129945 186 10003 222 129942 223 129944", pair, " ")
     for (i = 1; i < n; i += 2) other[pair[i]] = pair[i + 1]
+    while ((getline row < characters) > 0) {
+        n = split(row, part, " ")
+        if (n == 2) { set = part[1]; which = part[2]; high = 0 } else shape[set, which, high++] = row
+    }
     split("?TOO MANY FILES/?FILE OPEN/?FILE NOT OPEN//?DEVICE NOT PRESENT/?NOT INPUT FILE", name, "/")
 }
 $1 == "printer" { device = $2; next }
@@ -154,6 +197,7 @@ $1 == "stop" { stop = name[$2] " in statement " $4; next }
     kind[marks] = $2
     code[marks] = $3
     sign[marks] = $2 == "cell" ? character($3, / lower/) : 0
-    style[marks] = (/ reverse/ ? "reverse " : "") (/ wide/ ? "wide" : "")
+    style[marks] = (/ lower/ ? "lower " : "") (/ reverse/ ? "reverse " : "") (/ wide/ ? "wide" : "")
+    printer[marks] = device
 }
-END { printf "%s", as == "svg" ? picture() : text_lines() }
+END { if (as == "dots") dots(); else printf "%s", as == "svg" ? picture() : text_lines() }

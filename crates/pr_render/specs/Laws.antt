@@ -1,66 +1,70 @@
--- Laws: how the marks of a line and the dots of a column are drawn, said without the folds of Svg.antt. src/laws.rt proves them.
-use Rattle.std.specs.Prelude.{◌≡◌, ℕ, ◌+◌, Bool, true, false, not, List, [], ◌∷◌, ◌++◌, ◌==◌, ◌&&◌, codes, flat_map, replicate}
+-- Laws: what a picture's elements draw, and what a line shows, said without the folds of Svg.antt and Plain.antt. src/laws.rt proves them.
+use Rattle.std.specs.Prelude.{◌≡◌, ℕ, ◌+◌, ◌*◌, ◌/◌, ◌<◌, Bool, true, false, not, List, [], ◌∷◌, ◌++◌, ◌==◌, ◌&&◌, ◌||◌, nat_lt, codes, encode_utf8, flat_map, length, map, slice_index_or, if◌then◌else◌}
 use Rattle.std.specs.List.{list_all}
 use Rattle.pr_page.specs.declared.paper.Placed.{Placed}
+use Rattle.pr_page.specs.declared.paper.Paper.{Paper}
 use Rattle.pr_page.specs.declared.paper.Mark.{Mark}
 use Rattle.pr_page.specs.declared.paper.Mark.TheVariants.{Cell, Dots}
+use Rattle.pr_dots.specs.Dots.{dots_of}
 use Rattle.pr_render.specs.Characters.{character}
-use Rattle.pr_render.specs.Svg.{Stroke, cells_width, dots_of, dots_svg, is_dots, is_plain, joins, line_marks, same, strip_of, strip_svg, strokes}
+use Rattle.pr_render.specs.Plain.{line_text, shown}
+use Rattle.pr_render.specs.Words.{is_blank}
+use Rattle.pr_render.specs.Svg.{Disc, disc_of, each_once, mark_discs, marks_of, name_svg}
 
--- the mark shows a letter or a blank, reversed or not, wide or not
-abbrev pub is_plain_cell : Bool → Bool → Mark → Bool
-is_plain_cell reversed widened (Cell code lower reverse wide) =
-    is_plain (character lower code) && same reversed reverse && same widened wide
-is_plain_cell reversed widened (Dots value) = false
+-- the code or the value of a mark is a byte
+abbrev pub is_of_bytes : Mark → Bool
+is_of_bytes (Cell code lower reverse wide) = nat_lt code 256
+is_of_bytes (Dots value) = nat_lt value 256
 
--- such marks, each a cell behind the one before, the first at a dot column
-abbrev pub are_side_by_side : ℕ → Bool → Bool → List Placed → Bool
-are_side_by_side x reverse wide [] = true
-are_side_by_side x reverse wide (p ∷ ps) =
-    is_plain_cell reverse wide p.mark && p.x == x && are_side_by_side (x + cells_width wide 1) reverse wide ps
+-- two texts are the same
+abbrev pub same_text : List ℕ → List ℕ → Bool
+same_text [] [] = true
+same_text [] (b ∷ more) = false
+same_text (a ∷ rest) [] = false
+same_text (a ∷ rest) (b ∷ more) = a == b && same_text rest more
 
--- the characters of cells
-abbrev pub characters_of : List Placed → List ℕ
-characters_of marks = flat_map (λ p. (strip_of p.x p.mark).characters) marks
+-- a disc so far to the right and so far down
+abbrev pub moved : (across down : ℕ) → Disc → Disc
+moved across down disc = record { across = across + disc.across; down = down + disc.down }
 
--- letters and blanks side by side that are printed alike are one strip
-abbrev pub CellsSideBySideAreOneStrip : Type 0
-CellsSideBySideAreOneStrip =
-    (x : ℕ) (reverse wide : Bool) (p : Placed) (ps : List Placed) → are_side_by_side x reverse wide (p ∷ ps) ≡ true
-    → line_marks (p ∷ ps) ≡ strip_svg (record { x = x; reverse = reverse; wide = wide; characters = characters_of (p ∷ ps) })
+-- what an element draws that uses a name: the discs of every definition of that name, moved
+abbrev pub used_discs : List Mark → (across down : ℕ) → List ℕ → List Disc
+used_discs definitions across down name =
+    flat_map (λ d. if same_text (name_svg d) name then map (moved across down) (mark_discs d) else []) definitions
 
--- columns of dots alone are one path
-abbrev pub ColumnsAreOnePath : Type 0
-ColumnsAreOnePath =
-    (p : Placed) (ps : List Placed) → list_all (λ q. is_dots q.mark) (p ∷ ps) ≡ true
-    → line_marks (p ∷ ps) ≡ codes "<path stroke=\"#000\" d=\"" ++ (flat_map (λ q. dots_svg q.x q.mark) (p ∷ ps) ++ codes "\"/>\n")
+-- what the elements of a paper's rows draw, each in its row's group
+abbrev pub paper_discs : List Mark → Paper → List Disc
+paper_discs definitions paper =
+    flat_map (λ r. flat_map (λ p. used_discs definitions (21 * p.x) (10 * r.y) (name_svg p.mark)) r.marks) paper.rows
 
--- a cell that shows neither a letter nor a blank
-abbrev pub stands_alone : Mark → Bool
-stands_alone (Cell code lower reverse wide) = not (is_plain (character lower code))
-stands_alone (Dots value) = false
+-- where the marks of a paper are among those defined, its elements draw a disc for each dot of the paper, and no other disc
+abbrev pub DiscsAreTheDots : Type 0
+DiscsAreTheDots =
+    (before : List Mark) (paper : Paper) (after : List Mark) → list_all is_of_bytes (before ++ (marks_of paper ++ after)) ≡ true
+    → paper_discs (each_once (before ++ (marks_of paper ++ after))) paper ≡ map disc_of (dots_of paper)
 
--- such a mark is drawn by itself, between what stands before it and what stands behind it
-abbrev pub OtherMarksStandAlone : Type 0
-OtherMarksStandAlone =
-    (before : List Placed) (p : Placed) (after : List Placed) → stands_alone p.mark ≡ true
-    → line_marks (before ++ p ∷ after) ≡ line_marks before ++ (strip_svg (strip_of p.x p.mark) ++ line_marks after)
+-- different marks have different names
+abbrev pub NamesTellMarks : Type 0
+NamesTellMarks = (m n : Mark) → is_of_bytes m ≡ true → is_of_bytes n ≡ true → name_svg m ≡ name_svg n → m ≡ n
 
--- two marks of which the second does not go on with the first: they are not both columns of dots, and not cells of one strip
-abbrev pub are_apart : Placed → Placed → Bool
-are_apart q p = not (is_dots q.mark && is_dots p.mark) && not (joins (strip_of p.x p.mark) (strip_of q.x q.mark))
+-- a line's text has a character at a column, counted from 0
+pub record HasAt (column u : ℕ) (text : List ℕ) : Type 0 where
+  pub characters : List ℕ
+  pub spells : text ≡ flat_map encode_utf8 characters ++ codes "\n"
+  pub within : column < length characters
+  pub at : slice_index_or characters column 0 ≡ u
 
--- marks up to one and marks from the next on are drawn apart where these two are apart
-abbrev pub MarksApartAreDrawnApart : Type 0
-MarksApartAreDrawnApart =
-    (before : List Placed) (q p : Placed) (after : List Placed) → are_apart q p ≡ true
-    → line_marks (before ++ q ∷ p ∷ after) ≡ line_marks (before ++ q ∷ []) ++ line_marks (p ∷ after)
+-- a mark may change a column: that of its place, and also the next one if it is a wide cell
+abbrev pub reaches : ℕ → ℕ → Mark → Bool
+reaches column place (Cell code lower reverse wide) = column == place || (wide && column == place + 1)
+reaches column place (Dots value) = column == place
 
--- the dots of strokes down a column, 1 where there is ink
-abbrev pub dots_under : List Stroke → List ℕ
-dots_under [] = []
-dots_under (s ∷ ss) = replicate s.gap 0 ++ (replicate s.ink 1 ++ dots_under ss)
-
--- the dots of a value come back from its strokes, but for those without ink at the bottom
-abbrev pub StrokesGiveTheDotsBack : Type 0
-StrokesGiveTheDotsBack = (value : ℕ) → (left : ℕ) × (dots_under (strokes 0 0 (dots_of value)) ++ replicate left 0 ≡ dots_of value)
+-- a cell shows its character, or a full block where it is a reversed blank, at the column of its place, if no later mark of its
+-- line reaches that column
+abbrev pub LinesShowEachCell : Type 0
+LinesShowEachCell =
+    (before : List Placed) (x code : ℕ) (lower reverse wide : Bool) (after : List Placed)
+    → (reverse || not (is_blank (character lower code))) ≡ true → x / 6 < 80
+    → list_all (λ q. not (reaches (x / 6) (q.x / 6) q.mark)) after ≡ true
+    → HasAt (x / 6) (shown reverse (character lower code))
+    (line_text (before ++ record { x = x; mark = Cell code lower reverse wide } ∷ after))

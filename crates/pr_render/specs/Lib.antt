@@ -1,8 +1,8 @@
 pub mod Characters
+pub mod Defined
 pub mod Laws
 pub mod Parts
-pub mod Pens
 pub mod Plain
+pub mod Strips
 pub mod Svg
-pub mod Tables
 pub mod Words

@@ -75,28 +75,32 @@ columns_text blanks (c ∷ cs) =
     if seen_in c == 32 then columns_text (blanks + 1) cs
     else replicate blanks 32 ++ encode_utf8 (seen_in c) ++ columns_text 0 cs
 
--- a line of marks behind its margin
-unfoldable pub line_text : List ℕ → List Placed → List ℕ
-line_text margin marks = margin ++ columns_text 0 (painted (replicate 80 empty_column) marks) ++ codes "\n"
+-- a line of marks
+unfoldable pub line_text : List Placed → List ℕ
+line_text marks = columns_text 0 (painted (replicate 80 empty_column) marks) ++ codes "\n"
 
 -- so many lines without marks
 abbrev pub empty_lines : ℕ → List ℕ
 empty_lines zero = []
-empty_lines (suc n) = empty_lines n ++ codes "|\n"
+empty_lines (suc n) = empty_lines n ++ codes "\n"
 
 -- the lines of rows on paper that is empty from a distance on: each line of text that would stand above a row is an empty line
 abbrev pub rows_text : ℕ → List Row → List ℕ
 rows_text empty [] = []
-rows_text empty (r ∷ rs) = empty_lines ((r.y - empty) / 21) ++ line_text (codes "|") r.marks ++ rows_text (r.y + 21) rs
+rows_text empty (r ∷ rs) = empty_lines ((r.y - empty) / 21) ++ line_text r.marks ++ rows_text (r.y + 21) rs
 
--- the line of the marks held, if there are any
-abbrev pub held_line : List Placed → List ℕ
-held_line [] = []
-held_line (m ∷ ms) = line_text (codes ":") (m ∷ ms)
+-- the line above the marks held
+unfoldable pub held_heading : List ℕ
+held_heading = codes "Held, not yet printed:\n"
+
+-- the line of the marks held, below one that says so, if there are any
+abbrev pub held_text : List Placed → List ℕ
+held_text [] = []
+held_text (m ∷ ms) = held_heading ++ line_text (m ∷ ms)
 
 -- a printer's sheet
 unfoldable pub sheet_text : ℕ → Paper → List ℕ
-sheet_text device p = codes "Printer " ++ decimal device ++ codes "\n" ++ rows_text 0 p.rows ++ held_line p.held
+sheet_text device p = codes "Printer " ++ decimal device ++ codes "\n" ++ rows_text 0 p.rows ++ held_text p.held
 
 -- a sentence of numbers, if there are any
 unfoldable pub sentence : List ℕ → List ℕ → List ℕ

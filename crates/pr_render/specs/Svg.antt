@@ -1,6 +1,7 @@
 -- Trusted: the picture of an outcome as an SVG document.
 -- A unit of the document is 1/1260 inch: a dot column is 21 units wide, 1/126 inch is 10 units, and 1/6 inch 210 units (a pica, `pc`).
-use Rattle.std.specs.Prelude.{ℕ, ◌+◌, ◌*◌, ◌/◌, ◌%◌, Bool, true, false, not, List, [], ◌∷◌, ◌++◌, ◌==◌, ◌||◌, ◌&&◌, nat_le, nat_lt, max, codes, decimal, flat_map, length, if◌then◌else◌, Option, Some, None}
+use Rattle.std.specs.Prelude.{ℕ, ◌+◌, ◌-◌, ◌*◌, ◌/◌, Bool, true, false, not, List, [], ◌∷◌, ◌++◌, ◌==◌, ◌||◌, ◌&&◌, nat_le, nat_lt, max, codes, decimal, flat_map, length, map, if◌then◌else◌, Option, Some, None}
+use Rattle.std.specs.List.{filter, list_all}
 use Rattle.pr_page.specs.declared.paper.Placed.{Placed}
 use Rattle.pr_page.specs.declared.paper.Row.{Row}
 use Rattle.pr_page.specs.declared.paper.Paper.{Paper}
@@ -9,9 +10,62 @@ use Rattle.pr_page.specs.declared.paper.Mark.TheVariants.{Cell, Dots}
 use Rattle.pr_serial.specs.declared.Present.{Present}
 use Rattle.pr_channels.specs.declared.faults.Stop.{Stop}
 use Rattle.pr_system.specs.declared.outcome.Outcome.{Outcome}
+use Rattle.pr_dots.specs.Dots.{Dot, columns_dots, columns_of}
 use Rattle.pr_render.specs.Characters.{character}
-use Rattle.pr_render.specs.Words.{either_text, is_blank, numbers_text, stop_name, text_if}
-use Rattle.pr_render.specs.Parts.{box_end, box_width, characters_fitted, characters_width, desk, document_about, document_begin, group_begin, group_scale, height_begin, held_note, notes_begin, paper_piece, sheet_marks, sheet_name, sheet_paper, statuses_begin, statuses_line, stop_begin, text_end, units_begin, units_between, white_begin}
+use Rattle.pr_render.specs.Words.{either_text, is_blank, stop_name, text_if}
+use Rattle.pr_render.specs.Parts.{definitions_begin, definitions_end, desk, document_about, document_begin, held_begin, held_note, height_begin, ink_begin, letters_fitted, letters_width, mark_begin, mark_path, notes_begin, paper_folds, paper_piece, row_begin, sheet_end, sheet_marks, sheet_name, sheet_paper, status_begin, stop_begin, text_end, units_begin, units_between, use_begin, use_end, use_place}
+
+-- a disc of a picture: its middle, in units from the left and from the top
+pub record Disc : Type 0 where
+  pub across : ℕ
+  pub down : ℕ
+
+-- the disc of a dot
+abbrev pub disc_of : Dot → Disc
+disc_of dot = record { across = 21 * dot.x + 10; down = 10 * dot.y + 10 }
+
+-- a disc as a part of a path: a stroke without length, whose ends are round
+unfoldable pub disc_svg : Disc → List ℕ
+disc_svg disc = codes "M" ++ decimal disc.across ++ codes " " ++ decimal disc.down ++ codes "h0"
+
+-- a mark's name: `d` and the value of a column of dots; of a cell `u` (graphic/upper case) or `l` (lower/upper case), `r` if it is
+-- reversed, `w` if it is wide, and its code
+unfoldable pub name_svg : Mark → List ℕ
+name_svg (Cell code lower reverse wide) =
+    either_text lower (codes "l") (codes "u") ++ text_if reverse (codes "r") ++ text_if wide (codes "w") ++ decimal code
+name_svg (Dots value) = codes "d" ++ decimal value
+
+-- the discs of a mark, as they are defined once
+abbrev pub mark_discs : Mark → List Disc
+mark_discs mark = map disc_of (columns_dots 0 0 (columns_of mark))
+
+-- a mark's definition, under its name
+unfoldable pub definition_svg : Mark → List ℕ
+definition_svg mark =
+    mark_begin ++ name_svg mark ++ mark_path ++ flat_map disc_svg (mark_discs mark) ++ use_end
+
+-- a number for each mark, and no two have the same
+abbrev pub number_of : Mark → ℕ
+number_of (Cell code lower reverse wide) =
+    9 * code + (if lower then 1 else 0) + (if reverse then 2 else 0) + (if wide then 4 else 0)
+number_of (Dots value) = 9 * value + 8
+
+-- the marks are not the same
+abbrev pub differ : Mark → Mark → Bool
+differ this other = not (number_of this == number_of other)
+
+-- marks, each once
+abbrev pub each_once : List Mark → List Mark
+each_once [] = []
+each_once (m ∷ ms) = m ∷ filter (differ m) (each_once ms)
+
+-- the marks of a paper, those that are held at the end
+abbrev pub marks_of : Paper → List Mark
+marks_of paper = map (λ p. p.mark) (flat_map (λ r. r.marks) paper.rows ++ paper.held)
+
+-- a mark on its line, by its name
+unfoldable pub use_svg : Placed → List ℕ
+use_svg placed = use_begin ++ name_svg placed.mark ++ use_place ++ decimal (21 * placed.x) ++ use_end
 
 -- a character that stands for itself in an SVG: ASCII from the space on, but no quote, ampersand, apostrophe, less or greater
 abbrev pub stands_for_itself : ℕ → Bool
@@ -23,119 +77,46 @@ stands_for_itself u =
 unfoldable pub escaped : ℕ → List ℕ
 escaped u = if stands_for_itself u then u ∷ [] else codes "&#" ++ decimal u ++ codes ";"
 
--- how wide so many cells are, in dots
-abbrev pub cells_width : Bool → ℕ → ℕ
-cells_width wide count = if wide then 12 * count else 6 * count
-
--- the black box of so many reversed cells, seven dots high
-unfoldable pub box_svg : ℕ → Bool → ℕ → List ℕ
-box_svg x wide count = codes "<rect x=\"" ++ decimal x ++ box_width ++ decimal (cells_width wide count) ++ box_end
-
--- where characters in white begin, a dot higher and smaller, so that all but the tails of g, j, p, q and y lie in their box
-abbrev pub white_place : ℕ → Bool → List ℕ
-white_place x wide = white_begin ++ decimal x ++ either_text wide (codes " -1) scale(2 .8)") (codes " -1) scale(1 .8)")
-
--- where characters in black begin, on the base line, drawn twice as wide where their cells are wide
-abbrev pub black_place : ℕ → Bool → List ℕ
-black_place x wide =
-    if wide then codes "<text transform=\"translate(" ++ decimal x ++ codes ") scale(2 1)"
-    else codes "<text x=\"" ++ decimal x
-
 -- a character in its cell: a blank is a space
 abbrev pub character_text : ℕ → List ℕ
 character_text u = if is_blank u then 32 ∷ [] else escaped u
 
--- characters side by side, each six dots wide before it is drawn wider
-unfoldable pub characters_svg : ℕ → Bool → Bool → List ℕ → List ℕ
-characters_svg x reverse wide characters =
-    (if reverse then white_place x wide else black_place x wide) ++ characters_width ++ decimal (6 * length characters)
-    ++ characters_fitted ++ flat_map character_text characters ++ text_end
+-- how wide so many cells are, in dots
+abbrev pub cells_width : Bool → ℕ → ℕ
+cells_width wide count = if wide then 12 * count else 6 * count
 
--- the seven dots of a column from the top, 1 where there is ink
-abbrev pub dots_of : ℕ → List ℕ
-dots_of value =
-    value % 2 ∷ value / 2 % 2 ∷ value / 4 % 2 ∷ value / 8 % 2 ∷ value / 16 % 2 ∷ value / 32 % 2 ∷ value / 64 % 2 ∷ []
-
--- a stroke down a column: so many dots without ink, and then so many with ink
-pub record Stroke : Type 0 where
-  pub gap : ℕ
-  pub ink : ℕ
-
--- the strokes of a column's dots: behind so many without ink, and so many with ink, these dots; none where no ink is left
-abbrev pub strokes : ℕ → ℕ → List ℕ → List Stroke
-strokes gap ink [] = if ink == 0 then [] else record { gap = gap; ink = ink } ∷ []
-strokes gap ink (dot ∷ dots) =
-    if dot == 1 then strokes gap (ink + 1) dots
-    else (if ink == 0 then strokes (gap + 1) 0 dots
-    else record { gap = gap; ink = ink } ∷ strokes 1 0 dots)
-
--- a stroke as a part of a path: strokes are as wide as a dot
-unfoldable pub stroke_svg : Stroke → List ℕ
-stroke_svg stroke = text_if (nat_lt 0 stroke.gap) (codes "m0 " ++ decimal stroke.gap) ++ codes "v" ++ decimal stroke.ink
-
--- the strokes of a column with this value
-unfoldable pub value_svg : ℕ → List ℕ
-value_svg value = flat_map stroke_svg (strokes 0 0 (dots_of value))
-
--- a column of dots as a part of a path: down its middle, from seven dots above the base line
-unfoldable pub column_svg : ℕ → ℕ → List ℕ
-column_svg x value = codes "M" ++ decimal x ++ codes ".5-7" ++ value_svg value
-
--- what of a mark is a part of a path: a column of dots
-abbrev pub dots_svg : ℕ → Mark → List ℕ
-dots_svg x (Cell code lower reverse wide) = []
-dots_svg x (Dots value) = column_svg x value
-
--- the mark is a column of dots
-abbrev pub is_dots : Mark → Bool
-is_dots (Cell code lower reverse wide) = false
-is_dots (Dots value) = true
-
--- what stands between two marks, or at an end: where columns begin a path begins, and where they end it ends
-abbrev pub joint : Bool → Bool → List ℕ
-joint false false = []
-joint false true = codes "<path stroke=\"#000\" d=\""
-joint true false = codes "\"/>\n"
-joint true true = []
-
--- a letter that every font has whose letters are of one width (ASCII behind the space), or a blank
-abbrev pub is_plain : ℕ → Bool
-is_plain u = (nat_lt 32 u && nat_le u 126) || is_blank u
-
--- a strip: the characters of cells side by side, from a dot column on, all reversed or none, all wide or none
+-- a strip: the characters of cells side by side, from a dot column on, all wide or none
 pub record Strip : Type 0 where
   pub x : ℕ
-  pub reverse : Bool
   pub wide : Bool
   pub characters : List ℕ
 
 -- no cells
 abbrev pub no_strip : Strip
-no_strip = record { x = 0; reverse = false; wide = false; characters = [] }
+no_strip = record { x = 0; wide = false; characters = [] }
 
 -- the strip of one cell, or of none where a mark is a column of dots
 abbrev pub strip_of : ℕ → Mark → Strip
-strip_of x (Cell code lower reverse wide) = record { x = x; reverse = reverse; wide = wide; characters = character lower code ∷ [] }
+strip_of x (Cell code lower reverse wide) = record { x = x; wide = wide; characters = character lower code ∷ [] }
 strip_of x (Dots value) = no_strip
 
 -- a strip and one more behind it
 abbrev pub lengthened : Strip → Strip → Strip
-lengthened strip next =
-    record { x = strip.x; reverse = strip.reverse; wide = strip.wide; characters = strip.characters ++ next.characters }
+lengthened strip next = record { x = strip.x; wide = strip.wide; characters = strip.characters ++ next.characters }
 
 -- both or none
 abbrev pub same : Bool → Bool → Bool
 same this other = if this then other else not other
 
--- characters begin with a plain one
-abbrev pub begins_plain : List ℕ → Bool
-begins_plain [] = false
-begins_plain (u ∷ us) = is_plain u
+-- there are cells
+abbrev pub has_cells : List ℕ → Bool
+has_cells [] = false
+has_cells (u ∷ us) = true
 
--- a strip joins another: both are plain and printed alike, and it stands where the other ends
+-- a strip joins another: it stands where the other ends, and is as wide
 abbrev pub joins : Strip → Strip → Bool
 joins next strip =
-    begins_plain next.characters && begins_plain strip.characters && same strip.reverse next.reverse && same strip.wide next.wide
+    has_cells next.characters && has_cells strip.characters && same strip.wide next.wide
     && next.x == strip.x + cells_width strip.wide (length strip.characters)
 
 -- a character among these is no blank
@@ -143,46 +124,45 @@ abbrev pub shows : List ℕ → Bool
 shows [] = false
 shows (u ∷ us) = not (is_blank u) || shows us
 
--- a strip: its box if it is reversed, and its characters if they are not all blank
-unfoldable pub strip_svg : Strip → List ℕ
-strip_svg strip =
-    text_if strip.reverse (box_svg strip.x strip.wide (length strip.characters))
-    ++ text_if (shows strip.characters) (characters_svg strip.x strip.reverse strip.wide strip.characters)
+-- the characters of a strip, as wide as its cells
+unfoldable pub characters_svg : Strip → List ℕ
+characters_svg strip =
+    codes "<text x=\"" ++ decimal (21 * strip.x) ++ letters_width ++ decimal (21 * cells_width strip.wide (length strip.characters))
+    ++ letters_fitted ++ flat_map character_text strip.characters ++ text_end
 
--- marks in their order, behind a path that is open or not, and behind a strip: a cell that joins the strip makes it longer, and any
--- other mark ends it
-abbrev pub marks_svg : Bool → Strip → List Placed → List ℕ
-marks_svg path strip [] = strip_svg strip ++ joint path false
-marks_svg path strip (p ∷ ps) =
-    if joins (strip_of p.x p.mark) strip then marks_svg path (lengthened strip (strip_of p.x p.mark)) ps
-    else strip_svg strip ++ joint path (is_dots p.mark) ++ dots_svg p.x p.mark ++ marks_svg (is_dots p.mark) (strip_of p.x p.mark) ps
+-- the same, if they are not all blank
+abbrev pub strip_svg : Strip → List ℕ
+strip_svg strip = text_if (shows strip.characters) (characters_svg strip)
 
--- the marks of a line, from nothing
-unfoldable pub line_marks : List Placed → List ℕ
-line_marks marks = marks_svg false no_strip marks
+-- the strips of marks in their order, behind one that has begun
+abbrev pub strips_svg : Strip → List Placed → List ℕ
+strips_svg strip [] = strip_svg strip
+strips_svg strip (p ∷ ps) =
+    if joins (strip_of p.x p.mark) strip then strips_svg (lengthened strip (strip_of p.x p.mark)) ps
+    else strip_svg strip ++ strips_svg (strip_of p.x p.mark) ps
 
--- marks on a line at a distance: there a unit is a dot, and the base line is seven dots down
-unfoldable pub group_svg : ℕ → List Placed → List ℕ
-group_svg y marks = group_begin ++ decimal (y + 14) ++ group_scale ++ line_marks marks ++ codes "</g>\n"
+-- the marks of a line: each by its name, and over them the letters, which are not seen, to be searched and copied
+unfoldable pub line_svg : List Placed → List ℕ
+line_svg marks = flat_map use_svg marks ++ strips_svg no_strip marks
 
--- a printed line
-abbrev pub row_svg : Row → List ℕ
-row_svg r = group_svg r.y r.marks
-
--- rows, from the top
-abbrev pub rows_svg : List Row → List ℕ
-rows_svg [] = []
-rows_svg (r ∷ rs) = row_svg r ++ rows_svg rs
+-- a printed line, at its distance
+unfoldable pub row_svg : Row → List ℕ
+row_svg r = row_begin ++ decimal (10 * r.y) ++ codes ")\">\n" ++ line_svg r.marks ++ codes "</g>\n"
 
 -- where rows end, in 1/126 inch: 1/6 inch below the top of the last of them
 abbrev pub rows_end : ℕ → List Row → ℕ
 rows_end y [] = y
 rows_end y (r ∷ rs) = rows_end (r.y + 21) rs
 
--- the marks held, pale, 1/6 inch below the rows, with a rule and a line that says so
+-- the marks held, pale, at a distance
 unfoldable pub held_svg : ℕ → List Placed → List ℕ
 held_svg y [] = []
-held_svg y (m ∷ ms) = group_begin ++ decimal y ++ held_note ++ group_svg (y + 21) (m ∷ ms) ++ codes "</g>\n"
+held_svg y (m ∷ ms) = held_begin ++ decimal (10 * y) ++ codes ")\">\n" ++ line_svg (m ∷ ms) ++ codes "</g>\n"
+
+-- above the marks held: a rule, and a line that says so
+unfoldable pub held_line : ℕ → List Placed → List ℕ
+held_line y [] = []
+held_line y (m ∷ ms) = row_begin ++ decimal (10 * y) ++ held_note
 
 -- where a paper's marks end, in 1/126 inch
 abbrev pub paper_end : Paper → ℕ
@@ -197,17 +177,21 @@ abbrev pub sheet_picas : Outcome → ℕ
 sheet_picas outcome = 3 * ((max (paper_end outcome.paper4) (paper_end outcome.paper5) + 188) / 63)
 
 -- a sheet's place in the document, and above it the printer's name
-unfoldable pub name_svg : ℕ → ℕ → List ℕ
-name_svg device x = codes "<g transform=\"translate(" ++ decimal x ++ sheet_name ++ decimal device
+unfoldable pub name_line : ℕ → ℕ → List ℕ
+name_line device x = codes "<g transform=\"translate(" ++ decimal x ++ sheet_name ++ decimal device
 
--- paper of so many picas
+-- paper of so many picas, with its folds at each 11 inches from the first line on
 unfoldable pub paper_svg : ℕ → List ℕ
-paper_svg picas = sheet_paper ++ decimal (210 * picas) ++ sheet_marks
+paper_svg picas = sheet_paper ++ decimal (210 * picas) ++ paper_folds ++ decimal (210 * (picas - 6)) ++ sheet_marks
 
--- a printer's sheet: its paper, the rows, and the marks held below them
+-- the marks of a paper: the rows, and 1/6 inch below them the marks held
+unfoldable pub ink_svg : Paper → List ℕ
+ink_svg p = ink_begin ++ flat_map row_svg p.rows ++ held_svg (rows_end 0 p.rows + 21) p.held ++ codes "</g>\n"
+
+-- a printer's sheet
 unfoldable pub sheet_svg : ℕ → ℕ → ℕ → Paper → List ℕ
 sheet_svg device x picas p =
-    name_svg device x ++ paper_svg picas ++ rows_svg p.rows ++ held_svg (rows_end 0 p.rows) p.held ++ codes "</g>\n</g>\n"
+    name_line device x ++ paper_svg picas ++ ink_svg p ++ held_line (rows_end 0 p.rows) p.held ++ sheet_end
 
 -- the line of a stop, with its place
 unfoldable pub stop_svg : Option (ℕ × Stop) → List ℕ
@@ -219,22 +203,51 @@ abbrev pub stop_picas : Option (ℕ × Stop) → ℕ
 stop_picas None = 0
 stop_picas (Some stop) = 1
 
--- the statuses in lines, if there are any
+-- a status of a statement, behind a comma or not
+unfoldable pub place_text : Bool → ℕ → ℕ → List ℕ
+place_text comma status place = text_if comma (codes ", ") ++ decimal status ++ codes " in statement " ++ decimal place
+
+-- statuses of statements from a place on: those that are not 0, but at most so many of them
+abbrev pub places_text : (left place : ℕ) → List ℕ → List ℕ
+places_text left place [] = []
+places_text left place (n ∷ ns) =
+    if n == 0 then places_text left (place + 1) ns
+    else (if left == 0 then codes ", and more"
+    else place_text (nat_lt left 4) n place ++ places_text (left - 1) (place + 1) ns)
+
+-- the statuses are all 0
+abbrev pub all_zero : List ℕ → Bool
+all_zero statuses = list_all (λ n. n == 0) statuses
+
+-- the first four places of statuses that are not 0, if there are any
 unfoldable pub statuses_svg : List ℕ → List ℕ
-statuses_svg [] = []
-statuses_svg (n ∷ ns) = statuses_begin ++ numbers_text statuses_line 1 (n ∷ ns) ++ codes "</tspan>\n"
+statuses_svg statuses =
+    if all_zero statuses then []
+    else status_begin ++ places_text 4 1 statuses ++ codes "</tspan>\n"
 
 -- the lines below the sheets: the stop and the statuses
 unfoldable pub notes_svg : ℕ → Outcome → List ℕ
 notes_svg picas outcome =
     notes_begin ++ decimal (210 * (picas + 6)) ++ codes ")\">\n" ++ stop_svg outcome.stop ++ statuses_svg outcome.statuses ++ text_end
 
+-- something was printed, or is held
+abbrev pub has_printed : Paper → Bool
+has_printed p = nat_lt 0 (length p.rows + length p.held)
+
+-- the printers that are drawn: those present that have printed, or else all that are present
+abbrev pub drawn_of : Outcome → Present → Present
+drawn_of outcome present =
+    drawn (present.four && has_printed outcome.paper4) (present.five && has_printed outcome.paper5)
+  where
+    drawn : (four five : Bool) → Present
+    drawn four five = if (four || five) then record { four = four; five = five } else present
+
 -- the document's width and height, in picas
 abbrev pub width_of : Present → ℕ
-width_of present = if (present.four && present.five) then 129 else 66
+width_of drawn = if (drawn.four && drawn.five) then 129 else 66
 
 abbrev pub height_of : ℕ → Outcome → ℕ
-height_of picas outcome = picas + 9 + stop_picas outcome.stop + length outcome.statuses / 18
+height_of picas outcome = picas + 9 + stop_picas outcome.stop + (if all_zero outcome.statuses then 0 else 1)
 
 -- the document's size in picas
 unfoldable pub size_svg : ℕ → ℕ → List ℕ
@@ -244,14 +257,28 @@ size_svg width height = document_begin ++ decimal width ++ height_begin ++ decim
 unfoldable pub units_svg : ℕ → ℕ → List ℕ
 units_svg width height = units_begin ++ decimal (210 * width) ++ units_between ++ decimal (210 * height)
 
--- the document's head: its size, what is exact in it, a piece of continuous paper, and the desk under the sheets
+-- the document's head: its size, a piece of continuous paper, and the desk under the sheets
 unfoldable pub head_svg : ℕ → ℕ → List ℕ
 head_svg width height = size_svg width height ++ units_svg width height ++ document_about ++ paper_piece ++ desk
 
--- the picture of an outcome: the sheets of the printers that are there, side by side, and the lines below them
-unfoldable pub svg_of : Outcome → Present → List ℕ
-svg_of outcome present =
-    head_svg (width_of present) (height_of (sheet_picas outcome) outcome)
-    ++ text_if present.four (sheet_svg 4 630 (sheet_picas outcome) outcome.paper4)
-    ++ text_if present.five (sheet_svg 5 (if present.four then 13860 else 630) (sheet_picas outcome) outcome.paper5)
+-- the marks of the papers that are drawn
+abbrev pub drawn_marks : Outcome → Present → List Mark
+drawn_marks outcome drawn =
+    (if drawn.four then marks_of outcome.paper4 else []) ++ (if drawn.five then marks_of outcome.paper5 else [])
+
+-- each of these marks, defined once
+unfoldable pub definitions_svg : List Mark → List ℕ
+definitions_svg marks = definitions_begin ++ flat_map definition_svg (each_once marks) ++ definitions_end
+
+-- the picture with the sheets of these printers, side by side, and the lines below them
+unfoldable pub picture_svg : Outcome → Present → List ℕ
+picture_svg outcome drawn =
+    head_svg (width_of drawn) (height_of (sheet_picas outcome) outcome)
+    ++ definitions_svg (drawn_marks outcome drawn)
+    ++ text_if drawn.four (sheet_svg 4 630 (sheet_picas outcome) outcome.paper4)
+    ++ text_if drawn.five (sheet_svg 5 (if drawn.four then 13860 else 630) (sheet_picas outcome) outcome.paper5)
     ++ notes_svg (sheet_picas outcome) outcome ++ codes "</svg>\n"
+
+-- the picture of an outcome
+abbrev pub svg_of : Outcome → Present → List ℕ
+svg_of outcome present = picture_svg outcome (drawn_of outcome present)

@@ -1,8 +1,10 @@
 //! The Unicode characters of a printer's codes, after Unicode's mapping of the Commodore 64's sets
 //! (Symbols for Legacy Computing).
 
-ghost use Rattle.std.specs.Prelude.{◌≡◌, ◌<◌};
-ghost use Rattle.pr_render.specs.Characters.{character, place_of, printed_as};
+ghost use Rattle.std.specs.Prelude.{◌≡◌};
+ghost use Rattle.pr_render.specs.Characters.{character};
+
+use pr_dots::place_of_code;
 
 /// The characters of codes 32 to 95 and 160 to 223 in the graphic/upper case set.
 const UPPER: [char; 128] = [
@@ -268,38 +270,11 @@ const LOWER: [char; 128] = [
     '\u{1FB98}',
 ];
 
-/// The code as which a code is printed: some codes are doubles of others (Programmer's Reference
-/// Guide, ASCII and CHR$ codes).
-fn printed_as(code: u8) -> u8
-    ensures { result ≡ printed_as code }
-{
-    match code {
-        0..=95 => code,
-        96..=127 => code + 96,
-        128..=223 => code,
-        224..=254 => code - 64,
-        255 => 222,
-    }
-}
-
-/// Where a printed code stands in the tables.
-fn place_of(printed: u8) -> u8
-    requires { printed < 224 }
-    ensures place { result ≡ place_of printed }
-    ensures within { result < 128 }
-{
-    if printed < 96 {
-        printed.saturating_sub(32)
-    } else {
-        printed - 96
-    }
-}
-
 /// The Unicode character of a cell's code in a character set.
 #[tactic(auto, unfolding(crate::specs::Characters::character, crate::specs::Characters::upper_characters, crate::specs::Characters::lower_characters))]
 pub fn character(code: u8, lower: bool) -> char
     ensures { result ≡ character lower code }
 {
-    let place = usize::from(place_of(printed_as(code)));
+    let place = place_of_code(code);
     if lower { LOWER[place] } else { UPPER[place] }
 }

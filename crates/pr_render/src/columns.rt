@@ -192,12 +192,11 @@ fn push_columns(text: &mut Vec<u8>, columns: &[Seen]) -> Result<(), AllocError>
     Ok(())
 }
 
-/// Adds a line of marks behind its margin (profile).
+/// Adds a line of marks (profile).
 #[tactic(auto, unfolding(crate::specs::Plain::line_text))]
-pub fn push_line(text: &mut Vec<u8>, margin: &[u8], marks: &[Placed]) -> Result<(), AllocError>
-    ensures { OnOk result (text.new.items ≡ text.old.items ++ line_text margin.now marks.now) }
+pub fn push_line(text: &mut Vec<u8>, marks: &[Placed]) -> Result<(), AllocError>
+    ensures { OnOk result (text.new.items ≡ text.old.items ++ line_text marks.now) }
 {
-    text.extend_from_slice(margin)?;
     let mut columns = [Seen {
         character: ' ',
         dots: 0,

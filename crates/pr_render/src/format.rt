@@ -5,7 +5,7 @@
 pub enum Format {
     /// The page text, a line for each row and each mark.
     List,
-    /// Lines of 80 columns behind a margin of one, for a terminal, mail and `diff`.
+    /// Lines of at most 80 columns, for a terminal, mail and `diff`.
     Lines,
     /// An SVG document, for a browser.
     Picture,

@@ -1,20 +1,21 @@
 //! Laws of the definitions, with nothing to run.
 
-ghost use Rattle.pr_render.specs.Laws.{CellsSideBySideAreOneStrip, ColumnsAreOnePath, MarksApartAreDrawnApart, OtherMarksStandAlone, StrokesGiveTheDotsBack};
+ghost use Rattle.pr_render.specs.Laws.{DiscsAreTheDots, LinesShowEachCell, NamesTellMarks};
 
-/// A law: how the marks of a line are drawn. Letters and blanks side by side that are printed alike,
-/// all reversed or none, all wide or none, are one strip, which is as wide as their cells; columns of
-/// dots alone are one path; any other mark is drawn by itself, between what stands before it and what
-/// stands behind it; and where a mark does not go on with the one before it, the line is cut in two.
-pub fn marks_are_drawn_in_turn()
-    ensures cells { CellsSideBySideAreOneStrip }
-    ensures columns { ColumnsAreOnePath }
-    ensures others { OtherMarksStandAlone }
-    ensures apart { MarksApartAreDrawnApart }
+/// A law: what a picture draws of a paper's rows is a disc at each dot of the paper, and no other. An element
+/// draws what is defined under its name, moved to the element's place; a mark that stands in the definitions
+/// is defined there once.
+pub fn discs_are_the_dots()
+    ensures { DiscsAreTheDots }
 {}
 
-/// A law: the seven dots of a column come back from the strokes that are drawn of it, whatever its
-/// value.
-pub fn strokes_give_the_dots_back()
-    ensures { StrokesGiveTheDotsBack }
+/// A law: different marks have different names, so the elements of a row tell its marks.
+pub fn names_tell_marks()
+    ensures { NamesTellMarks }
+{}
+
+/// A law: in the lines a cell shows its character (a reversed blank a full block) at the column of its place, if
+/// no later mark of its row reaches that column.
+pub fn lines_show_each_cell()
+    ensures { LinesShowEachCell }
 {}

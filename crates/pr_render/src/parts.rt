@@ -1,7 +1,7 @@
 //! The fixed parts of the picture.
 
 ghost use Rattle.std.specs.Prelude.{◌≡◌};
-ghost use Rattle.pr_render.specs.Parts.{box_end, box_width, characters_fitted, characters_width, desk, document_about, document_begin, group_begin, group_scale, height_begin, held_note, notes_begin, paper_piece, sheet_marks, sheet_name, sheet_paper, statuses_begin, statuses_line, stop_begin, text_end, units_begin, units_between, white_begin};
+ghost use Rattle.pr_render.specs.Parts.{definitions_begin, definitions_end, desk, document_about, document_begin, height_begin, held_begin, held_note, ink_begin, letters_fitted, letters_width, mark_begin, mark_path, notes_begin, paper_folds, paper_piece, row_begin, sheet_end, sheet_marks, sheet_name, sheet_paper, status_begin, stop_begin, text_end, units_begin, units_between, use_begin, use_end, use_place};
 
 /// The document's first tag, up to its width.
 #[tactic(auto, unfolding(crate::specs::Parts::document_begin))]
@@ -9,110 +9,6 @@ pub fn document_begin() -> &'static [u8]
     ensures { result.now ≡ document_begin }
 {
     b"<svg xmlns=\"http://www.w3.org/2000/svg\" version=\"1.1\" width=\""
-}
-
-/// The rest of that tag, and what the picture is true to.
-#[tactic(auto, unfolding(crate::specs::Parts::document_about))]
-pub fn document_about() -> &'static [u8]
-    ensures { result.now ≡ document_about }
-{
-    b"\" font-family=\"DejaVu Sans Mono,Menlo,Consolas,monospace\">\n<desc>Pages of VIC-1525 printers. Places, widths and dots are exact; the shapes of characters are those of the viewer's font.</desc>\n"
-}
-
-/// Half an inch of continuous paper: a hole in each edge, and the lines at which the edges tear off.
-#[tactic(auto, unfolding(crate::specs::Parts::paper_piece))]
-pub fn paper_piece() -> &'static [u8]
-    ensures { result.now ≡ paper_piece }
-{
-    b"<pattern id=\"paper\" width=\"12600\" height=\"630\" patternUnits=\"userSpaceOnUse\"><rect width=\"12600\" height=\"630\" fill=\"#fff\"/><g fill=\"#e9e6df\" stroke=\"#b4afa2\" stroke-width=\"10\"><circle cx=\"315\" cy=\"315\" r=\"100\"/><circle cx=\"12285\" cy=\"315\" r=\"100\"/><path stroke-dasharray=\"35\" d=\"M630 0v630M11970 0v630\"/></g></pattern>\n"
-}
-
-/// The desk under the sheets.
-#[tactic(auto, unfolding(crate::specs::Parts::desk))]
-pub fn desk() -> &'static [u8]
-    ensures { result.now ≡ desk }
-{
-    b"<rect width=\"100%\" height=\"100%\" fill=\"#e9e6df\"/>\n"
-}
-
-/// A sheet's name, up to the printer's number.
-#[tactic(auto, unfolding(crate::specs::Parts::sheet_name))]
-pub fn sheet_name() -> &'static [u8]
-    ensures { result.now ≡ sheet_name }
-{
-    b" 1050)\">\n<text font-size=\"210\" fill=\"#555\" y=\"-210\">Printer "
-}
-
-/// A sheet's paper, up to its height.
-#[tactic(auto, unfolding(crate::specs::Parts::sheet_paper))]
-pub fn sheet_paper() -> &'static [u8]
-    ensures { result.now ≡ sheet_paper }
-{
-    b"</text>\n<rect width=\"12600\" height=\""
-}
-
-/// The rest of the paper, and the group of its marks: there a unit is a dot across and 1/126 inch down.
-#[tactic(auto, unfolding(crate::specs::Parts::sheet_marks))]
-pub fn sheet_marks() -> &'static [u8]
-    ensures { result.now ≡ sheet_marks }
-{
-    b"\" fill=\"url(#paper)\" stroke=\"#b4afa2\" stroke-width=\"10\"/>\n<g transform=\"translate(1260 630) scale(21 10)\" font-size=\"9.966\" shape-rendering=\"crispEdges\">\n"
-}
-
-/// Behind the distance of the marks held: a dashed rule that says so, and a pale group.
-#[tactic(auto, unfolding(crate::specs::Parts::held_note))]
-pub fn held_note() -> &'static [u8]
-    ensures { result.now ≡ held_note }
-{
-    b") scale(1 2)\">\n<path shape-rendering=\"auto\" stroke=\"#a33\" stroke-dasharray=\"6\" d=\"M0 3h480\"/>\n<text font-size=\"6\" fill=\"#a33\" x=\"350\" y=\"10\">held by the printer, not yet printed</text>\n</g>\n<g opacity=\".4\">\n"
-}
-
-/// The text below the sheets, up to its distance.
-#[tactic(auto, unfolding(crate::specs::Parts::notes_begin))]
-pub fn notes_begin() -> &'static [u8]
-    ensures { result.now ≡ notes_begin }
-{
-    b"<text font-size=\"210\" fill=\"#555\" transform=\"translate(630 "
-}
-
-/// The line of a stop.
-#[tactic(auto, unfolding(crate::specs::Parts::stop_begin))]
-pub fn stop_begin() -> &'static [u8]
-    ensures { result.now ≡ stop_begin }
-{
-    b"<tspan x=\"0\" dy=\"210\" fill=\"#a33\">"
-}
-
-/// The line of the statuses.
-#[tactic(auto, unfolding(crate::specs::Parts::statuses_begin))]
-pub fn statuses_begin() -> &'static [u8]
-    ensures { result.now ≡ statuses_begin }
-{
-    b"<tspan x=\"0\" dy=\"210\">status"
-}
-
-/// Where a further line of statuses begins.
-#[tactic(auto, unfolding(crate::specs::Parts::statuses_line))]
-pub fn statuses_line() -> &'static [u8]
-    ensures { result.now ≡ statuses_line }
-{
-    b"</tspan>\n<tspan x=\"0\" dy=\"210\">"
-}
-
-/// A group at a distance.
-#[tactic(auto, unfolding(crate::specs::Parts::group_begin))]
-pub fn group_begin() -> &'static [u8]
-    ensures { result.now ≡ group_begin }
-{
-    b"<g transform=\"translate(0 "
-}
-
-/// Behind the distance of marks: there a unit is a dot.
-#[tactic(auto, unfolding(crate::specs::Parts::group_scale))]
-pub fn group_scale() -> &'static [u8]
-    ensures { result.now ≡ group_scale }
-{
-    b") scale(1 2)\">\n"
 }
 
 /// Between the document's width and height.
@@ -139,12 +35,196 @@ pub fn units_between() -> &'static [u8]
     b" "
 }
 
-/// Characters in white, up to the dot column of the first.
-#[tactic(auto, unfolding(crate::specs::Parts::white_begin))]
-pub fn white_begin() -> &'static [u8]
-    ensures { result.now ≡ white_begin }
+/// The rest of that tag, and what the picture shows.
+#[tactic(auto, unfolding(crate::specs::Parts::document_about))]
+pub fn document_about() -> &'static [u8]
+    ensures { result.now ≡ document_about }
 {
-    b"<text fill=\"#fff\" transform=\"translate("
+    b"\">\n<desc>Pages of VIC-1525 printers. Each dot is where a needle strikes; the shapes of characters are this project's own.</desc>\n"
+}
+
+/// Half an inch of continuous paper, with a hole in each edge and the lines at which the edges tear off; and the fold at the end of 11 inches.
+#[tactic(auto, unfolding(crate::specs::Parts::paper_piece))]
+pub fn paper_piece() -> &'static [u8]
+    ensures { result.now ≡ paper_piece }
+{
+    b"<pattern id=\"paper\" width=\"12600\" height=\"630\" patternUnits=\"userSpaceOnUse\"><rect width=\"12600\" height=\"630\" fill=\"#fff\"/><g fill=\"#e9e6df\" stroke=\"#b4afa2\" stroke-width=\"10\"><circle cx=\"315\" cy=\"315\" r=\"100\"/><circle cx=\"12285\" cy=\"315\" r=\"100\"/><path stroke-dasharray=\"35\" d=\"M630 0v630M11970 0v630\"/></g></pattern>\n<pattern id=\"folds\" y=\"7560\" width=\"12600\" height=\"13860\" patternUnits=\"userSpaceOnUse\"><path stroke=\"#b4afa2\" stroke-width=\"10\" stroke-dasharray=\"70\" d=\"M0 6930h12600\"/></pattern>\n"
+}
+
+/// The desk under the sheets.
+#[tactic(auto, unfolding(crate::specs::Parts::desk))]
+pub fn desk() -> &'static [u8]
+    ensures { result.now ≡ desk }
+{
+    b"<rect width=\"100%\" height=\"100%\" fill=\"#e9e6df\"/>\n"
+}
+
+/// The definitions of marks.
+#[tactic(auto, unfolding(crate::specs::Parts::definitions_begin))]
+pub fn definitions_begin() -> &'static [u8]
+    ensures { result.now ≡ definitions_begin }
+{
+    b"<defs>\n"
+}
+
+/// Their end.
+#[tactic(auto, unfolding(crate::specs::Parts::definitions_end))]
+pub fn definitions_end() -> &'static [u8]
+    ensures { result.now ≡ definitions_end }
+{
+    b"</defs>\n"
+}
+
+/// A sheet's name, up to the printer's number.
+#[tactic(auto, unfolding(crate::specs::Parts::sheet_name))]
+pub fn sheet_name() -> &'static [u8]
+    ensures { result.now ≡ sheet_name }
+{
+    b" 1050)\">\n<text font-size=\"210\" fill=\"#555\" y=\"-210\">Printer "
+}
+
+/// A sheet's paper, up to its height.
+#[tactic(auto, unfolding(crate::specs::Parts::sheet_paper))]
+pub fn sheet_paper() -> &'static [u8]
+    ensures { result.now ≡ sheet_paper }
+{
+    b"</text>\n<rect width=\"12600\" height=\""
+}
+
+/// The rest of the paper, and its folds below the first line, up to their height.
+#[tactic(auto, unfolding(crate::specs::Parts::paper_folds))]
+pub fn paper_folds() -> &'static [u8]
+    ensures { result.now ≡ paper_folds }
+{
+    b"\" fill=\"url(#paper)\" stroke=\"#b4afa2\" stroke-width=\"10\"/>\n<rect y=\"1260\" width=\"12600\" height=\""
+}
+
+/// The rest of the folds, and the group of the sheet's marks.
+#[tactic(auto, unfolding(crate::specs::Parts::sheet_marks))]
+pub fn sheet_marks() -> &'static [u8]
+    ensures { result.now ≡ sheet_marks }
+{
+    b"\" fill=\"url(#folds)\"/>\n<g transform=\"translate(1260 630)\">\n"
+}
+
+/// The marks of a sheet: strokes a little wider than a dot column, and letters that are not seen.
+#[tactic(auto, unfolding(crate::specs::Parts::ink_begin))]
+pub fn ink_begin() -> &'static [u8]
+    ensures { result.now ≡ ink_begin }
+{
+    b"<g stroke-width=\"22\" stroke-linecap=\"round\" fill-opacity=\"0\" font-size=\"140\">\n"
+}
+
+/// A group at a distance.
+#[tactic(auto, unfolding(crate::specs::Parts::row_begin))]
+pub fn row_begin() -> &'static [u8]
+    ensures { result.now ≡ row_begin }
+{
+    b"<g transform=\"translate(0 "
+}
+
+/// A pale group at a distance.
+#[tactic(auto, unfolding(crate::specs::Parts::held_begin))]
+pub fn held_begin() -> &'static [u8]
+    ensures { result.now ≡ held_begin }
+{
+    b"<g opacity=\".4\" transform=\"translate(0 "
+}
+
+/// The use of a mark, up to its name.
+#[tactic(auto, unfolding(crate::specs::Parts::use_begin))]
+pub fn use_begin() -> &'static [u8]
+    ensures { result.now ≡ use_begin }
+{
+    b"<use href=\"#"
+}
+
+/// Between its name and its place.
+#[tactic(auto, unfolding(crate::specs::Parts::use_place))]
+pub fn use_place() -> &'static [u8]
+    ensures { result.now ≡ use_place }
+{
+    b"\" x=\""
+}
+
+/// The end of a use or of a definition.
+#[tactic(auto, unfolding(crate::specs::Parts::use_end))]
+pub fn use_end() -> &'static [u8]
+    ensures { result.now ≡ use_end }
+{
+    b"\"/>\n"
+}
+
+/// Between a definition's name and its path.
+#[tactic(auto, unfolding(crate::specs::Parts::mark_path))]
+pub fn mark_path() -> &'static [u8]
+    ensures { result.now ≡ mark_path }
+{
+    b"\" d=\""
+}
+
+/// A mark's definition, up to its name.
+#[tactic(auto, unfolding(crate::specs::Parts::mark_begin))]
+pub fn mark_begin() -> &'static [u8]
+    ensures { result.now ≡ mark_begin }
+{
+    b"<path stroke=\"#222\" id=\""
+}
+
+/// Between the place of a strip and its width: its base line is seven dots down.
+#[tactic(auto, unfolding(crate::specs::Parts::letters_width))]
+pub fn letters_width() -> &'static [u8]
+    ensures { result.now ≡ letters_width }
+{
+    b"\" y=\"140\" textLength=\""
+}
+
+/// Behind the width of a strip, to which the characters of any font are drawn out, and blanks stay.
+#[tactic(auto, unfolding(crate::specs::Parts::letters_fitted))]
+pub fn letters_fitted() -> &'static [u8]
+    ensures { result.now ≡ letters_fitted }
+{
+    b"\" lengthAdjust=\"spacingAndGlyphs\" xml:space=\"preserve\">"
+}
+
+/// Behind the distance of the marks held: a dashed rule, and a line that says what they are.
+#[tactic(auto, unfolding(crate::specs::Parts::held_note))]
+pub fn held_note() -> &'static [u8]
+    ensures { result.now ≡ held_note }
+{
+    b")\">\n<path stroke=\"#a33\" stroke-width=\"20\" stroke-dasharray=\"126\" d=\"M0 60h10080\"/>\n<text font-size=\"120\" fill=\"#a33\" x=\"7350\" y=\"200\">held by the printer, not yet printed</text>\n</g>\n"
+}
+
+/// The end of a sheet.
+#[tactic(auto, unfolding(crate::specs::Parts::sheet_end))]
+pub fn sheet_end() -> &'static [u8]
+    ensures { result.now ≡ sheet_end }
+{
+    b"</g>\n</g>\n"
+}
+
+/// The text below the sheets, up to its distance.
+#[tactic(auto, unfolding(crate::specs::Parts::notes_begin))]
+pub fn notes_begin() -> &'static [u8]
+    ensures { result.now ≡ notes_begin }
+{
+    b"<text font-size=\"210\" fill=\"#555\" transform=\"translate(630 "
+}
+
+/// The line of a stop.
+#[tactic(auto, unfolding(crate::specs::Parts::stop_begin))]
+pub fn stop_begin() -> &'static [u8]
+    ensures { result.now ≡ stop_begin }
+{
+    b"<tspan x=\"0\" dy=\"210\" fill=\"#a33\">"
+}
+
+/// The line of the statuses.
+#[tactic(auto, unfolding(crate::specs::Parts::status_begin))]
+pub fn status_begin() -> &'static [u8]
+    ensures { result.now ≡ status_begin }
+{
+    b"<tspan x=\"0\" dy=\"210\">Status "
 }
 
 /// The end of a text.
@@ -153,36 +233,4 @@ pub fn text_end() -> &'static [u8]
     ensures { result.now ≡ text_end }
 {
     b"</text>\n"
-}
-
-/// Between a place and the width of characters.
-#[tactic(auto, unfolding(crate::specs::Parts::characters_width))]
-pub fn characters_width() -> &'static [u8]
-    ensures { result.now ≡ characters_width }
-{
-    b"\" xml:space=\"preserve\" textLength=\""
-}
-
-/// Behind the width.
-#[tactic(auto, unfolding(crate::specs::Parts::characters_fitted))]
-pub fn characters_fitted() -> &'static [u8]
-    ensures { result.now ≡ characters_fitted }
-{
-    b"\" lengthAdjust=\"spacingAndGlyphs\">"
-}
-
-/// Between a box's place and its width.
-#[tactic(auto, unfolding(crate::specs::Parts::box_width))]
-pub fn box_width() -> &'static [u8]
-    ensures { result.now ≡ box_width }
-{
-    b"\" y=\"-7\" width=\""
-}
-
-/// The end of a box.
-#[tactic(auto, unfolding(crate::specs::Parts::box_end))]
-pub fn box_end() -> &'static [u8]
-    ensures { result.now ≡ box_end }
-{
-    b"\" height=\"7\"/>\n"
 }

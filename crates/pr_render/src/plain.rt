@@ -3,7 +3,7 @@
 
 ghost use Rattle.std.specs.Prelude.{◌≡◌, ◌++◌, OnOk, IfOk};
 ghost use Rattle.pr_render.specs.Words.{text_if};
-ghost use Rattle.pr_render.specs.Plain.{empty_lines, held_line, rows_text, sentence, sheet_text, stop_sentence, text_of};
+ghost use Rattle.pr_render.specs.Plain.{empty_lines, held_heading, held_text, rows_text, sentence, sheet_text, stop_sentence, text_of};
 
 use crate::adding::{push_numbers, push_small, stop_name};
 use crate::columns::push_line;
@@ -18,7 +18,7 @@ fn push_empty_lines(text: &mut Vec<u8>, count: u128) -> Result<(), AllocError>
     ensures { OnOk result (text.new.items ≡ text.old.items ++ empty_lines count) }
 {
     for _line in 0..count {
-        text.extend_from_slice(b"|\n")?;
+        text.push(b'\n')?;
     }
     Ok(())
 }
@@ -31,20 +31,29 @@ fn push_rows(text: &mut Vec<u8>, rows: &[Row]) -> Result<(), AllocError>
     for row in rows {
         let y = u128::from(row.y);
         push_empty_lines(text, y.saturating_sub(empty) / 21)?;
-        push_line(text, b"|", row.marks.as_slice())?;
+        push_line(text, row.marks.as_slice())?;
         empty = y + 21;
     }
     Ok(())
 }
 
-/// Adds the line of the marks held, if there are any.
+/// The line above the marks held.
+#[tactic(auto, unfolding(crate::specs::Plain::held_heading))]
+fn held_heading() -> &'static [u8]
+    ensures { result.now ≡ held_heading }
+{
+    b"Held, not yet printed:\n"
+}
+
+/// Adds the line of the marks held, below one that says so, if there are any.
 fn push_held(text: &mut Vec<u8>, held: &[Placed]) -> Result<(), AllocError>
-    ensures { OnOk result (text.new.items ≡ text.old.items ++ held_line held.now) }
+    ensures { OnOk result (text.new.items ≡ text.old.items ++ held_text held.now) }
 {
     if held.is_empty() {
         return Ok(());
     }
-    push_line(text, b":", held)
+    text.extend_from_slice(held_heading())?;
+    push_line(text, held)
 }
 
 /// Adds a printer's sheet.
@@ -101,8 +110,8 @@ fn push_stop(text: &mut Vec<u8>, stop: Option<(usize, Stop)>) -> Result<(), Allo
     text.extend_from_slice(b".\n")
 }
 
-/// The pages of the printers that are there as UTF-8 lines of 80 columns behind a margin of one, a row
-/// a line and empty paper in lines, and then the statuses, the screen's bytes and the stop as sentences.
+/// The pages of the printers that are there as UTF-8 lines of at most 80 columns, a row a line
+/// and empty paper in lines, the marks held below a line that says so, and then the statuses, the screen's bytes and the stop as sentences.
 ///
 /// # Errors
 ///

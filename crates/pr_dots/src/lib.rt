@@ -1,0 +1,14 @@
+//! The dots that the needles strike.
+//!
+//! - `shapes` has the dots of each character, in tables that `tools/shapes` makes; `codes` says which place of a table a code has.
+//! - `mark_columns` gives the columns of a mark, and `dots` says which dots a paper has.
+#![tactic(auto)]
+
+mod codes;
+mod dots;
+mod mark_columns;
+mod shapes;
+
+pub use codes::place_of_code;
+pub use dots::has_dot;
+pub use mark_columns::{COLUMNS, columns};

@@ -1,0 +1,176 @@
+//! A printer's sheet of a picture, in units of 1/1260 inch: its paper, and the marks on it.
+
+ghost use Rattle.std.specs.Prelude.{◌≡◌, ◌+◌, ◌≤◌, ◌++◌, flat_map, OnOk};
+ghost use Rattle.pr_render.specs.Words.{text_if};
+ghost use Rattle.pr_render.specs.Svg.{held_line, held_svg, ink_svg, line_svg, name_line, paper_end, paper_svg, row_svg, rows_end, sheet_svg};
+
+use crate::adding::{push_number, push_small};
+use crate::letters::push_letters;
+use crate::parts::{
+    held_begin, held_note, ink_begin, paper_folds, row_begin, sheet_end, sheet_marks, sheet_name,
+    sheet_paper,
+};
+use crate::uses::push_uses;
+use pr_page::{Paper, Placed, Row};
+use std::alloc::{AllocError, Global};
+
+/// Where rows end.
+fn rows_end(rows: &[Row]) -> u128
+    ensures end { result ≡ rows_end 0 rows.now }
+    ensures within { result ≤ 18446744073709551636 }
+{
+    let mut end = 0;
+    for row in rows {
+        end = u128::from(row.y) + 21;
+    }
+    end
+}
+
+/// Where a paper's marks end.
+pub fn paper_end(paper: &Paper) -> u128
+    ensures end { result ≡ paper_end paper.now }
+    ensures within { result ≤ 18446744073709551678 }
+{
+    let rows = rows_end(paper.rows.as_slice());
+    if paper.held.is_empty() {
+        rows
+    } else {
+        rows + 42
+    }
+}
+
+/// Adds the marks of a line, and the letters over them.
+#[tactic(auto, unfolding(crate::specs::Svg::line_svg))]
+fn push_line(text: &mut Vec<u8>, alloc: Global, marks: &[Placed]) -> Result<(), AllocError>
+    ensures { OnOk result (text.new.items ≡ text.old.items ++ line_svg marks.now) }
+{
+    push_uses(text, marks)?;
+    push_letters(text, alloc, marks)
+}
+
+/// Adds a printed line.
+#[tactic(auto, unfolding(crate::specs::Svg::row_svg))]
+fn push_row(text: &mut Vec<u8>, alloc: Global, row: &Row) -> Result<(), AllocError>
+    ensures { OnOk result (text.new.items ≡ text.old.items ++ row_svg row.now) }
+{
+    text.extend_from_slice(row_begin())?;
+    push_number(text, 10 * u128::from(row.y))?;
+    text.extend_from_slice(b")\">\n")?;
+    push_line(text, alloc, row.marks.as_slice())?;
+    text.extend_from_slice(b"</g>\n")
+}
+
+/// Adds rows.
+fn push_rows(text: &mut Vec<u8>, alloc: Global, rows: &[Row]) -> Result<(), AllocError>
+    ensures { OnOk result (text.new.items ≡ text.old.items ++ flat_map row_svg rows.now) }
+{
+    for row in rows {
+        push_row(text, alloc, row)?;
+    }
+    Ok(())
+}
+
+/// Adds the marks held at a distance, if there are any.
+#[tactic(auto, unfolding(crate::specs::Svg::held_svg))]
+fn push_held(text: &mut Vec<u8>, alloc: Global, y: u128, held: &[Placed]) -> Result<(), AllocError>
+    requires { y ≤ 18446744073709551657 }
+    ensures { OnOk result (text.new.items ≡ text.old.items ++ held_svg y held.now) }
+{
+    if held.is_empty() {
+        return Ok(());
+    }
+    text.extend_from_slice(held_begin())?;
+    push_number(text, 10 * y)?;
+    text.extend_from_slice(b")\">\n")?;
+    push_line(text, alloc, held)?;
+    text.extend_from_slice(b"</g>\n")
+}
+
+/// Adds the marks of a paper.
+#[tactic(auto, unfolding(crate::specs::Svg::ink_svg))]
+fn push_ink(text: &mut Vec<u8>, alloc: Global, paper: &Paper) -> Result<(), AllocError>
+    ensures { OnOk result (text.new.items ≡ text.old.items ++ ink_svg paper.now) }
+{
+    let rows = paper.rows.as_slice();
+    text.extend_from_slice(ink_begin())?;
+    push_rows(text, alloc, rows)?;
+    push_held(text, alloc, rows_end(rows) + 21, paper.held.as_slice())?;
+    text.extend_from_slice(b"</g>\n")
+}
+
+/// Adds the line above the marks held, if there are any.
+#[tactic(auto, unfolding(crate::specs::Svg::held_line))]
+fn push_held_line(text: &mut Vec<u8>, y: u128, held: &[Placed]) -> Result<(), AllocError>
+    requires { y ≤ 18446744073709551657 }
+    ensures { OnOk result (text.new.items ≡ text.old.items ++ held_line y held.now) }
+{
+    if held.is_empty() {
+        return Ok(());
+    }
+    text.extend_from_slice(row_begin())?;
+    push_number(text, 10 * y)?;
+    text.extend_from_slice(held_note())
+}
+
+/// Adds a sheet's place and the printer's name.
+#[tactic(auto, unfolding(crate::specs::Svg::name_line))]
+fn push_name_line(text: &mut Vec<u8>, device: u64, x: u64) -> Result<(), AllocError>
+    ensures { OnOk result (text.new.items ≡ text.old.items ++ name_line device x) }
+{
+    text.extend_from_slice(b"<g transform=\"translate(")?;
+    push_small(text, x)?;
+    text.extend_from_slice(sheet_name())?;
+    push_small(text, device)
+}
+
+/// Adds a sheet's paper.
+#[tactic(auto, unfolding(crate::specs::Svg::paper_svg))]
+fn push_paper(text: &mut Vec<u8>, picas: u128) -> Result<(), AllocError>
+    requires { picas ≤ 18446744073709551678 }
+    ensures { OnOk result (text.new.items ≡ text.old.items ++ paper_svg picas) }
+{
+    text.extend_from_slice(sheet_paper())?;
+    push_number(text, 210 * picas)?;
+    text.extend_from_slice(paper_folds())?;
+    push_number(text, 210 * picas.saturating_sub(6))?;
+    text.extend_from_slice(sheet_marks())
+}
+
+/// Adds a printer's sheet.
+#[tactic(auto, unfolding(crate::specs::Svg::sheet_svg))]
+fn push_sheet(
+    text: &mut Vec<u8>,
+    alloc: Global,
+    device: u64,
+    x: u64,
+    picas: u128,
+    paper: &Paper,
+) -> Result<(), AllocError>
+    requires { picas ≤ 18446744073709551678 }
+    ensures { OnOk result (text.new.items ≡ text.old.items ++ sheet_svg device x picas paper.now) }
+{
+    push_name_line(text, device, x)?;
+    push_paper(text, picas)?;
+    push_ink(text, alloc, paper)?;
+    push_held_line(text, rows_end(paper.rows.as_slice()), paper.held.as_slice())?;
+    text.extend_from_slice(sheet_end())
+}
+
+/// Adds a printer's sheet if it is drawn.
+pub fn push_sheet_if(
+    text: &mut Vec<u8>,
+    alloc: Global,
+    drawn: bool,
+    device: u64,
+    x: u64,
+    picas: u128,
+    paper: &Paper,
+) -> Result<(), AllocError>
+    requires { picas ≤ 18446744073709551678 }
+    ensures { OnOk result (text.new.items ≡ text.old.items ++ text_if drawn (sheet_svg device x picas paper.now)) }
+{
+    if drawn {
+        push_sheet(text, alloc, device, x, picas, paper)?;
+    }
+    Ok(())
+}

@@ -1,0 +1,150 @@
+//! Marks by their names: where each is defined, and where it is used.
+
+ghost use Rattle.std.specs.Prelude.{◌≡◌, ◌*◌, ◌<◌, ◌≤◌, ◌++◌, flat_map, length, map, OnOk};
+ghost use Rattle.pr_dots.specs.Dots.{bit_dots, column_dots, columns_dots};
+ghost use Rattle.pr_render.specs.Svg.{definition_svg, disc_of, disc_svg, name_svg, number_of, use_svg};
+
+use crate::adding::{push_if, push_small};
+use crate::parts::{mark_begin, mark_path, use_begin, use_end, use_place};
+use pr_dots::columns;
+use pr_page::{Mark, Placed};
+use std::alloc::AllocError;
+
+/// Adds a mark's name.
+#[tactic(auto, unfolding(crate::specs::Svg::name_svg))]
+fn push_name(text: &mut Vec<u8>, mark: Mark) -> Result<(), AllocError>
+    ensures { OnOk result (text.new.items ≡ text.old.items ++ name_svg mark) }
+{
+    match mark {
+        Mark::Cell {
+            code,
+            lower,
+            reverse,
+            wide,
+        } => {
+            text.push(if lower { b'l' } else { b'u' })?;
+            push_if(text, reverse, b"r")?;
+            push_if(text, wide, b"w")?;
+            push_small(text, u64::from(code))
+        }
+        Mark::Dots(value) => {
+            text.push(b'd')?;
+            push_small(text, u64::from(value))
+        }
+    }
+}
+
+/// Adds the disc of a dot.
+#[tactic(auto, unfolding(crate::specs::Svg::disc_svg))]
+fn push_disc(text: &mut Vec<u8>, x: u64, y: u64) -> Result<(), AllocError>
+    requires across { x < 100 }
+    requires down { y < 100 }
+    ensures { OnOk result (text.new.items ≡ text.old.items ++ disc_svg (disc_of (record { x = x; y = y }))) }
+{
+    text.push(b'M')?;
+    push_small(text, 21 * x + 10)?;
+    text.push(b' ')?;
+    push_small(text, 10 * y + 10)?;
+    text.extend_from_slice(b"h0")
+}
+
+/// Adds the disc of a column's bit, if it has one.
+fn push_bit(text: &mut Vec<u8>, x: u64, value: u8, bit: u8) -> Result<(), AllocError>
+    requires across { x < 100 }
+    requires bit { bit < 7 }
+    ensures { OnOk result (text.new.items ≡ text.old.items ++ flat_map disc_svg (map disc_of (bit_dots x 0 value bit))) }
+{
+    if (value >> bit) % 2 == 1 {
+        push_disc(text, x, 2 * u64::from(bit))?;
+    }
+    Ok(())
+}
+
+/// Adds the discs of a column.
+fn push_column(text: &mut Vec<u8>, x: u64, value: u8) -> Result<(), AllocError>
+    requires { x < 100 }
+    ensures { OnOk result (text.new.items ≡ text.old.items ++ flat_map disc_svg (map disc_of (column_dots x 0 value))) }
+{
+    push_bit(text, x, value, 0)?;
+    push_bit(text, x, value, 1)?;
+    push_bit(text, x, value, 2)?;
+    push_bit(text, x, value, 3)?;
+    push_bit(text, x, value, 4)?;
+    push_bit(text, x, value, 5)?;
+    push_bit(text, x, value, 6)
+}
+
+/// Adds the discs of columns side by side.
+fn push_columns(text: &mut Vec<u8>, columns: &[u8]) -> Result<(), AllocError>
+    requires { length columns.now ≤ 12 }
+    ensures { OnOk result (text.new.items ≡ text.old.items ++ flat_map disc_svg (map disc_of (columns_dots 0 0 columns.now))) }
+{
+    let mut x = 0;
+    for value in columns {
+        push_column(text, x, *value)?;
+        x += 1;
+    }
+    Ok(())
+}
+
+/// Adds a mark's definition.
+#[tactic(auto, unfolding(crate::specs::Svg::definition_svg))]
+pub fn push_definition(text: &mut Vec<u8>, mark: Mark) -> Result<(), AllocError>
+    ensures { OnOk result (text.new.items ≡ text.old.items ++ definition_svg mark) }
+{
+    text.extend_from_slice(mark_begin())?;
+    push_name(text, mark)?;
+    text.extend_from_slice(mark_path())?;
+    push_columns(text, columns(mark).as_slice())?;
+    text.extend_from_slice(use_end())
+}
+
+/// A number for each mark: no two have the same.
+pub fn number_of(mark: Mark) -> usize
+    ensures number { result ≡ number_of mark }
+    ensures within { result < 2304 }
+{
+    match mark {
+        Mark::Cell {
+            code,
+            lower,
+            reverse,
+            wide,
+        } => {
+            9 * usize::from(code)
+                + usize::from(lower)
+                + if reverse { 2 } else { 0 }
+                + if wide { 4 } else { 0 }
+        }
+        Mark::Dots(value) => 9 * usize::from(value) + 8,
+    }
+}
+
+/// How far a dot column is from the first one, in units.
+fn across(x: u16) -> u64
+    ensures { result ≡ 21 * x }
+{
+    21 * u64::from(x)
+}
+
+/// Adds a mark at a dot column.
+#[tactic(auto, unfolding(crate::specs::Svg::use_svg))]
+fn push_use(text: &mut Vec<u8>, x: u16, mark: Mark) -> Result<(), AllocError>
+    ensures { OnOk result (text.new.items ≡ text.old.items ++ use_svg (record { x = x; mark = mark })) }
+{
+    text.extend_from_slice(use_begin())?;
+    push_name(text, mark)?;
+    text.extend_from_slice(use_place())?;
+    push_small(text, across(x))?;
+    text.extend_from_slice(use_end())
+}
+
+/// Adds the marks of a line.
+pub fn push_uses(text: &mut Vec<u8>, marks: &[Placed]) -> Result<(), AllocError>
+    ensures { OnOk result (text.new.items ≡ text.old.items ++ flat_map use_svg marks.now) }
+{
+    for placed in marks {
+        push_use(text, placed.x, placed.mark)?;
+    }
+    Ok(())
+}
