@@ -38,7 +38,8 @@ CopiesMore more old new = (edges : List Edge) → HasCopied edges old → HasCop
 -- a reading more is printed, if there is one
 abbrev pub PrintsReading : Option Reading → (old new : BusPrinters) → Type 0
 PrintsReading r old new =
-    (readings : List Reading) → reprint.HasReprinted readings old → reprint.HasReprinted (readings ++ option_to_list r) new
+    (readings : List Reading) → reprint.HasReprinted readings old
+    → reprint.HasReprinted (readings ++ option_to_list r) new
 
 -- how many edges were taken, and how many inputs a printer has taken at most
 abbrev pub edges_copied : CapturePrinter → ℕ

@@ -43,12 +43,14 @@ stop_at (Some n) own = Some (Wave (wave.Order n))
 -- of a whole recording the lines of its readings, their summary, and whether it is lawful; of another one the lines of what its edges
 -- settle, up to there
 abbrev pub told_of : (stop : Option CliFault) → List Edge → List ℕ
-told_of None edges = all_lines Nothing (readings_of edges) ++ (summary (readings_of edges) ++ verdict_text (fault_of edges))
+told_of None edges =
+    all_lines Nothing (readings_of edges) ++ (summary (readings_of edges) ++ verdict_text (fault_of edges))
 told_of (Some fault) edges = all_lines Nothing (settled_of (in_front (back_in edges) edges))
 
 -- what is left in the writer with each answer, by how long the input may be and is, why it stops, and what is to be told of it
 abbrev pub Leaves :
-    (limit len : ℕ) → (stop : Option CliFault) → (told : List ℕ) → Option (List ℕ) → Option (List ℕ) → Result (Unit {0}) CliFault
+    (limit len : ℕ) → (stop : Option CliFault) → (told : List ℕ) → Option (List ℕ) → Option (List ℕ)
+    → Result (Unit {0}) CliFault
     → Type 0
 Leaves limit len stop told old new (Ok _) = (len ≤ limit) × (stop ≡ None) × Appends old new told
 Leaves limit len stop told old new (Err (Script fault)) = ⊥
@@ -66,7 +68,8 @@ pub record AnswersDecode (limit : ℕ) (input : TraceInput) (text : List ℕ) (o
   pub edges : List Edge
   pub own : Option CliFault
   pub says : Says input text edges own
-  pub leaves : Leaves limit (length text) (stop_at (back_in edges) own) (told_of (stop_at (back_in edges) own) edges) old new result
+  pub leaves : Leaves limit (length text) (stop_at (back_in edges) own)
+      (told_of (stop_at (back_in edges) own) edges) old new result
 
 -- the input has been read to its end where it is told whole
 abbrev pub ReadsAll : Option (List ℕ) → Result (Unit {0}) CliFault → Type 0

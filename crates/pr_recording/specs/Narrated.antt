@@ -76,7 +76,8 @@ load n = n.taken + (n.follower.taken + readings_told n.log)
 
 -- with more edges
 abbrev pub NarratesMore : List Edge → (old new : DecodeReport) → Type 0
-NarratesMore more old new = (edges : List Edge) (written : List ℕ) → HasNarrated edges written old → HasNarrated (edges ++ more) written new
+NarratesMore more old new =
+    (edges : List Edge) (written : List ℕ) → HasNarrated edges written old → HasNarrated (edges ++ more) written new
 
 -- the end of edges whose input has this fault, if it has one: why they stop, and the lines that were not given up before
 pub record EndsEdges (edges : List Edge) (written : List ℕ) (own : Option CliFault) (t : Ended) : Type 0 where
@@ -89,11 +90,15 @@ lines_in n = n.log.lines.items
 
 -- the lines so far are given up
 abbrev pub GivesUp : (old new : DecodeReport) → Type 0
-GivesUp old new = (edges : List Edge) (written : List ℕ) → HasNarrated edges written old → HasNarrated edges (written ++ lines_in old) new
+GivesUp old new =
+    (edges : List Edge) (written : List ℕ) → HasNarrated edges written old
+    → HasNarrated edges (written ++ lines_in old) new
 
 -- the end of an input of which the edges before the last block were told
 abbrev pub EndsNarrated : InputReader → DecodeReport → Ended → Type 0
-EndsNarrated r n e = (written : List ℕ) → EndsReading r (λ edges. HasNarrated edges written n) (λ edges own. EndsEdges edges written own e)
+EndsNarrated r n e =
+    (written : List ℕ)
+    → EndsReading r (λ edges. HasNarrated edges written n) (λ edges own. EndsEdges edges written own e)
 
 -- why no more is told of an input: time goes back, or it has a fault of its own
 abbrev pub IsStop : CliFault → Type 0

@@ -40,23 +40,27 @@ abbrev pub WritesPages : Format → List Reading → Option (List ℕ) → Optio
 WritesPages format readings old new = (text : List ℕ) × IsPagesOf format readings text × Appends old new text
 
 abbrev pub WritesFrontOfPages : Format → List Reading → Option (List ℕ) → Option (List ℕ) → Type 0
-WritesFrontOfPages format readings old new = (text : List ℕ) × IsPagesOf format readings text × AppendsFront old new text
+WritesFrontOfPages format readings old new =
+    (text : List ℕ) × IsPagesOf format readings text × AppendsFront old new text
 
 -- what is left in the writer with each answer, by how long the input is, why it stops, and what is printed
 abbrev pub LeavesPages :
-    (len : ℕ) → (stop : Option CliFault) → Format → List Reading → Option (List ℕ) → Option (List ℕ) → Result (Unit {0}) CliFault → Type 0
+    (len : ℕ) → (stop : Option CliFault) → Format → List Reading → Option (List ℕ) → Option (List ℕ)
+    → Result (Unit {0}) CliFault → Type 0
 LeavesPages len stop format rs old new (Ok _) = (len ≤ print_limit) × (stop ≡ None) × WritesPages format rs old new
 LeavesPages len stop format rs old new (Err (Script fault)) = ⊥
 LeavesPages len stop format rs old new (Err (Trace fault)) = (stop ≡ Some (Trace fault)) × WritesPages format rs old new
 LeavesPages len stop format rs old new (Err (Wave fault)) = (stop ≡ Some (Wave fault)) × WritesPages format rs old new
-LeavesPages len stop format rs old new (Err (Capture fault)) = (stop ≡ Some (Capture fault)) × WritesPages format rs old new
+LeavesPages len stop format rs old new (Err (Capture fault)) =
+    (stop ≡ Some (Capture fault)) × WritesPages format rs old new
 LeavesPages len stop format rs old new (Err TooLarge) = (print_limit < len) × Keeps old new
 LeavesPages len stop format rs old new (Err NoMemory) = Keeps old new
 LeavesPages len stop format rs old new (Err ReadFailed) = Keeps old new
 LeavesPages len stop format rs old new (Err WriteFailed) = WritesFrontOfPages format rs old new
 
 -- the answer, by the text read and what the writer held before and after
-pub record AnswersPages (input : TraceInput) (format : Format) (text : List ℕ) (old new : Option (List ℕ)) (result : Result (Unit {0}) CliFault) : Type 0 where
+pub record AnswersPages (input : TraceInput) (format : Format) (text : List ℕ) (old new : Option (List ℕ))
+    (result : Result (Unit {0}) CliFault) : Type 0 where
   pub edges : List Edge
   pub own : Option CliFault
   pub says : Says input text edges own

@@ -48,9 +48,11 @@ impl BusPrinter {
     ///
     /// [`NoMemory`] where a growth of the paper was refused. The frame is then heard and not printed.
     pub fn hear(&mut self, frame: Frame) -> Result<(), NoMemory>
+        // the caller's part
         requires listened { HasListened self.old.listener.device self.old }
         requires device { self.old.listener.device ≤ 30 }
         requires room { number_printed self.old < 2 ^ 32 }
+        // what it gives
         ensures ok { OnOk result ((frames : List Frame) → HasPrinted self.old.listener.device frames self.old →
             HasPrinted self.old.listener.device (frames ++ frame ∷ []) self.new) }
         ensures listened { HasListened self.old.listener.device self.new }

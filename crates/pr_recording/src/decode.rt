@@ -47,15 +47,18 @@ pub fn decode_over<R: Read, W: Write>(
     output: &mut Watched<W>,
     trace: TraceInput<'_>,
 ) -> Result<(), CliFault>
+    // the caller's part
     requires input { has_failed input.old ≡ false }
     requires output { has_failed output.old ≡ false }
+    // what it gives
     ensures decode { IfSome (R.remaining (wrapped input.old)) (λ text.
         AnswersDecode trace_limit trace.entry text (W.contents (wrapped output.old)) (W.contents (wrapped output.new)) result) }
     ensures at_end { ReadsAll (R.remaining (wrapped input.new)) result }
+    ensures flushed { OnOk result (is_flushed output.new ≡ true) }
+    // when it refuses, and what that leaves
     ensures own { IfErr result IsDecodeFault }
     ensures read_failed { IsErrOf result CliFault.ReadFailed ↔ (has_failed input.new ≡ true) }
     ensures write_failed { IsErrOf result CliFault.WriteFailed ↔ (has_failed output.new ≡ true) }
-    ensures flushed { OnOk result (is_flushed output.new ≡ true) }
 {
     decode_input(alloc, input, output, trace, CHECK_LIMIT)
 }
@@ -72,16 +75,19 @@ pub fn decode_input<R: Read, W: Write>(
     trace: TraceInput<'_>,
     limit: usize,
 ) -> Result<(), CliFault>
+    // the caller's part
     requires input { has_failed input.old ≡ false }
     requires output { has_failed output.old ≡ false }
     requires few { limit ≤ trace_limit }
+    // what it gives
     ensures decode { IfSome (R.remaining (wrapped input.old)) (λ text.
         AnswersDecode limit trace.entry text (W.contents (wrapped output.old)) (W.contents (wrapped output.new)) result) }
     ensures at_end { ReadsAll (R.remaining (wrapped input.new)) result }
+    ensures flushed { OnOk result (is_flushed output.new ≡ true) }
+    // when it refuses, and what that leaves
     ensures own { IfErr result IsDecodeFault }
     ensures read_failed { IsErrOf result CliFault.ReadFailed ↔ (has_failed input.new ≡ true) }
     ensures write_failed { IsErrOf result CliFault.WriteFailed ↔ (has_failed output.new ≡ true) }
-    ensures flushed { OnOk result (is_flushed output.new ≡ true) }
 {
     readings_add_up();
     read_edges_come_first();
@@ -109,15 +115,15 @@ fn end_input(reader: InputReader<'_>, mut report: DecodeReport) -> Result<Ended,
 }
 
 /// Writes the lines that are not written yet.
-fn write_lines<W: Write>(
-    output: &mut Watched<W>,
-    report: &mut DecodeReport,
-) -> Result<(), CliFault>
+fn write_lines<W: Write>(output: &mut Watched<W>, report: &mut DecodeReport) -> Result<(), CliFault>
+    // the caller's part
     requires fresh { has_failed output.old ≡ false }
+    // what it gives
     ensures ok { OnOk result (Appends (W.contents (wrapped output.old)) (W.contents (wrapped output.new)) (lines_in report.old)) }
-    ensures err { OnErr result (AppendsFront (W.contents (wrapped output.old)) (W.contents (wrapped output.new)) (lines_in report.old)) }
     ensures given { OnOk result (GivesUp report.old report.new) }
     ensures count { OnOk result (load report.new ≡ load report.old) }
+    // when it refuses, and what that leaves
+    ensures err { OnErr result (AppendsFront (W.contents (wrapped output.old)) (W.contents (wrapped output.new)) (lines_in report.old)) }
     ensures own { IfErr result (λ fault. fault ≡ CliFault.WriteFailed) }
     ensures failed { IsErr result ↔ (has_failed output.new ≡ true) }
 {

@@ -53,15 +53,18 @@ pub fn reprint_over<R: Read, W: Write>(
     trace: TraceInput<'_>,
     format: Format,
 ) -> Result<(), CliFault>
+    // the caller's part
     requires input { has_failed input.old ≡ false }
     requires output { has_failed output.old ≡ false }
+    // what it gives
     ensures pages { IfSome (R.remaining (wrapped input.old)) (λ text.
         AnswersPages trace.entry format text (W.contents (wrapped output.old)) (W.contents (wrapped output.new)) result) }
     ensures at_end { ReadsAll (R.remaining (wrapped input.new)) result }
+    ensures flushed { OnOk result (is_flushed output.new ≡ true) }
+    // when it refuses, and what that leaves
     ensures own { IfErr result IsDecodeFault }
     ensures read_failed { IsErrOf result CliFault.ReadFailed ↔ (has_failed input.new ≡ true) }
     ensures write_failed { IsErrOf result CliFault.WriteFailed ↔ (has_failed output.new ≡ true) }
-    ensures flushed { OnOk result (is_flushed output.new ≡ true) }
 {
     read_edges_come_first();
     let printed = print_input(alloc, input, trace, PRINT_LIMIT)?;
@@ -80,11 +83,14 @@ pub fn print_input<R: Read>(
     trace: TraceInput<'_>,
     limit: usize,
 ) -> Result<Printed, CliFault>
+    // the caller's part
     requires fresh { has_failed input.old ≡ false }
     requires few { limit ≤ print_limit }
+    // what it gives
     ensures print { IfSome (R.remaining (wrapped input.old)) (λ text. GivesPrint limit trace.entry result text) }
     ensures at_end { HasReadPages (R.remaining (wrapped input.new)) result }
     ensures stop { IfOk result (λ printed. IfSome printed.stop IsStop) }
+    // when it refuses, and what that leaves
     ensures own { IfErr result IsNoReading }
     ensures failed { IsErrOf result CliFault.ReadFailed ↔ (has_failed input.new ≡ true) }
 {
@@ -132,12 +138,15 @@ fn write_pages<W: Write>(
     printed: Printed,
     format: Format,
 ) -> Result<(), CliFault>
+    // the caller's part
     requires fresh { has_failed output.old ≡ false }
     requires stop { IfSome printed.stop IsStop }
+    // what it gives
     ensures written { WritesPrint format printed (W.contents (wrapped output.old)) (W.contents (wrapped output.new)) result }
+    ensures flushed { OnOk result (is_flushed output.new ≡ true) }
+    // when it refuses, and what that leaves
     ensures own { IfErr result IsDecodeFault }
     ensures failed { IsErrOf result CliFault.WriteFailed ↔ (has_failed output.new ≡ true) }
-    ensures flushed { OnOk result (is_flushed output.new ≡ true) }
 {
     let Printed { pages, stop } = printed;
     let present = pages.present;

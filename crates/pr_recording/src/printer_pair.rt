@@ -39,14 +39,17 @@ pub struct BusPrinters {
 impl BusPrinters {
     /// Lets both printers hear a frame.
     fn hear(&mut self, frame: Frame) -> Result<(), NoMemory>
+        // the caller's part
         requires listened { HaveListened self.old }
         requires room { number_taken self.old < 2 ^ 32 }
+        // what it gives
         ensures four { OnOk result ((frames : List Frame) → HasPrinted 4 frames self.old.four →
             HasPrinted 4 (frames ++ frame ∷ []) self.new.four) }
         ensures five { OnOk result ((frames : List Frame) → HasPrinted 5 frames self.old.five →
             HasPrinted 5 (frames ++ frame ∷ []) self.new.five) }
         ensures listened { HaveListened self.new }
         ensures count { number_taken self.new ≤ number_taken self.old + 1 }
+        // when it refuses, and what that leaves
         ensures failed { self.new.failed ≡ self.old.failed }
     {
         self.four.hear(frame)?;

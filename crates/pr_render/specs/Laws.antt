@@ -40,7 +40,8 @@ paper_discs definitions paper =
 -- where the marks of a paper are among those defined, its elements draw a disc for each dot of the paper, and no other disc
 abbrev pub DiscsAreTheDots : Type 0
 DiscsAreTheDots =
-    (before : List Mark) (paper : Paper) (after : List Mark) → list_all is_of_bytes (before ++ (marks_of paper ++ after)) ≡ true
+    (before : List Mark) (paper : Paper) (after : List Mark)
+    → list_all is_of_bytes (before ++ (marks_of paper ++ after)) ≡ true
     → paper_discs (each_once (before ++ (marks_of paper ++ after))) paper ≡ map disc_of (dots_of paper)
 
 -- different marks have different names

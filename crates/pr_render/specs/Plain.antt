@@ -36,11 +36,13 @@ shown reverse u = if (reverse && is_blank u) then 9608 else u
 abbrev pub paint_cell : ℕ → ℕ → Bool → Bool → List Column → List Column
 paint_cell place u reverse wide columns =
     if (not reverse && is_blank u) then columns
-    else put place (showing (shown reverse u)) (if wide then put (place + 1) (showing (shown reverse 32)) columns else columns)
+    else put place (showing (shown reverse u))
+    (if wide then put (place + 1) (showing (shown reverse 32)) columns else columns)
 
 -- how many dots of a column of dots have ink
 abbrev pub ink_of : ℕ → ℕ
-ink_of value = value % 2 + value / 2 % 2 + value / 4 % 2 + value / 8 % 2 + value / 16 % 2 + value / 32 % 2 + value / 64 % 2
+ink_of value = value % 2 + value / 2 % 2 + value / 4 % 2 + value / 8 % 2 + value / 16 % 2 + value / 32 % 2
+    + value / 64 % 2
 
 -- so many dots more in a column, where 42 fill it
 abbrev pub darker : ℕ → Column → Column
@@ -49,7 +51,8 @@ darker ink column = record { code_point = column.code_point; dots = min (column.
 -- a mark over what shows on its line: six dots are a column
 abbrev pub paint_mark : ℕ → Mark → List Column → List Column
 paint_mark place (Cell code lower reverse wide) columns = paint_cell place (character lower code) reverse wide columns
-paint_mark place (Dots value) columns = put place (darker (ink_of value) (slice_index_or columns place empty_column)) columns
+paint_mark place (Dots value) columns =
+    put place (darker (ink_of value) (slice_index_or columns place empty_column)) columns
 
 -- marks over what shows, in their order
 abbrev pub painted : List Column → List Placed → List Column
@@ -116,4 +119,5 @@ stop_sentence (Some stop) = stop_name stop.1 ++ codes " in statement " ++ decima
 unfoldable pub text_of : Outcome → Present → List ℕ
 text_of outcome present =
     text_if present.four (sheet_text 4 outcome.paper4) ++ text_if present.five (sheet_text 5 outcome.paper5)
-    ++ sentence (codes "Statuses:") outcome.statuses ++ sentence (codes "Screen:") outcome.screen ++ stop_sentence outcome.stop
+    ++ sentence (codes "Statuses:") outcome.statuses ++ sentence (codes "Screen:") outcome.screen
+    ++ stop_sentence outcome.stop

@@ -228,7 +228,8 @@ statuses_svg statuses =
 -- the lines below the sheets: the stop and the statuses
 unfoldable pub notes_svg : ℕ → Outcome → List ℕ
 notes_svg picas outcome =
-    notes_begin ++ decimal (210 * (picas + 6)) ++ codes ")\">\n" ++ stop_svg outcome.stop ++ statuses_svg outcome.statuses ++ text_end
+    notes_begin ++ decimal (210 * (picas + 6))
+    ++ codes ")\">\n" ++ stop_svg outcome.stop ++ statuses_svg outcome.statuses ++ text_end
 
 -- something was printed, or is held
 abbrev pub has_printed : Paper → Bool

@@ -18,7 +18,8 @@ is_blank u = u == 32 || u == 160
 -- numbers, counted from a number, each behind a space: each 18th begins a line, by this text
 abbrev pub numbers_text : List ℕ → ℕ → List ℕ → List ℕ
 numbers_text line count [] = []
-numbers_text line count (n ∷ ns) = text_if (count % 18 == 0) line ++ codes " " ++ decimal n ++ numbers_text line (count + 1) ns
+numbers_text line count (n ∷ ns) =
+    text_if (count % 18 == 0) line ++ codes " " ++ decimal n ++ numbers_text line (count + 1) ns
 
 -- the name of an error
 abbrev pub stop_name : Stop → List ℕ
