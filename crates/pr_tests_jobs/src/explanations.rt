@@ -6,8 +6,8 @@ use pr_basic::StatusMode;
 use pr_capture::{Signals, Source, TraceInput};
 use pr_channels::Stop;
 use pr_explain::{
-    EdgePlace, Miss, ReadingPlace, Row, ScriptPlace, StopCause, StopPlace, explain_reading,
-    explain_script, explain_stop, explain_trace,
+    EdgePlace, Miss, ReadingPlace, Row, ScriptPlace, StopCause, StopPlace, TracePlace,
+    explain_reading, explain_script, explain_stop, explain_trace,
 };
 use pr_serial::Present;
 use pr_wire::example::TRACE_TEXT;
@@ -284,137 +284,134 @@ fn row(atn: bool, clock: bool, line: bool, earliest: u64, latest: Option<u64>) -
     })
 }
 
-/// Where the edges of a text stop being lawful, and the line that cannot be read.
-fn place_of(
-    rt: &impl AllocGlobal,
-    text: &str,
-) -> Result<(Option<usize>, Option<EdgePlace>), NoMemory> {
-    let told = explain_trace(rt.alloc(), text.as_bytes(), text_input())?;
-    Ok((told.place.line, told.place.edge))
+/// A trace text is refused at this line, and at this edge.
+fn stops_at(rt: &(impl Abort + AllocGlobal), text: &str, line: Option<usize>, edge: EdgePlace) {
+    let told = explain_trace(rt.alloc(), text.as_bytes(), text_input());
+    let place = TracePlace {
+        line,
+        edge: Some(edge),
+    };
+    assert!(rt; told.is_ok_and(|told| told.place == place), "{text}");
 }
 
 #[test]
-fn places_of_traces(rt: HostRuntime) -> Result<(), NoMemory> {
-    let called = [row(false, false, true, 100, None), None, None];
-    let unanswered = [
+fn no_edge(rt: HostRuntime) {
+    let edge = EdgePlace {
+        index: 0,
+        fault: WaveFault::Start(0),
+        expected: [row(true, true, true, 0, Some(0)), None, None],
+        missed: None,
+    };
+    stops_at(&rt, "", None, edge);
+}
+
+/// The edge is told beside the line after it that cannot be read.
+#[test]
+fn edge_and_line(rt: HostRuntime) {
+    let edge = EdgePlace {
+        index: 1,
+        fault: WaveFault::TooEarly(1),
+        expected: [row(false, false, true, 100, None), None, None],
+        missed: Some(Miss::Early(60)),
+    };
+    stops_at(&rt, "0 111\n40 001\n?\n", Some(3), edge);
+}
+
+#[test]
+fn edges_after_a_call(rt: HostRuntime) {
+    let expected = [
         row(false, false, false, 101, Some(1100)),
         row(false, true, false, 1100, Some(1100)),
         row(true, true, true, 1100, Some(2100)),
     ];
-    let rows = [
-        (
-            "",
-            (
-                0,
-                WaveFault::Start(0),
-                [row(true, true, true, 0, Some(0)), None, None],
-                None,
-            ),
-        ),
-        (
-            "0 111\n40 001\n",
-            (1, WaveFault::TooEarly(1), called, Some(Miss::Early(60))),
-        ),
-        (
-            "0 111\n100 001\n1103 000\n",
-            (2, WaveFault::TooLate(2), unanswered, Some(Miss::Late(3))),
-        ),
-        (
-            "0 111\n100 001\n",
-            (2, WaveFault::Truncated(2), unanswered, None),
-        ),
-    ];
-    for (text, (index, fault, expected, missed)) in rows {
-        let edge = EdgePlace {
-            index,
-            fault,
-            expected,
-            missed,
-        };
-        assert!(rt; place_of(&rt, text)? == (None, Some(edge)), "{text}");
-    }
-    assert!(rt; place_of(&rt, TRACE_TEXT)? == (None, None));
-    assert!(rt; place_of(&rt, "0 111\n100 001\n?\n")? == (Some(3), None));
-    let (line, edge) = place_of(&rt, "0 111\n0 001\n?\n")?;
-    assert!(rt; line == Some(3) && edge.is_some_and(|edge| edge.fault == WaveFault::Order(1)));
-    Ok(())
+    let late = EdgePlace {
+        index: 2,
+        fault: WaveFault::TooLate(2),
+        expected,
+        missed: Some(Miss::Late(3)),
+    };
+    stops_at(&rt, "0 111\n100 001\n1103 000\n", None, late);
+    let cut = EdgePlace {
+        index: 2,
+        fault: WaveFault::Truncated(2),
+        expected,
+        missed: None,
+    };
+    stops_at(&rt, "0 111\n100 001\n", None, cut);
+}
+
+/// A recording cannot be read on at this place.
+fn reads_to(rt: &(impl Abort + AllocGlobal), text: &str, place: Option<ReadingPlace>) {
+    let told = explain_reading(rt.alloc(), text.as_bytes(), text_input());
+    assert!(rt; told.is_ok_and(|told| told.place == place), "{text}");
 }
 
 #[test]
 fn places_of_recordings(rt: HostRuntime) {
-    let rows = [
-        ("0 111\n0 001\n9 001\n", None),
-        ("5 111\n6 001\n4 001\n?", Some(ReadingPlace::Edge(2))),
-        ("0 111\n4 001\n?\n", Some(ReadingPlace::Line(3))),
-    ];
-    for (text, place) in rows {
-        let told = explain_reading(rt.alloc(), text.as_bytes(), text_input());
-        assert!(rt; told.is_ok_and(|told| told.place == place), "{text}");
-    }
+    reads_to(&rt, "0 111\n0 001\n9 001\n", None);
+    reads_to(&rt, "5 111\n6 001\n4 001\n?", Some(ReadingPlace::Edge(2)));
+    reads_to(&rt, "0 111\n4 001\n?\n", Some(ReadingPlace::Line(3)));
+}
+
+/// The first fault of a script is at this place.
+fn fails_at(rt: &(impl Abort + AllocGlobal), script: &str, place: Option<ScriptPlace>) {
+    let told = explain_script(rt.alloc(), script.as_bytes());
+    assert!(rt; told.is_ok_and(|told| told.place == place), "{script}");
 }
 
 #[test]
 fn places_of_scripts(rt: HostRuntime) {
-    let rows = [
-        ("10 OPEN 4,4\r\n20 PRINT#4,\"A\";CHR$(65)\n", None),
-        ("OPEN 4,4\nPRINT#4,CHR$(256)\n", Some((2, 14, None))),
-        ("20 PRINT+", Some((1, 9, Some(20)))),
-    ];
-    for (text, place) in rows {
-        let place = place.map(|(line, column, basic_line)| ScriptPlace {
-            line,
-            column,
-            basic_line,
-        });
-        let told = explain_script(rt.alloc(), text.as_bytes());
-        assert!(rt; told.is_ok_and(|told| told.place == place), "{text}");
-    }
+    fails_at(&rt, "10 OPEN 4,4\r\n20 PRINT#4,\"A\";CHR$(65)\n", None);
+    let number = ScriptPlace {
+        line: 2,
+        column: 14,
+        basic_line: None,
+    };
+    fails_at(&rt, "OPEN 4,4\nPRINT#4,CHR$(256)\n", Some(number));
+    let plus = ScriptPlace {
+        line: 1,
+        column: 9,
+        basic_line: Some(20),
+    };
+    fails_at(&rt, "20 PRINT+", Some(plus));
 }
 
-/// A statement, its place, its device, and whether that is absent, by what the error comes from.
-const STOPS: [(usize, Present, Option<(usize, Option<u8>, StopCause)>); 6] = [
-    (0, NONE, None),
-    (7, NONE, Some((3, Some(5), StopCause::NoPrinter))),
-    (
-        7,
-        BOTH,
-        Some((3, Some(5), StopCause::Unheard { is_absent: false })),
-    ),
-    (
-        7,
-        ONLY_FOUR,
-        Some((3, Some(5), StopCause::Unheard { is_absent: true })),
-    ),
-    (
-        10,
-        BOTH,
-        Some((6, None, StopCause::Unheard { is_absent: false })),
-    ),
-    (11, BOTH, None),
-];
+/// DEVICE NOT PRESENT at this statement of [`HELD_BACK`] has this place.
+fn stopped_at(
+    rt: &(impl Abort + AllocGlobal),
+    statement: usize,
+    present: Present,
+    place: Option<StopPlace>,
+) {
+    let script = HELD_BACK.as_bytes();
+    let stop = Stop::DeviceNotPresent;
+    let told = explain_stop(
+        rt.alloc(),
+        script,
+        StatusMode::Each,
+        stop,
+        statement,
+        present,
+    );
+    assert!(rt; told.is_ok_and(|told| told.place == place), "{statement}");
+}
 
 #[test]
 fn places_of_stops(rt: HostRuntime) {
-    let script = HELD_BACK.as_bytes();
-    for (statement, present, place) in STOPS {
-        let place = place.map(|(line, device, cause)| StopPlace {
-            statement,
-            line,
-            basic_line: None,
-            device,
-            cause,
-        });
-        let stop = Stop::DeviceNotPresent;
-        let told = explain_stop(
-            rt.alloc(),
-            script,
-            StatusMode::Each,
-            stop,
-            statement,
-            present,
-        );
-        assert!(rt; told.is_ok_and(|told| told.place == place), "{statement}");
-    }
+    let mut place = StopPlace {
+        statement: 7,
+        line: 3,
+        basic_line: None,
+        device: Some(5),
+        cause: StopCause::NoPrinter,
+    };
+    stopped_at(&rt, 7, NONE, Some(place));
+    place.cause = StopCause::Unheard { is_absent: false };
+    stopped_at(&rt, 7, BOTH, Some(place));
+    place.cause = StopCause::Unheard { is_absent: true };
+    stopped_at(&rt, 7, ONLY_FOUR, Some(place));
+    stopped_at(&rt, 0, NONE, None);
+    stopped_at(&rt, 11, BOTH, None);
 }
 
 /// Nothing is said of a good script, a lawful trace, and a recording that is read to its end.
