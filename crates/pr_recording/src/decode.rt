@@ -109,10 +109,7 @@ fn end_input(reader: InputReader<'_>, mut report: DecodeReport) -> Result<Ended,
 }
 
 /// Writes the lines that are not written yet.
-fn write_lines<W: Write>(
-    output: &mut Watched<W>,
-    report: &mut DecodeReport,
-) -> Result<(), CliFault>
+fn write_lines<W: Write>(output: &mut Watched<W>, report: &mut DecodeReport) -> Result<(), CliFault>
     requires fresh { has_failed output.old ≡ false }
     ensures ok { OnOk result (Appends (W.contents (wrapped output.old)) (W.contents (wrapped output.new)) (lines_in report.old)) }
     ensures err { OnErr result (AppendsFront (W.contents (wrapped output.old)) (W.contents (wrapped output.new)) (lines_in report.old)) }
