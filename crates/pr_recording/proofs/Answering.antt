@@ -1,5 +1,5 @@
 -- What is answered for an input, by what was told of it.
-use Rattle.std.proofs.Common.{◌≡◌, ◌≤◌, ℕ, ◌<◌, List, [], ◌++◌, length, refl, ap, sym, subst, ◌∙◌, append-nil, append_assoc, Option, Some, None, Result, Ok, Err}
+use Rattle.std.proofs.Common.{◌≡◌, ◌≤◌, ℕ, ◌<◌, List, [], ◌++◌, length, refl, ap, sym, subst, ◌∙◌, append-nil, Option, Some, None, Result, Ok, Err}
 use Rattle.std.specs.Prelude.{IfErr, IfSome, IsErrAnd}
 use Rattle.std.specs.Io.KnownBytes.{Appends, IsAtEnd}
 use Rattle.std.proofs.KnownBytes.{Appends-nil, Appends-trans}

@@ -1,5 +1,5 @@
 -- An input that is printed block by block.
-use Rattle.std.proofs.Common.{◌≡◌, ◌≤◌, ◌<◌, ℕ, List, [], ◌++◌, length, refl, sym, subst, ◌∙◌, Option, Some, None, Result, Ok, Err}
+use Rattle.std.proofs.Common.{◌≡◌, ◌<◌, ℕ, List, [], ◌++◌, length, refl, sym, subst, ◌∙◌, Option, Some, None, Result, Ok, Err}
 use Rattle.std.specs.Prelude.{IfSome, IsErrAnd}
 use Rattle.std.specs.Io.KnownBytes.{IsAtEnd, Keeps}
 use Rattle.pr_wire.specs.declared.Edge.{Edge}
@@ -14,7 +14,7 @@ use Rattle.pr_cli.specs.declared.input_reader.InputReader.{InputReader}
 use Rattle.pr_recording.specs.declared.capture_printer.CapturePrinter.{CapturePrinter}
 use Rattle.pr_recording.specs.declared.capture_printer.Printed.{Printed}
 use Rattle.pr_recording.specs.Copied.{CopiesMore, EndsCopy, EndsPrinted, HasCopied}
-use Rattle.pr_recording.specs.Copying.{GivesPrint, HasReadPages, PrintsWhole, WritesPrint, text_of_print}
+use Rattle.pr_recording.specs.Copying.{GivesPrint, PrintsWhole, WritesPrint, text_of_print}
 use Rattle.pr_recording.specs.Decoded.{back_in, stop_at}
 use Rattle.pr_recording.specs.Narrated.{IsStop}
 use Rattle.pr_recording.specs.Pages.{AnswersPages, IsPagesOf, LeavesPages, print_limit, readings_up_to}

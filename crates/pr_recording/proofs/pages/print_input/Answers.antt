@@ -1,7 +1,7 @@
-use Rattle.std.proofs.Common.{◌≡◌, ap, arith, false, length, refl, rules, true}
-use Rattle.pr_cli.specs.Inputs.{StopsWell, edges_read}
-use Rattle.pr_recording.specs.Copied.{CopiesMore, HasCopied}
-use Rattle.pr_recording.proofs.Printing.{prints_last, prints_none, printed_all, printed_before}
+use Rattle.std.proofs.Common.{◌≡◌, false, refl, rules}
+use Rattle.pr_cli.specs.Inputs.{StopsWell}
+use Rattle.pr_recording.specs.Copied.{HasCopied}
+use Rattle.pr_recording.proofs.Printing.{prints_last, prints_none, printed_before}
 use Rattle.pr_recording.proofs.pages.print_input.Goals as goal
 
 pub returns-in_err-read_block-clause-print : goal.returns-in_err-read_block-clause-print

@@ -1,4 +1,4 @@
-use Rattle.std.proofs.Common.{◌+◌, ◌++◌, arith, take}
+use Rattle.std.proofs.Common.{◌++◌, arith, take}
 use Rattle.pr_recording.specs.Copied.{HasCopied}
 use Rattle.pr_recording.proofs.Noting.{more_at}
 use Rattle.pr_recording.proofs.capture_printer.CapturePrinter.take_all.Goals as goal
