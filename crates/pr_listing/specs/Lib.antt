@@ -1,0 +1,4 @@
+pub mod Front
+pub mod Keywords
+pub mod Listing
+pub mod Program
