@@ -1,4 +1,5 @@
 pub mod Front
 pub mod Keywords
 pub mod Listing
+pub mod Names
 pub mod Program

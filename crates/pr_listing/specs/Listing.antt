@@ -1,5 +1,5 @@
 -- Trusted: the text of a saved program's lines, as a script's reader reads it.
-use Rattle.std.specs.Prelude.{◌≡◌, ℕ, ◌&&◌, ◌||◌, ◌==◌, Bool, List, [], ◌∷◌, ◌++◌, codes, decimal, nat_le, if◌then◌else◌}
+use Rattle.std.specs.Prelude.{◌≡◌, ℕ, ◌&&◌, ◌||◌, ◌==◌, not, Bool, List, [], ◌∷◌, ◌++◌, codes, decimal, nat_le, if◌then◌else◌}
 use Rattle.pr_basic.specs.Grammar.{is_printable}
 use Rattle.pr_listing.specs.Keywords.{is_token, keyword_of}
 use Rattle.pr_listing.specs.Program.{IsProgram, Line}
@@ -20,15 +20,22 @@ plain_text b =
     if is_token b then keyword_of b ++ 32 ∷ []
     else (if is_letter b then b ∷ 32 ∷ [] else or_question b)
 
--- a byte of a string, or the quote that ends it: what a script's string cannot hold is said by CHR$
+-- a byte that a script's string can hold
+abbrev pub is_held : ℕ → Bool
+is_held b = is_printable b && not (b == 34)
+
+-- a byte of a string: what a script's string cannot hold is said by CHR$
 abbrev pub string_text : ℕ → List ℕ
-string_text b =
-    if is_printable b then b ∷ [] else codes "\"CHR$(" ++ decimal b ++ codes ")\""
+string_text b = if is_held b then b ∷ [] else codes "\"CHR$(" ++ decimal b ++ codes ")\""
+
+-- a byte of a string, or the quote that ends it
+abbrev pub quoted_text : ℕ → List ℕ
+quoted_text b = if b == 34 then b ∷ [] else string_text b
 
 -- a byte of a line, by where it stands
 abbrev pub byte_text : Mode → ℕ → List ℕ
 byte_text Plain b = plain_text b
-byte_text Quoted b = string_text b
+byte_text Quoted b = quoted_text b
 byte_text Remark b = or_question b
 
 -- where the next byte stands: a quote begins a string and ends it, token 143 begins a remark

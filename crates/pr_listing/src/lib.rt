@@ -22,6 +22,7 @@
 mod fault;
 mod keywords;
 mod line;
+mod names;
 mod program;
 
 pub use fault::ListingFault;

@@ -3,7 +3,7 @@
 ghost use Rattle.std.specs.Prelude.{◌≡◌, ◌++◌, ◌∷◌, [], decimal, OnOk};
 ghost use Rattle.pr_basic.specs.Grammar.{is_printable};
 ghost use Rattle.pr_listing.specs.Keywords.{is_token};
-ghost use Rattle.pr_listing.specs.Listing.{byte_text, bytes_text, is_letter, line_text, mode_after, or_question, plain_text, string_text};
+ghost use Rattle.pr_listing.specs.Listing.{byte_text, bytes_text, is_held, is_letter, line_text, mode_after, or_question, plain_text, quoted_text, string_text};
 
 use crate::keywords::keyword;
 use itoa::Buffer;
@@ -40,11 +40,18 @@ impl Mode {
     }
 }
 
-/// Whether a script's string can hold a byte, or the quote that ends it.
+/// Whether a script's text can hold a byte, but for the end of its lines.
 fn is_printable(b: u8) -> bool
     ensures { result ≡ is_printable b }
 {
     b >= b' ' && b <= b'~'
+}
+
+/// Whether a script's string can hold a byte.
+fn is_held(b: u8) -> bool
+    ensures { result ≡ is_held b }
+{
+    is_printable(b) && b != b'"'
 }
 
 /// Whether a byte is a token.
@@ -98,11 +105,11 @@ fn add_plain(text: &mut Vec<u8>, b: u8) -> Result<(), AllocError>
     add_or_question(text, b)
 }
 
-/// Adds a byte of a string, or the quote that ends it.
+/// Adds a byte of a string.
 pub fn add_in_string(text: &mut Vec<u8>, b: u8) -> Result<(), AllocError>
     ensures { OnOk result (text.new.items ≡ text.old.items ++ string_text b) }
 {
-    if is_printable(b) {
+    if is_held(b) {
         text.push(b)?;
         return Ok(());
     }
@@ -111,13 +118,24 @@ pub fn add_in_string(text: &mut Vec<u8>, b: u8) -> Result<(), AllocError>
     text.extend_from_slice(b")\"")
 }
 
+/// Adds a byte of a string, or the quote that ends it.
+pub fn add_quoted(text: &mut Vec<u8>, b: u8) -> Result<(), AllocError>
+    ensures { OnOk result (text.new.items ≡ text.old.items ++ quoted_text b) }
+{
+    if b == b'"' {
+        text.push(b)?;
+        return Ok(());
+    }
+    add_in_string(text, b)
+}
+
 /// Adds a byte of a line, which stands there.
 fn add_byte(text: &mut Vec<u8>, mode: Mode, b: u8) -> Result<(), AllocError>
     ensures { OnOk result (text.new.items ≡ text.old.items ++ byte_text mode b) }
 {
     match mode {
         Mode::Plain => add_plain(text, b),
-        Mode::Quoted => add_in_string(text, b),
+        Mode::Quoted => add_quoted(text, b),
         Mode::Remark => add_or_question(text, b),
     }
 }
@@ -141,5 +159,6 @@ pub fn add_line(text: &mut Vec<u8>, number: u32, bytes: &[u8]) -> Result<(), All
     add_number(text, number)?;
     text.push(b' ')?;
     add_bytes(text, bytes)?;
-    text.push(b'\n')
+    text.push(b'\n')?;
+    Ok(())
 }

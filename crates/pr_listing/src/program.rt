@@ -85,7 +85,7 @@ pub fn program_text(alloc: Global, file: &[u8]) -> Result<Vec<u8>, ListingFault>
     let mut text = Vec::new(alloc);
     let mut rest = &file[2..];
     let mut number = 1;
-    loop {
+    'lines: loop {
         match front(rest) {
             Front::Line {
                 number: line,

@@ -1,0 +1,10 @@
+use Rattle.std.proofs.Common.{length}
+use Rattle.pr_listing.specs.Front.{IsReadTo}
+use Rattle.pr_listing.proofs.program.program_text.Given as goal
+
+-- the lines before what is left were read
+abbrev pub invariant-lines : goal.invariant-lines
+invariant-lines l = IsReadTo l.file l.text.items l.rest l.number
+
+abbrev pub decreases-lines : goal.decreases-lines
+decreases-lines l = length l.rest
