@@ -15,6 +15,13 @@ pub enum ListingFault {
     /// A saved program ends in this line: in its link, in its number, or before the 0 behind it.
     #[error("line {0}: cut off")]
     CutOff(usize),
+    /// In a string of petcat's text, at this line and this column: a brace with no name in it that
+    /// petcat writes, or without its other brace.
+    #[error("line {0}, column {1}: unknown name")]
+    UnknownName(usize, usize),
+    /// In a string of petcat's text, at this line and this column: a byte that petcat does not write.
+    #[error("line {0}, column {1}: bad byte")]
+    BadByte(usize, usize),
     /// Memory was refused.
     #[error("out of memory")]
     NoMemory,

@@ -23,7 +23,9 @@ mod fault;
 mod keywords;
 mod line;
 mod names;
+mod petcat;
 mod program;
 
 pub use fault::ListingFault;
+pub use petcat::petcat_text;
 pub use program::program_text;

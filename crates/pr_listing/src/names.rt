@@ -1,8 +1,8 @@
 //! The names of bytes, as petcat writes them in braces.
 
-ghost use Rattle.std.specs.Prelude.{◌≡◌, ◌≢◌, ◌≤◌, ◌<◌, ◌∷◌, ℕ, List, length, IfSome, IsTrue, MatchOption};
+ghost use Rattle.std.specs.Prelude.{◌≡◌, ◌≢◌, ◌≤◌, ◌<◌, ◌∷◌, [], ℕ, List, length, slice_index_or, IfSome, IsTrue, MatchOption};
 ghost use Rattle.pr_base.specs.Digits.{number_of};
-ghost use Rattle.pr_listing.specs.Names.{byte_at, byte_named, hex_byte, hex_value, is_hex, named, place_of};
+ghost use Rattle.pr_listing.specs.Names.{byte_at, byte_named, hex_byte, hex_value, is_hex, is_name, named, names, place_of};
 
 use pr_base::{digit_count, is_digit};
 
@@ -42,14 +42,24 @@ fn byte_at(place: usize) -> u8
     b' '
 }
 
+/// Whether a name is the one at a place of [`NAMES`], in either case.
+#[tactic(auto, unfolding(crate::specs::Names::names))]
+fn is_name_at(name: &[u8], place: usize) -> bool
+    requires { place < 130 }
+    ensures { result ≡ is_name name.now (slice_index_or names place []) }
+{
+    let known = NAMES[place];
+    known.as_bytes().eq_ignore_ascii_case(name)
+}
+
 /// The place of a name in [`NAMES`], in either case.
-#[tactic(auto, unfolding(crate::specs::Names::place_of, crate::specs::Names::names))]
+#[tactic(auto, unfolding(crate::specs::Names::place_of))]
 fn place_of(name: &[u8]) -> Option<usize>
     ensures place { result ≡ place_of name.now }
     ensures within { IfSome result (λ place. place < 130) }
 {
-    for (i, known) in NAMES.iter().enumerate() {
-        if known.as_bytes().eq_ignore_ascii_case(name) {
+    for i in 0..130 {
+        if is_name_at(name, i) {
             return Some(i);
         }
     }

@@ -39,13 +39,14 @@ fn count_to_zero(bytes: &[u8]) -> usize
 }
 
 /// What is at the front of the bytes that are left of a program.
-fn front(bytes: &[u8]) -> Front<'_>
+fn front_of(bytes: &[u8]) -> Front<'_>
     ensures { IsFront result bytes.now }
 {
     if bytes.len() < 2 {
         return Front::CutOff;
     }
-    if bytes[0] == 0 && bytes[1] == 0 {
+    let link = u32::from(bytes[0]) + u32::from(bytes[1]);
+    if link == 0 {
         return Front::End;
     }
     if bytes.len() < 4 {
@@ -86,13 +87,15 @@ pub fn program_text(alloc: Global, file: &[u8]) -> Result<Vec<u8>, ListingFault>
     let mut rest = &file[2..];
     let mut number = 1;
     'lines: loop {
-        match front(rest) {
+        match front_of(rest) {
             Front::Line {
                 number: line,
                 bytes,
                 rest: more,
             } => {
-                add_line(&mut text, line, bytes)?;
+                if add_line(&mut text, line, bytes).is_err() {
+                    return Err(ListingFault::NoMemory);
+                }
                 number += 1;
                 rest = more;
             }
