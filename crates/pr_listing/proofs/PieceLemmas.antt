@@ -10,7 +10,7 @@ use Rattle.pr_listing.specs.Pieces.{ArePiecesTaken, IsNoName, IsPieceTaken, IsRe
 use Rattle.pr_listing.proofs.Marks.{at_mark, before_mark, first_mark, mark_within}
 
 -- one piece more at the end
-have-one_more : (q : Bool) (ps : List Piece) (bytes said : List ℕ) (m : Bool) (rest : List ℕ) (p : Piece) (after t : List ℕ) (next : Bool) → HaveText q ps bytes said m rest → rest ≡ spelled p ++ after → HasText m p t → next ≡ quoted_after m p
+have-one_more : (q : Bool) (ps : List Piece) (bytes said : List ℕ) (m : Bool) (rest : List ℕ) (p : Piece) (after t : List ℕ) (next : Bool) → HaveText q ps bytes said m rest → rest ≡ spelled p after → HasText m p t → next ≡ quoted_after m p
     → HaveText q (ps ++ p ∷ []) bytes (said ++ t) next after
 have-one_more q [] bytes said m rest p after t next h cut has goes =
     (

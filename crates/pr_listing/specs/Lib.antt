@@ -1,3 +1,4 @@
+pub mod Forms
 pub mod Front
 pub mod Keywords
 pub mod Listing

@@ -17,10 +17,10 @@ pub data Piece : Type 0 where
   Character : ℕ → Piece
   Name : List ℕ → Piece
 
--- its bytes in petcat's text
-abbrev pub spelled : Piece → List ℕ
-spelled (Character c) = c ∷ []
-spelled (Name name) = 123 ∷ name ++ 125 ∷ []
+-- its bytes in petcat's text, and those that follow it
+abbrev pub spelled : Piece → List ℕ → List ℕ
+spelled (Character c) after = c ∷ after
+spelled (Name name) after = 123 ∷ name ++ 125 ∷ after
 
 -- any byte but `}`
 abbrev pub is_in_braces : ℕ → Bool
@@ -57,7 +57,7 @@ abbrev pub HaveText : Bool → List Piece → List ℕ → List ℕ → Bool →
 HaveText quoted [] bytes text in_string rest = (text ≡ []) × (in_string ≡ quoted) × (bytes ≡ rest)
 HaveText quoted (p ∷ ps) bytes text in_string rest =
     (after : List ℕ) × (first : List ℕ) × (more : List ℕ)
-    × (bytes ≡ spelled p ++ after) × HasText quoted p first × (text ≡ first ++ more)
+    × (bytes ≡ spelled p after) × HasText quoted p first × (text ≡ first ++ more)
     × HaveText (quoted_after quoted p) ps after more in_string rest
 
 -- a remark begins there

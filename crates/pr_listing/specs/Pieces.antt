@@ -25,7 +25,7 @@ IsNoName bytes = (name rest : List ℕ) → bytes ≡ name ++ 125 ∷ rest → I
 pub record IsPieceTaken (quoted : Bool) (bytes rest : List ℕ) (in_string : Bool) (old new : List ℕ) : Type 0 where
   pub piece : Piece
   pub said : List ℕ
-  pub cut : bytes ≡ spelled piece ++ rest
+  pub cut : bytes ≡ spelled piece rest
   pub has : HasText quoted piece said
   pub goes_on : in_string ≡ quoted_after quoted piece
   pub is_text : new ≡ old ++ said

@@ -20,6 +20,7 @@
 #![tactic(auto)]
 
 mod fault;
+mod form;
 mod keywords;
 mod line;
 mod names;
@@ -27,5 +28,6 @@ mod petcat;
 mod program;
 
 pub use fault::ListingFault;
+pub use form::{ListingForm, Refusal, read_listing, script_text};
 pub use petcat::petcat_text;
 pub use program::program_text;

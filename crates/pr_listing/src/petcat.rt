@@ -1,11 +1,11 @@
 //! The text of a script that petcat's text says.
 
-ghost use Rattle.std.specs.Prelude.{◌≡◌, ◌++◌, ◌≤◌, ◌<◌, ◌∷◌, ◌⊎◌, ℕ, None, Some, false, length, true, IfErr, IfOk, MatchResult, OnOk};
+ghost use Rattle.std.specs.Prelude.{◌≡◌, ◌++◌, ◌≤◌, ◌<◌, ◌∷◌, ◌⊎◌, ◌↔◌, ℕ, [], None, Some, false, length, true, IfErr, IfOk, IsTrue, MatchResult, OnOk};
 ghost use Rattle.std.specs.List.{prefix_len};
 ghost use Rattle.pr_base.specs.Lines.{lines_of};
 ghost use Rattle.pr_basic.specs.Grammar.{without_return};
 ghost use Rattle.pr_listing.specs.Listing.{quoted_text, string_text};
-ghost use Rattle.pr_listing.specs.Petcat.{IsLineFault, IsPetcatFault, IsPetcatText, IsPieceFault, at_place, before_remark, begins_remark, byte_of, is_in_braces, repeated};
+ghost use Rattle.pr_listing.specs.Petcat.{IsHeading, IsLineFault, IsPetcatFault, IsPetcatText, IsPieceFault, at_place, before_remark, begins_remark, byte_of, is_in_braces, repeated};
 ghost use Rattle.pr_listing.specs.Pieces.{IsFrontFault, IsFrontTaken, IsLineTaken, IsNameTaken, IsNoName, IsPieceTaken};
 
 use crate::fault::ListingFault;
@@ -74,7 +74,7 @@ fn count_to_brace(bytes: &[u8]) -> usize
 fn add_times(text: &mut Vec<u8>, count: u32, b: u8) -> Result<(), AllocError>
     ensures { OnOk result (text.new.items ≡ text.old.items ++ repeated count (string_text b)) }
 {
-    for time in 0..count {
+    for _time in 0..count {
         add_in_string(text, b)?;
     }
     Ok(())
@@ -110,6 +110,17 @@ fn add_character(text: &mut Vec<u8>, c: u8) -> Result<(), PieceFault>
     Ok(())
 }
 
+/// Adds a byte as it is.
+fn add_one(text: &mut Vec<u8>, b: u8) -> Result<(), PieceFault>
+    ensures ok { OnOk result (text.new.items ≡ text.old.items ++ b ∷ []) }
+    ensures err { IfErr result (λ fault. fault ≡ PieceFault.NoMemory) }
+{
+    match text.push(b) {
+        Ok(()) => Ok(()),
+        Err(_) => Err(PieceFault::NoMemory),
+    }
+}
+
 /// Adds the piece at the front of some bytes of a line. Returns the bytes after it, and whether they
 /// stand in a string.
 fn add_piece<'a>(
@@ -131,7 +142,7 @@ fn add_piece<'a>(
     if quoted {
         add_character(text, c)?;
     } else {
-        text.push(c)?;
+        add_one(text, c)?;
     }
     let in_string = if c == b'"' { !quoted } else { quoted };
     Ok((after, in_string))
@@ -182,13 +193,20 @@ fn before_remark(line: &[u8]) -> usize
     line.len()
 }
 
+/// Whether a line is petcat's heading.
+fn is_heading(line: &[u8]) -> bool
+    ensures { IsTrue result ↔ IsHeading line.now }
+{
+    !line.is_empty() && line[0] == b';'
+}
+
 /// Adds the text of a line without its end. A fault comes with how many bytes are before it.
 fn add_line(text: &mut Vec<u8>, line: &[u8]) -> Result<(), (PieceFault, usize)>
     ensures line { MatchResult result
         (λ _. IsLineTaken line.now text.old.items text.new.items)
         (λ e. (e.0 ≡ PieceFault.NoMemory) ⊎ IsLineFault e.0 e.1 line.now) }
 {
-    if !line.is_empty() && line[0] == b';' {
+    if is_heading(line) {
         return Ok(());
     }
     let n = before_remark(line);
@@ -253,7 +271,9 @@ pub fn petcat_text(alloc: Global, file: &[u8]) -> Result<Vec<u8>, ListingFault>
         if let Err((fault, column)) = add_line(&mut text, without_return(line)) {
             return Err(fault.at(number, column + 1));
         }
-        text.push(b'\n')?;
+        if text.push(b'\n').is_err() {
+            return Err(ListingFault::NoMemory);
+        }
         rest = more;
         number += 1;
     }

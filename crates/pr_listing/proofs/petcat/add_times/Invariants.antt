@@ -5,4 +5,4 @@ use Rattle.pr_listing.proofs.petcat.add_times.Given as goal
 
 -- the byte so many times so far
 abbrev pub invariant-loop-time : goal.invariant-loop-time
-invariant-loop-time l = l.text.items ≡ l.initial.text.items ++ repeated l.time (string_text l.b)
+invariant-loop-time l = l.text.items ≡ l.initial.text.items ++ repeated l._time (string_text l.b)
