@@ -12,26 +12,24 @@ use Rattle.pr_listing.proofs.Marks.{at_mark, before_mark, first_mark, mark_withi
 -- one piece more at the end
 have-one_more : (q : Bool) (ps : List Piece) (bytes said : List ℕ) (m : Bool) (rest : List ℕ) (p : Piece) (after t : List ℕ) (next : Bool) → HaveText q ps bytes said m rest → rest ≡ spelled p after → HasText m p t → next ≡ quoted_after m p
     → HaveText q (ps ++ p ∷ []) bytes (said ++ t) next after
-have-one_more q [] bytes said m rest p after t next h cut has goes =
-    (
-      after,
-      t,
-      [],
-      h.2 ∙ cut,
-      subst (λ (v : Bool). HasText v p t) h.1 has,
-      ap (λ v. v ++ t) h.0 ∙ sym (append-nil t),
-      (refl, goes ∙ ap (λ v. quoted_after v p) h.1, refl)
-    )
-have-one_more q (o ∷ ps) bytes said m rest p after t next h cut has goes =
-    (
-      h.0,
-      h.1,
-      h.2 ++ t,
-      h.3,
-      h.4,
-      ap (λ v. v ++ t) h.5 ∙ append_assoc _ _ _,
-      have-one_more (quoted_after q o) ps h.0 h.2 m rest p after t next h.6 cut has goes
-    )
+have-one_more q [] bytes said m rest p after t next h cut has goes = (
+  after,
+  t,
+  [],
+  h.2 ∙ cut,
+  subst (λ (v : Bool). HasText v p t) h.1 has,
+  ap (λ v. v ++ t) h.0 ∙ sym (append-nil t),
+  (refl, goes ∙ ap (λ v. quoted_after v p) h.1, refl),
+)
+have-one_more q (o ∷ ps) bytes said m rest p after t next h cut has goes = (
+  h.0,
+  h.1,
+  h.2 ++ t,
+  h.3,
+  h.4,
+  ap (λ v. v ++ t) h.5 ∙ append_assoc _ _ _,
+  have-one_more (quoted_after q o) ps h.0 h.2 m rest p after t next h.6 cut has goes,
+)
 
 -- one piece more is taken
 pub taken-one_more : (front rest after : List ℕ) (m next : Bool) (old mid new : List ℕ) → ArePiecesTaken front rest m old mid → IsPieceTaken m rest after next mid new → ArePiecesTaken front after next old new
@@ -70,20 +68,19 @@ none_closes bs e name rest cut closed = absurd (omega (arith, e, ap length cut, 
 pub none_named : (bs : List ℕ) (n : ℕ) → n ≡ prefix_len is_in_braces bs → n < length bs → named (take n bs) ≡ None → IsNoName bs
 none_named bs n e l none name rest cut closed =
     let same : (name ≡ take n bs) × (rest ≡ drop (n + 1) bs) =
-        first_mark is_in_braces 125 refl name (take n bs) rest (drop (n + 1) bs) closed (rw e (before_mark is_in_braces bs)) (sym cut ∙ name_cut bs n e l) in
+    first_mark is_in_braces 125 refl name (take n bs) rest (drop (n + 1) bs) closed (rw e (before_mark is_in_braces bs)) (sym cut ∙ name_cut bs n e l) in
     ap named same.0 ∙ none
 
 -- one line more at the end
 have_lines-one_more : (ls : List (List ℕ)) (l text said more : List ℕ) → HaveLinesText ls text → HasLineText (without_return l) said → more ≡ text ++ (said ++ 10 ∷ []) → HaveLinesText (ls ++ l ∷ []) more
 have_lines-one_more [] l text said more h k e = (said, [], k, e ∙ ap (λ v. v ++ (said ++ 10 ∷ [])) h, refl)
-have_lines-one_more (m ∷ ls) l text said more h k e =
-    (
-      h.0,
-      h.1 ++ (said ++ 10 ∷ []),
-      h.2,
-      e ∙ (ap (λ v. v ++ (said ++ 10 ∷ [])) h.3 ∙ append_assoc h.0 (10 ∷ h.1) (said ++ 10 ∷ [])),
-      have_lines-one_more ls l h.1 said (h.1 ++ (said ++ 10 ∷ [])) h.4 k refl
-    )
+have_lines-one_more (m ∷ ls) l text said more h k e = (
+  h.0,
+  h.1 ++ (said ++ 10 ∷ []),
+  h.2,
+  e ∙ (ap (λ v. v ++ (said ++ 10 ∷ [])) h.3 ∙ append_assoc h.0 (10 ∷ h.1) (said ++ 10 ∷ [])),
+  have_lines-one_more ls l h.1 said (h.1 ++ (said ++ 10 ∷ [])) h.4 k refl,
+)
 
 -- one line more is read
 pub read-one_more : (file text rest line after said more : List ℕ) (number : ℕ) → IsReadTo file text rest number → lines_of rest ≡ line ∷ lines_of after → HasLineText (without_return line) said → more ≡ text ++ (said ++ 10 ∷ []) → IsReadTo file more after (number + 1)

@@ -103,7 +103,7 @@ one_end q (p ∷ ps) (o ∷ os) bytes t u m n rest left h k e f =
     let too : IsPieceAt q o bytes k.1 k.0 = record { cut = k.3; has = k.4 } in
     let first : (p ≡ o) × (h.1 ≡ k.1) × (h.0 ≡ k.0) = one_piece q p o bytes h.1 k.1 h.0 k.0 at too in
     let same : HaveText (quoted_after q p) os h.0 k.2 n left =
-        subst (λ (v : Piece). HaveText (quoted_after q v) os h.0 k.2 n left) (sym first.0) (subst (λ (v : List ℕ). HaveText (quoted_after q o) os v k.2 n left) (sym first.2) k.6) in
+    subst (λ (v : Piece). HaveText (quoted_after q v) os h.0 k.2 n left) (sym first.0) (subst (λ (v : List ℕ). HaveText (quoted_after q o) os v k.2 n left) (sym first.2) k.6) in
     let more : (h.2 ≡ k.2) × (m ≡ n) × (rest ≡ left) = one_end (quoted_after q p) ps os h.0 h.2 k.2 m n rest left h.6 same e f in
     let texts : h.1 ++ h.2 ≡ k.1 ++ k.2 = ap (λ v. v ++ h.2) first.1 ∙ ap (λ v. k.1 ++ v) more.0 in
     (h.5 ∙ (texts ∙ sym k.5), more.1, more.2)
