@@ -12,7 +12,7 @@ begins-one_more (m ∷ ms) l bytes rest after h b = (h.0, h.1, begins-one_more m
 -- its text stands at the end
 text-one_more : (ls : List Line) (l : Line) → lines_text (ls ++ l ∷ []) ≡ lines_text ls ++ line_text l
 text-one_more [] l = append-nil (line_text l)
-text-one_more (m ∷ ms) l = ap (λ t. line_text m ++ t) (text-one_more ms l) ∙ sym (append_assoc _ _ _)
+text-one_more (m ∷ ms) l = ap (λ t. line_text m ++ t) (text-one_more ms l) ∙ sym (append_assoc (line_text m) (lines_text ms) (line_text l))
 
 -- one line more is read
 pub read-one_more : (file text rest after : List ℕ) (number : ℕ) (l : Line) (more : List ℕ) → IsReadTo file text rest number → BeginsWith l rest after → more ≡ text ++ line_text l → IsReadTo file more after (number + 1)

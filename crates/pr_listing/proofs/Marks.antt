@@ -38,29 +38,29 @@ first_and_more : (p : ℕ → Bool) (x : ℕ) (xs : List ℕ) → list_all p (x 
 first_and_more p x xs h = grind (arith, common_steps)
 
 -- a list is cut at its first mark in one way
-pub first_mark : (p : ℕ → Bool) (m : ℕ) (no : p m ≡ false) (xs ys r s : List ℕ) → list_all p xs ≡ true → list_all p ys ≡ true → xs ++ m ∷ r ≡ ys ++ m ∷ s → (xs ≡ ys) × (r ≡ s)
-first_mark p m no [] [] r s a b e = (refl, cc)
-first_mark p m no [] (y ∷ ys) r s a b e =
+pub first_mark : (p : ℕ → Bool) (m : ℕ) (fail : p m ≡ false) (xs ys r s : List ℕ) → list_all p xs ≡ true → list_all p ys ≡ true → xs ++ m ∷ r ≡ ys ++ m ∷ s → (xs ≡ ys) × (r ≡ s)
+first_mark p m fail [] [] r s a b e = (refl, cc)
+first_mark p m fail [] (y ∷ ys) r s a b e =
     let k : p y ≡ true = (first_and_more p y ys b).0 in
     let same : m ≡ y = cc in
-    let both : true ≡ false = sym k ∙ (ap p (sym same) ∙ no) in
+    let both : true ≡ false = sym k ∙ (ap p (sym same) ∙ fail) in
     absurd (cc)
-first_mark p m no (x ∷ xs) [] r s a b e =
+first_mark p m fail (x ∷ xs) [] r s a b e =
     let k : p x ≡ true = (first_and_more p x xs a).0 in
     let same : m ≡ x = cc in
-    let both : true ≡ false = sym k ∙ (ap p (sym same) ∙ no) in
+    let both : true ≡ false = sym k ∙ (ap p (sym same) ∙ fail) in
     absurd (cc)
-first_mark p m no (x ∷ xs) (y ∷ ys) r s a b e =
+first_mark p m fail (x ∷ xs) (y ∷ ys) r s a b e =
     let same : x ≡ y = cc in
     let more : xs ++ m ∷ r ≡ ys ++ m ∷ s = cc in
-    let k : (xs ≡ ys) × (r ≡ s) = first_mark p m no xs ys r s (first_and_more p x xs a).1 (first_and_more p y ys b).1 more in
+    let k : (xs ≡ ys) × (r ≡ s) = first_mark p m fail xs ys r s (first_and_more p x xs a).1 (first_and_more p y ys b).1 more in
     let k0 : xs ≡ ys = k.0 in
     (cc, k.1)
 
 -- a mark stands before the end
-pub mark_within : (p : ℕ → Bool) (m : ℕ) (no : p m ≡ false) (xs r : List ℕ) → prefix_len p (xs ++ m ∷ r) < length (xs ++ m ∷ r)
-mark_within p m no [] r = rw no (omega arith)
-mark_within p m no (x ∷ xs) r = step (p x) refl (mark_within p m no xs r)
+pub mark_within : (p : ℕ → Bool) (m : ℕ) (fail : p m ≡ false) (xs r : List ℕ) → prefix_len p (xs ++ m ∷ r) < length (xs ++ m ∷ r)
+mark_within p m fail [] r = rw fail (omega arith)
+mark_within p m fail (x ∷ xs) r = step (p x) refl (mark_within p m fail xs r)
   where
     step : (t : Bool) → p x ≡ t → prefix_len p (xs ++ m ∷ r) < length (xs ++ m ∷ r) → prefix_len p (x ∷ (xs ++ m ∷ r)) < length (x ∷ (xs ++ m ∷ r))
     step true e k = rw (e, one-add) (omega arith)

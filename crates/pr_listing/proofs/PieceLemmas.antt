@@ -27,7 +27,7 @@ have-one_more q (o ∷ ps) bytes said m rest p after t next h cut has goes = (
   h.2 ++ t,
   h.3,
   h.4,
-  ap (λ v. v ++ t) h.5 ∙ append_assoc _ _ _,
+  ap (λ v. v ++ t) h.5 ∙ append_assoc h.1 h.2 t,
   have-one_more (quoted_after q o) ps h.0 h.2 m rest p after t next h.6 cut has goes,
 )
 
@@ -37,7 +37,7 @@ taken-one_more front rest after m next old mid new h k = record {
   pieces = h.pieces ++ k.piece ∷ [];
   said = h.said ++ k.said;
   have = have-one_more false h.pieces front h.said m rest k.piece after k.said next h.have k.cut k.has k.goes_on;
-  is_text = k.is_text ∙ (ap (λ v. v ++ k.said) h.is_text ∙ append_assoc _ _ _);
+  is_text = k.is_text ∙ (ap (λ v. v ++ k.said) h.is_text ∙ append_assoc old h.said k.said);
 }
 
 -- before the first piece

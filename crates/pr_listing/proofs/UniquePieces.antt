@@ -5,7 +5,8 @@ use Rattle.std.specs.List.{list_all}
 use Rattle.pr_basic.specs.Grammar.{without_return}
 use Rattle.pr_listing.specs.Listing.{quoted_text, string_text}
 use Rattle.pr_listing.specs.Names.{named}
-use Rattle.pr_listing.specs.Petcat.{Character, HasLineText, HasText, HaveLinesText, HaveText, IsPieceFault, Name, Piece, byte_of, front_of, is_in_braces, quoted_after, remark_of, repeated, spelled}
+use Rattle.pr_listing.specs.Petcat.{AreLinesFault, Character, HasLineText, HasText, HaveLinesText, HaveText, IsLineFault, IsPetcatFault, IsPieceFault, Name, Piece, at_place, byte_of, front_of, is_in_braces, quoted_after, remark_of, repeated, spelled}
+use Rattle.pr_listing.specs.declared.fault.ListingFault.{ListingFault}
 use Rattle.pr_listing.specs.declared.petcat.PieceFault.{PieceFault}
 use Rattle.pr_listing.specs.declared.petcat.PieceFault.TheVariants as piece
 use Rattle.pr_listing.proofs.Marks.{first_mark}
@@ -124,3 +125,76 @@ one_text (l ∷ ls) t u h k =
     let first : h.0 ≡ k.0 = one_line (without_return l) h.0 k.0 h.2 k.2 in
     let more : h.1 ≡ k.1 = one_text ls h.1 k.1 h.4 k.4 in
     h.3 ∙ (ap (λ v. v ++ 10 ∷ h.1) first ∙ (ap (λ v. k.0 ++ 10 ∷ v) more ∙ sym k.3))
+
+-- at one place is one fault
+piece_one_fault : (f g : PieceFault) (bytes : List ℕ) → IsPieceFault f bytes → IsPieceFault g bytes → f ≡ g
+piece_one_fault piece.UnknownName piece.UnknownName bytes h k = refl
+piece_one_fault piece.UnknownName piece.BadByte bytes h k =
+    let same : 123 ∷ h.0 ≡ k.0 ∷ k.1 = sym h.1 ∙ k.2 in
+    let first : k.0 ≡ 123 = cc in
+    absurd (k.3 first)
+piece_one_fault piece.BadByte piece.UnknownName bytes h k =
+    let same : 123 ∷ k.0 ≡ h.0 ∷ h.1 = sym k.1 ∙ h.2 in
+    let first : h.0 ≡ 123 = cc in
+    absurd (h.3 first)
+piece_one_fault piece.BadByte piece.BadByte bytes h k = refl
+piece_one_fault piece.NoMemory g bytes h k = absurd h
+piece_one_fault f piece.NoMemory bytes h k = absurd k
+
+-- no fault is at the end of the bytes
+none_at_end : (f : PieceFault) (bytes : List ℕ) → IsPieceFault f bytes → bytes ≡ [] → ⊥
+none_at_end piece.UnknownName bytes h e = let same : 123 ∷ h.0 ≡ [] = sym h.1 ∙ e in cc
+none_at_end piece.BadByte bytes h e = let same : h.0 ∷ h.1 ≡ [] = sym h.2 ∙ e in cc
+none_at_end piece.NoMemory bytes h e = absurd h
+
+-- a line with a text has no fault
+line_not_both : (line t : List ℕ) (f : PieceFault) (column : ℕ) → HasLineText line t → IsLineFault f column line → ⊥
+line_not_both line t f column (inl (heading, e)) k = k.no_heading heading
+line_not_both line t f column (inr (none, (ps, said, m, h, e))) k =
+    let same : (said ≡ k.said) × (m ≡ true) × ([] ≡ k.rest) = one_end false ps k.pieces (front_of line) said k.said m true [] k.rest h k.good (inl refl) (inr (refl, (f, k.fault))) in
+    none_at_end f k.rest k.fault (sym same.2)
+
+-- a line has one fault
+line_one_fault : (line : List ℕ) (f g : PieceFault) (c d : ℕ) → IsLineFault f c line → IsLineFault g d line → (f ≡ g) × (c ≡ d)
+line_one_fault line f g c d h k =
+    let same : (h.said ≡ k.said) × (true ≡ true) × (h.rest ≡ k.rest) =
+        one_end false h.pieces k.pieces (front_of line) h.said k.said true true h.rest k.rest h.good k.good (inr (refl, (f, h.fault))) (inr (refl, (g, k.fault))) in
+    let rest : length h.rest ≡ length k.rest = ap length same.2 in
+    (piece_one_fault f g k.rest (subst (IsPieceFault f) same.2 h.fault) k.fault, omega (arith, h.at, k.at, rest))
+
+-- each line of lines with a text has one
+line_within : (before : List (List ℕ)) (l : List ℕ) (after : List (List ℕ)) (t : List ℕ) → HaveLinesText (before ++ l ∷ after) t → (said : List ℕ) × HasLineText (without_return l) said
+line_within [] l after t h = (h.0, h.2)
+line_within (m ∷ before) l after t h = line_within before l after h.1 h.4
+
+-- lines with a text have no fault
+pub not_both : (ls : List (List ℕ)) (t : List ℕ) (f : PieceFault) (number column : ℕ) → HaveLinesText ls t → AreLinesFault f number column ls → ⊥
+not_both ls t f number column h k =
+    let found : (said : List ℕ) × HasLineText (without_return k.line) said = line_within k.before k.line k.after t (subst (λ (v : List (List ℕ)). HaveLinesText v t) k.cut h) in
+    line_not_both (without_return k.line) found.0 f column found.1 k.fault
+
+-- the first line with a fault is one line
+one_place : (before behind : List (List ℕ)) (l m : List ℕ) (after left : List (List ℕ)) (t u : List ℕ) (f g : PieceFault) (c d : ℕ) → before ++ l ∷ after ≡ behind ++ m ∷ left → HaveLinesText before t → HaveLinesText behind u
+    → IsLineFault f c (without_return l) → IsLineFault g d (without_return m) → (f ≡ g) × (c ≡ d) × (length before ≡ length behind)
+one_place [] [] l m after left t u f g c d e h k x y =
+    let same : l ≡ m = cc in
+    let both : (f ≡ g) × (c ≡ d) = line_one_fault (without_return m) f g c d (subst (λ (v : List ℕ). IsLineFault f c (without_return v)) same x) y in
+    (both.0, both.1, refl)
+one_place [] (n ∷ behind) l m after left t u f g c d e h k x y =
+    let same : l ≡ n = cc in
+    absurd (line_not_both (without_return n) k.0 f c k.2 (subst (λ (v : List ℕ). IsLineFault f c (without_return v)) same x))
+one_place (o ∷ before) [] l m after left t u f g c d e h k x y =
+    let same : m ≡ o = cc in
+    absurd (line_not_both (without_return o) h.0 g d h.2 (subst (λ (v : List ℕ). IsLineFault g d (without_return v)) same y))
+one_place (o ∷ before) (n ∷ behind) l m after left t u f g c d e h k x y =
+    let more : before ++ l ∷ after ≡ behind ++ m ∷ left = cc in
+    let rest : (f ≡ g) × (c ≡ d) × (length before ≡ length behind) = one_place before behind l m after left h.1 k.1 f g c d more h.4 k.4 x y in
+    (rest.0, rest.1, ap suc rest.2)
+
+-- petcat's text has one fault
+pub one_fault : (file : List ℕ) (f g : ListingFault) → IsPetcatFault file f → IsPetcatFault file g → f ≡ g
+one_fault file f g (p, number, column, h, e) (q, count, place, k, d) =
+    let same : (p ≡ q) × (column ≡ place) × (length h.before ≡ length k.before) =
+        one_place h.before k.before h.line k.line h.after k.after h.text k.text p q column place (sym h.cut ∙ k.cut) h.good k.good h.fault k.fault in
+    let numbers : number ≡ count = omega (arith, h.numbered, k.numbered, same.2) in
+    e ∙ (ap (λ v. at_place v number (suc column)) same.0 ∙ (ap (λ v. at_place q v (suc column)) numbers ∙ (ap (λ v. at_place q count (suc v)) same.1 ∙ sym d)))

@@ -1,3 +1,4 @@
+pub mod FormLaws
 pub mod Forms
 pub mod Front
 pub mod Keywords

@@ -1,12 +1,13 @@
 //! Listings in each form, as scripts and as statements.
 
 ghost use Rattle.std.specs.Prelude.{◌≡◌, ◌⊎◌, ℕ, List, IfErr, IfOk, MatchResult};
+ghost use Rattle.pr_listing.specs.FormLaws.{NotBoth, OneFault, OneList, OneText};
 ghost use Rattle.pr_listing.specs.Forms.{HasNoText, HasText, IsListing, IsRefused};
 
 use crate::fault::ListingFault;
 use crate::petcat::petcat_text;
 use crate::program::program_text;
-use pr_basic::{ScriptFault, Statement, read_script};
+use pr_basic::{ScriptFault, Statement, each_text_is_a_script_or_has_one_fault, read_script};
 use std::alloc::Global;
 use thiserror::Error;
 
@@ -48,6 +49,7 @@ pub fn script_text(
     ensures complete { (text : List ℕ) → HasText form bytes.items text → MatchResult result (λ t. t.items ≡ text)
         (λ fault. fault ≡ ListingFault.NoMemory) }
 {
+    each_listing_has_one_text_or_one_fault();
     match form {
         ListingForm::Text => Ok(bytes),
         ListingForm::Program => program_text(alloc, &bytes),
@@ -80,4 +82,15 @@ pub fn read_listing(
         Ok(statements) => Ok(statements),
         Err(fault) => Err(Refusal::Script(fault)),
     }
+}
+
+/// A law, with nothing to run: a listing in a form has one text or one fault, never both, and it is of one
+/// list of statements at most.
+pub fn each_listing_has_one_text_or_one_fault()
+    ensures one_text { OneText }
+    ensures one_list { OneList }
+    ensures one_fault { OneFault }
+    ensures not_both { NotBoth }
+{
+    each_text_is_a_script_or_has_one_fault();
 }

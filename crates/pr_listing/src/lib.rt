@@ -28,6 +28,8 @@ mod petcat;
 mod program;
 
 pub use fault::ListingFault;
-pub use form::{ListingForm, Refusal, read_listing, script_text};
+pub use form::{
+    ListingForm, Refusal, each_listing_has_one_text_or_one_fault, read_listing, script_text,
+};
 pub use petcat::petcat_text;
 pub use program::program_text;

@@ -90,11 +90,13 @@ fn add_name<'a>(text: &mut Vec<u8>, bytes: &'a [u8]) -> Result<&'a [u8], PieceFa
     if n == bytes.len() {
         return Err(PieceFault::UnknownName);
     }
-    let Some((count, b)) = named(&bytes[..n]) else {
-        return Err(PieceFault::UnknownName);
-    };
-    add_times(text, count, b)?;
-    Ok(&bytes[n + 1..])
+    match named(&bytes[..n]) {
+        None => Err(PieceFault::UnknownName),
+        Some((count, b)) => match add_times(text, count, b) {
+            Ok(()) => Ok(&bytes[n + 1..]),
+            Err(_) => Err(PieceFault::NoMemory),
+        },
+    }
 }
 
 /// Adds a character of a string, which may be its last quote.
@@ -106,8 +108,10 @@ fn add_character(text: &mut Vec<u8>, c: u8) -> Result<(), PieceFault>
     let Some(b) = byte_of(c) else {
         return Err(PieceFault::BadByte);
     };
-    add_quoted(text, b)?;
-    Ok(())
+    match add_quoted(text, b) {
+        Ok(()) => Ok(()),
+        Err(_) => Err(PieceFault::NoMemory),
+    }
 }
 
 /// Adds a byte as it is.
@@ -135,17 +139,16 @@ fn add_piece<'a>(
 {
     let c = bytes[0];
     let after = &bytes[1..];
-    if quoted && c == b'{' {
+    if !quoted {
+        add_one(text, c)?;
+        return Ok((after, c == b'"'));
+    }
+    if c == b'{' {
         let rest = add_name(text, after)?;
         return Ok((rest, true));
     }
-    if quoted {
-        add_character(text, c)?;
-    } else {
-        add_one(text, c)?;
-    }
-    let in_string = if c == b'"' { !quoted } else { quoted };
-    Ok((after, in_string))
+    add_character(text, c)?;
+    Ok((after, c != b'"'))
 }
 
 /// Adds the pieces of a line. A fault comes with how many bytes are before it.
@@ -271,7 +274,7 @@ pub fn petcat_text(alloc: Global, file: &[u8]) -> Result<Vec<u8>, ListingFault>
         if let Err((fault, column)) = add_line(&mut text, without_return(line)) {
             return Err(fault.at(number, column + 1));
         }
-        if text.push(b'\n').is_err() {
+        if let Err(_) = text.push(b'\n') {
             return Err(ListingFault::NoMemory);
         }
         rest = more;

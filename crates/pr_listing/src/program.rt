@@ -93,7 +93,7 @@ pub fn program_text(alloc: Global, file: &[u8]) -> Result<Vec<u8>, ListingFault>
                 bytes,
                 rest: more,
             } => {
-                if add_line(&mut text, line, bytes).is_err() {
+                if let Err(_) = add_line(&mut text, line, bytes) {
                     return Err(ListingFault::NoMemory);
                 }
                 number += 1;

@@ -1,6 +1,7 @@
-use Rattle.std.proofs.Common.{◌≡◌, ◌<◌, length, get_or, drop, take, arith, sym, ◌∙◌, ◌+◌}
-use Rattle.std.proofs.lemmas.Grind.{common_steps}
+use Rattle.std.proofs.Common.{◌≡◌, ◌<◌, ◌≤◌, length, get_or, drop, take, arith, sym, ◌∙◌, ◌+◌, length-drop}
 use Rattle.std.proofs.lemmas.List.{take_rest}
+use Rattle.std.specs.List.{prefix_len}
+use Rattle.pr_listing.specs.Program.{is_not_zero}
 use Rattle.pr_listing.proofs.FrontLemmas.{at_end, cut_in_line, cut_in_number, line_at}
 use Rattle.pr_listing.proofs.program.front_of.Goals as goal
 
@@ -16,4 +17,12 @@ returns-then-n-after c =
     cut_in_line _ (omega arith) (omega arith) (rw after at (sym c.count_to_zero-n.ensures.count ∙ c.if-n-after.true))
 
 pub returns : goal.returns
-returns c = ?
+returns c =
+    let after = take_rest c.args.bytes.now 4 in
+    let count = rw after at c.count_to_zero-n.ensures.count in
+    let within = rw after at c.count_to_zero-n.ensures.within in
+    let more = rw after at c.if-n-after.false in
+    rw (after, take_rest (drop 4 c.args.bytes.now) (c.count_to_zero-n.result + 1)) (
+      line_at c.args.bytes.now _ _ (omega arith) (omega arith) (omega arith) count (omega (arith, within, more)),
+      omega (arith, length-drop (c.count_to_zero-n.result + 1) (drop 4 c.args.bytes.now), length-drop 4 c.args.bytes.now)
+    )
