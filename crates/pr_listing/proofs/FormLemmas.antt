@@ -1,9 +1,13 @@
 -- The laws of listings in each form.
-use Rattle.std.proofs.Common.{◌≡◌, ℕ, List, sym, ◌∙◌, subst}
-use Rattle.std.specs.Prelude.{MatchResult, Result, Ok, Err}
+use Rattle.std.proofs.Common.{◌≡◌, ℕ, List, sym, ◌∙◌, subst, ◌⊎◌, inl, inr}
+use Rattle.std.specs.Prelude.{IfErr, IfOk, MatchResult, Result, Ok, Err}
 use Rattle.pr_basic.specs.Grammar.{IsScript}
 use Rattle.pr_basic.specs.declared.statement.Statement.{Statement}
 use Rattle.pr_listing.specs.FormLaws.{NotBoth, OneFault, OneList, OneText}
+use Rattle.pr_listing.specs.Forms.{HasNoText, HasText}
+use Rattle.pr_listing.specs.declared.fault.ListingFault.{ListingFault}
+use Rattle.pr_listing.specs.declared.fault.ListingFault.TheVariants.{NoMemory}
+use Rattle.pr_listing.specs.declared.form.ListingForm.{ListingForm}
 use Rattle.pr_listing.specs.declared.form.ListingForm.TheVariants.{Petcat, Program, Text}
 use Rattle.pr_listing.proofs.Unique as program
 use Rattle.pr_listing.proofs.UniquePieces as petcat
@@ -31,3 +35,10 @@ not_both Petcat bytes text f h k = petcat.not_both (lines_of bytes) text k.0 k.1
 pub one_list : ((bytes : List ℕ) (ss others : List Statement) → IsScript bytes ss → IsScript bytes others → ss ≡ others) → OneList
 one_list law form bytes ss others h k =
     law h.0 ss others h.2 (subst (λ (v : List ℕ). IsScript v others) (sym (one_text form bytes h.0 k.0 h.1 k.1)) k.2)
+
+-- whoever gives the text or the fault gives the one text
+pub complete : {V : Type 0} (items : V → List ℕ) (form : ListingForm) (bytes text : List ℕ) (r : Result V ListingFault) → IfOk r (λ t. HasText form bytes (items t)) → IfErr r (λ f. (f ≡ NoMemory) ⊎ HasNoText form bytes f) → HasText form bytes text
+    → MatchResult r (λ t. items t ≡ text) (λ f. f ≡ NoMemory)
+complete items form bytes text (Ok t) h k has = one_text form bytes (items t) text h has
+complete items form bytes text (Err f) h (inl none) has = none
+complete items form bytes text (Err f) h (inr fault) has = absurd (not_both form bytes text f has fault)

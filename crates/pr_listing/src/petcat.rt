@@ -82,7 +82,7 @@ fn add_times(text: &mut Vec<u8>, count: u32, b: u8) -> Result<(), AllocError>
 
 /// Adds what a name says, of which the first brace is before these bytes. Returns the bytes after it.
 fn add_name<'a>(text: &mut Vec<u8>, bytes: &'a [u8]) -> Result<&'a [u8], PieceFault>
-    ensures name { MatchResult result
+    ensures { MatchResult result
         (λ rest. IsNameTaken bytes.entry.now rest.now text.old.items text.new.items × (length rest.now < length bytes.entry.now))
         (λ fault. (fault ≡ PieceFault.NoMemory) ⊎ ((fault ≡ PieceFault.UnknownName) × IsNoName bytes.entry.now)) }
 {
@@ -133,7 +133,7 @@ fn add_piece<'a>(
     bytes: &'a [u8],
 ) -> Result<(&'a [u8], bool), PieceFault>
     requires { 0 < length bytes.now }
-    ensures piece { MatchResult result
+    ensures { MatchResult result
         (λ r. IsPieceTaken quoted bytes.entry.now r.0.now r.1 text.old.items text.new.items × (length r.0.now < length bytes.entry.now))
         (λ fault. (fault ≡ PieceFault.NoMemory) ⊎ ((quoted ≡ true) × IsPieceFault fault bytes.entry.now)) }
 {
@@ -156,6 +156,7 @@ fn add_pieces(text: &mut Vec<u8>, front: &[u8]) -> Result<(), (PieceFault, usize
     ensures pieces { MatchResult result
         (λ _. IsFrontTaken front.now text.old.items text.new.items)
         (λ e. (e.0 ≡ PieceFault.NoMemory) ⊎ IsFrontFault e.0 e.1 front.now) }
+    ensures within { IfErr result (λ e. e.1 ≤ length front.now) }
 {
     let mut rest = front;
     let mut quoted = false;
@@ -208,6 +209,7 @@ fn add_line(text: &mut Vec<u8>, line: &[u8]) -> Result<(), (PieceFault, usize)>
     ensures line { MatchResult result
         (λ _. IsLineTaken line.now text.old.items text.new.items)
         (λ e. (e.0 ≡ PieceFault.NoMemory) ⊎ IsLineFault e.0 e.1 line.now) }
+    ensures within { IfErr result (λ e. e.1 ≤ length line.now) }
 {
     if is_heading(line) {
         return Ok(());
