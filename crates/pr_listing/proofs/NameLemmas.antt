@@ -1,30 +1,22 @@
 -- Laws of the table of names, and of numbers that digits spell.
 use Rattle.std.proofs.Common.{◌≡◌, ℕ, suc, ◌+◌, ◌-◌, ◌*◌, ◌<◌, ◌≤◌, Bool, true, false, cond, List, [], ◌∷◌, length, get_or, drop, map, refl, ap, sym, ◌∙◌, arith, Option, None, Some, add-one, drop-cons}
-use Rattle.std.proofs.lemmas.List.{drop_all}
 use Rattle.std.specs.List.{position_from}
 use Rattle.pr_base.specs.Digits.{number_after, number_of}
-use Rattle.pr_listing.specs.Names.{names}
-
--- the table has 130 names
-pub length-names : length names ≡ 130
-unfolding names
-length-names = refl
-
--- the next name of a table, from one on
-next_name : {A : Type 0} (t : A → Bool) (d : A) (xs : List A) (i : ℕ) → i < length xs → position_from t i (drop i xs) ≡ cond (t (get_or xs i d)) (Some i) (position_from t (i + 1) (drop (i + 1) xs))
-next_name t d xs i h = rw (drop-cons xs i d, add-one) refl
+use Rattle.pr_base.specs.Lines.{lines_of}
 
 -- a name that is not the next is looked for after it
-pub passed : {A : Type 0} (t : A → Bool) (d : A) (xs : List A) (i : ℕ) → i < length xs → t (get_or xs i d) ≡ false → position_from t i (drop i xs) ≡ position_from t (i + 1) (drop (i + 1) xs)
-passed t d xs i h e = next_name t d xs i h ∙ rw e refl
+pub passed : (t : List ℕ → Bool) (x : List ℕ) (xs : List (List ℕ)) (i : ℕ) → t x ≡ false → position_from t i (x ∷ xs) ≡ position_from t (i + 1) xs
+passed t x xs i e = rw e refl
 
 -- a name that is the next is found
-pub found : {A : Type 0} (t : A → Bool) (d : A) (xs : List A) (i : ℕ) → i < length xs → t (get_or xs i d) ≡ true → position_from t i (drop i xs) ≡ Some i
-found t d xs i h e = next_name t d xs i h ∙ rw e refl
+pub found : (t : List ℕ → Bool) (x : List ℕ) (xs : List (List ℕ)) (i : ℕ) → t x ≡ true → position_from t i (x ∷ xs) ≡ Some i
+found t x xs i e = rw e refl
 
--- no name is found at the end
-pub not_found : {A : Type 0} (t : A → Bool) (xs : List A) (i : ℕ) → length xs ≤ i → position_from t i (drop i xs) ≡ None
-not_found t xs i h = rw (drop_all i xs h) refl
+-- no name is found in no text
+pub not_found : (t : List ℕ → Bool) (bs : List ℕ) (i : ℕ) → length bs ≡ 0 → position_from t i (lines_of bs) ≡ None
+unfolding lines_of
+not_found t [] i h = refl
+not_found t (b ∷ bs) i h = absurd (omega arith)
 
 -- more digits make no smaller number
 grows : (n : ℕ) (ds : List ℕ) → n ≤ number_after n ds

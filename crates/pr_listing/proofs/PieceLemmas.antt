@@ -174,23 +174,22 @@ all_read file text (b ∷ rest) number h e = absurd (omega arith)
 -- a line with a fault after the lines that were read
 pub fault_found : (file text rest line after : List ℕ) (number column : ℕ) (f : PieceFault) (fault : ListingFault) → IsReadTo file text rest number → lines_of rest ≡ line ∷ lines_of after → IsLineFault f column (without_return line) → fault ≡ at_place f number (column + 1)
     → IsPetcatFault file fault
-fault_found file text rest line after number column f fault h cut k e =
-    (
-      f,
-      number,
-      column,
-      record {
-        before = h.before;
-        line = line;
-        after = lines_of after;
-        text = text;
-        cut = h.cut ∙ ap (λ v. h.before ++ v) cut;
-        good = h.has;
-        fault = k;
-        numbered = h.numbered;
-      },
-      e ∙ ap (λ v. at_place f number v) (add-one column)
-    )
+fault_found file text rest line after number column f fault h cut k e = (
+  f,
+  number,
+  column,
+  record {
+    before = h.before;
+    line = line;
+    after = lines_of after;
+    text = text;
+    cut = h.cut ∙ ap (λ v. h.before ++ v) cut;
+    good = h.has;
+    fault = k;
+    numbered = h.numbered;
+  },
+  e ∙ ap (λ v. at_place f number v) (add-one column),
+)
 
 -- a line that fails after the lines that were read
 pub refused_at : (file text rest line cut after : List ℕ) (number column : ℕ) (f : PieceFault) (fault : ListingFault) → IsReadTo file text rest number → lines_of rest ≡ line ∷ lines_of after → cut ≡ without_return line
@@ -200,12 +199,11 @@ refused_at file text rest line cut after number column f fault h e same (inr fou
 
 -- the text of a line is added
 pub line_taken : (line old mid new : List ℕ) (n : ℕ) → n ≡ before_remark false line → ¬ IsHeading line → IsFrontTaken (take n line) old mid → new ≡ mid ++ drop n line → IsLineTaken line old new
-line_taken line old mid new n e none h k =
-    (
-      h.1.said ++ remark_of line,
-      inr (none, (h.1.pieces, h.1.said, h.0, subst (λ (v : ℕ). HaveText false h.1.pieces (take v line) h.1.said h.0 []) e h.1.have, refl)),
-      k ∙ (ap (λ v. v ++ drop n line) h.1.is_text ∙ (append_assoc old h.1.said (drop n line) ∙ ap (λ v. old ++ (h.1.said ++ drop v line)) e))
-    )
+line_taken line old mid new n e none h k = (
+  h.1.said ++ remark_of line,
+  inr (none, (h.1.pieces, h.1.said, h.0, subst (λ (v : ℕ). HaveText false h.1.pieces (take v line) h.1.said h.0 []) e h.1.have, refl)),
+  k ∙ (ap (λ v. v ++ drop n line) h.1.is_text ∙ (append_assoc old h.1.said (drop n line) ∙ ap (λ v. old ++ (h.1.said ++ drop v line)) e)),
+)
 
 -- one line more is read, with byte 10 behind its text
 pub line_read : (file text rest line cut after mid more : List ℕ) (number : ℕ) → IsReadTo file text rest number → lines_of rest ≡ line ∷ lines_of after → cut ≡ without_return line → IsLineTaken cut text mid → more ≡ mid ++ 10 ∷ [] → IsReadTo file more after (number + 1)

@@ -158,7 +158,7 @@ line_not_both line t f column (inr (none, (ps, said, m, h, e))) k =
 line_one_fault : (line : List ℕ) (f g : PieceFault) (c d : ℕ) → IsLineFault f c line → IsLineFault g d line → (f ≡ g) × (c ≡ d)
 line_one_fault line f g c d h k =
     let same : (h.said ≡ k.said) × (true ≡ true) × (h.rest ≡ k.rest) =
-        one_end false h.pieces k.pieces (front_of line) h.said k.said true true h.rest k.rest h.good k.good (inr (refl, (f, h.fault))) (inr (refl, (g, k.fault))) in
+    one_end false h.pieces k.pieces (front_of line) h.said k.said true true h.rest k.rest h.good k.good (inr (refl, (f, h.fault))) (inr (refl, (g, k.fault))) in
     let rest : length h.rest ≡ length k.rest = ap length same.2 in
     (piece_one_fault f g k.rest (subst (IsPieceFault f) same.2 h.fault) k.fault, omega (arith, h.at, k.at, rest))
 
@@ -195,6 +195,6 @@ one_place (o ∷ before) (n ∷ behind) l m after left t u f g c d e h k x y =
 pub one_fault : (file : List ℕ) (f g : ListingFault) → IsPetcatFault file f → IsPetcatFault file g → f ≡ g
 one_fault file f g (p, number, column, h, e) (q, count, place, k, d) =
     let same : (p ≡ q) × (column ≡ place) × (length h.before ≡ length k.before) =
-        one_place h.before k.before h.line k.line h.after k.after h.text k.text p q column place (sym h.cut ∙ k.cut) h.good k.good h.fault k.fault in
+    one_place h.before k.before h.line k.line h.after k.after h.text k.text p q column place (sym h.cut ∙ k.cut) h.good k.good h.fault k.fault in
     let numbers : number ≡ count = omega (arith, h.numbered, k.numbered, same.2) in
     e ∙ (ap (λ v. at_place v number (suc column)) same.0 ∙ (ap (λ v. at_place q v (suc column)) numbers ∙ (ap (λ v. at_place q count (suc v)) same.1 ∙ sym d)))

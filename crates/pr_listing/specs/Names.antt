@@ -4,6 +4,7 @@ use Rattle.std.specs.Char.{to_ascii_lowercase}
 use Rattle.std.specs.List.{position_from, prefix_len}
 use Rattle.std.specs.Str.{bytes_eq}
 use Rattle.pr_base.specs.Digits.{is_digit, number_of}
+use Rattle.pr_base.specs.Lines.{lines_of}
 use Rattle.pr_listing.specs.declared.names.TheConstants.{NAMES}
 
 -- the byte of the name at a place of the table: bytes 0 to 31 first, then 128 to 223, and 32 twice
@@ -38,13 +39,9 @@ abbrev pub at_place : Option ℕ → Option ℕ
 at_place None = None
 at_place (Some place) = Some (byte_at place)
 
--- the names of the table
-unfoldable pub names : List (List ℕ)
-names = map (λ name. name.now) NAMES
-
--- the place of a name in the table
+-- the place of a name in the table, which has one in each line
 unfoldable pub place_of : List ℕ → Option ℕ
-place_of name = position_from (is_name name) 0 names
+place_of name = position_from (is_name name) 0 (lines_of NAMES.now)
 
 -- the byte of a name without a count: its number, or its place in the table
 unfoldable pub byte_named : List ℕ → Option ℕ

@@ -26,6 +26,7 @@ mod line;
 mod names;
 mod petcat;
 mod program;
+mod text_lines;
 
 pub use fault::ListingFault;
 pub use form::{

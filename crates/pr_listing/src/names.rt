@@ -1,152 +1,38 @@
 //! The names of bytes, as petcat writes them in braces.
 
-ghost use Rattle.std.specs.Prelude.{◌≡◌, ◌≢◌, ◌≤◌, ◌<◌, ◌∷◌, [], ℕ, List, length, slice_index_or, IfSome, IsTrue, MatchOption};
+ghost use Rattle.std.specs.Prelude.{◌≡◌, ◌≢◌, ◌≤◌, ◌<◌, ◌∷◌, ℕ, List, length, IsTrue, MatchOption};
 ghost use Rattle.pr_base.specs.Digits.{number_of};
-ghost use Rattle.pr_listing.specs.Names.{byte_at, byte_named, hex_byte, hex_value, is_hex, is_name, named, names, place_of};
+ghost use Rattle.pr_listing.specs.Names.{byte_at, byte_named, hex_byte, hex_value, is_hex, is_name, named, place_of};
 
+use crate::text_lines::cut_line;
 use pr_base::{digit_count, is_digit};
 
-/// The names of bytes 0 to 31, of bytes 128 to 223, and two of byte 32, in the order of the bytes
-/// (petcat of VICE, its table for BASIC 2). Where petcat has no name, the byte's number is here.
-pub const NAMES: [&str; 130] = [
-    "$00",
-    "ctrl-a",
-    "ctrl-b",
-    "stop",
-    "ctrl-d",
-    "wht",
-    "ctrl-f",
-    "ctrl-g",
-    "dish",
-    "ensh",
-    "ctrl-j",
-    "ctrl-k",
-    "ctrl-l",
-    "$0d",
-    "swlc",
-    "ctrl-o",
-    "ctrl-p",
-    "down",
-    "rvon",
-    "home",
-    "del",
-    "ctrl-u",
-    "ctrl-v",
-    "ctrl-w",
-    "ctrl-x",
-    "ctrl-y",
-    "ctrl-z",
-    "esc",
-    "red",
-    "rght",
-    "grn",
-    "blu",
-    "$80",
-    "orng",
-    "$82",
-    "$83",
-    "$84",
-    "f1",
-    "f3",
-    "f5",
-    "f7",
-    "f2",
-    "f4",
-    "f6",
-    "f8",
-    "sret",
-    "swuc",
-    "$8f",
-    "blk",
-    "up",
-    "rvof",
-    "clr",
-    "inst",
-    "brn",
-    "lred",
-    "gry1",
-    "gry2",
-    "lgrn",
-    "lblu",
-    "gry3",
-    "pur",
-    "left",
-    "yel",
-    "cyn",
-    "shift-space",
-    "cbm-k",
-    "cbm-i",
-    "cbm-t",
-    "cbm-@",
-    "cbm-g",
-    "cbm-+",
-    "cbm-m",
-    "cbm-pound",
-    "shift-pound",
-    "cbm-n",
-    "cbm-q",
-    "cbm-d",
-    "cbm-z",
-    "cbm-s",
-    "cbm-p",
-    "cbm-a",
-    "cbm-e",
-    "cbm-r",
-    "cbm-w",
-    "cbm-h",
-    "cbm-j",
-    "cbm-l",
-    "cbm-y",
-    "cbm-u",
-    "cbm-o",
-    "shift-@",
-    "cbm-f",
-    "cbm-c",
-    "cbm-x",
-    "cbm-v",
-    "cbm-b",
-    "shift-*",
-    "shift-a",
-    "shift-b",
-    "shift-c",
-    "shift-d",
-    "shift-e",
-    "shift-f",
-    "shift-g",
-    "shift-h",
-    "shift-i",
-    "shift-j",
-    "shift-k",
-    "shift-l",
-    "shift-m",
-    "shift-n",
-    "shift-o",
-    "shift-p",
-    "shift-q",
-    "shift-r",
-    "shift-s",
-    "shift-t",
-    "shift-u",
-    "shift-v",
-    "shift-w",
-    "shift-x",
-    "shift-y",
-    "shift-z",
-    "shift-+",
-    "cbm--",
-    "shift--",
-    "$de",
-    "cbm-*",
-    "space",
-    "spaces",
-];
+/// The names of bytes 0 to 31, of bytes 128 to 223, and two of byte 32, in the order of the bytes, each
+/// in a line (petcat of VICE, its table for BASIC 2). Where petcat has no name, the byte's number is here.
+pub const NAMES: &str = "\
+$00\nctrl-a\nctrl-b\nstop\nctrl-d\nwht\nctrl-f\nctrl-g\n\
+dish\nensh\nctrl-j\nctrl-k\nctrl-l\n$0d\nswlc\nctrl-o\n\
+ctrl-p\ndown\nrvon\nhome\ndel\nctrl-u\nctrl-v\nctrl-w\n\
+ctrl-x\nctrl-y\nctrl-z\nesc\nred\nrght\ngrn\nblu\n\
+$80\norng\n$82\n$83\n$84\nf1\nf3\nf5\n\
+f7\nf2\nf4\nf6\nf8\nsret\nswuc\n$8f\n\
+blk\nup\nrvof\nclr\ninst\nbrn\nlred\ngry1\n\
+gry2\nlgrn\nlblu\ngry3\npur\nleft\nyel\ncyn\n\
+shift-space\ncbm-k\ncbm-i\ncbm-t\ncbm-@\ncbm-g\ncbm-+\ncbm-m\n\
+cbm-pound\nshift-pound\ncbm-n\ncbm-q\ncbm-d\ncbm-z\ncbm-s\ncbm-p\n\
+cbm-a\ncbm-e\ncbm-r\ncbm-w\ncbm-h\ncbm-j\ncbm-l\ncbm-y\n\
+cbm-u\ncbm-o\nshift-@\ncbm-f\ncbm-c\ncbm-x\ncbm-v\ncbm-b\n\
+shift-*\nshift-a\nshift-b\nshift-c\nshift-d\nshift-e\nshift-f\nshift-g\n\
+shift-h\nshift-i\nshift-j\nshift-k\nshift-l\nshift-m\nshift-n\nshift-o\n\
+shift-p\nshift-q\nshift-r\nshift-s\nshift-t\nshift-u\nshift-v\nshift-w\n\
+shift-x\nshift-y\nshift-z\nshift-+\ncbm--\nshift--\n$de\ncbm-*\n\
+space\nspaces";
 
 /// The most bytes that one name says (profile).
 const MOST: u32 = 255;
 
 /// The byte of the name at a place of [`NAMES`].
 fn byte_at(place: usize) -> u8
-    requires { place < 130 }
     ensures { result ≡ byte_at place }
 {
     if place < 32 {
@@ -158,28 +44,29 @@ fn byte_at(place: usize) -> u8
     b' '
 }
 
-/// Whether a name is the one at a place of [`NAMES`], in either case.
-#[tactic(auto, unfolding(crate::specs::Names::names))]
-fn is_name_at(name: &[u8], place: usize) -> bool
-    requires { place < 130 }
-    ensures { result ≡ is_name name.now (slice_index_or names place []) }
-{
-    let known = NAMES[place];
-    known.as_bytes().eq_ignore_ascii_case(name)
-}
-
 /// The place of a name in [`NAMES`], in either case.
 #[tactic(auto, unfolding(crate::specs::Names::place_of))]
 fn place_of(name: &[u8]) -> Option<usize>
-    ensures place { result ≡ place_of name.now }
-    ensures within { IfSome result (λ place. place < 130) }
+    ensures { result ≡ place_of name.now }
 {
-    for i in 0..130 {
-        if is_name_at(name, i) {
-            return Some(i);
+    let mut rest = NAMES.as_bytes();
+    let mut place = 0;
+    while !rest.is_empty() {
+        let (known, more) = cut_line(rest);
+        if is_name(name, known) {
+            return Some(place);
         }
+        rest = more;
+        place += 1;
     }
     None
+}
+
+/// Whether a name is a known one, in either case.
+fn is_name(name: &[u8], known: &[u8]) -> bool
+    ensures { result ≡ is_name name.now known.now }
+{
+    known.eq_ignore_ascii_case(name)
 }
 
 /// Whether a byte is a hexadecimal digit, in either case.

@@ -2,8 +2,6 @@
 
 ghost use Rattle.std.specs.Prelude.{◌≡◌, ◌++◌, ◌≤◌, ◌<◌, ◌∷◌, ◌⊎◌, ◌↔◌, ℕ, [], None, Some, false, length, true, IfErr, IfOk, IsTrue, MatchResult, OnOk};
 ghost use Rattle.std.specs.List.{prefix_len};
-ghost use Rattle.pr_base.specs.Lines.{lines_of};
-ghost use Rattle.pr_basic.specs.Grammar.{without_return};
 ghost use Rattle.pr_listing.specs.Listing.{quoted_text, string_text};
 ghost use Rattle.pr_listing.specs.Petcat.{IsHeading, IsLineFault, IsPetcatFault, IsPetcatText, IsPieceFault, at_place, before_remark, begins_remark, byte_of, is_in_braces, repeated};
 ghost use Rattle.pr_listing.specs.Pieces.{IsFrontFault, IsFrontTaken, IsLineTaken, IsNameTaken, IsNoName, IsPieceTaken};
@@ -11,6 +9,7 @@ ghost use Rattle.pr_listing.specs.Pieces.{IsFrontFault, IsFrontTaken, IsLineTake
 use crate::fault::ListingFault;
 use crate::line::{add_in_string, add_quoted};
 use crate::names::named;
+use crate::text_lines::{cut_line, without_return};
 use std::alloc::{AllocError, Global};
 
 /// Why no piece of a string is at a place.
@@ -219,32 +218,6 @@ fn add_line(text: &mut Vec<u8>, line: &[u8]) -> Result<(), (PieceFault, usize)>
     match text.extend_from_slice(&line[n..]) {
         Ok(()) => Ok(()),
         Err(_) => Err((PieceFault::NoMemory, 0)),
-    }
-}
-
-/// The first line, and what follows its end.
-fn cut_line(bytes: &[u8]) -> (&[u8], &[u8])
-    requires { 0 < length bytes.now }
-    ensures lines { lines_of bytes.now ≡ result.0.now ∷ lines_of result.1.now }
-    ensures less { length result.1.now < length bytes.now }
-{
-    for (i, b) in bytes.iter().enumerate() {
-        if *b == b'\n' {
-            return (&bytes[..i], &bytes[i + 1..]);
-        }
-    }
-    (bytes, &[])
-}
-
-/// A line without a byte 13 at its end.
-fn without_return(line: &[u8]) -> &[u8]
-    ensures { result.now ≡ without_return line.now }
-{
-    let n = line.len();
-    if n > 0 && line[n - 1] == b'\r' {
-        &line[..n - 1]
-    } else {
-        line
     }
 }
 

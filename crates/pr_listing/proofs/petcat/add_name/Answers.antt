@@ -23,5 +23,5 @@ returns-in-Ok c =
         known = sym c.in-Some.ensures;
         is_text = c.in-Ok.ensures;
       },
-      omega (arith, length-drop (c.count_to_brace-n.result + 1) c.args.bytes.now)
+      omega (arith, length-drop (c.count_to_brace-n.result + 1) c.args.bytes.now),
     )

@@ -24,5 +24,5 @@ returns c =
     let more = rw after at c.if-n-after.false in
     rw (after, take_rest (drop 4 c.args.bytes.now) (c.count_to_zero-n.result + 1)) (
       line_at c.args.bytes.now _ _ (omega arith) (omega arith) (omega arith) count (omega (arith, within, more)),
-      omega (arith, length-drop (c.count_to_zero-n.result + 1) (drop 4 c.args.bytes.now), length-drop 4 c.args.bytes.now)
+      omega (arith, length-drop (c.count_to_zero-n.result + 1) (drop 4 c.args.bytes.now), length-drop 4 c.args.bytes.now),
     )

@@ -1,7 +1,7 @@
 use Rattle.std.proofs.Common.{arith, add-one}
 use Rattle.std.proofs.lemmas.List.{take_rest}
 use Rattle.pr_listing.proofs.LineLaws.{first_line, only_line}
-use Rattle.pr_listing.proofs.petcat.cut_line.Goals as goal
+use Rattle.pr_listing.proofs.text_lines.cut_line.Goals as goal
 
 pub returns-then-b-eq10-clause-lines : goal.returns-then-b-eq10-clause-lines
 returns-then-b-eq10-clause-lines c = rw (take_rest, add-one) (first_line _ c.loop-i.i (omega arith) c.if-b-eq10.true c.loop-i.invariant)

@@ -1,5 +1,5 @@
 use Rattle.std.proofs.Common.{◌≡◌, ℕ, ◌<◌, get_or}
-use Rattle.pr_listing.proofs.petcat.cut_line.Given as goal
+use Rattle.pr_listing.proofs.text_lines.cut_line.Given as goal
 
 -- no line has ended yet
 abbrev pub invariant-loop-i : goal.invariant-loop-i
