@@ -1,8 +1,8 @@
 -- What is at the front of the bytes that are left of a program.
-use Rattle.std.proofs.Common.{◌≡◌, ℕ, suc, ◌+◌, ◌*◌, ◌<◌, ◌≤◌, ◌==◌, not, Bool, true, false, List, [], ◌∷◌, ◌++◌, length, get_or, take, drop, refl, ap, sym, ◌∙◌, arith, subst, ◌⊎◌, inl, inr}
+use Rattle.std.proofs.Common.{◌≡◌, ℕ, suc, ◌+◌, ◌*◌, ◌<◌, ◌≤◌, false, List, [], ◌∷◌, length, get_or, take, drop, refl, ap, arith, inl, inr}
 use Rattle.std.proofs.lemmas.Grind.{common_steps}
 use Rattle.std.specs.List.{prefix_len}
-use Rattle.pr_listing.specs.Program.{BeginsWith, IsCutOff, Line, is_not_zero}
+use Rattle.pr_listing.specs.Program.{BeginsWith, IsCutOff, is_not_zero}
 use Rattle.pr_listing.proofs.Marks.{at_mark, before_mark, no_mark}
 
 -- the test fails at 0 alone

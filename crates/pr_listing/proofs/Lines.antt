@@ -1,8 +1,8 @@
 -- Lines of a program that are read one by one.
-use Rattle.std.proofs.Common.{◌≡◌, ℕ, suc, ◌+◌, List, [], ◌∷◌, ◌++◌, length, refl, ap, sym, ◌∙◌, arith, subst, append_assoc, append-nil, length-append}
+use Rattle.std.proofs.Common.{◌≡◌, ℕ, ◌+◌, List, [], ◌∷◌, ◌++◌, refl, ap, sym, ◌∙◌, arith, subst, append_assoc, append-nil, length-append}
 use Rattle.pr_listing.specs.Front.{IsReadTo}
 use Rattle.pr_listing.specs.Listing.{line_text, lines_text}
-use Rattle.pr_listing.specs.Program.{BeginsWith, BeginsWithLines, Holds, Line}
+use Rattle.pr_listing.specs.Program.{BeginsWith, BeginsWithLines, Line}
 
 -- one line more at the end
 begins-one_more : (ls : List Line) (l : Line) (bytes rest after : List ℕ) → BeginsWithLines ls bytes rest → BeginsWith l rest after → BeginsWithLines (ls ++ l ∷ []) bytes after

@@ -1,5 +1,5 @@
 -- Laws of the table of names, and of numbers that digits spell.
-use Rattle.std.proofs.Common.{◌≡◌, ℕ, suc, ◌+◌, ◌-◌, ◌*◌, ◌<◌, ◌≤◌, Bool, true, false, cond, List, [], ◌∷◌, length, get_or, drop, map, refl, ap, sym, ◌∙◌, arith, Option, None, Some, add-one, drop-cons}
+use Rattle.std.proofs.Common.{◌≡◌, ℕ, ◌+◌, ◌-◌, ◌*◌, ◌<◌, ◌≤◌, Bool, true, false, List, [], ◌∷◌, length, get_or, drop, refl, arith, None, Some, add-one, drop-cons}
 use Rattle.std.specs.List.{position_from}
 use Rattle.pr_base.specs.Digits.{number_after, number_of}
 use Rattle.pr_base.specs.Lines.{lines_of}

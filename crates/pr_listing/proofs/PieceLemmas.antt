@@ -1,5 +1,5 @@
 -- Pieces of petcat's text that are taken one by one, and lines of them.
-use Rattle.std.proofs.Common.{◌≡◌, ℕ, suc, ◌+◌, ◌<◌, ◌==◌, not, get_or, Bool, true, false, IsTrue, List, [], ◌∷◌, ◌++◌, length, take, drop, refl, ap, sym, ◌∙◌, arith, subst, add-one, append_assoc, append-nil, length-append, ◌⊎◌, inl, inr, Option, None, Some}
+use Rattle.std.proofs.Common.{◌≡◌, ℕ, suc, ◌+◌, ◌<◌, ◌==◌, not, get_or, Bool, true, false, List, [], ◌∷◌, ◌++◌, length, take, drop, refl, ap, sym, ◌∙◌, arith, subst, add-one, append_assoc, append-nil, length-append, ◌⊎◌, inl, inr, None, Some}
 use Rattle.std.proofs.lemmas.Grind.{common_steps}
 use Rattle.std.specs.Prelude.{if◌then◌else◌}
 use Rattle.std.specs.List.{list_all, prefix_len}
@@ -7,7 +7,7 @@ use Rattle.pr_base.specs.Lines.{lines_of}
 use Rattle.pr_basic.specs.Grammar.{without_return}
 use Rattle.pr_listing.specs.Listing.{quoted_text, string_text}
 use Rattle.pr_listing.specs.Names.{named}
-use Rattle.pr_listing.specs.Petcat.{AreLinesFault, Character, HasLineText, IsHeading, remark_of, HasText, HaveLinesText, HaveText, IsLineFault, IsPetcatFault, IsPetcatText, IsPieceFault, Name, Piece, at_place, before_remark, byte_of, is_in_braces, quoted_after, repeated, spelled}
+use Rattle.pr_listing.specs.Petcat.{Character, HasLineText, IsHeading, remark_of, HasText, HaveLinesText, HaveText, IsLineFault, IsPetcatFault, IsPetcatText, IsPieceFault, Name, Piece, at_place, before_remark, byte_of, is_in_braces, quoted_after, repeated, spelled}
 use Rattle.pr_listing.specs.Pieces.{ArePiecesTaken, IsFrontTaken, IsLineTaken, IsNameTaken, IsNoName, IsPieceTaken, IsReadTo}
 use Rattle.pr_listing.specs.declared.fault.ListingFault.{ListingFault}
 use Rattle.pr_listing.specs.declared.fault.ListingFault.TheVariants as listing

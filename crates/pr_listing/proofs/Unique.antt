@@ -1,11 +1,11 @@
 -- A file holds the lines of one program, or it is cut off in one line, and never both.
-use Rattle.std.proofs.Common.{◌≡◌, ℕ, suc, ◌+◌, ◌*◌, ◌<◌, ◌≤◌, IsTrue, Bool, true, false, List, [], ◌∷◌, ◌++◌, length, refl, ap, sym, ◌∙◌, arith, subst, ◌⊎◌, inl, inr}
+use Rattle.std.proofs.Common.{◌≡◌, ℕ, suc, true, List, [], ◌∷◌, ◌++◌, length, refl, ap, sym, ◌∙◌, arith, subst, ◌⊎◌, inl, inr}
 use Rattle.std.proofs.lemmas.Grind.{common_steps}
-use Rattle.std.specs.List.{list_all, prefix_len}
+use Rattle.std.specs.List.{list_all}
 use Rattle.pr_listing.specs.Listing.{IsProgramText, lines_text}
-use Rattle.pr_listing.specs.Program.{BeginsWith, BeginsWithLines, Holds, IsCutOff, IsProgram, IsProgramFault, Line, is_not_zero}
+use Rattle.pr_listing.specs.Program.{BeginsWith, BeginsWithLines, Holds, IsCutOff, IsProgramFault, Line, is_not_zero}
 use Rattle.pr_listing.specs.declared.fault.ListingFault.{ListingFault}
-use Rattle.pr_listing.specs.declared.fault.ListingFault.TheVariants.{CutOff, NoAddress, NoMemory}
+use Rattle.pr_listing.specs.declared.fault.ListingFault.TheVariants.{CutOff}
 use Rattle.pr_listing.proofs.Marks.{first_mark}
 
 -- where no line begins any more: a link of 0, or the end of the bytes

@@ -1,7 +1,5 @@
 -- petcat's text has one text of a script, or one fault, and never both.
-use Rattle.std.proofs.Common.{◌≡◌, ◌≢◌, ℕ, suc, ◌+◌, ◌<◌, ◌≤◌, IsTrue, Bool, true, false, List, [], ◌∷◌, ◌++◌, length, refl, ap, sym, ◌∙◌, arith, subst, ◌⊎◌, inl, inr, Option, None, Some}
-use Rattle.std.proofs.lemmas.Grind.{common_steps}
-use Rattle.std.specs.List.{list_all}
+use Rattle.std.proofs.Common.{◌≡◌, ℕ, suc, Bool, true, false, List, [], ◌∷◌, ◌++◌, length, refl, ap, sym, ◌∙◌, arith, subst, ◌⊎◌, inl, inr, None, Some}
 use Rattle.pr_basic.specs.Grammar.{without_return}
 use Rattle.pr_listing.specs.Listing.{quoted_text, string_text}
 use Rattle.pr_listing.specs.Names.{named}

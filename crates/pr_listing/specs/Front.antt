@@ -1,5 +1,5 @@
 -- Linking words: what is at the front of the bytes that are left of a program, for the code's type. No reader needs to believe them.
-use Rattle.std.specs.Prelude.{◌≡◌, ℕ, suc, ◌<◌, List, [], ◌∷◌, length}
+use Rattle.std.specs.Prelude.{◌≡◌, ℕ, suc, ◌<◌, List, ◌∷◌, length}
 use Rattle.pr_listing.specs.Listing.{lines_text}
 use Rattle.pr_listing.specs.Program as program
 use Rattle.pr_listing.specs.declared.program.Front.{Front}

@@ -1,5 +1,5 @@
 -- Trusted: the names of bytes, as petcat writes them in braces.
-use Rattle.std.specs.Prelude.{ℕ, ◌+◌, ◌-◌, ◌*◌, ◌&&◌, ◌||◌, ◌==◌, Bool, List, [], ◌∷◌, Option, None, Some, length, map, take, drop, nat_le, nat_lt, if◌then◌else◌}
+use Rattle.std.specs.Prelude.{ℕ, ◌+◌, ◌-◌, ◌*◌, ◌&&◌, ◌||◌, ◌==◌, Bool, List, [], ◌∷◌, Option, None, Some, map, take, drop, nat_le, nat_lt, if◌then◌else◌}
 use Rattle.std.specs.Char.{to_ascii_lowercase}
 use Rattle.std.specs.List.{position_from, prefix_len}
 use Rattle.std.specs.Str.{bytes_eq}

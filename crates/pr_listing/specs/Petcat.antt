@@ -1,5 +1,5 @@
 -- Trusted: petcat's text of a program, and the script's text that it says.
-use Rattle.std.specs.Prelude.{◌≡◌, ◌≢◌, ⊤, IsTrue, ℕ, zero, suc, ◌+◌, ◌-◌, ◌⊎◌, ◌&&◌, ◌==◌, not, Bool, true, false, List, [], ◌∷◌, ◌++◌, Option, None, Some, length, map, take, drop, codes, nat_le, if◌then◌else◌}
+use Rattle.std.specs.Prelude.{◌≡◌, ◌≢◌, IsTrue, ℕ, zero, suc, ◌+◌, ◌-◌, ◌⊎◌, ◌&&◌, ◌==◌, not, Bool, true, false, List, [], ◌∷◌, ◌++◌, Option, None, Some, length, map, take, drop, codes, nat_le, if◌then◌else◌}
 use Rattle.std.specs.Char.{to_ascii_lowercase}
 use Rattle.std.specs.List.{list_all}
 use Rattle.std.specs.Str.{bytes_eq}

@@ -1,5 +1,5 @@
 -- Linking words: what the functions of petcat's reader take. No reader needs to believe them.
-use Rattle.std.specs.Prelude.{◌≡◌, IsTrue, ℕ, suc, ◌+◌, Bool, true, false, List, [], ◌∷◌, ◌++◌, Option, None, Some, length}
+use Rattle.std.specs.Prelude.{◌≡◌, IsTrue, ℕ, suc, ◌+◌, Bool, true, false, List, [], ◌∷◌, ◌++◌, None, Some, length}
 use Rattle.std.specs.List.{list_all}
 use Rattle.pr_base.specs.Lines.{lines_of}
 use Rattle.pr_listing.specs.Listing.{string_text}

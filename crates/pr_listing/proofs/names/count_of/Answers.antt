@@ -1,5 +1,5 @@
-use Rattle.std.proofs.Common.{◌≡◌, ◌+◌, ◌-◌, ◌*◌, ◌∙◌, get_or, drop, arith}
-use Rattle.pr_listing.proofs.NameLemmas.{above, next_digit}
+use Rattle.std.proofs.Common.{arith}
+use Rattle.pr_listing.proofs.NameLemmas.{above}
 use Rattle.pr_listing.proofs.names.count_of.Goals as goal
 
 pub returns-then-n-gt-MOST : goal.returns-then-n-gt-MOST

@@ -1,4 +1,4 @@
-use Rattle.std.proofs.Common.{◌≡◌, ◌<◌, ◌≤◌, length, arith, sym, ◌∙◌, ap, List, ℕ}
+use Rattle.std.proofs.Common.{◌≡◌, length, arith, sym, ◌∙◌, ap, List, ℕ}
 use Rattle.std.proofs.lemmas.Grind.{common_steps}
 use Rattle.std.specs.List.{position_from}
 use Rattle.pr_listing.specs.Names.{is_name}

@@ -1,4 +1,4 @@
-use Rattle.std.proofs.Common.{◌≡◌, ◌<◌, ◌+◌, length, take, drop, arith, sym, ◌∙◌, refl, inl, inr, length-drop}
+use Rattle.std.proofs.Common.{◌<◌, ◌+◌, length, take, arith, sym, ◌∙◌, refl, inr, length-drop}
 use Rattle.std.proofs.lemmas.List.{take_rest}
 use Rattle.pr_listing.proofs.PieceLemmas.{name_closed, name_cut, none_closes, none_named}
 use Rattle.pr_listing.proofs.petcat.add_name.Goals as goal

@@ -1,4 +1,4 @@
-use Rattle.std.proofs.Common.{◌≡◌, ◌<◌, ◌+◌, length, take, drop, true, false, arith, sym, ◌∙◌, refl, length-drop}
+use Rattle.std.proofs.Common.{◌≡◌, true, false, arith, refl, length-drop}
 use Rattle.std.proofs.lemmas.Grind.{common_steps}
 use Rattle.std.proofs.lemmas.List.{take_rest}
 use Rattle.pr_listing.proofs.PieceLemmas.{character_piece, name_piece, plain_piece}

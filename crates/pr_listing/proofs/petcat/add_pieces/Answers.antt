@@ -1,5 +1,5 @@
-use Rattle.std.proofs.Common.{◌≡◌, ◌<◌, ◌+◌, length, arith}
-use Rattle.pr_listing.proofs.PieceLemmas.{none_taken, taken-one_more}
+use Rattle.std.proofs.Common.{arith}
+use Rattle.pr_listing.proofs.PieceLemmas.{taken-one_more}
 use Rattle.pr_listing.proofs.petcat.add_pieces.Goals as goal
 
 pub loop-rest-preserved : goal.loop-rest-preserved

@@ -1,4 +1,4 @@
-use Rattle.std.proofs.Common.{◌≡◌, ◌<◌, ◌+◌, length, arith}
+use Rattle.std.proofs.Common.{◌≡◌, length, arith}
 use Rattle.std.proofs.lemmas.Grind.{common_steps}
 use Rattle.pr_listing.proofs.PieceLemmas.{all_read, line_read, refused_at}
 use Rattle.pr_listing.proofs.petcat.petcat_text.Goals as goal

@@ -1,7 +1,5 @@
-use Rattle.std.proofs.Common.{◌≡◌, ◌<◌, ◌≤◌, length, get_or, drop, take, arith, sym, ◌∙◌, ◌+◌, length-drop}
+use Rattle.std.proofs.Common.{drop, arith, sym, ◌∙◌, ◌+◌, length-drop}
 use Rattle.std.proofs.lemmas.List.{take_rest}
-use Rattle.std.specs.List.{prefix_len}
-use Rattle.pr_listing.specs.Program.{is_not_zero}
 use Rattle.pr_listing.proofs.FrontLemmas.{at_end, cut_in_line, cut_in_number, line_at}
 use Rattle.pr_listing.proofs.program.front_of.Goals as goal
 
