@@ -1,6 +1,8 @@
 pub mod FormLaws
 pub mod Forms
 pub mod Front
+pub mod Hints
+pub mod Inputs
 pub mod Keywords
 pub mod Listing
 pub mod Names
