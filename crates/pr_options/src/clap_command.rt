@@ -8,8 +8,8 @@ ghost use Rattle.pr_options.specs.Subcommands.{IsLocal, alone, option_view};
 use crate::help;
 use crate::help::HelpText;
 use crate::options::{
-    DELAYS, EXPLAIN, FROM, FROM_TIME, Flag, INVERT, LISTING_FROM, NAMES, PAGE_AS, PRESENT, READING_AS, REPORT_AS,
-    SET, STATUS, TRACE_AS, ValueOption,
+    DELAYS, EXPLAIN, FROM, FROM_TIME, Flag, INVERT, LISTING_FROM, NAMES, PAGE_AS, PRESENT,
+    READING_AS, REPORT_AS, SET, STATUS, TRACE_AS, ValueOption,
 };
 use clap::{Arg, ArgAction, Command};
 use std::alloc::{AllocError, Global};

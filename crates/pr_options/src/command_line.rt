@@ -13,11 +13,12 @@ ghost use Rattle.pr_options.specs.Values.{values_of};
 use crate::clap_command::make_command;
 use crate::delays::DelayFault;
 use crate::options::{
-    DELAYS, FROM, FROM_TIME, LISTING_FROM, NAMES, PAGE_AS, PRESENT, READING_AS, REPORT_AS, SET, STATUS, TRACE_AS,
+    DELAYS, FROM, FROM_TIME, LISTING_FROM, NAMES, PAGE_AS, PRESENT, READING_AS, REPORT_AS, SET,
+    STATUS, TRACE_AS,
 };
 use crate::values_given::{
-    delays_in, fits, form_in, page_format_in, present_in, reading_format_in, report_in, set_in, signals_in,
-    source_in, start_in, status_in, trace_format_in,
+    delays_in, fits, form_in, page_format_in, present_in, reading_format_in, report_in, set_in,
+    signals_in, source_in, start_in, status_in, trace_format_in,
 };
 use clap::ArgMatches;
 use clap::error::ErrorKind;

@@ -14,12 +14,12 @@ ghost use Rattle.pr_options.specs.Steps.{IsFaultIn, signals_result};
 use crate::command_line::JobFault;
 use crate::delays::read_delays;
 use crate::option_values::{
-    read_form, read_format, read_present, read_report, read_set, read_signals, read_source, read_start,
-    read_status, read_trace_format,
+    read_form, read_format, read_present, read_report, read_set, read_signals, read_source,
+    read_start, read_status, read_trace_format,
 };
 use crate::options::{
-    DELAYS, FROM, FROM_TIME, INVERT, LISTING_FROM, NAMES, PAGE_AS, PRESENT, READING_AS, REPORT_AS, SET, STATUS,
-    TRACE_AS, ValueOption,
+    DELAYS, FROM, FROM_TIME, INVERT, LISTING_FROM, NAMES, PAGE_AS, PRESENT, READING_AS, REPORT_AS,
+    SET, STATUS, TRACE_AS, ValueOption,
 };
 use clap::ArgMatches;
 use clap::parser::ValueSource;
