@@ -22,7 +22,8 @@ hex_value b = if is_digit b then b - 48 else (if nat_le b 70 then b - 55 else b 
 -- the byte whose number is a name: `$` and two hexadecimal digits
 abbrev pub hex_byte : List ℕ → Option ℕ
 hex_byte (sign ∷ high ∷ low ∷ []) =
-    if (sign == 36) && (is_hex high && is_hex low) then Some (16 * hex_value high + hex_value low) else None
+    if (sign == 36) && (is_hex high && is_hex low)
+    then Some (16 * hex_value high + hex_value low) else None
 hex_byte name = None
 
 -- a name is this one of the table, in either case
@@ -55,11 +56,13 @@ times count (Some b) = Some (count, b)
 -- what follows a count of 1 to 255: a space, and a name
 abbrev pub counted : ℕ → List ℕ → Option (ℕ × ℕ)
 counted count (space ∷ name) =
-    if (space == 32) && (nat_le 1 count && nat_le count 255) then times count (byte_named name) else None
+    if (space == 32) && (nat_le 1 count && nat_le count 255)
+    then times count (byte_named name) else None
 counted count [] = None
 
 -- how many times a name says a byte, and the byte: once, or as a count in front of it says
 unfoldable pub named : List ℕ → Option (ℕ × ℕ)
 named name =
     let digits = prefix_len is_digit name in
-    if digits == 0 then times 1 (byte_named name) else counted (number_of (take digits name)) (drop digits name)
+    if digits == 0 then times 1 (byte_named name)
+    else counted (number_of (take digits name)) (drop digits name)

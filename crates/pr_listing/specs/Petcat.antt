@@ -102,12 +102,13 @@ IsPetcatText file text = HaveLinesText (lines_of file) text
 -- or the brace is not closed; or there is a byte that petcat does not write
 abbrev pub IsPieceFault : PieceFault → List ℕ → Type 0
 IsPieceFault piece.UnknownName bytes = (after : List ℕ) × (bytes ≡ 123 ∷ after)
-    × ((name rest : List ℕ) → after ≡ name ++ 125 ∷ rest → IsTrue (list_all is_in_braces name) → named name ≡ None)
+    × ((name rest : List ℕ) → after ≡ name ++ 125 ∷ rest → IsTrue (list_all is_in_braces name)
+    → named name ≡ None)
 IsPieceFault piece.BadByte bytes = (c : ℕ) × (after : List ℕ) × (bytes ≡ c ∷ after) × (c ≢ 123)
     × (byte_of c ≡ None)
 IsPieceFault piece.NoMemory bytes = ⊥
 
--- the first fault of a line: pieces, and behind them in a string no piece; so many bytes of the line
+-- the first fault of a line: pieces, and after them in a string no piece; so many bytes of the line
 -- are before it
 pub record IsLineFault (f : PieceFault) (column : ℕ) (line : List ℕ) : Type 0 where
   pub pieces : List Piece

@@ -64,8 +64,10 @@ view_of_run present delays mode =
 
 -- the plain values of a job
 abbrev pub job_view : Job → JobView
-job_view (job.Pages form present delays mode format) = Pages form (view_of_run present delays mode) format
-job_view (job.Bus form present delays mode format) = Bus form (view_of_run present delays mode) format
+job_view (job.Pages form present delays mode format) =
+    Pages form (view_of_run present delays mode) format
+job_view (job.Bus form present delays mode format) =
+    Bus form (view_of_run present delays mode) format
 job_view (job.Check input report) = Check (input_view input) report
 job_view (job.Decode input format) = Decode (input_view input) format
 job_view (job.Raw lower format) = Raw lower format

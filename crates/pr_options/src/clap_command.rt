@@ -67,8 +67,8 @@ fn run_command<'a>(
     let two = one.arg(value_option(alloc, PRESENT))?;
     let three = two.arg(value_option(alloc, DELAYS))?;
     let four = three.arg(value_option(alloc, STATUS))?;
-    let five = four.arg(value_option(alloc, formats))?;
-    let whole = five.arg(flag_option(alloc, EXPLAIN))?;
+    let formed = four.arg(value_option(alloc, formats))?;
+    let whole = formed.arg(flag_option(alloc, EXPLAIN))?;
     Ok(whole)
 }
 
