@@ -59,6 +59,7 @@ outside: build lib $(TESTS)
 	@tests/cases/run $(PROGRAM)
 	@tests/documents $(PROGRAM)
 	@cases/run $(PROGRAM)
+	@tests/listings.py $(PROGRAM)
 	@cases/made --check
 	@cases/reach --check
 

@@ -9,12 +9,13 @@ use Rattle.pr_serial.specs.declared.Present.{Present}
 use Rattle.pr_serial.specs.Bus.{DelayNumbers}
 use Rattle.pr_basic.specs.declared.session.StatusMode.{StatusMode}
 use Rattle.pr_capture.specs.declared.format.Source.{Source}
+use Rattle.pr_listing.specs.declared.form.ListingForm.{ListingForm}
 use Rattle.pr_options.specs.CommandLine.{print1525}
 use Rattle.pr_options.specs.DelayLists.{delays_of}
 use Rattle.pr_options.specs.Given.{is_given, value_in}
 use Rattle.pr_options.specs.Jobs.{◌>>=◌, Bus, Check, Decode, InputView, IsRefused, JobView, Pages, Raw, RunView, asked, fits, wanted, wanted_bus, wanted_check, wanted_decode, wanted_input, wanted_pages, wanted_raw, wanted_run}
 use Rattle.pr_options.specs.OptionNames as option
-use Rattle.pr_options.specs.Options.{format_of, mode_of, present_of, report_of, set_of, source_of, start_of, trace_format_of}
+use Rattle.pr_options.specs.Options.{form_of, format_of, mode_of, present_of, report_of, set_of, source_of, start_of, trace_format_of}
 use Rattle.pr_options.specs.SignalNames.{Names, names_of}
 use Rattle.pr_options.specs.Steps.{IsOfClap, Met, wanted_of}
 use Rattle.pr_options.specs.declared.command_line.Job.{Job}
@@ -72,27 +73,38 @@ last_no_line : {A : Type 0} (o : Option A) (f : JobFault) (job : A → JobView) 
 last_no_line None f job h = h
 last_no_line (Some x) f job h = tt
 
+-- none of a report on an input
+report_no_line : {A : Type 0} (i : Result InputView JobFault) (o : Option A) (f : JobFault) (job : InputView → A → JobView) → NoLine i → ¬ IsLine f → NoLine (i >>= λ input. ok_or o f >>= λ x. job_ok (job input x))
+report_no_line (Err g) o f job k h = k
+report_no_line (Ok input) o f job k h = last_no_line o f (job input) h
+
+-- none of a run of a listing
+listing_no_line : {A : Type 0} (form : Option ListingForm) (o : Option A) (f : JobFault) (job : ListingForm → A → JobView) → ¬ IsLine f → NoLine (ok_or form fault.BadForm >>= λ x. ok_or o f >>= λ y. job_ok (job x y))
+listing_no_line None o f job h = λ q. q
+listing_no_line (Some form) o f job h = last_no_line o f (job form) h
+
 -- none of what a subcommand asks for
 wanted_no_line : (name : Text) (rows : List Row) → NoLine (wanted name rows)
-wanted_no_line name rows = by (wanted_run rows) (set_of (value_in option.set rows)) (wanted_input rows) (run_no_line rows) (input_no_line rows)
+wanted_no_line name rows = by (wanted_run rows) (set_of (value_in option.set rows)) (run_no_line rows)
   where
-    named : (run : RunView) (lower : Bool) (input : InputView) (a b d e : Bool) → NoLine (if a then wanted_check input rows
-        else (if b then wanted_decode input rows else (if d then wanted_bus run rows else (if e then wanted_raw lower rows else wanted_pages run rows))))
-    named run lower input true b d e = last_no_line (report_of (value_in option.report_as rows)) fault.BadReportAs (Check input) (λ h. h)
-    named run lower input false true d e = last_no_line (format_of (value_in option.reading_as rows)) fault.BadReadingAs (Decode input) (λ h. h)
-    named run lower input false false true e = last_no_line (trace_format_of (value_in option.trace_as rows)) fault.BadTraceAs (Bus run) (λ h. h)
-    named run lower input false false false true = last_no_line (format_of (value_in option.page_as rows)) fault.BadPageAs (Raw lower) (λ h. h)
-    named run lower input false false false false = last_no_line (format_of (value_in option.page_as rows)) fault.BadPageAs (Pages run) (λ h. h)
+    named : (run : RunView) (lower : Bool) (a b d e : Bool) → NoLine (if a then wanted_check rows
+        else (if b then wanted_decode rows else (if d then wanted_bus run rows else (if e then wanted_raw lower rows else wanted_pages run rows))))
+    named run lower true b d e = report_no_line (wanted_input rows) (report_of (value_in option.report_as rows)) fault.BadReportAs Check (input_no_line rows) (λ h. h)
+    named run lower false true d e = report_no_line (wanted_input rows) (format_of (value_in option.reading_as rows)) fault.BadReadingAs Decode (input_no_line rows) (λ h. h)
+    named run lower false false true e =
+        listing_no_line (form_of (value_in option.listing_from rows)) (trace_format_of (value_in option.trace_as rows)) fault.BadTraceAs (λ form format. Bus form run format) (λ h. h)
+    named run lower false false false true = last_no_line (format_of (value_in option.page_as rows)) fault.BadPageAs (Raw lower) (λ h. h)
+    named run lower false false false false =
+        listing_no_line (form_of (value_in option.listing_from rows)) (format_of (value_in option.page_as rows)) fault.BadPageAs (λ form format. Pages form run format) (λ h. h)
 
-    by : (r : Result RunView JobFault) (s : Option Bool) (i : Result InputView JobFault) → NoLine r → NoLine i → NoLine (r >>= λ run.
-        ok_or s fault.BadSet >>= λ lower. i >>= λ input. if bytes_eq name (codes "check") then wanted_check input rows
-        else (if bytes_eq name (codes "decode") then wanted_decode input rows else (if bytes_eq name (codes "bus") then wanted_bus run rows
+    by : (r : Result RunView JobFault) (s : Option Bool) → NoLine r → NoLine (r >>= λ run.
+        ok_or s fault.BadSet >>= λ lower. if bytes_eq name (codes "check") then wanted_check rows
+        else (if bytes_eq name (codes "decode") then wanted_decode rows else (if bytes_eq name (codes "bus") then wanted_bus run rows
         else (if bytes_eq name (codes "raw") then wanted_raw lower rows else wanted_pages run rows))))
-    by (Err f) s i h k = h
-    by (Ok run) None i h k = λ q. q
-    by (Ok run) (Some lower) (Err f) h k = k
-    by (Ok run) (Some lower) (Ok input) h k =
-        named run lower input (bytes_eq name (codes "check")) (bytes_eq name (codes "decode")) (bytes_eq name (codes "bus")) (bytes_eq name (codes "raw"))
+    by (Err f) s h = h
+    by (Ok run) None h = λ q. q
+    by (Ok run) (Some lower) h =
+        named run lower (bytes_eq name (codes "check")) (bytes_eq name (codes "decode")) (bytes_eq name (codes "bus")) (bytes_eq name (codes "raw"))
 
 -- so it is none of clap's
 line_free : (w : Result JobView JobFault) (e : Error) → NoLine w → w ≡ Err (fault.Line e) → ⊥
@@ -130,6 +142,8 @@ bad_is words (Err f) h e = by f h
     by fault.BadSet (inr h) = (e, h)
     by fault.BadFrom (inl h) = absurd (cc h)
     by fault.BadFrom (inr h) = (e, h)
+    by fault.BadForm (inl h) = absurd (cc h)
+    by fault.BadForm (inr h) = (e, h)
     by fault.BadNames (inl h) = absurd (cc h)
     by fault.BadNames (inr h) = (e, h)
     by fault.BadStart (inl h) = absurd (cc h)
@@ -162,6 +176,7 @@ refused_is words error fault.BadDelays h passes kinds = absurd h
 refused_is words error fault.BadStatus h passes kinds = absurd h
 refused_is words error fault.BadSet h passes kinds = absurd h
 refused_is words error fault.BadFrom h passes kinds = absurd h
+refused_is words error fault.BadForm h passes kinds = absurd h
 refused_is words error fault.BadNames h passes kinds = absurd h
 refused_is words error fault.BadStart h passes kinds = absurd h
 refused_is words error fault.NoRecording h passes kinds = absurd h

@@ -22,8 +22,9 @@ subcommand name rules = record (new_shape name) { rules = rules }
 -- a subcommand that runs a script, and the formats of what it writes
 abbrev pub run_shape : Text → ValueOption → Shape
 run_shape name formats =
-    subcommand name (value_rule option.present ∷ value_rule option.delays ∷ value_rule option.status
-    ∷ value_rule formats ∷ flag_rule option.explain ∷ [])
+    subcommand name (value_rule option.listing_from ∷ value_rule option.present
+    ∷ value_rule option.delays ∷ value_rule option.status ∷ value_rule formats
+    ∷ flag_rule option.explain ∷ [])
 
 -- a subcommand that reads a trace or a recording, and the formats of what it writes
 abbrev pub trace_shape : Text → ValueOption → Shape

@@ -8,6 +8,7 @@ use Rattle.pr_serial.specs.Bus.{DelayNumbers}
 use Rattle.pr_bus.specs.declared.wires.Delays.{Delays}
 use Rattle.pr_bus.specs.DelaysLeft.{numbers_left}
 use Rattle.pr_basic.specs.declared.session.StatusMode.{StatusMode}
+use Rattle.pr_listing.specs.declared.form.ListingForm.{ListingForm}
 use Rattle.pr_render.specs.declared.format.Format.{Format}
 use Rattle.pr_capture.specs.declared.format.TraceFormat.{TraceFormat}
 use Rattle.pr_capture.specs.declared.format.Source.{Source}
@@ -19,7 +20,7 @@ use Rattle.pr_options.specs.OptionNames as option
 use Rattle.pr_options.specs.CommandLine.{print1525}
 use Rattle.pr_options.specs.DelayLists.{delays_of}
 use Rattle.pr_options.specs.Given.{is_given, value_in}
-use Rattle.pr_options.specs.Options.{format_of, mode_of, present_of, report_of, set_of, source_of, start_of, trace_format_of}
+use Rattle.pr_options.specs.Options.{form_of, format_of, mode_of, present_of, report_of, set_of, source_of, start_of, trace_format_of}
 use Rattle.pr_options.specs.SignalNames.{Names, names_of, names_of_signals}
 use Rattle.pr_options.specs.declared.command_line.Job.{Job}
 use Rattle.pr_options.specs.declared.command_line.Job.TheVariants as job
@@ -41,8 +42,8 @@ pub record InputView : Type 0 where
 
 -- a job in plain values
 pub data JobView : Type 0 where
-  Pages : RunView → Format → JobView
-  Bus : RunView → TraceFormat → JobView
+  Pages : ListingForm → RunView → Format → JobView
+  Bus : ListingForm → RunView → TraceFormat → JobView
   Check : InputView → Report → JobView
   Decode : InputView → Format → JobView
   Raw : Bool → Format → JobView
@@ -63,8 +64,10 @@ view_of_run present delays mode =
 
 -- the plain values of a job
 abbrev pub job_view : Job → JobView
-job_view (job.Pages present delays mode format) = Pages (view_of_run present delays mode) format
-job_view (job.Bus present delays mode format) = Bus (view_of_run present delays mode) format
+job_view (job.Pages form present delays mode format) =
+    Pages form (view_of_run present delays mode) format
+job_view (job.Bus form present delays mode format) =
+    Bus form (view_of_run present delays mode) format
 job_view (job.Check input report) = Check (input_view input) report
 job_view (job.Decode input format) = Decode (input_view input) format
 job_view (job.Raw lower format) = Raw lower format
@@ -114,17 +117,23 @@ wanted_input rows =
     else Err fault.NoRecording
 
 -- the jobs of the subcommands, each of which has a meaning of --as of its own
-abbrev pub wanted_check : InputView → List Row → Result JobView JobFault
-wanted_check input rows =
-    read option.report_as report_of fault.BadReportAs rows >>= λ report. Ok (Check input report)
+abbrev pub wanted_check : List Row → Result JobView JobFault
+wanted_check rows =
+    wanted_input rows >>= λ input.
+    read option.report_as report_of fault.BadReportAs rows >>= λ report.
+    Ok (Check input report)
 
-abbrev pub wanted_decode : InputView → List Row → Result JobView JobFault
-wanted_decode input rows =
-    read option.reading_as format_of fault.BadReadingAs rows >>= λ format. Ok (Decode input format)
+abbrev pub wanted_decode : List Row → Result JobView JobFault
+wanted_decode rows =
+    wanted_input rows >>= λ input.
+    read option.reading_as format_of fault.BadReadingAs rows >>= λ format.
+    Ok (Decode input format)
 
 abbrev pub wanted_bus : RunView → List Row → Result JobView JobFault
 wanted_bus run rows =
-    read option.trace_as trace_format_of fault.BadTraceAs rows >>= λ format. Ok (Bus run format)
+    read option.listing_from form_of fault.BadForm rows >>= λ form.
+    read option.trace_as trace_format_of fault.BadTraceAs rows >>= λ format.
+    Ok (Bus form run format)
 
 abbrev pub wanted_raw : Bool → List Row → Result JobView JobFault
 wanted_raw lower rows =
@@ -132,17 +141,18 @@ wanted_raw lower rows =
 
 abbrev pub wanted_pages : RunView → List Row → Result JobView JobFault
 wanted_pages run rows =
-    read option.page_as format_of fault.BadPageAs rows >>= λ format. Ok (Pages run format)
+    read option.listing_from form_of fault.BadForm rows >>= λ form.
+    read option.page_as format_of fault.BadPageAs rows >>= λ format.
+    Ok (Pages form run format)
 
--- the job of a subcommand with these rows of options, or its first bad value; each value is read
--- whichever subcommand it is, and the last one is `pages`
+-- the job of a subcommand with these rows of options, or its first bad value: those of a run and
+-- --set are read whichever subcommand it is, and the last one is `pages`
 abbrev pub wanted : Text → List Row → Result JobView JobFault
 wanted name rows =
     wanted_run rows >>= λ run.
     read option.set set_of fault.BadSet rows >>= λ lower.
-    wanted_input rows >>= λ input.
-    if bytes_eq name (codes "check") then wanted_check input rows
-    else (if bytes_eq name (codes "decode") then wanted_decode input rows
+    if bytes_eq name (codes "check") then wanted_check rows
+    else (if bytes_eq name (codes "decode") then wanted_decode rows
     else (if bytes_eq name (codes "bus") then wanted_bus run rows
     else (if bytes_eq name (codes "raw") then wanted_raw lower rows
     else wanted_pages run rows)))

@@ -11,6 +11,10 @@ pub record ValueOption : Type 0 where
 abbrev pub present : ValueOption
 present = record { name = codes "present"; default = codes "both" }
 
+-- the form of a listing
+abbrev pub listing_from : ValueOption
+listing_from = record { name = codes "from"; default = codes "text" }
+
 -- the delays of the wires
 abbrev pub delays : ValueOption
 delays = record { name = codes "delays"; default = [] }

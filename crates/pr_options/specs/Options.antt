@@ -7,6 +7,8 @@ use Rattle.pr_base.specs.Digits.{is_digit, number_of}
 use Rattle.pr_serial.specs.declared.Present.{Present}
 use Rattle.pr_basic.specs.declared.session.StatusMode.{StatusMode}
 use Rattle.pr_basic.specs.declared.session.StatusMode.TheVariants.{Each, Kept}
+use Rattle.pr_listing.specs.declared.form.ListingForm.{ListingForm}
+use Rattle.pr_listing.specs.declared.form.ListingForm.TheVariants as form
 use Rattle.pr_render.specs.declared.format.Format.{Format}
 use Rattle.pr_render.specs.declared.format.Format.TheVariants as format
 use Rattle.pr_capture.specs.declared.format.TraceFormat.{TraceFormat}
@@ -26,6 +28,11 @@ present_of = meaning_of ((codes "none", record { four = false; five = false })
     ∷ (codes "4", record { four = true; five = false })
     ∷ (codes "5", record { four = false; five = true })
     ∷ (codes "both", record { four = true; five = true }) ∷ [])
+
+-- the form of a listing: text, prg or petcat
+abbrev pub form_of : Text → Option ListingForm
+form_of = meaning_of (
+    (codes "text", form.Text) ∷ (codes "prg", form.Program) ∷ (codes "petcat", form.Petcat) ∷ [])
 
 -- how the status goes from statement to statement: each or kept
 abbrev pub mode_of : Text → Option StatusMode

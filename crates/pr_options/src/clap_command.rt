@@ -8,8 +8,8 @@ ghost use Rattle.pr_options.specs.Subcommands.{IsLocal, alone, option_view};
 use crate::help;
 use crate::help::HelpText;
 use crate::options::{
-    DELAYS, EXPLAIN, FROM, FROM_TIME, Flag, INVERT, NAMES, PAGE_AS, PRESENT, READING_AS, REPORT_AS,
-    SET, STATUS, TRACE_AS, ValueOption,
+    DELAYS, EXPLAIN, FROM, FROM_TIME, Flag, INVERT, LISTING_FROM, NAMES, PAGE_AS, PRESENT,
+    READING_AS, REPORT_AS, SET, STATUS, TRACE_AS, ValueOption,
 };
 use clap::{Arg, ArgAction, Command};
 use std::alloc::{AllocError, Global};
@@ -63,11 +63,12 @@ fn run_command<'a>(
     ensures local { IfOk result IsLocal }
 {
     let command = new_command(alloc, name, text);
-    let one = command.arg(value_option(alloc, PRESENT))?;
-    let two = one.arg(value_option(alloc, DELAYS))?;
-    let three = two.arg(value_option(alloc, STATUS))?;
-    let four = three.arg(value_option(alloc, formats))?;
-    let whole = four.arg(flag_option(alloc, EXPLAIN))?;
+    let one = command.arg(value_option(alloc, LISTING_FROM))?;
+    let two = one.arg(value_option(alloc, PRESENT))?;
+    let three = two.arg(value_option(alloc, DELAYS))?;
+    let four = three.arg(value_option(alloc, STATUS))?;
+    let formed = four.arg(value_option(alloc, formats))?;
+    let whole = formed.arg(flag_option(alloc, EXPLAIN))?;
     Ok(whole)
 }
 

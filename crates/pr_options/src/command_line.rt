@@ -13,17 +13,19 @@ ghost use Rattle.pr_options.specs.Values.{values_of};
 use crate::clap_command::make_command;
 use crate::delays::DelayFault;
 use crate::options::{
-    DELAYS, FROM, FROM_TIME, NAMES, PAGE_AS, PRESENT, READING_AS, REPORT_AS, SET, STATUS, TRACE_AS,
+    DELAYS, FROM, FROM_TIME, LISTING_FROM, NAMES, PAGE_AS, PRESENT, READING_AS, REPORT_AS, SET,
+    STATUS, TRACE_AS,
 };
 use crate::values_given::{
-    delays_in, fits, page_format_in, present_in, reading_format_in, report_in, set_in, signals_in,
-    source_in, start_in, status_in, trace_format_in,
+    delays_in, fits, form_in, page_format_in, present_in, reading_format_in, report_in, set_in,
+    signals_in, source_in, start_in, status_in, trace_format_in,
 };
 use clap::ArgMatches;
 use clap::error::ErrorKind;
 use pr_basic::StatusMode;
 use pr_bus::Delays;
 use pr_capture::{TraceFormat, TraceInput};
+use pr_listing::ListingForm;
 use pr_render::Format;
 use pr_report::Report;
 use pr_serial::Present;
@@ -33,12 +35,12 @@ use thiserror::Error;
 /// What the program is to do.
 #[derive(Drop)]
 pub enum Job<'a> {
-    /// Read a script and write the pages of its run, with these printers present, these delays,
-    /// and the status going on in this way, in this format.
-    Pages(Present, Delays, StatusMode, Format),
-    /// Read a script and write the trace of its run, with these printers present, these delays,
-    /// and the status going on in this way, in this format.
-    Bus(Present, Delays, StatusMode, TraceFormat),
+    /// Read a listing in this form and write the pages of its run, with these printers present, these
+    /// delays, and the status going on in this way, in this format.
+    Pages(ListingForm, Present, Delays, StatusMode, Format),
+    /// Read a listing in this form and write the trace of its run, with these printers present, these
+    /// delays, and the status going on in this way, in this format.
+    Bus(ListingForm, Present, Delays, StatusMode, TraceFormat),
     /// Read a trace and write what it says.
     Check(TraceInput<'a>, Report),
     /// Read any recording and write what it says: with [`Format::List`] byte by byte, else as the pages
@@ -71,9 +73,12 @@ pub enum JobFault {
     /// The value of `--set` is not `upper` or `lower`.
     #[error("bad --set")]
     BadSet,
-    /// The value of `--from` is not `text`, `vcd` or `csv`.
+    /// The value of `--from` of `check` or `decode` is not `text`, `vcd` or `csv`.
     #[error("bad --from")]
     BadFrom,
+    /// The value of `--from` of `pages` or `bus` is not `text`, `prg` or `petcat`.
+    #[error("bad --from")]
+    BadForm,
     /// The value of `--names` is not three names, as [`read_signals`] reads them.
     #[error("bad --names")]
     BadNames,
@@ -112,6 +117,7 @@ impl JobFault {
             JobFault::BadStatus => Some(STATUS.help),
             JobFault::BadSet => Some(SET.help),
             JobFault::BadFrom => Some(FROM.help),
+            JobFault::BadForm => Some(LISTING_FROM.help),
             JobFault::BadNames => Some(NAMES.help),
             JobFault::BadStart => Some(FROM_TIME.help),
             JobFault::BadPageAs => Some(PAGE_AS.help),
@@ -143,9 +149,10 @@ impl From<DelayFault> for JobFault {
 /// [`JobFault::Line`] where clap refuses the words (a request for help or the version is such a
 /// refusal), and [`JobFault::NoMemory`] where memory was refused, by clap too. The other faults come
 /// only for words that clap takes, and report the first bad value in this order:
-/// [`JobFault::BadPresent`], [`JobFault::BadDelays`], [`JobFault::BadStatus`], [`JobFault::BadSet`],
-/// [`JobFault::BadFrom`], [`JobFault::BadNames`], [`JobFault::BadStart`]; then
-/// [`JobFault::NoRecording`], where these are good, and at last a bad `--as`:
+/// [`JobFault::BadPresent`], [`JobFault::BadDelays`], [`JobFault::BadStatus`], [`JobFault::BadSet`];
+/// of `pages` and `bus` [`JobFault::BadForm`]; of `check` and `decode` [`JobFault::BadFrom`],
+/// [`JobFault::BadNames`], [`JobFault::BadStart`], then [`JobFault::NoRecording`], where these are good;
+/// and at last a bad `--as`:
 /// [`JobFault::BadPageAs`] of `pages` and `raw`, [`JobFault::BadTraceAs`] of `bus`,
 /// [`JobFault::BadReportAs`] of `check`, [`JobFault::BadReadingAs`] of `decode`.
 pub fn read_job<'a>(alloc: Global, words: &'a [&'a str]) -> Result<Job<'a>, JobFault>
@@ -183,8 +190,8 @@ struct Run {
     mode: StatusMode,
 }
 
-/// The job that the matches of the words ask for. Each value is read whichever subcommand was met:
-/// an option that the subcommand does not have has its default there.
+/// The job that the matches of the words ask for. The values of a run and `--set` are read whichever
+/// subcommand was met: an option that the subcommand does not have has its default there.
 fn job_of<'a>(alloc: Global, matches: &ArgMatches<'a>) -> Result<Job<'a>, JobFault>
     requires { IsSome (subcommand_rows_of matches.now) }
     ensures ok { IfOk result (λ job. wanted_of (subcommand_rows_of matches.now) ≡ Some (Ok (job_view job))) }
@@ -195,10 +202,9 @@ fn job_of<'a>(alloc: Global, matches: &ArgMatches<'a>) -> Result<Job<'a>, JobFau
     };
     let run = run_of(alloc, options)?;
     let lower = set_in(options)?;
-    let input = input_of(options)?;
     match name {
-        "check" => check_job(input, options),
-        "decode" => decode_job(input, options),
+        "check" => check_job(options),
+        "decode" => decode_job(options),
         "bus" => bus_job(run, options),
         "raw" => raw_job(lower, options),
         _ => pages_job(run, options),
@@ -240,17 +246,19 @@ fn input_of<'a>(options: &ArgMatches<'a>) -> Result<TraceInput<'a>, JobFault>
 }
 
 /// The job of `check`.
-fn check_job<'a>(input: TraceInput<'a>, options: &ArgMatches<'_>) -> Result<Job<'a>, JobFault>
-    ensures { job_result result ≡ wanted_check (input_view input.entry) (rows_of (found_of options.now)) }
+fn check_job<'a>(options: &ArgMatches<'a>) -> Result<Job<'a>, JobFault>
+    ensures { job_result result ≡ wanted_check (rows_of (found_of options.now)) }
 {
+    let input = input_of(options)?;
     let report = report_in(options)?;
     Ok(Job::Check(input, report))
 }
 
 /// The job of `decode`.
-fn decode_job<'a>(input: TraceInput<'a>, options: &ArgMatches<'_>) -> Result<Job<'a>, JobFault>
-    ensures { job_result result ≡ wanted_decode (input_view input.entry) (rows_of (found_of options.now)) }
+fn decode_job<'a>(options: &ArgMatches<'a>) -> Result<Job<'a>, JobFault>
+    ensures { job_result result ≡ wanted_decode (rows_of (found_of options.now)) }
 {
+    let input = input_of(options)?;
     let format = reading_format_in(options)?;
     Ok(Job::Decode(input, format))
 }
@@ -259,8 +267,9 @@ fn decode_job<'a>(input: TraceInput<'a>, options: &ArgMatches<'_>) -> Result<Job
 fn bus_job<'a>(run: Run, options: &ArgMatches<'_>) -> Result<Job<'a>, JobFault>
     ensures { job_result result ≡ wanted_bus (run_view run) (rows_of (found_of options.now)) }
 {
+    let form = form_in(options)?;
     let format = trace_format_in(options)?;
-    Ok(Job::Bus(run.present, run.delays, run.mode, format))
+    Ok(Job::Bus(form, run.present, run.delays, run.mode, format))
 }
 
 /// The job of `raw`.
@@ -275,8 +284,9 @@ fn raw_job<'a>(lower: bool, options: &ArgMatches<'_>) -> Result<Job<'a>, JobFaul
 fn pages_job<'a>(run: Run, options: &ArgMatches<'_>) -> Result<Job<'a>, JobFault>
     ensures { job_result result ≡ wanted_pages (run_view run) (rows_of (found_of options.now)) }
 {
+    let form = form_in(options)?;
     let format = page_format_in(options)?;
-    Ok(Job::Pages(run.present, run.delays, run.mode, format))
+    Ok(Job::Pages(form, run.present, run.delays, run.mode, format))
 }
 
 /// A refusal by clap. Its want of memory is the program's own.

@@ -46,6 +46,8 @@ are ignored; statements run in file order.
   CLOSE file
   REM remark
 A list has strings, CHR$(n) and `;`. Variables, loops and `+` are refused.
+With --from prg the script is a saved program, whose strings have any byte but
+0 and 34; with --from petcat it is petcat's text of one, with names as {down}.
 
 Output: the marks on the paper of printers 4 and 5, the status of each
 statement, the bytes on the screen, and the BASIC error that stopped the run.
@@ -54,7 +56,8 @@ Exit status: 0 done, 1 stopped by a BASIC error, 2 refused, 3 memory ran out
 or a read or a write failed.
 
 Example:
-  print1525 pages --present 4 --as svg < listing.bas > page.svg",
+  print1525 pages --present 4 --as svg < listing.bas > page.svg
+  print1525 pages --from prg --as text < listing.prg",
 };
 
 /// The subcommand `bus`.

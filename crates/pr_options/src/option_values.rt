@@ -1,12 +1,13 @@
 //! The values of the program's options.
 
 ghost use Rattle.std.specs.Prelude.{◌≡◌, ◌∷◌, [], option_map, IfSome};
-ghost use Rattle.pr_options.specs.Options.{format_of, mode_of, present_of, report_of, set_of, source_of, start_of, trace_format_of};
+ghost use Rattle.pr_options.specs.Options.{form_of, format_of, mode_of, present_of, report_of, set_of, source_of, start_of, trace_format_of};
 ghost use Rattle.pr_options.specs.SignalNames.{are_names, differ, is_clock_twice, is_name, names_of, names_of_signals, three_names};
 
 use crate::parts::{all_digits, cut};
 use pr_basic::StatusMode;
 use pr_capture::{Signals, Source, TraceFormat};
+use pr_listing::ListingForm;
 use pr_render::Format;
 use pr_report::Report;
 use pr_serial::Present;
@@ -23,6 +24,18 @@ pub fn read_present(text: &str) -> Option<Present>
         _ => return None,
     };
     Some(Present { four, five })
+}
+
+/// The form of a listing: `text`, `prg` or `petcat` (profile). None for any other text.
+pub fn read_form(text: &str) -> Option<ListingForm>
+    ensures { result ≡ form_of text.now }
+{
+    match text {
+        "text" => Some(ListingForm::Text),
+        "prg" => Some(ListingForm::Program),
+        "petcat" => Some(ListingForm::Petcat),
+        _ => None,
+    }
 }
 
 /// How the status goes from statement to statement: `each` or `kept` (profile). None for any

@@ -34,6 +34,18 @@ pub const PRESENT: ValueOption = ValueOption {
     help: PRESENT_HELP,
 };
 
+/// What the values of [`LISTING_FROM`] are.
+const LISTING_FROM_HELP: &str = "text, prg (a saved program) or\n\
+     petcat (petcat's text of a program)";
+
+/// The form of a listing.
+pub const LISTING_FROM: ValueOption = ValueOption {
+    name: "from",
+    value: "FORM",
+    default: "text",
+    help: LISTING_FROM_HELP,
+};
+
 /// What the values of [`DELAYS`] are.
 const DELAYS_HELP: &str = "How long each party waits, as in 900,999/9: lists\n\
      of the computer, printer 4 and printer 5, each with\n\

@@ -7,25 +7,26 @@ ghost use Rattle.pr_options.specs.DelayLists.{delays_of};
 ghost use Rattle.pr_options.specs.Given.{is_given, is_of_words};
 ghost use Rattle.pr_options.specs.OptionNames as option;
 ghost use Rattle.pr_options.specs.Jobs.{fits, read, wants_recording};
-ghost use Rattle.pr_options.specs.Options.{format_of, mode_of, present_of, report_of, set_of, source_of, start_of, trace_format_of};
+ghost use Rattle.pr_options.specs.Options.{form_of, format_of, mode_of, present_of, report_of, set_of, source_of, start_of, trace_format_of};
 ghost use Rattle.pr_options.specs.SignalNames.{names_of};
 ghost use Rattle.pr_options.specs.Steps.{IsFaultIn, signals_result};
 
 use crate::command_line::JobFault;
 use crate::delays::read_delays;
 use crate::option_values::{
-    read_format, read_present, read_report, read_set, read_signals, read_source, read_start,
-    read_status, read_trace_format,
+    read_form, read_format, read_present, read_report, read_set, read_signals, read_source,
+    read_start, read_status, read_trace_format,
 };
 use crate::options::{
-    DELAYS, FROM, FROM_TIME, INVERT, NAMES, PAGE_AS, PRESENT, READING_AS, REPORT_AS, SET, STATUS,
-    TRACE_AS, ValueOption,
+    DELAYS, FROM, FROM_TIME, INVERT, LISTING_FROM, NAMES, PAGE_AS, PRESENT, READING_AS, REPORT_AS,
+    SET, STATUS, TRACE_AS, ValueOption,
 };
 use clap::ArgMatches;
 use clap::parser::ValueSource;
 use pr_basic::StatusMode;
 use pr_bus::Delays;
 use pr_capture::{Signals, Source, TraceFormat};
+use pr_listing::ListingForm;
 use pr_render::Format;
 use pr_report::Report;
 use pr_serial::Present;
@@ -82,6 +83,13 @@ pub fn start_in(options: &ArgMatches<'_>) -> Result<u64, JobFault>
     ensures { result ≡ read option.from_time start_of JobFault.BadStart (rows_of (found_of options.now)) }
 {
     read_start(value_in(options, FROM_TIME)).ok_or(JobFault::BadStart)
+}
+
+/// The form of a listing.
+pub fn form_in(options: &ArgMatches<'_>) -> Result<ListingForm, JobFault>
+    ensures { result ≡ read option.listing_from form_of JobFault.BadForm (rows_of (found_of options.now)) }
+{
+    read_form(value_in(options, LISTING_FROM)).ok_or(JobFault::BadForm)
 }
 
 /// The format of a page.

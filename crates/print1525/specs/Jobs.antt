@@ -49,9 +49,9 @@ IsDone answers (Err fault) = answers (Err fault)
 -- the answer of a job, by the input's bytes and what the writer held before and after
 abbrev pub AnswersJob :
     Job → List ℕ → Option (List ℕ) → Option (List ℕ) → Result Ending CliFault → Type 0
-AnswersJob (Pages present delays mode f) text old new result =
+AnswersJob (Pages form present delays mode f) text old new result =
     AnswersPages (start_of present delays mode) f text old new result
-AnswersJob (Bus present delays mode f) text old new result =
+AnswersJob (Bus form present delays mode f) text old new result =
     AnswersBus (start_of present delays mode) f text old new result
 AnswersJob (Check input r) text old new result =
     IsDone (AnswersTrace input input.source r text old new) result
@@ -63,16 +63,16 @@ AnswersJob (Raw lower f) text old new result = IsDone (AnswersRaw lower f text o
 
 -- a fault of the job: want of memory always as itself
 abbrev pub IsJobFault : Job → CliFault → Type 0
-IsJobFault (Pages present delays mode f) fault = IsRunFault fault
-IsJobFault (Bus present delays mode f) fault = IsRunFault fault
+IsJobFault (Pages form present delays mode f) fault = IsRunFault fault
+IsJobFault (Bus form present delays mode f) fault = IsRunFault fault
 IsJobFault (Check input r) fault = IsReportFault fault
 IsJobFault (Decode input f) fault = IsDecodeFault fault
 IsJobFault (Raw lower f) fault = IsRawFault fault
 
 -- the input has been read to its end, but where the job's subcommand ends earlier
 abbrev pub ReadsInput : Job → Option (List ℕ) → Result Ending CliFault → Type 0
-ReadsInput (Pages present delays mode f) left result = ReadsToEnd left result
-ReadsInput (Bus present delays mode f) left result = ReadsToEnd left result
+ReadsInput (Pages form present delays mode f) left result = ReadsToEnd left result
+ReadsInput (Bus form present delays mode f) left result = ReadsToEnd left result
 ReadsInput (Check input r) left result = IsDone (check.ReadsAll r left) result
 ReadsInput (Decode input f) left result = IsDone (decode.ReadsAll left) result
 ReadsInput (Raw lower f) left result = ReadsToEnd left result
@@ -80,8 +80,8 @@ ReadsInput (Raw lower f) left result = ReadsToEnd left result
 -- a refusal leaves the writer's bytes as they were, but where the job's subcommand writes as it
 -- reads
 abbrev pub KeepsOutput : Job → Option (List ℕ) → Option (List ℕ) → Result Ending CliFault → Type 0
-KeepsOutput (Pages present delays mode f) old new result = WritesNothing old new result
-KeepsOutput (Bus present delays mode f) old new result = WritesNoEdge old new result
+KeepsOutput (Pages form present delays mode f) old new result = WritesNothing old new result
+KeepsOutput (Bus form present delays mode f) old new result = WritesNoEdge old new result
 KeepsOutput (Check input r) old new result = IsDone (WritesNoReport r old new) result
 KeepsOutput (Decode input f) old new result = Unit {0}
 KeepsOutput (Raw lower f) old new result = WritesNothing old new result

@@ -18,7 +18,9 @@ use pr_report::Report;
 use std::alloc::Global;
 use std::io::{Read, Write};
 
-/// Does a job: reads the input and writes what the job's own fields ask for.
+/// Does a job: reads the input and writes what the job's own fields ask for. The input of `pages` and
+/// `bus` is a script's text, whatever form the listing has: `main` gives the text of a listing in
+/// another form.
 ///
 /// The answer is [`Ending::Stopped`] exactly if a BASIC error stopped the run of a script.
 ///
@@ -48,10 +50,10 @@ pub fn do_job<R: Read, W: Write>(
     ensures write_failed { IsErrOf result CliFault.WriteFailed ↔ (has_failed output.new ≡ true) }
 {
     match job {
-        Job::Pages(present, delays, mode, format) => {
+        Job::Pages(_, present, delays, mode, format) => {
             pages_as_over(alloc, input, output, present, delays, mode, format)
         }
-        Job::Bus(present, delays, mode, format) => {
+        Job::Bus(_, present, delays, mode, format) => {
             bus_as_over(alloc, input, output, present, delays, mode, format)
         }
         Job::Check(trace, report) => {

@@ -17,7 +17,7 @@ const STOPPED: u8 = 1;
 pub const REFUSED: u8 = 2;
 
 /// Memory was refused, or a read or a write failed.
-const FAILED: u8 = 3;
+pub const FAILED: u8 = 3;
 
 /// The exit status of a job that ended so.
 pub fn ending_status(ending: Ending) -> u8

@@ -1,0 +1,11 @@
+pub mod FormLaws
+pub mod Forms
+pub mod Front
+pub mod Hints
+pub mod Inputs
+pub mod Keywords
+pub mod Listing
+pub mod Names
+pub mod Petcat
+pub mod Pieces
+pub mod Program

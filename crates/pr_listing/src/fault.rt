@@ -1,0 +1,36 @@
+//! Why a listing is refused.
+
+ghost use Rattle.std.specs.Prelude.{◌≡◌};
+
+use std::alloc::AllocError;
+use thiserror::Error;
+
+/// Why a listing is refused, before its statements are read; or want of memory. Lines and columns
+/// are counted from 1.
+#[derive(Clone, Copy, Debug, PartialEq, Eq, Error)]
+pub enum ListingFault {
+    /// A saved program has fewer bytes than its load address.
+    #[error("not a saved program")]
+    NoAddress,
+    /// A saved program ends in this line: in its link, in its number, or before the 0 behind it.
+    #[error("line {0}: cut off")]
+    CutOff(usize),
+    /// In a string of petcat's text, at this line and this column: a brace with no name in it that
+    /// petcat writes, or without its other brace.
+    #[error("line {0}, column {1}: unknown name")]
+    UnknownName(usize, usize),
+    /// In a string of petcat's text, at this line and this column: a byte that petcat does not write.
+    #[error("line {0}, column {1}: bad byte")]
+    BadByte(usize, usize),
+    /// Memory was refused.
+    #[error("out of memory")]
+    NoMemory,
+}
+
+impl From<AllocError> for ListingFault {
+    fn from(_refused: AllocError) -> ListingFault
+        ensures { result ≡ ListingFault.NoMemory }
+    {
+        ListingFault::NoMemory
+    }
+}

@@ -1,0 +1,96 @@
+//! Listings in each form, as scripts and as statements.
+
+ghost use Rattle.std.specs.Prelude.{◌≡◌, ◌⊎◌, ℕ, List, IfErr, IfOk, MatchResult};
+ghost use Rattle.pr_listing.specs.FormLaws.{NotBoth, OneFault, OneList, OneText};
+ghost use Rattle.pr_listing.specs.Forms.{HasNoText, HasText, IsListing, IsRefused};
+
+use crate::fault::ListingFault;
+use crate::petcat::petcat_text;
+use crate::program::program_text;
+use pr_basic::{ScriptFault, Statement, each_text_is_a_script_or_has_one_fault, read_script};
+use std::alloc::Global;
+use thiserror::Error;
+
+/// The form of a listing.
+#[derive(Clone, Copy, Debug, PartialEq, Eq)]
+pub enum ListingForm {
+    /// The text of a script.
+    Text,
+    /// A saved program.
+    Program,
+    /// petcat's text of a program.
+    Petcat,
+}
+
+/// Why a listing is refused.
+#[derive(Clone, Copy, Debug, PartialEq, Eq, Error)]
+pub enum Refusal {
+    /// It has no text of a script.
+    #[error("{0}")]
+    Listing(ListingFault),
+    /// Its text has this first fault, or memory was refused.
+    #[error("{0}")]
+    Script(ScriptFault),
+}
+
+/// The text of a script that a listing in this form has: a line for each line of the listing. A
+/// listing that is text is itself.
+///
+/// # Errors
+///
+/// Those of [`program_text`] or [`petcat_text`].
+pub fn script_text(
+    alloc: Global,
+    form: ListingForm,
+    bytes: Vec<u8>,
+) -> Result<Vec<u8>, ListingFault>
+    ensures ok { IfOk result (λ text. HasText form bytes.items text.items) }
+    ensures err { IfErr result (λ fault. (fault ≡ ListingFault.NoMemory) ⊎ HasNoText form bytes.items fault) }
+    ensures complete { (text : List ℕ) → HasText form bytes.items text → MatchResult result (λ t. t.items ≡ text)
+        (λ fault. fault ≡ ListingFault.NoMemory) }
+{
+    each_listing_has_one_text_or_one_fault();
+    match form {
+        ListingForm::Text => Ok(bytes),
+        ListingForm::Program => program_text(alloc, &bytes),
+        ListingForm::Petcat => petcat_text(alloc, &bytes),
+    }
+}
+
+/// The statements of a listing in this form, in order: those of which its text is a script.
+///
+/// # Errors
+///
+/// - [`Refusal::Listing`]: the listing has no text.
+/// - [`Refusal::Script`]: the text has this first fault; its line is the listing's.
+///
+/// Either may be want of memory.
+pub fn read_listing(
+    alloc: Global,
+    form: ListingForm,
+    bytes: Vec<u8>,
+) -> Result<Vec<Statement>, Refusal>
+    ensures read { IfOk result (λ statements. IsListing form bytes.items statements.items) }
+    ensures refused { IfErr result (λ refusal. (refusal ≡ Refusal.Listing ListingFault.NoMemory)
+        ⊎ ((refusal ≡ Refusal.Script ScriptFault.NoMemory) ⊎ IsRefused form bytes.items refusal)) }
+{
+    let text = match script_text(alloc, form, bytes) {
+        Ok(text) => text,
+        Err(fault) => return Err(Refusal::Listing(fault)),
+    };
+    match read_script(alloc, &text) {
+        Ok(statements) => Ok(statements),
+        Err(fault) => Err(Refusal::Script(fault)),
+    }
+}
+
+/// A law, with nothing to run: a listing in a form has one text or one fault, never both, and it is of one
+/// list of statements at most.
+pub fn each_listing_has_one_text_or_one_fault()
+    ensures one_text { OneText }
+    ensures one_list { OneList }
+    ensures one_fault { OneFault }
+    ensures not_both { NotBoth }
+{
+    each_text_is_a_script_or_has_one_fault();
+}

@@ -1,0 +1,40 @@
+//! Listings as people keep them: saved programs and petcat's text, as the scripts that they say.
+//!
+//! [`program_text`] makes a script's text of a saved program, a line of the text for a line of the
+//! program. `pr_basic` reads that text as any other, so the grammar, the first fault and everything
+//! above them stay as they are: a saved program is of the statements of which its text is a script.
+//!
+//! A script's text can say all that a program can. A string of a script holds bytes 32 to 126, and a
+//! program's string any byte but 0 and 34; but a list of a script also has CHR$, and its parts need
+//! no mark between them, so byte 18 in a string is written as `"CHR$(18)"`: the string ends, the CHR$
+//! says the byte, and the string goes on. The bytes of the list, and so all that is printed, are the
+//! same, and so is the fault of a list of more than 255 bytes. Outside strings a token is written as
+//! its keyword and a space, so that no keyword joins what follows it (PRINT and then `#` is not
+//! PRINT#). A letter that is no token is followed by a space too, so that letters make no keyword;
+//! what no text holds there is written as `?`. Neither begins anything in a script. A remark's
+//! bytes count for nothing. Each line begins with its number and ends with byte 10, so a fault of the
+//! text is told with the line of the program.
+//!
+//! `specs/Program.antt` says which lines the bytes of a saved program hold, and where it is cut off;
+//! `specs/Listing.antt` says the text of lines.
+#![tactic(auto)]
+
+mod fault;
+mod form;
+mod hints;
+mod input;
+mod keywords;
+mod line;
+mod names;
+mod petcat;
+mod program;
+mod text_lines;
+
+pub use fault::ListingFault;
+pub use form::{
+    ListingForm, Refusal, each_listing_has_one_text_or_one_fault, read_listing, script_text,
+};
+pub use hints::{has_typed_strings, looks_like_disk, looks_saved};
+pub use input::{TextFault, read_text};
+pub use petcat::petcat_text;
+pub use program::program_text;

@@ -1,0 +1,158 @@
+//! The names of bytes, as petcat writes them in braces.
+
+ghost use Rattle.std.specs.Prelude.{◌≡◌, ◌≢◌, ◌≤◌, ◌<◌, ◌∷◌, ℕ, List, length, IsTrue, MatchOption};
+ghost use Rattle.pr_base.specs.Digits.{number_of};
+ghost use Rattle.pr_listing.specs.Names.{byte_at, byte_named, hex_byte, hex_value, is_hex, is_name, named, place_of};
+
+use crate::text_lines::cut_line;
+use pr_base::{digit_count, is_digit};
+
+/// The names of bytes 0 to 31, of bytes 128 to 223, and two of byte 32, in the order of the bytes, each
+/// in a line (petcat of VICE, its table for BASIC 2). Where petcat has no name, the byte's number is here.
+pub const NAMES: &str = "\
+$00\nctrl-a\nctrl-b\nstop\nctrl-d\nwht\nctrl-f\nctrl-g\n\
+dish\nensh\nctrl-j\nctrl-k\nctrl-l\n$0d\nswlc\nctrl-o\n\
+ctrl-p\ndown\nrvon\nhome\ndel\nctrl-u\nctrl-v\nctrl-w\n\
+ctrl-x\nctrl-y\nctrl-z\nesc\nred\nrght\ngrn\nblu\n\
+$80\norng\n$82\n$83\n$84\nf1\nf3\nf5\n\
+f7\nf2\nf4\nf6\nf8\nsret\nswuc\n$8f\n\
+blk\nup\nrvof\nclr\ninst\nbrn\nlred\ngry1\n\
+gry2\nlgrn\nlblu\ngry3\npur\nleft\nyel\ncyn\n\
+shift-space\ncbm-k\ncbm-i\ncbm-t\ncbm-@\ncbm-g\ncbm-+\ncbm-m\n\
+cbm-pound\nshift-pound\ncbm-n\ncbm-q\ncbm-d\ncbm-z\ncbm-s\ncbm-p\n\
+cbm-a\ncbm-e\ncbm-r\ncbm-w\ncbm-h\ncbm-j\ncbm-l\ncbm-y\n\
+cbm-u\ncbm-o\nshift-@\ncbm-f\ncbm-c\ncbm-x\ncbm-v\ncbm-b\n\
+shift-*\nshift-a\nshift-b\nshift-c\nshift-d\nshift-e\nshift-f\nshift-g\n\
+shift-h\nshift-i\nshift-j\nshift-k\nshift-l\nshift-m\nshift-n\nshift-o\n\
+shift-p\nshift-q\nshift-r\nshift-s\nshift-t\nshift-u\nshift-v\nshift-w\n\
+shift-x\nshift-y\nshift-z\nshift-+\ncbm--\nshift--\n$de\ncbm-*\n\
+space\nspaces";
+
+/// The most bytes that one name says (profile).
+const MOST: u32 = 255;
+
+/// The byte of the name at a place of [`NAMES`].
+fn byte_at(place: usize) -> u8
+    ensures { result ≡ byte_at place }
+{
+    if place < 32 {
+        return place as u8;
+    }
+    if place < 128 {
+        return (place + 96) as u8;
+    }
+    b' '
+}
+
+/// The place of a name in [`NAMES`], in either case.
+#[tactic(auto, unfolding(crate::specs::Names::place_of))]
+fn place_of(name: &[u8]) -> Option<usize>
+    ensures { result ≡ place_of name.now }
+{
+    let mut rest = NAMES.as_bytes();
+    let mut place = 0;
+    while !rest.is_empty() {
+        let (known, more) = cut_line(rest);
+        if is_name(name, known) {
+            return Some(place);
+        }
+        rest = more;
+        place += 1;
+    }
+    None
+}
+
+/// Whether a name is a known one, in either case.
+fn is_name(name: &[u8], known: &[u8]) -> bool
+    ensures { result ≡ is_name name.now known.now }
+{
+    known.eq_ignore_ascii_case(name)
+}
+
+/// Whether a byte is a hexadecimal digit, in either case.
+fn is_hex(b: u8) -> bool
+    ensures { result ≡ is_hex b }
+{
+    is_digit(b) || (b >= b'a' && b <= b'f') || (b >= b'A' && b <= b'F')
+}
+
+/// What a hexadecimal digit stands for.
+fn hex_value(b: u8) -> u8
+    requires { IsTrue (is_hex b) }
+    ensures value { result ≡ hex_value b }
+    ensures small { result ≤ 15 }
+{
+    if is_digit(b) {
+        return b - b'0';
+    }
+    if b <= b'F' {
+        return b - b'7';
+    }
+    b - b'W'
+}
+
+/// The byte whose number is a name: `$` and two hexadecimal digits.
+fn hex_byte(name: &[u8]) -> Option<u8>
+    ensures { result ≡ hex_byte name.now }
+{
+    if name.len() == 3 && name[0] == b'$' && is_hex(name[1]) && is_hex(name[2]) {
+        return Some(16 * hex_value(name[1]) + hex_value(name[2]));
+    }
+    None
+}
+
+/// The byte of a name without a count.
+#[tactic(auto, unfolding(crate::specs::Names::byte_named))]
+fn byte_named(name: &[u8]) -> Option<u8>
+    ensures { result ≡ byte_named name.now }
+{
+    if let Some(b) = hex_byte(name) {
+        return Some(b);
+    }
+    let place = place_of(name)?;
+    Some(byte_at(place))
+}
+
+/// The number that digits spell; None above 255.
+fn count_of(digits: &[u8]) -> Option<u32>
+    ensures { MatchOption result (255 < number_of digits.now) (λ n. (n ≡ number_of digits.now) × (n ≤ 255)) }
+{
+    let mut n: u32 = 0;
+    for d in digits {
+        n = 10 * n + u32::from(d.saturating_sub(b'0'));
+        if n > MOST {
+            return None;
+        }
+    }
+    Some(n)
+}
+
+/// The name after a count: a space is before it.
+fn after_space(bytes: &[u8]) -> Option<&[u8]>
+    ensures { MatchOption result ((name : List ℕ) → bytes.now ≢ 32 ∷ name) (λ name. bytes.now ≡ 32 ∷ name.now) }
+{
+    if bytes.is_empty() || bytes[0] != b' ' {
+        return None;
+    }
+    Some(&bytes[1..])
+}
+
+/// How many times a name says a byte, and the byte: `down` and `$8e` once, `3 down` three times. A
+/// count is 1 to 255.
+#[tactic(auto, unfolding(crate::specs::Names::named))]
+pub fn named(name: &[u8]) -> Option<(u32, u8)>
+    ensures { result ≡ named name.now }
+{
+    let n = digit_count(name);
+    if n == 0 {
+        let b = byte_named(name)?;
+        return Some((1, b));
+    }
+    let count = count_of(&name[..n])?;
+    if count == 0 {
+        return None;
+    }
+    let once = after_space(&name[n..])?;
+    let b = byte_named(once)?;
+    Some((count, b))
+}
