@@ -1,6 +1,5 @@
 -- Words of calls: what an input looks like.
 use Rattle.std.specs.Prelude.{ℕ, ◌&&◌, ◌||◌, ◌==◌, not, Bool, false, true, List, [], ◌∷◌, nat_le, if◌then◌else◌}
-use Rattle.pr_listing.specs.Petcat.{front_of}
 
 -- bytes begin with the load address $0801
 abbrev pub begins_saved : List ℕ → Bool
@@ -11,13 +10,9 @@ begins_saved bytes = false
 abbrev pub is_disk_size : ℕ → Bool
 is_disk_size n = (n == 174848) || ((n == 175531) || ((n == 196608) || (n == 197376)))
 
--- a string has a small letter or a brace
+-- a string has a small letter or a brace; a string ends with its line
 abbrev pub has_typed : Bool → List ℕ → Bool
 has_typed quoted [] = false
 has_typed quoted (b ∷ bs) =
     if quoted && ((nat_le 97 b && nat_le b 122) || (b == 123)) then true
-    else has_typed (if b == 34 then not quoted else quoted) bs
-
--- so has a string of a line, before its remark
-abbrev pub has_typed_string : List ℕ → Bool
-has_typed_string line = has_typed false (front_of line)
+    else has_typed (if b == 34 then not quoted else (if b == 10 then false else quoted)) bs

@@ -1,12 +1,7 @@
 //! What an input looks like.
 
 ghost use Rattle.std.specs.Prelude.{◌≡◌, false, length};
-ghost use Rattle.std.specs.List.{list_any};
-ghost use Rattle.pr_base.specs.Lines.{lines_of};
-ghost use Rattle.pr_listing.specs.Hints.{begins_saved, has_typed, has_typed_string, is_disk_size};
-
-use crate::petcat::before_remark;
-use crate::text_lines::cut_line;
+ghost use Rattle.pr_listing.specs.Hints.{begins_saved, has_typed, is_disk_size};
 
 /// Whether bytes begin as a program saved on a Commodore 64 does, with the load address $0801.
 pub fn looks_saved(bytes: &[u8]) -> bool
@@ -25,38 +20,18 @@ pub fn looks_like_disk(bytes: &[u8]) -> bool
 
 /// Whether a string of a script has a small letter or a brace, which petcat's text has for other bytes.
 pub fn has_typed_strings(script: &[u8]) -> bool
-    ensures { result ≡ list_any has_typed_string (lines_of script.now) }
-{
-    let mut rest = script;
-    while !rest.is_empty() {
-        let (line, more) = cut_line(rest);
-        if has_typed_string(line) {
-            return true;
-        }
-        rest = more;
-    }
-    false
-}
-
-/// Whether a string of a line has a small letter or a brace. What is in a remark is no string.
-fn has_typed_string(line: &[u8]) -> bool
-    ensures { result ≡ has_typed_string line.now }
-{
-    has_typed(&line[..before_remark(line)])
-}
-
-/// Whether a string has a small letter or a brace, in the part of a line before its remark.
-fn has_typed(front: &[u8]) -> bool
-    ensures { result ≡ has_typed false front.now }
+    ensures { result ≡ has_typed false script.now }
 {
     let mut quoted = false;
-    for b in front {
+    for b in script {
         if quoted && (b.is_ascii_lowercase() || *b == b'{') {
             return true;
         }
-        if *b == b'"' {
-            quoted = !quoted;
-        }
+        quoted = match *b {
+            b'"' => !quoted,
+            b'\n' => false,
+            _ => quoted,
+        };
     }
     false
 }

@@ -180,7 +180,7 @@ fn begins_remark(bytes: &[u8]) -> bool
 
 /// How many bytes of a line are before its remark.
 #[tactic(auto, unfolding(crate::specs::Petcat::before_remark))]
-pub fn before_remark(line: &[u8]) -> usize
+fn before_remark(line: &[u8]) -> usize
     ensures count { result ≡ before_remark false line.now }
     ensures within { result ≤ length line.now }
 {
