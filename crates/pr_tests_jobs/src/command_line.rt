@@ -29,10 +29,10 @@ fn job_of<'a>(alloc: Global, words: &'a [&'a str]) -> Option<Job<'a>> {
 /// Whether a job is a run with these first delays that handles the status so.
 fn is_run(job: Job<'_>, wanted: [u16; 3], status: StatusMode) -> bool {
     match job {
-        Job::Pages(_present, mut delays, mode, _format) => {
+        Job::Pages(_form, _present, mut delays, mode, _format) => {
             first_delays(&mut delays) == wanted && mode == status
         }
-        Job::Bus(_present, mut delays, mode, _format) => {
+        Job::Bus(_form, _present, mut delays, mode, _format) => {
             first_delays(&mut delays) == wanted && mode == status
         }
         Job::Check(..) | Job::Decode(..) | Job::Raw { .. } => false,
