@@ -46,8 +46,8 @@ IsDone answers (Ok Done) = answers (Ok tt)
 IsDone answers (Ok Stopped) = ⊥
 IsDone answers (Err fault) = answers (Err fault)
 
--- the answer of a job, by the input's bytes and what the writer held before and after; of a run the
--- bytes are a script's text, which a listing in another form has been made
+-- the answer of a job, by the input's bytes and what the writer held before and after; the bytes of a
+-- run are a script's text, also where the listing has another form
 abbrev pub AnswersJob :
     Job → List ℕ → Option (List ℕ) → Option (List ℕ) → Result Ending CliFault → Type 0
 AnswersJob (Pages form present delays mode f) text old new result =

@@ -3,6 +3,8 @@ use Rattle.std.specs.Prelude.{ℕ}
 use Rattle.clap.specs.Values.{kind_of}
 use Rattle.clap.specs.declared.error.kind.ErrorKind.{ErrorKind}
 use Rattle.clap.specs.declared.error.kind.ErrorKind.TheVariants.{DisplayHelp, DisplayVersion}
+use Rattle.pr_listing.specs.declared.input.TextFault.{TextFault}
+use Rattle.pr_listing.specs.declared.input.TextFault.TheVariants as listing
 use Rattle.pr_options.specs.declared.command_line.JobFault.{JobFault}
 use Rattle.pr_options.specs.declared.command_line.JobFault.TheVariants as job
 use Rattle.pr_cli.specs.declared.fault.CliFault.{CliFault}
@@ -37,3 +39,10 @@ abbrev pub refusal_status : JobFault → ℕ
 refusal_status (job.Line e) = line_status (kind_of e)
 refusal_status job.NoMemory = 3
 refusal_status _ = 2
+
+-- 2 where a listing is refused, 3 where memory was refused, or a read failed
+abbrev pub text_status : TextFault → ℕ
+text_status (listing.Listing fault) = 2
+text_status listing.TooLarge = 2
+text_status listing.ReadFailed = 3
+text_status listing.NoMemory = 3

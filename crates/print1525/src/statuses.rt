@@ -1,9 +1,10 @@
 //! The exit statuses.
 
 ghost use Rattle.std.specs.Prelude.{◌≡◌};
-ghost use Rattle.print1525.specs.Statuses.{ending_status, fault_status, refusal_status};
+ghost use Rattle.print1525.specs.Statuses.{ending_status, fault_status, refusal_status, text_status};
 
 use pr_cli::{CliFault, Ending};
+use pr_listing::TextFault;
 use pr_options::JobFault;
 
 /// The job is done: the run's last statement was performed, the trace is lawful, or the page is
@@ -17,7 +18,7 @@ const STOPPED: u8 = 1;
 pub const REFUSED: u8 = 2;
 
 /// Memory was refused, or a read or a write failed.
-pub const FAILED: u8 = 3;
+const FAILED: u8 = 3;
 
 /// The exit status of a job that ended so.
 pub fn ending_status(ending: Ending) -> u8
@@ -40,6 +41,16 @@ pub fn fault_status(fault: CliFault) -> u8
         | CliFault::Capture(_)
         | CliFault::TooLarge => REFUSED,
         CliFault::NoMemory | CliFault::ReadFailed | CliFault::WriteFailed => FAILED,
+    }
+}
+
+/// The exit status where a listing has no text of a script.
+pub fn text_status(fault: TextFault) -> u8
+    ensures { result ≡ text_status fault }
+{
+    match fault {
+        TextFault::Listing(_) | TextFault::TooLarge => REFUSED,
+        TextFault::ReadFailed | TextFault::NoMemory => FAILED,
     }
 }
 
