@@ -3,7 +3,7 @@
 ghost use Rattle.std.specs.Prelude.{◌≡◌, if◌then◌else◌, None};
 ghost use Rattle.std.specs.List.{list_all};
 ghost use Rattle.pr_base.specs.Digits.{is_digit};
-ghost use Rattle.pr_capture.specs.VcdReading.{all_known, is_blank, level_behind, level_if, sample_in, time_at, whole_micros, without_level};
+ghost use Rattle.pr_capture.specs.VcdReading.{all_known, is_blank, is_number, level_behind, level_if, sample_in, time_at, whole_micros, without_level};
 
 use crate::csv::number_from;
 use crate::fault::{CaptureFault, Wire};
@@ -43,11 +43,18 @@ fn whole_micros(scale: u64, number: Option<u64>) -> Option<u64>
     u64::try_from(u128::from(number) * u128::from(scale) / MICROSECOND).ok()
 }
 
+/// Whether these are digits, at least one.
+pub fn is_number(letters: &[u8]) -> bool
+    ensures { result ≡ is_number letters.now }
+{
+    !letters.is_empty() && are_digits(letters)
+}
+
 /// The microseconds that the digits of a time stamp spell.
 pub fn time_at(scale: u64, digits: &[u8]) -> Option<u64>
     ensures { result ≡ time_at scale digits.now }
 {
-    if digits.is_empty() || !are_digits(digits) {
+    if !is_number(digits) {
         return None;
     }
     whole_micros(scale, number_from(0, digits))
