@@ -367,10 +367,10 @@ atn-known : (s : Signals) → IsAsWritten s → with_signal s no_codes 3 bus (wi
 atn-known s h = rw (h.atn, h.clock, h.line) refl
 
 clock-known : (s : Signals) → IsAsWritten s → with_signal s one_code 4 bus (wire_words 67 (codes "CLOCK")) ≡ two_codes
-clock-known s h = rw (h.clock, h.line) refl
+clock-known s h = rw (h.atn, h.clock, h.line) refl
 
 line-known : (s : Signals) → IsAsWritten s → with_signal s two_codes 5 bus (wire_words 68 (codes "DATA")) ≡ written
-line-known s h = rw (h.clock, h.line) refl
+line-known s h = rw (h.atn, h.clock, h.line) refl
 
 -- a place in the header, by the scale that is written
 abbrev in_header : Codes → Place

@@ -1,5 +1,5 @@
 -- Trusted: what a Value Change Dump says of the bus: samples of its three lines, up to the first fault if there is one.
-use Rattle.std.specs.Prelude.{ℕ, ◌-◌, ◌*◌, ◌/◌, ◌==◌, ◌&&◌, ◌||◌, Bool, true, false, not, List, [], ◌∷◌, ◌++◌, codes, drop, length, nat_lt, take, if◌then◌else◌, Option, Some, None, Result, Ok, Err}
+use Rattle.std.specs.Prelude.{ℕ, ◌-◌, ◌*◌, ◌/◌, ◌==◌, ◌&&◌, ◌||◌, Bool, true, false, not, List, [], ◌∷◌, ◌++◌, codes, length, nat_lt, take, if◌then◌else◌, Option, Some, None, Result, Ok, Err}
 use Rattle.std.specs.List.{list_all}
 use Rattle.std.specs.Str.{bytes_eq}
 use Rattle.pr_base.specs.Digits.{is_digit}
@@ -55,9 +55,14 @@ abbrev pub joined : List (List ℕ) → List ℕ
 joined [] = []
 joined (w ∷ ws) = w ++ joined ws
 
--- the path of a signal: each scope that it is in, and a dot; then all words of its section `$var` behind the third
+-- the name of a signal: all words of its section `$var` behind its kind, its size and its code
+abbrev pub name_in : (inside : List (List ℕ)) → List ℕ
+name_in (kind ∷ size ∷ code ∷ names) = joined names
+name_in _ = []
+
+-- its path: each scope that it is in, and a dot; then its name
 abbrev pub path_of : (scopes : List (List ℕ)) → (inside : List (List ℕ)) → List ℕ
-path_of [] inside = joined (drop 3 inside)
+path_of [] inside = name_in inside
 path_of (s ∷ ss) inside = s ++ 46 ∷ path_of ss inside
 
 -- a name stands behind one of the dots

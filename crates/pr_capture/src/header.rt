@@ -2,7 +2,7 @@
 
 ghost use Rattle.std.specs.Prelude.{◌≡◌, ◌≤◌, ◌++◌, option_copied, IfOk, IfSome, OnOk};
 ghost use Rattle.pr_capture.specs.Csv.{field_at};
-ghost use Rattle.pr_capture.specs.VcdReading.{clock_found, code_in, ends_path, found_too, has_levels, has_path, is_code, joined, nothing, other_line, path_of, scale_in, scale_of, unit_in, with_code, with_path, with_signal};
+ghost use Rattle.pr_capture.specs.VcdReading.{clock_found, code_in, ends_path, found_too, has_levels, has_path, is_code, joined, name_in, nothing, other_line, path_of, scale_in, scale_of, unit_in, with_code, with_path, with_signal};
 ghost use Rattle.pr_capture.specs.VcdSteps.{code_of, codes_of, found_of, words_in};
 
 use crate::entries::is_word;
@@ -10,9 +10,6 @@ use crate::signals::{Signals, is_named};
 use pr_base::digit_count;
 use pr_wire::NoMemory;
 use std::alloc::Global;
-
-/// How many words of a section `$var` stand before those that name its signal.
-const NAMED: usize = 3;
 
 /// The femtoseconds of a unit of time.
 fn unit_in(letters: &[u8]) -> Option<u64>
@@ -80,15 +77,24 @@ pub fn scale_in(inside: &[Vec<u8>]) -> Option<u64>
     }
 }
 
-/// The words of a section `$var` that name its signal, without what stands between them, behind the
-/// scopes of its path.
-fn push_reference(path: &mut Vec<u8>, words: &[Vec<u8>]) -> Result<(), NoMemory>
+/// Adds words, without what stands between them.
+fn push_words(path: &mut Vec<u8>, words: &[Vec<u8>]) -> Result<(), NoMemory>
     ensures { OnOk result (path.new.items ≡ path.old.items ++ joined (words_in words.now)) }
 {
     for word in words {
         path.extend_from_slice(word.as_slice())?;
     }
     Ok(())
+}
+
+/// Adds the name of the signal whose section `$var` has these words.
+fn push_name(path: &mut Vec<u8>, inside: &[Vec<u8>]) -> Result<(), NoMemory>
+    ensures { OnOk result (path.new.items ≡ path.old.items ++ name_in (words_in inside.now)) }
+{
+    match inside {
+        [_, _, _, names @ ..] => push_words(path, names),
+        _ => Ok(()),
+    }
 }
 
 /// The path of a signal: each scope that it is in with a dot, and its name.
@@ -104,9 +110,7 @@ fn path_of(
         path.extend_from_slice(scope.as_slice())?;
         path.push(b'.')?;
     }
-    if inside.len() > NAMED {
-        push_reference(&mut path, &inside[NAMED..])?;
-    }
+    push_name(&mut path, inside)?;
     Ok(path)
 }
 
