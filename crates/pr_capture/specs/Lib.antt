@@ -4,6 +4,8 @@ pub mod VcdWriting
 pub mod Samples
 pub mod Gathering
 pub mod Recording
+pub mod Numbers
+pub mod TableTimes
 pub mod Csv
 pub mod CsvSteps
 pub mod Words

@@ -15,7 +15,9 @@ use Rattle.pr_capture.specs.declared.fault.CaptureFault.TheVariants.{BadTimescal
 use Rattle.pr_capture.specs.declared.signals.Signals.{Signals}
 use Rattle.pr_capture.specs.Recording.{◌>>=◌, ended, first_some, is_named, level_in, refused, second_name, with_samples, CaptureContents}
 use Rattle.pr_capture.specs.Samples.{listed}
-use Rattle.pr_capture.specs.Csv.{behind_digits, digits_in, field_at, number_from, time_or}
+use Rattle.pr_capture.specs.Csv.{field_at}
+use Rattle.pr_capture.specs.Numbers.{behind_digits, digits_in, number_from}
+use Rattle.pr_capture.specs.TableTimes.{time_or}
 use Rattle.pr_capture.specs.Words.{end_line, words_of}
 use Rattle.pr_capture.specs.VcdPieces.{pieces_behind, Piece}
 use Rattle.pr_capture.specs.VcdPieces.Piece.{Section, Stamp, Change, Stray, Resume, Unended}
