@@ -35,17 +35,20 @@ contents_from s First number ls = first_contents s number ls
 contents_from s (Names r) number ls = line_contents s r number ls
 contents_from s (Rows y m) number ls = row_contents y s.is_inverted number m ls
 
--- a line before the names, or that of the names, leads to a place, or it has a fault
-abbrev pub TakesNames :
-    Signals → Remarks → (number : ℕ) → (line : List ℕ) → (more : List (List ℕ)) → Result Unit CaptureFault → (new : RowPlace) → Type 0
-TakesNames s r number line more (Ok u) new = line_contents s r number (line ∷ more) ≡ contents_from s new (number + 1) more
-TakesNames s r number line more (Err f) new = line_contents s r number (line ∷ more) ≡ refused f
+-- a line before the names, or that of the names, leads to a place
+abbrev pub NamesLeadTo : Signals → Remarks → (number : ℕ) → (line : List ℕ) → (new : RowPlace) → Type 0
+NamesLeadTo s r number line new =
+    (more : List (List ℕ)) → line_contents s r number (line ∷ more) ≡ contents_from s new (number + 1) more
+
+-- or it has a fault
+abbrev pub NamesAreRefused : Signals → Remarks → (number : ℕ) → (line : List ℕ) → CaptureFault → Type 0
+NamesAreRefused s r number line f = (more : List (List ℕ)) → line_contents s r number (line ∷ more) ≡ refused f
 
 -- no row can come before the line of the names
 abbrev pub HasNoRows : RowPlace → Type 0
 HasNoRows First = Unit {0}
 HasNoRows (Names r) = Unit {0}
-HasNoRows (Rows y m) = Empty {0}
+HasNoRows (Rows y m) = ⊥
 
 -- a line leads from one place to another and gives a sample, if it gives one, or it has a fault
 abbrev pub ReadsLine :

@@ -1,9 +1,9 @@
 //! Reading tables of separated values, as logic analysers export them.
 
-ghost use Rattle.std.specs.Prelude.{◌≡◌, ℕ, ◌+◌, ◌^◌, ◌<◌, ◌≤◌, ◌∷◌, List, [], false, true, None, Err, IfErr, IfOk, Ok, drop, length, option_copied, take};
+ghost use Rattle.std.specs.Prelude.{◌≡◌, ◌+◌, ◌^◌, ◌<◌, ◌≤◌, ◌∷◌, [], false, true, None, Err, IfErr, IfOk, Ok, drop, length, option_copied, take};
 ghost use Rattle.std.specs.List.{list_all, prefix_len};
 ghost use Rattle.pr_capture.specs.Csv.{behind_point, clock_column, column_of, columns_in, field_at, fields_of, first_moment, is_archive, is_in_front, is_separator, is_silent, is_wide, layout_by, layout_of, level_of, level_or, moment_at, moment_next, moment_of, opened, row_of, sample_of, separator_of, without_space, without_zeros};
-ghost use Rattle.pr_capture.specs.CsvSteps.{field_len, fields_left, is_inner, line_number, AnswersEnd, EndsText, FaultsIn, HasNoRows, HasReadTable, HoldsMore, ReadsLine, ReadsMore, RefusesTable, TakesNames};
+ghost use Rattle.pr_capture.specs.CsvSteps.{field_len, fields_left, is_inner, line_number, AnswersEnd, EndsText, FaultsIn, HasNoRows, HasReadTable, HoldsMore, NamesAreRefused, NamesLeadTo, ReadsLine, ReadsMore, RefusesTable};
 ghost use Rattle.pr_capture.specs.declared.fault.CaptureFault.TheVariants.{NoMemory};
 
 use crate::entries::is_word;
@@ -478,7 +478,8 @@ impl RowPlace {
         line: &[u8],
     ) -> Result<(), CaptureFault>
         requires { length line.now + 1 < 2 ^ 64 }
-        ensures { (more : List (List ℕ)) → TakesNames signals.now remarks number line.now more result self.new }
+        ensures ok { IfOk result (λ _. NamesLeadTo signals.now remarks number line.now self.new) }
+        ensures err { IfErr result (λ f. NamesAreRefused signals.now remarks number line.now f) }
     {
         if is_in_front(line) {
             *self = RowPlace::Names(remarks.behind(line));
@@ -596,9 +597,8 @@ impl<'a> CsvReader<'a> {
         ensures { AnswersEnd self.now last result }
     {
         match self.place {
-            RowPlace::First | RowPlace::Names(_) => {
-                Err(CaptureFault::NoSignal(self.number, Wire::Atn))
-            }
+            RowPlace::First => Err(CaptureFault::NoSignal(self.number, Wire::Atn)),
+            RowPlace::Names(_) => Err(CaptureFault::NoSignal(self.number, Wire::Atn)),
             RowPlace::Rows(_, _) => Ok(last),
         }
     }

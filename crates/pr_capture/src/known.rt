@@ -7,7 +7,7 @@ ghost use Rattle.pr_capture.specs.VcdReading.{changed, header_ended, sample_of, 
 ghost use Rattle.pr_capture.specs.VcdSteps.{codes_of, found_of, place_at, place_of, words_in, ReadsPiece};
 
 use crate::changes::{Seen, is_number, level_behind, level_if, time_at};
-use crate::csv::time_or;
+use crate::times::time_or;
 use crate::entries::Keyword;
 use crate::fault::{CaptureFault, Wire};
 use crate::header::{WireCode, WireCodes, copied, scale_in, word_at};

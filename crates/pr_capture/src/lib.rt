@@ -5,6 +5,8 @@
 //!   read.
 //! - `vcd` writes a Value Change Dump. [`VcdWriter`] keeps the last edge alone.
 //! - `csv` reads a table that comes in blocks, line by line. [`CsvReader`] keeps the line that has begun.
+//!   `remarks` says what the name of the first column and remarks say of time, `times` what a field spells,
+//!   `numbers` what digits and words are.
 //! - `vcd_reader` reads a dump that comes in blocks, word by word. [`VcdReader`] keeps the letters of the
 //!   word that has begun, `vcd_parser` the words of the section or value that has begun (at most four),
 //!   `known` what was said so far: the timescale and the codes, then time and levels. `entries` says what
@@ -24,7 +26,10 @@ mod format;
 mod header;
 mod known;
 mod laws;
+mod numbers;
+mod remarks;
 mod signals;
+mod times;
 mod vcd;
 mod vcd_parser;
 mod vcd_reader;

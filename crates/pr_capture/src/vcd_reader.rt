@@ -8,17 +8,10 @@ ghost use Rattle.pr_capture.specs.VcdReadingLaws.{VcdIsReadBack};
 ghost use Rattle.pr_capture.specs.VcdSteps.{is_letter, line_number, word_begun, EndsText, HasReadDump, HoldsMore, MayEnd, ReadsMore, ReadsWords, RefusesDump};
 
 use crate::fault::CaptureFault;
-use crate::signals::Signals;
+use crate::signals::{Signals, is_space};
 use crate::vcd_parser::VcdParser;
 use pr_wire::Edge;
 use std::alloc::Global;
-
-/// Whether a byte is white space.
-fn is_space(b: u8) -> bool
-    ensures { result ≡ is_space b }
-{
-    b == b' ' || (b >= 9 && b <= 13)
-}
 
 /// How many bytes stand before the first white space.
 fn word_len(text: &[u8]) -> usize
