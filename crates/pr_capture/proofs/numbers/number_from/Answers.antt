@@ -1,5 +1,5 @@
 use Rattle.std.proofs.Common.{arith, sym, ◌∙◌}
-use Rattle.pr_capture.proofs.Numbers.{number-over}
+use Rattle.pr_capture.proofs.DigitLemmas.{number-over}
 use Rattle.pr_capture.proofs.numbers.number_from.Goals as goal
 
 pub returns-in_err-tens : goal.returns-in_err-tens
