@@ -79,7 +79,7 @@ digits-letters (d ∷ ds) h =
 
 -- a code of one sign
 abbrev pub coded : ℕ → Found
-coded code = record { code = Some (code ∷ []); other = None }
+coded code = record { code = Some (code ∷ []); bit = None; other = None }
 
 -- the codes that are written
 abbrev pub written : Codes
