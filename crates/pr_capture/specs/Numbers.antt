@@ -23,6 +23,14 @@ digits_in l = take (prefix_len is_digit l) l
 abbrev pub behind_digits : List ℕ → List ℕ
 behind_digits l = drop (prefix_len is_digit l) l
 
+-- the number in front of a text
+abbrev pub number_of : (digits : List ℕ) → Option ℕ
+number_of [] = None
+number_of (d ∷ ds) = number_from 0 (d ∷ ds)
+
+abbrev pub number_in : (text : List ℕ) → Option ℕ
+number_in l = number_of (digits_in l)
+
 -- the digits behind a point, if one stands here, and what stands behind them
 abbrev pub decimals_in : List ℕ → List ℕ
 decimals_in [] = []

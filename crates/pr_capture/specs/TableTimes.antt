@@ -2,13 +2,14 @@
 use Rattle.std.specs.Prelude.{ℕ, ◌+◌, ◌-◌, ◌*◌, ◌/◌, ◌==◌, ◌&&◌, ◌||◌, Bool, true, false, not, List, [], ◌∷◌, codes, drop, length, nat_le, nat_lt, take, if◌then◌else◌, Option, Some, None, Result, Ok, Err}
 use Rattle.std.specs.List.{list_all}
 use Rattle.std.specs.Str.{bytes_eq}
+use Rattle.pr_base.specs.Digits.{is_digit}
 use Rattle.pr_capture.specs.declared.fault.CaptureFault.{CaptureFault}
 use Rattle.pr_capture.specs.declared.fault.CaptureFault.TheVariants.{BadTime, GoesBack}
 use Rattle.pr_capture.specs.declared.remarks.Remarks.{Remarks}
 use Rattle.pr_capture.specs.declared.times.Exponent.{Exponent}
 use Rattle.pr_capture.specs.declared.times.Instant.{Instant}
 use Rattle.pr_capture.specs.Recording.{first_some, is_framing}
-use Rattle.pr_capture.specs.Numbers.{behind_decimals, behind_digits, are_some, behind_word, decimals_in, digits_in, is_sign, number_from, number_of_first, onward, spells, without_signs}
+use Rattle.pr_capture.specs.Numbers.{behind_decimals, behind_digits, are_some, behind_word, decimals_in, digits_in, is_sign, number_from, number_in, number_of_first, onward, spells, without_signs}
 
 -- The unit of times: how many decimals it is of a second, 0 for seconds and 12 for picoseconds.
 
@@ -163,9 +164,47 @@ abbrev pub unsigned_in : (unit : ℕ) → (negative : Bool) → List ℕ → Opt
 unsigned_in unit negative l =
     instant_by unit negative (digits_in l) (decimals_in (behind_digits l)) (exponent_in (behind_decimals (behind_digits l)))
 
--- the time that a field spells: a number of units
+-- A date and a time of day, as 2024-06-21T14:28:30.123456789+00:00: it is counted back from the end of the month's last day.
+-- So times go on from day to day, and go back from month to month.
+
+-- what stands behind digits and a sign
+abbrev pub behind_sign_of : (sign : ℕ) → List ℕ → Option (List ℕ)
+behind_sign_of sign [] = None
+behind_sign_of sign (b ∷ bs) = if b == sign then Some bs else None
+
+abbrev pub behind_part : (sign : ℕ) → List ℕ → Option (List ℕ)
+behind_part sign l = behind_sign_of sign (behind_digits l)
+
+-- a zone: Z, hours and minutes, or nothing
+abbrev pub is_zone_sign : ℕ → Bool
+is_zone_sign b = is_digit b || b == 90 || b == 43 || b == 45 || b == 58 || is_framing b
+
+-- the microseconds from a moment of a month on to the end of its day 31
+abbrev pub micros_left : (day hour minute second micros : ℕ) → Option ℕ
+micros_left day hour minute second micros =
+    if nat_le day 31 && nat_lt hour 24 && nat_lt minute 60 && nat_lt second 60 && nat_lt micros 1000000
+    then Some ((((32 - day) * 24 - hour) * 60 - minute) * 60000000 - second * 1000000 - micros) else None
+
+-- the moment of a month that these texts begin with: a day, an hour, a minute, a second and its decimals
+abbrev pub left_at : (day hour minute second : List ℕ) → Option ℕ
+left_at day hour minute second =
+    onward (number_in day) (λ d. onward (number_in hour) (λ h. onward (number_in minute) (λ m. onward (number_in second) (λ s.
+    onward (number_of_first 0 6 (decimals_in (behind_digits second))) (λ u. micros_left d h m s u)))))
+
+-- the parts of a time of day, behind those of the date
+abbrev pub dated_in : List ℕ → Option Instant
+dated_in l =
+    onward (behind_part 45 l) (λ month. onward (behind_part 45 month) (λ day. onward (behind_part 84 day) (λ hour.
+    onward (behind_part 58 hour) (λ minute. onward (behind_part 58 minute) (λ second.
+    if list_all is_zone_sign (behind_decimals (behind_digits second)) then instant_of true (left_at day hour minute second) else None)))))
+
+-- the time that a field spells: a date and a time of day, or a number of units
+abbrev pub instant_or : (dated : Option Instant) → (unit : ℕ) → List ℕ → Option Instant
+instant_or (Some i) unit l = Some i
+instant_or None unit l = unsigned_in unit (is_minus l) (behind_plus_minus l)
+
 abbrev pub instant_in : (unit : ℕ) → List ℕ → Option Instant
-instant_in unit l = unsigned_in unit (is_minus l) (behind_plus_minus l)
+instant_in unit l = instant_or (dated_in l) unit l
 
 -- From the start of a table on, which is its first time, where that lies before 0, and else 0.
 

@@ -16,7 +16,7 @@ use Rattle.pr_capture.specs.declared.signals.Signals.{Signals}
 use Rattle.pr_capture.specs.Recording.{◌>>=◌, ended, first_some, is_named, level_in, refused, second_name, with_samples, CaptureContents}
 use Rattle.pr_capture.specs.Samples.{listed}
 use Rattle.pr_capture.specs.Csv.{field_at}
-use Rattle.pr_capture.specs.Numbers.{behind_digits, digits_in, number_from}
+use Rattle.pr_capture.specs.Numbers.{behind_digits, digits_in, number_from, number_in}
 use Rattle.pr_capture.specs.TableTimes.{time_or}
 use Rattle.pr_capture.specs.Words.{end_line, words_of}
 use Rattle.pr_capture.specs.VcdPieces.{pieces_behind, Piece}
@@ -86,11 +86,6 @@ bracket_from place found (b ∷ bs) = bracket_from (place + 1) (if b == 91 then 
 abbrev pub bracket_in : (text : List ℕ) → ℕ
 bracket_in text = bracket_from 0 (length text) text
 
--- the number of digits
-abbrev pub number_in : (digits : List ℕ) → Option ℕ
-number_in [] = None
-number_in (d ∷ ds) = number_from 0 (d ∷ ds)
-
 -- one sign, and nothing else
 abbrev pub is_sign_alone : (sign : ℕ) → (text : List ℕ) → Bool
 is_sign_alone sign [] = false
@@ -99,7 +94,7 @@ is_sign_alone sign (b ∷ c ∷ bs) = false
 
 -- the index of a bit: 0]
 abbrev pub index_in : (text : List ℕ) → Option ℕ
-index_in t = if is_sign_alone 93 (behind_digits t) then number_in (digits_in t) else None
+index_in t = if is_sign_alone 93 (behind_digits t) then number_in t else None
 
 -- what stands behind a colon
 abbrev pub behind_colon : (text : List ℕ) → List ℕ
@@ -121,7 +116,7 @@ place_by (Some l) (Some r) (Some i) = place_between l r i
 
 -- the same of a range 2:0]
 abbrev pub place_in : (range : List ℕ) → (index : Option ℕ) → Option ℕ
-place_in t i = place_by (number_in (digits_in t)) (index_in (behind_colon (behind_digits t))) i
+place_in t i = place_by (number_in t) (index_in (behind_colon (behind_digits t))) i
 
 -- the same of a wanted name and a path, of which the one ends with an index and the other with a range
 abbrev pub bit_in : (wanted path : List ℕ) → Option ℕ

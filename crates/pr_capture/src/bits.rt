@@ -1,9 +1,9 @@
 //! A bit of a signal of more bits, by the names of both.
 
 ghost use Rattle.std.specs.Prelude.{◌≡◌, ◌+◌, Some, drop};
-ghost use Rattle.pr_capture.specs.VcdReading.{behind_colon, bit_in, bracket_in, extended, index_in, is_sign_alone, level_at, number_in, place_between, place_in};
+ghost use Rattle.pr_capture.specs.VcdReading.{behind_colon, bit_in, bracket_in, extended, index_in, is_sign_alone, level_at, place_between, place_in};
 
-use crate::numbers::{behind_digits, digits_in, first_of, number_from};
+use crate::numbers::{behind_digits, first_of, number_in};
 use crate::paths::has_path;
 
 /// The place of the last `[`, or the text's end.
@@ -31,16 +31,6 @@ fn behind_bracket(text: &[u8]) -> &[u8]
     }
 }
 
-/// The number of digits, if there are any.
-fn number_in(digits: &[u8]) -> Option<u64>
-    ensures { result ≡ number_in digits.now }
-{
-    if digits.is_empty() {
-        return None;
-    }
-    number_from(0, digits)
-}
-
 /// Whether a text is this one sign.
 fn is_sign_alone(sign: u8, text: &[u8]) -> bool
     ensures { result ≡ is_sign_alone sign text.now }
@@ -56,7 +46,7 @@ fn index_in(text: &[u8]) -> Option<u64>
     ensures { result ≡ index_in text.now }
 {
     if is_sign_alone(b']', behind_digits(text)) {
-        number_in(digits_in(text))
+        number_in(text)
     } else {
         None
     }
@@ -96,7 +86,7 @@ fn place_between(left: u64, right: u64, index: u64) -> Option<u64>
 fn place_in(range: &[u8], index: Option<u64>) -> Option<u64>
     ensures { result ≡ place_in range.now index }
 {
-    let left = number_in(digits_in(range))?;
+    let left = number_in(range)?;
     let right = index_in(behind_colon(behind_digits(range)))?;
     place_between(left, right, index?)
 }

@@ -2,7 +2,7 @@
 
 ghost use Rattle.std.specs.Prelude.{◌≡◌, option_copied, take, drop};
 ghost use Rattle.std.specs.List.{list_all};
-ghost use Rattle.pr_capture.specs.Numbers.{are_some, behind_decimals, behind_digits, behind_word, decimals_in, digits_in, is_sign, number_from, number_of_first, spells, with_zeros, without_signs};
+ghost use Rattle.pr_capture.specs.Numbers.{are_some, behind_decimals, behind_digits, behind_word, decimals_in, digits_in, is_sign, number_from, number_in, number_of_first, spells, with_zeros, without_signs};
 
 use crate::signals::behind_letter;
 use pr_base::{digit_count, is_digit};
@@ -139,6 +139,17 @@ pub fn behind_digits(text: &[u8]) -> &[u8]
     ensures { result.now ≡ behind_digits text.now }
 {
     &text[digit_count(text)..]
+}
+
+/// The number in front of a text, if digits stand there.
+pub fn number_in(text: &[u8]) -> Option<u64>
+    ensures { result ≡ number_in text.now }
+{
+    let digits = digits_in(text);
+    if digits.is_empty() {
+        return None;
+    }
+    number_from(0, digits)
 }
 
 /// The digits behind a point, if one stands here.

@@ -28,7 +28,7 @@ pub fn is_space(b: u8) -> bool
 }
 
 /// White space or a quotation mark.
-fn is_framing(b: u8) -> bool
+pub fn is_framing(b: u8) -> bool
     ensures { result ≡ is_framing b }
 {
     b == b' ' || b == b'"' || (b >= 9 && b <= 13)

@@ -1,11 +1,13 @@
 //! Times in a table: what a field spells, and what a row's time is.
 
-ghost use Rattle.std.specs.Prelude.{◌≡◌};
-ghost use Rattle.pr_capture.specs.TableTimes.{behind_plus_minus, earlier, exponent_in, few_places, from_start, has_rest, instant_at, instant_by, instant_in, is_minus, micros_of, places_in, start_of, time_at_rate, time_or, unsigned_in};
+ghost use Rattle.std.specs.Prelude.{◌≡◌, option_copied};
+ghost use Rattle.std.specs.List.{list_all};
+ghost use Rattle.pr_capture.specs.TableTimes.{behind_part, behind_plus_minus, dated_in, earlier, exponent_in, few_places, from_start, has_rest, instant_at, instant_by, instant_in, is_minus, is_zone_sign, left_at, micros_left, micros_of, places_in, start_of, time_at_rate, time_or, unsigned_in};
 
 use crate::fault::CaptureFault;
-use crate::numbers::{are_some, behind_decimals, behind_digits, behind_first, decimals_in, digits_in, first_of, number_from, number_of_first};
-use crate::signals::are_framing;
+use crate::numbers::{are_some, behind_decimals, behind_digits, behind_first, decimals_in, digits_in, first_of, number_from, number_in, number_of_first};
+use crate::signals::{are_framing, is_framing};
+use pr_base::is_digit;
 
 /// A moment of a table, in whole microseconds before or behind its moment 0.
 #[derive(Clone, Copy)]
@@ -173,11 +175,93 @@ fn unsigned_in(unit: u8, is_negative: bool, text: &[u8]) -> Option<Instant>
     instant_by(unit, is_negative, digits_in(text), decimals_in(behind), exponent)
 }
 
-/// The time that a field spells: a number of units, of which one is a second's decimal of this place.
+/// What stands behind the digits in front of a text, and a sign behind them.
+fn behind_part(sign: u8, text: &[u8]) -> Option<&[u8]>
+    ensures { option_copied result ≡ behind_part sign text.now }
+{
+    match behind_digits(text) {
+        [] => None,
+        [b, rest @ ..] => {
+            if *b == sign {
+                Some(rest)
+            } else {
+                None
+            }
+        }
+    }
+}
+
+/// Whether these are signs of a zone, or framing.
+fn are_zone(bytes: &[u8]) -> bool
+    ensures { result ≡ list_all is_zone_sign bytes.now }
+{
+    for b in bytes {
+        if !(is_digit(*b)
+            || *b == b'Z'
+            || *b == b'+'
+            || *b == b'-'
+            || *b == b':'
+            || is_framing(*b))
+        {
+            return false;
+        }
+    }
+    true
+}
+
+/// The microseconds from a moment of a month on to the end of its day 31.
+fn micros_left(day: u64, hour: u64, minute: u64, second: u64, micros: u64) -> Option<u64>
+    ensures { result ≡ micros_left day hour minute second micros }
+{
+    if day > 31 || hour >= 24 || minute >= 60 || second >= 60 || micros >= 1_000_000 {
+        return None;
+    }
+    let minutes = ((32 - day) * 24 - hour) * 60 - minute;
+    Some(minutes * 60_000_000 - second * 1_000_000 - micros)
+}
+
+/// The same of the moment that these texts begin with: a day, an hour, a minute, a second and its
+/// decimals.
+fn left_at(day: &[u8], hour: &[u8], minute: &[u8], second: &[u8]) -> Option<u64>
+    ensures { result ≡ left_at day.now hour.now minute.now second.now }
+{
+    let decimals = decimals_in(behind_digits(second));
+    let day = number_in(day)?;
+    let hour = number_in(hour)?;
+    let minute = number_in(minute)?;
+    let second = number_in(second)?;
+    let micros = number_of_first(0, 6, decimals)?;
+    micros_left(day, hour, minute, second, micros)
+}
+
+/// The time of a date and a time of day, counted back from the end of the month's last day.
+fn dated_in(text: &[u8]) -> Option<Instant>
+    ensures { result ≡ dated_in text.now }
+{
+    let month = behind_part(b'-', text)?;
+    let day = behind_part(b'-', month)?;
+    let hour = behind_part(b'T', day)?;
+    let minute = behind_part(b':', hour)?;
+    let second = behind_part(b':', minute)?;
+    if !are_zone(behind_decimals(behind_digits(second))) {
+        return None;
+    }
+    let micros = left_at(day, hour, minute, second)?;
+    Some(Instant {
+        is_negative: true,
+        micros,
+    })
+}
+
+/// The time that a field spells: a date and a time of day, or a number of units, of which one is a
+/// second's decimal of this place.
 pub fn instant_in(unit: u8, field: &[u8]) -> Option<Instant>
     ensures { result ≡ instant_in unit field.now }
 {
-    unsigned_in(unit, is_minus(field), behind_plus_minus(field))
+    match dated_in(field) {
+        Some(time) => Some(time),
+        None => unsigned_in(unit, is_minus(field), behind_plus_minus(field)),
+    }
 }
 
 /// How long before moment 0 a table starts, in microseconds, which has this time first where no start is
