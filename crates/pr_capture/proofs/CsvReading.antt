@@ -33,7 +33,7 @@ inner-append [] bs h k = k
 inner-append (b ∷ line) bs h k = rw (first-inner b line h) (inner-append line bs (rest-inner b line h) k)
 
 -- inner bytes stand on one line, up to its end or the text's
-inner-line : (line more : List ℕ) → list_all is_inner line ≡ true → lines_of (line ++ 10 ∷ more) ≡ line ∷ lines_of more
+pub inner-line : (line more : List ℕ) → list_all is_inner line ≡ true → lines_of (line ++ 10 ∷ more) ≡ line ∷ lines_of more
 unfolding lines_of
 inner-line [] more h = refl
 inner-line (b ∷ bs) more h = rw (first-inner b bs h) (ap (onto_first b) (inner-line bs more (rest-inner b bs h)))

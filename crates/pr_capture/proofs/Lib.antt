@@ -7,3 +7,4 @@ pub mod VcdWords
 pub mod VcdTelling
 pub mod VcdReadLines
 pub mod VcdReadBack
+pub mod CsvReadBack

@@ -15,7 +15,7 @@ use Rattle.pr_capture.specs.VcdReadingLaws.{IsAsWritten, RunsOn}
 use Rattle.pr_capture.proofs.VcdReadLines.{last_of, last_sample, reads-append, reads-behind, reads-first, samples_at, samples_behind, seen_at, told_here, vcd-begins, where_differ, Reads}
 
 -- a moment is not a later one
-not-same : (t u : ℕ) → t < u → (t == u) ≡ false
+pub not-same : (t u : ℕ) → t < u → (t == u) ≡ false
 not-same t u h = grind (arith, common_steps)
 
 same-time : (t : ℕ) → (t == t) ≡ true
@@ -86,7 +86,7 @@ edges-behind b (e ∷ es) h =
     ap (changes_after (Some b.levels)) (last-counts e.time b.levels e.levels (samples_behind e es) ∙ stays e es h.3)
     ∙ rw h.1 (ap (λ (v : List Edge). e ∷ v) (edges-behind e es h.3))
 
-from-zero : (ss : List Edge) → map (counted_from 0) ss ≡ ss
+pub from-zero : (ss : List Edge) → map (counted_from 0) ss ≡ ss
 from-zero [] = refl
 from-zero (e ∷ es) =
     let t : e.time - 0 ≡ e.time = omega arith in

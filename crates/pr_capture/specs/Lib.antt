@@ -13,3 +13,4 @@ pub mod VcdPieces
 pub mod VcdReading
 pub mod VcdSteps
 pub mod VcdReadingLaws
+pub mod CsvLaws

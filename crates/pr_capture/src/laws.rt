@@ -1,5 +1,6 @@
 //! Laws of the readers, with nothing to run. A caller whose proof needs one calls the function.
 
+ghost use Rattle.pr_capture.specs.CsvLaws.{CsvIsReadBack};
 ghost use Rattle.pr_capture.specs.CsvSteps as csv;
 ghost use Rattle.pr_capture.specs.Gathering.{GivenEdgesComeFirst};
 ghost use Rattle.pr_capture.specs.VcdSteps as vcd;
@@ -15,4 +16,10 @@ pub fn given_samples_come_first()
 /// first that the samples make.
 pub fn given_edges_come_first()
     ensures { GivenEdgesComeFirst }
+{}
+
+/// A law: a table with a row for each of some samples, in the order of time, says these samples; of
+/// edges, each later than the one before and with other levels, it says these edges.
+pub fn csv_is_read_back()
+    ensures { CsvIsReadBack }
 {}

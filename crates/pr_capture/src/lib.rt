@@ -15,7 +15,7 @@
 //! - `edge_detector` makes edges of samples, one by one and without memory.
 //!
 //! The contracts of the readers speak of whatever text may still come (`contents_left`), so a loop over
-//! blocks needs one relation. What is written is read back: [`vcd_is_read_back`].
+//! blocks needs one relation. What is written is read back: [`vcd_is_read_back`], [`csv_is_read_back`].
 #![tactic(auto)]
 
 mod bits;
@@ -41,7 +41,7 @@ pub use csv::CsvReader;
 pub use edge_detector::EdgeDetector;
 pub use fault::{CaptureFault, Wire};
 pub use format::{Source, TraceFormat, TraceInput};
-pub use laws::{given_edges_come_first, given_samples_come_first};
+pub use laws::{csv_is_read_back, given_edges_come_first, given_samples_come_first};
 pub use signals::Signals;
 pub use vcd::{VcdWriter, push_vcd_head, vcd_adds_up, write_vcd};
 pub use vcd_reader::{VcdReader, vcd_is_read_back};
