@@ -14,7 +14,7 @@ use Rattle.pr_base.specs.Lines.{lines_of, onto_first}
 use Rattle.pr_capture.specs.declared.csv.Columns.{Columns}
 use Rattle.pr_capture.specs.declared.csv.Layout.{Layout}
 use Rattle.pr_capture.specs.declared.csv.Moment.{Moment}
-use Rattle.pr_capture.specs.declared.csv.Scale.TheVariants.{Unit}
+use Rattle.pr_capture.specs.declared.csv.Scale.TheVariants.{Timed}
 use Rattle.pr_capture.specs.declared.times.Exponent.{Exponent}
 use Rattle.pr_capture.specs.declared.times.Instant.{Instant}
 use Rattle.pr_capture.specs.declared.fault.CaptureFault.{CaptureFault}
@@ -226,7 +226,7 @@ columns = record { atn = 1; clock = 2; line = 3 }
 
 -- and the layout
 abbrev layout : Layout
-layout = record { columns = columns; separator = 44; scale = Unit 0 }
+layout = record { columns = columns; separator = 44; scale = Timed 0 }
 
 -- a moment of a table that starts at 0: none was told yet, or one was
 abbrev moment : (start : Option ℕ) → (before : ℕ) → Moment

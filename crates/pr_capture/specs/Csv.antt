@@ -8,7 +8,7 @@ use Rattle.pr_wire.specs.Levels.{edge_at}
 use Rattle.pr_base.specs.Lines.{lines_of, onto_first}
 use Rattle.pr_capture.specs.declared.csv.Columns.{Columns}
 use Rattle.pr_capture.specs.declared.csv.Scale.{Scale}
-use Rattle.pr_capture.specs.declared.csv.Scale.TheVariants.{Rate, Unit}
+use Rattle.pr_capture.specs.declared.csv.Scale.TheVariants.{Counted, Timed}
 use Rattle.pr_capture.specs.declared.csv.Layout.{Layout}
 use Rattle.pr_capture.specs.declared.csv.Moment.{Moment}
 use Rattle.pr_capture.specs.declared.csv.Row.{Row}
@@ -101,10 +101,10 @@ rate_or number (Some rate) = Ok rate
 -- a table with times in its first column, by their unit, or a row a sample
 abbrev pub layout_by : Signals → Remarks → (number separator : ℕ) → (unit : Option ℕ) → (fields : List (List ℕ)) → Result Layout CaptureFault
 layout_by s r number sep (Some unit) fs =
-    columns_in s number 1 (drop 1 fs) >>= λ c. Ok (record { columns = c; separator = sep; scale = Unit unit })
+    columns_in s number 1 (drop 1 fs) >>= λ c. Ok (record { columns = c; separator = sep; scale = Timed unit })
 layout_by s r number sep None fs =
     columns_in s number 0 fs >>= λ c.
-    rate_or number r.rate >>= λ rate. Ok (record { columns = c; separator = sep; scale = Rate rate })
+    rate_or number r.rate >>= λ rate. Ok (record { columns = c; separator = sep; scale = Counted rate })
 
 -- the unit of the first column, if it is one of times
 abbrev pub unit_in : (bare : Option ℕ) → (first : Option (List ℕ)) → Option ℕ
@@ -168,8 +168,8 @@ instant_of_row unit None = None
 instant_of_row unit (Some f) = instant_in unit (without_front f)
 
 abbrev pub moment_of : Scale → (number : ℕ) → Moment → (fields : List (List ℕ)) → Result Moment CaptureFault
-moment_of (Unit unit) number m fields = moment_at number m (instant_of_row unit (field_at 0 fields))
-moment_of (Rate rate) number m fields = moment_next number m (time_at_rate rate m.count)
+moment_of (Timed unit) number m fields = moment_at number m (instant_of_row unit (field_at 0 fields))
+moment_of (Counted rate) number m fields = moment_next number m (time_at_rate rate m.count)
 
 -- what a row tells: its sample, and the moment from which the next row goes on
 abbrev pub row_of : Layout → (inverted : Bool) → (number : ℕ) → Moment → (fields : List (List ℕ)) → Result Row CaptureFault

@@ -27,9 +27,9 @@ struct Columns {
 #[derive(Clone, Copy)]
 enum Scale {
     /// Each row begins with its time, in this unit: how many decimals it is of a second.
-    Unit(u8),
+    Timed(u8),
     /// A row is a sample, and a second has this many.
-    Rate(u64),
+    Counted(u64),
 }
 
 /// How the rows of a table are read.
@@ -223,7 +223,7 @@ fn layout_by(
             Ok(Layout {
                 columns,
                 separator,
-                scale: Scale::Unit(unit),
+                scale: Scale::Timed(unit),
             })
         }
         None => {
@@ -232,7 +232,7 @@ fn layout_by(
             Ok(Layout {
                 columns,
                 separator,
-                scale: Scale::Rate(rate),
+                scale: Scale::Counted(rate),
             })
         }
     }
@@ -392,11 +392,11 @@ impl Moment {
         ensures { result ≡ moment_of layout.scale number self (fields_of layout.separator false line.now) }
     {
         match layout.scale {
-            Scale::Unit(unit) => {
+            Scale::Timed(unit) => {
                 let (time, _) = split_field(layout.separator, line);
                 self.at(number, instant_in(unit, without_front(time)))
             }
-            Scale::Rate(rate) => self.next(number, rate),
+            Scale::Counted(rate) => self.next(number, rate),
         }
     }
 }
