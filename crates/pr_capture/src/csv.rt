@@ -208,15 +208,16 @@ fn layout_by(
     signals: &Signals<'_>,
     remarks: Remarks,
     number: usize,
+    separator: u8,
     unit: Option<u8>,
     line: &[u8],
     more: Option<&[u8]>,
 ) -> Result<Layout, CaptureFault>
-    requires few { length line.now + 1 < 2 ^ 64 }
-    requires more { drop 1 (fields_of (separator_of line.now) false line.now) ≡ fields_left (separator_of line.now) (option_copied more) }
-    ensures { result ≡ layout_by signals.now remarks number (separator_of line.now) unit (fields_of (separator_of line.now) false line.now) }
+    requires first { 1 + length (fields_left separator (option_copied more)) < 2 ^ 64 }
+    requires all { length (fields_of separator false line.now) < 2 ^ 64 }
+    requires more { drop 1 (fields_of separator false line.now) ≡ fields_left separator (option_copied more) }
+    ensures { result ≡ layout_by signals.now remarks number separator unit (fields_of separator false line.now) }
 {
-    let separator = separator_of(line);
     match unit {
         Some(unit) => {
             let columns = columns_in(signals, number, 1, separator, more)?;
@@ -228,12 +229,14 @@ fn layout_by(
         }
         None => {
             let columns = columns_in(signals, number, 0, separator, Some(line))?;
-            let rate = remarks.rate.ok_or(CaptureFault::NoTime(number))?;
-            Ok(Layout {
-                columns,
-                separator,
-                scale: Scale::Counted(rate),
-            })
+            match remarks.rate {
+                None => Err(CaptureFault::NoTime(number)),
+                Some(rate) => Ok(Layout {
+                    columns,
+                    separator,
+                    scale: Scale::Counted(rate),
+                }),
+            }
         }
     }
 }
@@ -248,9 +251,10 @@ fn layout_of(
     requires { length line.now + 1 < 2 ^ 64 }
     ensures { result ≡ layout_of signals.now remarks number line.now }
 {
-    let (first, more) = split_field(separator_of(line), line);
+    let separator = separator_of(line);
+    let (first, more) = split_field(separator, line);
     let unit = time_unit(remarks.bare, first);
-    layout_by(signals, remarks, number, unit, line, more)
+    layout_by(signals, remarks, number, separator, unit, line, more)
 }
 
 /// What stands behind the zeros in front.
@@ -379,7 +383,10 @@ impl Moment {
     fn next(self, number: usize, rate: u64) -> Result<Moment, CaptureFault>
         ensures { result ≡ moment_next number self (time_at_rate rate self.count) }
     {
-        let before = time_or(number, self.before, time_at_rate(rate, self.count))?;
+        let Some(time) = time_at_rate(rate, self.count) else {
+            return Err(CaptureFault::BadTime(number));
+        };
+        let before = time_or(number, self.before, Some(time))?;
         Ok(Moment {
             start: self.start,
             before,

@@ -1,6 +1,6 @@
 //! Numbers in a recording, and words in it.
 
-ghost use Rattle.std.specs.Prelude.{◌≡◌, option_copied, take, drop};
+ghost use Rattle.std.specs.Prelude.{◌≡◌, ◌≤◌, length, option_copied, take, drop};
 ghost use Rattle.std.specs.List.{list_all};
 ghost use Rattle.pr_capture.specs.Numbers.{are_some, behind_decimals, behind_digits, behind_word, decimals_in, digits_in, is_sign, number_from, number_in, number_of_first, spells, with_zeros, without_signs};
 
@@ -45,7 +45,8 @@ pub fn first_of(bytes: &[u8], count: usize) -> &[u8]
 
 /// What stands behind the first so many bytes.
 pub fn behind_first(bytes: &[u8], count: usize) -> &[u8]
-    ensures { result.now ≡ drop count bytes.now }
+    ensures behind { result.now ≡ drop count bytes.now }
+    ensures within { length result.now ≤ length bytes.now }
 {
     if count < bytes.len() {
         &bytes[count..]

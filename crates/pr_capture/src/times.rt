@@ -1,6 +1,6 @@
 //! Times in a table: what a field spells, and what a row's time is.
 
-ghost use Rattle.std.specs.Prelude.{◌≡◌, option_copied};
+ghost use Rattle.std.specs.Prelude.{◌≡◌, ◌+◌, ◌^◌, ◌<◌, option_copied, IfSome};
 ghost use Rattle.std.specs.List.{list_all};
 ghost use Rattle.pr_capture.specs.TableTimes.{behind_part, behind_plus_minus, dated_in, earlier, exponent_in, few_places, from_start, has_rest, instant_at, instant_by, instant_in, is_minus, is_zone_sign, left_at, micros_left, micros_of, places_in, start_of, time_at_rate, time_or, unsigned_in};
 
@@ -191,18 +191,19 @@ fn behind_part(sign: u8, text: &[u8]) -> Option<&[u8]>
     }
 }
 
-/// Whether these are signs of a zone, or framing.
+/// Whether a byte is one of a zone, or framing.
+fn is_zone_sign(b: u8) -> bool
+    ensures { result ≡ is_zone_sign b }
+{
+    is_digit(b) || b == b'Z' || b == b'+' || b == b'-' || b == b':' || is_framing(b)
+}
+
+/// Whether these are all bytes of a zone, or framing.
 fn are_zone(bytes: &[u8]) -> bool
     ensures { result ≡ list_all is_zone_sign bytes.now }
 {
     for b in bytes {
-        if !(is_digit(*b)
-            || *b == b'Z'
-            || *b == b'+'
-            || *b == b'-'
-            || *b == b':'
-            || is_framing(*b))
-        {
+        if !is_zone_sign(*b) {
             return false;
         }
     }
@@ -314,7 +315,8 @@ pub fn time_or(number: usize, before: u64, time: Option<u64>) -> Result<u64, Cap
 
 /// The time of the sample behind so many others, in microseconds, where a second has this many.
 pub fn time_at_rate(rate: u64, count: u64) -> Option<u64>
-    ensures { result ≡ time_at_rate rate count }
+    ensures time { result ≡ time_at_rate rate count }
+    ensures few { IfSome result (λ t. count + 1 < 2 ^ 64) }
 {
     if rate == 0 || count == u64::MAX {
         return None;
