@@ -43,7 +43,7 @@ behind_decimals (b ∷ bs) = if b == 46 then behind_digits bs else b ∷ bs
 -- so many zeros behind a number
 abbrev pub with_zeros : (count : ℕ) → ℕ → Option ℕ
 with_zeros zero n = Some n
-with_zeros (suc count) n = if nat_lt (10 * n) 18446744073709551616 then with_zeros count (10 * n) else None
+with_zeros (suc count) n = onward (number_from n (48 ∷ [])) (λ m. with_zeros count m)
 
 -- the number that the first so many of digits spell behind those that spell n; those that lack are zeros
 abbrev pub number_of_first : ℕ → (count : ℕ) → (digits : List ℕ) → Option ℕ

@@ -334,8 +334,8 @@ abbrev pub changed : (inverted : Bool) → Codes → Seen → (line : ℕ) → (
 changed inverted c seen line bits code =
     level_if (all_known seen.atn seen.clock seen.line) line inverted c.atn bits code seen.atn >>= λ atn.
     level_if (all_known seen.atn seen.clock seen.line) line inverted (clock_found c) bits code seen.clock >>= λ clock.
-    level_if (all_known seen.atn seen.clock seen.line) line inverted c.line bits code seen.line >>= λ data.
-    Ok (record { time = seen.time; atn = atn; clock = clock; line = data })
+    level_if (all_known seen.atn seen.clock seen.line) line inverted c.line bits code seen.line >>= λ last.
+    Ok (record { time = seen.time; atn = atn; clock = clock; line = last })
 
 -- a time stamp, in whole microseconds not before that of an earlier one
 abbrev pub stamped : (scale : ℕ) → Seen → (line : ℕ) → (digits : List ℕ) → Result Seen CaptureFault

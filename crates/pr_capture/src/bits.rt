@@ -58,13 +58,7 @@ fn behind_colon(text: &[u8]) -> &[u8]
 {
     match text {
         [] => &[],
-        [b, rest @ ..] => {
-            if *b == b':' {
-                rest
-            } else {
-                &[]
-            }
-        }
+        [b, rest @ ..] => { if *b == b':' { rest } else { &[] } }
     }
 }
 
@@ -112,13 +106,7 @@ fn extended(bits: &[u8]) -> Option<u8>
 {
     match bits {
         [] => None,
-        [b, ..] => {
-            if *b == b'1' {
-                Some(b'0')
-            } else {
-                Some(*b)
-            }
-        }
+        [b, ..] => { if *b == b'1' { Some(b'0') } else { Some(*b) } }
     }
 }
 

@@ -5,8 +5,8 @@ ghost use Rattle.std.specs.List.{list_all};
 ghost use Rattle.pr_base.specs.Digits.{is_digit};
 ghost use Rattle.pr_capture.specs.VcdReading.{all_known, is_blank, is_number, level_behind, sample_in, time_at, whole_micros, without_level};
 
-use crate::numbers::number_from;
 use crate::fault::{CaptureFault, Wire};
+use crate::numbers::number_from;
 use crate::signals::level_in;
 use pr_base::is_digit;
 use pr_wire::{Edge, Levels};

@@ -4,6 +4,7 @@ ghost use Rattle.std.specs.Prelude.{◌≡◌, ◌+◌, ◌^◌, ◌<◌, ◌≤
 ghost use Rattle.std.specs.List.{list_all, prefix_len};
 ghost use Rattle.pr_capture.specs.Csv.{behind_point, clock_column, column_of, columns_in, field_at, fields_of, first_moment, is_archive, is_in_front, is_separator, is_silent, is_wide, layout_by, layout_of, level_of, level_or, moment_at, moment_next, moment_of, opened, row_of, sample_of, separator_of, without_space, without_zeros};
 ghost use Rattle.pr_capture.specs.CsvSteps.{field_len, fields_left, is_inner, line_number, AnswersEnd, EndsText, FaultsIn, HasNoRows, HasReadTable, HoldsMore, NamesAreRefused, NamesLeadTo, ReadsLine, ReadsMore, RefusesTable};
+ghost use Rattle.pr_capture.specs.TableTimes.{time_at_rate};
 ghost use Rattle.pr_capture.specs.declared.fault.CaptureFault.TheVariants.{NoMemory};
 
 use crate::entries::is_word;

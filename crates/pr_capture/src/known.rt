@@ -8,11 +8,11 @@ ghost use Rattle.pr_capture.specs.VcdSteps.{codes_of, found_of, place_at, place_
 
 use crate::bits::level_at;
 use crate::changes::{Seen, is_number, level_behind, time_at};
-use crate::times::time_or;
 use crate::entries::Keyword;
 use crate::fault::{CaptureFault, Wire};
 use crate::header::{WireCode, WireCodes, copied, scale_in, word_at};
 use crate::signals::Signals;
+use crate::times::time_or;
 use pr_wire::{Edge, NoMemory};
 use std::alloc::Global;
 
@@ -115,9 +115,25 @@ fn changed(
 {
     let is_known = seen.all_known();
     let clock = codes.clock_code();
-    let atn = level_if(is_known, line, is_inverted, &codes.atn, bits, code, seen.atn)?;
+    let atn = level_if(
+        is_known,
+        line,
+        is_inverted,
+        &codes.atn,
+        bits,
+        code,
+        seen.atn,
+    )?;
     let clock = level_if(is_known, line, is_inverted, clock, bits, code, seen.clock)?;
-    let data = level_if(is_known, line, is_inverted, &codes.line, bits, code, seen.line)?;
+    let data = level_if(
+        is_known,
+        line,
+        is_inverted,
+        &codes.line,
+        bits,
+        code,
+        seen.line,
+    )?;
     Ok(Seen {
         time: seen.time,
         atn,

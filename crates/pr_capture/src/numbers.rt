@@ -26,7 +26,7 @@ fn with_zeros(count: usize, front: u64) -> Option<u64>
     let mut number = front;
     let mut left = count;
     while left > 0 {
-        number = number.checked_mul(10)?;
+        number = number_from(number, b"0")?;
         left -= 1;
     }
     Some(number)

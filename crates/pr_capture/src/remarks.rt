@@ -4,7 +4,10 @@ ghost use Rattle.std.specs.Prelude.{◌≡◌, ◌∷◌, [], option_copied};
 ghost use Rattle.pr_capture.specs.TableTimes.{is_micro, is_unit, no_remarks, rate_by, rate_in, rate_unit, remarked, time_unit, unit_behind, unit_by, unit_of, with_rate};
 
 use crate::entries::is_word;
-use crate::numbers::{are_signs, behind_decimals, behind_digits, behind_word, decimals_in, digits_in, first_of, number_from, number_of_first, spells, without_signs};
+use crate::numbers::{
+    are_signs, behind_decimals, behind_digits, behind_word, decimals_in, digits_in, first_of,
+    number_from, number_of_first, spells, without_signs,
+};
 
 /// What remarks say of time.
 #[derive(Clone, Copy)]
@@ -55,13 +58,7 @@ fn unit_behind(bare: Option<u8>, rest: Option<&[u8]>) -> Option<u8>
 {
     match rest {
         None => None,
-        Some(rest) => {
-            if are_signs(rest) {
-                bare
-            } else {
-                unit_of(rest)
-            }
-        }
+        Some(rest) => { if are_signs(rest) { bare } else { unit_of(rest) } }
     }
 }
 

@@ -5,7 +5,10 @@ ghost use Rattle.std.specs.List.{list_all};
 ghost use Rattle.pr_capture.specs.TableTimes.{behind_part, behind_plus_minus, dated_in, earlier, exponent_in, few_places, from_start, has_rest, instant_at, instant_by, instant_in, is_minus, is_zone_sign, left_at, micros_left, micros_of, places_in, start_of, time_at_rate, time_or, unsigned_in};
 
 use crate::fault::CaptureFault;
-use crate::numbers::{are_some, behind_decimals, behind_digits, behind_first, decimals_in, digits_in, first_of, number_from, number_in, number_of_first};
+use crate::numbers::{
+    are_some, behind_decimals, behind_digits, behind_first, decimals_in, digits_in, first_of,
+    number_from, number_in, number_of_first,
+};
 use crate::signals::{are_framing, is_framing};
 use pr_base::is_digit;
 
@@ -40,13 +43,7 @@ fn behind_plus_minus(text: &[u8]) -> &[u8]
 {
     match text {
         [] => &[],
-        [b, rest @ ..] => {
-            if *b == b'-' || *b == b'+' {
-                rest
-            } else {
-                text
-            }
-        }
+        [b, rest @ ..] => { if *b == b'-' || *b == b'+' { rest } else { text } }
     }
 }
 
@@ -117,7 +114,8 @@ fn has_rest(right: usize, left: usize, whole: &[u8], decimals: &[u8]) -> bool
     if left <= right {
         are_some(behind_first(decimals, right - left))
     } else {
-        are_some(behind_first(whole, whole.len().saturating_sub(left - right))) || are_some(decimals)
+        are_some(behind_first(whole, whole.len().saturating_sub(left - right)))
+            || are_some(decimals)
     }
 }
 
@@ -126,7 +124,11 @@ fn earlier(is_left: bool, micros: Option<u64>) -> Option<u64>
     ensures { result ≡ earlier is_left micros }
 {
     let micros = micros?;
-    if is_left { micros.checked_add(1) } else { Some(micros) }
+    if is_left {
+        micros.checked_add(1)
+    } else {
+        Some(micros)
+    }
 }
 
 /// The time of a number whose point moves so.
@@ -172,7 +174,13 @@ fn unsigned_in(unit: u8, is_negative: bool, text: &[u8]) -> Option<Instant>
 {
     let behind = behind_digits(text);
     let exponent = exponent_in(behind_decimals(behind));
-    instant_by(unit, is_negative, digits_in(text), decimals_in(behind), exponent)
+    instant_by(
+        unit,
+        is_negative,
+        digits_in(text),
+        decimals_in(behind),
+        exponent,
+    )
 }
 
 /// What stands behind the digits in front of a text, and a sign behind them.
@@ -181,13 +189,7 @@ fn behind_part(sign: u8, text: &[u8]) -> Option<&[u8]>
 {
     match behind_digits(text) {
         [] => None,
-        [b, rest @ ..] => {
-            if *b == sign {
-                Some(rest)
-            } else {
-                None
-            }
-        }
+        [b, rest @ ..] => { if *b == sign { Some(rest) } else { None } }
     }
 }
 
@@ -272,13 +274,7 @@ pub fn start_of(start: Option<u64>, first: Instant) -> u64
 {
     match start {
         Some(start) => start,
-        None => {
-            if first.is_negative {
-                first.micros
-            } else {
-                0
-            }
-        }
+        None => { if first.is_negative { first.micros } else { 0 } }
     }
 }
 
