@@ -1,0 +1,5 @@
+pub mod Checksums
+pub mod Pixels
+pub mod Png
+pub mod Marking
+pub mod Packing
