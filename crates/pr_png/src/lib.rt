@@ -10,4 +10,5 @@ mod file;
 mod marking;
 mod packing;
 
-pub use file::{SHEET_LINES, png};
+pub use file::png;
+pub use marking::SHEET_LINES;
