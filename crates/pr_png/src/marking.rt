@@ -1,8 +1,8 @@
 //! The dots of a paper on a sheet: whether each dot column is dark in each line of pixels.
 
-ghost use Rattle.std.specs.Prelude.{◌≡◌, ◌<◌, ◌≤◌, false, length, replicate, IfOk};
-ghost use Rattle.pr_dots.specs.Dots.{bit_dots, column_dots, columns_dots, columns_of, dots_of, row_dots};
-ghost use Rattle.pr_png.specs.Marking.{darkened, is_near, marked};
+ghost use Rattle.std.specs.Prelude.{◌≡◌, ◌<◌, ◌≤◌, flat_map, length, IfOk};
+ghost use Rattle.pr_dots.specs.Dots.{bit_dots, column_dots, columns_dots, columns_of, row_dots};
+ghost use Rattle.pr_png.specs.Marking.{darkened, is_near, marked, IsBlank, ShowsSheet};
 
 use pr_dots::columns;
 use pr_page::{Paper, Placed, Row};
@@ -13,9 +13,6 @@ pub const SHEET_LINES: usize = 1386;
 
 /// The dot columns of a sheet: 8 inches, 60 to the inch.
 const DOT_COLUMNS: usize = 480;
-
-/// The bits of a column of dots, from the top.
-const BITS: [u8; 7] = [0, 1, 2, 3, 4, 5, 6];
 
 /// Darkens a dot column in the line of pixels y lines from the paper's top, if the sheet whose first
 /// line is at `top` has that place.
@@ -29,6 +26,7 @@ fn darken(dark: &mut [bool], top: u128, x: u64, y: u128)
 }
 
 /// Puts the dot of a column's bit on a sheet, if it has one: two lines of pixels.
+#[tactic(auto, unfolding(crate::specs::Marking::marked))]
 fn mark_bit(dark: &mut [bool], top: u128, x: u64, y: u128, value: u8, bit: u8)
     requires whole { length dark.old ≡ 665280 }
     requires within { y ≤ 18446744073709551615 }
@@ -48,12 +46,13 @@ fn mark_column(dark: &mut [bool], top: u128, x: u64, y: u128, value: u8)
     requires within { y ≤ 18446744073709551615 }
     ensures { dark.new ≡ marked top (column_dots x y value) dark.old }
 {
-    for bit in &BITS {
-        mark_bit(dark, top, x, y, value, *bit);
+    for bit in 0u8..7 {
+        mark_bit(dark, top, x, y, value, bit);
     }
 }
 
 /// Puts a mark on a sheet, on a row at a distance.
+#[tactic(auto, using(crate::proofs::OnSheet::marked_append))]
 fn mark_placed(dark: &mut [bool], top: u128, y: u128, placed: Placed)
     requires whole { length dark.old ≡ 665280 }
     requires within { y ≤ 18446744073709551615 }
@@ -67,6 +66,7 @@ fn mark_placed(dark: &mut [bool], top: u128, y: u128, placed: Placed)
 }
 
 /// Puts a row on a sheet.
+#[tactic(auto, using(crate::proofs::OnSheet::marked_append))]
 fn mark_row(dark: &mut [bool], top: u128, row: &Row)
     requires { length dark.old ≡ 665280 }
     ensures { dark.new ≡ marked top (row_dots row.now) dark.old }
@@ -84,15 +84,31 @@ fn is_near(top: u128, y: u128) -> bool
     top <= y + 13 && y < top + 1386
 }
 
-/// The dots of a paper on the sheet whose first line of pixels is at `top`.
-pub fn dots_on_sheet(alloc: Global, paper: &Paper, top: u128) -> Result<Vec<bool>, AllocError>
-    ensures { IfOk result (λ dark. dark.items ≡ marked top (dots_of paper.now) (replicate 665280 false)) }
+/// A sheet without dots.
+fn blank_sheet(alloc: Global) -> Result<Vec<bool>, AllocError>
+    ensures { IfOk result (λ dark. IsBlank dark.items) }
 {
-    let mut dark = vec![in alloc; false; DOT_COLUMNS * SHEET_LINES]?;
-    for row in paper.rows.as_slice() {
+    Ok(vec![in alloc; false; DOT_COLUMNS * SHEET_LINES]?)
+}
+
+/// The dots of rows on a sheet.
+#[tactic(auto, using(crate::proofs::OnSheet::marked_append))]
+fn mark_rows(dark: &mut [bool], top: u128, rows: &[Row])
+    requires { length dark.old ≡ 665280 }
+    ensures { dark.new ≡ marked top (flat_map row_dots rows.now) dark.old }
+{
+    for row in rows {
         if is_near(top, u128::from(row.y)) {
-            mark_row(&mut dark, top, row);
+            mark_row(dark, top, row);
         }
     }
+}
+
+/// The dots of a paper on the sheet whose first line of pixels is at `top`.
+pub fn dots_on_sheet(alloc: Global, paper: &Paper, top: u128) -> Result<Vec<bool>, AllocError>
+    ensures { IfOk result (λ dark. ShowsSheet paper.now top dark.items) }
+{
+    let mut dark = blank_sheet(alloc)?;
+    mark_rows(&mut dark, top, paper.rows.as_slice());
     Ok(dark)
 }
