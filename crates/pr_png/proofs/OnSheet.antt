@@ -42,3 +42,138 @@ bit-more top x y value bit before now after so_far one =
             ≡ flat_map (bit_dots x y value) (range_with_len 0 bit) ++ flat_map (bit_dots x y value) (bit ∷ []) =
         ap (flat_map (bit_dots x y value)) bits ∙ flat_map-append (bit_dots x y value) (range_with_len 0 bit) (bit ∷ []) in
     grind (arith, common_steps, marked_append, so_far, one, dots)
+
+-- a dot column that is darkened, place by place; the number of places stays
+pub darkened-length : (top x y : ℕ) (dark : List Bool) → length (darkened top x y dark) ≡ length dark
+darkened-length top x y dark = grind (arith, common_steps)
+
+pub marked-length : (top : ℕ) (dots : List Dot) (dark : List Bool) → length (marked top dots dark) ≡ length dark
+unfolding marked
+marked-length top [] dark = refl
+marked-length top (d ∷ ds) dark =
+    marked-length top ds (darkened top d.x (d.y + 1) (darkened top d.x d.y dark))
+    ∙ darkened-length top d.x (d.y + 1) (darkened top d.x d.y dark)
+    ∙ darkened-length top d.x d.y dark
+
+darkened-at : (top x y : ℕ) (dark : List Bool) (column line : ℕ) → length dark ≡ 665280 → column < 480 → line < 1386
+    → slice_index_or (darkened top x y dark) (line * 480 + column) false
+    ≡ (slice_index_or dark (line * 480 + column) false || (x == column && y == top + line))
+darkened-at top x y dark column line whole narrow short = grind (arith, common_steps)
+
+-- a dot covers two lines of pixels
+abbrev covers : (x y : ℕ) → Dot → Bool
+covers x y dot = dot.x == x && (dot.y == y || dot.y + 1 == y)
+
+dot-at : (before first second here later : Bool)
+    → (((before || (here && first)) || (here && second)) || later) ≡ (before || ((here && (first || second)) || later))
+dot-at true first second here later = refl
+dot-at false first second false later = refl
+dot-at false true second true later = refl
+dot-at false false second true later = refl
+
+-- a place is dark if it was, or if a dot covers it
+marked-at : (top : ℕ) (dots : List Dot) (dark : List Bool) (column line : ℕ) → length dark ≡ 665280 → column < 480 → line < 1386
+    → slice_index_or (marked top dots dark) (line * 480 + column) false
+    ≡ (slice_index_or dark (line * 480 + column) false || list_any (covers column (top + line)) dots)
+unfolding marked
+marked-at top [] dark column line whole narrow short = or-false (slice_index_or dark (line * 480 + column) false)
+  where
+    or-false : (b : Bool) → b ≡ (b || false)
+    or-false true = refl
+    or-false false = refl
+marked-at top (d ∷ ds) dark column line whole narrow short =
+    let once : List Bool = darkened top d.x d.y dark in
+    let once-whole : length once ≡ 665280 = darkened-length top d.x d.y dark ∙ whole in
+    let twice : List Bool = darkened top d.x (d.y + 1) once in
+    let twice-whole : length twice ≡ 665280 = darkened-length top d.x (d.y + 1) once ∙ once-whole in
+    marked-at top ds twice column line twice-whole narrow short
+    ∙ ap (λ b. b || list_any (covers column (top + line)) ds)
+        (darkened-at top d.x (d.y + 1) once column line once-whole narrow short
+        ∙ ap (λ b. b || (d.x == column && d.y + 1 == top + line)) (darkened-at top d.x d.y dark column line whole narrow short))
+    ∙ dot-at (slice_index_or dark (line * 480 + column) false) (d.y == top + line) (d.y + 1 == top + line) (d.x == column)
+        (list_any (covers column (top + line)) ds)
+
+-- two tests of dots at once
+any-either : (p q r : Dot → Bool) → ((d : Dot) → r d ≡ (p d || q d)) → (dots : List Dot)
+    → list_any r dots ≡ (list_any p dots || list_any q dots)
+any-either p q r either [] = refl
+any-either p q r either (d ∷ ds) =
+    ap (λ b. b || list_any r ds) (either d) ∙ ap (λ b. (p d || q d) || b) (any-either p q r either ds)
+    ∙ moved (p d) (q d) (list_any p ds) (list_any q ds)
+  where
+    moved : (a b c d : Bool) → ((a || b) || (c || d)) ≡ ((a || c) || (b || d))
+    moved true b c d = refl
+    moved false true true d = refl
+    moved false true false d = refl
+    moved false false c d = refl
+
+two-lines : (x y : ℕ) (d : Dot) → covers x y d ≡ (is_at x y d || is_at x (y - 1) d)
+two-lines x y d = grind (arith, common_steps)
+
+-- the dots of a paper on a blank sheet
+pub shows : (paper : Paper) (top : ℕ) (blank dark : List Bool) → IsBlank blank
+    → dark ≡ marked top (flat_map row_dots paper.rows) blank → ShowsSheet paper top dark
+unfolding has_dot dots_of
+shows paper top blank dark is_blank made = record {
+  whole = ap length made ∙ marked-length top (flat_map row_dots paper.rows) blank ∙ is_blank.whole;
+  shows = λ x line narrow short.
+      ap (λ (d : List Bool). slice_index_or d (line * 480 + x) false) made
+      ∙ marked-at top (flat_map row_dots paper.rows) blank x line is_blank.whole narrow short
+      ∙ ap (λ b. b || list_any (covers x (top + line)) (flat_map row_dots paper.rows)) (is_blank.blank (line * 480 + x))
+      ∙ any-either (is_at x (top + line)) (is_at x (top + line - 1)) (covers x (top + line)) (two-lines x (top + line))
+          (flat_map row_dots paper.rows);
+}
+
+-- a place that is not on the sheet is not darkened
+outside : (top x y z : ℕ) (dark : List Bool) → is_near top y ≡ false → y ≤ z → z ≤ y + 13 → darkened top x z dark ≡ dark
+outside top x y z dark far above below = grind (arith, common_steps)
+
+far-dot : (set : Bool) (top x y z : ℕ) (dark : List Bool) → is_near top y ≡ false → y ≤ z → z ≤ y + 12
+    → marked top (if set then record { x = x; y = z } ∷ [] else []) dark ≡ dark
+unfolding marked
+far-dot true top x y z dark far above below =
+    let last : z ≤ y + 13 = omega arith in
+    let next-above : y ≤ z + 1 = omega arith in
+    let next-below : z + 1 ≤ y + 13 = omega arith in
+    ap (darkened top x (z + 1)) (outside top x y z dark far above last) ∙ outside top x y (z + 1) dark far next-above next-below
+far-dot false top x y z dark far above below = refl
+
+far-bit : (top x y value b : ℕ) (dark : List Bool) → is_near top y ≡ false → b < 7 → marked top (bit_dots x y value b) dark ≡ dark
+far-bit top x y value b dark far low =
+    let above : y ≤ y + 2 * b = omega arith in
+    let below : y + 2 * b ≤ y + 12 = omega arith in
+    far-dot (value / 2 ^ b % 2 == 1) top x y (y + 2 * b) dark far above below
+
+far-append : (top : ℕ) (ds es : List Dot) (dark : List Bool) → marked top ds dark ≡ dark → marked top es dark ≡ dark → marked top (ds ++ es) dark ≡ dark
+far-append top ds es dark first second = marked_append top ds es dark ∙ ap (marked top es) first ∙ second
+
+far-bits : (top x y value a n : ℕ) (dark : List Bool) → is_near top y ≡ false → a + n ≤ 7
+    → marked top (flat_map (bit_dots x y value) (range_with_len a n)) dark ≡ dark
+far-bits top x y value a zero dark far few = sym (no-dots top dark)
+far-bits top x y value a (suc n) dark far few =
+    let low : a < 7 = omega arith in
+    let fewer : a + 1 + n ≤ 7 = omega arith in
+    far-append top (bit_dots x y value a) (flat_map (bit_dots x y value) (range_with_len (a + 1) n)) dark
+    (far-bit top x y value a dark far low) (far-bits top x y value (a + 1) n dark far fewer)
+
+far-column : (top x y value : ℕ) (dark : List Bool) → is_near top y ≡ false → marked top (column_dots x y value) dark ≡ dark
+far-column top x y value dark far =
+    let seven : 0 + 7 ≤ 7 = omega arith in
+    far-bits top x y value 0 7 dark far seven
+
+far-columns : (top x y : ℕ) (values : List ℕ) (dark : List Bool) → is_near top y ≡ false → marked top (columns_dots x y values) dark ≡ dark
+far-columns top x y [] dark far = sym (no-dots top dark)
+far-columns top x y (v ∷ values) dark far =
+    far-append top (column_dots x y v) (columns_dots (x + 1) y values) dark
+    (far-column top x y v dark far) (far-columns top (x + 1) y values dark far)
+
+far-marks : (top y : ℕ) (marks : List Placed) (dark : List Bool) → is_near top y ≡ false
+    → marked top (flat_map (λ p. columns_dots p.x y (columns_of p.mark)) marks) dark ≡ dark
+far-marks top y [] dark far = sym (no-dots top dark)
+far-marks top y (p ∷ marks) dark far =
+    far-append top (columns_dots p.x y (columns_of p.mark)) (flat_map (λ p. columns_dots p.x y (columns_of p.mark)) marks) dark
+    (far-columns top p.x y (columns_of p.mark) dark far) (far-marks top y marks dark far)
+
+-- a row that is not near has no dot on the sheet
+pub far-row : (top : ℕ) (row : Row) (dark : List Bool) → is_near top row.y ≡ false → marked top (row_dots row) dark ≡ dark
+far-row top row dark far = far-marks top row.y row.marks dark far
