@@ -1,13 +1,16 @@
 -- Dots on a sheet.
-use Rattle.std.proofs.Common.{◌≡◌, ℕ, zero, suc, ◌+◌, ◌-◌, ◌*◌, ◌/◌, ◌%◌, ◌^◌, ◌<◌, ◌≤◌, Bool, true, false, List, [], ◌∷◌, ◌++◌, length, get_or, refl, sym, ap, ◌∙◌, append_assoc, arith, rules}
+use Rattle.std.proofs.Common.{◌≡◌, ℕ, zero, suc, ◌+◌, ◌-◌, ◌*◌, ◌/◌, ◌%◌, ◌^◌, ◌<◌, ◌≤◌, Bool, true, false, List, [], ◌∷◌, ◌++◌, length, inl, inr, ◌≢◌, refl, sym, ap, ◌∙◌, append_assoc, arith, rules}
 use Rattle.std.specs.Prelude.{◌==◌, ◌&&◌, ◌||◌, flat_map, nat_le, nat_lt, slice_index_or, slice_set, if◌then◌else◌}
 use Rattle.std.specs.List.{list_any, range_with_len}
 use Rattle.std.proofs.lemmas.Grind.{common_steps, flat_map-append}
+use Rattle.std.proofs.lemmas.Bool.{cases_Bool}
+use Rattle.std.proofs.lemmas.Bool.Decides.{eqb_tells, nat_tests}
+use Rattle.std.proofs.lemmas.List.{get_or-set_other, get_or-set_same}
 use Rattle.pr_page.specs.declared.paper.Paper.{Paper}
 use Rattle.pr_page.specs.declared.paper.Placed.{Placed}
 use Rattle.pr_page.specs.declared.paper.Row.{Row}
 use Rattle.pr_dots.specs.Dots.{Dot, bit_dots, column_dots, columns_dots, columns_of, dots_of, has_dot, is_at, row_dots}
-use Rattle.pr_png.specs.Marking.{darkened, marked, is_near, IsBlank, ShowsSheet}
+use Rattle.pr_png.specs.Marking.{darkened, marked, is_near, ShowsSheet}
 
 -- one number more
 pub range-more : (a n : ℕ) → range_with_len a (n + 1) ≡ range_with_len a n ++ (a + n) ∷ []
@@ -39,8 +42,8 @@ bit-more top x y value bit before now after so_far one =
     let zero-first : 0 + bit ≡ bit = omega arith in
     let bits : range_with_len 0 (bit + 1) ≡ range_with_len 0 bit ++ bit ∷ [] = rw (range-more 0 bit, zero-first) refl in
     let dots : flat_map (bit_dots x y value) (range_with_len 0 (bit + 1))
-            ≡ flat_map (bit_dots x y value) (range_with_len 0 bit) ++ flat_map (bit_dots x y value) (bit ∷ []) =
-        ap (flat_map (bit_dots x y value)) bits ∙ flat_map-append (bit_dots x y value) (range_with_len 0 bit) (bit ∷ []) in
+    ≡ flat_map (bit_dots x y value) (range_with_len 0 bit) ++ flat_map (bit_dots x y value) (bit ∷ []) =
+    ap (flat_map (bit_dots x y value)) bits ∙ flat_map-append (bit_dots x y value) (range_with_len 0 bit) (bit ∷ []) in
     grind (arith, common_steps, marked_append, so_far, one, dots)
 
 -- a dot column that is darkened, place by place; the number of places stays
@@ -55,10 +58,50 @@ marked-length top (d ∷ ds) dark =
     ∙ darkened-length top d.x (d.y + 1) (darkened top d.x d.y dark)
     ∙ darkened-length top d.x d.y dark
 
+or-false : (b : Bool) → b ≡ (b || false)
+or-false true = refl
+or-false false = refl
+
+or-true : (b : Bool) → true ≡ (b || true)
+or-true true = refl
+or-true false = refl
+
+set-at : (dark : List Bool) (i j : ℕ) → i < length dark
+    → slice_index_or (slice_set dark i true) j false ≡ (slice_index_or dark j false || (i == j))
+set-at dark i j within = elim (eqb_tells i j) [
+  | inl e ↦ rw (e.0, ← e.1) (get_or-set_same dark i true false within ∙ or-true (slice_index_or dark i false))
+  | inr e ↦
+      let other : j ≢ i = λ same. e.1 (sym same) in
+      rw e.0 (get_or-set_other dark i j true false other ∙ or-false (slice_index_or dark j false))
+]
+
+-- places are the same where their columns and lines are
+place-test : (top x y column line : ℕ) → top ≤ y → x < 480 → column < 480
+    → ((y - top) * 480 + x == line * 480 + column) ≡ (x == column && y == top + line)
+place-test top x y column line above left right = grind (arith, nat_tests)
+
+missed : (top x y column line : ℕ) → column < 480 → line < 1386
+    → (nat_lt x 480 && (nat_le top y && nat_lt (y - top) 1386)) ≡ false → (x == column && y == top + line) ≡ false
+missed top x y column line narrow short out = grind (arith, nat_tests)
+
+on-sheet : (top x y : ℕ) → (nat_lt x 480 && (nat_le top y && nat_lt (y - top) 1386)) ≡ true
+    → (top ≤ y) × (x < 480) × ((y - top) * 480 + x < 665280)
+on-sheet top x y is = grind (arith, nat_tests)
+
 darkened-at : (top x y : ℕ) (dark : List Bool) (column line : ℕ) → length dark ≡ 665280 → column < 480 → line < 1386
     → slice_index_or (darkened top x y dark) (line * 480 + column) false
     ≡ (slice_index_or dark (line * 480 + column) false || (x == column && y == top + line))
-darkened-at top x y dark column line whole narrow short = grind (arith, common_steps)
+darkened-at top x y dark column line whole narrow short =
+    elim (cases_Bool (nat_lt x 480 && (nat_le top y && nat_lt (y - top) 1386))) [
+      | inl is ↦
+          let there = on-sheet top x y is in
+          let within : (y - top) * 480 + x < length dark = omega (arith, there.2) in
+          rw is (set-at dark ((y - top) * 480 + x) (line * 480 + column) within
+          ∙ ap (λ b. slice_index_or dark (line * 480 + column) false || b) (place-test top x y column line there.0 there.1 narrow))
+      | inr out ↦
+          rw out (or-false (slice_index_or dark (line * 480 + column) false)
+          ∙ ap (λ b. slice_index_or dark (line * 480 + column) false || b) (sym (missed top x y column line narrow short out)))
+    ]
 
 -- a dot covers two lines of pixels
 abbrev covers : (x y : ℕ) → Dot → Bool
@@ -77,10 +120,6 @@ marked-at : (top : ℕ) (dots : List Dot) (dark : List Bool) (column line : ℕ)
     ≡ (slice_index_or dark (line * 480 + column) false || list_any (covers column (top + line)) dots)
 unfolding marked
 marked-at top [] dark column line whole narrow short = or-false (slice_index_or dark (line * 480 + column) false)
-  where
-    or-false : (b : Bool) → b ≡ (b || false)
-    or-false true = refl
-    or-false false = refl
 marked-at top (d ∷ ds) dark column line whole narrow short =
     let once : List Bool = darkened top d.x d.y dark in
     let once-whole : length once ≡ 665280 = darkened-length top d.x d.y dark ∙ whole in
@@ -88,10 +127,10 @@ marked-at top (d ∷ ds) dark column line whole narrow short =
     let twice-whole : length twice ≡ 665280 = darkened-length top d.x (d.y + 1) once ∙ once-whole in
     marked-at top ds twice column line twice-whole narrow short
     ∙ ap (λ b. b || list_any (covers column (top + line)) ds)
-        (darkened-at top d.x (d.y + 1) once column line once-whole narrow short
-        ∙ ap (λ b. b || (d.x == column && d.y + 1 == top + line)) (darkened-at top d.x d.y dark column line whole narrow short))
+    (darkened-at top d.x (d.y + 1) once column line once-whole narrow short
+    ∙ ap (λ b. b || (d.x == column && d.y + 1 == top + line)) (darkened-at top d.x d.y dark column line whole narrow short))
     ∙ dot-at (slice_index_or dark (line * 480 + column) false) (d.y == top + line) (d.y + 1 == top + line) (d.x == column)
-        (list_any (covers column (top + line)) ds)
+    (list_any (covers column (top + line)) ds)
 
 -- two tests of dots at once
 any-either : (p q r : Dot → Bool) → ((d : Dot) → r d ≡ (p d || q d)) → (dots : List Dot)
@@ -107,26 +146,38 @@ any-either p q r either (d ∷ ds) =
     moved false true false d = refl
     moved false false c d = refl
 
+line-above : (n y : ℕ) → (n == y || n + 1 == y) ≡ (n == y || n == y - 1)
+line-above n y = grind (arith, nat_tests)
+
 two-lines : (x y : ℕ) (d : Dot) → covers x y d ≡ (is_at x y d || is_at x (y - 1) d)
-two-lines x y d = grind (arith, common_steps)
+two-lines x y d = ap (λ b. d.x == x && b) (line-above d.y y) ∙ each (d.x == x) (d.y == y) (d.y == y - 1)
+  where
+    each : (a p q : Bool) → (a && (p || q)) ≡ ((a && p) || (a && q))
+    each true p q = refl
+    each false p q = refl
 
 -- the dots of a paper on a blank sheet
-pub shows : (paper : Paper) (top : ℕ) (blank dark : List Bool) → IsBlank blank
+pub shows : (paper : Paper) (top : ℕ) (blank dark : List Bool) → length blank ≡ 665280
+    → ((place : ℕ) → slice_index_or blank place false ≡ false)
     → dark ≡ marked top (flat_map row_dots paper.rows) blank → ShowsSheet paper top dark
 unfolding has_dot dots_of
-shows paper top blank dark is_blank made = record {
-  whole = ap length made ∙ marked-length top (flat_map row_dots paper.rows) blank ∙ is_blank.whole;
+shows paper top blank dark whole white made = record {
+  whole = ap length made ∙ marked-length top (flat_map row_dots paper.rows) blank ∙ whole;
   shows = λ x line narrow short.
       ap (λ (d : List Bool). slice_index_or d (line * 480 + x) false) made
-      ∙ marked-at top (flat_map row_dots paper.rows) blank x line is_blank.whole narrow short
-      ∙ ap (λ b. b || list_any (covers x (top + line)) (flat_map row_dots paper.rows)) (is_blank.blank (line * 480 + x))
+      ∙ marked-at top (flat_map row_dots paper.rows) blank x line whole narrow short
+      ∙ ap (λ b. b || list_any (covers x (top + line)) (flat_map row_dots paper.rows)) (white (line * 480 + x))
       ∙ any-either (is_at x (top + line)) (is_at x (top + line - 1)) (covers x (top + line)) (two-lines x (top + line))
-          (flat_map row_dots paper.rows);
+      (flat_map row_dots paper.rows);
 }
+
+out-of-reach : (top x y z : ℕ) → is_near top y ≡ false → y ≤ z → z ≤ y + 13
+    → (nat_lt x 480 && (nat_le top z && nat_lt (z - top) 1386)) ≡ false
+out-of-reach top x y z far above below = grind (arith, nat_tests)
 
 -- a place that is not on the sheet is not darkened
 outside : (top x y z : ℕ) (dark : List Bool) → is_near top y ≡ false → y ≤ z → z ≤ y + 13 → darkened top x z dark ≡ dark
-outside top x y z dark far above below = grind (arith, common_steps)
+outside top x y z dark far above below = rw (out-of-reach top x y z far above below) refl
 
 far-dot : (set : Bool) (top x y z : ℕ) (dark : List Bool) → is_near top y ≡ false → y ≤ z → z ≤ y + 12
     → marked top (if set then record { x = x; y = z } ∷ [] else []) dark ≡ dark
@@ -175,5 +226,8 @@ far-marks top y (p ∷ marks) dark far =
     (far-columns top p.x y (columns_of p.mark) dark far) (far-marks top y marks dark far)
 
 -- a row that is not near has no dot on the sheet
-pub far-row : (top : ℕ) (row : Row) (dark : List Bool) → is_near top row.y ≡ false → marked top (row_dots row) dark ≡ dark
-far-row top row dark far = far-marks top row.y row.marks dark far
+pub far_row : (top : ℕ) (row : Row) (dark : List Bool) → is_near top row.y ≡ false → marked top (row_dots row) dark ≡ dark
+far_row top row dark far = far-marks top row.y row.marks dark far
+
+-- dots in two parts, and rows that have none
+pub ruleset dots_in_parts = (common_steps, marked_append, far_row)

@@ -17,11 +17,6 @@ marked top (dot ∷ dots) dark = marked top dots (darkened top dot.x (dot.y + 1)
 abbrev pub is_near : (top y : ℕ) → Bool
 is_near top y = nat_le top (y + 13) && nat_lt y (top + 1386)
 
--- nothing is dark on a sheet
-pub record IsBlank (dark : List Bool) : Type 0 where
-  pub whole : length dark ≡ 665280
-  pub blank : (place : ℕ) → slice_index_or dark place false ≡ false
-
 -- what is dark is what the dots of a paper make dark on the sheet at `top`
 pub record ShowsSheet (paper : Paper) (top : ℕ) (dark : List Bool) : Type 0 where
   pub whole : length dark ≡ 665280

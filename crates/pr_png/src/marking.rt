@@ -1,8 +1,8 @@
 //! The dots of a paper on a sheet: whether each dot column is dark in each line of pixels.
 
-ghost use Rattle.std.specs.Prelude.{◌≡◌, ◌<◌, ◌≤◌, flat_map, length, IfOk};
+ghost use Rattle.std.specs.Prelude.{◌≡◌, ℕ, ◌<◌, ◌≤◌, false, flat_map, length, slice_index_or, IfOk};
 ghost use Rattle.pr_dots.specs.Dots.{bit_dots, column_dots, columns_dots, columns_of, row_dots};
-ghost use Rattle.pr_png.specs.Marking.{darkened, is_near, marked, IsBlank, ShowsSheet};
+ghost use Rattle.pr_png.specs.Marking.{darkened, is_near, marked, ShowsSheet};
 
 use pr_dots::columns;
 use pr_page::{Paper, Placed, Row};
@@ -52,7 +52,7 @@ fn mark_column(dark: &mut [bool], top: u128, x: u64, y: u128, value: u8)
 }
 
 /// Puts a mark on a sheet, on a row at a distance.
-#[tactic(auto, using(crate::proofs::OnSheet::marked_append))]
+#[tactic(auto, using(crate::proofs::OnSheet::dots_in_parts))]
 fn mark_placed(dark: &mut [bool], top: u128, y: u128, placed: Placed)
     requires whole { length dark.old ≡ 665280 }
     requires within { y ≤ 18446744073709551615 }
@@ -66,7 +66,7 @@ fn mark_placed(dark: &mut [bool], top: u128, y: u128, placed: Placed)
 }
 
 /// Puts a row on a sheet.
-#[tactic(auto, using(crate::proofs::OnSheet::marked_append))]
+#[tactic(auto, using(crate::proofs::OnSheet::dots_in_parts))]
 fn mark_row(dark: &mut [bool], top: u128, row: &Row)
     requires { length dark.old ≡ 665280 }
     ensures { dark.new ≡ marked top (row_dots row.now) dark.old }
@@ -84,15 +84,16 @@ fn is_near(top: u128, y: u128) -> bool
     top <= y + 13 && y < top + 1386
 }
 
-/// A sheet without dots.
-fn blank_sheet(alloc: Global) -> Result<Vec<bool>, AllocError>
-    ensures { IfOk result (λ dark. IsBlank dark.items) }
+/// So many places of a sheet that has no dots.
+fn blank_places(alloc: Global, count: usize) -> Result<Vec<bool>, AllocError>
+    ensures length { IfOk result (λ dark. length dark.items ≡ count) }
+    ensures blank { IfOk result (λ dark. (place : ℕ) → slice_index_or dark.items place false ≡ false) }
 {
-    Ok(vec![in alloc; false; DOT_COLUMNS * SHEET_LINES]?)
+    Ok(vec![in alloc; false; count]?)
 }
 
 /// The dots of rows on a sheet.
-#[tactic(auto, using(crate::proofs::OnSheet::marked_append))]
+#[tactic(auto, using(crate::proofs::OnSheet::dots_in_parts))]
 fn mark_rows(dark: &mut [bool], top: u128, rows: &[Row])
     requires { length dark.old ≡ 665280 }
     ensures { dark.new ≡ marked top (flat_map row_dots rows.now) dark.old }
@@ -108,7 +109,7 @@ fn mark_rows(dark: &mut [bool], top: u128, rows: &[Row])
 pub fn dots_on_sheet(alloc: Global, paper: &Paper, top: u128) -> Result<Vec<bool>, AllocError>
     ensures { IfOk result (λ dark. ShowsSheet paper.now top dark.items) }
 {
-    let mut dark = blank_sheet(alloc)?;
+    let mut dark = blank_places(alloc, DOT_COLUMNS * SHEET_LINES)?;
     mark_rows(&mut dark, top, paper.rows.as_slice());
     Ok(dark)
 }
