@@ -1,5 +1,5 @@
 -- Dots on a sheet.
-use Rattle.std.proofs.Common.{◌≡◌, ℕ, zero, suc, ◌+◌, ◌-◌, ◌*◌, ◌/◌, ◌%◌, ◌^◌, ◌<◌, ◌≤◌, Bool, true, false, List, [], ◌∷◌, ◌++◌, length, inl, inr, ◌≢◌, refl, sym, ap, ◌∙◌, append_assoc, arith, rules}
+use Rattle.std.proofs.Common.{◌≡◌, ℕ, zero, suc, ◌+◌, ◌-◌, ◌*◌, ◌/◌, ◌%◌, ◌^◌, ◌<◌, ◌≤◌, Bool, true, false, List, [], ◌∷◌, ◌++◌, length, take, drop, inl, inr, ◌≢◌, refl, sym, ap, ◌∙◌, append_assoc, arith, rules}
 use Rattle.std.specs.Prelude.{◌==◌, ◌&&◌, ◌||◌, flat_map, nat_le, nat_lt, slice_index_or, slice_set, if◌then◌else◌}
 use Rattle.std.specs.List.{list_any, range_with_len}
 use Rattle.std.proofs.lemmas.Grind.{common_steps, flat_map-append}
@@ -23,9 +23,9 @@ range-more a (suc n) =
     rw (e, ← f) (ap (λ ns. a ∷ ns) (range-more (a + 1) n))
 
 -- no dots
-pub no-dots : (top : ℕ) (dark : List Bool) → dark ≡ marked top [] dark
+pub no_dots : (top : ℕ) (dark : List Bool) → marked top [] dark ≡ dark
 unfolding marked
-no-dots top dark = refl
+no_dots top dark = refl
 
 -- dots in two parts
 pub marked_append : (top : ℕ) (ds es : List Dot) (dark : List Bool) → marked top (ds ++ es) dark ≡ marked top es (marked top ds dark)
@@ -200,7 +200,7 @@ far-append top ds es dark first second = marked_append top ds es dark ∙ ap (ma
 
 far-bits : (top x y value a n : ℕ) (dark : List Bool) → is_near top y ≡ false → a + n ≤ 7
     → marked top (flat_map (bit_dots x y value) (range_with_len a n)) dark ≡ dark
-far-bits top x y value a zero dark far few = sym (no-dots top dark)
+far-bits top x y value a zero dark far few = no_dots top dark
 far-bits top x y value a (suc n) dark far few =
     let low : a < 7 = omega arith in
     let fewer : a + 1 + n ≤ 7 = omega arith in
@@ -213,14 +213,14 @@ far-column top x y value dark far =
     far-bits top x y value 0 7 dark far seven
 
 far-columns : (top x y : ℕ) (values : List ℕ) (dark : List Bool) → is_near top y ≡ false → marked top (columns_dots x y values) dark ≡ dark
-far-columns top x y [] dark far = sym (no-dots top dark)
+far-columns top x y [] dark far = no_dots top dark
 far-columns top x y (v ∷ values) dark far =
     far-append top (column_dots x y v) (columns_dots (x + 1) y values) dark
     (far-column top x y v dark far) (far-columns top (x + 1) y values dark far)
 
 far-marks : (top y : ℕ) (marks : List Placed) (dark : List Bool) → is_near top y ≡ false
     → marked top (flat_map (λ p. columns_dots p.x y (columns_of p.mark)) marks) dark ≡ dark
-far-marks top y [] dark far = sym (no-dots top dark)
+far-marks top y [] dark far = no_dots top dark
 far-marks top y (p ∷ marks) dark far =
     far-append top (columns_dots p.x y (columns_of p.mark)) (flat_map (λ p. columns_dots p.x y (columns_of p.mark)) marks) dark
     (far-columns top p.x y (columns_of p.mark) dark far) (far-marks top y marks dark far)
@@ -230,4 +230,9 @@ pub far_row : (top : ℕ) (row : Row) (dark : List Bool) → is_near top row.y �
 far_row top row dark far = far-marks top row.y row.marks dark far
 
 -- dots in two parts, and rows that have none
-pub ruleset dots_in_parts = (common_steps, marked_append, far_row)
+pub ruleset dots_in_parts = (common_steps, no_dots, marked_append, far_row)
+
+-- what a change of all items of a vector leaves
+pub written-back : (len : ℕ) (now before : List Bool) → length now ≡ length before → len ≡ length before
+    → take len (now ++ drop (length now) before) ≡ now
+written-back len now before kept at = grind (arith, common_steps)
