@@ -1,3 +1,4 @@
 pub mod Checking
 pub mod OnSheet
 pub mod Packed
+pub mod Streaming

@@ -1,6 +1,5 @@
-use Rattle.std.proofs.Common.{◌≡◌, ◌++◌, List, length, take, drop, Bool, ap, ◌∙◌, sym, arith, rules}
+use Rattle.std.proofs.Common.{◌≡◌, length, ap, ◌∙◌}
 use Rattle.std.specs.Prelude.{flat_map}
-use Rattle.std.proofs.lemmas.Grind.{common_steps}
 use Rattle.pr_dots.specs.Dots.{row_dots}
 use Rattle.pr_png.specs.Marking.{marked}
 use Rattle.pr_png.proofs.OnSheet.{marked-length, shows, written-back}
