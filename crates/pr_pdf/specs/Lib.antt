@@ -1,0 +1,5 @@
+pub mod Fonts
+pub mod Linked
+pub mod Pdf
+pub mod Sheets
+pub mod Words
