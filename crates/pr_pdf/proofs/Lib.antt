@@ -1,0 +1,7 @@
+pub mod DiscByDisc
+pub mod DotByDot
+pub mod Numbers
+pub mod Objects
+pub mod RunByRun
+pub mod Sheeted
+pub mod Using

@@ -5,6 +5,7 @@ use Rattle.pr_page.specs.declared.paper.Mark.{Mark}
 use Rattle.pr_page.specs.declared.paper.Mark.TheVariants.{Cell, Dots}
 use Rattle.pr_dots.specs.Dots.{Dot, columns_dots, columns_of}
 use Rattle.pr_render.specs.Characters.{character}
+use Rattle.pr_pdf.specs.Parts.{characters_begin, characters_end, dictionary_end, disc_move, disc_stroke, encoding_begin, font_begin, font_characters, font_glyphs, fonts_begin, glyph_box, glyph_strokes, list_end, reference}
 use Rattle.pr_pdf.specs.Words.{bit, hex_2, hex_4, numbers_from}
 
 -- the font of a mark: four for each character set, the graphic/upper case set first, where 1 more is wide and 2 more are reversed;
@@ -51,12 +52,12 @@ glyph_discs mark = map glyph_disc (columns_dots 0 0 (columns_of mark))
 -- a disc: a stroke without length, whose ends are round
 unfoldable pub disc_pdf : Disc → List ℕ
 disc_pdf disc =
-    decimal disc.across ++ codes " " ++ decimal disc.up ++ codes " m " ++ decimal disc.across ++ codes " " ++ decimal disc.up ++ codes " l S\n"
+    decimal disc.across ++ codes " " ++ decimal disc.up ++ disc_move ++ decimal disc.across ++ codes " " ++ decimal disc.up ++ disc_stroke
 
 -- a glyph: its width, the box that holds its discs, strokes a little wider than a dot column with round ends, and the discs
 unfoldable pub glyph_pdf : (font code : ℕ) → List ℕ
 glyph_pdf font code =
-    decimal (42 * font_columns font) ++ codes " 0 -1 -22 " ++ decimal (42 * font_columns font + 1) ++ codes " 262 d1\n44 w 1 J\n"
+    decimal (42 * font_columns font) ++ glyph_box ++ decimal (42 * font_columns font + 1) ++ glyph_strokes
     ++ flat_map disc_pdf (glyph_discs (mark_of font code))
 
 -- a number for each glyph: its code, and 256 for each font before its own
@@ -85,7 +86,7 @@ code_name code = codes "/c" ++ decimal code ++ codes " "
 
 -- the encoding of all fonts
 unfoldable pub encoding_pdf : List ℕ
-encoding_pdf = codes "<< /Type /Encoding /Differences [0 " ++ flat_map code_name (numbers_from 0 256) ++ codes "] >>"
+encoding_pdf = encoding_begin ++ flat_map code_name (numbers_from 0 256) ++ list_end
 
 -- the width of a glyph of so many dot columns, whatever its code
 unfoldable pub width_pdf : (columns code : ℕ) → List ℕ
@@ -111,14 +112,6 @@ set_character set code =
 unfoldable pub character_pdf : (set code : ℕ) → List ℕ
 character_pdf set code = codes "<" ++ utf_16 (set_character set code) ++ codes ">"
 
--- the fixed beginning of a set's characters
-unfoldable pub characters_begin : List ℕ
-characters_begin = codes "/CIDInit /ProcSet findresource begin\n12 dict begin\nbegincmap\n/CIDSystemInfo << /Registry (Adobe) /Ordering (UCS) /Supplement 0 >> def\n/CMapName /Adobe-Identity-UCS def\n/CMapType 2 def\n1 begincodespacerange\n<00> <ff>\nendcodespacerange\n1 beginbfrange\n<00> <ff> ["
-
--- and their end
-unfoldable pub characters_end : List ℕ
-characters_end = codes "]\nendbfrange\nendcmap\nCMapName currentdict /CMap defineresource pop\nend\nend"
-
 -- the characters of a set's codes, with which text is found and copied
 unfoldable pub characters_pdf : ℕ → List ℕ
 characters_pdf set = characters_begin ++ flat_map (character_pdf set) (numbers_from 0 256) ++ characters_end
@@ -133,22 +126,18 @@ glyph_object used number = 19 + used_before used number
 
 -- a glyph among those of its font
 unfoldable pub proc_pdf : List Bool → ℕ → List ℕ
-proc_pdf used number = code_name (number % 256) ++ decimal (glyph_object used number) ++ codes " 0 R "
-
--- the fixed beginning of a font: its box holds the discs of all glyphs
-unfoldable pub font_begin : List ℕ
-font_begin = codes "<< /Type /Font /Subtype /Type3 /FontBBox [-1 -22 505 262] /FontMatrix [1 0 0 1 0 0] /FirstChar 0 /LastChar 255 /Encoding 3 0 R /Resources << >> /Widths "
+proc_pdf used number = code_name (number % 256) ++ decimal (glyph_object used number) ++ reference
 
 -- a font: objects 7 to 9 have the characters of its codes
 unfoldable pub font_pdf : List Bool → ℕ → List ℕ
 font_pdf used font =
-    font_begin ++ decimal (widths_object font) ++ codes " 0 R /ToUnicode " ++ decimal (7 + font / 4)
-    ++ codes " 0 R /CharProcs << " ++ flat_map (proc_pdf used) (used_among used (256 * font) 256) ++ codes ">> >>"
+    font_begin ++ decimal (widths_object font) ++ font_characters ++ decimal (7 + font / 4)
+    ++ font_glyphs ++ flat_map (proc_pdf used) (used_among used (256 * font) 256) ++ dictionary_end
 
 -- a font's name and its object
 unfoldable pub font_entry : ℕ → List ℕ
-font_entry font = codes "/" ++ font_name font ++ codes " " ++ decimal (10 + font) ++ codes " 0 R "
+font_entry font = codes "/" ++ font_name font ++ codes " " ++ decimal (10 + font) ++ reference
 
 -- the fonts by their names: objects 10 to 18
 unfoldable pub resources_pdf : List ℕ
-resources_pdf = codes "<< /Font << " ++ flat_map font_entry (numbers_from 0 9) ++ codes ">> >>"
+resources_pdf = fonts_begin ++ flat_map font_entry (numbers_from 0 9) ++ dictionary_end

@@ -6,12 +6,13 @@ use Rattle.pr_page.specs.declared.paper.Row.{Row}
 use Rattle.pr_page.specs.declared.paper.Mark.{Mark}
 use Rattle.pr_serial.specs.declared.Present.{Present}
 use Rattle.pr_pdf.specs.Fonts.{characters_pdf, encoding_pdf, font_pdf, glyph_pdf, resources_pdf, used_among, used_before, used_of, widths_pdf}
+use Rattle.pr_pdf.specs.Parts.{catalog_begin, header, list_end, object_begin, object_end, page_begin, page_content, pages_begin, pages_kids, place_end, reference, reference_end, stream_begin, stream_bytes, stream_end, table_begin, table_free, trailer_begin, trailer_end, trailer_root}
 use Rattle.pr_pdf.specs.Sheets.{sheet_pdf, sheets_of}
 use Rattle.pr_pdf.specs.Words.{numbers_from}
 
 -- an object with its number
 unfoldable pub object_pdf : ℕ → List ℕ → List ℕ
-object_pdf number body = decimal number ++ codes " 0 obj\n" ++ body ++ codes "\nendobj\n"
+object_pdf number body = decimal number ++ object_begin ++ body ++ object_end
 
 -- objects from a number on
 abbrev pub objects_from : ℕ → List (List ℕ) → List (List ℕ)
@@ -20,7 +21,7 @@ objects_from number (body ∷ bodies) = object_pdf number body ∷ objects_from 
 
 -- the first line, and all objects
 unfoldable pub front_pdf : List (List ℕ) → List ℕ
-front_pdf bodies = codes "%PDF-1.4\n" ++ concat (objects_from 1 bodies)
+front_pdf bodies = header ++ concat (objects_from 1 bodies)
 
 -- where texts begin, one behind the other, from a place on
 abbrev pub places_from : ℕ → List (List ℕ) → List ℕ
@@ -33,33 +34,35 @@ places_of bodies = places_from 9 (objects_from 1 bodies)
 
 -- a place in ten digits
 unfoldable pub place_pdf : ℕ → List ℕ
-place_pdf place = replicate (10 - length (decimal place)) 48 ++ decimal place ++ codes " 00000 n \n"
+place_pdf place = replicate (10 - length (decimal place)) 48 ++ decimal place ++ place_end
 
 -- the table of the places
 unfoldable pub table_pdf : List ℕ → List ℕ
-table_pdf places =
-    codes "xref\n0 " ++ decimal (length places + 1) ++ codes "\n0000000000 65535 f \n" ++ flat_map place_pdf places
+table_pdf places = table_begin ++ decimal (length places + 1) ++ table_free ++ flat_map place_pdf places
 
 -- the trailer, and where the table begins
 unfoldable pub trailer_pdf : (count table : ℕ) → List ℕ
-trailer_pdf count table =
-    codes "trailer\n<< /Size " ++ decimal (count + 1) ++ codes " /Root 1 0 R >>\nstartxref\n" ++ decimal table ++ codes "\n%%EOF\n"
+trailer_pdf count table = trailer_begin ++ decimal (count + 1) ++ trailer_root ++ decimal table ++ trailer_end
 
 -- the file of these objects
 unfoldable pub file_of : List (List ℕ) → List ℕ
 file_of bodies = front_pdf bodies ++ table_pdf (places_of bodies) ++ trailer_pdf (length bodies) (length (front_pdf bodies))
 
+-- the most bytes of a file: ten digits say a place in it
+abbrev pub file_limit : ℕ
+file_limit = 9999999999
+
 -- a stream of bytes
 unfoldable pub stream_pdf : List ℕ → List ℕ
-stream_pdf bytes = codes "<< /Length " ++ decimal (length bytes) ++ codes " >>\nstream\n" ++ bytes ++ codes "\nendstream"
+stream_pdf bytes = stream_begin ++ decimal (length bytes) ++ stream_bytes ++ bytes ++ stream_end
 
 -- the object that begins the document, with the number of the one that has its sheets
 unfoldable pub catalog_pdf : ℕ → List ℕ
-catalog_pdf pages = codes "<< /Type /Catalog /Pages " ++ decimal pages ++ codes " 0 R >>"
+catalog_pdf pages = catalog_begin ++ decimal pages ++ reference_end
 
 -- a sheet, with the numbers of the object that has the sheets and of what it draws
 unfoldable pub page_pdf : (pages content : ℕ) → List ℕ
-page_pdf pages content = codes "<< /Type /Page /Parent " ++ decimal pages ++ codes " 0 R /Contents " ++ decimal content ++ codes " 0 R >>"
+page_pdf pages content = page_begin ++ decimal pages ++ page_content ++ decimal content ++ reference_end
 
 -- the objects of sheets from a number on: two for each
 abbrev pub sheet_bodies : (pages number : ℕ) → List (List ℕ) → List (List ℕ)
@@ -68,13 +71,11 @@ sheet_bodies pages number (sheet ∷ sheets) = page_pdf pages (number + 1) ∷ s
 
 -- a sheet among the others: its number counts from 0
 unfoldable pub kid_pdf : (first sheet : ℕ) → List ℕ
-kid_pdf first sheet = decimal (first + 2 * sheet) ++ codes " 0 R "
+kid_pdf first sheet = decimal (first + 2 * sheet) ++ reference
 
 -- all sheets, of 9.5 by 11 inches, the first of which is an object with this number
 unfoldable pub pages_pdf : (first count : ℕ) → List ℕ
-pages_pdf first count =
-    codes "<< /Type /Pages /MediaBox [0 0 684 792] /Resources 2 0 R /Count " ++ decimal count ++ codes " /Kids [ "
-    ++ flat_map (kid_pdf first) (numbers_from 0 count) ++ codes "] >>"
+pages_pdf first count = pages_begin ++ decimal count ++ pages_kids ++ flat_map (kid_pdf first) (numbers_from 0 count) ++ list_end
 
 -- objects 1 to 9
 abbrev pub first_bodies : ℕ → List (List ℕ)

@@ -3,6 +3,7 @@ use Rattle.std.specs.Prelude.{ℕ, ◌+◌, ◌-◌, ◌*◌, ◌/◌, Bool, Lis
 use Rattle.pr_page.specs.declared.paper.Placed.{Placed}
 use Rattle.pr_page.specs.declared.paper.Row.{Row}
 use Rattle.pr_pdf.specs.Fonts.{code_of, font_columns, font_name, font_of}
+use Rattle.pr_pdf.specs.Parts.{run_codes, run_end, run_place, sheet_begin, sheet_end}
 use Rattle.pr_pdf.specs.Words.{hex_2, numbers_from}
 
 -- a run: marks side by side of one font, from a dot column on
@@ -42,11 +43,11 @@ runs_of (placed ∷ marks) = joined placed (runs_of marks)
 -- a run begins: its font, and where the base line of its first glyph begins
 unfoldable pub run_begin : (height font x : ℕ) → List ℕ
 run_begin height font x =
-    codes "/" ++ font_name font ++ codes " 1 Tf 1 0 0 1 " ++ decimal (42 * x) ++ codes " " ++ decimal height ++ codes " Tm <"
+    codes "/" ++ font_name font ++ run_place ++ decimal (42 * x) ++ codes " " ++ decimal height ++ run_codes
 
 -- a run on a base line at a height, as a string of its codes
 abbrev pub run_pdf : ℕ → Run → List ℕ
-run_pdf height run = run_begin height run.font run.x ++ flat_map hex_2 run.codes ++ codes "> Tj\n"
+run_pdf height run = run_begin height run.font run.x ++ flat_map hex_2 run.codes ++ run_end
 
 -- how high the base line of a row is on a sheet, above a place 14/126 inch below the sheet's lower edge. Sheets are counted from 0
 abbrev pub height_on : (sheet y : ℕ) → ℕ
@@ -67,10 +68,9 @@ last_sheet row = (row.y + 13) / 1386
 abbrev pub is_on : ℕ → Row → Bool
 is_on sheet row = first_sheet row == sheet || last_sheet row == sheet
 
--- what a sheet draws: 1/35 point a unit, from 3/4 inch from the left on, and the rows
+-- what a sheet draws
 unfoldable pub sheet_pdf : List Row → ℕ → List ℕ
-sheet_pdf rows sheet =
-    codes ".0285714286 0 0 .0285714286 54 -8 cm\nBT\n" ++ flat_map (row_pdf sheet) (filter (is_on sheet) rows) ++ codes "ET\n"
+sheet_pdf rows sheet = sheet_begin ++ flat_map (row_pdf sheet) (filter (is_on sheet) rows) ++ sheet_end
 
 -- how many sheets rows take
 abbrev pub sheet_count : List Row → ℕ

@@ -1,11 +1,15 @@
 //! Objects that all documents have: the fonts' names, encoding, widths and characters.
 
 ghost use Rattle.std.specs.Prelude.{◌≡◌, ◌<◌, ◌≤◌, ◌++◌, flat_map, OnOk};
-ghost use Rattle.pr_pdf.specs.Fonts.{character_pdf, characters_begin, characters_end, characters_pdf, code_name, encoding_pdf, font_entry, resources_pdf, set_character, utf_16, width_pdf, widths_pdf};
+ghost use Rattle.pr_pdf.specs.Fonts.{character_pdf, characters_pdf, code_name, encoding_pdf, font_entry, resources_pdf, set_character, utf_16, width_pdf, widths_pdf};
 ghost use Rattle.pr_pdf.specs.Words.{numbers_from};
 
 use crate::adding::{push_between, push_hex_4, push_number};
 use crate::marks::{FONTS, font_name};
+use crate::parts::{
+    characters_begin, characters_end, dictionary_end, encoding_begin, fonts_begin, list_end,
+    reference,
+};
 use pr_render::character;
 use std::alloc::AllocError;
 
@@ -18,6 +22,7 @@ pub fn push_code_name(text: &mut Vec<u8>, code: u64) -> Result<(), AllocError>
 }
 
 /// Adds the names of codes.
+#[tactic(auto, using(crate::proofs::Numbers::flat_more, crate::proofs::Numbers::flat_none))]
 fn push_code_names(text: &mut Vec<u8>, count: u64) -> Result<(), AllocError>
     ensures { OnOk result (text.new.items ≡ text.old.items ++ flat_map code_name (numbers_from 0 count)) }
 {
@@ -32,13 +37,13 @@ fn push_code_names(text: &mut Vec<u8>, count: u64) -> Result<(), AllocError>
 pub fn push_encoding(text: &mut Vec<u8>) -> Result<(), AllocError>
     ensures { OnOk result (text.new.items ≡ text.old.items ++ encoding_pdf) }
 {
-    text.extend_from_slice(b"<< /Type /Encoding /Differences [0 ")?;
+    text.extend_from_slice(encoding_begin())?;
     push_code_names(text, 256)?;
-    text.extend_from_slice(b"] >>")
+    text.extend_from_slice(list_end())
 }
 
 /// Adds the width of glyphs.
-#[tactic(auto, unfolding(crate::specs::Fonts::width_pdf))]
+#[tactic(auto, unfolding(crate::specs::Fonts::width_pdf), using(crate::proofs::Numbers::flat_more, crate::proofs::Numbers::flat_none))]
 fn push_each_width(text: &mut Vec<u8>, columns: u64, count: u64) -> Result<(), AllocError>
     requires { columns ≤ 12 }
     ensures { OnOk result (text.new.items ≡ text.old.items ++ flat_map (width_pdf columns) (numbers_from 0 count)) }
@@ -97,6 +102,7 @@ fn push_character(text: &mut Vec<u8>, set: u64, code: u8) -> Result<(), AllocErr
 }
 
 /// Adds the characters of codes.
+#[tactic(auto, using(crate::proofs::Numbers::flat_more, crate::proofs::Numbers::flat_none))]
 fn push_each_character(text: &mut Vec<u8>, set: u64, count: u64) -> Result<(), AllocError>
     requires { count ≤ 256 }
     ensures { OnOk result (text.new.items ≡ text.old.items ++ flat_map (character_pdf set) (numbers_from 0 count)) }
@@ -105,22 +111,6 @@ fn push_each_character(text: &mut Vec<u8>, set: u64, count: u64) -> Result<(), A
         push_character(text, set, code as u8)?;
     }
     Ok(())
-}
-
-/// The fixed beginning of a set's characters.
-#[tactic(auto, unfolding(crate::specs::Fonts::characters_begin))]
-fn characters_begin() -> &'static [u8]
-    ensures { result.now ≡ characters_begin }
-{
-    b"/CIDInit /ProcSet findresource begin\n12 dict begin\nbegincmap\n/CIDSystemInfo << /Registry (Adobe) /Ordering (UCS) /Supplement 0 >> def\n/CMapName /Adobe-Identity-UCS def\n/CMapType 2 def\n1 begincodespacerange\n<00> <ff>\nendcodespacerange\n1 beginbfrange\n<00> <ff> ["
-}
-
-/// Its fixed end.
-#[tactic(auto, unfolding(crate::specs::Fonts::characters_end))]
-fn characters_end() -> &'static [u8]
-    ensures { result.now ≡ characters_end }
-{
-    b"]\nendbfrange\nendcmap\nCMapName currentdict /CMap defineresource pop\nend\nend"
 }
 
 /// Adds the characters of a set's codes.
@@ -141,10 +131,11 @@ fn push_font_entry(text: &mut Vec<u8>, font: usize) -> Result<(), AllocError>
 {
     text.push(b'/')?;
     text.extend_from_slice(font_name(font))?;
-    push_between(text, b" ", 10 + font as u64, b" 0 R ")
+    push_between(text, b" ", 10 + font as u64, reference())
 }
 
 /// Adds the entries of fonts.
+#[tactic(auto, using(crate::proofs::Numbers::flat_more, crate::proofs::Numbers::flat_none))]
 fn push_font_entries(text: &mut Vec<u8>, count: usize) -> Result<(), AllocError>
     requires { count ≤ 9 }
     ensures { OnOk result (text.new.items ≡ text.old.items ++ flat_map font_entry (numbers_from 0 count)) }
@@ -160,7 +151,7 @@ fn push_font_entries(text: &mut Vec<u8>, count: usize) -> Result<(), AllocError>
 pub fn push_resources(text: &mut Vec<u8>) -> Result<(), AllocError>
     ensures { OnOk result (text.new.items ≡ text.old.items ++ resources_pdf) }
 {
-    text.extend_from_slice(b"<< /Font << ")?;
+    text.extend_from_slice(fonts_begin())?;
     push_font_entries(text, FONTS)?;
-    text.extend_from_slice(b">> >>")
+    text.extend_from_slice(dictionary_end())
 }

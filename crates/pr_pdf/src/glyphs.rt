@@ -2,11 +2,15 @@
 
 ghost use Rattle.std.specs.Prelude.{◌≡◌, ◌+◌, ◌*◌, ◌<◌, ◌≤◌, ◌++◌, flat_map, length, map, OnOk};
 ghost use Rattle.pr_dots.specs.Dots.{bit_dots, column_dots, columns_dots};
-ghost use Rattle.pr_pdf.specs.Fonts.{disc_pdf, font_begin, font_pdf, glyph_disc, glyph_object, glyph_pdf, proc_pdf, used_among, widths_object};
+ghost use Rattle.pr_pdf.specs.Fonts.{disc_pdf, font_pdf, glyph_disc, glyph_object, glyph_pdf, proc_pdf, used_among, widths_object};
 
 use crate::adding::{push_between, push_number};
 use crate::fonts::push_code_name;
 use crate::marks::{COLUMN_FONT, font_columns, mark_of};
+use crate::parts::{
+    dictionary_end, disc_move, disc_stroke, font_begin, font_characters, font_glyphs, glyph_box,
+    glyph_strokes, reference,
+};
 use crate::used::Used;
 use pr_dots::columns;
 use std::alloc::AllocError;
@@ -21,9 +25,9 @@ fn push_disc(text: &mut Vec<u8>, x: u64, y: u64) -> Result<(), AllocError>
     let across = 42 * x + 21;
     let up = 240 - 20 * y;
     push_number(text, across)?;
-    push_between(text, b" ", up, b" m ")?;
+    push_between(text, b" ", up, disc_move())?;
     push_number(text, across)?;
-    push_between(text, b" ", up, b" l S\n")
+    push_between(text, b" ", up, disc_stroke())
 }
 
 /// Adds the disc of a column's bit, if it has one.
@@ -72,7 +76,7 @@ pub fn push_glyph(text: &mut Vec<u8>, font: usize, code: u8) -> Result<(), Alloc
 {
     let width = 42 * font_columns(font);
     push_number(text, width)?;
-    push_between(text, b" 0 -1 -22 ", width + 1, b" 262 d1\n44 w 1 J\n")?;
+    push_between(text, glyph_box(), width + 1, glyph_strokes())?;
     push_columns(text, columns(mark_of(font, code)).as_slice())
 }
 
@@ -96,10 +100,11 @@ fn push_proc(text: &mut Vec<u8>, number: usize, object: u64) -> Result<(), Alloc
 {
     push_code_name(text, (number % 256) as u64)?;
     push_number(text, object)?;
-    text.extend_from_slice(b" 0 R ")
+    text.extend_from_slice(reference())
 }
 
 /// Adds the glyphs of so many numbers that are used, and gives the next glyph's object.
+#[tactic(auto, using(crate::proofs::Numbers::used_more, crate::proofs::Numbers::unused_more))]
 fn push_procs(
     text: &mut Vec<u8>,
     used: &Used,
@@ -124,14 +129,6 @@ fn push_procs(
     Ok(next)
 }
 
-/// The fixed beginning of a font.
-#[tactic(auto, unfolding(crate::specs::Fonts::font_begin))]
-fn font_begin() -> &'static [u8]
-    ensures { result.now ≡ font_begin }
-{
-    b"<< /Type /Font /Subtype /Type3 /FontBBox [-1 -22 505 262] /FontMatrix [1 0 0 1 0 0] /FirstChar 0 /LastChar 255 /Encoding 3 0 R /Resources << >> /Widths "
-}
-
 /// Adds a font, and gives the next glyph's object.
 #[tactic(auto, unfolding(crate::specs::Fonts::font_pdf))]
 pub fn push_font(
@@ -147,13 +144,8 @@ pub fn push_font(
 {
     text.extend_from_slice(font_begin())?;
     push_number(text, widths_object(font))?;
-    push_between(
-        text,
-        b" 0 R /ToUnicode ",
-        7 + (font / 4) as u64,
-        b" 0 R /CharProcs << ",
-    )?;
+    push_between(text, font_characters(), 7 + (font / 4) as u64, font_glyphs())?;
     let next = push_procs(text, used, 256 * font, 256, object)?;
-    text.extend_from_slice(b">> >>")?;
+    text.extend_from_slice(dictionary_end())?;
     Ok(next)
 }

@@ -4,6 +4,7 @@
 //! - `fonts` makes the objects that all documents have, `glyphs` the fonts and their glyphs.
 //! - `runs` makes the strings of a row, and `sheets` what is on a sheet.
 //! - `document` numbers the objects and knows where each begins; `drawing` makes the document of them.
+//! - `laws` says what the document draws. `parts` has the fixed texts.
 #![tactic(auto)]
 
 mod adding;
@@ -12,7 +13,9 @@ mod drawing;
 mod fault;
 mod fonts;
 mod glyphs;
+mod laws;
 mod marks;
+mod parts;
 mod runs;
 mod sheets;
 mod used;
@@ -20,3 +23,4 @@ mod used;
 pub use document::LIMIT;
 pub use drawing::pdf;
 pub use fault::PdfFault;
+pub use laws::{sheets_draw_their_dots, sheets_have_their_dots};

@@ -4,8 +4,9 @@ ghost use Rattle.std.specs.Prelude.{◌≡◌, ◌<◌, ◌++◌, flat_map, OnOk
 ghost use Rattle.pr_pdf.specs.Sheets.{end_of, run_begin, run_pdf, runs_of};
 ghost use Rattle.pr_pdf.specs.Linked.{close_pdf};
 
-use crate::adding::{push_between, push_hex_2};
+use crate::adding::{push_between, push_hex_2, push_number};
 use crate::marks::{FONTS, code_of, font_columns, font_name, font_of};
+use crate::parts::{run_codes, run_end, run_place};
 use pr_page::Placed;
 use std::alloc::AllocError;
 
@@ -17,8 +18,9 @@ fn push_begin(text: &mut Vec<u8>, height: u64, font: usize, x: u16) -> Result<()
 {
     text.push(b'/')?;
     text.extend_from_slice(font_name(font))?;
-    push_between(text, b" 1 Tf 1 0 0 1 ", 42 * u64::from(x), b" ")?;
-    push_between(text, b"", height, b" Tm <")
+    push_between(text, run_place(), 42 * u64::from(x), b" ")?;
+    push_number(text, height)?;
+    text.extend_from_slice(run_codes())
 }
 
 /// Ends the run of a font, or nothing where no run has begun.
@@ -26,12 +28,13 @@ fn push_close(text: &mut Vec<u8>, font: usize) -> Result<(), AllocError>
     ensures { OnOk result (text.new.items ≡ text.old.items ++ close_pdf font) }
 {
     if font < FONTS {
-        text.extend_from_slice(b"> Tj\n")?;
+        text.extend_from_slice(run_end())?;
     }
     Ok(())
 }
 
 /// Adds the runs of marks on a base line at a height.
+#[tactic(auto, using(crate::proofs::RunByRun::runs_are))]
 pub fn push_runs(text: &mut Vec<u8>, height: u64, marks: &[Placed]) -> Result<(), AllocError>
     ensures { OnOk result (text.new.items ≡ text.old.items ++ flat_map (run_pdf height) (runs_of marks.now)) }
 {

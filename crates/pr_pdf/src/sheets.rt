@@ -1,9 +1,10 @@
 //! What is on a sheet.
 
-ghost use Rattle.std.specs.Prelude.{◌≡◌, ◌≤◌, ◌++◌, filter, flat_map, IsTrue, OnOk};
+ghost use Rattle.std.specs.Prelude.{◌≡◌, ◌<◌, ◌≤◌, ◌++◌, filter, flat_map, length, true, OnOk};
 ghost use Rattle.pr_pdf.specs.Sheets.{first_sheet, height_on, is_on, last_sheet, row_pdf, sheet_count, sheet_pdf};
-ghost use Rattle.pr_pdf.specs.Linked.{ascend};
+ghost use Rattle.pr_pdf.specs.Linked.{IsSkipped, ascend};
 
+use crate::parts::{sheet_begin, sheet_end};
 use crate::runs::push_runs;
 use pr_page::Row;
 use std::alloc::AllocError;
@@ -19,6 +20,7 @@ fn first_sheet(row: &Row) -> u64
 }
 
 /// The sheet on which a row ends.
+#[tactic(auto, using(crate::proofs::Sheeted::last_is))]
 fn last_sheet(row: &Row) -> u64
     ensures sheet { result ≡ last_sheet row.now }
     ensures within { result < 18014398509481984 }
@@ -70,6 +72,7 @@ fn push_row(text: &mut Vec<u8>, sheet: u64, row: &Row) -> Result<(), AllocError>
 }
 
 /// Adds the rows that are on a sheet. Where the rows ascend, those after the sheet are not looked at.
+#[tactic(auto, using(crate::proofs::Sheeted::none_after, crate::proofs::Sheeted::ascend_lower))]
 fn push_rows(
     text: &mut Vec<u8>,
     sheet: u64,
@@ -101,15 +104,16 @@ pub fn push_sheet(
     requires { ascending ≡ true → ascend 0 rows.now ≡ true }
     ensures { OnOk result (text.new.items ≡ text.old.items ++ sheet_pdf rows.now sheet) }
 {
-    text.extend_from_slice(b".0285714286 0 0 .0285714286 54 -8 cm\nBT\n")?;
+    text.extend_from_slice(sheet_begin())?;
     push_rows(text, sheet, rows, ascending)?;
-    text.extend_from_slice(b"ET\n")
+    text.extend_from_slice(sheet_end())
 }
 
 /// How many rows from a place on are before a sheet.
+#[tactic(auto, using(crate::proofs::Sheeted::one_skipped))]
 pub fn skip_before(rows: &[Row], sheet: u64) -> usize
     ensures within { result ≤ length rows.now }
-    ensures before { (later : List Row) → filter (is_on sheet) rows.now ≡ filter (is_on sheet) (drop result rows.now) }
+    ensures before { IsSkipped sheet result rows.now }
 {
     let mut count = 0;
     while count < rows.len() && last_sheet(&rows[count]) < sheet {

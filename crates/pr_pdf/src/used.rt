@@ -31,6 +31,7 @@ impl Model for Used {
 
 impl Used {
     /// None is.
+    #[tactic(auto, using(crate::proofs::Using::none_used))]
     pub fn new(alloc: Global) -> Result<Used, AllocError>
         ensures { IfOk result (λ u. u ≡ used_of []) }
     {
@@ -46,6 +47,7 @@ impl Used {
     }
 
     /// Takes a mark's glyph as used.
+    #[tactic(auto, using(crate::proofs::Using::one_seen))]
     fn see(&mut self, mark: Mark)
         ensures { HasSeen (mark ∷ []) self.old self.new }
     {
@@ -71,6 +73,7 @@ impl Used {
     }
 
     /// How many glyphs before a number are used.
+    #[tactic(auto, using(crate::proofs::Numbers::used_more, crate::proofs::Numbers::unused_more))]
     pub fn before(&self, end: usize) -> u64
         ensures count { result ≡ used_before self.now end }
         ensures within { result ≤ end }
