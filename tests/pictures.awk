@@ -39,12 +39,12 @@ function has_bit(value, k) { return int(value / 2 ^ k) % 2 }
 # a mark's name, its definition, and marks by their names
 function name_of(i) {
     if (kind[i] == "dots") return "d" code[i]
-    return (style[i] ~ /lower/ ? "l" : "u") code[i] (style[i] ~ /reverse/ ? "r" : "") (style[i] ~ /wide/ ? "w" : "")
+    return (style[i] ~ /lower/ ? "l" : "u") (style[i] ~ /reverse/ ? "r" : "") (style[i] ~ /wide/ ? "w" : "") code[i]
 }
 function definition(i,   column, count, c, k, path) {
     count = columns_of(i, column)
     for (c = 0; c < count; c++) for (k = 0; k < 7; k++) if (has_bit(column[c], k)) path = path "M" 21 * c + 10 " " 20 * k + 10 "h0"
-    return "<path id=\"" name_of(i) "\" d=\"" path "\"/>\n"
+    return "<path stroke=\"#222\" id=\"" name_of(i) "\" d=\"" path "\"/>\n"
 }
 function uses(from, to,   i, picture) {
     for (i = from; i <= to; i++) picture = picture "<use href=\"#" name_of(i) "\" x=\"" 21 * place[i] "\"/>\n"
@@ -52,7 +52,7 @@ function uses(from, to,   i, picture) {
 }
 
 # the letters of marks: cells side by side of one width are one element
-function letters(y, from, to,   i, k, text, shown, width, picture) {
+function letters(from, to,   i, k, text, shown, width, picture) {
     for (i = from; i <= to; i = k) {
         k = i + 1
         if (kind[i] == "dots") continue
@@ -62,7 +62,7 @@ function letters(y, from, to,   i, k, text, shown, width, picture) {
             text = text (sign[k] == 160 ? " " : escaped(sign[k]))
             if (sign[k] != 32 && sign[k] != 160) shown = 1
         }
-        if (shown) picture = picture "<text x=\"" 21 * place[i] "\" y=\"" 10 * y + 140 "\" textLength=\"" 21 * width * (k - i) "\">" text "</text>\n"
+        if (shown) picture = picture "<text x=\"" 21 * place[i] "\" y=\"140\" textLength=\"" 21 * width * (k - i) "\" lengthAdjust=\"spacingAndGlyphs\" xml:space=\"preserve\">" text "</text>\n"
     }
     return picture
 }
@@ -92,19 +92,15 @@ function line(from, to,   i, c, u, ink, shown, blank, text) {
 }
 function count_bits(value,   k, n) { for (k = 0; k < 7; k++) n += int(value / 2 ^ k) % 2; return n }
 
-function sheet(device, x, lines,   i, picture, y, hidden) {
-    picture = "<g transform=\"translate(" x " 1050)\">\n<text font-size=\"210\" fill=\"#555\" y=\"-210\">Printer " device "</text>\n<rect width=\"12600\" height=\"" 210 * lines "\" fill=\"url(#paper)\" stroke=\"#b4afa2\" stroke-width=\"10\"/>\n<rect y=\"630\" width=\"12600\" height=\"" 210 * (lines - 3) "\" fill=\"url(#folds)\"/>\n<g transform=\"translate(1260 630)\">\n<g fill=\"none\" stroke=\"#222\" stroke-width=\"22\" stroke-linecap=\"round\">\n"
+function sheet(device, x, lines,   i, picture, y) {
+    picture = "<g transform=\"translate(" x " 1050)\">\n<text font-size=\"210\" fill=\"#555\" y=\"-210\">Printer " device "</text>\n<rect width=\"12600\" height=\"" 210 * lines "\" fill=\"url(#paper)\" stroke=\"#b4afa2\" stroke-width=\"10\"/>\n<rect y=\"1260\" width=\"12600\" height=\"" 210 * (lines - 6) "\" fill=\"url(#folds)\"/>\n<g transform=\"translate(1260 630)\">\n<g stroke-width=\"22\" stroke-linecap=\"round\" fill-opacity=\"0\" font-size=\"140\">\n"
     y = 0
     for (i = 1; i <= rows[device]; i++) {
-        picture = picture "<g transform=\"translate(0 " 10 * top[device, i] ")\">\n" uses(first[device, i], last[device, i]) "</g>\n"
-        hidden = hidden letters(top[device, i], first[device, i], last[device, i])
+        picture = picture "<g transform=\"translate(0 " 10 * top[device, i] ")\">\n" uses(first[device, i], last[device, i]) letters(first[device, i], last[device, i]) "</g>\n"
         y = top[device, i] + 21
     }
-    if (held[device]) {
-        picture = picture "<g opacity=\".4\" transform=\"translate(0 " 10 * (y + 21) ")\">\n" uses(first[device, "held"], last[device, "held"]) "</g>\n"
-        hidden = hidden letters(y + 21, first[device, "held"], last[device, "held"])
-    }
-    picture = picture "</g>\n<g fill-opacity=\"0\" font-size=\"140\" xml:space=\"preserve\">\n" hidden "</g>\n"
+    if (held[device]) picture = picture "<g opacity=\".4\" transform=\"translate(0 " 10 * (y + 21) ")\">\n" uses(first[device, "held"], last[device, "held"]) letters(first[device, "held"], last[device, "held"]) "</g>\n"
+    picture = picture "</g>\n"
     if (held[device]) picture = picture "<g transform=\"translate(0 " 10 * y ")\">\n<path stroke=\"#a33\" stroke-width=\"20\" stroke-dasharray=\"126\" d=\"M0 60h10080\"/>\n<text font-size=\"120\" fill=\"#a33\" x=\"7350\" y=\"200\">held by the printer, not yet printed</text>\n</g>\n"
     return picture "</g>\n</g>\n"
 }
@@ -148,7 +144,7 @@ function picture(   four, five, lines, width, height, text, noted) {
     width = four && five ? 129 : 66
     noted = status_line()
     height = lines + 9 + (stop != "") + (noted != "")
-    text = "<svg xmlns=\"http://www.w3.org/2000/svg\" version=\"1.1\" width=\"" width "pc\" height=\"" height "pc\" viewBox=\"0 0 " 210 * width " " 210 * height "\">\n<desc>Pages of VIC-1525 printers. Each dot is where a needle strikes; the shapes of characters are this project's own.</desc>\n<pattern id=\"paper\" width=\"12600\" height=\"630\" patternUnits=\"userSpaceOnUse\"><rect width=\"12600\" height=\"630\" fill=\"#fff\"/><g fill=\"#e9e6df\" stroke=\"#b4afa2\" stroke-width=\"10\"><circle cx=\"315\" cy=\"315\" r=\"100\"/><circle cx=\"12285\" cy=\"315\" r=\"100\"/><path stroke-dasharray=\"35\" d=\"M630 0v630M11970 0v630\"/></g></pattern>\n<pattern id=\"folds\" y=\"630\" width=\"12600\" height=\"13860\" patternUnits=\"userSpaceOnUse\"><path stroke=\"#b4afa2\" stroke-width=\"10\" stroke-dasharray=\"70\" d=\"M0 13855h12600\"/></pattern>\n<rect width=\"100%\" height=\"100%\" fill=\"#e9e6df\"/>\n<defs>\n"
+    text = "<svg xmlns=\"http://www.w3.org/2000/svg\" version=\"1.1\" width=\"" width "pc\" height=\"" height "pc\" viewBox=\"0 0 " 210 * width " " 210 * height "\">\n<desc>Pages of VIC-1525 printers. Each dot is where a needle strikes; the shapes of characters are this project's own.</desc>\n<pattern id=\"paper\" width=\"12600\" height=\"630\" patternUnits=\"userSpaceOnUse\"><rect width=\"12600\" height=\"630\" fill=\"#fff\"/><g fill=\"#e9e6df\" stroke=\"#b4afa2\" stroke-width=\"10\"><circle cx=\"315\" cy=\"315\" r=\"100\"/><circle cx=\"12285\" cy=\"315\" r=\"100\"/><path stroke-dasharray=\"35\" d=\"M630 0v630M11970 0v630\"/></g></pattern>\n<pattern id=\"folds\" y=\"7560\" width=\"12600\" height=\"13860\" patternUnits=\"userSpaceOnUse\"><path stroke=\"#b4afa2\" stroke-width=\"10\" stroke-dasharray=\"70\" d=\"M0 6930h12600\"/></pattern>\n<rect width=\"100%\" height=\"100%\" fill=\"#e9e6df\"/>\n<defs>\n"
     if (four) text = text definitions(4)
     if (five) text = text definitions(5)
     text = text "</defs>\n"

@@ -141,10 +141,10 @@ class Paper {
       for (; low < sheet.rows.length && MARKS_TOP + sheet.rows[low].y * STEP < to + LETTER_HEIGHT; low++) {
         const row = sheet.rows[low];
         if (row.held) break;
-        parts.push(`<g transform="translate(0 ${row.y + 14}) scale(1 2)">\n`, this.text.slice(row.from, row.to), '</g>\n');
+        parts.push(`<g transform="translate(0 ${row.y * STEP})">\n`, this.text.slice(row.from, row.to), '</g>\n');
       }
       const last = sheet.rows.findLast(row => !row.held);
-      parts.push(last ? this.text.slice(last.to + 5, sheet.to) : '');
+      parts.push(this.text.slice(last ? last.to + 5 : sheet.from, sheet.to));
       at = sheet.to;
     }
     if (!notes) return parts.join('') + this.text.slice(at);

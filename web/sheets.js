@@ -16,7 +16,7 @@ const LETTER_HEIGHT = 140; // seven dots
 function sheetsOf(svg) {
   const size = /viewBox="0 0 (\d+) (\d+)"/.exec(svg.slice(0, 400));
   const picture = { width: Number(size[1]), height: Number(size[2]), sheets: [], notes: null };
-  const sheetStart = /<g transform="translate\((\d+) 1050\)">\n<text [^>]*>Printer (\d)<\/text>\n<rect [^>]*>\n<g [^>]*>\n/g;
+  const sheetStart = /<g transform="translate\((\d+) 1050\)">\n<text [^>]*>Printer (\d)<\/text>\n<rect [^>]*>\n<rect [^>]*>\n<g [^>]*>\n<g [^>]*>\n/g;
   let start;
   while ((start = sheetStart.exec(svg))) {
     const sheet = { printer: Number(start[2]), x: Number(start[1]), from: sheetStart.lastIndex, to: 0, rows: [] };
@@ -33,50 +33,25 @@ function sheetsOf(svg) {
 
 /** Finds the rows of a sheet, and gives where its text ends. */
 function readRows(svg, sheet) {
-  let at = sheet.from, held = false;
-  while (svg.startsWith('<g ', at) || held) {
-    const begin = svg.indexOf('\n', at) + 1;
-    if (svg.startsWith('</g>', at)) held = false;               // the end of the marks that are held
-    else if (svg.startsWith('<g opacity', at)) held = true;
-    else {
-      const end = svg.indexOf('</g>', begin);
-      // the rule above the marks that are held is a group too
-      if (!svg.startsWith('<path shape-rendering="auto"', begin)) {
-        sheet.rows.push({ y: parseInt(svg.slice(at + 26, at + 40), 10) - 14, from: begin, to: end, held });
-      }
-      at = end + 5;
-      continue;
-    }
-    at = begin;
+  let at = sheet.from;
+  while (svg.startsWith('<g ', at)) {
+    const begin = svg.indexOf('\n', at) + 1, end = svg.indexOf('</g>', begin);
+    const y = Number(/translate\(0 (\d+)/.exec(svg.slice(at, begin))[1]) / STEP;
+    sheet.rows.push({ y, from: begin, to: end, held: svg.startsWith('<g opacity', at) });
+    at = end + 5;
   }
   sheet.to = at;
   return svg.indexOf('\n', at) + 1;
 }
 
-const ENTITIES = /&#(\d+);/g;
-const characters = text => Array.from(text.replace(ENTITIES, (_, code) => String.fromCodePoint(Number(code))));
+// The names of cells that are not reversed and show nothing: the space of both sets, and its doubles.
+const BLANK = /^[ul]w?(32|160|224)$/;
 
-/**
- * The marks that show in the text of a row, in their order: `{ x, width, what }` in dots. `what` is a character, a box
- * of six dots behind reversed characters, or the strokes of a column of dots.
- */
+/** The marks that show in the text of a row, in their order: `{ x, width, what }` in dots. `what` is the mark's name. */
 function marksIn(text) {
-  const marks = [];
-  for (const line of text.split('\n')) {
-    let found;
-    if ((found = /^<rect x="(\d+)" y="-7" width="(\d+)"/.exec(line))) {
-      for (let x = 0; x < Number(found[2]); x += 6) marks.push({ x: Number(found[1]) + x, width: 6, what: 'box' });
-    } else if ((found = /^<path stroke="#000" d="([^"]*)"/.exec(line))) {
-      for (const column of found[1].split('M').slice(1)) marks.push({ x: parseInt(column, 10), width: 1, what: column.slice(column.indexOf('-')) });
-    } else if ((found = /^<text [^>]*?(?:x="|translate\()(\d+)[^>]*?>(.*)<\/text>$/.exec(line))) {
-      const wide = line.includes(' scale(2 ') ? 2 : 1, white = line.includes('fill="#fff"') ? 'white ' : '';
-      const width = 6 * wide, kind = white + (wide > 1 ? 'wide ' : '');
-      characters(found[2]).forEach((character, place) => {
-        if (character !== ' ') marks.push({ x: Number(found[1]) + width * place, width, what: kind + character });
-      });
-    }
-  }
-  return marks;
+  return Array.from(text.matchAll(/<use href="#([^"]*)" x="(\d+)"/g), ([, what, x]) => ({
+    x: Number(x) / DOT, width: what.startsWith('d') ? 1 : what.includes('w') ? 12 : 6, what,
+  })).filter(mark => !BLANK.test(mark.what));
 }
 
 /** How often each mark stands in a picture, by a name of the mark: its printer, its row, its place and what it shows. */
@@ -94,21 +69,13 @@ function marksOf(svg, among = null) {
   return counts;
 }
 
-/**
- * The marks of a picture that another one has not (or not as often): `{ printer, row, x, width }`. The boxes of a reversed cell
- * are one mark with the character in front of them.
- */
+/** The marks of a picture that another one has not (or not as often): `{ printer, row, x, width }`. */
 function marksMore(before, behind) {
-  const had = marksOf(before), more = [], boxes = [];
+  const had = marksOf(before), more = [];
   for (const [name, count] of marksOf(behind)) {
     if (count <= (had.get(name) || 0)) continue;
     const [printer, row, x, width] = name.split(' ', 4).map(Number);
-    (name.endsWith(' box') ? boxes : more).push({ printer, row, x, width });
-  }
-  for (const box of boxes) {
-    const touches = mark => mark.printer === box.printer && mark.row === box.row && box.x >= mark.x && box.x <= mark.x + mark.width;
-    const same = more.find(mark => touches(mark) && mark.width < 18);
-    if (same) same.width = Math.max(same.width, box.x + box.width - same.x); else more.push(box);
+    more.push({ printer, row, x, width });
   }
   return more;
 }
@@ -121,7 +88,7 @@ function markAt(svg, picture, x, y) {
     for (let number = sheet.rows.length - 1; number >= 0; number--) {
       const row = sheet.rows[number], down = y - MARKS_TOP - row.y * STEP;
       if (down < -10 || down > LETTER_HEIGHT + 20) continue;
-      const hit = marksIn(svg.slice(row.from, row.to)).reverse().find(mark => dots >= mark.x - .01 && dots < mark.x + mark.width);
+      const hit = marksIn(svg.slice(row.from, row.to)).reverse().find(mark => dots >= mark.x && dots < mark.x + mark.width);
       if (hit) return { printer: sheet.printer, row: number, name: [sheet.printer, number, hit.x, hit.width, hit.what].join(' ') };
     }
   }

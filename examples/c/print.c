@@ -1,15 +1,17 @@
 /* A printer as an emulator has it: bytes in, and an SVG document for each sheet of 11 inches out.
  *     print PREFIX [upper|lower] < BYTES          writes PREFIX1.svg, PREFIX2.svg ..
- * print1525_print draws continuous paper; a sheet is a window on it. */
+ * print1525_print draws continuous paper with folds; a sheet is a window on it, from fold to fold. */
 #include "print1525.h"
 #include <stdio.h>
 #include <stdlib.h>
 #include <string.h>
 
-/* Units of the document: 1/1260 inch. The paper lies below its heading. */
+/* Units of the document: 1/1260 inch. The paper lies below its heading, with half an inch above the first line, which begins at a
+ * fold, and half an inch or more below the last one. */
 #define SHEET 13860
 #define PAPER_LEFT 630
-#define PAPER_TOP 1050
+#define FIRST_FOLD 1680
+#define MARGINS 1260
 #define PAPER_WIDTH 12600
 
 /* What the printer heard. */
@@ -54,7 +56,7 @@ static int write_sheet(const char *prefix, unsigned long number, const char *pag
     file = fopen(name, "wb");
     if (!file) return 0;
     fwrite(page, 1, (size_t)(size - page), file);
-    fprintf(file, " width=\"60pc\" height=\"66pc\" viewBox=\"%d %lu %d %d\"", PAPER_LEFT, PAPER_TOP + SHEET * number,
+    fprintf(file, " width=\"60pc\" height=\"66pc\" viewBox=\"%d %lu %d %d\"", PAPER_LEFT, FIRST_FOLD + SHEET * number,
             PAPER_WIDTH, SHEET);
     fwrite(rest, 1, strlen(rest), file);
     return fclose(file) == 0;
@@ -75,11 +77,11 @@ int main(int words, char **word) {
     free(heard);
     if (!page) return (int)answer.code;
     size = strstr(page, " width=");
-    rest = strstr(page, " font-family=");
+    rest = strstr(page, ">\n<desc>");
     paper = strstr(page, "</text>\n<rect width=\"12600\" height=\"");
     if (!size || !rest || !paper) return 2;
     height = strtoul(strstr(paper, "height=") + strlen("height=\""), NULL, 10);
-    for (number = 0; number == 0 || SHEET * number < height; number++)
+    for (number = 0; number == 0 || SHEET * number + MARGINS < height; number++)
         if (!write_sheet(word[1], number, page, size, rest)) return PRINT1525_NO_MEMORY;
     free(page);
     return PRINT1525_DONE;

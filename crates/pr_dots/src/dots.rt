@@ -49,10 +49,12 @@ fn row_has_dot(row: &Row, x: u64, y: u128) -> bool
     ensures { result ≡ list_any (is_at x y) (row_dots row.now) }
 {
     let top = u128::from(row.y);
-    row.marks
-        .as_slice()
-        .iter()
-        .any(|placed| mark_has_dot(*placed, top, x, y))
+    for placed in row.marks.as_slice() {
+        if mark_has_dot(*placed, top, x, y) {
+            return true;
+        }
+    }
+    false
 }
 
 /// Whether a paper has a dot at dot column `x` (1/60 inch from the left) and `y` 1/126 inch from the top.
@@ -61,9 +63,10 @@ fn row_has_dot(row: &Row, x: u64, y: u128) -> bool
 pub fn has_dot(paper: &Paper, x: u64, y: u128) -> bool
     ensures { result ≡ has_dot paper.now x y }
 {
-    paper
-        .rows
-        .as_slice()
-        .iter()
-        .any(|row| row_has_dot(row, x, y))
+    for row in paper.rows.as_slice() {
+        if row_has_dot(row, x, y) {
+            return true;
+        }
+    }
+    false
 }

@@ -1,8 +1,8 @@
 -- Which marks are still to be defined.
-use Rattle.std.proofs.Common.{◌≡◌, ℕ, ◌+◌, ◌<◌, Bool, true, false, cond, List, [], ◌∷◌, ◌++◌, length, refl, sym, ap, ◌∙◌, arith, get_or, set, get_or-set_at}
+use Rattle.std.proofs.Common.{◌≡◌, ℕ, ◌+◌, ◌<◌, Bool, true, false, cond, List, [], ◌∷◌, ◌++◌, length, refl, sym, ap, ◌∙◌, arith, append_assoc}
 use Rattle.std.specs.Prelude.{◌==◌, not, flat_map, replicate, slice_index_or, slice_set}
 use Rattle.std.specs.List.{filter}
-use Rattle.std.proofs.lemmas.Grind.{common_steps}
+use Rattle.std.proofs.lemmas.Grind.{common_steps, get_or-set_at}
 use Rattle.pr_page.specs.declared.paper.Mark.{Mark}
 use Rattle.pr_render.specs.Defined.{HasDefined, is_new, new_definitions}
 use Rattle.pr_render.specs.Svg.{definition_svg, differ, each_once, number_of}
@@ -28,20 +28,36 @@ others : (defined : List Bool) (n k : ℕ) → n < length defined
 others defined n k within = grind (arith, common_steps)
 
 -- a mark that has been defined wants no definition
-pub defined-already : (defined : List Bool) (mark : Mark) (rest : List Mark) → slice_index_or defined (number_of mark) false ≡ true
+pub defined_already : (defined : List Bool) (mark : Mark) (rest : List Mark) → slice_index_or defined (number_of mark) false ≡ true
     → new_definitions defined (mark ∷ rest) ≡ new_definitions defined rest
-defined-already defined mark rest is =
+defined_already defined mark rest is =
     rw is (ap (flat_map definition_svg) (filter-both (is_new defined) (differ mark) (is_new defined)
     (λ x. known defined (number_of mark) (number_of x) is) (each_once rest)))
 
 -- a mark that is new wants one
-pub defined-now : (defined : List Bool) (mark : Mark) (rest : List Mark) → number_of mark < length defined
+pub defined_now : (defined : List Bool) (mark : Mark) (rest : List Mark) → number_of mark < length defined
     → slice_index_or defined (number_of mark) false ≡ false
     → new_definitions defined (mark ∷ rest) ≡ definition_svg mark ++ new_definitions (slice_set defined (number_of mark) true) rest
-defined-now defined mark rest within is =
+defined_now defined mark rest within is =
     rw is (ap (λ ms. definition_svg mark ++ flat_map definition_svg ms)
     (filter-both (is_new defined) (differ mark) (is_new (slice_set defined (number_of mark) true))
     (λ x. others defined (number_of mark) (number_of x) within) (each_once rest)))
+
+-- the same, where the definition has been added
+pub defined_next : (defined view : List Bool) (mark : Mark) (number : ℕ) (rest : List Mark) (text new_text : List ℕ)
+    → view ≡ defined → number ≡ number_of mark → number < length defined → slice_index_or defined number false ≡ false
+    → new_text ≡ text ++ definition_svg mark
+    → new_text ++ new_definitions (slice_set defined number true) rest ≡ text ++ new_definitions view (mark ∷ rest)
+defined_next defined view mark number rest text new_text at is within none added =
+    let here : number_of mark < length defined = rw (sym is) within in
+    let not_yet : slice_index_or defined (number_of mark) false ≡ false = rw (sym is) none in
+    let step : new_definitions view (mark ∷ rest) ≡ definition_svg mark ++ new_definitions (slice_set defined number true) rest =
+    ap (λ d. new_definitions d (mark ∷ rest)) at
+    ∙ (defined_now defined mark rest here not_yet
+    ∙ ap (λ k. definition_svg mark ++ new_definitions (slice_set defined k true) rest) (sym is)) in
+    ap (λ t. t ++ new_definitions (slice_set defined number true) rest) added
+    ∙ (append_assoc text (definition_svg mark) (new_definitions (slice_set defined number true) rest)
+    ∙ ap (λ t. text ++ t) (sym step))
 
 -- at first each mark wants one
 none-defined : (marks : List Mark) → new_definitions (replicate 2304 false) marks ≡ flat_map definition_svg (each_once marks)

@@ -1,1 +1,4 @@
 pub mod Defining
+pub mod Drawn
+pub mod Names
+pub mod Shown

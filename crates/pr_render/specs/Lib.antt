@@ -1,5 +1,6 @@
 pub mod Characters
 pub mod Defined
+pub mod Laws
 pub mod Parts
 pub mod Plain
 pub mod Strips

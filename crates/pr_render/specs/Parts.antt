@@ -23,7 +23,7 @@ document_about = codes "\">\n<desc>Pages of VIC-1525 printers. Each dot is where
 
 -- half an inch of continuous paper, with a hole in each edge and the lines at which the edges tear off; and the fold at the end of 11 inches
 unfoldable pub paper_piece : List ℕ
-paper_piece = codes "<pattern id=\"paper\" width=\"12600\" height=\"630\" patternUnits=\"userSpaceOnUse\"><rect width=\"12600\" height=\"630\" fill=\"#fff\"/><g fill=\"#e9e6df\" stroke=\"#b4afa2\" stroke-width=\"10\"><circle cx=\"315\" cy=\"315\" r=\"100\"/><circle cx=\"12285\" cy=\"315\" r=\"100\"/><path stroke-dasharray=\"35\" d=\"M630 0v630M11970 0v630\"/></g></pattern>\n<pattern id=\"folds\" y=\"630\" width=\"12600\" height=\"13860\" patternUnits=\"userSpaceOnUse\"><path stroke=\"#b4afa2\" stroke-width=\"10\" stroke-dasharray=\"70\" d=\"M0 13855h12600\"/></pattern>\n"
+paper_piece = codes "<pattern id=\"paper\" width=\"12600\" height=\"630\" patternUnits=\"userSpaceOnUse\"><rect width=\"12600\" height=\"630\" fill=\"#fff\"/><g fill=\"#e9e6df\" stroke=\"#b4afa2\" stroke-width=\"10\"><circle cx=\"315\" cy=\"315\" r=\"100\"/><circle cx=\"12285\" cy=\"315\" r=\"100\"/><path stroke-dasharray=\"35\" d=\"M630 0v630M11970 0v630\"/></g></pattern>\n<pattern id=\"folds\" y=\"7560\" width=\"12600\" height=\"13860\" patternUnits=\"userSpaceOnUse\"><path stroke=\"#b4afa2\" stroke-width=\"10\" stroke-dasharray=\"70\" d=\"M0 6930h12600\"/></pattern>\n"
 
 -- the desk under the sheets
 unfoldable pub desk : List ℕ
@@ -47,15 +47,15 @@ sheet_paper = codes "</text>\n<rect width=\"12600\" height=\""
 
 -- the rest of the paper, and its folds below the first line, up to their height
 unfoldable pub paper_folds : List ℕ
-paper_folds = codes "\" fill=\"url(#paper)\" stroke=\"#b4afa2\" stroke-width=\"10\"/>\n<rect y=\"630\" width=\"12600\" height=\""
+paper_folds = codes "\" fill=\"url(#paper)\" stroke=\"#b4afa2\" stroke-width=\"10\"/>\n<rect y=\"1260\" width=\"12600\" height=\""
 
 -- the rest of the folds, and the group of the sheet's marks
 unfoldable pub sheet_marks : List ℕ
 sheet_marks = codes "\" fill=\"url(#folds)\"/>\n<g transform=\"translate(1260 630)\">\n"
 
--- discs: a little wider than a dot column, and drawn by strokes without length
+-- the marks of a sheet: strokes a little wider than a dot column, and letters that are not seen
 unfoldable pub ink_begin : List ℕ
-ink_begin = codes "<g fill=\"none\" stroke=\"#222\" stroke-width=\"22\" stroke-linecap=\"round\">\n"
+ink_begin = codes "<g stroke-width=\"22\" stroke-linecap=\"round\" fill-opacity=\"0\" font-size=\"140\">\n"
 
 -- a group at a distance
 unfoldable pub row_begin : List ℕ
@@ -65,9 +65,33 @@ row_begin = codes "<g transform=\"translate(0 "
 unfoldable pub held_begin : List ℕ
 held_begin = codes "<g opacity=\".4\" transform=\"translate(0 "
 
--- letters that are not seen
-unfoldable pub letters_begin : List ℕ
-letters_begin = codes "<g fill-opacity=\"0\" font-size=\"140\" xml:space=\"preserve\">\n"
+-- the use of a mark, up to its name
+unfoldable pub use_begin : List ℕ
+use_begin = codes "<use href=\"#"
+
+-- between its name and its place
+unfoldable pub use_place : List ℕ
+use_place = codes "\" x=\""
+
+-- the end of a use or of a definition
+unfoldable pub use_end : List ℕ
+use_end = codes "\"/>\n"
+
+-- between a definition's name and its path
+unfoldable pub mark_path : List ℕ
+mark_path = codes "\" d=\""
+
+-- a mark's definition, up to its name
+unfoldable pub mark_begin : List ℕ
+mark_begin = codes "<path stroke=\"#222\" id=\""
+
+-- between the place of a strip and its width: its base line is seven dots down
+unfoldable pub letters_width : List ℕ
+letters_width = codes "\" y=\"140\" textLength=\""
+
+-- behind the width of a strip, to which the characters of any font are drawn out, and blanks stay
+unfoldable pub letters_fitted : List ℕ
+letters_fitted = codes "\" lengthAdjust=\"spacingAndGlyphs\" xml:space=\"preserve\">"
 
 -- behind the distance of the marks held: a dashed rule, and a line that says what they are
 unfoldable pub held_note : List ℕ

@@ -89,10 +89,14 @@ abbrev pub rows_text : ℕ → List Row → List ℕ
 rows_text empty [] = []
 rows_text empty (r ∷ rs) = empty_lines ((r.y - empty) / 21) ++ line_text r.marks ++ rows_text (r.y + 21) rs
 
+-- the line above the marks held
+unfoldable pub held_heading : List ℕ
+held_heading = codes "Held, not yet printed:\n"
+
 -- the line of the marks held, below one that says so, if there are any
 abbrev pub held_text : List Placed → List ℕ
 held_text [] = []
-held_text (m ∷ ms) = codes "Held, not yet printed:\n" ++ line_text (m ∷ ms)
+held_text (m ∷ ms) = held_heading ++ line_text (m ∷ ms)
 
 -- a printer's sheet
 unfoldable pub sheet_text : ℕ → Paper → List ℕ

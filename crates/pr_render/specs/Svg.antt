@@ -13,7 +13,7 @@ use Rattle.pr_system.specs.declared.outcome.Outcome.{Outcome}
 use Rattle.pr_dots.specs.Dots.{Dot, columns_dots, columns_of}
 use Rattle.pr_render.specs.Characters.{character}
 use Rattle.pr_render.specs.Words.{either_text, is_blank, stop_name, text_if}
-use Rattle.pr_render.specs.Parts.{definitions_begin, definitions_end, desk, document_about, document_begin, held_begin, held_note, height_begin, ink_begin, letters_begin, notes_begin, paper_folds, paper_piece, row_begin, sheet_end, sheet_marks, sheet_name, sheet_paper, status_begin, stop_begin, text_end, units_begin, units_between}
+use Rattle.pr_render.specs.Parts.{definitions_begin, definitions_end, desk, document_about, document_begin, held_begin, held_note, height_begin, ink_begin, letters_fitted, letters_width, mark_begin, mark_path, notes_begin, paper_folds, paper_piece, row_begin, sheet_end, sheet_marks, sheet_name, sheet_paper, status_begin, stop_begin, text_end, units_begin, units_between, use_begin, use_end, use_place}
 
 -- a disc of a picture: its middle, in units from the left and from the top
 pub record Disc : Type 0 where
@@ -28,11 +28,11 @@ disc_of dot = record { across = 21 * dot.x + 10; down = 10 * dot.y + 10 }
 unfoldable pub disc_svg : Disc → List ℕ
 disc_svg disc = codes "M" ++ decimal disc.across ++ codes " " ++ decimal disc.down ++ codes "h0"
 
--- a mark's name: `d` and its value for a column of dots; of a cell `u` (graphic/upper case) or `l` (lower/upper case) and its code,
--- with `r` if it is reversed and `w` if it is wide
+-- a mark's name: `d` and the value of a column of dots; of a cell `u` (graphic/upper case) or `l` (lower/upper case), `r` if it is
+-- reversed, `w` if it is wide, and its code
 unfoldable pub name_svg : Mark → List ℕ
 name_svg (Cell code lower reverse wide) =
-    either_text lower (codes "l") (codes "u") ++ decimal code ++ text_if reverse (codes "r") ++ text_if wide (codes "w")
+    either_text lower (codes "l") (codes "u") ++ text_if reverse (codes "r") ++ text_if wide (codes "w") ++ decimal code
 name_svg (Dots value) = codes "d" ++ decimal value
 
 -- the discs of a mark, as they are defined once
@@ -42,7 +42,7 @@ mark_discs mark = map disc_of (columns_dots 0 0 (columns_of mark))
 -- a mark's definition, under its name
 unfoldable pub definition_svg : Mark → List ℕ
 definition_svg mark =
-    codes "<path id=\"" ++ name_svg mark ++ codes "\" d=\"" ++ flat_map disc_svg (mark_discs mark) ++ codes "\"/>\n"
+    mark_begin ++ name_svg mark ++ mark_path ++ flat_map disc_svg (mark_discs mark) ++ use_end
 
 -- a number for each mark, and no two have the same
 abbrev pub number_of : Mark → ℕ
@@ -65,11 +65,7 @@ marks_of paper = map (λ p. p.mark) (flat_map (λ r. r.marks) paper.rows ++ pape
 
 -- a mark on its line, by its name
 unfoldable pub use_svg : Placed → List ℕ
-use_svg placed = codes "<use href=\"#" ++ name_svg placed.mark ++ codes "\" x=\"" ++ decimal (21 * placed.x) ++ codes "\"/>\n"
-
--- the marks of a printed line, at its distance
-unfoldable pub row_svg : Row → List ℕ
-row_svg r = row_begin ++ decimal (10 * r.y) ++ codes ")\">\n" ++ flat_map use_svg r.marks ++ codes "</g>\n"
+use_svg placed = use_begin ++ name_svg placed.mark ++ use_place ++ decimal (21 * placed.x) ++ use_end
 
 -- a character that stands for itself in an SVG: ASCII from the space on, but no quote, ampersand, apostrophe, less or greater
 abbrev pub stands_for_itself : ℕ → Bool
@@ -128,26 +124,30 @@ abbrev pub shows : List ℕ → Bool
 shows [] = false
 shows (u ∷ us) = not (is_blank u) || shows us
 
--- the characters of a strip on the line at a distance, as wide as its cells; their base line is seven dots down
-unfoldable pub characters_svg : ℕ → Strip → List ℕ
-characters_svg y strip =
-    codes "<text x=\"" ++ decimal (21 * strip.x) ++ codes "\" y=\"" ++ decimal (10 * y + 140) ++ codes "\" textLength=\""
-    ++ decimal (21 * cells_width strip.wide (length strip.characters)) ++ codes "\">" ++ flat_map character_text strip.characters ++ text_end
+-- the characters of a strip, as wide as its cells
+unfoldable pub characters_svg : Strip → List ℕ
+characters_svg strip =
+    codes "<text x=\"" ++ decimal (21 * strip.x) ++ letters_width ++ decimal (21 * cells_width strip.wide (length strip.characters))
+    ++ letters_fitted ++ flat_map character_text strip.characters ++ text_end
 
 -- the same, if they are not all blank
-abbrev pub strip_svg : ℕ → Strip → List ℕ
-strip_svg y strip = text_if (shows strip.characters) (characters_svg y strip)
+abbrev pub strip_svg : Strip → List ℕ
+strip_svg strip = text_if (shows strip.characters) (characters_svg strip)
 
 -- the strips of marks in their order, behind one that has begun
-abbrev pub strips_svg : ℕ → Strip → List Placed → List ℕ
-strips_svg y strip [] = strip_svg y strip
-strips_svg y strip (p ∷ ps) =
-    if joins (strip_of p.x p.mark) strip then strips_svg y (lengthened strip (strip_of p.x p.mark)) ps
-    else strip_svg y strip ++ strips_svg y (strip_of p.x p.mark) ps
+abbrev pub strips_svg : Strip → List Placed → List ℕ
+strips_svg strip [] = strip_svg strip
+strips_svg strip (p ∷ ps) =
+    if joins (strip_of p.x p.mark) strip then strips_svg (lengthened strip (strip_of p.x p.mark)) ps
+    else strip_svg strip ++ strips_svg (strip_of p.x p.mark) ps
 
--- the letters of marks on a line at a distance
-unfoldable pub letters_svg : ℕ → List Placed → List ℕ
-letters_svg y marks = strips_svg y no_strip marks
+-- the marks of a line: each by its name, and over them the letters, which are not seen, to be searched and copied
+unfoldable pub line_svg : List Placed → List ℕ
+line_svg marks = flat_map use_svg marks ++ strips_svg no_strip marks
+
+-- a printed line, at its distance
+unfoldable pub row_svg : Row → List ℕ
+row_svg r = row_begin ++ decimal (10 * r.y) ++ codes ")\">\n" ++ line_svg r.marks ++ codes "</g>\n"
 
 -- where rows end, in 1/126 inch: 1/6 inch below the top of the last of them
 abbrev pub rows_end : ℕ → List Row → ℕ
@@ -157,7 +157,7 @@ rows_end y (r ∷ rs) = rows_end (r.y + 21) rs
 -- the marks held, pale, at a distance
 unfoldable pub held_svg : ℕ → List Placed → List ℕ
 held_svg y [] = []
-held_svg y (m ∷ ms) = held_begin ++ decimal (10 * y) ++ codes ")\">\n" ++ flat_map use_svg (m ∷ ms) ++ codes "</g>\n"
+held_svg y (m ∷ ms) = held_begin ++ decimal (10 * y) ++ codes ")\">\n" ++ line_svg (m ∷ ms) ++ codes "</g>\n"
 
 -- above the marks held: a rule, and a line that says so
 unfoldable pub held_line : ℕ → List Placed → List ℕ
@@ -182,21 +182,16 @@ name_line device x = codes "<g transform=\"translate(" ++ decimal x ++ sheet_nam
 
 -- paper of so many picas, with its folds at each 11 inches from the first line on
 unfoldable pub paper_svg : ℕ → List ℕ
-paper_svg picas = sheet_paper ++ decimal (210 * picas) ++ paper_folds ++ decimal (210 * (picas - 3)) ++ sheet_marks
+paper_svg picas = sheet_paper ++ decimal (210 * picas) ++ paper_folds ++ decimal (210 * (picas - 6)) ++ sheet_marks
 
--- the discs of a paper: the rows, and 1/6 inch below them the marks held
+-- the marks of a paper: the rows, and 1/6 inch below them the marks held
 unfoldable pub ink_svg : Paper → List ℕ
 ink_svg p = ink_begin ++ flat_map row_svg p.rows ++ held_svg (rows_end 0 p.rows + 21) p.held ++ codes "</g>\n"
-
--- the letters of a paper, which are not seen, to be searched and copied
-unfoldable pub paper_letters : Paper → List ℕ
-paper_letters p =
-    letters_begin ++ flat_map (λ r. letters_svg r.y r.marks) p.rows ++ letters_svg (rows_end 0 p.rows + 21) p.held ++ codes "</g>\n"
 
 -- a printer's sheet
 unfoldable pub sheet_svg : ℕ → ℕ → ℕ → Paper → List ℕ
 sheet_svg device x picas p =
-    name_line device x ++ paper_svg picas ++ ink_svg p ++ paper_letters p ++ held_line (rows_end 0 p.rows) p.held ++ sheet_end
+    name_line device x ++ paper_svg picas ++ ink_svg p ++ held_line (rows_end 0 p.rows) p.held ++ sheet_end
 
 -- the line of a stop, with its place
 unfoldable pub stop_svg : Option (ℕ × Stop) → List ℕ

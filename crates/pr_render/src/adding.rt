@@ -33,20 +33,6 @@ pub fn push_if(text: &mut Vec<u8>, holds: bool, part: &[u8]) -> Result<(), Alloc
     Ok(())
 }
 
-/// Adds a number between two texts.
-pub fn push_between(
-    text: &mut Vec<u8>,
-    before: &[u8],
-    n: u64,
-    after: &[u8],
-) -> Result<(), AllocError>
-    ensures { OnOk result (text.new.items ≡ text.old.items ++ (before.now ++ decimal n ++ after.now)) }
-{
-    text.extend_from_slice(before)?;
-    push_small(text, n)?;
-    text.extend_from_slice(after)
-}
-
 /// Adds blanks.
 pub fn push_blanks(text: &mut Vec<u8>, count: u64) -> Result<(), AllocError>
     ensures { OnOk result (text.new.items ≡ text.old.items ++ replicate count 32) }

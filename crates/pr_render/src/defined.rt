@@ -1,8 +1,8 @@
 //! Which marks have been defined.
 
-ghost use Rattle.std.specs.Prelude.{◌≡◌, false, ◌∷◌, ◌++◌, [], flat_map, length, replicate, IfOk, OnOk};
+ghost use Rattle.std.specs.Prelude.{◌≡◌, false, ◌∷◌, [], flat_map, if◌then◌else◌, replicate, IfOk, OnOk};
 ghost use Rattle.pr_render.specs.Defined.{HasDefined, marks_on};
-ghost use Rattle.pr_render.specs.Svg.{definition_svg, number_of};
+ghost use Rattle.pr_render.specs.Svg.{marks_of};
 
 use crate::uses::{number_of, push_definition};
 use pr_page::{Mark, Paper, Placed, Row};
@@ -38,6 +38,7 @@ impl Defined {
     }
 
     /// Adds the definition of a mark, unless it has been defined.
+    #[tactic(auto, using(crate::proofs::Defining::defined_already))]
     fn define(&mut self, text: &mut Vec<u8>, mark: Mark) -> Result<(), AllocError>
         ensures { OnOk result (HasDefined (mark ∷ []) text.old.items self.old text.new.items self.new) }
     {
@@ -45,8 +46,9 @@ impl Defined {
         if self.marks[number] {
             return Ok(());
         }
+        push_definition(text, mark)?;
         self.marks[number] = true;
-        push_definition(text, mark)
+        Ok(())
     }
 
     /// Adds the definitions of marks that have not been defined.

@@ -2,8 +2,8 @@
 //! puts them (VIC-1525 User's Manual); paper, names and notes round them are this project's own choice
 //! (profile).
 
-ghost use Rattle.std.specs.Prelude.{◌≡◌, ◌+◌, ◌*◌, ◌≤◌, ◌++◌, OnOk, IfOk};
-ghost use Rattle.pr_render.specs.Svg.{definitions_svg, drawn_marks, drawn_of, has_printed, head_svg, height_of, picture_svg, sheet_picas, size_svg, svg_of, units_svg, width_of};
+ghost use Rattle.std.specs.Prelude.{◌≡◌, ◌+◌, ◌*◌, ◌≤◌, ◌++◌, flat_map, OnOk, IfOk};
+ghost use Rattle.pr_render.specs.Svg.{definition_svg, definitions_svg, drawn_marks, drawn_of, each_once, has_printed, head_svg, height_of, picture_svg, sheet_picas, size_svg, svg_of, units_svg, width_of};
 
 use crate::adding::{push_number, push_small};
 use crate::defined::Defined;
@@ -110,7 +110,22 @@ fn push_head(text: &mut Vec<u8>, width: u64, height: u128) -> Result<(), AllocEr
     text.extend_from_slice(desk())
 }
 
-/// Adds the definitions of the marks of the papers that are drawn.
+/// Adds the definition of each mark of the papers that are drawn.
+fn push_marks(
+    text: &mut Vec<u8>,
+    alloc: Global,
+    outcome: &Outcome,
+    drawn: Present,
+) -> Result<(), AllocError>
+    ensures { OnOk result (text.new.items ≡ text.old.items ++ flat_map definition_svg (each_once (drawn_marks outcome.now drawn))) }
+{
+    let mut defined = Defined::new(alloc)?;
+    defined.define_paper(text, drawn.four, &outcome.paper4)?;
+    defined.define_paper(text, drawn.five, &outcome.paper5)?;
+    Ok(())
+}
+
+/// Adds the definitions of the marks of the papers that are drawn, with their begin and end.
 #[tactic(auto, unfolding(crate::specs::Svg::definitions_svg))]
 fn push_definitions(
     text: &mut Vec<u8>,
@@ -120,10 +135,8 @@ fn push_definitions(
 ) -> Result<(), AllocError>
     ensures { OnOk result (text.new.items ≡ text.old.items ++ definitions_svg (drawn_marks outcome.now drawn)) }
 {
-    let mut defined = Defined::new(alloc)?;
     text.extend_from_slice(definitions_begin())?;
-    defined.define_paper(text, drawn.four, &outcome.paper4)?;
-    defined.define_paper(text, drawn.five, &outcome.paper5)?;
+    push_marks(text, alloc, outcome, drawn)?;
     text.extend_from_slice(definitions_end())
 }
 

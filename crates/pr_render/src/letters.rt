@@ -2,11 +2,11 @@
 
 ghost use Rattle.std.specs.Prelude.{◌≡◌, true, ◌+◌, ◌*◌, ◌≤◌, ◌++◌, flat_map, length, OnOk};
 ghost use Rattle.pr_render.specs.Strips.{HasTakenMark};
-ghost use Rattle.pr_render.specs.Svg.{cells_width, character_text, characters_svg, escaped, has_cells, joins, lengthened, letters_svg, no_strip, shows, stands_for_itself, strip_of, strip_svg};
+ghost use Rattle.pr_render.specs.Svg.{cells_width, character_text, characters_svg, escaped, has_cells, joins, lengthened, no_strip, shows, stands_for_itself, strip_of, strip_svg, strips_svg};
 
-use crate::adding::{is_blank, push_number, push_small};
+use crate::adding::{is_blank, push_small};
 use crate::characters::character;
-use crate::parts::text_end;
+use crate::parts::{letters_fitted, letters_width, text_end};
 use pr_page::{Mark, Placed};
 use std::alloc::{AllocError, Global};
 use std::marker::Model;
@@ -169,62 +169,50 @@ impl Cells {
         Ok(())
     }
 
-    /// Adds their characters, on the line at a distance.
+    /// Adds their characters.
     #[tactic(auto, unfolding(crate::specs::Svg::characters_svg))]
-    fn push_characters(&self, text: &mut Vec<u8>, y: u128) -> Result<(), AllocError>
-        requires { y ≤ 18446744073709551657 }
-        ensures { OnOk result (text.new.items ≡ text.old.items ++ characters_svg y self.now) }
+    fn push_characters(&self, text: &mut Vec<u8>) -> Result<(), AllocError>
+        ensures { OnOk result (text.new.items ≡ text.old.items ++ characters_svg self.now) }
     {
         let characters = self.characters.as_slice();
         text.extend_from_slice(b"<text x=\"")?;
         push_small(text, 21 * self.x)?;
-        text.extend_from_slice(b"\" y=\"")?;
-        push_number(text, 10 * y + 140)?;
-        text.extend_from_slice(b"\" textLength=\"")?;
+        text.extend_from_slice(letters_width())?;
         push_small(text, 21 * cells_width(self.wide, characters.len() as u64))?;
-        text.extend_from_slice(b"\">")?;
+        text.extend_from_slice(letters_fitted())?;
         push_each(text, characters)?;
         text.extend_from_slice(text_end())
     }
 
     /// The same, if they are not all blank.
-    fn push(&self, text: &mut Vec<u8>, y: u128) -> Result<(), AllocError>
-        requires { y ≤ 18446744073709551657 }
-        ensures { OnOk result (text.new.items ≡ text.old.items ++ strip_svg y self.now) }
+    fn push(&self, text: &mut Vec<u8>) -> Result<(), AllocError>
+        ensures { OnOk result (text.new.items ≡ text.old.items ++ strip_svg self.now) }
     {
         if show(self.characters.as_slice()) {
-            self.push_characters(text, y)?;
+            self.push_characters(text)?;
         }
         Ok(())
     }
 
     /// Takes the next mark: a cell that joins them, or else their end.
-    fn take(&mut self, text: &mut Vec<u8>, y: u128, placed: Placed) -> Result<(), AllocError>
-        requires { y ≤ 18446744073709551657 }
-        ensures { OnOk result (HasTakenMark y placed text.old.items self.old text.new.items self.new) }
+    fn take(&mut self, text: &mut Vec<u8>, placed: Placed) -> Result<(), AllocError>
+        ensures { OnOk result (HasTakenMark placed text.old.items self.old text.new.items self.new) }
     {
         if self.are_joined_by(placed) {
             return self.add(placed);
         }
-        self.push(text, y)?;
+        self.push(text)?;
         self.begin(placed)
     }
 }
 
-/// Adds the letters of marks on the line at a distance.
-#[tactic(auto, unfolding(crate::specs::Svg::letters_svg))]
-pub fn push_letters(
-    text: &mut Vec<u8>,
-    alloc: Global,
-    y: u128,
-    marks: &[Placed],
-) -> Result<(), AllocError>
-    requires { y ≤ 18446744073709551657 }
-    ensures { OnOk result (text.new.items ≡ text.old.items ++ letters_svg y marks.now) }
+/// Adds the letters of the marks of a line.
+pub fn push_letters(text: &mut Vec<u8>, alloc: Global, marks: &[Placed]) -> Result<(), AllocError>
+    ensures { OnOk result (text.new.items ≡ text.old.items ++ strips_svg no_strip marks.now) }
 {
     let mut cells = Cells::new(alloc);
     for placed in marks {
-        cells.take(text, y, *placed)?;
+        cells.take(text, *placed)?;
     }
-    cells.push(text, y)
+    cells.push(text)
 }

@@ -17,6 +17,7 @@ mod columns;
 mod defined;
 mod drawing;
 mod format;
+pub mod laws;
 mod letters;
 mod notes;
 mod parts;

@@ -1,7 +1,7 @@
 //! The fixed parts of the picture.
 
 ghost use Rattle.std.specs.Prelude.{◌≡◌};
-ghost use Rattle.pr_render.specs.Parts.{definitions_begin, definitions_end, desk, document_about, document_begin, height_begin, held_begin, held_note, ink_begin, letters_begin, notes_begin, paper_folds, paper_piece, row_begin, sheet_end, sheet_marks, sheet_name, sheet_paper, status_begin, stop_begin, text_end, units_begin, units_between};
+ghost use Rattle.pr_render.specs.Parts.{definitions_begin, definitions_end, desk, document_about, document_begin, height_begin, held_begin, held_note, ink_begin, letters_fitted, letters_width, mark_begin, mark_path, notes_begin, paper_folds, paper_piece, row_begin, sheet_end, sheet_marks, sheet_name, sheet_paper, status_begin, stop_begin, text_end, units_begin, units_between, use_begin, use_end, use_place};
 
 /// The document's first tag, up to its width.
 #[tactic(auto, unfolding(crate::specs::Parts::document_begin))]
@@ -48,7 +48,7 @@ pub fn document_about() -> &'static [u8]
 pub fn paper_piece() -> &'static [u8]
     ensures { result.now ≡ paper_piece }
 {
-    b"<pattern id=\"paper\" width=\"12600\" height=\"630\" patternUnits=\"userSpaceOnUse\"><rect width=\"12600\" height=\"630\" fill=\"#fff\"/><g fill=\"#e9e6df\" stroke=\"#b4afa2\" stroke-width=\"10\"><circle cx=\"315\" cy=\"315\" r=\"100\"/><circle cx=\"12285\" cy=\"315\" r=\"100\"/><path stroke-dasharray=\"35\" d=\"M630 0v630M11970 0v630\"/></g></pattern>\n<pattern id=\"folds\" y=\"630\" width=\"12600\" height=\"13860\" patternUnits=\"userSpaceOnUse\"><path stroke=\"#b4afa2\" stroke-width=\"10\" stroke-dasharray=\"70\" d=\"M0 13855h12600\"/></pattern>\n"
+    b"<pattern id=\"paper\" width=\"12600\" height=\"630\" patternUnits=\"userSpaceOnUse\"><rect width=\"12600\" height=\"630\" fill=\"#fff\"/><g fill=\"#e9e6df\" stroke=\"#b4afa2\" stroke-width=\"10\"><circle cx=\"315\" cy=\"315\" r=\"100\"/><circle cx=\"12285\" cy=\"315\" r=\"100\"/><path stroke-dasharray=\"35\" d=\"M630 0v630M11970 0v630\"/></g></pattern>\n<pattern id=\"folds\" y=\"7560\" width=\"12600\" height=\"13860\" patternUnits=\"userSpaceOnUse\"><path stroke=\"#b4afa2\" stroke-width=\"10\" stroke-dasharray=\"70\" d=\"M0 6930h12600\"/></pattern>\n"
 }
 
 /// The desk under the sheets.
@@ -96,7 +96,7 @@ pub fn sheet_paper() -> &'static [u8]
 pub fn paper_folds() -> &'static [u8]
     ensures { result.now ≡ paper_folds }
 {
-    b"\" fill=\"url(#paper)\" stroke=\"#b4afa2\" stroke-width=\"10\"/>\n<rect y=\"630\" width=\"12600\" height=\""
+    b"\" fill=\"url(#paper)\" stroke=\"#b4afa2\" stroke-width=\"10\"/>\n<rect y=\"1260\" width=\"12600\" height=\""
 }
 
 /// The rest of the folds, and the group of the sheet's marks.
@@ -107,12 +107,12 @@ pub fn sheet_marks() -> &'static [u8]
     b"\" fill=\"url(#folds)\"/>\n<g transform=\"translate(1260 630)\">\n"
 }
 
-/// Discs: a little wider than a dot column, and drawn by strokes without length.
+/// The marks of a sheet: strokes a little wider than a dot column, and letters that are not seen.
 #[tactic(auto, unfolding(crate::specs::Parts::ink_begin))]
 pub fn ink_begin() -> &'static [u8]
     ensures { result.now ≡ ink_begin }
 {
-    b"<g fill=\"none\" stroke=\"#222\" stroke-width=\"22\" stroke-linecap=\"round\">\n"
+    b"<g stroke-width=\"22\" stroke-linecap=\"round\" fill-opacity=\"0\" font-size=\"140\">\n"
 }
 
 /// A group at a distance.
@@ -131,12 +131,60 @@ pub fn held_begin() -> &'static [u8]
     b"<g opacity=\".4\" transform=\"translate(0 "
 }
 
-/// Letters that are not seen.
-#[tactic(auto, unfolding(crate::specs::Parts::letters_begin))]
-pub fn letters_begin() -> &'static [u8]
-    ensures { result.now ≡ letters_begin }
+/// The use of a mark, up to its name.
+#[tactic(auto, unfolding(crate::specs::Parts::use_begin))]
+pub fn use_begin() -> &'static [u8]
+    ensures { result.now ≡ use_begin }
 {
-    b"<g fill-opacity=\"0\" font-size=\"140\" xml:space=\"preserve\">\n"
+    b"<use href=\"#"
+}
+
+/// Between its name and its place.
+#[tactic(auto, unfolding(crate::specs::Parts::use_place))]
+pub fn use_place() -> &'static [u8]
+    ensures { result.now ≡ use_place }
+{
+    b"\" x=\""
+}
+
+/// The end of a use or of a definition.
+#[tactic(auto, unfolding(crate::specs::Parts::use_end))]
+pub fn use_end() -> &'static [u8]
+    ensures { result.now ≡ use_end }
+{
+    b"\"/>\n"
+}
+
+/// Between a definition's name and its path.
+#[tactic(auto, unfolding(crate::specs::Parts::mark_path))]
+pub fn mark_path() -> &'static [u8]
+    ensures { result.now ≡ mark_path }
+{
+    b"\" d=\""
+}
+
+/// A mark's definition, up to its name.
+#[tactic(auto, unfolding(crate::specs::Parts::mark_begin))]
+pub fn mark_begin() -> &'static [u8]
+    ensures { result.now ≡ mark_begin }
+{
+    b"<path stroke=\"#222\" id=\""
+}
+
+/// Between the place of a strip and its width: its base line is seven dots down.
+#[tactic(auto, unfolding(crate::specs::Parts::letters_width))]
+pub fn letters_width() -> &'static [u8]
+    ensures { result.now ≡ letters_width }
+{
+    b"\" y=\"140\" textLength=\""
+}
+
+/// Behind the width of a strip, to which the characters of any font are drawn out, and blanks stay.
+#[tactic(auto, unfolding(crate::specs::Parts::letters_fitted))]
+pub fn letters_fitted() -> &'static [u8]
+    ensures { result.now ≡ letters_fitted }
+{
+    b"\" lengthAdjust=\"spacingAndGlyphs\" xml:space=\"preserve\">"
 }
 
 /// Behind the distance of the marks held: a dashed rule, and a line that says what they are.

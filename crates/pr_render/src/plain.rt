@@ -3,7 +3,7 @@
 
 ghost use Rattle.std.specs.Prelude.{◌≡◌, ◌++◌, OnOk, IfOk};
 ghost use Rattle.pr_render.specs.Words.{text_if};
-ghost use Rattle.pr_render.specs.Plain.{empty_lines, held_text, rows_text, sentence, sheet_text, stop_sentence, text_of};
+ghost use Rattle.pr_render.specs.Plain.{empty_lines, held_heading, held_text, rows_text, sentence, sheet_text, stop_sentence, text_of};
 
 use crate::adding::{push_numbers, push_small, stop_name};
 use crate::columns::push_line;
@@ -37,6 +37,14 @@ fn push_rows(text: &mut Vec<u8>, rows: &[Row]) -> Result<(), AllocError>
     Ok(())
 }
 
+/// The line above the marks held.
+#[tactic(auto, unfolding(crate::specs::Plain::held_heading))]
+fn held_heading() -> &'static [u8]
+    ensures { result.now ≡ held_heading }
+{
+    b"Held, not yet printed:\n"
+}
+
 /// Adds the line of the marks held, below one that says so, if there are any.
 fn push_held(text: &mut Vec<u8>, held: &[Placed]) -> Result<(), AllocError>
     ensures { OnOk result (text.new.items ≡ text.old.items ++ held_text held.now) }
@@ -44,7 +52,7 @@ fn push_held(text: &mut Vec<u8>, held: &[Placed]) -> Result<(), AllocError>
     if held.is_empty() {
         return Ok(());
     }
-    text.extend_from_slice(b"Held, not yet printed:\n")?;
+    text.extend_from_slice(held_heading())?;
     push_line(text, held)
 }
 

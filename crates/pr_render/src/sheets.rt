@@ -1,14 +1,14 @@
-//! A printer's sheet of a picture, in units of 1/1260 inch: its paper, its discs, and letters that are not seen.
+//! A printer's sheet of a picture, in units of 1/1260 inch: its paper, and the marks on it.
 
 ghost use Rattle.std.specs.Prelude.{◌≡◌, ◌+◌, ◌≤◌, ◌++◌, flat_map, OnOk};
 ghost use Rattle.pr_render.specs.Words.{text_if};
-ghost use Rattle.pr_render.specs.Svg.{held_line, held_svg, ink_svg, letters_svg, name_line, paper_end, paper_letters, paper_svg, row_svg, rows_end, sheet_svg};
+ghost use Rattle.pr_render.specs.Svg.{held_line, held_svg, ink_svg, line_svg, name_line, paper_end, paper_svg, row_svg, rows_end, sheet_svg};
 
 use crate::adding::{push_number, push_small};
 use crate::letters::push_letters;
 use crate::parts::{
-    held_begin, held_note, ink_begin, letters_begin, paper_folds, row_begin, sheet_end,
-    sheet_marks, sheet_name, sheet_paper,
+    held_begin, held_note, ink_begin, paper_folds, row_begin, sheet_end, sheet_marks, sheet_name,
+    sheet_paper,
 };
 use crate::uses::push_uses;
 use pr_page::{Paper, Placed, Row};
@@ -39,31 +39,40 @@ pub fn paper_end(paper: &Paper) -> u128
     }
 }
 
+/// Adds the marks of a line, and the letters over them.
+#[tactic(auto, unfolding(crate::specs::Svg::line_svg))]
+fn push_line(text: &mut Vec<u8>, alloc: Global, marks: &[Placed]) -> Result<(), AllocError>
+    ensures { OnOk result (text.new.items ≡ text.old.items ++ line_svg marks.now) }
+{
+    push_uses(text, marks)?;
+    push_letters(text, alloc, marks)
+}
+
 /// Adds a printed line.
 #[tactic(auto, unfolding(crate::specs::Svg::row_svg))]
-fn push_row(text: &mut Vec<u8>, row: &Row) -> Result<(), AllocError>
+fn push_row(text: &mut Vec<u8>, alloc: Global, row: &Row) -> Result<(), AllocError>
     ensures { OnOk result (text.new.items ≡ text.old.items ++ row_svg row.now) }
 {
     text.extend_from_slice(row_begin())?;
     push_number(text, 10 * u128::from(row.y))?;
     text.extend_from_slice(b")\">\n")?;
-    push_uses(text, row.marks.as_slice())?;
+    push_line(text, alloc, row.marks.as_slice())?;
     text.extend_from_slice(b"</g>\n")
 }
 
 /// Adds rows.
-fn push_rows(text: &mut Vec<u8>, rows: &[Row]) -> Result<(), AllocError>
+fn push_rows(text: &mut Vec<u8>, alloc: Global, rows: &[Row]) -> Result<(), AllocError>
     ensures { OnOk result (text.new.items ≡ text.old.items ++ flat_map row_svg rows.now) }
 {
     for row in rows {
-        push_row(text, row)?;
+        push_row(text, alloc, row)?;
     }
     Ok(())
 }
 
 /// Adds the marks held at a distance, if there are any.
 #[tactic(auto, unfolding(crate::specs::Svg::held_svg))]
-fn push_held(text: &mut Vec<u8>, y: u128, held: &[Placed]) -> Result<(), AllocError>
+fn push_held(text: &mut Vec<u8>, alloc: Global, y: u128, held: &[Placed]) -> Result<(), AllocError>
     requires { y ≤ 18446744073709551657 }
     ensures { OnOk result (text.new.items ≡ text.old.items ++ held_svg y held.now) }
 {
@@ -73,41 +82,19 @@ fn push_held(text: &mut Vec<u8>, y: u128, held: &[Placed]) -> Result<(), AllocEr
     text.extend_from_slice(held_begin())?;
     push_number(text, 10 * y)?;
     text.extend_from_slice(b")\">\n")?;
-    push_uses(text, held)?;
+    push_line(text, alloc, held)?;
     text.extend_from_slice(b"</g>\n")
 }
 
-/// Adds the discs of a paper.
+/// Adds the marks of a paper.
 #[tactic(auto, unfolding(crate::specs::Svg::ink_svg))]
-fn push_ink(text: &mut Vec<u8>, paper: &Paper) -> Result<(), AllocError>
+fn push_ink(text: &mut Vec<u8>, alloc: Global, paper: &Paper) -> Result<(), AllocError>
     ensures { OnOk result (text.new.items ≡ text.old.items ++ ink_svg paper.now) }
 {
     let rows = paper.rows.as_slice();
     text.extend_from_slice(ink_begin())?;
-    push_rows(text, rows)?;
-    push_held(text, rows_end(rows) + 21, paper.held.as_slice())?;
-    text.extend_from_slice(b"</g>\n")
-}
-
-/// Adds the letters of rows.
-fn push_row_letters(text: &mut Vec<u8>, alloc: Global, rows: &[Row]) -> Result<(), AllocError>
-    ensures { OnOk result (text.new.items ≡ text.old.items ++ flat_map (λ r. letters_svg r.y r.marks) rows.now) }
-{
-    for row in rows {
-        push_letters(text, alloc, u128::from(row.y), row.marks.as_slice())?;
-    }
-    Ok(())
-}
-
-/// Adds the letters of a paper.
-#[tactic(auto, unfolding(crate::specs::Svg::paper_letters))]
-fn push_paper_letters(text: &mut Vec<u8>, alloc: Global, paper: &Paper) -> Result<(), AllocError>
-    ensures { OnOk result (text.new.items ≡ text.old.items ++ paper_letters paper.now) }
-{
-    let rows = paper.rows.as_slice();
-    text.extend_from_slice(letters_begin())?;
-    push_row_letters(text, alloc, rows)?;
-    push_letters(text, alloc, rows_end(rows) + 21, paper.held.as_slice())?;
+    push_rows(text, alloc, rows)?;
+    push_held(text, alloc, rows_end(rows) + 21, paper.held.as_slice())?;
     text.extend_from_slice(b"</g>\n")
 }
 
@@ -145,7 +132,7 @@ fn push_paper(text: &mut Vec<u8>, picas: u128) -> Result<(), AllocError>
     text.extend_from_slice(sheet_paper())?;
     push_number(text, 210 * picas)?;
     text.extend_from_slice(paper_folds())?;
-    push_number(text, 210 * picas.saturating_sub(3))?;
+    push_number(text, 210 * picas.saturating_sub(6))?;
     text.extend_from_slice(sheet_marks())
 }
 
@@ -164,8 +151,7 @@ fn push_sheet(
 {
     push_name_line(text, device, x)?;
     push_paper(text, picas)?;
-    push_ink(text, paper)?;
-    push_paper_letters(text, alloc, paper)?;
+    push_ink(text, alloc, paper)?;
     push_held_line(text, rows_end(paper.rows.as_slice()), paper.held.as_slice())?;
     text.extend_from_slice(sheet_end())
 }

@@ -1,10 +1,11 @@
 //! Marks by their names: where each is defined, and where it is used.
 
-ghost use Rattle.std.specs.Prelude.{◌≡◌, ◌<◌, ◌≤◌, [], ◌∷◌, ◌++◌, flat_map, map, OnOk, IfOk};
+ghost use Rattle.std.specs.Prelude.{◌≡◌, ◌*◌, ◌<◌, ◌≤◌, ◌++◌, flat_map, length, map, OnOk};
 ghost use Rattle.pr_dots.specs.Dots.{bit_dots, column_dots, columns_dots};
 ghost use Rattle.pr_render.specs.Svg.{definition_svg, disc_of, disc_svg, name_svg, number_of, use_svg};
 
-use crate::adding::{push_between, push_if, push_small};
+use crate::adding::{push_if, push_small};
+use crate::parts::{mark_begin, mark_path, use_begin, use_end, use_place};
 use pr_dots::columns;
 use pr_page::{Mark, Placed};
 use std::alloc::AllocError;
@@ -22,9 +23,9 @@ fn push_name(text: &mut Vec<u8>, mark: Mark) -> Result<(), AllocError>
             wide,
         } => {
             text.push(if lower { b'l' } else { b'u' })?;
-            push_small(text, u64::from(code))?;
             push_if(text, reverse, b"r")?;
-            push_if(text, wide, b"w")
+            push_if(text, wide, b"w")?;
+            push_small(text, u64::from(code))
         }
         Mark::Dots(value) => {
             text.push(b'd')?;
@@ -91,11 +92,11 @@ fn push_columns(text: &mut Vec<u8>, columns: &[u8]) -> Result<(), AllocError>
 pub fn push_definition(text: &mut Vec<u8>, mark: Mark) -> Result<(), AllocError>
     ensures { OnOk result (text.new.items ≡ text.old.items ++ definition_svg mark) }
 {
-    text.extend_from_slice(b"<path id=\"")?;
+    text.extend_from_slice(mark_begin())?;
     push_name(text, mark)?;
-    text.extend_from_slice(b"\" d=\"")?;
+    text.extend_from_slice(mark_path())?;
     push_columns(text, columns(mark).as_slice())?;
-    text.extend_from_slice(b"\"/>\n")
+    text.extend_from_slice(use_end())
 }
 
 /// A number for each mark: no two have the same.
@@ -119,14 +120,23 @@ pub fn number_of(mark: Mark) -> usize
     }
 }
 
-/// Adds a mark on its line.
-#[tactic(auto, unfolding(crate::specs::Svg::use_svg))]
-fn push_use(text: &mut Vec<u8>, placed: Placed) -> Result<(), AllocError>
-    ensures { OnOk result (text.new.items ≡ text.old.items ++ use_svg placed) }
+/// How far a dot column is from the first one, in units.
+fn across(x: u16) -> u64
+    ensures { result ≡ 21 * x }
 {
-    text.extend_from_slice(b"<use href=\"#")?;
-    push_name(text, placed.mark)?;
-    push_between(text, b"\" x=\"", 21 * u64::from(placed.x), b"\"/>\n")
+    21 * u64::from(x)
+}
+
+/// Adds a mark at a dot column.
+#[tactic(auto, unfolding(crate::specs::Svg::use_svg))]
+fn push_use(text: &mut Vec<u8>, x: u16, mark: Mark) -> Result<(), AllocError>
+    ensures { OnOk result (text.new.items ≡ text.old.items ++ use_svg (record { x = x; mark = mark })) }
+{
+    text.extend_from_slice(use_begin())?;
+    push_name(text, mark)?;
+    text.extend_from_slice(use_place())?;
+    push_small(text, across(x))?;
+    text.extend_from_slice(use_end())
 }
 
 /// Adds the marks of a line.
@@ -134,7 +144,7 @@ pub fn push_uses(text: &mut Vec<u8>, marks: &[Placed]) -> Result<(), AllocError>
     ensures { OnOk result (text.new.items ≡ text.old.items ++ flat_map use_svg marks.now) }
 {
     for placed in marks {
-        push_use(text, *placed)?;
+        push_use(text, placed.x, placed.mark)?;
     }
     Ok(())
 }

@@ -1,6 +1,7 @@
 //! Pictures and lines of papers that no run of the program gives.
 
 use pr_page::{Mark, Paper, Placed, Row, Sequence};
+use pr_render::laws::{discs_are_the_dots, lines_show_each_cell, names_tell_marks};
 use pr_render::{svg, text};
 use pr_serial::Present;
 use pr_system::Outcome;
@@ -29,9 +30,28 @@ const NONE: Present = Present {
 /// The beginning of a picture, up to its size.
 const BEGIN: &str = "<svg xmlns=\"http://www.w3.org/2000/svg\" version=\"1.1\" ";
 
-/// What stands between its size and the first sheet.
+/// What stands between its size and the definitions of marks.
 const ABOUT: &str =
-    " font-family=\"DejaVu Sans Mono,Menlo,Consolas,monospace\">\n<desc>Pages of VIC-1525 printers. Places, widths and dots are exact; the shapes of characters are those of the viewer's font.</desc>\n<pattern id=\"paper\" width=\"12600\" height=\"630\" patternUnits=\"userSpaceOnUse\"><rect width=\"12600\" height=\"630\" fill=\"#fff\"/><g fill=\"#e9e6df\" stroke=\"#b4afa2\" stroke-width=\"10\"><circle cx=\"315\" cy=\"315\" r=\"100\"/><circle cx=\"12285\" cy=\"315\" r=\"100\"/><path stroke-dasharray=\"35\" d=\"M630 0v630M11970 0v630\"/></g></pattern>\n<rect width=\"100%\" height=\"100%\" fill=\"#e9e6df\"/>\n";
+    ">\n<desc>Pages of VIC-1525 printers. Each dot is where a needle strikes; the shapes of characters are this project's own.</desc>\n<pattern id=\"paper\" width=\"12600\" height=\"630\" patternUnits=\"userSpaceOnUse\"><rect width=\"12600\" height=\"630\" fill=\"#fff\"/><g fill=\"#e9e6df\" stroke=\"#b4afa2\" stroke-width=\"10\"><circle cx=\"315\" cy=\"315\" r=\"100\"/><circle cx=\"12285\" cy=\"315\" r=\"100\"/><path stroke-dasharray=\"35\" d=\"M630 0v630M11970 0v630\"/></g></pattern>\n<pattern id=\"folds\" y=\"7560\" width=\"12600\" height=\"13860\" patternUnits=\"userSpaceOnUse\"><path stroke=\"#b4afa2\" stroke-width=\"10\" stroke-dasharray=\"70\" d=\"M0 6930h12600\"/></pattern>\n<rect width=\"100%\" height=\"100%\" fill=\"#e9e6df\"/>\n<defs>\n";
+
+/// The definition of `A`.
+const DEFINED_A: &str =
+    "<path stroke=\"#222\" id=\"u65\" d=\"M10 30h0M10 50h0M10 70h0M10 90h0M10 110h0M10 130h0M31 10h0M31 70h0M52 10h0M52 70h0M73 10h0M73 70h0M94 30h0M94 50h0M94 70h0M94 90h0M94 110h0M94 130h0\"/>\n";
+
+/// The definition of `a`.
+const DEFINED_SMALL_A: &str =
+    "<path stroke=\"#222\" id=\"l65\" d=\"M10 110h0M31 50h0M31 90h0M31 130h0M52 50h0M52 90h0M52 130h0M73 70h0M73 90h0M73 110h0M73 130h0M94 130h0\"/>\n";
+
+/// The definition of a wide reversed `W`.
+const DEFINED_EDGE: &str =
+    "<path stroke=\"#222\" id=\"urw87\" d=\"M52 10h0M52 30h0M52 50h0M52 70h0M52 90h0M52 130h0M73 10h0M73 30h0M73 50h0M73 70h0M73 90h0M73 130h0M94 10h0M94 30h0M94 50h0M94 110h0M94 130h0M115 10h0M115 30h0M115 50h0M115 110h0M115 130h0M136 10h0M136 30h0M136 50h0M136 70h0M136 90h0M136 130h0M157 10h0M157 30h0M157 50h0M157 70h0M157 90h0M157 130h0M220 10h0M220 30h0M220 50h0M220 70h0M220 90h0M220 110h0M220 130h0M241 10h0M241 30h0M241 50h0M241 70h0M241 90h0M241 110h0M241 130h0\"/>\n";
+
+/// The definitions of the other marks of `rows_by_their_distance`.
+const DEFINED_OTHERS: &str =
+    "<path stroke=\"#222\" id=\"d1\" d=\"M10 10h0\"/>\n<path stroke=\"#222\" id=\"u66\" d=\"M10 10h0M10 30h0M10 50h0M10 70h0M10 90h0M10 110h0M10 130h0M31 10h0M31 70h0M31 130h0M52 10h0M52 70h0M52 130h0M73 10h0M73 70h0M73 130h0M94 30h0M94 50h0M94 90h0M94 110h0\"/>\n<path stroke=\"#222\" id=\"u67\" d=\"M10 30h0M10 50h0M10 70h0M10 90h0M10 110h0M31 10h0M31 130h0M52 10h0M52 130h0M73 10h0M73 130h0M94 30h0M94 110h0\"/>\n";
+
+/// The end of the definitions.
+const DEFINED: &str = "</defs>\n";
 
 /// The size of a picture of one sheet of three half inches.
 const SIZE: &str = "width=\"66pc\" height=\"18pc\" viewBox=\"0 0 13860 3780\"";
@@ -44,34 +64,42 @@ const SECOND: &str = "<g transform=\"translate(13860 1050)\">\n";
 
 /// The sheet of printer 4 up to the marks of its only row.
 const FOUR_BEGIN: &str =
-    "<text font-size=\"210\" fill=\"#555\" y=\"-210\">Printer 4</text>\n<rect width=\"12600\" height=\"1890\" fill=\"url(#paper)\" stroke=\"#b4afa2\" stroke-width=\"10\"/>\n<g transform=\"translate(1260 630) scale(21 10)\" font-size=\"9.966\" shape-rendering=\"crispEdges\">\n<g transform=\"translate(0 14) scale(1 2)\">\n";
+    "<text font-size=\"210\" fill=\"#555\" y=\"-210\">Printer 4</text>\n<rect width=\"12600\" height=\"1890\" fill=\"url(#paper)\" stroke=\"#b4afa2\" stroke-width=\"10\"/>\n<rect y=\"1260\" width=\"12600\" height=\"630\" fill=\"url(#folds)\"/>\n<g transform=\"translate(1260 630)\">\n<g stroke-width=\"22\" stroke-linecap=\"round\" fill-opacity=\"0\" font-size=\"140\">\n<g transform=\"translate(0 0)\">\n";
 
-/// What stands behind the marks of that row.
-const FOUR_END: &str = "</g>\n</g>\n</g>\n";
+/// What stands behind them.
+const FOUR_END: &str = "</g>\n</g>\n</g>\n</g>\n";
 
 /// The sheet of printer 5, which holds an `a`.
 const FIVE_SHEET: &str =
-    "<text font-size=\"210\" fill=\"#555\" y=\"-210\">Printer 5</text>\n<rect width=\"12600\" height=\"1890\" fill=\"url(#paper)\" stroke=\"#b4afa2\" stroke-width=\"10\"/>\n<g transform=\"translate(1260 630) scale(21 10)\" font-size=\"9.966\" shape-rendering=\"crispEdges\">\n<g transform=\"translate(0 0) scale(1 2)\">\n<path shape-rendering=\"auto\" stroke=\"#a33\" stroke-dasharray=\"6\" d=\"M0 3h480\"/>\n<text font-size=\"6\" fill=\"#a33\" x=\"350\" y=\"10\">held by the printer, not yet printed</text>\n</g>\n<g opacity=\".4\">\n<g transform=\"translate(0 35) scale(1 2)\">\n<text x=\"0\" xml:space=\"preserve\" textLength=\"6\" lengthAdjust=\"spacingAndGlyphs\">a</text>\n</g>\n</g>\n</g>\n</g>\n";
+    "<text font-size=\"210\" fill=\"#555\" y=\"-210\">Printer 5</text>\n<rect width=\"12600\" height=\"1890\" fill=\"url(#paper)\" stroke=\"#b4afa2\" stroke-width=\"10\"/>\n<rect y=\"1260\" width=\"12600\" height=\"630\" fill=\"url(#folds)\"/>\n<g transform=\"translate(1260 630)\">\n<g stroke-width=\"22\" stroke-linecap=\"round\" fill-opacity=\"0\" font-size=\"140\">\n<g opacity=\".4\" transform=\"translate(0 210)\">\n<use href=\"#l65\" x=\"0\"/>\n<text x=\"0\" y=\"140\" textLength=\"126\" lengthAdjust=\"spacingAndGlyphs\" xml:space=\"preserve\">a</text>\n</g>\n</g>\n<g transform=\"translate(0 0)\">\n<path stroke=\"#a33\" stroke-width=\"20\" stroke-dasharray=\"126\" d=\"M0 60h10080\"/>\n<text font-size=\"120\" fill=\"#a33\" x=\"7350\" y=\"200\">held by the printer, not yet printed</text>\n</g>\n</g>\n</g>\n";
 
 /// What stands below the sheets.
 const BELOW: &str =
     "<text font-size=\"210\" fill=\"#555\" transform=\"translate(630 3150)\">\n</text>\n</svg>\n";
 
-/// A letter A.
-const A: &str =
-    "<text x=\"0\" xml:space=\"preserve\" textLength=\"6\" lengthAdjust=\"spacingAndGlyphs\">A</text>\n";
+/// An `A` as it is drawn, and as it is searched for.
+const A: &str = "<use href=\"#u65\" x=\"0\"/>\n";
 
-/// A reversed W over the edge of the paper.
-const EDGE: &str =
-    "<rect x=\"474\" y=\"-7\" width=\"12\" height=\"7\"/>\n<text fill=\"#fff\" transform=\"translate(474 -1) scale(2 .8)\" xml:space=\"preserve\" textLength=\"6\" lengthAdjust=\"spacingAndGlyphs\">W</text>\n";
+const LETTER_A: &str =
+    "<text x=\"0\" y=\"140\" textLength=\"126\" lengthAdjust=\"spacingAndGlyphs\" xml:space=\"preserve\">A</text>\n";
+
+/// A reversed `W` over the edge of the paper, likewise.
+const EDGE: &str = "<use href=\"#urw87\" x=\"9954\"/>\n";
+
+const LETTER_EDGE: &str =
+    "<text x=\"9954\" y=\"140\" textLength=\"252\" lengthAdjust=\"spacingAndGlyphs\" xml:space=\"preserve\">W</text>\n";
 
 /// The sheet with rows at several distances, and what stands below it.
 const DISTANCES: &str =
-    "<text font-size=\"210\" fill=\"#555\" y=\"-210\">Printer 4</text>\n<rect width=\"12600\" height=\"3150\" fill=\"url(#paper)\" stroke=\"#b4afa2\" stroke-width=\"10\"/>\n<g transform=\"translate(1260 630) scale(21 10)\" font-size=\"9.966\" shape-rendering=\"crispEdges\">\n<g transform=\"translate(0 35) scale(1 2)\">\n<text x=\"0\" xml:space=\"preserve\" textLength=\"6\" lengthAdjust=\"spacingAndGlyphs\">A</text>\n</g>\n<g transform=\"translate(0 56) scale(1 2)\">\n</g>\n<g transform=\"translate(0 70) scale(1 2)\">\n<path stroke=\"#000\" d=\"M0.5-7v1\"/>\n</g>\n<g transform=\"translate(0 132) scale(1 2)\">\n<text x=\"6\" xml:space=\"preserve\" textLength=\"6\" lengthAdjust=\"spacingAndGlyphs\">B</text>\n</g>\n<g transform=\"translate(0 174) scale(1 2)\">\n<text x=\"12\" xml:space=\"preserve\" textLength=\"6\" lengthAdjust=\"spacingAndGlyphs\">C</text>\n</g>\n</g>\n</g>\n<text font-size=\"210\" fill=\"#555\" transform=\"translate(630 4410)\">\n</text>\n</svg>\n";
+    "<text font-size=\"210\" fill=\"#555\" y=\"-210\">Printer 4</text>\n<rect width=\"12600\" height=\"3150\" fill=\"url(#paper)\" stroke=\"#b4afa2\" stroke-width=\"10\"/>\n<rect y=\"1260\" width=\"12600\" height=\"1890\" fill=\"url(#folds)\"/>\n<g transform=\"translate(1260 630)\">\n<g stroke-width=\"22\" stroke-linecap=\"round\" fill-opacity=\"0\" font-size=\"140\">\n<g transform=\"translate(0 210)\">\n<use href=\"#u65\" x=\"0\"/>\n<text x=\"0\" y=\"140\" textLength=\"126\" lengthAdjust=\"spacingAndGlyphs\" xml:space=\"preserve\">A</text>\n</g>\n<g transform=\"translate(0 420)\">\n</g>\n<g transform=\"translate(0 560)\">\n<use href=\"#d1\" x=\"0\"/>\n</g>\n<g transform=\"translate(0 1180)\">\n<use href=\"#u66\" x=\"126\"/>\n<text x=\"126\" y=\"140\" textLength=\"126\" lengthAdjust=\"spacingAndGlyphs\" xml:space=\"preserve\">B</text>\n</g>\n<g transform=\"translate(0 1600)\">\n<use href=\"#u67\" x=\"252\"/>\n<text x=\"252\" y=\"140\" textLength=\"126\" lengthAdjust=\"spacingAndGlyphs\" xml:space=\"preserve\">C</text>\n</g>\n</g>\n</g>\n</g>\n<text font-size=\"210\" fill=\"#555\" transform=\"translate(630 4410)\">\n</text>\n</svg>\n";
+
+/// Two empty sheets, and what stands below them.
+const EMPTY: &str =
+    "<g transform=\"translate(630 1050)\">\n<text font-size=\"210\" fill=\"#555\" y=\"-210\">Printer 4</text>\n<rect width=\"12600\" height=\"1260\" fill=\"url(#paper)\" stroke=\"#b4afa2\" stroke-width=\"10\"/>\n<rect y=\"1260\" width=\"12600\" height=\"0\" fill=\"url(#folds)\"/>\n<g transform=\"translate(1260 630)\">\n<g stroke-width=\"22\" stroke-linecap=\"round\" fill-opacity=\"0\" font-size=\"140\">\n</g>\n</g>\n</g>\n<g transform=\"translate(13860 1050)\">\n<text font-size=\"210\" fill=\"#555\" y=\"-210\">Printer 5</text>\n<rect width=\"12600\" height=\"1260\" fill=\"url(#paper)\" stroke=\"#b4afa2\" stroke-width=\"10\"/>\n<rect y=\"1260\" width=\"12600\" height=\"0\" fill=\"url(#folds)\"/>\n<g transform=\"translate(1260 630)\">\n<g stroke-width=\"22\" stroke-linecap=\"round\" fill-opacity=\"0\" font-size=\"140\">\n</g>\n</g>\n</g>\n<text font-size=\"210\" fill=\"#555\" transform=\"translate(630 2520)\">\n</text>\n</svg>\n";
 
 /// The end of the picture of `each_growth_refused`.
 const GROWN: &str =
-    "<text x=\"0\" xml:space=\"preserve\" textLength=\"12\" lengthAdjust=\"spacingAndGlyphs\">AB</text>\n</g>\n</g>\n</g>\n</g>\n<text font-size=\"210\" fill=\"#555\" transform=\"translate(630 3150)\">\n</text>\n</svg>\n";
+    "<text x=\"0\" y=\"140\" textLength=\"252\" lengthAdjust=\"spacingAndGlyphs\" xml:space=\"preserve\">AB</text>\n</g>\n</g>\n<g transform=\"translate(0 0)\">\n<path stroke=\"#a33\" stroke-width=\"20\" stroke-dasharray=\"126\" d=\"M0 60h10080\"/>\n<text font-size=\"120\" fill=\"#a33\" x=\"7350\" y=\"200\">held by the printer, not yet printed</text>\n</g>\n</g>\n</g>\n<text font-size=\"210\" fill=\"#555\" transform=\"translate(630 3150)\">\n</text>\n</svg>\n";
 
 /// A cell, neither reversed nor wide.
 const fn cell(x: u16, code: u8, lower: bool) -> Placed {
@@ -164,10 +192,13 @@ fn rows_by_their_distance(rt: HostRuntime) {
             BEGIN,
             "width=\"66pc\" height=\"24pc\" viewBox=\"0 0 13860 5040\"",
             ABOUT,
+            DEFINED_A,
+            DEFINED_OTHERS,
+            DEFINED,
             FIRST,
             DISTANCES,
         ],
-        "Printer 4\n|\n|A\n|\n|\u{2591}\n|\n| B\n|\n|  C\n",
+        "Printer 4\n\nA\n\n\u{2591}\n\n B\n\n  C\n",
     );
 }
 
@@ -188,8 +219,20 @@ fn wide_cell_at_the_edge(rt: HostRuntime) {
         &rt,
         &outcome,
         FOUR,
-        &[BEGIN, SIZE, ABOUT, FIRST, FOUR_BEGIN, EDGE, FOUR_END, BELOW],
-        "Printer 4\n|                                                                               W\n",
+        &[
+            BEGIN,
+            SIZE,
+            ABOUT,
+            DEFINED_EDGE,
+            DEFINED,
+            FIRST,
+            FOUR_BEGIN,
+            EDGE,
+            LETTER_EDGE,
+            FOUR_END,
+            BELOW,
+        ],
+        "Printer 4\n                                                                               W\n",
     );
 }
 
@@ -203,20 +246,71 @@ fn printers_that_are_there(rt: HostRuntime) {
         (
             BOTH,
             &[
-                BEGIN, WIDE, ABOUT, FIRST, FOUR_BEGIN, A, FOUR_END, SECOND, FIVE_SHEET, BELOW,
+                BEGIN,
+                WIDE,
+                ABOUT,
+                DEFINED_A,
+                DEFINED_SMALL_A,
+                DEFINED,
+                FIRST,
+                FOUR_BEGIN,
+                A,
+                LETTER_A,
+                FOUR_END,
+                SECOND,
+                FIVE_SHEET,
+                BELOW,
             ],
-            "Printer 4\n|A\nPrinter 5\n:a\n",
+            "Printer 4\nA\nPrinter 5\nHeld, not yet printed:\na\n",
         ),
         (
             FIVE,
-            &[BEGIN, SIZE, ABOUT, FIRST, FIVE_SHEET, BELOW],
-            "Printer 5\n:a\n",
+            &[
+                BEGIN,
+                SIZE,
+                ABOUT,
+                DEFINED_SMALL_A,
+                DEFINED,
+                FIRST,
+                FIVE_SHEET,
+                BELOW,
+            ],
+            "Printer 5\nHeld, not yet printed:\na\n",
         ),
-        (NONE, &[BEGIN, SIZE, ABOUT, BELOW], ""),
+        (NONE, &[BEGIN, SIZE, ABOUT, DEFINED, BELOW], ""),
     ];
     for (present, parts, lines) in rows {
         shows(&rt, &outcome, present, parts, lines);
     }
+}
+
+/// A printer that is there and printed nothing has a sheet only if no other has one.
+#[test]
+fn printers_that_printed_nothing(rt: HostRuntime) {
+    const TWO: &str = "width=\"129pc\" height=\"15pc\" viewBox=\"0 0 27090 3150\"";
+    let paper4 = paper(&rt, &[(0, &[cell(0, 65, false)])]);
+    let outcome = printed(&rt, paper4, Sequence::new(rt.alloc()));
+    let parts = [
+        BEGIN, SIZE, ABOUT, DEFINED_A, DEFINED, FIRST, FOUR_BEGIN, A, LETTER_A, FOUR_END, BELOW,
+    ];
+    shows(&rt, &outcome, BOTH, &parts, "Printer 4\nA\nPrinter 5\n");
+    let nothing = holding(&rt, Sequence::new(rt.alloc()));
+    let outcome = printed(&rt, nothing, Sequence::new(rt.alloc()));
+    shows(
+        &rt,
+        &outcome,
+        BOTH,
+        &[BEGIN, TWO, ABOUT, DEFINED, EMPTY],
+        "Printer 4\nPrinter 5\n",
+    );
+}
+
+/// The laws, with nothing to run.
+#[test]
+fn laws(_rt: HostRuntime) {
+    discs_are_the_dots();
+    lines_show_each_cell();
+    names_tell_marks();
 }
 
 /// How many calls are refused memory. Each other one gives what it gives with ample memory.
@@ -229,7 +323,9 @@ fn refusals(rt: &(impl Abort + AllocGlobal), outcome: &Outcome) -> usize {
         Err(_refused) => refused = 1,
     }
     match said {
-        Ok(lines) => assert!(rt; lines.as_slice() == "Printer 4\n:AB\n".as_bytes()),
+        Ok(lines) => assert!(rt;
+            lines.as_slice() == "Printer 4\nHeld, not yet printed:\nAB\n".as_bytes()
+        ),
         Err(_refused) => refused += 1,
     }
     refused

@@ -1,0 +1,70 @@
+-- Laws: what a picture's elements draw, and what a line shows, said without the folds of Svg.antt and Plain.antt. src/laws.rt proves them.
+use Rattle.std.specs.Prelude.{◌≡◌, ℕ, ◌+◌, ◌*◌, ◌/◌, ◌<◌, Bool, true, false, not, List, [], ◌∷◌, ◌++◌, ◌==◌, ◌&&◌, ◌||◌, nat_lt, codes, encode_utf8, flat_map, length, map, slice_index_or, if◌then◌else◌}
+use Rattle.std.specs.List.{list_all}
+use Rattle.pr_page.specs.declared.paper.Placed.{Placed}
+use Rattle.pr_page.specs.declared.paper.Paper.{Paper}
+use Rattle.pr_page.specs.declared.paper.Mark.{Mark}
+use Rattle.pr_page.specs.declared.paper.Mark.TheVariants.{Cell, Dots}
+use Rattle.pr_dots.specs.Dots.{dots_of}
+use Rattle.pr_render.specs.Characters.{character}
+use Rattle.pr_render.specs.Plain.{line_text, shown}
+use Rattle.pr_render.specs.Words.{is_blank}
+use Rattle.pr_render.specs.Svg.{Disc, disc_of, each_once, mark_discs, marks_of, name_svg}
+
+-- the code or the value of a mark is a byte
+abbrev pub is_of_bytes : Mark → Bool
+is_of_bytes (Cell code lower reverse wide) = nat_lt code 256
+is_of_bytes (Dots value) = nat_lt value 256
+
+-- two texts are the same
+abbrev pub same_text : List ℕ → List ℕ → Bool
+same_text [] [] = true
+same_text [] (b ∷ more) = false
+same_text (a ∷ rest) [] = false
+same_text (a ∷ rest) (b ∷ more) = a == b && same_text rest more
+
+-- a disc so far to the right and so far down
+abbrev pub moved : (across down : ℕ) → Disc → Disc
+moved across down disc = record { across = across + disc.across; down = down + disc.down }
+
+-- what an element draws that uses a name: the discs of every definition of that name, moved
+abbrev pub used_discs : List Mark → (across down : ℕ) → List ℕ → List Disc
+used_discs definitions across down name =
+    flat_map (λ d. if same_text (name_svg d) name then map (moved across down) (mark_discs d) else []) definitions
+
+-- what the elements of a paper's rows draw, each in its row's group
+abbrev pub paper_discs : List Mark → Paper → List Disc
+paper_discs definitions paper =
+    flat_map (λ r. flat_map (λ p. used_discs definitions (21 * p.x) (10 * r.y) (name_svg p.mark)) r.marks) paper.rows
+
+-- where the marks of a paper are among those defined, its elements draw a disc for each dot of the paper, and no other disc
+abbrev pub DiscsAreTheDots : Type 0
+DiscsAreTheDots =
+    (before : List Mark) (paper : Paper) (after : List Mark) → list_all is_of_bytes (before ++ (marks_of paper ++ after)) ≡ true
+    → paper_discs (each_once (before ++ (marks_of paper ++ after))) paper ≡ map disc_of (dots_of paper)
+
+-- different marks have different names
+abbrev pub NamesTellMarks : Type 0
+NamesTellMarks = (m n : Mark) → is_of_bytes m ≡ true → is_of_bytes n ≡ true → name_svg m ≡ name_svg n → m ≡ n
+
+-- a line's text has a character at a column, counted from 0
+pub record HasAt (column u : ℕ) (text : List ℕ) : Type 0 where
+  pub characters : List ℕ
+  pub spells : text ≡ flat_map encode_utf8 characters ++ codes "\n"
+  pub within : column < length characters
+  pub at : slice_index_or characters column 0 ≡ u
+
+-- a mark may change a column: that of its place, and also the next one if it is a wide cell
+abbrev pub reaches : ℕ → ℕ → Mark → Bool
+reaches column place (Cell code lower reverse wide) = column == place || (wide && column == place + 1)
+reaches column place (Dots value) = column == place
+
+-- a cell shows its character, or a full block where it is a reversed blank, at the column of its place, if no later mark of its
+-- line reaches that column
+abbrev pub LinesShowEachCell : Type 0
+LinesShowEachCell =
+    (before : List Placed) (x code : ℕ) (lower reverse wide : Bool) (after : List Placed)
+    → (reverse || not (is_blank (character lower code))) ≡ true → x / 6 < 80
+    → list_all (λ q. not (reaches (x / 6) (q.x / 6) q.mark)) after ≡ true
+    → HasAt (x / 6) (shown reverse (character lower code))
+    (line_text (before ++ record { x = x; mark = Cell code lower reverse wide } ∷ after))
