@@ -98,16 +98,16 @@ mark_joined height placed (run ∷ runs) = by (goes_on placed run) refl
     regrouped a b c d p = rw p (append_assoc a c d)
 
     by : (on : Bool) → goes_on placed run ≡ on
-        → string_discs (42 * placed.x) height (font_of placed.mark) (code_of placed.mark ∷ cond on run.codes []) ++ flat_map (run_discs height) (cond on runs (run ∷ runs))
+        → string_discs (42 * placed.x) height (font_of placed.mark) (code_of placed.mark ∷ cond on run.string []) ++ flat_map (run_discs height) (cond on runs (run ∷ runs))
         ≡ map (moved (42 * placed.x) height) (glyph_discs (mark_of (font_of placed.mark) (code_of placed.mark))) ++ (run_discs height run ++ flat_map (run_discs height) runs)
     by true on =
         let parts = and_parts (font_of placed.mark == run.font) (end_of placed == run.x) on in
         let font : font_of placed.mark ≡ run.font = eqb-true (font_of placed.mark) run.font parts.0 in
         let end : end_of placed ≡ run.x = eqb-true (end_of placed) run.x parts.1 in
         regrouped (map (moved (42 * placed.x) height) (glyph_discs (mark_of (font_of placed.mark) (code_of placed.mark))))
-        (string_discs (42 * placed.x + 42 * font_columns (font_of placed.mark)) height (font_of placed.mark) run.codes) (run_discs height run)
+        (string_discs (42 * placed.x + 42 * font_columns (font_of placed.mark)) height (font_of placed.mark) run.string) (run_discs height run)
         (flat_map (run_discs height) runs)
-        (same (42 * placed.x + 42 * font_columns (font_of placed.mark)) (42 * run.x) (font_of placed.mark) run.font run.codes (omega (arith, end)) font)
+        (same (42 * placed.x + 42 * font_columns (font_of placed.mark)) (42 * run.x) (font_of placed.mark) run.font run.string (omega (arith, end)) font)
     by false on = regrouped (map (moved (42 * placed.x) height) (glyph_discs (mark_of (font_of placed.mark) (code_of placed.mark)))) [] [] (run_discs height run ++ flat_map (run_discs height) runs) refl
 
 -- what the runs of marks draw
@@ -125,10 +125,11 @@ row_draws sheet row on = runs_draw sheet row.y row.marks (above row sheet on)
 -- what a sheet draws
 pub sheets_draw : (rows : List Row) (sheet : ℕ) → sheet_discs rows sheet ≡ map (disc_on sheet) (flat_map row_dots (filter (is_on sheet) rows))
 sheets_draw [] sheet = refl
-sheets_draw (row ∷ rows) sheet = by (is_on sheet row) refl
+sheets_draw (row ∷ rows) sheet = by (is_on sheet row) refl (sheets_draw rows sheet)
   where
     by : (on : Bool) → is_on sheet row ≡ on
+        → sheet_discs rows sheet ≡ map (disc_on sheet) (flat_map row_dots (filter (is_on sheet) rows))
         → flat_map (row_discs sheet) (cond on (row ∷ filter (is_on sheet) rows) (filter (is_on sheet) rows))
         ≡ map (disc_on sheet) (flat_map row_dots (cond on (row ∷ filter (is_on sheet) rows) (filter (is_on sheet) rows)))
-    by true on = grind (arith, common_steps, row_draws sheet row on, sheets_draw rows sheet)
-    by false on = sheets_draw rows sheet
+    by true on rest = grind (arith, common_steps, row_draws sheet row on, rest)
+    by false on rest = rest

@@ -47,15 +47,16 @@ marks_off sheet y (p ∷ ps) not_on =
 -- rows that are not on a sheet can be left out
 rows_have : (sheet : ℕ) (rows : List Row) → filter (is_in sheet) (flat_map row_dots (filter (is_on sheet) rows)) ≡ filter (is_in sheet) (flat_map row_dots rows)
 rows_have sheet [] = refl
-rows_have sheet (row ∷ rows) = by (is_on sheet row) refl
+rows_have sheet (row ∷ rows) = by (is_on sheet row) refl (rows_have sheet rows)
   where
     by : (on : Bool) → is_on sheet row ≡ on
+        → filter (is_in sheet) (flat_map row_dots (filter (is_on sheet) rows)) ≡ filter (is_in sheet) (flat_map row_dots rows)
         → filter (is_in sheet) (flat_map row_dots (cond on (row ∷ filter (is_on sheet) rows) (filter (is_on sheet) rows)))
         ≡ filter (is_in sheet) (row_dots row ++ flat_map row_dots rows)
-    by true on =
-        rw (filter_append (is_in sheet) (row_dots row) (flat_map row_dots (filter (is_on sheet) rows)), filter_append (is_in sheet) (row_dots row) (flat_map row_dots rows), rows_have sheet rows) refl
-    by false on =
-        rw (filter_append (is_in sheet) (row_dots row) (flat_map row_dots rows), marks_off sheet row.y row.marks on) (rows_have sheet rows)
+    by true on rest =
+        rw (filter_append (is_in sheet) (row_dots row) (flat_map row_dots (filter (is_on sheet) rows)), filter_append (is_in sheet) (row_dots row) (flat_map row_dots rows), rest) refl
+    by false on rest =
+        rw (filter_append (is_in sheet) (row_dots row) (flat_map row_dots rows), marks_off sheet row.y row.marks on) rest
 
 -- of a paper
 pub sheets_have : (paper : Paper) (sheet : ℕ) → filter (is_in sheet) (flat_map row_dots (filter (is_on sheet) paper.rows)) ≡ filter (is_in sheet) (dots_of paper)

@@ -17,7 +17,7 @@ string_discs across up font (code ∷ codes) =
 
 -- what a run draws at a height
 abbrev pub run_discs : ℕ → Run → List Disc
-run_discs height run = string_discs (42 * run.x) height run.font run.codes
+run_discs height run = string_discs (42 * run.x) height run.font run.string
 
 -- what a row draws on a sheet
 abbrev pub row_discs : ℕ → Row → List Disc

@@ -44,16 +44,16 @@ pub record HasBodies (bodies : List (List ℕ)) (document : Document) : Type 0 w
   pub places : document.places.items ≡ places_of bodies
 
 -- objects are added to those that there are
-abbrev pub Adds : List (List ℕ) → Document → Document → Type 0
-Adds more old new = (bodies : List (List ℕ)) → HasBodies bodies old → HasBodies (bodies ++ more) new
+pub record Adds (more : List (List ℕ)) (old new : Document) : Type 0 where
+  pub has : (bodies : List (List ℕ)) → HasBodies bodies old → HasBodies (bodies ++ more) new
 
 -- a file, or why there is none
 abbrev pub IsFile : List ℕ → Result (Vec ℕ Global) PdfFault → Type 0
 IsFile file result = MatchResult result (λ v. (v.items ≡ file) × (length file ≤ file_limit)) (λ fault. fault ≡ TooLarge → file_limit < length file)
 
 -- with these objects a document is longer than a file may be
-abbrev pub IsPast : List (List ℕ) → Document → Type 0
-IsPast more old = (bodies : List (List ℕ)) → HasBodies bodies old → file_limit < length (front_pdf (bodies ++ more))
+pub record IsPast (more : List (List ℕ)) (old : Document) : Type 0 where
+  pub past : (bodies : List (List ℕ)) → HasBodies bodies old → file_limit < length (front_pdf (bodies ++ more))
 
 -- P holds if a result is this error
 abbrev pub OnErrOf : {X : Type 0} → Result X PdfFault → PdfFault → Type 0 → Type 0

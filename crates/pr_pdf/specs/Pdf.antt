@@ -30,7 +30,7 @@ places_from place (text ∷ texts) = place ∷ places_from (place + length text)
 
 -- where each object begins
 abbrev pub places_of : List (List ℕ) → List ℕ
-places_of bodies = places_from 9 (objects_from 1 bodies)
+places_of bodies = places_from (length header) (objects_from 1 bodies)
 
 -- a place in ten digits
 unfoldable pub place_pdf : ℕ → List ℕ

@@ -6,11 +6,11 @@ use Rattle.pr_pdf.specs.Fonts.{code_of, font_columns, font_name, font_of}
 use Rattle.pr_pdf.specs.Parts.{run_codes, run_end, run_place, sheet_begin, sheet_end}
 use Rattle.pr_pdf.specs.Words.{hex_2, numbers_from}
 
--- a run: marks side by side of one font, from a dot column on
+-- a run: marks side by side of one font, from a dot column on, as a string of their codes
 pub record Run : Type 0 where
   pub x : ℕ
   pub font : ℕ
-  pub codes : List ℕ
+  pub string : List ℕ
 
 -- where a mark ends, in dot columns
 abbrev pub end_of : Placed → ℕ
@@ -23,7 +23,7 @@ goes_on placed run = font_of placed.mark == run.font && end_of placed == run.x
 -- the codes that a mark's run has from the first run of the marks after it
 abbrev pub codes_taken : Placed → List Run → List ℕ
 codes_taken placed [] = []
-codes_taken placed (run ∷ runs) = if goes_on placed run then run.codes else []
+codes_taken placed (run ∷ runs) = if goes_on placed run then run.string else []
 
 -- the runs that stay
 abbrev pub runs_left : Placed → List Run → List Run
@@ -33,7 +33,7 @@ runs_left placed (run ∷ runs) = if goes_on placed run then runs else run ∷ r
 -- a mark in front of the runs of the marks after it
 abbrev pub joined : Placed → List Run → List Run
 joined placed runs =
-    record { x = placed.x; font = font_of placed.mark; codes = code_of placed.mark ∷ codes_taken placed runs } ∷ runs_left placed runs
+    record { x = placed.x; font = font_of placed.mark; string = code_of placed.mark ∷ codes_taken placed runs } ∷ runs_left placed runs
 
 -- the runs of marks
 abbrev pub runs_of : List Placed → List Run
@@ -47,7 +47,7 @@ run_begin height font x =
 
 -- a run on a base line at a height, as a string of its codes
 abbrev pub run_pdf : ℕ → Run → List ℕ
-run_pdf height run = run_begin height run.font run.x ++ flat_map hex_2 run.codes ++ run_end
+run_pdf height run = run_begin height run.font run.x ++ flat_map hex_2 run.string ++ run_end
 
 -- how high the base line of a row is on a sheet, above a place 14/126 inch below the sheet's lower edge. Sheets are counted from 0
 abbrev pub height_on : (sheet y : ℕ) → ℕ
