@@ -10,35 +10,16 @@ returns-in_err-read_block-clause-report g c =
     gives_none _ _ (g.R.Read.remaining c.pieces.input.inner) _ _ c.pieces.reader (λ edges. HasReported c.args.report edges c.pieces.frames) c.from_residual.result c.in_err-read_block.field-0.0 c.pieces.invariant.read
     c.from_residual.ensures.1 c.in_err-read_block.ensures.own (λ is. c.in_err-read_block.ensures.large (rw is refl))
 
-pub returns-then-not-branch-clause-report : goal.returns-then-not-branch-clause-report
-returns-then-not-branch-clause-report g c =
+pub returns-then-not-branch : goal.returns-then-not-branch
+returns-then-not-branch g c =
     let start = g.R.Read.remaining c.args.input.now.inner in
     let now = g.R.Read.remaining c.read_block.new.input.inner in
     let ended : c.in_ok-read_block.field-0 ≡ false = search rules in
     let stops : StopsWell false now c.read_block.new.self = rw ended at c.in_ok-read_block.ensures.stops in
-    (ends_well c.args.limit start now c.args.trace c.args.report c.read_block.new.self c.pieces.frames c.in_ok-last_report.field-0
+    let last = ends_well c.args.limit start now c.args.trace c.args.report c.read_block.new.self c.pieces.frames c.in_ok-last_report.field-0
     (before_taken c.args.limit start (g.R.Read.remaining c.pieces.input.inner) now c.args.trace c.pieces.reader c.read_block.new.self (λ edges. HasReported c.args.report edges c.pieces.frames) c.pieces.invariant.read c.in_ok-read_block.ensures.read)
-    stops c.in_ok-last_report.ensures).gives
-
-pub returns-then-not-branch-clause-at_end : goal.returns-then-not-branch-clause-at_end
-returns-then-not-branch-clause-at_end g c =
-    let start = g.R.Read.remaining c.args.input.now.inner in
-    let now = g.R.Read.remaining c.read_block.new.input.inner in
-    let ended : c.in_ok-read_block.field-0 ≡ false = search rules in
-    let stops : StopsWell false now c.read_block.new.self = rw ended at c.in_ok-read_block.ensures.stops in
-    (ends_well c.args.limit start now c.args.trace c.args.report c.read_block.new.self c.pieces.frames c.in_ok-last_report.field-0
-    (before_taken c.args.limit start (g.R.Read.remaining c.pieces.input.inner) now c.args.trace c.pieces.reader c.read_block.new.self (λ edges. HasReported c.args.report edges c.pieces.frames) c.pieces.invariant.read c.in_ok-read_block.ensures.read)
-    stops c.in_ok-last_report.ensures).at_end
-
-pub returns-then-not-branch-clause-refused : goal.returns-then-not-branch-clause-refused
-returns-then-not-branch-clause-refused g c =
-    let start = g.R.Read.remaining c.args.input.now.inner in
-    let now = g.R.Read.remaining c.read_block.new.input.inner in
-    let ended : c.in_ok-read_block.field-0 ≡ false = search rules in
-    let stops : StopsWell false now c.read_block.new.self = rw ended at c.in_ok-read_block.ensures.stops in
-    (ends_well c.args.limit start now c.args.trace c.args.report c.read_block.new.self c.pieces.frames c.in_ok-last_report.field-0
-    (before_taken c.args.limit start (g.R.Read.remaining c.pieces.input.inner) now c.args.trace c.pieces.reader c.read_block.new.self (λ edges. HasReported c.args.report edges c.pieces.frames) c.pieces.invariant.read c.in_ok-read_block.ensures.read)
-    stops c.in_ok-last_report.ensures).refused
+    stops c.in_ok-last_report.ensures in
+    record { report = last.gives; at_end = last.at_end; refused = last.refused; own = search rules; failed = search rules }
 
 pub pieces-preserved : goal.pieces-preserved
 pieces-preserved g c =

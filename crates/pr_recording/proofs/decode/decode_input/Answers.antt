@@ -49,44 +49,8 @@ write_end-requires-clause-stop g c =
     let before = told_before c.args.limit start (g.R.Read.remaining c.pieces.input.inner) now old mid c.args.trace c.pieces.reader c.read_block.new.self c.pieces.report c.pieces.invariant.read c.in_ok-read_block.ensures.read in
     no_write c.in_ok-end_input.field-0.stop (last_stop c.args.limit start now old mid c.args.trace c.read_block.new.self c.pieces.report c.in_ok-end_input.field-0 before c.in_ok-end_input.ensures)
 
-pub returns-then-not-branch-clause-decode : goal.returns-then-not-branch-clause-decode
-returns-then-not-branch-clause-decode g c =
-    let start = g.R.Read.remaining c.args.input.now.inner in
-    let now = g.R.Read.remaining c.read_block.new.input.inner in
-    let old = g.W.Write.contents c.args.output.now.inner in
-    let mid = g.W.Write.contents c.pieces.output.inner in
-    let ended : c.in_ok-read_block.field-0 ≡ false = search rules in
-    let stops : StopsWell false now c.read_block.new.self = rw ended at c.in_ok-read_block.ensures.stops in
-    let before = told_before c.args.limit start (g.R.Read.remaining c.pieces.input.inner) now old mid c.args.trace c.pieces.reader c.read_block.new.self c.pieces.report c.pieces.invariant.read c.in_ok-read_block.ensures.read in
-    (at_last c.args.limit start now old mid (g.W.Write.contents c.write_end.new.output.inner) c.args.trace c.read_block.new.self c.pieces.report c.in_ok-end_input.field-0 c.write_end.result before stops c.in_ok-end_input.ensures
-    c.write_end.ensures.written).decode
-
-pub returns-then-not-branch-clause-at_end : goal.returns-then-not-branch-clause-at_end
-returns-then-not-branch-clause-at_end g c =
-    let start = g.R.Read.remaining c.args.input.now.inner in
-    let now = g.R.Read.remaining c.read_block.new.input.inner in
-    let old = g.W.Write.contents c.args.output.now.inner in
-    let mid = g.W.Write.contents c.pieces.output.inner in
-    let ended : c.in_ok-read_block.field-0 ≡ false = search rules in
-    let stops : StopsWell false now c.read_block.new.self = rw ended at c.in_ok-read_block.ensures.stops in
-    let before = told_before c.args.limit start (g.R.Read.remaining c.pieces.input.inner) now old mid c.args.trace c.pieces.reader c.read_block.new.self c.pieces.report c.pieces.invariant.read c.in_ok-read_block.ensures.read in
-    (at_last c.args.limit start now old mid (g.W.Write.contents c.write_end.new.output.inner) c.args.trace c.read_block.new.self c.pieces.report c.in_ok-end_input.field-0 c.write_end.result before stops c.in_ok-end_input.ensures
-    c.write_end.ensures.written).at_end
-
-pub returns-then-not-branch-clause-own : goal.returns-then-not-branch-clause-own
-returns-then-not-branch-clause-own g c =
-    let start = g.R.Read.remaining c.args.input.now.inner in
-    let now = g.R.Read.remaining c.read_block.new.input.inner in
-    let old = g.W.Write.contents c.args.output.now.inner in
-    let mid = g.W.Write.contents c.pieces.output.inner in
-    let ended : c.in_ok-read_block.field-0 ≡ false = search rules in
-    let stops : StopsWell false now c.read_block.new.self = rw ended at c.in_ok-read_block.ensures.stops in
-    let before = told_before c.args.limit start (g.R.Read.remaining c.pieces.input.inner) now old mid c.args.trace c.pieces.reader c.read_block.new.self c.pieces.report c.pieces.invariant.read c.in_ok-read_block.ensures.read in
-    (at_last c.args.limit start now old mid (g.W.Write.contents c.write_end.new.output.inner) c.args.trace c.read_block.new.self c.pieces.report c.in_ok-end_input.field-0 c.write_end.result before stops c.in_ok-end_input.ensures
-    c.write_end.ensures.written).own
-
-pub returns-then-not-branch-clause-read_failed : goal.returns-then-not-branch-clause-read_failed
-returns-then-not-branch-clause-read_failed g c =
+pub returns-then-not-branch : goal.returns-then-not-branch
+returns-then-not-branch g c =
     let start = g.R.Read.remaining c.args.input.now.inner in
     let now = g.R.Read.remaining c.read_block.new.input.inner in
     let old = g.W.Write.contents c.args.output.now.inner in
@@ -97,7 +61,14 @@ returns-then-not-branch-clause-read_failed g c =
     let before = told_before c.args.limit start (g.R.Read.remaining c.pieces.input.inner) now old mid c.args.trace c.pieces.reader c.read_block.new.self c.pieces.report c.pieces.invariant.read c.in_ok-read_block.ensures.read in
     let last = at_last c.args.limit start now old mid (g.W.Write.contents c.write_end.new.output.inner) c.args.trace c.read_block.new.self c.pieces.report c.in_ok-end_input.field-0 c.write_end.result before stops
     c.in_ok-end_input.ensures c.write_end.ensures.written in
-    (λ k. absurd (last.reading k), λ k. absurd (cc (k, unfailed)))
+    record {
+      decode = last.decode;
+      at_end = last.at_end;
+      own = last.own;
+      read_failed = (λ k. absurd (last.reading k), λ k. absurd (cc (k, unfailed)));
+      write_failed = c.write_end.ensures.failed;
+      flushed = c.write_end.ensures.flushed;
+    }
 
 pub pieces-preserved : goal.pieces-preserved
 pieces-preserved g c =

@@ -9,32 +9,13 @@ returns-in_err-read_block-clause-print g c =
     prints_none _ _ (g.R.Read.remaining c.pieces.input.inner) _ c.pieces.reader (λ edges. HasCopied edges c.pieces.printer) c.from_residual.result c.in_err-read_block.field-0.0 c.pieces.invariant.read
     c.from_residual.ensures.1 c.in_err-read_block.ensures.own (λ is. c.in_err-read_block.ensures.large (rw is refl))
 
-pub returns-then-not-branch-clause-print : goal.returns-then-not-branch-clause-print
-returns-then-not-branch-clause-print g c =
+pub returns-then-not-branch : goal.returns-then-not-branch
+returns-then-not-branch g c =
     let start = g.R.Read.remaining c.args.input.now.inner in
     let now = g.R.Read.remaining c.read_block.new.input.inner in
     let ended : c.in_ok-read_block.field-0 ≡ false = search rules in
     let stops : StopsWell false now c.read_block.new.self = rw ended at c.in_ok-read_block.ensures.stops in
-    (prints_last c.args.limit start now c.args.trace c.read_block.new.self c.pieces.printer c.in_ok-end_print.field-0
+    let last = prints_last c.args.limit start now c.args.trace c.read_block.new.self c.pieces.printer c.in_ok-end_print.field-0
     (printed_before c.args.limit start (g.R.Read.remaining c.pieces.input.inner) now c.args.trace c.pieces.reader c.read_block.new.self c.pieces.printer c.pieces.invariant.read c.in_ok-read_block.ensures.read)
-    stops c.in_ok-end_print.ensures).print
-
-pub returns-then-not-branch-clause-at_end : goal.returns-then-not-branch-clause-at_end
-returns-then-not-branch-clause-at_end g c =
-    let start = g.R.Read.remaining c.args.input.now.inner in
-    let now = g.R.Read.remaining c.read_block.new.input.inner in
-    let ended : c.in_ok-read_block.field-0 ≡ false = search rules in
-    let stops : StopsWell false now c.read_block.new.self = rw ended at c.in_ok-read_block.ensures.stops in
-    (prints_last c.args.limit start now c.args.trace c.read_block.new.self c.pieces.printer c.in_ok-end_print.field-0
-    (printed_before c.args.limit start (g.R.Read.remaining c.pieces.input.inner) now c.args.trace c.pieces.reader c.read_block.new.self c.pieces.printer c.pieces.invariant.read c.in_ok-read_block.ensures.read)
-    stops c.in_ok-end_print.ensures).at_end
-
-pub returns-then-not-branch-clause-stop : goal.returns-then-not-branch-clause-stop
-returns-then-not-branch-clause-stop g c =
-    let start = g.R.Read.remaining c.args.input.now.inner in
-    let now = g.R.Read.remaining c.read_block.new.input.inner in
-    let ended : c.in_ok-read_block.field-0 ≡ false = search rules in
-    let stops : StopsWell false now c.read_block.new.self = rw ended at c.in_ok-read_block.ensures.stops in
-    (prints_last c.args.limit start now c.args.trace c.read_block.new.self c.pieces.printer c.in_ok-end_print.field-0
-    (printed_before c.args.limit start (g.R.Read.remaining c.pieces.input.inner) now c.args.trace c.pieces.reader c.read_block.new.self c.pieces.printer c.pieces.invariant.read c.in_ok-read_block.ensures.read)
-    stops c.in_ok-end_print.ensures).stop
+    stops c.in_ok-end_print.ensures in
+    record { print = last.print; at_end = last.at_end; stop = last.stop; own = search rules; failed = search rules }
