@@ -51,9 +51,7 @@ pub fn is_word(letters: &[u8], word: &[u8]) -> bool
 fn is_bracket(letters: &[u8]) -> bool
     ensures { result ≡ is_bracket letters.now }
 {
-    is_word(letters, b"$end")
-        || is_word(letters, b"$dumpvars")
-        || is_word(letters, b"$dumpall")
+    is_word(letters, b"$end") || is_word(letters, b"$dumpvars") || is_word(letters, b"$dumpall")
 }
 
 /// What a section says that has this keyword.

@@ -98,11 +98,7 @@ fn push_name(path: &mut Vec<u8>, inside: &[Vec<u8>]) -> Result<(), NoMemory>
 }
 
 /// The path of a signal: each scope that it is in with a dot, and its name.
-fn path_of(
-    alloc: Global,
-    scopes: &[Vec<u8>],
-    inside: &[Vec<u8>],
-) -> Result<Vec<u8>, NoMemory>
+fn path_of(alloc: Global, scopes: &[Vec<u8>], inside: &[Vec<u8>]) -> Result<Vec<u8>, NoMemory>
     ensures { IfOk result (λ path. path.items ≡ path_of (words_in scopes.now) (words_in inside.now)) }
 {
     let mut path = Vec::new(alloc);
