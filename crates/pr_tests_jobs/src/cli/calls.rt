@@ -129,7 +129,7 @@ const ROWS: [Row; 18] = [
     (
         Call::Pages(BOTH, Format::Lines),
         HI,
-        Wanted::Text("Printer 4\n|HI\nPrinter 5\nStatuses: 0 0.\n"),
+        Wanted::Text("Printer 4\nHI\nPrinter 5\nStatuses: 0 0.\n"),
     ),
     (Call::Pages(BOTH, Format::Picture), HI, Wanted::Picture),
     (
