@@ -140,7 +140,7 @@ const ROWS: [Row; 18] = [
     (
         Call::Raw(Format::Lines),
         HI_BYTES,
-        Wanted::Text("Printer 4\n|HI\n"),
+        Wanted::Text("Printer 4\nHI\n"),
     ),
     (Call::Raw(Format::Picture), HI_BYTES, Wanted::Sheet),
     (Call::Bus(TraceFormat::Text), HI, Wanted::Text(TRACE_TEXT)),
