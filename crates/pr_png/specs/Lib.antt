@@ -3,3 +3,4 @@ pub mod Pixels
 pub mod Png
 pub mod Marking
 pub mod Packing
+pub mod Laws
