@@ -9,10 +9,13 @@ use pr_page::{Paper, Placed, Row};
 use std::alloc::{AllocError, Global};
 
 /// The lines of pixels of a sheet: 11 inches, 126 to the inch.
-pub const SHEET_LINES: usize = 1386;
+pub const SHEET_LINES: u128 = 1386;
 
 /// The dot columns of a sheet: 8 inches, 60 to the inch.
-const DOT_COLUMNS: usize = 480;
+const DOT_COLUMNS: u64 = 480;
+
+/// The places of a sheet: a dot column in a line of pixels each.
+const PLACES: usize = 665_280;
 
 /// Darkens a dot column in the line of pixels y lines from the paper's top, if the sheet whose first
 /// line is at `top` has that place.
@@ -20,8 +23,9 @@ fn darken(dark: &mut [bool], top: u128, x: u64, y: u128)
     requires { length dark.old ≡ 665280 }
     ensures { dark.new ≡ darkened top x y dark.old }
 {
-    if x < 480 && y >= top && y - top < 1386 {
-        dark[(y - top) as usize * DOT_COLUMNS + x as usize] = true;
+    if x < DOT_COLUMNS && y >= top && y - top < SHEET_LINES {
+        let place = (y - top) as u64 * DOT_COLUMNS + x;
+        dark[place as usize] = true;
     }
 }
 
@@ -81,7 +85,7 @@ fn is_near(top: u128, y: u128) -> bool
     requires { y ≤ 18446744073709551615 }
     ensures { result ≡ is_near top y }
 {
-    top <= y + 13 && y < top + 1386
+    top <= y + 13 && y < top + SHEET_LINES
 }
 
 /// So many places of a sheet that has no dots.
@@ -109,7 +113,7 @@ fn mark_rows(dark: &mut [bool], top: u128, rows: &[Row])
 pub fn dots_on_sheet(alloc: Global, paper: &Paper, top: u128) -> Result<Vec<bool>, AllocError>
     ensures { IfOk result (λ dark. ShowsSheet paper.now top dark.items) }
 {
-    let mut dark = blank_places(alloc, DOT_COLUMNS * SHEET_LINES)?;
+    let mut dark = blank_places(alloc, PLACES)?;
     mark_rows(&mut dark, top, paper.rows.as_slice());
     Ok(dark)
 }
