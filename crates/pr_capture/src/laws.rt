@@ -12,8 +12,8 @@ pub fn given_samples_come_first()
     ensures table { csv.GivenSamplesComeFirst }
 {}
 
-/// A law: whatever follows the samples that a gatherer has taken, the edges that it has given are the
-/// first that the samples make.
+/// A law: whatever follows the samples that a detector has taken, the edges that it has given are
+/// the first that the samples make.
 pub fn given_edges_come_first()
     ensures { GivenEdgesComeFirst }
 {}
