@@ -92,7 +92,8 @@ fn outcome_with(alloc: Global, paper: Paper) -> Outcome
 ///
 /// # Errors
 ///
-/// Those of [`raw_over`] but a failed write, with `limit` in place of [`RAW_LIMIT`].
+/// Those of [`raw_over`] but a failed write, with `limit` in place of [`RAW_LIMIT`]. This call
+/// writes nothing.
 pub fn print_input<R: Read>(
     alloc: Global,
     input: &mut Watched<R>,
