@@ -41,6 +41,9 @@ fn delays_for(
 }
 
 /// Runs a script, and puts the text of its pages at the front of the caller's buffer.
+///
+/// A number that stands for no setting is refused: of the printers first, then of the status and
+/// the format. All else is as of [`pages`](crate::pages), in plain numbers.
 #[unsafe(no_mangle)]
 pub extern "C" fn print1525_pages(
     alloc: Global,
@@ -78,6 +81,9 @@ pub extern "C" fn print1525_pages(
 }
 
 /// Runs a script, and puts the trace of its run at the front of the caller's buffer.
+///
+/// A number that stands for no setting is refused: of the printers first, then of the status and
+/// the format. All else is as of [`bus`](crate::bus), in plain numbers.
 #[unsafe(no_mangle)]
 pub extern "C" fn print1525_bus(
     alloc: Global,
@@ -115,6 +121,9 @@ pub extern "C" fn print1525_bus(
 }
 
 /// Puts the page that a printer prints of some bytes at the front of the caller's buffer.
+///
+/// A number that stands for no setting is refused: of the set first, then of the format. All else
+/// is as of [`raw`](crate::raw), in plain numbers.
 #[unsafe(no_mangle)]
 pub extern "C" fn print1525_raw(
     alloc: Global,
@@ -139,6 +148,9 @@ pub extern "C" fn print1525_raw(
 }
 
 /// Puts the page that a printer prints of its inputs at the front of the caller's buffer.
+///
+/// A number that stands for no format is refused. All else is as of [`print`](crate::print), in
+/// plain numbers.
 #[unsafe(no_mangle)]
 pub extern "C" fn print1525_print(
     alloc: Global,
@@ -157,7 +169,8 @@ pub extern "C" fn print1525_print(
     *answer = numbered(print(alloc, inputs, format, out));
 }
 
-/// Puts the frames that a trace text spells at the front of the caller's buffer.
+/// Puts the frames that a trace text spells at the front of the caller's buffer, as of
+/// [`check`](crate::check), in plain numbers.
 #[unsafe(no_mangle)]
 pub extern "C" fn print1525_check(alloc: Global, text: &[u8], out: &mut [u8], answer: &mut Answer)
     ensures tells { TellsCheck text.now out.old out.new answer.new }
