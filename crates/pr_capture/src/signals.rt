@@ -76,8 +76,8 @@ pub fn is_named(name: &[u8], field: &[u8]) -> bool
 }
 
 impl Signals<'_> {
-    /// Returns the name of a signal that is taken for CLOCK where none has CLOCK's own name: CLK,
-    /// if that name is CLOCK, and else the same name.
+    /// Returns the name that counts for CLOCK where no signal has CLOCK's own (`clk` where that is
+    /// `clock`, and else the same name).
     pub fn second_name(&self) -> &[u8]
         ensures { result.now ≡ second_name self.now }
     {
