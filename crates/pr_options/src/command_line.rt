@@ -106,8 +106,9 @@ pub enum JobFault {
 }
 
 impl JobFault {
-    /// Returns what values the option has of which this is a bad one, as the help says it; of
-    /// `--as` those of the subcommand that was met. None of other faults. It takes no memory.
+    /// Returns the values that an option may have, as the help says them, where this fault is a bad
+    /// value of it; of `--as` those of the subcommand that was met. None of other faults. It takes
+    /// no memory.
     pub fn values(&self) -> Option<&'static str>
         ensures { option_map (λ text. text.now) result ≡ values_of self.now }
     {
