@@ -26,7 +26,8 @@ pub enum Preceding {
 }
 
 impl Preceding {
-    /// Returns what comes before the next reading: a byte that is not acknowledged changes nothing.
+    /// Takes a reading, and returns what comes before the next one: a byte that is not acknowledged
+    /// changes nothing.
     pub fn after(self, reading: &Reading) -> Preceding
         ensures { result ≡ after_reading self reading.now }
     {
