@@ -18,9 +18,9 @@ pub fn items_make_listeners()
     ensures { ListenerAfterOneMore }
 {}
 
-/// A law: whether an item lacks an answer among those sent after some others: for one item, for
-/// none, and for two parts, where it is a lack in one of them; the answers to the later items
-/// decide it.
+/// A law: the answers to later items alone decide whether one of them lacks an answer. No item
+/// lacks one where none is sent; one item does exactly if it is not answered; and of two parts one
+/// does exactly if one of the first or one of the second does.
 pub fn answers_add_up()
     ensures later { LackingAmongLater }
     ensures two_parts { LackingInTwoParts }
