@@ -391,7 +391,7 @@ fn behind(row: Option<Row>, last: Edge) -> Option<Row>
     Some(Row { earliest, ..row })
 }
 
-/// Returns the rows at a place of the table of lawful traces, after its last edge: [`rows_from`],
+/// Returns the rows at a place of the table of lawful traces, after an edge `last`: [`rows_from`],
 /// but for the moments that are not later than that edge, and for a row with its levels. An edge
 /// may follow there exactly if one of the rows has its levels and its moment lies within. Each row
 /// has a moment.
