@@ -1,4 +1,4 @@
-//! What stands at a place of a script's text, as an explanation of a fault shows it.
+//! What is at a place of a script's text, as an explanation of a fault shows it.
 
 ghost use Rattle.std.specs.Prelude.{ℕ, List, MatchOption};
 ghost use Rattle.pr_basic.specs.FaultLaws.{FaultsTellTheirLine, PlacesHaveOneLine};

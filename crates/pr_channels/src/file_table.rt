@@ -10,12 +10,12 @@ use crate::file::File;
 use arrayvec::ArrayVec;
 use std::marker::Model;
 
-/// At most so many files are open at a time (Programmer's Reference Guide, OPEN).
+/// The most files that are open at a time (Programmer's Reference Guide, OPEN).
 const FILES: usize = 10;
 
 /// A finite map from file numbers to a device and an optional secondary address, with at most ten
-/// keys. Contracts see it as the list of its files in the order of opening, in which each number
-/// stands once. It never takes memory.
+/// keys. Contracts see it as the list of its files in the order of opening, with each number once.
+/// It never takes memory.
 #[derive(Drop)]
 pub struct FileTable {
     files: ArrayVec<File, FILES>,

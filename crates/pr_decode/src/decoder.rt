@@ -14,7 +14,7 @@ use crate::reading::{FrameEnd, IncompleteEnd, Reading, Transfer};
 use pr_wire::Edge;
 use thiserror::Error;
 
-/// An edge that stands before the one taken last.
+/// An edge's time is before that of the edge taken last.
 #[derive(Clone, Copy, Debug, Drop, Error, PartialEq, Eq)]
 #[error("time goes back")]
 pub struct GoesBack;

@@ -1,4 +1,4 @@
-//! Where the character of a code stands in tables of characters.
+//! Where the character of a code is in tables of characters.
 
 ghost use Rattle.std.specs.Prelude.{◌≡◌, ◌<◌};
 ghost use Rattle.pr_dots.specs.Codes.{place_of, printed_as};

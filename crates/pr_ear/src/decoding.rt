@@ -15,12 +15,12 @@ use crate::decoder_numbers::{WireDecoder, WireReading, numbers_of_reading, resto
 use crate::{Answer, WireEdge, edge_for};
 use pr_decode::{Decoder, GoesBack, Reading, readings_add_up};
 
-/// What a decoder tells.
+/// What a decoder answers.
 #[derive(Clone, Copy, Debug, PartialEq, Eq)]
 pub enum DecoderTold {
     /// The call did what it is for. With an edge, or an end: the reading that it settles, if it settles one.
     Done(Option<Reading>),
-    /// The edge stands before the one taken last.
+    /// The edge is earlier than the one taken last.
     GoesBack,
     /// The numbers are not those of a decoder.
     NoDecoder,

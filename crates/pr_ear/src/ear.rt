@@ -18,7 +18,7 @@ use pr_page::Input;
 use pr_receiver::{fronts_are_allowed, traces_give_what_is_heard};
 use pr_wire::{WaveFault, allowed_traces};
 
-/// What an ear tells.
+/// What an ear answers.
 #[derive(Clone, Copy, Debug, PartialEq, Eq)]
 pub enum EarTold {
     /// The call did what it is for. With an edge: the input that came with it, if one did.

@@ -61,11 +61,11 @@ pub struct WireEdge {
 /// What came of a trace.
 #[derive(Clone, Copy, Debug, PartialEq, Eq)]
 pub enum Told {
-    /// So many inputs were heard, and they stand at the front of the buffer.
+    /// This many inputs were heard, and they are at the front of the buffer.
     Heard(usize),
     /// The trace is not lawful, with its first fault.
     Unlawful(WaveFault),
-    /// So many inputs were heard, more than the buffer has room for.
+    /// This many inputs were heard, more than the buffer has room for.
     TooSmall(usize),
     /// There is no such device: 4 to 30 are devices.
     NoDevice,
