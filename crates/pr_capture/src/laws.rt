@@ -18,8 +18,9 @@ pub fn given_edges_come_first()
     ensures { GivenEdgesComeFirst }
 {}
 
-/// A law: a table with a row for each of some samples, in the order of time, says these samples; of
-/// edges, each later than the one before and with other levels, it says these edges.
+/// A law: a table with a row for each of some samples, in the order of time, says these samples and
+/// has no fault; of edges, each later than the one before and with other levels, it says these
+/// edges.
 pub fn csv_is_read_back()
     ensures { CsvIsReadBack }
 {}

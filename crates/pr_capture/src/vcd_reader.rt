@@ -152,8 +152,8 @@ impl<'a> VcdReader<'a> {
     }
 }
 
-/// A law, with nothing to run: what is written of edges, each later than the one before and with other
-/// levels, is read back as these edges.
+/// A law, with nothing to run: what is written of edges, each later than the one before and with
+/// other levels, is read back as these edges, without a fault.
 pub fn vcd_is_read_back()
     ensures { VcdIsReadBack }
 {}
