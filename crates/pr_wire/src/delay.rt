@@ -41,7 +41,8 @@ pub enum Kind {
     Dr,
 }
 
-/// Returns the least, the typical and the greatest delay of a kind, in microseconds.
+/// Returns the least, the typical and the greatest delay of a kind, in microseconds. It takes no
+/// memory.
 pub fn bounds(kind: Kind) -> (u16, u16, u16)
     ensures { result ≡ bounds_of kind }
 {
