@@ -94,7 +94,7 @@ fn heading(behind_data: bool, sending: ByteRole) -> &'static [u8]
     }
 }
 
-/// Returns whether a frame is a data byte.
+/// Returns whether a frame is a data byte. It takes no memory.
 pub fn is_data(sending: ByteRole) -> bool
     ensures { result ≡ is_data sending }
 {
