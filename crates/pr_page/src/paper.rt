@@ -30,7 +30,8 @@ pub struct Placed {
     pub mark: Mark,
 }
 
-/// A list kept in a vector. Contracts see the list alone, not room or place in memory.
+/// A list kept in a vector. Contracts see the list alone, not room or place in memory. Its calls
+/// take no memory.
 #[derive(Debug, Drop)]
 pub struct Sequence<T> {
     items: Vec<T>,
