@@ -394,7 +394,7 @@ fn behind(row: Option<Row>, last: Edge) -> Option<Row>
 /// Returns the rows at a place of the table of lawful traces, after an edge `last`: [`rows_from`],
 /// but for the moments that are not later than that edge, and for a row with its levels. An edge
 /// may follow there exactly if one of the rows has its levels and its moment lies within. Each row
-/// has a moment.
+/// has a moment. It takes no memory.
 pub fn rows_behind(place: &BusState, last: Edge) -> [Option<Row>; 3]
     ensures rows { AreRowsBehind result last place.now }
     ensures moments { list_all has_moment result ≡ true }
