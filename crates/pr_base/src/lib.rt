@@ -1,8 +1,8 @@
-//! What all other crates share: the command bytes of the serial bus, the printers' device numbers, decimal
-//! digits, and the error for refused memory.
+//! What all other crates share: the command bytes of the serial bus, the printers' device numbers,
+//! decimal digits, and the error for refused memory.
 //!
-//! For specifications, `specs/Bytes.antt` has the same bytes, and `specs` the lines of a text and the number
-//! that digits spell.
+//! For specifications, `specs/Bytes.antt` has the same bytes, and `specs` the lines of a text and
+//! the number that digits spell.
 #![tactic(auto)]
 
 mod commands;

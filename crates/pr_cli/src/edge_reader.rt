@@ -89,8 +89,8 @@ impl<'a> EdgeReader<'a> {
         Ok(self.fault.is_none())
     }
 
-    /// Ends the input, and gives the edges of the last block, with the last of the input after them, at
-    /// most two, and the input's fault, if it has one: such a fault is no error.
+    /// Ends the input, and gives the edges of the last block, with the last of the input after
+    /// them, at most two, and the input's fault, if it has one: such a fault is no error.
     ///
     /// # Errors
     ///

@@ -98,8 +98,8 @@ impl<'a> InputReader<'a> {
         }
     }
 
-    /// Ends the input, and gives the edges of the last block, with the last of the input after them, at
-    /// most two, and the input's fault, if it has one: such a fault is no error.
+    /// Ends the input, and gives the edges of the last block, with the last of the input after
+    /// them, at most two, and the input's fault, if it has one: such a fault is no error.
     ///
     /// # Errors
     ///
@@ -113,9 +113,9 @@ impl<'a> InputReader<'a> {
     }
 }
 
-/// Laws, with nothing to run: whatever follows what a reader has read of an input, the edges that the reader
-/// has given are the first that the input says; and each text says edges in each format, up to its fault if
-/// it has one.
+/// Laws, with nothing to run: whatever follows what a reader has read of an input, the edges that
+/// the reader has given are the first that the input says; and each text says edges in each format,
+/// up to its fault if it has one.
 pub fn read_edges_come_first()
     ensures first { ReadEdgesComeFirst }
     ensures some { EachTextSaysEdges }

@@ -34,8 +34,8 @@ impl<'a> SourceReader<'a> {
     ///
     /// # Errors
     ///
-    /// The first fault of the input, where these bytes end it, or [`CliFault::NoMemory`]; both come as with
-    /// the reader of this format. Nothing is promised of the reader afterwards.
+    /// The first fault of the input, where these bytes end it, or [`CliFault::NoMemory`]; both come
+    /// as with the reader of this format. Nothing is promised of the reader afterwards.
     pub fn take_front(&mut self, block: &[u8]) -> Result<(usize, Option<Edge>), CliFault>
         // the caller's part
         requires few { lines_read self.old + 1 < 2 ^ 64 }
@@ -59,7 +59,8 @@ impl<'a> SourceReader<'a> {
     ///
     /// # Errors
     ///
-    /// The first fault of the input, or [`CliFault::NoMemory`]; both come as with the reader of this format.
+    /// The first fault of the input, or [`CliFault::NoMemory`]; both come as with the reader of
+    /// this format.
     pub fn finish(self) -> Result<Option<Edge>, CliFault>
         requires few { lines_read self + 1 < 2 ^ 64 }
         ensures { EndsInput self.entry result }

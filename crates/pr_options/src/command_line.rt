@@ -143,14 +143,14 @@ impl From<DelayFault> for JobFault {
     }
 }
 
-/// Reads a command line, of which the program's name is the first word, and gives the job that it asks
-/// for: that of the subcommand that clap's meaning of the command finds, with the values of its options,
-/// defaults included.
+/// Reads a command line, of which the program's name is the first word, and gives the job that it
+/// asks for: that of the subcommand that clap's meaning of the command finds, with the values of
+/// its options, defaults included.
 ///
 /// # Errors
 ///
-/// [`JobFault::Line`] only for words that clap's meaning of the command does not take, with one of its
-/// reasons against them (a request for help or the version is such a refusal), and
+/// [`JobFault::Line`] only for words that clap's meaning of the command does not take, with one of
+/// its reasons against them (a request for help or the version is such a refusal), and
 /// [`JobFault::NoMemory`] where memory was refused, by clap too. The other faults come
 /// only for words that clap takes, and report the first bad value in this order:
 /// [`JobFault::BadPresent`], [`JobFault::BadDelays`], [`JobFault::BadStatus`], [`JobFault::BadSet`];

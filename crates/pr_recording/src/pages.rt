@@ -38,7 +38,8 @@ pub const PRINT_LIMIT: usize = 4_000_000_000;
 /// - [`CliFault::Trace`]: a trace text with its first bad line; [`CliFault::Capture`]: a recording with
 ///   its first fault. No further block is read.
 /// - [`CliFault::Wave`] with [`pr_wire::WaveFault::Order`]: a trace text in which time goes back, with the
-///   index of the first edge that is earlier than the one before it, unless a bad line comes before that.
+///   index of the first edge that is earlier than the one before it, unless a bad line comes before
+///   that.
 /// - [`CliFault::TooLarge`]: only if the input has more than [`PRINT_LIMIT`] bytes.
 /// - [`CliFault::ReadFailed`] exactly if the input has failed, [`CliFault::WriteFailed`] exactly if the
 ///   output has.
