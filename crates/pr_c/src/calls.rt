@@ -52,7 +52,7 @@ pub fn pages(
 }
 
 /// Runs a script over wires, and puts the trace of its run in a format at the front of a buffer:
-/// the text that [`pr_cli::bus_as_over`] writes. All else is as of [`pages`].
+/// the text that [`pr_cli::bus_as_over`] writes, with its faults. The rest is as with [`pages`].
 pub fn bus(
     alloc: Global,
     script: &[u8],
@@ -81,8 +81,8 @@ pub fn bus(
 }
 
 /// Puts the text of the page that a printer prints of some bytes at the front of a buffer: the text
-/// that [`pr_cli::raw_over`] writes, with its faults. All else is as of [`pages`], but there is no
-/// run.
+/// that [`pr_cli::raw_over`] writes, with its faults. The rest is as with [`pages`], but nothing
+/// can stop.
 pub fn raw(alloc: Global, bytes: &[u8], lower: bool, format: Format, out: &mut [u8]) -> Told
     ensures tells { Tells (IsPaperText lower format bytes.now) (IsPaperRefusal bytes.now) out.old out.new result }
     ensures length { length out.new ≡ length out.old }
@@ -94,8 +94,8 @@ pub fn raw(alloc: Global, bytes: &[u8], lower: bool, format: Format, out: &mut [
 }
 
 /// Puts the frames that a trace text spells at the front of a buffer, a line for each, and then
-/// `lawful`: the text that [`pr_cli::check_over`] writes, with its faults. All else is as of
-/// [`pages`], but there is no run.
+/// `lawful`: the text that [`pr_cli::check_over`] writes, with its faults. The rest is as with
+/// [`pages`], but nothing can stop.
 pub fn check(alloc: Global, text: &[u8], out: &mut [u8]) -> Told
     ensures tells { Tells (IsFramesText text.now) (IsTraceRefusal text.now) out.old out.new result }
     ensures length { length out.new ≡ length out.old }

@@ -42,8 +42,8 @@ fn delays_for(
 
 /// Runs a script, and puts the text of its pages at the front of the caller's buffer.
 ///
-/// A number that stands for no setting is refused: of the printers first, then of the status and
-/// the format. All else is as of [`pages`](crate::pages), in plain numbers.
+/// It does what [`pages`](crate::pages) does, in plain numbers. A number that stands for no setting
+/// is refused: of the printers first, then of the status and the format.
 #[unsafe(no_mangle)]
 pub extern "C" fn print1525_pages(
     alloc: Global,
@@ -82,8 +82,8 @@ pub extern "C" fn print1525_pages(
 
 /// Runs a script, and puts the trace of its run at the front of the caller's buffer.
 ///
-/// A number that stands for no setting is refused: of the printers first, then of the status and
-/// the format. All else is as of [`bus`](crate::bus), in plain numbers.
+/// It does what [`bus`](crate::bus) does, in plain numbers. A number that stands for no setting is
+/// refused: of the printers first, then of the status and the format.
 #[unsafe(no_mangle)]
 pub extern "C" fn print1525_bus(
     alloc: Global,
@@ -122,8 +122,8 @@ pub extern "C" fn print1525_bus(
 
 /// Puts the page that a printer prints of some bytes at the front of the caller's buffer.
 ///
-/// A number that stands for no setting is refused: of the set first, then of the format. All else
-/// is as of [`raw`](crate::raw), in plain numbers.
+/// It does what [`raw`](crate::raw) does, in plain numbers. A number that stands for no setting is
+/// refused: of the set first, then of the format.
 #[unsafe(no_mangle)]
 pub extern "C" fn print1525_raw(
     alloc: Global,
@@ -149,8 +149,8 @@ pub extern "C" fn print1525_raw(
 
 /// Puts the page that a printer prints of its inputs at the front of the caller's buffer.
 ///
-/// A number that stands for no format is refused. All else is as of [`print`](crate::print), in
-/// plain numbers.
+/// It does what [`print`](crate::print) does, in plain numbers. A number that stands for no format
+/// is refused.
 #[unsafe(no_mangle)]
 pub extern "C" fn print1525_print(
     alloc: Global,
@@ -169,8 +169,9 @@ pub extern "C" fn print1525_print(
     *answer = numbered(print(alloc, inputs, format, out));
 }
 
-/// Puts the frames that a trace text spells at the front of the caller's buffer, as of
-/// [`check`](crate::check), in plain numbers.
+/// Puts the frames that a trace text spells at the front of the caller's buffer.
+///
+/// It does what [`check`](crate::check) does, in plain numbers.
 #[unsafe(no_mangle)]
 pub extern "C" fn print1525_check(alloc: Global, text: &[u8], out: &mut [u8], answer: &mut Answer)
     ensures tells { TellsCheck text.now out.old out.new answer.new }
