@@ -110,7 +110,7 @@ pub extern "C" fn print1525_decode_begin(decoder: &mut WireDecoder)
 }
 
 /// Gives a decoder the next edge of a recording, and puts the reading that it settles into `out`,
-/// if it settles one. `told` has the whole answer, as of [`decode_edge`]. It takes no memory.
+/// if it settles one. `told` is what [`decode_edge`] answers, in plain numbers. It takes no memory.
 #[unsafe(no_mangle)]
 pub extern "C" fn print1525_decode_edge(
     decoder: &mut WireDecoder,
@@ -132,8 +132,8 @@ pub extern "C" fn print1525_decode_edge(
     *told = answer(said);
 }
 
-/// Puts the reading that the end of a recording cuts into `out`, if it cuts one. `told` has the
-/// whole answer, as of [`end_decoder`]. It takes no memory.
+/// Puts the reading that the end of a recording cuts into `out`, if it cuts one. `told` is what
+/// [`end_decoder`] answers, in plain numbers. It takes no memory.
 #[unsafe(no_mangle)]
 pub extern "C" fn print1525_decode_end(
     decoder: &WireDecoder,

@@ -160,7 +160,7 @@ fn refused(fault: usize, place: usize) -> EarAnswer
     }
 }
 
-/// Begins an ear for a device, and writes the whole answer, as of [`begin_ear`]. It takes no
+/// Begins an ear for a device. The answer is that of [`begin_ear`], in plain numbers. It takes no
 /// memory.
 #[unsafe(no_mangle)]
 pub extern "C" fn print1525_ear_begin(ear: &mut Ear, device: u8, answer: &mut EarAnswer)
@@ -170,7 +170,7 @@ pub extern "C" fn print1525_ear_begin(ear: &mut Ear, device: u8, answer: &mut Ea
     *answer = ear_numbers(begin_ear(ear, device));
 }
 
-/// Gives an ear the next edge of a trace, and writes the whole answer, as of [`take_edge`]. It
+/// Gives an ear the next edge of a trace. The answer is that of [`take_edge`], in plain numbers. It
 /// takes no memory.
 #[unsafe(no_mangle)]
 pub extern "C" fn print1525_ear_edge(ear: &mut Ear, edge: &WireEdge, answer: &mut EarAnswer)
@@ -184,8 +184,8 @@ pub extern "C" fn print1525_ear_edge(ear: &mut Ear, edge: &WireEdge, answer: &mu
     *answer = ear_numbers(take_edge(ear, *edge));
 }
 
-/// Answers whether the edges that an ear was given are a lawful trace, as of [`end_ear`]. It writes
-/// the whole answer, and takes no memory.
+/// Answers whether the edges that an ear was given are a lawful trace: what [`end_ear`] answers, in
+/// plain numbers. It takes no memory.
 #[unsafe(no_mangle)]
 pub extern "C" fn print1525_ear_end(ear: &Ear, answer: &mut EarAnswer)
     ensures tells { (device : ℕ) (edges : List WireEdge) → HasTaken device edges ear.now →

@@ -252,7 +252,7 @@ fn numbers_of(fault: WaveFault) -> (usize, usize)
 }
 
 /// Puts the inputs that a device hears of a trace at the front of the caller's buffer, and writes
-/// the whole answer, as of [`hear`]. It takes no memory.
+/// the whole answer: what [`hear`] answers, in plain numbers. It takes no memory.
 #[unsafe(no_mangle)]
 pub extern "C" fn print1525_hear(
     device: u8,
