@@ -25,8 +25,9 @@ use Rattle.pr_capture.specs.declared.format.Source.{Source}
 use Rattle.pr_capture.specs.declared.format.Source.TheVariants as source
 use Rattle.pr_capture.specs.declared.format.TraceInput.{TraceInput}
 use Rattle.pr_cli.specs.Faults.{fault_of_capture, fault_of_trace}
-use Rattle.pr_cli.specs.Report.{IsTold, SaysSamples}
-use Rattle.pr_cli.specs.Sources.{EachTextSaysSamples, EndsInput, GivenSamplesComeFirst, GivesMore, HasGiven, IsOwnFault, RefusesInput}
+use Rattle.pr_cli.specs.Report.{IsTold, SaysSamples, IsOwnFault}
+use Rattle.pr_cli.specs.InputReads.{EndsInput, GivesMore, RefusesInput}
+use Rattle.pr_cli.specs.Sources.{EachTextSaysSamples, GivenSamplesComeFirst, HasGiven}
 use Rattle.pr_cli.specs.declared.source_reader.SourceReader.{SourceReader}
 use Rattle.pr_cli.specs.declared.source_reader.SourceReader.TheVariants as reader
 use Rattle.pr_cli.specs.declared.fault.CliFault.{CliFault}

@@ -54,6 +54,26 @@ pub record Says (input : TraceInput) (text : List ℕ) (edges : List Edge) (faul
   pub are_samples : SaysSamples input input.source text samples fault
   pub are_edges : edges ≡ edges_made input.source input.start samples
 
+-- a fault of an input itself: of its text, not of its edges, of memory or of reading
+abbrev pub IsOwnFault : CliFault → Type 0
+IsOwnFault (Trace (trace.BadLine n)) = Unit {0}
+IsOwnFault (Capture capture.NoMemory) = ⊥
+IsOwnFault (Capture fault) = Unit {0}
+IsOwnFault _ = ⊥
+
+-- a fault of reading, or want of memory
+abbrev pub IsNoReading : CliFault → Type 0
+IsNoReading TooLarge = Unit {0}
+IsNoReading NoMemory = Unit {0}
+IsNoReading ReadFailed = Unit {0}
+IsNoReading _ = ⊥
+
+-- a text of at most so many bytes says these edges, or more bytes say them and then have this fault
+pub record SaysWhole (limit : ℕ) (input : TraceInput) (edges : List Edge) (fault : Option CliFault)
+    (text : List ℕ) : Type 0 where
+  pub says : Says input text edges fault
+  pub short : fault ≡ None → length text ≤ limit
+
 -- What is written.
 
 -- why a trace is refused: the fault of its input, or else that of its edges

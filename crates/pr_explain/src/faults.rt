@@ -1,7 +1,7 @@
 //! The line of a trace text or of a recording that cannot be read, and what it should have.
 
 ghost use Rattle.std.specs.Prelude.{◌≡◌, Some};
-ghost use Rattle.pr_cli.specs.Sources.{IsOwnFault};
+ghost use Rattle.pr_cli.specs.Report.{IsOwnFault};
 ghost use Rattle.pr_explain.specs.TracePlaces.{capture_line, fault_line};
 
 use crate::names::{begins_with_number, push_dump_names, push_table_names};

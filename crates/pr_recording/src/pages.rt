@@ -2,7 +2,8 @@
 
 ghost use Rattle.std.specs.Prelude.{◌≡◌, ◌≢◌, ◌+◌, ◌^◌, ◌<◌, ◌≤◌, ◌↔◌, length, false, true, None, IfErr, IfOk, IfSome, IsErrOf, OnOk};
 ghost use Rattle.std.specs.Io.KnownBytes.{Keeps};
-ghost use Rattle.pr_cli.specs.Inputs.{IsNoReading, edges_read, lines_ahead};
+ghost use Rattle.pr_cli.specs.Inputs.{edges_read, lines_ahead};
+ghost use Rattle.pr_cli.specs.Report.{IsNoReading};
 ghost use Rattle.pr_input.specs.Watched.{has_failed, is_flushed, wrapped};
 ghost use Rattle.pr_recording.specs.Copied.{EndsPrinted, edges_copied, inputs_printed};
 ghost use Rattle.pr_recording.specs.Copying.{GivesPrint, HasReadPages, WritesPrint};
