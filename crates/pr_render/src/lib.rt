@@ -26,5 +26,5 @@ mod sheets;
 mod uses;
 
 pub use drawing::svg;
-pub use format::Format;
+pub use format::{Device, Format, Part};
 pub use plain::text;
