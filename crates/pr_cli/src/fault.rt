@@ -105,6 +105,16 @@ impl From<CaptureFault> for CliFault {
     }
 }
 
+impl From<PictureFault> for CliFault {
+    ghost use Rattle.pr_cli.specs.declared.fault.CliFault.TheVariants.{Picture};
+
+    ghost from_gives = { λ e f. f ≡ Picture e };
+
+    fn from(e: PictureFault) -> CliFault {
+        CliFault::Picture(e)
+    }
+}
+
 impl From<AllocError> for CliFault {
     ghost use Rattle.pr_cli.specs.declared.fault.CliFault.TheVariants.{NoMemory};
 

@@ -26,7 +26,7 @@ mod sheets;
 mod single;
 mod uses;
 
-pub use drawing::svg;
+pub use drawing::{drawn_of, svg};
 pub use format::{Device, Format, Part};
 pub use plain::text;
 pub use single::sheet_svg;

@@ -1,10 +1,9 @@
 //! Pages as pictures, and the page text of an outcome.
 
-use crate::cli::calls::{BOTH, Call, HI, NONE, typical};
+use crate::cli::calls::{BOTH, Call, HI, NONE, SVG, typical};
 use pr_basic::{StatusMode, read_script};
 use pr_cli::{Ending, pages_text};
 use pr_page::Sequence;
-use pr_render::Format;
 use pr_serial::Present;
 use pr_system::{Outcome, run};
 use std::alloc::Global;
@@ -53,7 +52,7 @@ fn only_paper(alloc: Global, outcome: Outcome) -> Outcome {
 
 /// Whether the call draws the picture of a script's outcome.
 fn is_drawn(alloc: Global, script: &str, present: Present, ending: Ending) -> bool {
-    let call = Call::Pages(present, Format::Picture);
+    let call = Call::Pages(present, SVG);
     let (answer, picture) = call.answer(alloc, script.as_bytes());
     let head = b"<svg xmlns=\"http://www.w3.org/2000/svg\" version=\"1.1\" ";
     answer == Ok(ending)
