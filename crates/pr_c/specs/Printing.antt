@@ -1,4 +1,4 @@
--- Trusted: the inputs of a printer as a C caller's numbers, and what is told of them.
+-- Trusted: a printer's inputs as the numbers that a C caller passes, and what the call answers for them.
 use Rattle.std.specs.Prelude.{◌≡◌, ℕ, ◌<◌, ◌≤◌, Bool, ◌==◌, nat_lt, if◌then◌else◌, List, length, map, Some, None}
 use Rattle.std.specs.List.{position}
 use Rattle.pr_page.specs.Page.{IsPage}
@@ -18,11 +18,12 @@ use Rattle.pr_c.specs.declared.told.Told.TheVariants.{NoInput}
 abbrev pub is_no_input : ℕ → Bool
 is_no_input number = nat_lt 257 number
 
--- the input that another stands for: 0 to 255 a byte, 256 the selection of the graphic/upper case set, 257 that of the lower/upper case one
+-- the input that another number stands for: 0 to 255 a byte, 256 the selection of the graphic/upper
+-- case set, 257 that of the lower/upper case set
 abbrev pub input_of : ℕ → Input
 input_of number = if nat_lt number 256 then Byte number else Select (number == 257)
 
--- the most inputs: a printer takes no more
+-- the most inputs that a printer takes
 abbrev pub inputs_limit : ℕ
 inputs_limit = 4294967296
 
@@ -32,19 +33,19 @@ pub record IsInputsText (format : Format) (inputs : List Input) (text : List ℕ
   pub is_page : IsPage inputs paper
   pub is_text : text ≡ text_in format four_alone (printed_on paper)
 
--- the text of the page of the inputs that numbers stand for, of which each stands for one
+-- the text of the page of the inputs that these numbers stand for; each stands for one
 abbrev pub IsPrintedText : Format → List ℕ → Stopping → List ℕ → Type 0
 IsPrintedText format numbers stop text =
     (length numbers ≤ inputs_limit) × (position is_no_input numbers ≡ None) × (stop ≡ None)
     × IsInputsText format (map input_of numbers) text
 
--- why numbers give none, other than by one of them; memory can be refused where each stands for an input
+-- why numbers that all stand for inputs, or are too many, give no text
 abbrev pub IsPrintRefusal : List ℕ → CliFault → Type 0
 IsPrintRefusal numbers TooLarge = inputs_limit < length numbers
 IsPrintRefusal numbers NoMemory = (length numbers ≤ inputs_limit) × (position is_no_input numbers ≡ None)
 IsPrintRefusal numbers _ = ⊥
 
--- what is told of numbers: the index of the first that stands for no input, or what becomes of the page
+-- the outcome for numbers: the index of the first that stands for no input, or that of the page
 abbrev pub TellsInputs : Format → List ℕ → List ℕ → List ℕ → Told → Type 0
 TellsInputs format numbers old new (NoInput index) =
     (length numbers ≤ inputs_limit) × (position is_no_input numbers ≡ Some index) × (new ≡ old)
