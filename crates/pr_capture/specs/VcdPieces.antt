@@ -1,4 +1,4 @@
--- Trusted: the pieces of a Value Change Dump: its sections, each from a keyword to `$end`, its time stamps and its changes.
+-- Trusted: the pieces of a Value Change Dump: its sections, from a keyword to `$end`, its time stamps and its changes.
 use Rattle.std.specs.Prelude.{ℕ, ◌==◌, ◌&&◌, ◌||◌, Bool, true, false, List, [], ◌∷◌, ◌++◌, codes, length, nat_lt, if◌then◌else◌}
 use Rattle.std.specs.List.{list_any}
 use Rattle.std.specs.Str.{bytes_eq}
@@ -8,15 +8,15 @@ use Rattle.pr_capture.specs.declared.entries.Entry.{Entry}
 use Rattle.pr_capture.specs.declared.entries.Entry.TheVariants.{Foreign, Level, Opens, Silent, Time, Value}
 use Rattle.pr_capture.specs.Words.{Word}
 
--- What a word is that stands in no section.
+-- What a word outside the sections is.
 
--- changes stand in these sections as elsewhere: what begins and ends them says nothing by itself
+-- changes count in these sections as elsewhere, so the words that begin and end them mean nothing
 abbrev pub is_bracket : (letters : List ℕ) → Bool
 is_bracket l =
     bytes_eq l (codes "$end") || bytes_eq l (codes "$dumpvars") || bytes_eq l (codes "$dumpall")
     || bytes_eq l (codes "$dumpon") || bytes_eq l (codes "$dumpoff")
 
--- what any other section is by its keyword
+-- which section any other keyword begins
 abbrev pub keyword_of : (letters : List ℕ) → Keyword
 keyword_of l =
     if bytes_eq l (codes "$timescale") then Timescale
@@ -28,16 +28,16 @@ keyword_of l =
 abbrev pub is_level : ℕ → Bool
 is_level b = list_any (λ d. d == b) (codes "01xXzZuUwWlLhH-")
 
--- the code of its signal has to stand behind it
+-- a level, only if a signal's code follows it in the same word
 abbrev pub level_entry : (level : ℕ) → (code : List ℕ) → Entry
 level_entry b [] = Foreign
 level_entry b (c ∷ code) = Level b
 
--- the first letter of a value whose code stands in the next word: b before bits, r before a number, s before a text
+-- the first letter of a value whose signal's code is the next word: b before bits, r before a number, s before a text
 abbrev pub is_value : ℕ → Bool
 is_value b = list_any (λ d. d == b) (codes "bBrRsS")
 
--- the level of such a value: a single bit is one; of any other value its first letter, which is no level
+-- the level of such a value: that of a single bit; for any other value its first letter, which is no level
 abbrev pub bit_of : (first : ℕ) → (letters : List ℕ) → ℕ
 bit_of first [] = first
 bit_of first (b ∷ []) = if first == 98 || first == 66 then b else first
@@ -53,15 +53,15 @@ entry_of (b ∷ bs) =
     else (if is_value b then Value (bit_of b bs)
     else Foreign)))
 
--- the letters behind the first
+-- a word without its first letter
 abbrev pub rest_of : List ℕ → List ℕ
 rest_of [] = []
 rest_of (b ∷ bs) = bs
 
 -- The pieces.
 
--- a piece, with its line: a section, with the words inside; a time stamp, with its digits; the level of the signal with a code;
--- a word that can not stand here; a section that the text does not end
+-- a piece, with its line: a section, with its words; a time stamp, with its digits; the level of
+-- the signal with a code; a word that is not allowed here; a section that the text does not end
 pub data Piece : Type 0 where
   Section : (line : ℕ) → Keyword → (inside : List (List ℕ)) → Piece
   Stamp : (line : ℕ) → (digits : List ℕ) → Piece
@@ -69,13 +69,13 @@ pub data Piece : Type 0 where
   Stray : (line : ℕ) → Piece
   Unended : (line : ℕ) → Piece
 
--- what has begun: nothing, a section with the words inside so far, or a value, whose code is the next word
+-- what has begun: nothing, a section with its words so far, or a value, whose signal's code is the next word
 pub data Begun : Type 0 where
   Nothing : Begun
   Inside : (line : ℕ) → Keyword → (inside : List (List ℕ)) → Begun
   Behind : (line : ℕ) → (level : ℕ) → Begun
 
--- the words of these sections are looked at, and of these no more than four
+-- only the words of these sections count, and only the first four of them
 abbrev pub keeps : Keyword → Bool
 keeps Timescale = true
 keeps Var = true
@@ -85,7 +85,7 @@ keeps Other = false
 abbrev pub with_word : Keyword → (inside : List (List ℕ)) → (letters : List ℕ) → List (List ℕ)
 with_word k inside l = if keeps k && nat_lt (length inside) 4 then inside ++ l ∷ [] else inside
 
--- what has begun behind a word
+-- what has begun after a word
 abbrev pub begun_by : (line : ℕ) → Entry → Begun
 begun_by line (Opens k) = Inside line k []
 begun_by line (Value level) = Behind line level
@@ -120,7 +120,7 @@ piece_left Nothing = []
 piece_left (Inside line k inside) = Unended line ∷ []
 piece_left (Behind line level) = Stray line ∷ []
 
--- the pieces of words, behind what has begun
+-- the pieces of words, with what has begun before them
 abbrev pub pieces_behind : Begun → List Word → List Piece
 pieces_behind begun [] = piece_left begun
 pieces_behind begun (w ∷ ws) = piece_at begun w ++ pieces_behind (begun_behind begun w) ws

@@ -50,14 +50,14 @@ scale_in (both ∷ []) = scale_of (digits_in both) (unit_in (behind_digits both)
 scale_in (count ∷ unit ∷ []) = scale_of count (unit_in unit)
 scale_in (count ∷ unit ∷ more ∷ words) = None
 
--- the code of a section `$var`, whose words are a kind, a size, a code and a name, if it is a signal of one bit with
--- the name that is wanted
+-- the code in a section `$var`, whose words are a kind, a size, a code and a name, if it is a
+-- signal of one bit with this name
 abbrev pub code_in : (wanted : List ℕ) → (inside : List (List ℕ)) → Option (List ℕ)
 code_in wanted (kind ∷ size ∷ code ∷ name ∷ more) =
     if bytes_eq size (codes "1") && is_named wanted name then Some code else None
 code_in wanted _ = None
 
--- the codes of the wires that are known, and of a signal with CLOCK's second name
+-- the codes of the wires as far as they are known, and of a signal with CLOCK's second name
 pub record Codes : Type 0 where
   pub atn : Option (List ℕ)
   pub clock : Option (List ℕ)
@@ -67,7 +67,7 @@ pub record Codes : Type 0 where
 abbrev pub no_codes : Codes
 no_codes = record { atn = None; clock = None; second = None; line = None }
 
--- CLOCK's own
+-- CLOCK's code, by its first name or else by its second
 abbrev pub clock_code : Codes → Option (List ℕ)
 clock_code c = first_some c.clock c.second
 
@@ -78,7 +78,7 @@ has_levels (Some k) =
     not (bytes_eq k (codes "real") || bytes_eq k (codes "realtime") || bytes_eq k (codes "string")
     || bytes_eq k (codes "event"))
 
--- of several signals with one name the first counts
+-- the codes after a section `$var`: the first signal with a name counts
 abbrev pub with_signal : Signals → Codes → (inside : List (List ℕ)) → Codes
 with_signal s c inside = if has_levels (field_at 0 inside) then (record {
   atn = first_some c.atn (code_in s.atn.now inside);
@@ -87,7 +87,8 @@ with_signal s c inside = if has_levels (field_at 0 inside) then (record {
   line = first_some c.line (code_in s.line.now inside);
 }) else c
 
--- The places of a dump: in the header, and among the changes, where times have a scale and some levels are known.
+-- Where a dump is: in the header, or among the changes, with the scale of times, the codes and what
+-- is known of the levels
 pub data Place : Type 0 where
   Header : (scale : Option ℕ) → Codes → Place
   Changes : (scale : ℕ) → Codes → Seen → Place
@@ -95,17 +96,17 @@ pub data Place : Type 0 where
 abbrev pub nothing_seen : Seen
 nothing_seen = record { time = 0; atn = None; clock = None; line = None }
 
--- a timescale there has to be
+-- the scale, which the header must have
 abbrev pub scale_or : (line : ℕ) → Option ℕ → Result ℕ CaptureFault
 scale_or line None = Err (NoTimescale line)
 scale_or line (Some scale) = Ok scale
 
--- a wire has a code
+-- the code, which each wire must have
 abbrev pub code_or : (line : ℕ) → Wire → Option (List ℕ) → Result (List ℕ) CaptureFault
 code_or line wire None = Err (NoSignal line wire)
 code_or line wire (Some code) = Ok code
 
--- the header ends
+-- the end of the header
 abbrev pub header_ended : (line : ℕ) → (scale : Option ℕ) → Codes → Result Place CaptureFault
 header_ended line scale c =
     scale_or line scale >>= λ n.
@@ -150,7 +151,7 @@ abbrev pub all_known : (atn clock line : Option Bool) → Bool
 all_known (Some a) (Some c) (Some l) = true
 all_known _ _ _ = false
 
--- a level of a wire; x and z leave it not known, as long as the three levels have not all been known at once
+-- the level of a wire; x and z leave it unknown until all three levels have been known at once
 abbrev pub level_behind : (known : Bool) → (line : ℕ) → (inverted : Bool) → (level : ℕ)
     → Result (Option Bool) CaptureFault
 level_behind known line inverted b =
@@ -162,7 +163,7 @@ abbrev pub level_if : (changes : Bool) → (level before : Option Bool) → Opti
 level_if true level before = level
 level_if false level before = before
 
--- the same of each wire that has this code
+-- the same for each wire that has this code
 abbrev pub with_level : Codes → Seen → (code : List ℕ) → (level : Option Bool) → Seen
 with_level c seen code level = record {
   time = seen.time;
@@ -171,7 +172,7 @@ with_level c seen code level = record {
   line = level_if (is_code c.line code) level seen.line;
 }
 
--- a change; that of another signal says nothing
+-- a change; one of another signal says nothing
 abbrev pub changed : (inverted : Bool) → Codes → Seen → (line level : ℕ) → (code : List ℕ) → Result Seen CaptureFault
 changed inverted c seen line level code =
     if is_code c.atn code || is_code (clock_code c) code || is_code c.line code
@@ -179,7 +180,7 @@ changed inverted c seen line level code =
     >>= λ l. Ok (with_level c seen code l))
     else Ok seen
 
--- a time stamp, in whole microseconds not before that of an earlier one
+-- a time stamp: whole microseconds, no earlier than the stamp before
 abbrev pub stamped : (scale : ℕ) → Seen → (line : ℕ) → (digits : List ℕ) → Result Seen CaptureFault
 stamped scale seen line digits =
     time_or line seen.time (time_at scale digits) >>= λ t.
@@ -187,8 +188,9 @@ stamped scale seen line digits =
 
 -- The whole.
 
--- a piece leads from one place to the next, or has a fault. In the header other words than those of sections say nothing, but for
--- `#` and digits, which show that the header did not end; among the changes sections say nothing
+-- from a piece to the next place, or a fault. In the header, words outside sections say nothing,
+-- except `#` with digits, which shows that the header has no end; among the changes, sections say
+-- nothing
 abbrev pub step : Signals → Place → Piece → Result Place CaptureFault
 step s (Header scale c) (Section line k inside) = headed s scale c line k inside
 step s (Header scale c) (Stamp line digits) = if is_number digits then Err (NoDefinitions line) else Ok (Header scale c)
@@ -211,7 +213,7 @@ abbrev pub sample_of : Place → Option Edge
 sample_of (Header scale c) = None
 sample_of (Changes scale c seen) = sample_in seen.time seen.atn seen.clock seen.line
 
--- the sample behind a piece, and what is told from there
+-- the sample after a piece, and what the rest says
 abbrev pub goes_on : Result Place CaptureFault → (Place → CaptureContents) → CaptureContents
 goes_on (Err f) rest = refused f
 goes_on (Ok p) rest = with_samples (listed (sample_of p)) (rest p)
@@ -223,12 +225,12 @@ without_level (Some a) None line = Some Clock
 without_level (Some a) (Some c) None = Some Data
 without_level (Some a) (Some c) (Some l) = None
 
--- no level was said, and no moment behind 0: so is the dump of an empty trace
+-- a dump of an empty trace: it gives no level and no moment after 0
 abbrev pub is_blank : (time : ℕ) → (atn clock line : Option Bool) → Bool
 is_blank time None None None = time == 0
 is_blank time _ _ _ = false
 
--- each wire has to have a level
+-- each wire must have a level
 abbrev pub level_wanted : (end : ℕ) → (missing : Option Wire) → CaptureContents
 level_wanted end None = ended
 level_wanted end (Some wire) = refused (NoLevel end wire)
@@ -240,7 +242,7 @@ contents_at_end end (Changes scale c seen) =
     if is_blank seen.time seen.atn seen.clock seen.line then ended
     else level_wanted end (without_level seen.atn seen.clock seen.line)
 
--- what pieces tell from a place on
+-- what pieces say from a place on
 abbrev pub piece_contents : Signals → (end : ℕ) → Place → List Piece → CaptureContents
 piece_contents s end p [] = contents_at_end end p
 piece_contents s end p (q ∷ qs) = goes_on (step s p q) (λ next. piece_contents s end next qs)
