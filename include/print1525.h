@@ -110,8 +110,7 @@ static inline const char *print1525_code_text(size_t code) {
 }
 
 /* What a fault says, in the program's words: it tells `line 3: unknown word` of the faults 1 to 8,
- * and `edge 5: too early` of 11 to 16. The texts are in the header, since a call gives no pointer
- * back; tests compare them with the program's. */
+ * and `edge 5: too early` of 11 to 16. */
 static inline const char *print1525_fault_text(size_t fault) {
     switch (fault) {
     case PRINT1525_UNKNOWN_WORD: return "unknown word";

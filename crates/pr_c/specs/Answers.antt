@@ -71,7 +71,7 @@ IsScriptRefusal script TooLarge = script_limit < length script
 IsScriptRefusal script NoMemory = Unit {0}
 IsScriptRefusal script _ = ⊥
 
--- why a printer's bytes give no text
+-- why a printer's bytes give none
 abbrev pub IsPaperRefusal : List ℕ → CliFault → Type 0
 IsPaperRefusal bytes TooLarge = raw_limit < length bytes
 IsPaperRefusal bytes NoMemory = Unit {0}
@@ -109,7 +109,7 @@ wave_numbers (wave.Shape at) = (15, at)
 wave_numbers (wave.Truncated at) = (16, at)
 wave_numbers wave.NoMemory = (0, 0)
 
--- a refusal, with its fault's numbers
+-- a refusal with its fault's numbers
 abbrev pub refusal : ℕ × ℕ → Answer
 refusal numbers = record { code = 2; fault = numbers.0; place = numbers.1; length = 0 }
 

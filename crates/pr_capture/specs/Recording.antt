@@ -40,7 +40,7 @@ abbrev pub without_front : List ℕ → List ℕ
 without_front [] = []
 without_front (b ∷ bs) = if is_framing b then without_front bs else b ∷ bs
 
--- these letters are this name, in upper or lower case, and only framing bytes follow
+-- a name's letters, whichever of them are capitals, and nothing behind them
 abbrev pub has_name : (name letters : List ℕ) → Bool
 has_name [] ls = list_all is_framing ls
 has_name (n ∷ ns) [] = false
@@ -59,7 +59,7 @@ abbrev pub first_some : {A : Type 0} → (first second : Option A) → Option A
 first_some None second = second
 first_some (Some x) second = Some x
 
--- the level on a line: 1 is released, unless the probes are after inverters
+-- a level, on a line: 1 is released, unless the probes stand behind inverters
 abbrev pub level_in : (number : ℕ) → (inverted : Bool) → ℕ → Result Bool CaptureFault
 level_in number inverted b =
     if b == 48 then Ok inverted

@@ -1,4 +1,4 @@
--- Trusted: the pieces of a Value Change Dump: its sections, from a keyword to `$end`, its time stamps and its changes.
+-- Trusted: the pieces of a Value Change Dump: its sections, each from a keyword to `$end`, its time stamps and its changes.
 use Rattle.std.specs.Prelude.{ℕ, ◌==◌, ◌&&◌, ◌||◌, Bool, true, false, List, [], ◌∷◌, ◌++◌, codes, length, nat_lt, if◌then◌else◌}
 use Rattle.std.specs.List.{list_any}
 use Rattle.std.specs.Str.{bytes_eq}
@@ -16,7 +16,7 @@ is_bracket l =
     bytes_eq l (codes "$end") || bytes_eq l (codes "$dumpvars") || bytes_eq l (codes "$dumpall")
     || bytes_eq l (codes "$dumpon") || bytes_eq l (codes "$dumpoff")
 
--- which section any other keyword begins
+-- what any other section is by its keyword
 abbrev pub keyword_of : (letters : List ℕ) → Keyword
 keyword_of l =
     if bytes_eq l (codes "$timescale") then Timescale
@@ -60,8 +60,8 @@ rest_of (b ∷ bs) = bs
 
 -- The pieces.
 
--- a piece, with its line: a section, with its words; a time stamp, with its digits; the level of
--- the signal with a code; a word that is not allowed here; a section that the text does not end
+-- a piece, with its line: a section, with the words inside; a time stamp, with its digits; the level of the signal with a code;
+-- a word that can not stand here; a section that the text does not end
 pub data Piece : Type 0 where
   Section : (line : ℕ) → Keyword → (inside : List (List ℕ)) → Piece
   Stamp : (line : ℕ) → (digits : List ℕ) → Piece
@@ -75,7 +75,7 @@ pub data Begun : Type 0 where
   Inside : (line : ℕ) → Keyword → (inside : List (List ℕ)) → Begun
   Behind : (line : ℕ) → (level : ℕ) → Begun
 
--- only the words of these sections count, and only the first four of them
+-- the words of these sections are looked at, and of these no more than four
 abbrev pub keeps : Keyword → Bool
 keeps Timescale = true
 keeps Var = true

@@ -50,14 +50,14 @@ scale_in (both ∷ []) = scale_of (digits_in both) (unit_in (behind_digits both)
 scale_in (count ∷ unit ∷ []) = scale_of count (unit_in unit)
 scale_in (count ∷ unit ∷ more ∷ words) = None
 
--- the code in a section `$var`, whose words are a kind, a size, a code and a name, if it is a
--- signal of one bit with this name
+-- the code of a section `$var`, whose words are a kind, a size, a code and a name, if it is a signal of one bit with
+-- the name that is wanted
 abbrev pub code_in : (wanted : List ℕ) → (inside : List (List ℕ)) → Option (List ℕ)
 code_in wanted (kind ∷ size ∷ code ∷ name ∷ more) =
     if bytes_eq size (codes "1") && is_named wanted name then Some code else None
 code_in wanted _ = None
 
--- the codes of the wires as far as they are known, and of a signal with CLOCK's second name
+-- the codes of the wires that are known, and of a signal with CLOCK's second name
 pub record Codes : Type 0 where
   pub atn : Option (List ℕ)
   pub clock : Option (List ℕ)
@@ -67,7 +67,7 @@ pub record Codes : Type 0 where
 abbrev pub no_codes : Codes
 no_codes = record { atn = None; clock = None; second = None; line = None }
 
--- CLOCK's code, by its first name or else by its second
+-- CLOCK's own
 abbrev pub clock_code : Codes → Option (List ℕ)
 clock_code c = first_some c.clock c.second
 
@@ -78,7 +78,7 @@ has_levels (Some k) =
     not (bytes_eq k (codes "real") || bytes_eq k (codes "realtime") || bytes_eq k (codes "string")
     || bytes_eq k (codes "event"))
 
--- the codes after a section `$var`: the first signal with a name counts
+-- of several signals with one name the first counts
 abbrev pub with_signal : Signals → Codes → (inside : List (List ℕ)) → Codes
 with_signal s c inside = if has_levels (field_at 0 inside) then (record {
   atn = first_some c.atn (code_in s.atn.now inside);
@@ -87,8 +87,7 @@ with_signal s c inside = if has_levels (field_at 0 inside) then (record {
   line = first_some c.line (code_in s.line.now inside);
 }) else c
 
--- Where a dump is: in the header, or among the changes, with the scale of times, the codes and what
--- is known of the levels
+-- The places of a dump: in the header, and among the changes, where times have a scale and some levels are known.
 pub data Place : Type 0 where
   Header : (scale : Option ℕ) → Codes → Place
   Changes : (scale : ℕ) → Codes → Seen → Place
@@ -101,12 +100,12 @@ abbrev pub scale_or : (line : ℕ) → Option ℕ → Result ℕ CaptureFault
 scale_or line None = Err (NoTimescale line)
 scale_or line (Some scale) = Ok scale
 
--- the code, which each wire must have
+-- a wire has a code
 abbrev pub code_or : (line : ℕ) → Wire → Option (List ℕ) → Result (List ℕ) CaptureFault
 code_or line wire None = Err (NoSignal line wire)
 code_or line wire (Some code) = Ok code
 
--- the end of the header
+-- the header ends
 abbrev pub header_ended : (line : ℕ) → (scale : Option ℕ) → Codes → Result Place CaptureFault
 header_ended line scale c =
     scale_or line scale >>= λ n.

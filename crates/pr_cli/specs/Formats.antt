@@ -8,8 +8,7 @@ use Rattle.pr_cli.specs.PageText.{page_text}
 use Rattle.pr_render.specs.declared.format.Format.{Format}
 use Rattle.pr_render.specs.declared.format.Format.TheVariants as format
 
--- the page text, lines of 80 columns, or the picture; lines and picture show the sheets of the
--- printers that are present
+-- the page text, lines of 80 columns, or the picture: the last two show the sheets of the printers that are present
 abbrev pub text_in : Format → Present → Outcome → List ℕ
 text_in format.List present outcome = page_text outcome
 text_in format.Lines present outcome = text_of outcome present

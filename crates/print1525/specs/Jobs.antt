@@ -46,8 +46,8 @@ IsDone answers (Ok Done) = answers (Ok tt)
 IsDone answers (Ok Stopped) = ⊥
 IsDone answers (Err fault) = answers (Err fault)
 
--- the answer of a job, by the input's bytes and by what the writer held before and after; for a run
--- they are the bytes of a script text, also where the listing has another form
+-- the answer of a job, by the input's bytes and what the writer held before and after; the bytes of a
+-- run are a script's text, also where the listing has another form
 abbrev pub AnswersJob :
     Job → List ℕ → Option (List ℕ) → Option (List ℕ) → Result Ending CliFault → Type 0
 AnswersJob (Pages form present delays mode f) text old new result =
@@ -62,7 +62,7 @@ AnswersJob (Raw lower f) text old new result = IsDone (AnswersRaw lower f text o
 
 -- Whatever the reader gives.
 
--- a fault of the job; want of memory is always `NoMemory` itself
+-- a fault of the job: want of memory always as itself
 abbrev pub IsJobFault : Job → CliFault → Type 0
 IsJobFault (Pages form present delays mode f) fault = IsRunFault fault
 IsJobFault (Bus form present delays mode f) fault = IsRunFault fault
