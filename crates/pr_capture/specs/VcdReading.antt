@@ -95,7 +95,7 @@ pub data Place : Type 0 where
 abbrev pub nothing_seen : Seen
 nothing_seen = record { time = 0; atn = None; clock = None; line = None }
 
--- the scale, which the header must have
+-- a timescale there has to be
 abbrev pub scale_or : (line : ℕ) → Option ℕ → Result ℕ CaptureFault
 scale_or line None = Err (NoTimescale line)
 scale_or line (Some scale) = Ok scale
@@ -150,7 +150,7 @@ abbrev pub all_known : (atn clock line : Option Bool) → Bool
 all_known (Some a) (Some c) (Some l) = true
 all_known _ _ _ = false
 
--- the level of a wire; x and z leave it unknown until all three levels have been known at once
+-- a level of a wire; x and z leave it not known, as long as the three levels have not all been known at once
 abbrev pub level_behind : (known : Bool) → (line : ℕ) → (inverted : Bool) → (level : ℕ)
     → Result (Option Bool) CaptureFault
 level_behind known line inverted b =
@@ -162,7 +162,7 @@ abbrev pub level_if : (changes : Bool) → (level before : Option Bool) → Opti
 level_if true level before = level
 level_if false level before = before
 
--- the same for each wire that has this code
+-- the same of each wire that has this code
 abbrev pub with_level : Codes → Seen → (code : List ℕ) → (level : Option Bool) → Seen
 with_level c seen code level = record {
   time = seen.time;
@@ -171,7 +171,7 @@ with_level c seen code level = record {
   line = level_if (is_code c.line code) level seen.line;
 }
 
--- a change; one of another signal says nothing
+-- a change; that of another signal says nothing
 abbrev pub changed : (inverted : Bool) → Codes → Seen → (line level : ℕ) → (code : List ℕ) → Result Seen CaptureFault
 changed inverted c seen line level code =
     if is_code c.atn code || is_code (clock_code c) code || is_code c.line code
@@ -179,7 +179,7 @@ changed inverted c seen line level code =
     >>= λ l. Ok (with_level c seen code l))
     else Ok seen
 
--- a time stamp: whole microseconds, no earlier than the stamp before
+-- a time stamp, in whole microseconds not before that of an earlier one
 abbrev pub stamped : (scale : ℕ) → Seen → (line : ℕ) → (digits : List ℕ) → Result Seen CaptureFault
 stamped scale seen line digits =
     time_or line seen.time (time_at scale digits) >>= λ t.
@@ -187,9 +187,8 @@ stamped scale seen line digits =
 
 -- The whole.
 
--- from a piece to the next place, or a fault. In the header, words outside sections say nothing,
--- except `#` with digits, which shows that the header has no end; among the changes, sections say
--- nothing
+-- a piece leads from one place to the next, or has a fault. In the header other words than those of sections say nothing, but for
+-- `#` and digits, which show that the header did not end; among the changes sections say nothing
 abbrev pub step : Signals → Place → Piece → Result Place CaptureFault
 step s (Header scale c) (Section line k inside) = headed s scale c line k inside
 step s (Header scale c) (Stamp line digits) = if is_number digits then Err (NoDefinitions line) else Ok (Header scale c)
@@ -212,7 +211,7 @@ abbrev pub sample_of : Place → Option Edge
 sample_of (Header scale c) = None
 sample_of (Changes scale c seen) = sample_in seen.time seen.atn seen.clock seen.line
 
--- the sample after a piece, and what the rest says
+-- the sample behind a piece, and what is told from there
 abbrev pub goes_on : Result Place CaptureFault → (Place → CaptureContents) → CaptureContents
 goes_on (Err f) rest = refused f
 goes_on (Ok p) rest = with_samples (listed (sample_of p)) (rest p)
@@ -224,12 +223,12 @@ without_level (Some a) None line = Some Clock
 without_level (Some a) (Some c) None = Some Data
 without_level (Some a) (Some c) (Some l) = None
 
--- a dump of an empty trace: it gives no level and no moment after 0
+-- no level was said, and no moment behind 0: so is the dump of an empty trace
 abbrev pub is_blank : (time : ℕ) → (atn clock line : Option Bool) → Bool
 is_blank time None None None = time == 0
 is_blank time _ _ _ = false
 
--- each wire must have a level
+-- each wire has to have a level
 abbrev pub level_wanted : (end : ℕ) → (missing : Option Wire) → CaptureContents
 level_wanted end None = ended
 level_wanted end (Some wire) = refused (NoLevel end wire)
@@ -241,7 +240,7 @@ contents_at_end end (Changes scale c seen) =
     if is_blank seen.time seen.atn seen.clock seen.line then ended
     else level_wanted end (without_level seen.atn seen.clock seen.line)
 
--- what pieces say from a place on
+-- what pieces tell from a place on
 abbrev pub piece_contents : Signals → (end : ℕ) → Place → List Piece → CaptureContents
 piece_contents s end p [] = contents_at_end end p
 piece_contents s end p (q ∷ qs) = goes_on (step s p q) (λ next. piece_contents s end next qs)
