@@ -17,7 +17,7 @@ present_of printers =
     else (if printers == 2 then Some (record { four = false; five = true })
     else (if printers == 3 then Some (record { four = true; five = true }) else None)))
 
--- how the status goes on: cleared before each statement, or kept
+-- the status: cleared before each statement, or kept
 abbrev pub mode_of : ℕ → Option StatusMode
 mode_of status = if status == 0 then Some mode.Each else (if status == 1 then Some mode.Kept else None)
 

@@ -1,6 +1,6 @@
--- Trusted: what a table of comma separated values says of the bus: samples of its lines, up to the first fault if there is one.
--- Blank lines and remarks say nothing. Of the others the first has the columns' names, and each later one is a sample, whose first field
--- is the time in seconds.
+-- Trusted: what a table of comma separated values says of the bus: samples of its lines, up to the
+-- first fault if there is one. Blank lines and remarks say nothing. The first other line names the
+-- columns, and each later one is a sample, whose first field is the time in seconds.
 use Rattle.std.specs.Prelude.{ℕ, zero, suc, ◌+◌, ◌-◌, ◌*◌, ◌==◌, ◌&&◌, ◌||◌, Bool, true, false, not, List, [], ◌∷◌, ◌++◌, codes, drop, length, nat_lt, take, if◌then◌else◌, Option, Some, None, Result, Ok, Err}
 use Rattle.std.specs.List.{list_all, prefix_len}
 use Rattle.pr_wire.specs.declared.Edge.{Edge}
@@ -17,23 +17,23 @@ use Rattle.pr_capture.specs.Recording.{◌>>=◌, ended, first_some, is_framing,
 
 -- Lines and fields.
 
--- nothing, or a remark
+-- the rest of a line is empty, or a remark
 abbrev pub is_remark : (words : List ℕ) → Bool
 is_remark [] = true
 is_remark (b ∷ bs) = b == 59 || b == 35
 
--- a line says nothing: it is blank, or a remark, which begins with ; or #
+-- a line says nothing: it is blank, or a remark, which begins with `;` or `#`
 abbrev pub is_silent : (line : List ℕ) → Bool
 is_silent line = is_remark (without_front line)
 
--- the fields of a line: commas part them, but for those between quotation marks
+-- the fields of a line, separated by commas, except for commas between quotation marks
 abbrev pub fields_of : (quoted : Bool) → (line : List ℕ) → List (List ℕ)
 fields_of quoted [] = [] ∷ []
 fields_of quoted (b ∷ bs) =
     if b == 44 && not quoted then [] ∷ fields_of false bs
     else onto_first b (fields_of (if b == 34 then not quoted else quoted) bs)
 
--- the field of a place, from 0
+-- the field at a place, from 0
 abbrev pub field_at : (place : ℕ) → (fields : List (List ℕ)) → Option (List ℕ)
 field_at place [] = None
 field_at zero (f ∷ fs) = Some f
@@ -41,21 +41,21 @@ field_at (suc place) (f ∷ fs) = field_at place fs
 
 -- The columns.
 
--- the place of the first field that is this name
+-- the place of the first field with this name
 abbrev pub column_of : (name : List ℕ) → (place : ℕ) → (fields : List (List ℕ)) → Option ℕ
 column_of name place [] = None
 column_of name place (f ∷ fs) = if is_named name f then Some place else column_of name (place + 1) fs
 
--- that of CLOCK, by its first name or else by its second
+-- the place of CLOCK's column, by its first name or else by its second
 abbrev pub clock_column : Signals → (fields : List (List ℕ)) → Option ℕ
 clock_column s fs = first_some (column_of s.clock.now 1 fs) (column_of (second_name s) 1 fs)
 
--- there has to be one
+-- a column that a wire needs
 abbrev pub column_or : (number : ℕ) → Wire → Option ℕ → Result ℕ CaptureFault
 column_or number wire None = Err (NoSignal number wire)
 column_or number wire (Some place) = Ok place
 
--- the columns of the three lines, by the fields behind that of the time
+-- the columns of the three lines, among the fields after that of the time
 abbrev pub columns_in : Signals → (number : ℕ) → (fields : List (List ℕ)) → Result Columns CaptureFault
 columns_in s number fs =
     column_or number Atn (column_of s.atn.now 1 fs) >>= λ atn.
@@ -63,27 +63,27 @@ columns_in s number fs =
     column_or number Data (column_of s.line.now 1 fs) >>= λ line.
     Ok (record { atn = atn; clock = clock; line = line })
 
--- the columns that a line names; the first is the time, whatever its name
+-- the columns that a line names; the first is the time, with any name
 abbrev pub columns_of : Signals → (number : ℕ) → (fields : List (List ℕ)) → Result Columns CaptureFault
 columns_of s number [] = columns_in s number []
 columns_of s number (time ∷ fs) = columns_in s number fs
 
 -- Times.
 
--- the number that digits spell behind those that spell n, as long as it is below 2 ^ 64
+-- the number that digits spell after digits that spell n, as long as it is below 2 ^ 64
 abbrev pub number_from : ℕ → (digits : List ℕ) → Option ℕ
 number_from n [] = Some n
 number_from n (d ∷ ds) =
     if nat_lt (10 * n + (d - 48)) 18446744073709551616 then number_from (10 * n + (d - 48)) ds else None
 
--- digits, and what stands behind them
+-- the digits at the front, and what follows them
 abbrev pub digits_in : List ℕ → List ℕ
 digits_in l = take (prefix_len is_digit l) l
 
 abbrev pub behind_digits : List ℕ → List ℕ
 behind_digits l = drop (prefix_len is_digit l) l
 
--- the digits behind a point, if one stands here, and what stands behind them
+-- the digits after a point at the front, if there is one, and what follows them
 abbrev pub decimals_in : List ℕ → List ℕ
 decimals_in [] = []
 decimals_in (b ∷ bs) = if b == 46 then digits_in bs else []
@@ -92,7 +92,7 @@ abbrev pub behind_decimals : List ℕ → List ℕ
 behind_decimals [] = []
 behind_decimals (b ∷ bs) = if b == 46 then behind_digits bs else b ∷ bs
 
--- six decimals; those that lack are zeros
+-- six decimals: further ones are dropped, and missing ones are zeros
 abbrev pub millionths : (decimals : List ℕ) → List ℕ
 millionths ds = take 6 ds ++ drop (length (take 6 ds)) (codes "000000")
 
@@ -107,14 +107,14 @@ time_in l =
     then micros_in (digits_in l) (decimals_in (behind_digits l))
     else None
 
--- a row's time, in whole microseconds not before that of an earlier row
+-- a row's time: whole microseconds, no earlier than the row before
 abbrev pub time_or : (number before : ℕ) → Option ℕ → Result ℕ CaptureFault
 time_or number before None = Err (BadTime number)
 time_or number before (Some t) = if nat_lt t before then Err (GoesBack number) else Ok t
 
 -- Rows.
 
--- a level that a field spells
+-- the level that a field spells
 abbrev pub level_of : (number : ℕ) → (inverted : Bool) → List ℕ → Result Bool CaptureFault
 level_of number inverted [] = Err (BadLevel number)
 level_of number inverted (b ∷ bs) = if list_all is_framing bs then level_in number inverted b else Err (BadLevel number)
@@ -139,12 +139,12 @@ row c inverted number before [] = Err (BadTime number)
 row c inverted number before (time ∷ fs) =
     time_or number before (time_in (without_front time)) >>= λ t. sample_of c inverted number (time ∷ fs) t
 
--- a row's sample, and what is told behind it
+-- a row's sample, and what the rest says
 abbrev pub contents_after_row : Result Edge CaptureFault → (ℕ → CaptureContents) → CaptureContents
 contents_after_row (Err f) rest = refused f
 contents_after_row (Ok e) rest = with_samples (e ∷ []) (rest e.time)
 
--- rows, of which the first has this number, behind one of this time
+-- rows, the first on the line of this number, after a row of this time
 abbrev pub row_contents : Columns → (inverted : Bool) → (number before : ℕ) → List (List ℕ) → CaptureContents
 row_contents c inverted number before [] = ended
 row_contents c inverted number before (l ∷ ls) =
@@ -154,12 +154,12 @@ row_contents c inverted number before (l ∷ ls) =
 
 -- The whole.
 
--- what is told behind the line of the names
+-- what the rows say, with the columns that the line of names gives
 abbrev pub named_contents : Result Columns CaptureFault → (Columns → CaptureContents) → CaptureContents
 named_contents (Err f) rest = refused f
 named_contents (Ok c) rest = rest c
 
--- lines, of which the first has this number; the first that says anything names the columns
+-- lines, of which the first has this number; the first that is not silent names the columns
 abbrev pub line_contents : Signals → (number : ℕ) → List (List ℕ) → CaptureContents
 line_contents s number [] = refused (NoSignal number Atn)
 line_contents s number (l ∷ ls) =

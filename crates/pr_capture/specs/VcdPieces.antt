@@ -8,9 +8,9 @@ use Rattle.pr_capture.specs.declared.entries.Entry.{Entry}
 use Rattle.pr_capture.specs.declared.entries.Entry.TheVariants.{Foreign, Level, Opens, Silent, Time, Value}
 use Rattle.pr_capture.specs.Words.{Word}
 
--- What a word is that stands in no section.
+-- What a word outside the sections is.
 
--- changes stand in these sections as elsewhere: what begins and ends them says nothing by itself
+-- changes count in these sections as elsewhere, so the words that begin and end them mean nothing
 abbrev pub is_bracket : (letters : List ℕ) → Bool
 is_bracket l =
     bytes_eq l (codes "$end") || bytes_eq l (codes "$dumpvars") || bytes_eq l (codes "$dumpall")
@@ -28,16 +28,16 @@ keyword_of l =
 abbrev pub is_level : ℕ → Bool
 is_level b = list_any (λ d. d == b) (codes "01xXzZuUwWlLhH-")
 
--- the code of its signal has to stand behind it
+-- a level, only if a signal's code follows it in the same word
 abbrev pub level_entry : (level : ℕ) → (code : List ℕ) → Entry
 level_entry b [] = Foreign
 level_entry b (c ∷ code) = Level b
 
--- the first letter of a value whose code stands in the next word: b before bits, r before a number, s before a text
+-- the first letter of a value whose signal's code is the next word: b before bits, r before a number, s before a text
 abbrev pub is_value : ℕ → Bool
 is_value b = list_any (λ d. d == b) (codes "bBrRsS")
 
--- the level of such a value: a single bit is one; of any other value its first letter, which is no level
+-- the level of such a value: that of a single bit; for any other value its first letter, which is no level
 abbrev pub bit_of : (first : ℕ) → (letters : List ℕ) → ℕ
 bit_of first [] = first
 bit_of first (b ∷ []) = if first == 98 || first == 66 then b else first
@@ -53,7 +53,7 @@ entry_of (b ∷ bs) =
     else (if is_value b then Value (bit_of b bs)
     else Foreign)))
 
--- the letters behind the first
+-- a word without its first letter
 abbrev pub rest_of : List ℕ → List ℕ
 rest_of [] = []
 rest_of (b ∷ bs) = bs
@@ -69,7 +69,7 @@ pub data Piece : Type 0 where
   Stray : (line : ℕ) → Piece
   Unended : (line : ℕ) → Piece
 
--- what has begun: nothing, a section with the words inside so far, or a value, whose code is the next word
+-- what has begun: nothing, a section with its words so far, or a value, whose signal's code is the next word
 pub data Begun : Type 0 where
   Nothing : Begun
   Inside : (line : ℕ) → Keyword → (inside : List (List ℕ)) → Begun
@@ -85,7 +85,7 @@ keeps Other = false
 abbrev pub with_word : Keyword → (inside : List (List ℕ)) → (letters : List ℕ) → List (List ℕ)
 with_word k inside l = if keeps k && nat_lt (length inside) 4 then inside ++ l ∷ [] else inside
 
--- what has begun behind a word
+-- what has begun after a word
 abbrev pub begun_by : (line : ℕ) → Entry → Begun
 begun_by line (Opens k) = Inside line k []
 begun_by line (Value level) = Behind line level
@@ -120,7 +120,7 @@ piece_left Nothing = []
 piece_left (Inside line k inside) = Unended line ∷ []
 piece_left (Behind line level) = Stray line ∷ []
 
--- the pieces of words, behind what has begun
+-- the pieces of words, with what has begun before them
 abbrev pub pieces_behind : Begun → List Word → List Piece
 pieces_behind begun [] = piece_left begun
 pieces_behind begun (w ∷ ws) = piece_at begun w ++ pieces_behind (begun_behind begun w) ws

@@ -1,4 +1,8 @@
 //! Reading tables of comma separated values, as logic analysers export them.
+//!
+//! The kit's crate `csv` does not fit: its reader owns its stream, while all three formats are read
+//! from the front of a block that somebody else has read (`take_front`), so that one loop serves
+//! them; its clauses do not say on which line a row is; and its quoted fields may hold line ends.
 
 ghost use Rattle.std.specs.Prelude.{◌≡◌, ◌+◌, ◌^◌, ◌<◌, ◌≤◌, ◌∷◌, ◌++◌, [], false, true, None, IfErr, IfOk, length, option_copied, take};
 ghost use Rattle.std.specs.List.{list_all, prefix_len};

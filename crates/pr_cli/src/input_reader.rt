@@ -21,6 +21,9 @@ use std::io::Read;
 /// Call [`read_block`](InputReader::read_block) until it answers false, and take the
 /// [`edges`](InputReader::edges) of each block for which it answers true; the last come with
 /// [`finish`](InputReader::finish).
+///
+/// The edges of a block are a list, 16 bytes each. A trait for whoever takes the edges would save
+/// the list, but want of memory, counts and the moment of writing differ from caller to caller.
 #[derive(Drop)]
 pub struct InputReader<'a> {
     edges: EdgeReader<'a>,

@@ -97,8 +97,10 @@ fn write_report<W: Write>(output: &mut Watched<W>, text: ReportText) -> Result<(
     }
 }
 
-/// Reads an input of at most `limit` bytes to its end or to its fault, block by block, and makes the
-/// report on it.
+/// Reads an input of at most `limit` bytes to its end or to its fault, block by block, and makes
+/// the report on it. Of a recording with a fault the samples before it make edges too, the last
+/// included. It is public with the limit as an argument, since no test can try the program's own
+/// limit.
 ///
 /// # Errors
 ///

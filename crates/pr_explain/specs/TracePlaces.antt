@@ -1,5 +1,5 @@
 -- Trusted: the places that the explanations of traces and of recordings have: the line that cannot
--- be read, and where the edges stop being lawful, or go back in time.
+-- be read, and the edge at which the trace is no longer lawful, or time goes back.
 use Rattle.std.specs.Prelude.{◌≡◌, ◌↔◌, IsTrue, ℕ, ◌+◌, ◌-◌, ◌<◌, ◌≤◌, ◌^◌, nat_lt, Bool, true, false, if◌then◌else◌, List, [], ◌∷◌, ◌++◌, length, take, Option, Some, None}
 use Rattle.std.specs.List.{list_any}
 use Rattle.pr_wire.specs.declared.Edge.{Edge}
@@ -23,8 +23,7 @@ use Rattle.pr_explain.specs.declared.traces.TracePlace.{TracePlace}
 
 -- Edges.
 
--- these rows are the edges that may follow others: an edge is allowed after them exactly if one of
--- the rows takes it
+-- the rows of the edges that may follow others: an edge is allowed after them exactly if one of the rows takes it
 abbrev pub AreRowsAfter : List (Option Row) → List Edge → Type 0
 AreRowsAfter rows before =
     (e : Edge) → e.time < 2 ^ 64
@@ -36,7 +35,7 @@ row_to l [] = None
 row_to l (None ∷ rows) = row_to l rows
 row_to l (Some r ∷ rows) = if differ r.levels l then row_to l rows else Some r
 
--- by how much a moment misses the interval of a row, if it does
+-- by how much a moment is outside the interval of a row, if it is
 abbrev pub missed_late : Option ℕ → (time : ℕ) → Option Miss
 missed_late None time = None
 missed_late (Some latest) time = if nat_lt latest time then Some (Late (time - latest)) else None
@@ -46,19 +45,18 @@ missed_by None time = None
 missed_by (Some r) time =
     if nat_lt time r.earliest then Some (Early (r.earliest - time)) else missed_late r.latest time
 
--- of the edges that are not allowed after others the first, by how much it misses the row to its
--- levels
+-- by how much the first edge after the allowed ones is outside the interval of the row to its levels
 abbrev pub missed_first : List (Option Row) → List Edge → Option Miss
 missed_first rows [] = None
 missed_first rows (e ∷ es) = missed_by (row_to e.levels rows) e.time
 
--- edges stop after these: the next one is not allowed; or there is none, and none is to come
+-- where edges stop being lawful: the next edge is not allowed, or there is no next edge and none will come
 abbrev pub StopAfter : (whole : Bool) → (before after : List Edge) → Type 0
 StopAfter whole before [] = IsTrue whole
 StopAfter whole before (e ∷ es) = IsAllowed (before ++ e ∷ []) → ⊥
 
--- edges stop being lawful here: how many are allowed, their first fault, the edges that may follow,
--- and by how much the next misses these
+-- where edges stop being lawful: how many are allowed, their first fault, the edges that may
+-- follow, and by how much the next one is early or late
 pub record AreStopped (whole : Bool) (edges : List Edge) (p : EdgePlace) : Type 0 where
   pub before : List Edge
   pub after : List Edge
@@ -70,7 +68,7 @@ pub record AreStopped (whole : Bool) (edges : List Edge) (p : EdgePlace) : Type 
   pub expected : AreRowsAfter p.expected before
   pub missed : p.missed ≡ missed_first p.expected after
 
--- edges, of which all are known or more may follow, stop here, or are lawful as far as they go
+-- edges stop being lawful here, or are lawful; if they are not whole, more edges may follow
 abbrev pub StopsAt : (whole : Bool) → List Edge → Option EdgePlace → Type 0
 StopsAt whole edges (Some p) = AreStopped whole edges p
 StopsAt true edges None = fault_of edges ≡ None
@@ -101,8 +99,8 @@ fault_line _ = None
 
 -- Traces.
 
--- the place of what an input says: the line of its fault, and where the edges before that, or all
--- of them, stop
+-- the place of an input's faults: the line of its own fault, if it has one, and where the edges
+-- before that line, or all edges, stop being lawful
 abbrev pub IsPlaceOf : List Edge → (own : Option CliFault) → TracePlace → Type 0
 IsPlaceOf edges None p = (p.line ≡ None) × StopsAt true edges p.edge
 IsPlaceOf edges (Some fault) p =
@@ -120,7 +118,7 @@ nowhere = record { line = None; edge = None }
 
 -- Recordings.
 
--- no edge of these, which come after one at this moment, is earlier than the one before it
+-- edges after this moment, none of them earlier than the one before it
 abbrev pub AreInOrderBehind : (last : ℕ) → List Edge → Type 0
 AreInOrderBehind last [] = Unit {0}
 AreInOrderBehind last (e ∷ es) = (last ≤ e.time) × AreInOrderBehind e.time es
@@ -130,12 +128,12 @@ AreInOrder [] = Unit {0}
 AreInOrder (e ∷ es) = AreInOrderBehind e.time es
 
 -- the edge of this index is the first that is earlier than the one before it: the edges before it
--- are in order, and with it they are not
+-- are in order, and together with it they are not
 abbrev pub GoesBackAt : List Edge → (index : ℕ) → Type 0
 GoesBackAt edges index = AreInOrder (take index edges) × (AreInOrder (take (index + 1) edges) → ⊥)
 
--- the place of what a recording says: the first edge with which time goes back; or the line of its
--- fault, if it has one
+-- the place of a recording's fault: the first edge with which time goes back, or else the line of
+-- the recording's own fault, if it has one
 abbrev pub IsPlaceRead : List Edge → (own : Option CliFault) → Option ReadingPlace → Type 0
 IsPlaceRead edges own None = AreInOrder edges × (own ≡ None)
 IsPlaceRead edges own (Some (read.Edge index)) = GoesBackAt edges index

@@ -21,6 +21,9 @@ use std::io::{Read, Write};
 /// `bus` is a script's text, whatever form the listing has: `main` gives the text of a listing in
 /// another form.
 ///
+/// It takes the whole [`Job`]: `main` reads only the form of a listing from it, so every use of a
+/// format, a set or a delay is proved.
+///
 /// The answer is [`Ending::Stopped`] exactly if a BASIC error stopped the run of a script.
 ///
 /// # Errors
