@@ -5,7 +5,6 @@ use Rattle.std.specs.Io.KnownBytes.{IsAtEnd, Keeps}
 use Rattle.pr_wire.specs.declared.Edge.{Edge}
 use Rattle.pr_render.specs.declared.format.Format.{Format}
 use Rattle.pr_capture.specs.declared.format.TraceInput.{TraceInput}
-use Rattle.pr_input.specs.PartlyWritten.{AppendsFront}
 use Rattle.pr_cli.specs.Inputs.{EachTextSaysEdges, HasReadEdges, edges_read, fault_read}
 use Rattle.pr_cli.specs.EdgesTaken.{HasTakenAll, HasTakenBefore}
 use Rattle.pr_cli.specs.Report.{IsNoReading, SaysWhole, IsOwnFault}
@@ -82,10 +81,6 @@ prints_last limit start left input r c p h stops ends =
         → IfSome start (λ text. PrintsWhole limit input text p)
     known None edges own o k says = tt
     known (Some text) edges own o k says = record { edges = edges; own = own; is_own = o; says = says; ends = k }
-
--- the same text, partly written
-pub front_as : (old new : Option (List ℕ)) (t u : List ℕ) → t ≡ u → AppendsFront old new t → AppendsFront old new u
-front_as old new t u e h = subst (λ (l : List ℕ). AppendsFront old new l) e h
 
 -- the pages are not shown, and nothing is written
 pub unshown : (format : Format) (p : Printed) (old : Option (List ℕ)) (shown : Result (List ℕ) PictureFault) (v : Result (Unit {0}) CliFault) (f : CliFault)
