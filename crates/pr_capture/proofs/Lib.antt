@@ -1,6 +1,5 @@
 pub mod VcdAdding
 pub mod Gathering
-pub mod Names
 pub mod CsvFields
 pub mod CsvTimes
 pub mod CsvReading

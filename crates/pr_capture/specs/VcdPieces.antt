@@ -1,28 +1,35 @@
 -- Trusted: the pieces of a Value Change Dump: its sections, each from a keyword to `$end`, its time stamps and its changes.
-use Rattle.std.specs.Prelude.{ℕ, ◌==◌, ◌&&◌, ◌||◌, Bool, true, false, List, [], ◌∷◌, ◌++◌, codes, length, nat_lt, if◌then◌else◌}
+use Rattle.std.specs.Prelude.{ℕ, ◌==◌, ◌||◌, Bool, true, false, List, [], ◌∷◌, ◌++◌, codes, if◌then◌else◌}
 use Rattle.std.specs.List.{list_any}
 use Rattle.std.specs.Str.{bytes_eq}
 use Rattle.pr_capture.specs.declared.entries.Keyword.{Keyword}
-use Rattle.pr_capture.specs.declared.entries.Keyword.TheVariants.{Definitions, Other, Timescale, Var}
+use Rattle.pr_capture.specs.declared.entries.Keyword.TheVariants.{Definitions, Other, Scope, Timescale, Upscope, Var}
 use Rattle.pr_capture.specs.declared.entries.Entry.{Entry}
-use Rattle.pr_capture.specs.declared.entries.Entry.TheVariants.{Foreign, Level, Opens, Silent, Time, Value}
+use Rattle.pr_capture.specs.declared.entries.Entry.TheVariants.{Foreign, Level, Opens, Resumes, Silent, Time, Value}
 use Rattle.pr_capture.specs.Words.{Word}
 
 -- What a word is that stands in no section.
 
 -- changes stand in these sections as elsewhere: what begins and ends them says nothing by itself
 abbrev pub is_bracket : (letters : List ℕ) → Bool
-is_bracket l =
-    bytes_eq l (codes "$end") || bytes_eq l (codes "$dumpvars") || bytes_eq l (codes "$dumpall")
-    || bytes_eq l (codes "$dumpon") || bytes_eq l (codes "$dumpoff")
+is_bracket l = bytes_eq l (codes "$end") || bytes_eq l (codes "$dumpvars") || bytes_eq l (codes "$dumpall")
 
--- what any other section is by its keyword
+-- what any other section is by its keyword. `$dumpoff` is one of the others: its values only say that recording ends
 abbrev pub keyword_of : (letters : List ℕ) → Keyword
 keyword_of l =
     if bytes_eq l (codes "$timescale") then Timescale
+    else (if bytes_eq l (codes "$scope") then Scope
+    else (if bytes_eq l (codes "$upscope") then Upscope
     else (if bytes_eq l (codes "$var") then Var
     else (if bytes_eq l (codes "$enddefinitions") then Definitions
-    else Other))
+    else Other))))
+
+-- a word that begins with $: recording goes on, or a section does, or it says nothing by itself
+abbrev pub keyword_entry : (letters : List ℕ) → Entry
+keyword_entry l =
+    if is_bracket l then Silent
+    else (if bytes_eq l (codes "$dumpon") then Resumes
+    else Opens (keyword_of l))
 
 -- a level of one bit: 0, 1, x or z, or one of those that simulators of VHDL write beside them
 abbrev pub is_level : ℕ → Bool
@@ -47,7 +54,7 @@ bit_of first (b ∷ c ∷ letters) = first
 abbrev pub entry_of : (letters : List ℕ) → Entry
 entry_of [] = Silent
 entry_of (b ∷ bs) =
-    if b == 36 then (if is_bracket (b ∷ bs) then Silent else Opens (keyword_of (b ∷ bs)))
+    if b == 36 then keyword_entry (b ∷ bs)
     else (if b == 35 then Time
     else (if is_level b then level_entry b bs
     else (if is_value b then Value (bit_of b bs)
@@ -61,12 +68,13 @@ rest_of (b ∷ bs) = bs
 -- The pieces.
 
 -- a piece, with its line: a section, with the words inside; a time stamp, with its digits; the level of the signal with a code;
--- a word that can not stand here; a section that the text does not end
+-- a word that can not stand here; recording that goes on; a section that the text does not end
 pub data Piece : Type 0 where
   Section : (line : ℕ) → Keyword → (inside : List (List ℕ)) → Piece
   Stamp : (line : ℕ) → (digits : List ℕ) → Piece
   Change : (line : ℕ) → (level : ℕ) → (code : List ℕ) → Piece
   Stray : (line : ℕ) → Piece
+  Resume : (line : ℕ) → Piece
   Unended : (line : ℕ) → Piece
 
 -- what has begun: nothing, a section with the words inside so far, or a value, whose code is the next word
@@ -75,21 +83,24 @@ pub data Begun : Type 0 where
   Inside : (line : ℕ) → Keyword → (inside : List (List ℕ)) → Begun
   Behind : (line : ℕ) → (level : ℕ) → Begun
 
--- the words of these sections are looked at, and of these no more than four
+-- the words of these sections are looked at
 abbrev pub keeps : Keyword → Bool
 keeps Timescale = true
+keeps Scope = true
+keeps Upscope = false
 keeps Var = true
 keeps Definitions = false
 keeps Other = false
 
 abbrev pub with_word : Keyword → (inside : List (List ℕ)) → (letters : List ℕ) → List (List ℕ)
-with_word k inside l = if keeps k && nat_lt (length inside) 4 then inside ++ l ∷ [] else inside
+with_word k inside l = if keeps k then inside ++ l ∷ [] else inside
 
 -- what has begun behind a word
 abbrev pub begun_by : (line : ℕ) → Entry → Begun
 begun_by line (Opens k) = Inside line k []
 begun_by line (Value level) = Behind line level
 begun_by line Silent = Nothing
+begun_by line Resumes = Nothing
 begun_by line Time = Nothing
 begun_by line (Level level) = Nothing
 begun_by line Foreign = Nothing
@@ -108,6 +119,7 @@ piece_by w Foreign = Stray w.line ∷ []
 piece_by w (Opens k) = []
 piece_by w (Value level) = []
 piece_by w Silent = []
+piece_by w Resumes = Resume w.line ∷ []
 
 abbrev pub piece_at : Begun → Word → List Piece
 piece_at Nothing w = piece_by w (entry_of w.letters)

@@ -2,13 +2,17 @@
 
 ghost use Rattle.std.specs.Prelude.{◌≡◌};
 ghost use Rattle.std.specs.Str.{bytes_eq};
-ghost use Rattle.pr_capture.specs.VcdPieces.{bit_of, entry_of, is_bracket, is_level, is_value, keeps, keyword_of, level_entry, rest_of};
+ghost use Rattle.pr_capture.specs.VcdPieces.{bit_of, entry_of, is_bracket, is_level, is_value, keeps, keyword_entry, keyword_of, level_entry, rest_of};
 
 /// What a section says, by its keyword.
 #[derive(Clone, Copy)]
 pub enum Keyword {
     /// The unit of all times.
     Timescale,
+    /// A scope that begins: the signals up to its end are in it.
+    Scope,
+    /// A scope that ends.
+    Upscope,
     /// A signal.
     Var,
     /// Nothing but that the header ends.
@@ -24,6 +28,8 @@ pub enum Entry {
     Opens(Keyword),
     /// The keyword of a section whose words stand as if it were not there, or an end.
     Silent,
+    /// Recording goes on after a pause.
+    Resumes,
     /// A time stamp.
     Time,
     /// A level, and the code of its signal.
@@ -45,11 +51,7 @@ pub fn is_word(letters: &[u8], word: &[u8]) -> bool
 fn is_bracket(letters: &[u8]) -> bool
     ensures { result ≡ is_bracket letters.now }
 {
-    is_word(letters, b"$end")
-        || is_word(letters, b"$dumpvars")
-        || is_word(letters, b"$dumpall")
-        || is_word(letters, b"$dumpon")
-        || is_word(letters, b"$dumpoff")
+    is_word(letters, b"$end") || is_word(letters, b"$dumpvars") || is_word(letters, b"$dumpall")
 }
 
 /// What a section says that has this keyword.
@@ -58,12 +60,29 @@ fn keyword_of(letters: &[u8]) -> Keyword
 {
     if is_word(letters, b"$timescale") {
         Keyword::Timescale
+    } else if is_word(letters, b"$scope") {
+        Keyword::Scope
+    } else if is_word(letters, b"$upscope") {
+        Keyword::Upscope
     } else if is_word(letters, b"$var") {
         Keyword::Var
     } else if is_word(letters, b"$enddefinitions") {
         Keyword::Definitions
     } else {
         Keyword::Other
+    }
+}
+
+/// What a word is that begins with `$` and stands in no section.
+fn keyword_entry(letters: &[u8]) -> Entry
+    ensures { result ≡ keyword_entry letters.now }
+{
+    if is_bracket(letters) {
+        Entry::Silent
+    } else if is_word(letters, b"$dumpon") {
+        Entry::Resumes
+    } else {
+        Entry::Opens(keyword_of(letters))
     }
 }
 
@@ -116,11 +135,7 @@ pub fn entry_of(letters: &[u8]) -> Entry
         [] => Entry::Silent,
         [b, rest @ ..] => {
             if *b == b'$' {
-                if is_bracket(letters) {
-                    Entry::Silent
-                } else {
-                    Entry::Opens(keyword_of(letters))
-                }
+                keyword_entry(letters)
             } else if *b == b'#' {
                 Entry::Time
             } else if is_level(*b) {
@@ -149,7 +164,7 @@ pub fn keeps(keyword: Keyword) -> bool
     ensures { result ≡ keeps keyword }
 {
     match keyword {
-        Keyword::Timescale | Keyword::Var => true,
-        Keyword::Definitions | Keyword::Other => false,
+        Keyword::Timescale | Keyword::Scope | Keyword::Var => true,
+        Keyword::Upscope | Keyword::Definitions | Keyword::Other => false,
     }
 }

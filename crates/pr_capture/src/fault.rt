@@ -32,9 +32,15 @@ pub enum CaptureFault {
     /// The header does not end with `$enddefinitions`.
     #[error("line {0}: no $enddefinitions")]
     NoDefinitions(usize),
-    /// No `$timescale`, or one that is not 1, 10 or 100 units from fs to s.
+    /// Another signal has the wire's name, and they are not the same: on this line.
+    #[error("line {0}: another signal {1}")]
+    TwoSignals(usize, Wire),
+    /// No `$timescale`.
     #[error("line {0}: no timescale")]
     NoTimescale(usize),
+    /// A `$timescale` that is not 1, 10 or 100 units from fs to s.
+    #[error("line {0}: bad timescale")]
+    BadTimescale(usize),
     /// A time that is no number of its unit, or not below 2^64 microseconds or 2^64 of a dump's own unit.
     #[error("line {0}: bad time")]
     BadTime(usize),
@@ -50,7 +56,7 @@ pub enum CaptureFault {
     /// Nobody drives the wire.
     #[error("line {0}: level z")]
     Floating(usize),
-    /// A level that is none of 0, 1, x and z.
+    /// A level that is none of 0, 1, L, H, x and z.
     #[error("line {0}: bad level")]
     BadLevel(usize),
     /// Memory was refused.

@@ -1,10 +1,9 @@
 //! What the header of a dump says: the unit of all times, and the codes of the three wires.
 
-ghost use Rattle.std.specs.Prelude.{◌≡◌, ◌≤◌, option_copied, IfOk, IfSome, OnOk};
+ghost use Rattle.std.specs.Prelude.{◌≡◌, ◌≤◌, ◌++◌, option_copied, IfOk, IfSome, OnOk};
 ghost use Rattle.pr_capture.specs.Csv.{field_at};
-ghost use Rattle.pr_capture.specs.Recording.{first_some};
-ghost use Rattle.pr_capture.specs.VcdReading.{code_in, has_levels, is_code, scale_in, scale_of, unit_in, with_signal};
-ghost use Rattle.pr_capture.specs.VcdSteps.{code_of, codes_of, words_in};
+ghost use Rattle.pr_capture.specs.VcdReading.{clock_found, code_in, ends_path, found_too, has_levels, has_path, is_code, joined, name_in, nothing, other_line, path_of, scale_in, scale_of, unit_in, with_code, with_path, with_signal};
+ghost use Rattle.pr_capture.specs.VcdSteps.{code_of, codes_of, found_of, words_in};
 
 use crate::entries::is_word;
 use crate::signals::{Signals, is_named};
@@ -51,7 +50,7 @@ fn scale_of(count: &[u8], unit: &[u8]) -> Option<u64>
 }
 
 /// The word of a place, from 0.
-fn word_at(inside: &[Vec<u8>], place: usize) -> Option<&[u8]>
+pub fn word_at(inside: &[Vec<u8>], place: usize) -> Option<&[u8]>
     ensures { option_copied result ≡ field_at place (words_in inside.now) }
 {
     if place < inside.len() {
@@ -78,14 +77,66 @@ pub fn scale_in(inside: &[Vec<u8>]) -> Option<u64>
     }
 }
 
-/// The code of a signal of one bit that has a name, if the words of a section `$var` tell one.
-fn code_in<'w>(wanted: &[u8], inside: &'w [Vec<u8>]) -> Option<&'w [u8]>
-    ensures { option_copied result ≡ code_in wanted.now (words_in inside.now) }
+/// Adds words, without what stands between them.
+fn push_words(path: &mut Vec<u8>, words: &[Vec<u8>]) -> Result<(), NoMemory>
+    ensures { OnOk result (path.new.items ≡ path.old.items ++ joined (words_in words.now)) }
 {
-    let name = word_at(inside, 3)?;
+    for word in words {
+        path.extend_from_slice(word.as_slice())?;
+    }
+    Ok(())
+}
+
+/// Adds the name of the signal whose section `$var` has these words.
+fn push_name(path: &mut Vec<u8>, inside: &[Vec<u8>]) -> Result<(), NoMemory>
+    ensures { OnOk result (path.new.items ≡ path.old.items ++ name_in (words_in inside.now)) }
+{
+    match inside {
+        [_, _, _, names @ ..] => push_words(path, names),
+        _ => Ok(()),
+    }
+}
+
+/// The path of a signal: each scope that it is in with a dot, and its name.
+fn path_of(alloc: Global, scopes: &[Vec<u8>], inside: &[Vec<u8>]) -> Result<Vec<u8>, NoMemory>
+    ensures { IfOk result (λ path. path.items ≡ path_of (words_in scopes.now) (words_in inside.now)) }
+{
+    let mut path = Vec::new(alloc);
+    for scope in scopes {
+        path.extend_from_slice(scope.as_slice())?;
+        path.push(b'.')?;
+    }
+    push_name(&mut path, inside)?;
+    Ok(path)
+}
+
+/// Whether a name stands behind one of the dots of a path.
+fn ends_path(name: &[u8], path: &[u8]) -> bool
+    ensures { result ≡ ends_path name.now path.now }
+{
+    for (i, b) in path.iter().enumerate() {
+        if *b == b'.' && is_named(name, &path[i + 1..]) {
+            return true;
+        }
+    }
+    false
+}
+
+/// Whether a name is that of a signal with this path: the whole path, or its end behind a dot.
+fn has_path(name: &[u8], path: &[u8]) -> bool
+    ensures { result ≡ has_path name.now path.now }
+{
+    is_named(name, path) || ends_path(name, path)
+}
+
+/// The code of a signal of one bit that has a name and a path, if the words of a section `$var` tell one.
+fn code_in<'w>(wanted: &[u8], path: &[u8], inside: &'w [Vec<u8>]) -> Option<&'w [u8]>
+    ensures { option_copied result ≡ code_in wanted.now path.now (words_in inside.now) }
+{
+    let _name = word_at(inside, 3)?;
     let code = word_at(inside, 2)?;
     let size = word_at(inside, 1)?;
-    if is_word(size, b"1") && is_named(wanted, name) {
+    if is_word(size, b"1") && has_path(wanted, path) {
         Some(code)
     } else {
         None
@@ -116,83 +167,149 @@ pub fn copied(alloc: Global, bytes: &[u8]) -> Result<Vec<u8>, NoMemory>
     Ok(copy)
 }
 
-/// Whether a wire has this code.
-fn has_code(wire: &Option<Vec<u8>>, code: &[u8]) -> bool
-    ensures { result ≡ is_code (code_of wire.now) code.now }
+/// The code by which changes call a wire.
+#[derive(Drop)]
+pub struct WireCode {
+    /// The code, once it is known.
+    pub code: Option<Vec<u8>>,
+    /// The line of the first signal that has the wire's name too, and another code.
+    pub other: Option<usize>,
+}
+
+/// The line of a signal, if it is another than the known one.
+fn other_line(line: usize, known: &[u8], code: &[u8]) -> Option<usize>
+    ensures { result ≡ other_line line known.now code.now }
 {
-    match wire {
-        None => false,
-        Some(known) => is_word(known.as_slice(), code),
+    if is_word(known, code) {
+        None
+    } else {
+        Some(line)
+    }
+}
+
+impl WireCode {
+    /// No signal has the wire's name yet.
+    pub fn new() -> WireCode
+        ensures { found_of result ≡ nothing }
+    {
+        WireCode {
+            code: None,
+            other: None,
+        }
+    }
+
+    /// Whether the wire has this code.
+    fn has_code(&self, code: &[u8]) -> bool
+        ensures { result ≡ is_code (code_of self.now.code) code.now }
+    {
+        match &self.code {
+            None => false,
+            Some(known) => is_word(known.as_slice(), code),
+        }
+    }
+
+    /// Notes the code of a signal on a line that has the wire's name.
+    fn note_code(&mut self, alloc: Global, line: usize, code: &[u8]) -> Result<(), NoMemory>
+        ensures { OnOk result (found_of self.new ≡ found_too line (found_of self.old) (code_of self.old.code) code.now) }
+    {
+        match &self.code {
+            None => self.code = Some(copied(alloc, code)?),
+            Some(known) => {
+                if self.other.is_none() {
+                    self.other = other_line(line, known.as_slice(), code);
+                }
+            }
+        }
+        Ok(())
+    }
+
+    /// Notes the signal on a line, if it has the wire's name and these words tell its code.
+    fn note(
+        &mut self,
+        alloc: Global,
+        line: usize,
+        name: &[u8],
+        path: &[u8],
+        inside: &[Vec<u8>],
+    ) -> Result<(), NoMemory>
+        ensures { OnOk result (found_of self.new ≡ with_code line (found_of self.old) (code_in name.now path.now (words_in inside.now))) }
+    {
+        match code_in(name, path, inside) {
+            None => Ok(()),
+            Some(code) => self.note_code(alloc, line, code),
+        }
     }
 }
 
 /// The codes by which changes call the three wires, as far as they are known.
 #[derive(Drop)]
 pub struct WireCodes {
-    pub atn: Option<Vec<u8>>,
-    pub clock: Option<Vec<u8>>,
+    pub atn: WireCode,
+    pub clock: WireCode,
     /// That of a signal with CLOCK's second name.
-    pub second: Option<Vec<u8>>,
-    pub line: Option<Vec<u8>>,
-}
-
-/// Notes the code of a signal with a name, if none is known and these words tell one.
-fn note(
-    alloc: Global,
-    known: &mut Option<Vec<u8>>,
-    name: &[u8],
-    inside: &[Vec<u8>],
-) -> Result<(), NoMemory>
-    ensures { OnOk result (code_of known.new ≡ first_some (code_of known.old) (code_in name.now (words_in inside.now))) }
-{
-    if known.is_some() {
-        return Ok(());
-    }
-    if let Some(code) = code_in(name, inside) {
-        *known = Some(copied(alloc, code)?);
-    }
-    Ok(())
+    pub second: WireCode,
+    pub line: WireCode,
 }
 
 impl WireCodes {
-    /// Notes the codes of the wires whose signal has its section with these words, if it has levels.
+    /// Notes the codes of the wires whose name the signal with this path has.
+    fn note_path(
+        &mut self,
+        alloc: Global,
+        signals: &Signals<'_>,
+        line: usize,
+        path: &[u8],
+        inside: &[Vec<u8>],
+    ) -> Result<(), NoMemory>
+        ensures { OnOk result (codes_of self.new ≡ with_path signals.now (codes_of self.old) line path.now (words_in inside.now)) }
+    {
+        self.atn.note(alloc, line, signals.atn, path, inside)?;
+        self.clock.note(alloc, line, signals.clock, path, inside)?;
+        self.second
+            .note(alloc, line, signals.second_name(), path, inside)?;
+        self.line.note(alloc, line, signals.line, path, inside)
+    }
+
+    /// Notes the codes of the wires whose signal has its section on a line with these words, in some
+    /// scopes, if it has levels.
     pub fn note_signal(
         &mut self,
         alloc: Global,
         signals: &Signals<'_>,
+        line: usize,
+        scopes: &[Vec<u8>],
         inside: &[Vec<u8>],
     ) -> Result<(), NoMemory>
-        ensures { OnOk result (codes_of self.new ≡ with_signal signals.now (codes_of self.old) (words_in inside.now)) }
+        ensures { OnOk result (codes_of self.new ≡ with_signal signals.now (codes_of self.old) line (words_in scopes.now) (words_in inside.now)) }
     {
         if !has_levels(word_at(inside, 0)) {
             return Ok(());
         }
-        note(alloc, &mut self.atn, signals.atn, inside)?;
-        note(alloc, &mut self.clock, signals.clock, inside)?;
-        note(alloc, &mut self.second, signals.second_name(), inside)?;
-        note(alloc, &mut self.line, signals.line, inside)
+        let path = path_of(alloc, scopes, inside)?;
+        self.note_path(alloc, signals, line, path.as_slice(), inside)
     }
 
-    /// Whether CLOCK has this code: that of its first name counts, if a signal has it.
-    fn is_clock(&self, code: &[u8]) -> bool
-        ensures { result ≡ is_code (first_some (code_of self.now.clock) (code_of self.now.second)) code.now }
+    /// CLOCK's own: that of its first name counts, if a signal has it.
+    pub fn clock_code(&self) -> &WireCode
+        ensures { found_of result.now ≡ clock_found (codes_of self.now) }
     {
-        match &self.clock {
-            None => has_code(&self.second, code),
-            Some(known) => is_word(known.as_slice(), code),
+        if self.clock.code.is_some() {
+            &self.clock
+        } else {
+            &self.second
         }
     }
 
     /// Which wires have a code: ATN, CLOCK and DATA.
     pub fn which(&self, code: &[u8]) -> (bool, bool, bool)
-        ensures atn { result.0 ≡ is_code (code_of self.now.atn) code.now }
-        ensures clock { result.1 ≡ is_code (first_some (code_of self.now.clock) (code_of self.now.second)) code.now }
-        ensures line { result.2 ≡ is_code (code_of self.now.line) code.now }
+        ensures atn { result.0 ≡ is_code (code_of self.now.atn.code) code.now }
+        ensures clock { result.1 ≡ is_code (clock_found (codes_of self.now)).code code.now }
+        ensures line { result.2 ≡ is_code (code_of self.now.line.code) code.now }
     {
         (
-            has_code(&self.atn, code),
-            self.is_clock(code),
-            has_code(&self.line, code),
+            self.atn.has_code(code),
+            self.clock_code().has_code(code),
+            self.line.has_code(code),
         )
     }
 }

@@ -6,7 +6,7 @@
 //! - `vcd` writes a Value Change Dump. [`VcdWriter`] keeps the last edge alone.
 //! - `csv` reads a table that comes in blocks, line by line. [`CsvReader`] keeps the line that has begun.
 //! - `vcd_reader` reads a dump that comes in blocks, word by word. [`VcdReader`] keeps the letters of the
-//!   word that has begun, `vcd_parser` the words of the section or value that has begun (at most four),
+//!   word that has begun, `vcd_parser` the words of the section or value that has begun,
 //!   `known` what was said so far: the timescale and the codes, then time and levels. `entries` says what
 //!   a word is, `header` what a section says, `changes` what a time stamp and a level say.
 //! - `edge_detector` makes edges of samples, one by one and without memory.

@@ -11,14 +11,11 @@ ghost use Rattle.pr_capture.specs.VcdSteps.{begun_of, place_of, words_in, Answer
 
 use crate::entries::{Entry, Keyword, entry_of, is_word, keeps, rest_of};
 use crate::fault::CaptureFault;
-use crate::header::{WireCodes, copied};
+use crate::header::{WireCode, WireCodes, copied};
 use crate::known::{Known, Stage};
 use crate::signals::Signals;
 use pr_wire::Edge;
 use std::alloc::Global;
-
-/// How many words of a section are looked at.
-const WORDS: usize = 4;
 
 /// What has begun.
 #[derive(Clone, Copy)]
@@ -36,7 +33,7 @@ pub enum Phase {
 pub struct VcdParser {
     alloc: Global,
     phase: Phase,
-    /// The words of the section that has begun, as far as they are looked at.
+    /// The words of the section that has begun, if they are looked at.
     inside: Vec<Vec<u8>>,
     known: Known,
 }
@@ -45,13 +42,13 @@ impl VcdParser {
     /// No word has come. It takes no memory.
     pub fn new(alloc: Global) -> VcdParser
         ensures begun { begun_of result ≡ Nothing }
-        ensures place { place_of result.known ≡ Header None no_codes }
+        ensures place { place_of result.known ≡ Header None [] no_codes }
     {
         let codes = WireCodes {
-            atn: None,
-            clock: None,
-            second: None,
-            line: None,
+            atn: WireCode::new(),
+            clock: WireCode::new(),
+            second: WireCode::new(),
+            line: WireCode::new(),
         };
         VcdParser {
             alloc,
@@ -59,6 +56,7 @@ impl VcdParser {
             inside: Vec::new(alloc),
             known: Known {
                 stage: Stage::InHeader(None),
+                scopes: Vec::new(alloc),
                 codes,
             },
         }
@@ -71,7 +69,7 @@ impl VcdParser {
         ensures phase { self.new.phase ≡ self.old.phase }
         ensures known { self.new.known ≡ self.old.known }
     {
-        if keeps(keyword) && self.inside.len() < WORDS {
+        if keeps(keyword) {
             let copy = copied(self.alloc, word)?;
             self.inside.push(copy)?;
         }
@@ -92,6 +90,7 @@ impl VcdParser {
         match entry_of(word) {
             Entry::Silent => Ok(None),
             Entry::Foreign => self.known.take_stray(signals, number),
+            Entry::Resumes => self.known.take_resumption(signals, number),
             Entry::Opens(keyword) => {
                 self.inside.clear();
                 self.phase = Phase::InSection(number, keyword);

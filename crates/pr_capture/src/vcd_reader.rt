@@ -34,8 +34,9 @@ fn word_len(text: &[u8]) -> usize
     text.len()
 }
 
-/// Reads a Value Change Dump that comes in blocks. It keeps the word that has begun, no more than four
-/// words of a section, and the codes of the three wires and of a signal CLK.
+/// Reads a Value Change Dump that comes in blocks. It keeps the word that has begun, the words of a section
+/// `$timescale`, `$scope` or `$var`, the scopes of the header, and the codes of the three wires and of a
+/// signal CLK.
 #[derive(Drop)]
 pub struct VcdReader<'a> {
     signals: Signals<'a>,

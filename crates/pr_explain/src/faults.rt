@@ -30,7 +30,9 @@ fn line_of_capture(fault: CaptureFault) -> Option<usize>
         | CaptureFault::BadWord(line)
         | CaptureFault::NoEnd(line)
         | CaptureFault::NoDefinitions(line)
+        | CaptureFault::TwoSignals(line, _)
         | CaptureFault::NoTimescale(line)
+        | CaptureFault::BadTimescale(line)
         | CaptureFault::BadTime(line)
         | CaptureFault::GoesBack(line)
         | CaptureFault::NoLevel(line, _)
@@ -140,7 +142,10 @@ fn rule_of_dumps(fault: CaptureFault) -> &'static str {
             "the header of a dump ends with $enddefinitions $end; --from csv reads tables, and without --from \
              a trace text is read"
         }
-        CaptureFault::NoTimescale(_) => {
+        CaptureFault::TwoSignals(_, _) => {
+            "two signals have the name that is looked for: --names takes a signal with its scopes, as in bus.ATN"
+        }
+        CaptureFault::NoTimescale(_) | CaptureFault::BadTimescale(_) => {
             "the header of a dump has $timescale 1 us $end: 1, 10 or 100 of a unit from fs to s"
         }
         CaptureFault::BadTime(_) => {
@@ -172,7 +177,7 @@ fn rule_of_levels(fault: CaptureFault) -> &'static str {
         CaptureFault::Floating(_) => {
             "z says that nobody drives the line; a level of the three lines is 0 or 1, and a pull-up makes it 1"
         }
-        CaptureFault::BadLevel(_) => "a level of the three lines is 0 or 1",
+        CaptureFault::BadLevel(_) => "a level of the three lines is 0 or 1, L or H",
         _ => "this can not stand here",
     }
 }
