@@ -14,7 +14,7 @@ use Rattle.pr_capture.specs.declared.changes.Seen.{Seen}
 use Rattle.pr_capture.specs.declared.signals.Signals.{Signals}
 use Rattle.pr_capture.specs.Recording.{◌>>=◌, with_samples, CaptureContents}
 use Rattle.pr_capture.specs.Samples.{listed}
-use Rattle.pr_capture.specs.Csv.{number_from}
+use Rattle.pr_capture.specs.Numbers.{number_from}
 use Rattle.pr_capture.specs.Words.{end_line, is_space, words_behind, Word}
 use Rattle.pr_capture.specs.VcdPieces.{entry_of, pieces_behind, with_word, Piece}
 use Rattle.pr_capture.specs.VcdPieces.Piece.{Section}
@@ -79,7 +79,7 @@ digits-letters (d ∷ ds) h =
 
 -- a code of one sign
 abbrev pub coded : ℕ → Found
-coded code = record { code = Some (code ∷ []); other = None }
+coded code = record { code = Some (code ∷ []); bit = None; other = None }
 
 -- the codes that are written
 abbrev pub written : Codes

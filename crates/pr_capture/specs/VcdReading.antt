@@ -1,5 +1,5 @@
 -- Trusted: what a Value Change Dump says of the bus: samples of its three lines, up to the first fault if there is one.
-use Rattle.std.specs.Prelude.{ℕ, ◌-◌, ◌*◌, ◌/◌, ◌==◌, ◌&&◌, ◌||◌, Bool, true, false, not, List, [], ◌∷◌, ◌++◌, codes, length, nat_lt, take, if◌then◌else◌, Option, Some, None, Result, Ok, Err}
+use Rattle.std.specs.Prelude.{ℕ, ◌+◌, ◌-◌, ◌*◌, ◌/◌, ◌==◌, ◌&&◌, ◌||◌, Bool, true, false, not, List, [], ◌∷◌, ◌++◌, codes, drop, get_or, length, nat_le, nat_lt, take, if◌then◌else◌, Option, Some, None, Result, Ok, Err}
 use Rattle.std.specs.List.{list_all}
 use Rattle.std.specs.Str.{bytes_eq}
 use Rattle.pr_base.specs.Digits.{is_digit}
@@ -11,11 +11,13 @@ use Rattle.pr_capture.specs.declared.changes.Seen.{Seen}
 use Rattle.pr_capture.specs.declared.fault.Wire.{Wire}
 use Rattle.pr_capture.specs.declared.fault.Wire.TheVariants.{Atn, Clock, Data}
 use Rattle.pr_capture.specs.declared.fault.CaptureFault.{CaptureFault}
-use Rattle.pr_capture.specs.declared.fault.CaptureFault.TheVariants.{BadTimescale, BadWord, NoEnd, NoDefinitions, NoLevel, NoTimescale, NoSignal, TwoSignals, Unknown}
+use Rattle.pr_capture.specs.declared.fault.CaptureFault.TheVariants.{BadLevel, BadTimescale, BadWord, NoEnd, NoDefinitions, NoLevel, NoTimescale, NoSignal, TwoSignals, Unknown}
 use Rattle.pr_capture.specs.declared.signals.Signals.{Signals}
 use Rattle.pr_capture.specs.Recording.{◌>>=◌, ended, first_some, is_named, level_in, refused, second_name, with_samples, CaptureContents}
 use Rattle.pr_capture.specs.Samples.{listed}
-use Rattle.pr_capture.specs.Csv.{behind_digits, digits_in, field_at, number_from, time_or}
+use Rattle.pr_capture.specs.Csv.{field_at}
+use Rattle.pr_capture.specs.Numbers.{behind_digits, digits_in, number_from, number_in}
+use Rattle.pr_capture.specs.TableTimes.{time_or}
 use Rattle.pr_capture.specs.Words.{end_line, words_of}
 use Rattle.pr_capture.specs.VcdPieces.{pieces_behind, Piece}
 use Rattle.pr_capture.specs.VcdPieces.Piece.{Section, Stamp, Change, Stray, Resume, Unended}
@@ -74,33 +76,106 @@ ends_path name (b ∷ bs) = (b == 46 && is_named name bs) || ends_path name bs
 abbrev pub has_path : (name path : List ℕ) → Bool
 has_path name path = is_named name path || ends_path name path
 
--- the code of a section `$var`, whose words are a kind, a size, a code and a name, if it is a signal of one bit with
--- the name that is wanted
-abbrev pub code_in : (wanted path : List ℕ) → (inside : List (List ℕ)) → Option (List ℕ)
-code_in wanted path (kind ∷ size ∷ code ∷ name ∷ more) =
-    if bytes_eq size (codes "1") && has_path wanted path then Some code else None
-code_in wanted path _ = None
+-- A bit of a signal of more bits, as IEC[0] of IEC[2:0].
 
--- what is known of a wire's signal: its code, and the line of the first signal that has its name and another code
+-- the place of the last [, or the end
+abbrev pub bracket_from : (place found : ℕ) → (text : List ℕ) → ℕ
+bracket_from place found [] = found
+bracket_from place found (b ∷ bs) = bracket_from (place + 1) (if b == 91 then place else found) bs
+
+abbrev pub bracket_in : (text : List ℕ) → ℕ
+bracket_in text = bracket_from 0 (length text) text
+
+-- one sign, and nothing else
+abbrev pub is_sign_alone : (sign : ℕ) → (text : List ℕ) → Bool
+is_sign_alone sign [] = false
+is_sign_alone sign (b ∷ []) = b == sign
+is_sign_alone sign (b ∷ c ∷ bs) = false
+
+-- the index of a bit: 0]
+abbrev pub index_in : (text : List ℕ) → Option ℕ
+index_in t = if is_sign_alone 93 (behind_digits t) then number_in t else None
+
+-- what stands behind a colon
+abbrev pub behind_colon : (text : List ℕ) → List ℕ
+behind_colon [] = []
+behind_colon (b ∷ bs) = if b == 58 then bs else []
+
+-- how many bits stand on the right of the one with an index, where the leftmost and the rightmost have these
+abbrev pub place_between : (left right index : ℕ) → Option ℕ
+place_between left right i =
+    if nat_le right i && nat_le i left then Some (i - right)
+    else (if nat_le left i && nat_le i right then Some (right - i)
+    else None)
+
+abbrev pub place_by : (left right index : Option ℕ) → Option ℕ
+place_by None right i = None
+place_by (Some l) None i = None
+place_by (Some l) (Some r) None = None
+place_by (Some l) (Some r) (Some i) = place_between l r i
+
+-- the same of a range 2:0]
+abbrev pub place_in : (range : List ℕ) → (index : Option ℕ) → Option ℕ
+place_in t i = place_by (number_in t) (index_in (behind_colon (behind_digits t))) i
+
+-- the same of a wanted name and a path, of which the one ends with an index and the other with a range
+abbrev pub bit_in : (wanted path : List ℕ) → Option ℕ
+bit_in wanted path =
+    if has_path (take (bracket_in wanted) wanted) (take (bracket_in path) path)
+    then place_in (drop (bracket_in path + 1) path) (index_in (drop (bracket_in wanted + 1) wanted))
+    else None
+
+-- The codes.
+
+-- one of the bits of a signal
+abbrev pub one_bit : (bit : Option ℕ) → Option (Option ℕ)
+one_bit None = None
+one_bit (Some bit) = Some (Some bit)
+
+-- whether a signal is wanted, by its path and its size; and which of its bits, where it has more than one, by how many
+-- stand on its right
+abbrev pub bit_wanted : (wanted path size : List ℕ) → Option (Option ℕ)
+bit_wanted wanted path size =
+    if bytes_eq size (codes "1") then (if has_path wanted path then Some None else None)
+    else one_bit (bit_in wanted path)
+
+-- what is known of a wire's signal: its code and bit, and the line of the first other signal that has its name
 pub record Found : Type 0 where
   pub code : Option (List ℕ)
+  pub bit : Option ℕ
   pub other : Option ℕ
 
 abbrev pub nothing : Found
-nothing = record { code = None; other = None }
+nothing = record { code = None; bit = None; other = None }
+
+-- two bits are the same
+abbrev pub is_bit : (known bit : Option ℕ) → Bool
+is_bit None None = true
+is_bit None (Some b) = false
+is_bit (Some a) None = false
+is_bit (Some a) (Some b) = a == b
 
 -- the line of another signal, if it is one
-abbrev pub other_line : (line : ℕ) → (known code : List ℕ) → Option ℕ
-other_line line known code = if bytes_eq known code then None else Some line
+abbrev pub other_line : (line : ℕ) → (known : List ℕ) → (known_bit : Option ℕ) → (code : List ℕ) → (bit : Option ℕ) → Option ℕ
+other_line line known known_bit code bit = if bytes_eq known code && is_bit known_bit bit then None else Some line
 
 -- a signal more has the name
-abbrev pub found_too : (line : ℕ) → Found → (known : Option (List ℕ)) → (code : List ℕ) → Found
-found_too line f None code = record { code = Some code; other = f.other }
-found_too line f (Some known) code = record { code = Some known; other = first_some f.other (other_line line known code) }
+abbrev pub found_too : (line : ℕ) → Found → (known : Option (List ℕ)) → (code : List ℕ) → (bit : Option ℕ) → Found
+found_too line f None code bit = record { code = Some code; bit = bit; other = f.other }
+found_too line f (Some known) code bit = record {
+  code = Some known;
+  bit = f.bit;
+  other = first_some f.other (other_line line known f.bit code bit);
+}
 
-abbrev pub with_code : (line : ℕ) → Found → Option (List ℕ) → Found
-with_code line f None = f
-with_code line f (Some code) = found_too line f f.code code
+abbrev pub with_code : (line : ℕ) → Found → (code : List ℕ) → (bit : Option (Option ℕ)) → Found
+with_code line f code None = f
+with_code line f code (Some bit) = found_too line f f.code code bit
+
+-- the words of a section `$var`: a kind, a size, a code and a name
+abbrev pub with_words : (line : ℕ) → Found → (wanted path : List ℕ) → (inside : List (List ℕ)) → Found
+with_words line f wanted path (kind ∷ size ∷ code ∷ name ∷ more) = with_code line f code (bit_wanted wanted path size)
+with_words line f wanted path _ = f
 
 -- what is known of the signals of the wires, and of one with CLOCK's second name
 pub record Codes : Type 0 where
@@ -130,10 +205,10 @@ has_levels (Some k) =
 -- a signal with this path, on a line
 abbrev pub with_path : Signals → Codes → (line : ℕ) → (path : List ℕ) → (inside : List (List ℕ)) → Codes
 with_path s c line path inside = record {
-  atn = with_code line c.atn (code_in s.atn.now path inside);
-  clock = with_code line c.clock (code_in s.clock.now path inside);
-  second = with_code line c.second (code_in (second_name s) path inside);
-  line = with_code line c.line (code_in s.line.now path inside);
+  atn = with_words line c.atn s.atn.now path inside;
+  clock = with_words line c.clock s.clock.now path inside;
+  second = with_words line c.second (second_name s) path inside;
+  line = with_words line c.line s.line.now path inside;
 }
 
 abbrev pub with_signal : Signals → Codes → (line : ℕ) → (scopes inside : List (List ℕ)) → Codes
@@ -233,27 +308,37 @@ level_behind known line inverted b =
     if (b == 120 || b == 88 || b == 122 || b == 90) && not known then Ok None
     else (level_in line inverted b >>= λ l. Ok (Some l))
 
--- what is known of a wire's level
-abbrev pub level_if : (changes : Bool) → (level before : Option Bool) → Option Bool
-level_if true level before = level
-level_if false level before = before
+-- the level of the leftmost bit stands for those that lack on its left, but for 1, which stands for 0
+abbrev pub extended : (bits : List ℕ) → Option ℕ
+extended [] = None
+extended (b ∷ bs) = if b == 49 then Some 48 else Some b
 
--- the same of each wire that has this code
-abbrev pub with_level : Codes → Seen → (code : List ℕ) → (level : Option Bool) → Seen
-with_level c seen code level = record {
-  time = seen.time;
-  atn = level_if (is_code c.atn.code code) level seen.atn;
-  clock = level_if (is_code (clock_found c).code code) level seen.clock;
-  line = level_if (is_code c.line.code code) level seen.line;
-}
+-- the level of a bit among bits, by how many stand on its right; a signal of one bit has one
+abbrev pub level_at : (bit : Option ℕ) → (bits : List ℕ) → Option ℕ
+level_at None [] = None
+level_at None (b ∷ []) = Some b
+level_at None (b ∷ c ∷ bs) = None
+level_at (Some right) bits =
+    if nat_lt right (length bits) then Some (get_or bits (length bits - 1 - right) 0) else extended bits
 
--- a change; that of another signal says nothing
-abbrev pub changed : (inverted : Bool) → Codes → Seen → (line level : ℕ) → (code : List ℕ) → Result Seen CaptureFault
-changed inverted c seen line level code =
-    if is_code c.atn.code code || is_code (clock_found c).code code || is_code c.line.code code
-    then (level_behind (all_known seen.atn seen.clock seen.line) line inverted level
-    >>= λ l. Ok (with_level c seen code l))
-    else Ok seen
+-- a level there has to be
+abbrev pub level_told : (known : Bool) → (line : ℕ) → (inverted : Bool) → (level : Option ℕ) → Result (Option Bool) CaptureFault
+level_told known line inverted None = Err (BadLevel line)
+level_told known line inverted (Some b) = level_behind known line inverted b
+
+-- what is known of a wire's level behind a change; that of another signal says nothing
+abbrev pub level_if : (known : Bool) → (line : ℕ) → (inverted : Bool) → Found → (bits code : List ℕ) → (before : Option Bool)
+    → Result (Option Bool) CaptureFault
+level_if known line inverted f bits code before =
+    if is_code f.code code then level_told known line inverted (level_at f.bit bits) else Ok before
+
+-- the same of each wire
+abbrev pub changed : (inverted : Bool) → Codes → Seen → (line : ℕ) → (bits code : List ℕ) → Result Seen CaptureFault
+changed inverted c seen line bits code =
+    level_if (all_known seen.atn seen.clock seen.line) line inverted c.atn bits code seen.atn >>= λ atn.
+    level_if (all_known seen.atn seen.clock seen.line) line inverted (clock_found c) bits code seen.clock >>= λ clock.
+    level_if (all_known seen.atn seen.clock seen.line) line inverted c.line bits code seen.line >>= λ last.
+    Ok (record { time = seen.time; atn = atn; clock = clock; line = last })
 
 -- a time stamp, in whole microseconds not before that of an earlier one
 abbrev pub stamped : (scale : ℕ) → Seen → (line : ℕ) → (digits : List ℕ) → Result Seen CaptureFault
@@ -277,16 +362,15 @@ resumed line p (Some e) = Err (Unknown line)
 -- `#` and digits, which show that the header did not end; among the changes sections say nothing
 abbrev pub step : Signals → Place → Piece → Result Place CaptureFault
 step s (Header scale scopes c) (Section line k inside) = headed s scale scopes c line k inside
-step s (Header scale scopes c) (Stamp line digits) =
-    if is_number digits then Err (NoDefinitions line) else Ok (Header scale scopes c)
-step s (Header scale scopes c) (Change line level code) = Ok (Header scale scopes c)
+step s (Header scale scopes c) (Stamp line digits) = if is_number digits then Err (NoDefinitions line) else Ok (Header scale scopes c)
+step s (Header scale scopes c) (Change line bits code) = Ok (Header scale scopes c)
 step s (Header scale scopes c) (Stray line) = Ok (Header scale scopes c)
 step s (Header scale scopes c) (Resume line) = Ok (Header scale scopes c)
 step s (Header scale scopes c) (Unended line) = Err (NoEnd line)
 step s (Changes scale c seen) (Section line k inside) = Ok (Changes scale c seen)
 step s (Changes scale c seen) (Stamp line digits) = stamped scale seen line digits >>= λ next. Ok (Changes scale c next)
-step s (Changes scale c seen) (Change line level code) =
-    changed s.is_inverted c seen line level code >>= λ next. Ok (Changes scale c next)
+step s (Changes scale c seen) (Change line bits code) =
+    changed s.is_inverted c seen line bits code >>= λ next. Ok (Changes scale c next)
 step s (Changes scale c seen) (Stray line) = Err (BadWord line)
 step s (Changes scale c seen) (Resume line) = resumed line (Changes scale c seen) (sample_in seen.time seen.atn seen.clock seen.line)
 step s (Changes scale c seen) (Unended line) = Err (NoEnd line)

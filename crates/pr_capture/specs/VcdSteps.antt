@@ -36,7 +36,7 @@ code_of (Some v) = Some v.items
 
 -- what is held of a wire's signal
 abbrev pub found_of : WireCode → Found
-found_of f = record { code = code_of f.code; other = f.other }
+found_of f = record { code = code_of f.code; bit = f.bit; other = f.other }
 
 -- the codes that are held
 abbrev pub codes_of : WireCodes → Codes
@@ -51,13 +51,13 @@ abbrev pub place_of : Known → Place
 place_of k = place_at k.stage (words_in k.scopes.items) (codes_of k.codes)
 
 -- what has begun
-abbrev pub begun_at : Phase → (inside : List (List ℕ)) → Begun
-begun_at Between inside = Nothing
-begun_at (InSection line k) inside = Inside line k inside
-begun_at (BehindValue line level) inside = Behind line level
+abbrev pub begun_at : Phase → (inside : List (List ℕ)) → (bits : List ℕ) → Begun
+begun_at Between inside bits = Nothing
+begun_at (InSection line k) inside bits = Inside line k inside
+begun_at (BehindValue line) inside bits = Behind line bits
 
 abbrev pub begun_of : VcdParser → Begun
-begun_of p = begun_at p.phase (words_in p.inside.items)
+begun_of p = begun_at p.phase (words_in p.inside.items) p.bits.items
 
 -- Pieces and words.
 

@@ -2,7 +2,7 @@
 
 ghost use Rattle.std.specs.Prelude.{◌≡◌};
 ghost use Rattle.std.specs.Str.{bytes_eq};
-ghost use Rattle.pr_capture.specs.VcdPieces.{bit_of, entry_of, is_bracket, is_level, is_value, keeps, keyword_entry, keyword_of, level_entry, rest_of};
+ghost use Rattle.pr_capture.specs.VcdPieces.{bits_of, entry_of, is_bracket, is_level, is_value, keeps, keyword_entry, keyword_of, level_entry, rest_of};
 
 /// What a section says, by its keyword.
 #[derive(Clone, Copy)]
@@ -34,8 +34,8 @@ pub enum Entry {
     Time,
     /// A level, and the code of its signal.
     Level(u8),
-    /// A value that is no level but where it is a single bit; the code of its signal is the next word.
-    Value(u8),
+    /// A value of bits, or of another kind; the code of its signal is the next word.
+    Value,
     /// Nothing that is known.
     Foreign,
 }
@@ -100,19 +100,19 @@ fn is_value(b: u8) -> bool
     b"bBrRsS".contains(&b)
 }
 
-/// The level of such a value, if it is a single bit; else its first letter.
-fn bit_of(first: u8, letters: &[u8]) -> u8
-    ensures { result ≡ bit_of first letters.now }
+/// The bits of such a value, or the first letter of one of another kind, which is no level.
+pub fn bits_of(letters: &[u8]) -> &[u8]
+    ensures { result.now ≡ bits_of letters.now }
 {
     match letters {
-        [b] => {
-            if first == b'b' || first == b'B' {
-                *b
+        [] => &[],
+        [b, rest @ ..] => {
+            if *b == b'b' || *b == b'B' {
+                rest
             } else {
-                first
+                &letters[..1]
             }
         }
-        _ => first,
     }
 }
 
@@ -141,7 +141,7 @@ pub fn entry_of(letters: &[u8]) -> Entry
             } else if is_level(*b) {
                 level_entry(*b, rest)
             } else if is_value(*b) {
-                Entry::Value(bit_of(*b, rest))
+                Entry::Value
             } else {
                 Entry::Foreign
             }

@@ -23,6 +23,9 @@ pub enum CaptureFault {
     /// No signal has the wire's name.
     #[error("line {0}: no signal {1}")]
     NoSignal(usize, Wire),
+    /// The first column of a table is not one of times, and no remark tells the rate of its samples.
+    #[error("line {0}: no time")]
+    NoTime(usize),
     /// A word that can not stand here.
     #[error("line {0}: bad word")]
     BadWord(usize),
@@ -59,6 +62,12 @@ pub enum CaptureFault {
     /// A level that is none of 0, 1, L, H, x and z.
     #[error("line {0}: bad level")]
     BadLevel(usize),
+    /// The text has 16 bits a letter, as that of UTF-16.
+    #[error("UTF-16 text")]
+    WideText,
+    /// A zip archive, as .sr, .sal and .dsl files are.
+    #[error("zip archive")]
+    Archive,
     /// Memory was refused.
     #[error("out of memory")]
     NoMemory,

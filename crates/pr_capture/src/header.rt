@@ -1,12 +1,14 @@
 //! What the header of a dump says: the unit of all times, and the codes of the three wires.
 
-ghost use Rattle.std.specs.Prelude.{◌≡◌, ◌≤◌, ◌++◌, option_copied, IfOk, IfSome, OnOk};
+ghost use Rattle.std.specs.Prelude.{◌≡◌, ◌≤◌, option_copied, IfOk, IfSome, OnOk};
 ghost use Rattle.pr_capture.specs.Csv.{field_at};
-ghost use Rattle.pr_capture.specs.VcdReading.{clock_found, code_in, ends_path, found_too, has_levels, has_path, is_code, joined, name_in, nothing, other_line, path_of, scale_in, scale_of, unit_in, with_code, with_path, with_signal};
+ghost use Rattle.pr_capture.specs.VcdReading.{bit_wanted, clock_found, found_too, has_levels, is_bit, is_code, nothing, other_line, scale_in, scale_of, unit_in, with_path, with_signal, with_words};
 ghost use Rattle.pr_capture.specs.VcdSteps.{code_of, codes_of, found_of, words_in};
 
+use crate::bits::bit_in;
 use crate::entries::is_word;
-use crate::signals::{Signals, is_named};
+use crate::paths::{has_path, path_of};
+use crate::signals::Signals;
 use pr_base::digit_count;
 use pr_wire::NoMemory;
 use std::alloc::Global;
@@ -77,69 +79,22 @@ pub fn scale_in(inside: &[Vec<u8>]) -> Option<u64>
     }
 }
 
-/// Adds words, without what stands between them.
-fn push_words(path: &mut Vec<u8>, words: &[Vec<u8>]) -> Result<(), NoMemory>
-    ensures { OnOk result (path.new.items ≡ path.old.items ++ joined (words_in words.now)) }
+/// Whether a signal is wanted, by its path and its size; and which of its bits, where it has more than
+/// one, by how many stand on its right.
+fn bit_wanted(wanted: &[u8], path: &[u8], size: &[u8]) -> Option<Option<u64>>
+    ensures { result ≡ bit_wanted wanted.now path.now size.now }
 {
-    for word in words {
-        path.extend_from_slice(word.as_slice())?;
-    }
-    Ok(())
-}
-
-/// Adds the name of the signal whose section `$var` has these words.
-fn push_name(path: &mut Vec<u8>, inside: &[Vec<u8>]) -> Result<(), NoMemory>
-    ensures { OnOk result (path.new.items ≡ path.old.items ++ name_in (words_in inside.now)) }
-{
-    match inside {
-        [_, _, _, names @ ..] => push_words(path, names),
-        _ => Ok(()),
-    }
-}
-
-/// The path of a signal: each scope that it is in with a dot, and its name.
-fn path_of(alloc: Global, scopes: &[Vec<u8>], inside: &[Vec<u8>]) -> Result<Vec<u8>, NoMemory>
-    ensures { IfOk result (λ path. path.items ≡ path_of (words_in scopes.now) (words_in inside.now)) }
-{
-    let mut path = Vec::new(alloc);
-    for scope in scopes {
-        path.extend_from_slice(scope.as_slice())?;
-        path.push(b'.')?;
-    }
-    push_name(&mut path, inside)?;
-    Ok(path)
-}
-
-/// Whether a name stands behind one of the dots of a path.
-fn ends_path(name: &[u8], path: &[u8]) -> bool
-    ensures { result ≡ ends_path name.now path.now }
-{
-    for (i, b) in path.iter().enumerate() {
-        if *b == b'.' && is_named(name, &path[i + 1..]) {
-            return true;
+    if is_word(size, b"1") {
+        if has_path(wanted, path) {
+            Some(None)
+        } else {
+            None
         }
-    }
-    false
-}
-
-/// Whether a name is that of a signal with this path: the whole path, or its end behind a dot.
-fn has_path(name: &[u8], path: &[u8]) -> bool
-    ensures { result ≡ has_path name.now path.now }
-{
-    is_named(name, path) || ends_path(name, path)
-}
-
-/// The code of a signal of one bit that has a name and a path, if the words of a section `$var` tell one.
-fn code_in<'w>(wanted: &[u8], path: &[u8], inside: &'w [Vec<u8>]) -> Option<&'w [u8]>
-    ensures { option_copied result ≡ code_in wanted.now path.now (words_in inside.now) }
-{
-    let _name = word_at(inside, 3)?;
-    let code = word_at(inside, 2)?;
-    let size = word_at(inside, 1)?;
-    if is_word(size, b"1") && has_path(wanted, path) {
-        Some(code)
     } else {
-        None
+        match bit_in(wanted, path) {
+            None => None,
+            Some(bit) => Some(Some(bit)),
+        }
     }
 }
 
@@ -172,15 +127,34 @@ pub fn copied(alloc: Global, bytes: &[u8]) -> Result<Vec<u8>, NoMemory>
 pub struct WireCode {
     /// The code, once it is known.
     pub code: Option<Vec<u8>>,
-    /// The line of the first signal that has the wire's name too, and another code.
+    /// How many bits of the signal stand on the right of the wire's, if it has more than one.
+    pub bit: Option<u64>,
+    /// The line of the first other signal that has the wire's name too.
     pub other: Option<usize>,
 }
 
-/// The line of a signal, if it is another than the known one.
-fn other_line(line: usize, known: &[u8], code: &[u8]) -> Option<usize>
-    ensures { result ≡ other_line line known.now code.now }
+/// Whether two bits are the same.
+fn is_bit(known: Option<u64>, bit: Option<u64>) -> bool
+    ensures { result ≡ is_bit known bit }
 {
-    if is_word(known, code) {
+    match (known, bit) {
+        (None, None) => true,
+        (Some(known), Some(bit)) => known == bit,
+        _ => false,
+    }
+}
+
+/// The line of a signal, if it is another than the known one.
+fn other_line(
+    line: usize,
+    known: &[u8],
+    known_bit: Option<u64>,
+    code: &[u8],
+    bit: Option<u64>,
+) -> Option<usize>
+    ensures { result ≡ other_line line known.now known_bit code.now bit }
+{
+    if is_word(known, code) && is_bit(known_bit, bit) {
         None
     } else {
         Some(line)
@@ -194,12 +168,13 @@ impl WireCode {
     {
         WireCode {
             code: None,
+            bit: None,
             other: None,
         }
     }
 
     /// Whether the wire has this code.
-    fn has_code(&self, code: &[u8]) -> bool
+    pub fn has_code(&self, code: &[u8]) -> bool
         ensures { result ≡ is_code (code_of self.now.code) code.now }
     {
         match &self.code {
@@ -208,15 +183,24 @@ impl WireCode {
         }
     }
 
-    /// Notes the code of a signal on a line that has the wire's name.
-    fn note_code(&mut self, alloc: Global, line: usize, code: &[u8]) -> Result<(), NoMemory>
-        ensures { OnOk result (found_of self.new ≡ found_too line (found_of self.old) (code_of self.old.code) code.now) }
+    /// Notes the code of a signal on a line that has the wire's name, and its bit.
+    fn note_code(
+        &mut self,
+        alloc: Global,
+        line: usize,
+        code: &[u8],
+        bit: Option<u64>,
+    ) -> Result<(), NoMemory>
+        ensures { OnOk result (found_of self.new ≡ found_too line (found_of self.old) (code_of self.old.code) code.now bit) }
     {
         match &self.code {
-            None => self.code = Some(copied(alloc, code)?),
+            None => {
+                self.code = Some(copied(alloc, code)?);
+                self.bit = bit;
+            }
             Some(known) => {
                 if self.other.is_none() {
-                    self.other = other_line(line, known.as_slice(), code);
+                    self.other = other_line(line, known.as_slice(), self.bit, code, bit);
                 }
             }
         }
@@ -232,11 +216,14 @@ impl WireCode {
         path: &[u8],
         inside: &[Vec<u8>],
     ) -> Result<(), NoMemory>
-        ensures { OnOk result (found_of self.new ≡ with_code line (found_of self.old) (code_in name.now path.now (words_in inside.now))) }
+        ensures { OnOk result (found_of self.new ≡ with_words line (found_of self.old) name.now path.now (words_in inside.now)) }
     {
-        match code_in(name, path, inside) {
+        let [_, size, code, _, ..] = inside else {
+            return Ok(());
+        };
+        match bit_wanted(name, path, size.as_slice()) {
             None => Ok(()),
-            Some(code) => self.note_code(alloc, line, code),
+            Some(bit) => self.note_code(alloc, line, code.as_slice(), bit),
         }
     }
 }
@@ -298,18 +285,5 @@ impl WireCodes {
         } else {
             &self.second
         }
-    }
-
-    /// Which wires have a code: ATN, CLOCK and DATA.
-    pub fn which(&self, code: &[u8]) -> (bool, bool, bool)
-        ensures atn { result.0 ≡ is_code (code_of self.now.atn.code) code.now }
-        ensures clock { result.1 ≡ is_code (clock_found (codes_of self.now)).code code.now }
-        ensures line { result.2 ≡ is_code (code_of self.now.line.code) code.now }
-    {
-        (
-            self.atn.has_code(code),
-            self.clock_code().has_code(code),
-            self.line.has_code(code),
-        )
     }
 }

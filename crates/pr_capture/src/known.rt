@@ -3,15 +3,16 @@
 ghost use Rattle.std.specs.Prelude.{◌≡◌, ℕ, List, IfErr, IfOk, IsOk, OnOk, Err, Ok};
 ghost use Rattle.pr_capture.specs.Csv.{field_at};
 ghost use Rattle.pr_capture.specs.VcdPieces.Piece.{Change, Resume, Section, Stamp, Stray};
-ghost use Rattle.pr_capture.specs.VcdReading.{changed, header_ended, sample_of, signal_or, stamped, with_scope, without_last};
+ghost use Rattle.pr_capture.specs.VcdReading.{changed, header_ended, level_if, sample_of, signal_or, stamped, with_scope, without_last};
 ghost use Rattle.pr_capture.specs.VcdSteps.{codes_of, found_of, place_at, place_of, words_in, ReadsPiece};
 
-use crate::changes::{Seen, is_number, level_behind, level_if, time_at};
-use crate::csv::time_or;
+use crate::bits::level_at;
+use crate::changes::{Seen, is_number, level_behind, time_at};
 use crate::entries::Keyword;
 use crate::fault::{CaptureFault, Wire};
 use crate::header::{WireCode, WireCodes, copied, scale_in, word_at};
 use crate::signals::Signals;
+use crate::times::time_or;
 use pr_wire::{Edge, NoMemory};
 use std::alloc::Global;
 
@@ -80,27 +81,64 @@ fn stamped(scale: u64, seen: Seen, line: usize, digits: &[u8]) -> Result<Seen, C
     })
 }
 
+/// What is known of a wire's level behind a change.
+fn level_if(
+    is_known: bool,
+    line: usize,
+    is_inverted: bool,
+    found: &WireCode,
+    bits: &[u8],
+    code: &[u8],
+    before: Option<bool>,
+) -> Result<Option<bool>, CaptureFault>
+    ensures { result ≡ level_if is_known line is_inverted (found_of found.now) bits.now code.now before }
+{
+    if !found.has_code(code) {
+        return Ok(before);
+    }
+    match level_at(found.bit, bits) {
+        None => Err(CaptureFault::BadLevel(line)),
+        Some(level) => level_behind(is_known, line, is_inverted, level),
+    }
+}
+
 /// What is known behind a change.
 fn changed(
     is_inverted: bool,
     codes: &WireCodes,
     seen: Seen,
     line: usize,
-    level: u8,
+    bits: &[u8],
     code: &[u8],
 ) -> Result<Seen, CaptureFault>
-    ensures { result ≡ changed is_inverted (codes_of codes.now) seen line level code.now }
+    ensures { result ≡ changed is_inverted (codes_of codes.now) seen line bits.now code.now }
 {
-    let (atn, clock, data) = codes.which(code);
-    if !(atn || clock || data) {
-        return Ok(seen);
-    }
-    let level = level_behind(seen.all_known(), line, is_inverted, level)?;
+    let is_known = seen.all_known();
+    let clock = codes.clock_code();
+    let atn = level_if(
+        is_known,
+        line,
+        is_inverted,
+        &codes.atn,
+        bits,
+        code,
+        seen.atn,
+    )?;
+    let clock = level_if(is_known, line, is_inverted, clock, bits, code, seen.clock)?;
+    let data = level_if(
+        is_known,
+        line,
+        is_inverted,
+        &codes.line,
+        bits,
+        code,
+        seen.line,
+    )?;
     Ok(Seen {
         time: seen.time,
-        atn: level_if(atn, level, seen.atn),
-        clock: level_if(clock, level, seen.clock),
-        line: level_if(data, level, seen.line),
+        atn,
+        clock,
+        line: data,
     })
 }
 
@@ -237,15 +275,15 @@ impl Known {
         &mut self,
         signals: &Signals<'_>,
         line: usize,
-        level: u8,
+        bits: &[u8],
         code: &[u8],
     ) -> Result<Option<Edge>, CaptureFault>
-        ensures { ReadsPiece signals.now (Change line level code.now) (place_of self.old) result (place_of self.new) }
+        ensures { ReadsPiece signals.now (Change line bits.now code.now) (place_of self.old) result (place_of self.new) }
     {
         let Stage::InChanges(scale, seen) = self.stage else {
             return Ok(None);
         };
-        let seen = changed(signals.is_inverted, &self.codes, seen, line, level, code)?;
+        let seen = changed(signals.is_inverted, &self.codes, seen, line, bits, code)?;
         self.stage = Stage::InChanges(scale, seen);
         Ok(seen.sample())
     }

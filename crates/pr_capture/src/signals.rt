@@ -3,6 +3,7 @@
 ghost use Rattle.std.specs.Prelude.{◌≡◌, option_copied};
 ghost use Rattle.std.specs.List.{list_all};
 ghost use Rattle.pr_capture.specs.Recording.{behind_letter, behind_sign, is_framing, is_named, level_in, second_name, without_front};
+ghost use Rattle.pr_capture.specs.Words.{is_space};
 
 use crate::fault::CaptureFault;
 
@@ -19,8 +20,15 @@ pub struct Signals<'a> {
     pub is_inverted: bool,
 }
 
+/// Whether a byte is white space.
+pub fn is_space(b: u8) -> bool
+    ensures { result ≡ is_space b }
+{
+    b == b' ' || (b >= 9 && b <= 13)
+}
+
 /// White space or a quotation mark.
-fn is_framing(b: u8) -> bool
+pub fn is_framing(b: u8) -> bool
     ensures { result ≡ is_framing b }
 {
     b == b' ' || b == b'"' || (b >= 9 && b <= 13)
@@ -51,7 +59,7 @@ pub fn without_front(bytes: &[u8]) -> &[u8]
 }
 
 /// What stands behind a letter, if it stands here, a capital or not.
-fn behind_letter(letter: u8, bytes: &[u8]) -> Option<&[u8]>
+pub fn behind_letter(letter: u8, bytes: &[u8]) -> Option<&[u8]>
     ensures { option_copied result ≡ behind_letter letter bytes.now }
 {
     match bytes {

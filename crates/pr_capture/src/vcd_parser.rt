@@ -9,7 +9,7 @@ ghost use Rattle.pr_capture.specs.VcdReading.Place.{Header};
 ghost use Rattle.pr_capture.specs.VcdPieces.Begun.{Nothing};
 ghost use Rattle.pr_capture.specs.VcdSteps.{begun_of, place_of, words_in, AnswersEnd, MayEnd, ReadsWords};
 
-use crate::entries::{Entry, Keyword, entry_of, is_word, keeps, rest_of};
+use crate::entries::{Entry, Keyword, bits_of, entry_of, is_word, keeps, rest_of};
 use crate::fault::CaptureFault;
 use crate::header::{WireCode, WireCodes, copied};
 use crate::known::{Known, Stage};
@@ -24,8 +24,8 @@ pub enum Phase {
     Between,
     /// A section, with the line of its keyword.
     InSection(usize, Keyword),
-    /// A value, with its line and its level: its code is the next word.
-    BehindValue(usize, u8),
+    /// A value, with its line: its code is the next word.
+    BehindValue(usize),
 }
 
 /// How far a dump has come, by whole words.
@@ -35,6 +35,8 @@ pub struct VcdParser {
     phase: Phase,
     /// The words of the section that has begun, if they are looked at.
     inside: Vec<Vec<u8>>,
+    /// The bits of the last value whose code is a word of its own.
+    bits: Vec<u8>,
     known: Known,
 }
 
@@ -54,6 +56,7 @@ impl VcdParser {
             alloc,
             phase: Phase::Between,
             inside: Vec::new(alloc),
+            bits: Vec::new(alloc),
             known: Known {
                 stage: Stage::InHeader(None),
                 scopes: Vec::new(alloc),
@@ -96,14 +99,16 @@ impl VcdParser {
                 self.phase = Phase::InSection(number, keyword);
                 Ok(None)
             }
-            Entry::Value(level) => {
-                self.phase = Phase::BehindValue(number, level);
+            Entry::Value => {
+                self.bits.clear();
+                self.bits.extend_from_slice(bits_of(word))?;
+                self.phase = Phase::BehindValue(number);
                 Ok(None)
             }
             Entry::Time => self.known.take_stamp(signals, number, rest_of(word)),
             Entry::Level(level) => self
                 .known
-                .take_change(signals, number, level, rest_of(word)),
+                .take_change(signals, number, &[level], rest_of(word)),
         }
     }
 
@@ -142,9 +147,10 @@ impl VcdParser {
         match self.phase {
             Phase::Between => self.take_single(signals, number, word),
             Phase::InSection(line, keyword) => self.take_inner(signals, line, keyword, word),
-            Phase::BehindValue(line, level) => {
+            Phase::BehindValue(line) => {
                 self.phase = Phase::Between;
-                self.known.take_change(signals, line, level, word)
+                self.known
+                    .take_change(signals, line, self.bits.as_slice(), word)
             }
         }
     }
@@ -156,7 +162,7 @@ impl VcdParser {
         match (self.phase, self.known.stage) {
             (Phase::InSection(line, _), _) => Err(CaptureFault::NoEnd(line)),
             (_, Stage::InHeader(_)) => Err(CaptureFault::NoDefinitions(end)),
-            (Phase::BehindValue(line, _), _) => Err(CaptureFault::BadWord(line)),
+            (Phase::BehindValue(line), _) => Err(CaptureFault::BadWord(line)),
             (Phase::Between, Stage::InChanges(_, seen)) => match seen.missing() {
                 Some(wire) => Err(CaptureFault::NoLevel(end, wire)),
                 None => Ok(None),

@@ -1,6 +1,6 @@
 use Rattle.std.proofs.Common.{◌≡◌, drop}
 use Rattle.pr_capture.specs.VcdReading.{ends_path}
-use Rattle.pr_capture.proofs.header.ends_path.Given as goal
+use Rattle.pr_capture.proofs.paths.ends_path.Given as goal
 
 -- what is left of the path decides
 abbrev pub invariant-loop-i : goal.invariant-loop-i

@@ -1,7 +1,7 @@
 use Rattle.std.proofs.Common.{◌≡◌, ◌++◌, drop}
 use Rattle.pr_capture.specs.VcdReading.{path_of}
 use Rattle.pr_capture.specs.VcdSteps.{words_in}
-use Rattle.pr_capture.proofs.header.path_of.Given as goal
+use Rattle.pr_capture.proofs.paths.path_of.Given as goal
 
 -- the path so far and that of the scopes left make the whole
 abbrev pub invariant-loop-scope : goal.invariant-loop-scope
