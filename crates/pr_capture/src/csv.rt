@@ -388,10 +388,10 @@ impl Moment {
         let Some(time) = time_at_rate(rate, self.count) else {
             return Err(CaptureFault::BadTime(number));
         };
-        let before = time_or(number, self.before, Some(time))?;
+        let last = time_or(number, self.before, Some(time))?;
         Ok(Moment {
             start: self.start,
-            before,
+            before: last,
             count: self.count + 1,
         })
     }
