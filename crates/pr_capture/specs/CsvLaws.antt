@@ -3,7 +3,6 @@ use Rattle.std.specs.Prelude.{◌≡◌, ℕ, zero, suc, ◌+◌, ◌/◌, ◌%�
 use Rattle.pr_wire.specs.declared.Edge.{Edge}
 use Rattle.pr_capture.specs.declared.signals.Signals.{Signals}
 use Rattle.pr_capture.specs.Csv.{csv_contents}
-use Rattle.pr_capture.specs.Recording.{CaptureContents}
 use Rattle.pr_capture.specs.Samples.{edges_of}
 use Rattle.pr_capture.specs.VcdReadingLaws.{IsAsWritten, RunsOn}
 

@@ -1,4 +1,4 @@
-use Rattle.std.proofs.Common.{arith, false, length, ◌≤◌, ◌+◌, ap, ◌∙◌}
+use Rattle.std.proofs.Common.{arith, false, length, ◌≤◌, ◌+◌, ap}
 use Rattle.std.specs.Prelude.{drop, option_copied}
 use Rattle.pr_capture.specs.Csv.{fields_of}
 use Rattle.pr_capture.specs.CsvSteps.{fields_left}
