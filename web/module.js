@@ -140,7 +140,8 @@ const loadPrint1525 = (() => {
     25: 'no such character set', 28: 'no such input', 29: 'no such source', 30: 'no such stop', 31: 'no signal ATN', 32: 'no signal CLOCK',
     33: 'no signal DATA', 34: 'no level of ATN', 35: 'no level of CLOCK', 36: 'no level of DATA', 41: 'bad word', 42: 'no $end',
     43: 'no $enddefinitions', 44: 'no timescale', 45: 'bad time', 46: 'time goes back', 47: 'level x', 48: 'level z',
-    49: 'bad level',
+    49: 'bad level', 50: 'bad timescale', 51: 'no time', 52: 'UTF-16 text', 53: 'zip archive', 61: 'another signal ATN',
+    62: 'another signal CLOCK', 63: 'another signal DATA',
   };
   const STOPS = { 1: 'TOO MANY FILES', 2: 'FILE OPEN', 3: 'FILE NOT OPEN', 5: 'DEVICE NOT PRESENT', 6: 'NOT INPUT FILE' };
 

@@ -1,6 +1,6 @@
 use Rattle.std.proofs.Common.{◌≡◌, drop}
-use Rattle.pr_capture.specs.Csv.{number_from}
-use Rattle.pr_capture.proofs.csv.number_from.Given as goal
+use Rattle.pr_capture.specs.Numbers.{number_from}
+use Rattle.pr_capture.proofs.numbers.number_from.Given as goal
 
 -- the number so far leads to that of all
 abbrev pub invariant-loop-digit : goal.invariant-loop-digit

@@ -1,6 +1,6 @@
 use Rattle.std.proofs.Common.{arith, sym, ◌∙◌}
-use Rattle.pr_capture.proofs.CsvTimes.{number-over}
-use Rattle.pr_capture.proofs.csv.number_from.Goals as goal
+use Rattle.pr_capture.proofs.DigitLemmas.{number-over}
+use Rattle.pr_capture.proofs.numbers.number_from.Goals as goal
 
 pub returns-in_err-tens : goal.returns-in_err-tens
 returns-in_err-tens c =
