@@ -162,10 +162,10 @@ $('about').onclick = () => $('about-box').showModal();
 $('about-box').addEventListener('click', event => { if (event.target === $('about-box')) $('about-box').close(); });
 $('menu').onchange = () => { const { value } = $('menu'); $('menu').selectedIndex = 0; openFromMenu(value); };
 $('open').onclick = () => $('file').click();
-$('file').onchange = async () => {
+$('file').onchange = () => {
   const file = $('file').files[0];
   $('file').value = '';
-  if (file) takeFile(new Uint8Array(await file.arrayBuffer()), file.name);
+  if (file) takeFile(file);
 };
 $('link').onclick = async () => {
   const plain = await save(), link = location.href;
@@ -187,13 +187,13 @@ addEventListener('dragleave', event => {
   $('drop').hidden = dragged === 0;
 });
 addEventListener('dragover', event => { if (event.dataTransfer?.types.includes('Files')) event.preventDefault(); });
-addEventListener('drop', async event => {
+addEventListener('drop', event => {
   dragged = 0;
   $('drop').hidden = true;
   const file = event.dataTransfer?.files[0];
   if (!file) return;
   event.preventDefault();
-  takeFile(new Uint8Array(await file.arrayBuffer()), file.name);
+  takeFile(file);
 });
 addEventListener('pagehide', () => { if (saving) save(); });
 document.addEventListener('visibilitychange', () => { if (document.hidden && saving) save(); });
