@@ -54,7 +54,7 @@ AreRows rows p = (e : Edge) → e.time < 2 ^ 64 → list_any (λ row. takes row 
 abbrev pub comes_after : Edge → Edge → Bool
 comes_after last e = nat_lt last.time e.time && differ last.levels e.levels
 
--- these are the rows at a place behind the last edge: an edge may follow it there exactly if one of them takes it
+-- these are the rows at a place after the last edge: an edge may follow it there exactly if one of them takes it
 abbrev pub AreRowsBehind : List (Option Row) → Edge → BusState → Type 0
 AreRowsBehind rows last p =
     (e : Edge) → e.time < 2 ^ 64 → list_any (λ row. takes row e) rows ≡ is_step (verdict last p e)

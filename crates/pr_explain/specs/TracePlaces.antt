@@ -1,7 +1,7 @@
 -- Trusted: the places that the explanations of traces and of recordings have: the line that cannot
 -- be read, and where the edges stop being lawful, or go back in time.
 use Rattle.std.specs.Prelude.{◌≡◌, ◌↔◌, IsTrue, ℕ, ◌+◌, ◌-◌, ◌<◌, ◌≤◌, ◌^◌, nat_lt, Bool, true, false, if◌then◌else◌, List, [], ◌∷◌, ◌++◌, length, take, Option, Some, None}
-use Rattle.std.specs.List.{list_any}
+use Rattle.std.specs.List.{list_all, list_any}
 use Rattle.pr_wire.specs.declared.Edge.{Edge}
 use Rattle.pr_wire.specs.declared.Levels.{Levels}
 use Rattle.pr_wire.specs.declared.text.TraceFault.TheVariants as trace
@@ -12,7 +12,7 @@ use Rattle.pr_capture.specs.declared.format.TraceInput.{TraceInput}
 use Rattle.pr_cli.specs.Report.{Says}
 use Rattle.pr_cli.specs.declared.fault.CliFault.{CliFault}
 use Rattle.pr_cli.specs.declared.fault.CliFault.TheVariants.{Trace, Capture}
-use Rattle.pr_explain.specs.Rows.{takes}
+use Rattle.pr_explain.specs.Rows.{all_lead_apart, has_moment, takes}
 use Rattle.pr_explain.specs.declared.edges.EdgePlace.{EdgePlace}
 use Rattle.pr_explain.specs.declared.rows.Miss.{Miss}
 use Rattle.pr_explain.specs.declared.rows.Miss.TheVariants.{Early, Late}
@@ -58,7 +58,7 @@ StopAfter whole before [] = IsTrue whole
 StopAfter whole before (e ∷ es) = IsAllowed (before ++ e ∷ []) → ⊥
 
 -- edges stop being lawful here: how many are allowed, their first fault, the edges that may follow,
--- and by how much the next misses these
+-- in rows that each have a moment and lead to other levels, and by how much the next misses these
 pub record AreStopped (whole : Bool) (edges : List Edge) (p : EdgePlace) : Type 0 where
   pub before : List Edge
   pub after : List Edge
@@ -68,6 +68,8 @@ pub record AreStopped (whole : Bool) (edges : List Edge) (p : EdgePlace) : Type 
   pub stop : StopAfter whole before after
   pub fault : fault_of edges ≡ Some p.fault
   pub expected : AreRowsAfter p.expected before
+  pub moments : list_all has_moment p.expected ≡ true
+  pub levels : all_lead_apart p.expected ≡ true
   pub missed : p.missed ≡ missed_first p.expected after
 
 -- edges, of which all are known or more may follow, stop here, or are lawful as far as they go

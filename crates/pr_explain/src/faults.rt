@@ -132,7 +132,7 @@ fn push_columns(
 fn rule_of_dumps(fault: CaptureFault) -> &'static str {
     match fault {
         CaptureFault::BadWord(_) => {
-            "behind its header a dump has times (#120), levels (0! or b0 !, with the signal's code) and \
+            "after its header a dump has times (#120), levels (0! or b0 !, with the signal's code) and \
              sections up to $end"
         }
         CaptureFault::NoEnd(_) => "the section that begins here has no $end",
