@@ -182,9 +182,9 @@ def readings_of(edges, rules):
 
 
 def command_words(byte):
-    if byte == 63:
-        return "UNLISTEN"
-    for word, first, last in (("LISTEN", 32, 62), ("SECOND", 96, 111), ("CLOSE", 224, 239)):
+    if byte in (63, 95):
+        return "UNLISTEN" if byte == 63 else "UNTALK"
+    for word, first, last in (("LISTEN", 32, 62), ("TALK", 64, 94), ("SECOND", 96, 111), ("CLOSE", 224, 239), ("OPEN", 240, 255)):
         if first <= byte <= last:
             return f"{word} {byte - first}"
     return f"command {byte}"

@@ -53,16 +53,16 @@ oddities_of es rs =
     odd_levels (not (list_any is_acknowledged rs)) (not (list_any is_attention es)) (first_levels es) (last_levels es)
 
 -- a line of text, if something is so
-abbrev pub line_if : Bool → (line : List ℕ) → List ℕ
-line_if b line = if b then line else []
+abbrev pub told_if : Bool → (line : List ℕ) → List ℕ
+told_if b line = if b then line else []
 
 -- the lines
 abbrev pub oddities_text : Oddities → List ℕ
 oddities_text o =
-    line_if o.no_byte (codes "no byte is acknowledged\n")
-    ++ line_if o.no_attention (codes "attention never comes: ATN is not pulled\n")
-    ++ line_if o.atn_rests (codes "ATN rests at 0\n")
-    ++ line_if o.clock_rests (codes "CLOCK rests at 0\n")
-    ++ line_if o.data_rests (codes "DATA rests at 0\n")
-    ++ line_if (o.no_byte || o.no_attention || o.atn_rests || o.clock_rests || o.data_rests)
+    told_if o.no_byte (codes "no byte is acknowledged\n")
+    ++ told_if o.no_attention (codes "attention never comes: ATN is not pulled\n")
+    ++ told_if o.atn_rests (codes "ATN rests at 0\n")
+    ++ told_if o.clock_rests (codes "CLOCK rests at 0\n")
+    ++ told_if o.data_rests (codes "DATA rests at 0\n")
+    ++ told_if (o.no_byte || o.no_attention || o.atn_rests || o.clock_rests || o.data_rests)
     (codes "try --invert for probes behind inverters, or other signals with --names\n")

@@ -4,7 +4,7 @@ ghost use Rattle.std.specs.Prelude.{◌≡◌, ◌++◌, ◌∷◌, ◌||◌, []
 ghost use Rattle.std.specs.List.{list_any};
 ghost use Rattle.pr_wire.specs.declared.Edge.{Edge};
 ghost use Rattle.pr_decode.specs.declared.reading.Reading.{Reading};
-ghost use Rattle.pr_report.specs.Oddities.{is_acknowledged, is_attention, line_if, odd_levels, oddities_of, oddities_text};
+ghost use Rattle.pr_report.specs.Oddities.{is_acknowledged, is_attention, told_if, odd_levels, oddities_of, oddities_text};
 ghost use Rattle.pr_report.specs.Steps.{first_or};
 ghost use Rattle.pr_report.specs.Taking.{HasSeen};
 
@@ -124,8 +124,8 @@ fn odd_levels(
 }
 
 /// Adds a line, if something is so.
-fn push_line_if(text: &mut Vec<u8>, is_so: bool, line: &[u8]) -> Result<(), NoMemory>
-    ensures { OnOk result (text.new.items ≡ text.old.items ++ line_if is_so line.now) }
+fn push_if(text: &mut Vec<u8>, is_so: bool, line: &[u8]) -> Result<(), NoMemory>
+    ensures { OnOk result (text.new.items ≡ text.old.items ++ told_if is_so line.now) }
 {
     if is_so {
         text.extend_from_slice(line)?;
@@ -146,16 +146,16 @@ pub fn push_oddities(text: &mut Vec<u8>, odd: Oddities) -> Result<(), NoMemory>
         || odd.atn_rests
         || odd.clock_rests
         || odd.data_rests;
-    push_line_if(text, odd.no_byte, b"no byte is acknowledged\n")?;
-    push_line_if(
+    push_if(text, odd.no_byte, b"no byte is acknowledged\n")?;
+    push_if(
         text,
         odd.no_attention,
         b"attention never comes: ATN is not pulled\n",
     )?;
-    push_line_if(text, odd.atn_rests, b"ATN rests at 0\n")?;
-    push_line_if(text, odd.clock_rests, b"CLOCK rests at 0\n")?;
-    push_line_if(text, odd.data_rests, b"DATA rests at 0\n")?;
-    push_line_if(
+    push_if(text, odd.atn_rests, b"ATN rests at 0\n")?;
+    push_if(text, odd.clock_rests, b"CLOCK rests at 0\n")?;
+    push_if(text, odd.data_rests, b"DATA rests at 0\n")?;
+    push_if(
         text,
         is_odd,
         b"try --invert for probes behind inverters, or other signals with --names\n",
