@@ -56,6 +56,13 @@ oddities_of es rs =
 abbrev pub told_if : Bool → (line : List ℕ) → List ℕ
 told_if b line = if b then line else []
 
+abbrev pub is_odd : Oddities → Bool
+is_odd o = o.no_byte || o.no_attention || o.atn_rests || o.clock_rests || o.data_rests
+
+-- what to try, if anything is odd
+abbrev pub advice : Oddities → List ℕ
+advice o = told_if (is_odd o) (codes "try --invert for probes behind inverters, or other signals with --names\n")
+
 -- the lines
 abbrev pub oddities_text : Oddities → List ℕ
 oddities_text o =
@@ -64,5 +71,4 @@ oddities_text o =
     ++ told_if o.atn_rests (codes "ATN rests at 0\n")
     ++ told_if o.clock_rests (codes "CLOCK rests at 0\n")
     ++ told_if o.data_rests (codes "DATA rests at 0\n")
-    ++ told_if (o.no_byte || o.no_attention || o.atn_rests || o.clock_rests || o.data_rests)
-    (codes "try --invert for probes behind inverters, or other signals with --names\n")
+    ++ advice o

@@ -4,7 +4,7 @@ ghost use Rattle.std.specs.Prelude.{◌≡◌, ◌++◌, ◌∷◌, ◌||◌, []
 ghost use Rattle.std.specs.List.{list_any};
 ghost use Rattle.pr_wire.specs.declared.Edge.{Edge};
 ghost use Rattle.pr_decode.specs.declared.reading.Reading.{Reading};
-ghost use Rattle.pr_report.specs.Oddities.{is_acknowledged, is_attention, told_if, odd_levels, oddities_of, oddities_text};
+ghost use Rattle.pr_report.specs.Oddities.{advice, is_acknowledged, is_attention, is_odd, odd_levels, oddities_of, oddities_text, told_if};
 ghost use Rattle.pr_report.specs.Steps.{first_or};
 ghost use Rattle.pr_report.specs.Taking.{HasSeen};
 
@@ -133,6 +133,24 @@ fn push_if(text: &mut Vec<u8>, is_so: bool, line: &[u8]) -> Result<(), NoMemory>
     Ok(())
 }
 
+/// Whether anything is odd.
+fn is_odd(odd: Oddities) -> bool
+    ensures { result ≡ is_odd odd }
+{
+    odd.no_byte || odd.no_attention || odd.atn_rests || odd.clock_rests || odd.data_rests
+}
+
+/// Adds what to try, if anything is odd.
+fn push_advice(text: &mut Vec<u8>, odd: Oddities) -> Result<(), NoMemory>
+    ensures { OnOk result (text.new.items ≡ text.old.items ++ advice odd) }
+{
+    push_if(
+        text,
+        is_odd(odd),
+        b"try --invert for probes behind inverters, or other signals with --names\n",
+    )
+}
+
 /// Adds a line for each thing that is odd about a recording, and one with what to try, if there is any.
 ///
 /// # Errors
@@ -141,11 +159,6 @@ fn push_if(text: &mut Vec<u8>, is_so: bool, line: &[u8]) -> Result<(), NoMemory>
 pub fn push_oddities(text: &mut Vec<u8>, odd: Oddities) -> Result<(), NoMemory>
     ensures { OnOk result (text.new.items ≡ text.old.items ++ oddities_text odd) }
 {
-    let is_odd = odd.no_byte
-        || odd.no_attention
-        || odd.atn_rests
-        || odd.clock_rests
-        || odd.data_rests;
     push_if(text, odd.no_byte, b"no byte is acknowledged\n")?;
     push_if(
         text,
@@ -155,9 +168,6 @@ pub fn push_oddities(text: &mut Vec<u8>, odd: Oddities) -> Result<(), NoMemory>
     push_if(text, odd.atn_rests, b"ATN rests at 0\n")?;
     push_if(text, odd.clock_rests, b"CLOCK rests at 0\n")?;
     push_if(text, odd.data_rests, b"DATA rests at 0\n")?;
-    push_if(
-        text,
-        is_odd,
-        b"try --invert for probes behind inverters, or other signals with --names\n",
-    )
+    push_advice(text, odd)?;
+    Ok(())
 }
