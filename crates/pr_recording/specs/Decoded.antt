@@ -11,6 +11,7 @@ use Rattle.pr_report.specs.declared.reading_line.Preceding.TheVariants.{Nothing}
 use Rattle.pr_report.specs.ReadingText.{all_lines}
 use Rattle.pr_report.specs.Summary.{summary}
 use Rattle.pr_report.specs.Verdict.{verdict_text}
+use Rattle.pr_report.specs.Oddities.{oddities_of, oddities_text}
 use Rattle.pr_capture.specs.declared.format.TraceInput.{TraceInput}
 use Rattle.pr_input.specs.PartlyWritten.{AppendsFront}
 use Rattle.pr_cli.specs.Report.{Says}
@@ -40,11 +41,13 @@ stop_at (Some n) own = Some (Wave (wave.Order n))
 
 -- What is written.
 
--- of a whole recording the lines of its readings, their summary, and whether it is lawful; of another one the lines of what its edges
--- settle, up to there
+-- of a whole recording the lines of its readings, their summary, whether it is lawful, and what is odd about it; of another
+-- one the lines of what its edges settle, up to there
 abbrev pub told_of : (stop : Option CliFault) → List Edge → List ℕ
 told_of None edges =
-    all_lines Nothing (readings_of edges) ++ (summary (readings_of edges) ++ verdict_text (fault_of edges))
+    all_lines Nothing (readings_of edges)
+    ++ (summary (readings_of edges)
+    ++ (verdict_text (fault_of edges) ++ oddities_text (oddities_of edges (readings_of edges))))
 told_of (Some fault) edges = all_lines Nothing (settled_of (in_front (back_in edges) edges))
 
 -- what is left in the writer with each answer, by how long the input may be and is, why it stops, and what is to be told of it
