@@ -6,7 +6,7 @@ use Rattle.pr_base.specs.Digits.{is_digit}
 use Rattle.pr_wire.specs.declared.Edge.{Edge}
 use Rattle.pr_wire.specs.Levels.{edge_at}
 use Rattle.pr_capture.specs.declared.entries.Keyword.{Keyword}
-use Rattle.pr_capture.specs.declared.entries.Keyword.TheVariants.{Definitions, Other, Scope, Timescale, Upscope, Var}
+use Rattle.pr_capture.specs.declared.entries.Keyword.TheVariants.{Definitions, Other, Pause, Scope, Timescale, Upscope, Var}
 use Rattle.pr_capture.specs.declared.changes.Seen.{Seen}
 use Rattle.pr_capture.specs.declared.fault.Wire.{Wire}
 use Rattle.pr_capture.specs.declared.fault.Wire.TheVariants.{Atn, Clock, Data}
@@ -223,10 +223,12 @@ with_scope scopes (Some name) = scopes ++ name ∷ []
 abbrev pub without_last : (scopes : List (List ℕ)) → List (List ℕ)
 without_last scopes = take (length scopes - 1) scopes
 
--- The places of a dump: in the header and some scopes, and among the changes, where times have a scale and some levels are known.
+-- The places of a dump: in the header and some scopes, and among the changes, where times have a scale and some
+-- levels are known, and behind them in a pause.
 pub data Place : Type 0 where
   Header : (scale : Option ℕ) → (scopes : List (List ℕ)) → Codes → Place
   Changes : (scale : ℕ) → Codes → Seen → Place
+  Paused : (scale : ℕ) → Codes → Seen → Place
 
 abbrev pub nothing_seen : Seen
 nothing_seen = record { time = 0; atn = None; clock = None; line = None }
@@ -271,6 +273,7 @@ headed s scale scopes c line Scope inside = Ok (Header scale (with_scope scopes 
 headed s scale scopes c line Upscope inside = Ok (Header scale (without_last scopes) c)
 headed s scale scopes c line Var inside = Ok (Header scale scopes (with_signal s c line scopes inside))
 headed s scale scopes c line Definitions inside = header_ended line scale c
+headed s scale scopes c line Pause inside = Ok (Header scale scopes c)
 headed s scale scopes c line Other inside = Ok (Header scale scopes c)
 
 -- The changes.
@@ -351,6 +354,19 @@ abbrev pub sample_in : (time : ℕ) → (atn clock line : Option Bool) → Optio
 sample_in time (Some a) (Some c) (Some l) = Some (edge_at time a c l)
 sample_in time _ _ _ = None
 
+-- recording pauses behind some sections
+abbrev pub pauses : Keyword → Bool
+pauses Timescale = false
+pauses Scope = false
+pauses Upscope = false
+pauses Var = false
+pauses Definitions = false
+pauses Pause = true
+pauses Other = false
+
+abbrev pub behind_section : Keyword → (scale : ℕ) → Codes → Seen → Place
+behind_section k scale c seen = if pauses k then Paused scale c seen else Changes scale c seen
+
 -- recording goes on after a pause: where the levels were known, nobody knows them in between
 abbrev pub resumed : (line : ℕ) → Place → (before : Option Edge) → Result Place CaptureFault
 resumed line p None = Ok p
@@ -359,7 +375,8 @@ resumed line p (Some e) = Err (Unknown line)
 -- The whole.
 
 -- a piece leads from one place to the next, or has a fault. In the header other words than those of sections say nothing, but for
--- `#` and digits, which show that the header did not end; among the changes sections say nothing
+-- `#` and digits, which show that the header did not end; among the changes sections say
+-- nothing, but that recording pauses; then nothing counts until it goes on
 abbrev pub step : Signals → Place → Piece → Result Place CaptureFault
 step s (Header scale scopes c) (Section line k inside) = headed s scale scopes c line k inside
 step s (Header scale scopes c) (Stamp line digits) = if is_number digits then Err (NoDefinitions line) else Ok (Header scale scopes c)
@@ -367,17 +384,25 @@ step s (Header scale scopes c) (Change line bits code) = Ok (Header scale scopes
 step s (Header scale scopes c) (Stray line) = Ok (Header scale scopes c)
 step s (Header scale scopes c) (Resume line) = Ok (Header scale scopes c)
 step s (Header scale scopes c) (Unended line) = Err (NoEnd line)
-step s (Changes scale c seen) (Section line k inside) = Ok (Changes scale c seen)
+step s (Changes scale c seen) (Section line k inside) = Ok (behind_section k scale c seen)
 step s (Changes scale c seen) (Stamp line digits) = stamped scale seen line digits >>= λ next. Ok (Changes scale c next)
 step s (Changes scale c seen) (Change line bits code) =
     changed s.is_inverted c seen line bits code >>= λ next. Ok (Changes scale c next)
 step s (Changes scale c seen) (Stray line) = Err (BadWord line)
 step s (Changes scale c seen) (Resume line) = resumed line (Changes scale c seen) (sample_in seen.time seen.atn seen.clock seen.line)
 step s (Changes scale c seen) (Unended line) = Err (NoEnd line)
+step s (Paused scale c seen) (Section line k inside) = Ok (Paused scale c seen)
+step s (Paused scale c seen) (Stamp line digits) = Ok (Paused scale c seen)
+step s (Paused scale c seen) (Change line bits code) = Ok (Paused scale c seen)
+step s (Paused scale c seen) (Stray line) = Err (BadWord line)
+step s (Paused scale c seen) (Resume line) =
+    resumed line (Changes scale c seen) (sample_in seen.time seen.atn seen.clock seen.line)
+step s (Paused scale c seen) (Unended line) = Err (NoEnd line)
 
 abbrev pub sample_of : Place → Option Edge
 sample_of (Header scale scopes c) = None
 sample_of (Changes scale c seen) = sample_in seen.time seen.atn seen.clock seen.line
+sample_of (Paused scale c seen) = None
 
 -- the sample behind a piece, and what is told from there
 abbrev pub goes_on : Result Place CaptureFault → (Place → CaptureContents) → CaptureContents
@@ -401,12 +426,16 @@ abbrev pub level_wanted : (end : ℕ) → (missing : Option Wire) → CaptureCon
 level_wanted end None = ended
 level_wanted end (Some wire) = refused (NoLevel end wire)
 
+abbrev pub contents_seen : (end : ℕ) → Seen → CaptureContents
+contents_seen end seen =
+    if is_blank seen.time seen.atn seen.clock seen.line then ended
+    else level_wanted end (without_level seen.atn seen.clock seen.line)
+
 -- a text ends on this line
 abbrev pub contents_at_end : (end : ℕ) → Place → CaptureContents
 contents_at_end end (Header scale scopes c) = refused (NoDefinitions end)
-contents_at_end end (Changes scale c seen) =
-    if is_blank seen.time seen.atn seen.clock seen.line then ended
-    else level_wanted end (without_level seen.atn seen.clock seen.line)
+contents_at_end end (Changes scale c seen) = contents_seen end seen
+contents_at_end end (Paused scale c seen) = contents_seen end seen
 
 -- what pieces tell from a place on
 abbrev pub piece_contents : Signals → (end : ℕ) → Place → List Piece → CaptureContents
