@@ -1,4 +1,4 @@
--- Trusted: the pieces of a Value Change Dump: its sections, each from a keyword to `$end`, its time stamps and its changes.
+-- Trusted: the pieces of a Value Change Dump: its sections, from a keyword to `$end`, its time stamps and its changes.
 use Rattle.std.specs.Prelude.{ℕ, ◌==◌, ◌||◌, Bool, true, false, List, [], ◌∷◌, ◌++◌, codes, if◌then◌else◌}
 use Rattle.std.specs.List.{list_any}
 use Rattle.std.specs.Str.{bytes_eq}

@@ -187,7 +187,7 @@ pub record Codes : Type 0 where
 abbrev pub no_codes : Codes
 no_codes = record { atn = nothing; clock = nothing; second = nothing; line = nothing }
 
--- CLOCK's own
+-- CLOCK's code, by its first name or else by its second
 abbrev pub found_or : Option (List ℕ) → (first second : Found) → Found
 found_or None first second = second
 found_or (Some code) first second = first
@@ -233,7 +233,7 @@ pub data Place : Type 0 where
 abbrev pub nothing_seen : Seen
 nothing_seen = record { time = 0; atn = None; clock = None; line = None }
 
--- a timescale there has to be
+-- the scale, which the header must have
 abbrev pub scale_or : (line : ℕ) → Option ℕ → Result ℕ CaptureFault
 scale_or line None = Err (NoTimescale line)
 scale_or line (Some scale) = Ok scale
@@ -256,7 +256,7 @@ alone wire (Some line) code = Err (TwoSignals line wire)
 abbrev pub signal_or : (line : ℕ) → Wire → Found → Result (List ℕ) CaptureFault
 signal_or line wire f = code_or line wire f.code >>= λ code. alone wire f.other code
 
--- the header ends
+-- the end of the header
 abbrev pub header_ended : (line : ℕ) → (scale : Option ℕ) → Codes → Result Place CaptureFault
 header_ended line scale c =
     scale_or line scale >>= λ n.
@@ -304,7 +304,7 @@ abbrev pub all_known : (atn clock line : Option Bool) → Bool
 all_known (Some a) (Some c) (Some l) = true
 all_known _ _ _ = false
 
--- a level of a wire; x and z leave it not known, as long as the three levels have not all been known at once
+-- the level of a wire; x and z leave it unknown until all three levels have been known at once
 abbrev pub level_behind : (known : Bool) → (line : ℕ) → (inverted : Bool) → (level : ℕ)
     → Result (Option Bool) CaptureFault
 level_behind known line inverted b =
@@ -343,7 +343,7 @@ changed inverted c seen line bits code =
     level_if (all_known seen.atn seen.clock seen.line) line inverted c.line bits code seen.line >>= λ last.
     Ok (record { time = seen.time; atn = atn; clock = clock; line = last })
 
--- a time stamp, in whole microseconds not before that of an earlier one
+-- a time stamp: whole microseconds, no earlier than the stamp before
 abbrev pub stamped : (scale : ℕ) → Seen → (line : ℕ) → (digits : List ℕ) → Result Seen CaptureFault
 stamped scale seen line digits =
     time_or line seen.time (time_at scale digits) >>= λ t.
@@ -404,7 +404,7 @@ sample_of (Header scale scopes c) = None
 sample_of (Changes scale c seen) = sample_in seen.time seen.atn seen.clock seen.line
 sample_of (Paused scale c seen) = None
 
--- the sample behind a piece, and what is told from there
+-- the sample after a piece, and what the rest says
 abbrev pub goes_on : Result Place CaptureFault → (Place → CaptureContents) → CaptureContents
 goes_on (Err f) rest = refused f
 goes_on (Ok p) rest = with_samples (listed (sample_of p)) (rest p)
@@ -416,12 +416,12 @@ without_level (Some a) None line = Some Clock
 without_level (Some a) (Some c) None = Some Data
 without_level (Some a) (Some c) (Some l) = None
 
--- no level was said, and no moment behind 0: so is the dump of an empty trace
+-- a dump of an empty trace: it gives no level and no moment after 0
 abbrev pub is_blank : (time : ℕ) → (atn clock line : Option Bool) → Bool
 is_blank time None None None = time == 0
 is_blank time _ _ _ = false
 
--- each wire has to have a level
+-- each wire must have a level
 abbrev pub level_wanted : (end : ℕ) → (missing : Option Wire) → CaptureContents
 level_wanted end None = ended
 level_wanted end (Some wire) = refused (NoLevel end wire)
@@ -437,7 +437,7 @@ contents_at_end end (Header scale scopes c) = refused (NoDefinitions end)
 contents_at_end end (Changes scale c seen) = contents_seen end seen
 contents_at_end end (Paused scale c seen) = contents_seen end seen
 
--- what pieces tell from a place on
+-- what pieces say from a place on
 abbrev pub piece_contents : Signals → (end : ℕ) → Place → List Piece → CaptureContents
 piece_contents s end p [] = contents_at_end end p
 piece_contents s end p (q ∷ qs) = goes_on (step s p q) (λ next. piece_contents s end next qs)

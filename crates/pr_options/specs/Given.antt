@@ -7,11 +7,11 @@ use Rattle.clap.specs.declared.parser.matches.ValueSource.{ValueSource}
 use Rattle.clap.specs.declared.parser.matches.ValueSource.TheVariants.{CommandLine, DefaultValue}
 use Rattle.pr_options.specs.OptionNames.{ValueOption}
 
--- the value of an option; a subcommand that does not have it takes its default
+-- the value of an option; a subcommand without the option has its default
 abbrev pub value_in : ValueOption → List Row → Text
 value_in option rows = unwrap_or (first_of option.name rows) option.default
 
--- a value comes from the words, and not from a default
+-- a value comes from the words, not from a default
 abbrev pub is_of_words : Option ValueSource → Bool
 is_of_words None = false
 is_of_words (Some DefaultValue) = false

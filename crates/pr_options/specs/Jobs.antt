@@ -1,4 +1,4 @@
--- Trusted: what a command line asks for, by clap's meaning of the command.
+-- Trusted: the job that a command line asks for, with clap's reading of the words.
 use Rattle.std.specs.Prelude.{◌≡◌, ◌≢◌, ◌||◌, ⊤, ℕ, Bool, true, false, not, List, Option, Some, None, Result, Ok, Err, [], codes, ok_or, option_map, if◌then◌else◌}
 use Rattle.std.specs.Str.{bytes_eq}
 use Rattle.clap.specs.Words.{IsAmong, Row, Text, fault_of, kind_of, subcommand_of, takes}
@@ -72,7 +72,7 @@ job_view (job.Check input report) = Check (input_view input) report
 job_view (job.Decode input format) = Decode (input_view input) format
 job_view (job.Raw lower format) = Raw lower format
 
--- what follows a value, or the first fault
+-- the next step with a value, or the first fault
 infixl 10 ◌>>=◌
 abbrev pub ◌>>=◌ : {A B : Type 0} → Result A JobFault → (A → Result B JobFault) → Result B JobFault
 Ok value >>= next = next value
@@ -157,7 +157,7 @@ wanted name rows =
     else (if bytes_eq name (codes "raw") then wanted_raw lower rows
     else wanted_pages run rows)))
 
--- the job that words ask for, by the subcommand that they name
+-- the job that words ask for, with the subcommand that they name
 abbrev pub asked : List Text → Option (Result JobView JobFault)
 asked words = option_map (λ met. wanted met.0 met.1) (subcommand_of print1525 words)
 

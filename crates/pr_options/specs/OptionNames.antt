@@ -1,8 +1,8 @@
--- Trusted: the names of the program's options, and the values of those that are not given.
+-- Trusted: the names of the program's options, and their defaults.
 use Rattle.std.specs.Prelude.{[], codes}
 use Rattle.clap.specs.Words.{Text}
 
--- an option with a value: its name, and the value where none is given
+-- an option with a value: its name, and its default
 pub record ValueOption : Type 0 where
   pub name : Text
   pub default : Text

@@ -57,7 +57,7 @@ abbrev pub source_of : Text → Option Source
 source_of = meaning_of (
     (codes "text", source.Text) ∷ (codes "vcd", source.Vcd) ∷ (codes "csv", source.Csv) ∷ [])
 
--- what is written of a trace that is checked: frames or story
+-- what `check` writes: frames or story
 abbrev pub report_of : Text → Option Report
 report_of = meaning_of ((codes "frames", report.Frames) ∷ (codes "story", report.Story) ∷ [])
 

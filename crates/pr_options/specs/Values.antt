@@ -1,4 +1,4 @@
--- Trusted: what values an option has, as its help says them where one is bad.
+-- Trusted: the values of an option, as its help says them when one is bad.
 use Rattle.std.specs.Prelude.{ℕ, List, Option, Some, None}
 use Rattle.pr_options.specs.declared.options.TheConstants.{DELAYS_HELP, FROM_HELP, FROM_TIME_HELP, LISTING_FROM_HELP, NAMES_HELP, PAGE_AS_HELP, PRESENT_HELP, READING_AS_HELP, REPORT_AS_HELP, SET_HELP, STATUS_HELP, TRACE_AS_HELP}
 use Rattle.pr_options.specs.declared.command_line.JobFault.{JobFault}
