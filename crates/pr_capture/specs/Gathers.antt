@@ -6,7 +6,7 @@ use Rattle.pr_wire.specs.declared.Edge.{Edge}
 use Rattle.pr_capture.specs.declared.edge_detector.EdgeDetector.{EdgeDetector}
 use Rattle.pr_capture.specs.Gathering.{HasGathered}
 
--- the gatherer has taken these samples too, behind whatever it had taken, and has given these edges
+-- the detector has taken these samples too, after whatever it had taken, and has given these edges
 abbrev pub GathersMore : (samples edges : List Edge) (old new : EdgeDetector) → Type 0
 GathersMore samples edges old new =
     (start : ℕ) (before given : List Edge) → HasGathered start before given old
