@@ -15,9 +15,18 @@ value_rule o =
 abbrev pub flag_rule : Text → Rule
 flag_rule name = record (new_rule name) { long = Some name; action = Some SetTrue }
 
--- a subcommand with its options
+-- the file that is read, which is named without the name of an option
+abbrev pub input_rule : Rule
+input_rule = record (new_rule option.input) { value_names = 1 }
+
+-- the file that is written: `--output FILE`, or `-o FILE` (111)
+abbrev pub output_rule : Rule
+output_rule =
+    record (new_rule option.output) { long = Some option.output; short = Some 111; value_names = 1 }
+
+-- a subcommand with its options; each has a file that is read and one that is written
 abbrev pub subcommand : Text → List Rule → Shape
-subcommand name rules = record (new_shape name) { rules = rules }
+subcommand name rules = record (new_shape name) { rules = input_rule ∷ output_rule ∷ rules }
 
 -- a subcommand that runs a script, and the formats of what it writes
 abbrev pub run_shape : Text → ValueOption → Shape
@@ -26,10 +35,10 @@ run_shape name formats =
     ∷ value_rule option.delays ∷ value_rule option.status ∷ value_rule formats
     ∷ flag_rule option.explain ∷ [])
 
--- a subcommand that reads a trace or a recording, and the formats of what it writes
-abbrev pub trace_shape : Text → ValueOption → Shape
-trace_shape name formats =
-    subcommand name (value_rule option.from ∷ value_rule option.names ∷ flag_rule option.invert
+-- a subcommand that reads a trace or a recording, the formats of it, and those of what it writes
+abbrev pub trace_shape : Text → ValueOption → ValueOption → Shape
+trace_shape name from formats =
+    subcommand name (value_rule from ∷ value_rule option.names ∷ flag_rule option.invert
     ∷ value_rule option.from_time ∷ value_rule formats ∷ flag_rule option.explain ∷ [])
 
 -- the subcommand that writes the page of a printer's bytes
@@ -47,6 +56,6 @@ print1525 = record {
     disable_help_subcommand = true;
   };
   subs = run_shape (codes "pages") option.page_as ∷ run_shape (codes "bus") option.trace_as
-      ∷ trace_shape (codes "check") option.report_as ∷ trace_shape (codes "decode") option.reading_as
-      ∷ raw_shape ∷ [];
+      ∷ trace_shape (codes "check") option.from option.report_as
+      ∷ trace_shape (codes "decode") option.reading_from option.reading_as ∷ raw_shape ∷ [];
 }

@@ -56,6 +56,11 @@ abbrev pub source_of : Text → Option Source
 source_of = meaning_of (
     (codes "text", source.Text) ∷ (codes "vcd", source.Vcd) ∷ (codes "csv", source.Csv) ∷ [])
 
+-- the format of a recording that is decoded: text, vcd or csv, or auto, which names none
+abbrev pub reading_source_of : Text → Option (Option Source)
+reading_source_of = meaning_of ((codes "auto", None) ∷ (codes "text", Some source.Text)
+    ∷ (codes "vcd", Some source.Vcd) ∷ (codes "csv", Some source.Csv) ∷ [])
+
 -- what is written of a trace that is checked: frames or story
 abbrev pub report_of : Text → Option Report
 report_of = meaning_of ((codes "frames", report.Frames) ∷ (codes "story", report.Story) ∷ [])

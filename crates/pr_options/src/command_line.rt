@@ -6,25 +6,28 @@ ghost use Rattle.std.specs.Str.{bytes_eq};
 ghost use Rattle.clap.specs.Words.{fault_of, found_of, rows_of, subcommand_rows_of};
 ghost use Rattle.pr_options.specs.CommandLine.{print1525};
 ghost use Rattle.pr_options.specs.CommandLaws.{NamesOurs};
-ghost use Rattle.pr_options.specs.Jobs.{IsRefused, asked, input_view, job_view, wanted_bus, wanted_check, wanted_decode, wanted_input, wanted_pages, wanted_raw, wanted_run};
+ghost use Rattle.pr_options.specs.Jobs.{IsRefused, asked, input_view, job_view, task_view, wanted, wanted_bus, wanted_check, wanted_decode, wanted_input, wanted_pages, wanted_raw, wanted_run};
 ghost use Rattle.pr_options.specs.Steps.{IsFaultIn, IsOfClap, job_result, run_view, wanted_of};
-ghost use Rattle.pr_options.specs.Values.{values_of};
+ghost use Rattle.pr_options.specs.Found.{bad_value, begins_as_dump, begins_as_table, found_source, front, has_comma};
+ghost use Rattle.pr_options.specs.Subcommands.{option_view};
+ghost use Rattle.pr_options.specs.Values.{option_of, values_of};
 
 use crate::clap_command::make_command;
 use crate::delays::DelayFault;
 use crate::options::{
-    DELAYS, FROM, FROM_TIME, LISTING_FROM, NAMES, PAGE_AS, PRESENT, READING_AS, REPORT_AS, SET,
-    STATUS, TRACE_AS,
+    DELAYS, FROM, FROM_TIME, INPUT, LISTING_FROM, NAMES, OUTPUT, PAGE_AS, PRESENT, READING_AS,
+    READING_FROM, REPORT_AS, SET, STATUS, TRACE_AS, ValueOption,
 };
 use crate::values_given::{
-    delays_in, fits, form_in, page_format_in, present_in, reading_format_in, report_in, set_in,
-    signals_in, source_in, start_in, status_in, trace_format_in,
+    delays_in, file_in, fits, form_in, page_format_in, present_in, reading_format_in,
+    reading_source_in, report_in, set_in, signals_in, source_in, start_in, status_in,
+    trace_format_in, unless_found, value_in,
 };
 use clap::ArgMatches;
 use clap::error::ErrorKind;
 use pr_basic::StatusMode;
 use pr_bus::Delays;
-use pr_capture::{TraceFormat, TraceInput};
+use pr_capture::{Source, TraceFormat, TraceInput};
 use pr_listing::ListingForm;
 use pr_render::Format;
 use pr_report::Report;
@@ -44,8 +47,16 @@ pub enum Job<'a> {
     /// Read a trace and write what it says.
     Check(TraceInput<'a>, Report),
     /// Read any recording and write what it says: with [`Format::List`] byte by byte, else as the pages
-    /// that printers 4 and 5 print of it, in this format.
-    Decode(TraceInput<'a>, Format),
+    /// that printers 4 and 5 print of it.
+    Decode {
+        /// The first bytes of the recording show its format, as [`found_source`] reads them; the format
+        /// in `input` is the one where they show none.
+        is_found: bool,
+        /// How it is read.
+        input: TraceInput<'a>,
+        /// The format of what is written.
+        format: Format,
+    },
     /// Read the bytes of a printer and write its page.
     Raw {
         /// The lower/upper case set is selected first, else the graphic/upper case set.
@@ -53,6 +64,16 @@ pub enum Job<'a> {
         /// The format of the page.
         format: Format,
     },
+}
+
+/// A job, and the files that it reads and writes.
+#[derive(Drop)]
+pub struct Task<'a> {
+    pub job: Job<'a>,
+    /// The name of the file that is read; None where standard input is.
+    pub input: Option<&'a str>,
+    /// The name of the file that is written; None where standard output is.
+    pub output: Option<&'a str>,
 }
 
 /// Why a command line asks for nothing.
@@ -73,9 +94,12 @@ pub enum JobFault {
     /// The value of `--set` is not `upper` or `lower`.
     #[error("bad --set")]
     BadSet,
-    /// The value of `--from` of `check` or `decode` is not `text`, `vcd` or `csv`.
+    /// The value of `--from` of `check` is not `text`, `vcd` or `csv`.
     #[error("bad --from")]
     BadFrom,
+    /// The value of `--from` of `decode` is not `auto`, `text`, `vcd` or `csv`.
+    #[error("bad --from")]
+    BadReadingFrom,
     /// The value of `--from` of `pages` or `bus` is not `text`, `prg` or `petcat`.
     #[error("bad --from")]
     BadForm,
@@ -111,19 +135,43 @@ impl JobFault {
     pub fn values(&self) -> Option<&'static str>
         ensures { option_map (λ text. text.now) result ≡ values_of self.now }
     {
+        match self.option() {
+            Some(option) => Some(option.help),
+            None => None,
+        }
+    }
+
+    /// The values that the option has of which this is a bad one, in a few words: none where the
+    /// fault says no more than that it is bad. None of other faults.
+    pub fn good_values(&self) -> Option<&'static str> {
         match self {
-            JobFault::BadPresent => Some(PRESENT.help),
-            JobFault::BadDelays => Some(DELAYS.help),
-            JobFault::BadStatus => Some(STATUS.help),
-            JobFault::BadSet => Some(SET.help),
-            JobFault::BadFrom => Some(FROM.help),
-            JobFault::BadForm => Some(LISTING_FROM.help),
-            JobFault::BadNames => Some(NAMES.help),
-            JobFault::BadStart => Some(FROM_TIME.help),
-            JobFault::BadPageAs => Some(PAGE_AS.help),
-            JobFault::BadTraceAs => Some(TRACE_AS.help),
-            JobFault::BadReportAs => Some(REPORT_AS.help),
-            JobFault::BadReadingAs => Some(READING_AS.help),
+            JobFault::BadPresent | JobFault::BadDelays | JobFault::BadStatus => None,
+            _ => match self.option() {
+                Some(option) => Some(option.values),
+                None => None,
+            },
+        }
+    }
+
+    /// The option of which this is a bad value.
+    fn option(&self) -> Option<ValueOption>
+        ensures option { option_map option_view result ≡ option_of self.now }
+        ensures help { option_map (λ o. o.help.now) result ≡ values_of self.now }
+    {
+        match self {
+            JobFault::BadPresent => Some(PRESENT),
+            JobFault::BadDelays => Some(DELAYS),
+            JobFault::BadStatus => Some(STATUS),
+            JobFault::BadSet => Some(SET),
+            JobFault::BadFrom => Some(FROM),
+            JobFault::BadReadingFrom => Some(READING_FROM),
+            JobFault::BadForm => Some(LISTING_FROM),
+            JobFault::BadNames => Some(NAMES),
+            JobFault::BadStart => Some(FROM_TIME),
+            JobFault::BadPageAs => Some(PAGE_AS),
+            JobFault::BadTraceAs => Some(TRACE_AS),
+            JobFault::BadReportAs => Some(REPORT_AS),
+            JobFault::BadReadingAs => Some(READING_AS),
             JobFault::NoRecording | JobFault::Line(_) | JobFault::NoMemory => None,
         }
     }
@@ -150,13 +198,13 @@ impl From<DelayFault> for JobFault {
 /// refusal), and [`JobFault::NoMemory`] where memory was refused, by clap too. The other faults come
 /// only for words that clap takes, and report the first bad value in this order:
 /// [`JobFault::BadPresent`], [`JobFault::BadDelays`], [`JobFault::BadStatus`], [`JobFault::BadSet`];
-/// of `pages` and `bus` [`JobFault::BadForm`]; of `check` and `decode` [`JobFault::BadFrom`],
-/// [`JobFault::BadNames`], [`JobFault::BadStart`], then [`JobFault::NoRecording`], where these are good;
+/// of `pages` and `bus` [`JobFault::BadForm`]; of `check` [`JobFault::BadFrom`], of `decode`
+/// [`JobFault::BadReadingFrom`], and of both [`JobFault::BadNames`], [`JobFault::BadStart`], then [`JobFault::NoRecording`], where these are good;
 /// and at last a bad `--as`:
 /// [`JobFault::BadPageAs`] of `pages` and `raw`, [`JobFault::BadTraceAs`] of `bus`,
 /// [`JobFault::BadReportAs`] of `check`, [`JobFault::BadReadingAs`] of `decode`.
-pub fn read_job<'a>(alloc: Global, words: &'a [&'a str]) -> Result<Job<'a>, JobFault>
-    ensures ok { IfOk result (λ job. asked (map (λ s. s.now) words.entry.now) ≡ Some (Ok (job_view job))) }
+pub fn read_task<'a>(alloc: Global, words: &'a [&'a str]) -> Result<Task<'a>, JobFault>
+    ensures ok { IfOk result (λ task. asked (map (λ s. s.now) words.entry.now) ≡ Some (Ok (task_view task))) }
     ensures taken { OnOk result (fault_of print1525 (map (λ s. s.now) words.entry.now) ≡ []) }
     ensures bad { IfErr result (IsRefused (map (λ s. s.now) words.entry.now)) }
 {
@@ -164,13 +212,75 @@ pub fn read_job<'a>(alloc: Global, words: &'a [&'a str]) -> Result<Job<'a>, JobF
         return Err(JobFault::NoMemory);
     };
     match command.try_get_matches_from(words) {
-        Ok(matches) => job_of(alloc, &matches),
+        Ok(matches) => task_of(alloc, &matches),
         Err(error) => Err(refused_by_clap(error)),
     }
 }
 
+/// The value that words give the option of which the fault, that of [`read_task`] for them, says that
+/// it is a bad one. None of other faults, and where memory was refused.
+pub fn bad_value<'a>(alloc: Global, words: &'a [&'a str], fault: &JobFault) -> Option<&'a str>
+    ensures { IfSome result (λ value. bad_value (map (λ s. s.now) words.entry.now) fault.now ≡ Some value.now) }
+{
+    let option = fault.option()?;
+    let Ok(command) = make_command(alloc) else {
+        return None;
+    };
+    match command.try_get_matches_from(words) {
+        Ok(matches) => match matches.subcommand() {
+            Some((_name, options)) => Some(value_in(options, option)),
+            None => None,
+        },
+        Err(_error) => None,
+    }
+}
+
+/// The format that the first bytes of a recording show, or else `source`: a dump begins with `$`, a
+/// table with `;` or `#`, or it has a comma in its first line.
+pub fn found_source(source: Source, bytes: &[u8]) -> Source
+    ensures { result ≡ found_source source bytes.now }
+{
+    if begins_as_dump(bytes) {
+        Source::Vcd
+    } else if begins_as_table(bytes) {
+        Source::Csv
+    } else {
+        source
+    }
+}
+
+/// The first byte that is no blank.
+fn front(bytes: &[u8]) -> Option<u8>
+    ensures { result ≡ front bytes.now }
+{
+    bytes.iter().copied().find(|b| !b.is_ascii_whitespace())
+}
+
+/// Whether the first byte that is no blank is a `$`.
+fn begins_as_dump(bytes: &[u8]) -> bool
+    ensures { result ≡ begins_as_dump bytes.now }
+{
+    matches!(front(bytes), Some(b'$'))
+}
+
+/// Whether the first byte that is no blank is a `;` or a `#`, or a comma comes before the first line's
+/// end.
+fn begins_as_table(bytes: &[u8]) -> bool
+    ensures { result ≡ begins_as_table bytes.now }
+{
+    matches!(front(bytes), Some(b';' | b'#')) || has_comma(bytes)
+}
+
+/// Whether a comma comes before the first line's end.
+fn has_comma(bytes: &[u8]) -> bool
+    ensures { result ≡ has_comma bytes.now }
+{
+    let first = bytes.iter().copied().find(|b| *b == b',' || *b == b'\n');
+    matches!(first, Some(b','))
+}
+
 /// Whether a word is `--explain`: more is to be told of a refusal or of an error. No value of an
-/// option is that word in a command line that clap takes.
+/// option is that word in a command line that clap takes; a file is named so only after `--`.
 pub fn explains(words: &[&str]) -> bool
     ensures { result ≡ list_any (λ word. bytes_eq word.now (codes "--explain")) words.now }
 {
@@ -190,16 +300,29 @@ struct Run {
     mode: StatusMode,
 }
 
-/// The job that the matches of the words ask for. The values of a run and `--set` are read whichever
-/// subcommand was met: an option that the subcommand does not have has its default there.
-fn job_of<'a>(alloc: Global, matches: &ArgMatches<'a>) -> Result<Job<'a>, JobFault>
+/// The job that the matches of the words ask for, with its files.
+fn task_of<'a>(alloc: Global, matches: &ArgMatches<'a>) -> Result<Task<'a>, JobFault>
     requires { IsSome (subcommand_rows_of matches.now) }
-    ensures ok { IfOk result (λ job. wanted_of (subcommand_rows_of matches.now) ≡ Some (Ok (job_view job))) }
+    ensures ok { IfOk result (λ task. wanted_of (subcommand_rows_of matches.now) ≡ Some (Ok (task_view task))) }
     ensures bad { IfErr result (λ f. (f ≡ JobFault.NoMemory) ⊎ (wanted_of (subcommand_rows_of matches.now) ≡ Some (Err f))) }
 {
     let Some((name, options)) = matches.subcommand() else {
         unreachable!()
     };
+    let job = job_of(alloc, name, options)?;
+    Ok(Task {
+        job,
+        input: file_in(options, INPUT),
+        output: file_in(options, OUTPUT),
+    })
+}
+
+/// The job of a subcommand. The values of a run and `--set` are read whichever it is: an option that
+/// the subcommand does not have has its default there.
+fn job_of<'a>(alloc: Global, name: &str, options: &ArgMatches<'a>) -> Result<Job<'a>, JobFault>
+    ensures ok { IfOk result (λ job. wanted name.now (rows_of (found_of options.now)) ≡ Ok (job_view job)) }
+    ensures bad { IfErr result (IsFaultIn (wanted name.now (rows_of (found_of options.now)))) }
+{
     let run = run_of(alloc, options)?;
     let lower = set_in(options)?;
     match name {
@@ -226,13 +349,12 @@ fn run_of(alloc: Global, options: &ArgMatches<'_>) -> Result<Run, JobFault>
     })
 }
 
-/// How a trace or a recording is to be read. What goes with a recording alone is judged when all
+/// How a trace or a recording in this format is to be read. What goes with a recording alone is judged when all
 /// these values are good.
-fn input_of<'a>(options: &ArgMatches<'a>) -> Result<TraceInput<'a>, JobFault>
-    ensures ok { IfOk result (λ input. wanted_input (rows_of (found_of options.now)) ≡ Ok (input_view input)) }
-    ensures bad { IfErr result (λ f. wanted_input (rows_of (found_of options.now)) ≡ Err f) }
+fn input_of<'a>(source: Source, options: &ArgMatches<'a>) -> Result<TraceInput<'a>, JobFault>
+    ensures ok { IfOk result (λ input. wanted_input source (rows_of (found_of options.now)) ≡ Ok (input_view input)) }
+    ensures bad { IfErr result (λ f. wanted_input source (rows_of (found_of options.now)) ≡ Err f) }
 {
-    let source = source_in(options)?;
     let signals = signals_in(options)?;
     let start = start_in(options)?;
     if !fits(source, options) {
@@ -249,7 +371,8 @@ fn input_of<'a>(options: &ArgMatches<'a>) -> Result<TraceInput<'a>, JobFault>
 fn check_job<'a>(options: &ArgMatches<'a>) -> Result<Job<'a>, JobFault>
     ensures { job_result result ≡ wanted_check (rows_of (found_of options.now)) }
 {
-    let input = input_of(options)?;
+    let source = source_in(options)?;
+    let input = input_of(source, options)?;
     let report = report_in(options)?;
     Ok(Job::Check(input, report))
 }
@@ -258,9 +381,14 @@ fn check_job<'a>(options: &ArgMatches<'a>) -> Result<Job<'a>, JobFault>
 fn decode_job<'a>(options: &ArgMatches<'a>) -> Result<Job<'a>, JobFault>
     ensures { job_result result ≡ wanted_decode (rows_of (found_of options.now)) }
 {
-    let input = input_of(options)?;
+    let source = reading_source_in(options)?;
+    let input = input_of(source.unwrap_or(unless_found(options)), options)?;
     let format = reading_format_in(options)?;
-    Ok(Job::Decode(input, format))
+    Ok(Job::Decode {
+        is_found: source.is_none(),
+        input,
+        format,
+    })
 }
 
 /// The job of `bus`.

@@ -1,7 +1,7 @@
 //! The values of the program's options.
 
 ghost use Rattle.std.specs.Prelude.{◌≡◌, ◌∷◌, [], option_map, IfSome};
-ghost use Rattle.pr_options.specs.Options.{form_of, format_of, mode_of, present_of, report_of, set_of, source_of, start_of, trace_format_of};
+ghost use Rattle.pr_options.specs.Options.{form_of, format_of, mode_of, present_of, reading_source_of, report_of, set_of, source_of, start_of, trace_format_of};
 ghost use Rattle.pr_options.specs.SignalNames.{are_names, differ, is_clock_twice, is_name, names_of, names_of_signals, three_names};
 
 use crate::parts::{all_digits, cut};
@@ -93,6 +93,20 @@ pub fn read_source(text: &str) -> Option<Source>
         "text" => Some(Source::Text),
         "vcd" => Some(Source::Vcd),
         "csv" => Some(Source::Csv),
+        _ => None,
+    }
+}
+
+/// The format of a recording that is decoded: `text`, `vcd` or `csv`, or `auto`, which names none
+/// (profile). None for any other text.
+pub fn read_reading_source(text: &str) -> Option<Option<Source>>
+    ensures { result ≡ reading_source_of text.now }
+{
+    match text {
+        "auto" => Some(None),
+        "text" => Some(Some(Source::Text)),
+        "vcd" => Some(Some(Source::Vcd)),
+        "csv" => Some(Some(Source::Csv)),
         _ => None,
     }
 }

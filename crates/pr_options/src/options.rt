@@ -8,11 +8,126 @@ pub struct ValueOption {
     pub name: &'static str,
     /// What help calls its value.
     pub value: &'static str,
-    /// The value where none is given.
+    /// The value where nothing else gives one.
     pub default: &'static str,
-    /// What its values are.
+    /// The argument that names the file whose ending can give the value; empty where none does.
+    pub file: &'static str,
+    /// What the endings of that file's name say.
+    pub endings: &'static [Ending],
+    /// Its values, in a few words.
+    pub values: &'static str,
+    /// What its values are, as help says it.
     pub help: &'static str,
 }
+
+/// An ending of a file's name, and the value that it gives an option.
+#[derive(Clone, Copy)]
+pub struct Ending {
+    /// The ending with its point, in small letters; capitals are the same.
+    pub ending: &'static str,
+    /// The value, as words would give it.
+    pub value: &'static str,
+}
+
+/// An argument that names a file.
+#[derive(Clone, Copy)]
+pub struct FileArgument {
+    /// Its name; that of an option stands after `--`.
+    pub name: &'static str,
+    /// What it is for.
+    pub help: &'static str,
+}
+
+/// The name of [`INPUT`].
+const INPUT_NAME: &str = "file";
+
+/// The name of [`OUTPUT`].
+const OUTPUT_NAME: &str = "output";
+
+/// The file that is read. Words give it without a name of an option.
+pub const INPUT: FileArgument = FileArgument {
+    name: INPUT_NAME,
+    help: "The file to read\n\
+           [default: standard input, as with -]",
+};
+
+/// The file that is written.
+pub const OUTPUT: FileArgument = FileArgument {
+    name: OUTPUT_NAME,
+    help: "The file to write, which is replaced when the\n\
+           text is whole\n\
+           [default: standard output, as with -]",
+};
+
+/// The letter of [`OUTPUT`], after `-`.
+pub const OUTPUT_LETTER: char = 'o';
+
+/// What the endings of a listing's name say.
+const LISTING_ENDINGS: &[Ending] = &[
+    Ending {
+        ending: ".prg",
+        value: "prg",
+    },
+    Ending {
+        ending: ".petcat",
+        value: "petcat",
+    },
+];
+
+/// What the endings of a recording's name say.
+const RECORDING_ENDINGS: &[Ending] = &[
+    Ending {
+        ending: ".vcd",
+        value: "vcd",
+    },
+    Ending {
+        ending: ".csv",
+        value: "csv",
+    },
+];
+
+/// What the endings of the name of any recording say.
+const READING_FROM_ENDINGS: &[Ending] = &[
+    Ending {
+        ending: ".vcd",
+        value: "vcd",
+    },
+    Ending {
+        ending: ".csv",
+        value: "csv",
+    },
+    Ending {
+        ending: ".trace",
+        value: "text",
+    },
+];
+
+/// What the endings of a page's name say.
+const PAGE_ENDINGS: &[Ending] = &[
+    Ending {
+        ending: ".svg",
+        value: "svg",
+    },
+    Ending {
+        ending: ".txt",
+        value: "text",
+    },
+];
+
+/// What the endings of a trace's name say.
+const TRACE_ENDINGS: &[Ending] = &[Ending {
+    ending: ".vcd",
+    value: "vcd",
+}];
+
+/// What the endings of a reading's name say.
+const READING_ENDINGS: &[Ending] = &[Ending {
+    ending: ".svg",
+    value: "svg",
+}];
+
+/// No ending says anything.
+const NO_ENDINGS: &[Ending] = &[];
 
 /// An option without a value.
 #[derive(Clone, Copy)]
@@ -31,6 +146,9 @@ pub const PRESENT: ValueOption = ValueOption {
     name: "present",
     value: "PRINTERS",
     default: "both",
+    file: "",
+    endings: NO_ENDINGS,
+    values: "none, 4, 5 or both",
     help: PRESENT_HELP,
 };
 
@@ -43,6 +161,9 @@ pub const LISTING_FROM: ValueOption = ValueOption {
     name: "from",
     value: "FORM",
     default: "text",
+    file: INPUT_NAME,
+    endings: LISTING_ENDINGS,
+    values: "text, prg or petcat",
     help: LISTING_FROM_HELP,
 };
 
@@ -56,6 +177,9 @@ pub const DELAYS: ValueOption = ValueOption {
     name: "delays",
     value: "LISTS",
     default: "",
+    file: "",
+    endings: NO_ENDINGS,
+    values: "lists as in 900,999/9",
     help: DELAYS_HELP,
 };
 
@@ -67,6 +191,9 @@ pub const STATUS: ValueOption = ValueOption {
     name: "status",
     value: "MODE",
     default: "each",
+    file: "",
+    endings: NO_ENDINGS,
+    values: "each or kept",
     help: STATUS_HELP,
 };
 
@@ -79,6 +206,9 @@ pub const SET: ValueOption = ValueOption {
     name: "set",
     value: "SET",
     default: "upper",
+    file: "",
+    endings: NO_ENDINGS,
+    values: "upper or lower",
     help: SET_HELP,
 };
 
@@ -91,6 +221,9 @@ pub const PAGE_AS: ValueOption = ValueOption {
     name: "as",
     value: "FORMAT",
     default: "list",
+    file: OUTPUT_NAME,
+    endings: PAGE_ENDINGS,
+    values: "list, text or svg",
     help: PAGE_AS_HELP,
 };
 
@@ -103,6 +236,9 @@ pub const TRACE_AS: ValueOption = ValueOption {
     name: "as",
     value: "FORMAT",
     default: "text",
+    file: OUTPUT_NAME,
+    endings: TRACE_ENDINGS,
+    values: "text or vcd",
     help: TRACE_AS_HELP,
 };
 
@@ -115,6 +251,9 @@ pub const REPORT_AS: ValueOption = ValueOption {
     name: "as",
     value: "FORMAT",
     default: "frames",
+    file: "",
+    endings: NO_ENDINGS,
+    values: "frames or story",
     help: REPORT_AS_HELP,
 };
 
@@ -128,6 +267,9 @@ pub const READING_AS: ValueOption = ValueOption {
     name: "as",
     value: "FORMAT",
     default: "list",
+    file: OUTPUT_NAME,
+    endings: READING_ENDINGS,
+    values: "list, text or svg",
     help: READING_AS_HELP,
 };
 
@@ -140,7 +282,27 @@ pub const FROM: ValueOption = ValueOption {
     name: "from",
     value: "FORMAT",
     default: "text",
+    file: INPUT_NAME,
+    endings: RECORDING_ENDINGS,
+    values: "text, vcd or csv",
     help: FROM_HELP,
+};
+
+/// What the values of [`READING_FROM`] are.
+const READING_FROM_HELP: &str = "auto (what the first bytes show),\n\
+     text (a trace as bus writes it),\n\
+     vcd (a Value Change Dump) or\n\
+     csv (a table of samples)";
+
+/// The format of a recording that is decoded.
+pub const READING_FROM: ValueOption = ValueOption {
+    name: "from",
+    value: "FORMAT",
+    default: "auto",
+    file: INPUT_NAME,
+    endings: READING_FROM_ENDINGS,
+    values: "auto, text, vcd or csv",
+    help: READING_FROM_HELP,
 };
 
 /// What the values of [`NAMES`] are.
@@ -152,6 +314,9 @@ pub const NAMES: ValueOption = ValueOption {
     name: "names",
     value: "NAMES",
     default: "ATN,CLOCK,DATA",
+    file: "",
+    endings: NO_ENDINGS,
+    values: "three different names, as in ATN,CLOCK,DATA",
     help: NAMES_HELP,
 };
 
@@ -163,6 +328,9 @@ pub const FROM_TIME: ValueOption = ValueOption {
     name: "from-time",
     value: "MICROSECONDS",
     default: "0",
+    file: "",
+    endings: NO_ENDINGS,
+    values: "a whole number below 2^64",
     help: FROM_TIME_HELP,
 };
 

@@ -1,25 +1,26 @@
 //! The values that words give the options, each with the fault of a bad one.
 
-ghost use Rattle.std.specs.Prelude.{◌≡◌, Ok, IfErr, IfOk, unwrap_or};
+ghost use Rattle.std.specs.Prelude.{◌≡◌, Ok, IfErr, IfOk, option_map, unwrap_or};
 ghost use Rattle.clap.specs.Words.{first_of, found_of, rows_of};
 ghost use Rattle.pr_bus.specs.DelaysLeft.{numbers_left};
 ghost use Rattle.pr_options.specs.DelayLists.{delays_of};
-ghost use Rattle.pr_options.specs.Given.{is_given, is_of_words};
+ghost use Rattle.pr_options.specs.Given.{ending_value, file_in, has_ending, is_given, is_of_words, value_by_ending, value_in};
 ghost use Rattle.pr_options.specs.OptionNames as option;
-ghost use Rattle.pr_options.specs.Jobs.{fits, read, wants_recording};
-ghost use Rattle.pr_options.specs.Options.{form_of, format_of, mode_of, present_of, report_of, set_of, source_of, start_of, trace_format_of};
+ghost use Rattle.pr_options.specs.Jobs.{fits, read, unless_found, wants_recording};
+ghost use Rattle.pr_options.specs.Options.{form_of, format_of, mode_of, present_of, reading_source_of, report_of, set_of, source_of, start_of, trace_format_of};
 ghost use Rattle.pr_options.specs.SignalNames.{names_of};
 ghost use Rattle.pr_options.specs.Steps.{IsFaultIn, signals_result};
+ghost use Rattle.pr_options.specs.Subcommands.{endings_view, option_view};
 
 use crate::command_line::JobFault;
 use crate::delays::read_delays;
 use crate::option_values::{
-    read_form, read_format, read_present, read_report, read_set, read_signals, read_source,
-    read_start, read_status, read_trace_format,
+    read_form, read_format, read_present, read_reading_source, read_report, read_set, read_signals,
+    read_source, read_start, read_status, read_trace_format,
 };
 use crate::options::{
-    DELAYS, FROM, FROM_TIME, INVERT, LISTING_FROM, NAMES, PAGE_AS, PRESENT, READING_AS, REPORT_AS,
-    SET, STATUS, TRACE_AS, ValueOption,
+    DELAYS, Ending, FROM, FROM_TIME, FileArgument, INVERT, LISTING_FROM, NAMES, PAGE_AS, PRESENT,
+    READING_AS, READING_FROM, REPORT_AS, SET, STATUS, TRACE_AS, ValueOption,
 };
 use clap::ArgMatches;
 use clap::parser::ValueSource;
@@ -67,6 +68,24 @@ pub fn source_in(options: &ArgMatches<'_>) -> Result<Source, JobFault>
     ensures { result ≡ read option.from source_of JobFault.BadFrom (rows_of (found_of options.now)) }
 {
     read_source(value_in(options, FROM)).ok_or(JobFault::BadFrom)
+}
+
+/// The format of a recording that is decoded; None where its first bytes are to show it.
+pub fn reading_source_in(options: &ArgMatches<'_>) -> Result<Option<Source>, JobFault>
+    ensures { result ≡ read option.reading_from reading_source_of JobFault.BadReadingFrom (rows_of (found_of options.now)) }
+{
+    read_reading_source(value_in(options, READING_FROM)).ok_or(JobFault::BadReadingFrom)
+}
+
+/// The format of a recording whose first bytes show none.
+pub fn unless_found(options: &ArgMatches<'_>) -> Source
+    ensures { result ≡ unless_found (rows_of (found_of options.now)) }
+{
+    if wants_recording(options) {
+        Source::Csv
+    } else {
+        Source::Text
+    }
 }
 
 /// The signals of a recording, by their names and by whether the probes invert.
@@ -139,11 +158,69 @@ fn wants_recording(options: &ArgMatches<'_>) -> bool
         || is_given(options, FROM_TIME.name)
 }
 
-/// The value of an option, or that of its default where the subcommand does not have it.
-fn value_in<'a>(options: &ArgMatches<'a>, option: ValueOption) -> &'a str
+/// The file that words name by this argument. None where they name none, or give `-`.
+pub fn file_in<'a>(options: &ArgMatches<'a>, file: FileArgument) -> Option<&'a str>
+    ensures { option_map (λ name. name.now) result ≡ file_in file.name.now (rows_of (found_of options.now)) }
+{
+    match options.get_str(file.name) {
+        Some(name) if name != "-" => Some(name),
+        _ => None,
+    }
+}
+
+/// The value of an option: the one that words give, else the one that a file's name gives, else its
+/// default, which serves where the subcommand does not have the option too.
+pub fn value_in<'a>(options: &ArgMatches<'a>, option: ValueOption) -> &'a str
+    ensures { result.now ≡ value_in (option_view option) (rows_of (found_of options.now)) }
+{
+    match ending_value(options, option) {
+        Some(value) => value,
+        None => given_value(options, option),
+    }
+}
+
+/// The value that words give an option, or else its default.
+fn given_value<'a>(options: &ArgMatches<'a>, option: ValueOption) -> &'a str
     ensures { result.now ≡ unwrap_or (first_of option.name.now (rows_of (found_of options.now))) option.default.now }
 {
     options.get_str(option.name).unwrap_or(option.default)
+}
+
+/// The value that a file's name gives an option, where words do not give it.
+fn ending_value(options: &ArgMatches<'_>, option: ValueOption) -> Option<&'static str>
+    ensures { option_map (λ value. value.now) result ≡ ending_value (option_view option) (rows_of (found_of options.now)) }
+{
+    if is_given(options, option.name) {
+        return None;
+    }
+    match options.get_str(option.file) {
+        Some(name) => value_by_ending(option.endings, name),
+        None => None,
+    }
+}
+
+/// The value of the first of these endings that the name has.
+fn value_by_ending(endings: &'static [Ending], name: &str) -> Option<&'static str>
+    ensures { option_map (λ value. value.now) result ≡ value_by_ending (endings_view endings.now) name.now }
+{
+    for e in endings {
+        if has_ending(name, e.ending) {
+            return Some(e.value);
+        }
+    }
+    None
+}
+
+/// Whether a file's name ends so, in capitals or not.
+fn has_ending(name: &str, ending: &str) -> bool
+    ensures { result ≡ has_ending name.now ending.now }
+{
+    let bytes = name.as_bytes();
+    let wanted = ending.as_bytes();
+    if bytes.len() < wanted.len() {
+        return false;
+    }
+    bytes[bytes.len() - wanted.len()..].eq_ignore_ascii_case(wanted)
 }
 
 /// Whether words gave an option or a flag, and not only its default.

@@ -2,7 +2,10 @@
 
 use pr_basic::StatusMode;
 use pr_bus::Delays;
-use pr_options::{DelayFault, Job, JobFault, explains, read_delays, read_job};
+use pr_capture::Source;
+use pr_options::{
+    DelayFault, Job, JobFault, bad_value, explains, found_source, read_delays, read_task,
+};
 use pr_wire::Kind;
 use std::alloc::Global;
 use std::fmt::Display;
@@ -20,8 +23,8 @@ fn first_delays(delays: &mut Delays) -> [u16; 3] {
 
 /// The job that words ask for, if they ask for one.
 fn job_of<'a>(alloc: Global, words: &'a [&'a str]) -> Option<Job<'a>> {
-    match read_job(alloc, words) {
-        Ok(job) => Some(job),
+    match read_task(alloc, words) {
+        Ok(task) => Some(task.job),
         Err(_fault) => None,
     }
 }
@@ -35,7 +38,7 @@ fn is_run(job: Job<'_>, wanted: [u16; 3], status: StatusMode) -> bool {
         Job::Bus(_form, _present, mut delays, mode, _format) => {
             first_delays(&mut delays) == wanted && mode == status
         }
-        Job::Check(..) | Job::Decode(..) | Job::Raw { .. } => false,
+        Job::Check(..) | Job::Decode { .. } | Job::Raw { .. } => false,
     }
 }
 
@@ -47,7 +50,7 @@ fn is_check(job: Job<'_>, [atn, clock, line]: [&str; 3]) -> bool {
                 && input.signals.clock == clock.as_bytes()
                 && input.signals.line == line.as_bytes()
         }
-        Job::Pages(..) | Job::Bus(..) | Job::Decode(..) | Job::Raw { .. } => false,
+        Job::Pages(..) | Job::Bus(..) | Job::Decode { .. } | Job::Raw { .. } => false,
     }
 }
 
@@ -176,4 +179,60 @@ fn fault_texts(rt: HostRuntime) {
     tells(&rt, &DelayFault::NoMemory, "out of memory");
     tells(&rt, &JobFault::NoMemory, "out of memory");
     assert!(rt; JobFault::NoMemory.values().is_none());
+}
+
+/// The files that words name: `-` is none.
+#[test]
+fn files_of_tasks(rt: HostRuntime) {
+    const ROWS: [(&[&str], Option<&str>, Option<&str>); 5] = [
+        (&["print1525", "pages"], None, None),
+        (
+            &["print1525", "raw", "a", "--output=b"],
+            Some("a"),
+            Some("b"),
+        ),
+        (
+            &["print1525", "bus", "-o", "b.vcd", "-"],
+            None,
+            Some("b.vcd"),
+        ),
+        (&["print1525", "check", "-o-", "--", "-"], None, None),
+        (&["print1525", "decode", "--", "-o"], Some("-o"), None),
+    ];
+    for (words, input, output) in ROWS {
+        let is_well = match read_task(rt.alloc(), words) {
+            Ok(task) => task.input == input && task.output == output,
+            Err(_fault) => false,
+        };
+        assert!(rt; is_well, "{words:?}");
+    }
+}
+
+/// The value of a fault is that of the words.
+#[test]
+fn bad_values(rt: HostRuntime) {
+    const WORDS: [&str; 4] = ["print1525", "pages", "--as", "png"];
+    let value = bad_value(rt.alloc(), &WORDS, &JobFault::BadPageAs);
+    assert!(rt; value == Some("png"));
+    assert!(rt; bad_value(rt.alloc(), &WORDS, &JobFault::NoMemory).is_none());
+    assert!(rt; JobFault::BadPageAs.good_values() == Some("list, text or svg"));
+    assert!(rt; JobFault::BadPresent.good_values().is_none());
+}
+
+/// The format of a recording by its first bytes.
+#[test]
+fn found_sources(rt: HostRuntime) {
+    const ROWS: [(&[u8], Source); 7] = [
+        (b"", Source::Text),
+        (b"0 111\n100 001\n", Source::Text),
+        (b"0 111\n1,1\n", Source::Text),
+        (b" \n\t$date", Source::Vcd),
+        (b"# a, b", Source::Csv),
+        (b"\n; table", Source::Csv),
+        (b"Time,ATN\n", Source::Csv),
+    ];
+    for (bytes, wanted) in ROWS {
+        assert!(rt; found_source(Source::Text, bytes) == wanted, "{bytes:?}");
+    }
+    assert!(rt; found_source(Source::Csv, b"0 111") == Source::Csv);
 }

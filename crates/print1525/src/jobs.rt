@@ -19,8 +19,8 @@ use std::alloc::Global;
 use std::io::{Read, Write};
 
 /// Does a job: reads the input and writes what the job's own fields ask for. The input of `pages` and
-/// `bus` is a script's text, whatever form the listing has: `main` gives the text of a listing in
-/// another form.
+/// `bus` is a script's text, whatever form the listing has: `answers` gives the text of a listing in
+/// another form. So it gives the format of a recording where it is to be found.
 ///
 /// The answer is [`Ending::Stopped`] exactly if a BASIC error stopped the run of a script.
 ///
@@ -60,7 +60,11 @@ pub fn do_job<R: Read, W: Write>(
             check_trace(alloc, input, output, trace, report)?;
             Ok(Ending::Done)
         }
-        Job::Decode(trace, format) => {
+        Job::Decode {
+            input: trace,
+            format,
+            ..
+        } => {
             decode_recording(alloc, input, output, trace, format)?;
             Ok(Ending::Done)
         }

@@ -6,5 +6,5 @@ pub returns-clause-app : goal.returns-clause-app
 returns-clause-app c =
     c.in_ok-whole.ensures.shape c.flag_option.ensures.local
     ∙ ap₂ with_rule (c.in_ok-two.ensures.shape c.value_option-2.ensures.local
-    ∙ ap₂ with_rule (c.in_ok-one.ensures.shape c.value_option.ensures.local ∙ ap₂ with_rule c.new_command-command.ensures.app c.value_option.ensures.rule)
+    ∙ ap₂ with_rule (c.in_ok-one.ensures.shape c.value_option.ensures.local ∙ ap₂ with_rule c.in_ok-command.ensures.app c.value_option.ensures.rule)
     c.value_option-2.ensures.rule) c.flag_option.ensures.rule
