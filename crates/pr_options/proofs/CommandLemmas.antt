@@ -16,7 +16,9 @@ use Rattle.clap.specs.declared.parser.matches.Found.{Found}
 use Rattle.clap.specs.declared.parser.matches.MatchedArg.{MatchedArg}
 use Rattle.clap.specs.declared.parser.matches.ValueSource.{ValueSource}
 use Rattle.pr_options.specs.CommandLine.{print1525}
-use Rattle.pr_options.specs.Given.{is_given, is_of_words}
+use Rattle.pr_options.specs.Given.{has_ending, is_given, is_of_words}
+use Rattle.pr_options.specs.Subcommands.{endings_view}
+use Rattle.pr_options.specs.declared.options.Ending.{Ending}
 use Rattle.pr_options.specs.CommandLaws.{IsOurs}
 
 -- each of these subcommands is the program's
@@ -85,3 +87,14 @@ given_is f id r e =
     by : (o : Option (Bor Text × MatchedArg)) → is_of_words (option_and_then (λ a. a.source) (option_map (λ e. e.1) o)) ≡ option_map_or (λ row. is_of_words row.source) (option_map row_of o) false
     by None = refl
     by (Some e) = refl
+
+-- the first ending of the code that a name has gives what the first one of the definition gives
+pub found_by : (name : Text) (es : List Ending) → option_map (λ (e : Text × Text). e.1) (find (λ (e : Text × Text). has_ending name e.0) (endings_view es))
+    ≡ option_map (λ (e : Ending). e.value.now) (find (λ (e : Ending). has_ending name e.ending.now) es)
+found_by name [] = refl
+found_by name (e ∷ es) =
+    elim (has_ending name e.ending.now) as (λ v. option_map (λ (x : Text × Text). x.1) (if v then Some (e.ending.now, e.value.now) else find (λ (x : Text × Text). has_ending name x.0) (endings_view es))
+    ≡ option_map (λ (x : Ending). x.value.now) (if v then Some e else find (λ (x : Ending). has_ending name x.ending.now) es)) [
+      | true ↦ refl
+      | false ↦ found_by name es
+    ]

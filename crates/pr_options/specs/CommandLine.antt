@@ -16,17 +16,16 @@ abbrev pub flag_rule : Text → Rule
 flag_rule name = record (new_rule name) { long = Some name; action = Some SetTrue }
 
 -- the file that is read, which is named without the name of an option
-abbrev pub input_rule : Rule
-input_rule = record (new_rule option.input) { value_names = 1 }
+abbrev pub input_rule : Text → Rule
+input_rule name = record (new_rule name) { value_names = 1 }
 
 -- the file that is written: `--output FILE`, or `-o FILE` (111)
-abbrev pub output_rule : Rule
-output_rule =
-    record (new_rule option.output) { long = Some option.output; short = Some 111; value_names = 1 }
+abbrev pub output_rule : Text → Rule
+output_rule name = record (new_rule name) { long = Some name; short = Some 111; value_names = 1 }
 
 -- a subcommand with its options; each has a file that is read and one that is written
 abbrev pub subcommand : Text → List Rule → Shape
-subcommand name rules = record (new_shape name) { rules = input_rule ∷ output_rule ∷ rules }
+subcommand name rules = record (new_shape name) { rules = input_rule option.input ∷ output_rule option.output ∷ rules }
 
 -- a subcommand that runs a script, and the formats of what it writes
 abbrev pub run_shape : Text → ValueOption → Shape

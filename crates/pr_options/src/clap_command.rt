@@ -8,9 +8,9 @@ ghost use Rattle.pr_options.specs.Subcommands.{IsLocal, alone, option_view};
 use crate::help;
 use crate::help::HelpText;
 use crate::options::{
-    DELAYS, EXPLAIN, FROM, FROM_TIME, Flag, INPUT, INVERT, LISTING_FROM, NAMES, OUTPUT,
-    OUTPUT_LETTER, PAGE_AS, PRESENT, READING_AS, READING_FROM, REPORT_AS, SET, STATUS, TRACE_AS,
-    ValueOption,
+    DELAYS, EXPLAIN, FROM, FROM_TIME, FileArgument, Flag, INPUT, INVERT, LISTING_FROM, NAMES,
+    OUTPUT, OUTPUT_LETTER, PAGE_AS, PRESENT, READING_AS, READING_FROM, REPORT_AS, SET, STATUS,
+    TRACE_AS, ValueOption,
 };
 use clap::{Arg, ArgAction, Command};
 use std::alloc::{AllocError, Global};
@@ -18,8 +18,8 @@ use std::alloc::{AllocError, Global};
 /// What help calls a file.
 const FILE: &str = "FILE";
 
-/// The version of the program.
-const VERSION: &str = "0.1.0";
+/// The version of the program, and the kit with which it was proved last.
+const VERSION: &str = "0.1.0 (rattle-kit-13f)";
 
 /// An option with a value. Where its default is the empty text, the help says in words what that means.
 fn value_option<'a>(alloc: Global, option: ValueOption) -> Arg<'a>
@@ -35,25 +35,23 @@ fn value_option<'a>(alloc: Global, option: ValueOption) -> Arg<'a>
 }
 
 /// The file that is read.
-fn input_argument<'a>(alloc: Global) -> Arg<'a>
-    ensures rule { rule_of result ≡ input_rule }
+fn input_argument<'a>(alloc: Global, file: FileArgument) -> Arg<'a>
+    ensures rule { rule_of result ≡ input_rule file.name.now }
     ensures local { result.global ≡ false }
 {
-    Arg::new(alloc, INPUT.name)
-        .value_name(FILE)
-        .help(INPUT.help)
+    Arg::new(alloc, file.name).value_name(FILE).help(file.help)
 }
 
 /// The file that is written.
-fn output_option<'a>(alloc: Global) -> Arg<'a>
-    ensures rule { rule_of result ≡ output_rule }
+fn output_option<'a>(alloc: Global, file: FileArgument) -> Arg<'a>
+    ensures rule { rule_of result ≡ output_rule file.name.now }
     ensures local { result.global ≡ false }
 {
-    Arg::new(alloc, OUTPUT.name)
-        .long(OUTPUT.name)
+    Arg::new(alloc, file.name)
+        .long(file.name)
         .short(OUTPUT_LETTER)
         .value_name(FILE)
-        .help(OUTPUT.help)
+        .help(file.help)
 }
 
 /// An option without a value.
@@ -84,8 +82,8 @@ fn file_command<'a>(alloc: Global, name: &'a str, text: HelpText) -> Result<Comm
     ensures local { IfOk result IsLocal }
 {
     let command = new_command(alloc, name, text);
-    let one = command.arg(input_argument(alloc))?;
-    let whole = one.arg(output_option(alloc))?;
+    let one = command.arg(input_argument(alloc, INPUT))?;
+    let whole = one.arg(output_option(alloc, OUTPUT))?;
     Ok(whole)
 }
 

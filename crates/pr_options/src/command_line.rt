@@ -1,6 +1,6 @@
 //! What a command line asks for: the program's job.
 
-ghost use Rattle.std.specs.Prelude.{◌≡◌, ◌⊎◌, [], Err, Ok, Some, codes, map, option_map, IfErr, IfOk, IsSome, OnOk};
+ghost use Rattle.std.specs.Prelude.{◌≡◌, ◌==◌, ◌||◌, ◌⊎◌, [], Err, Ok, Some, codes, find, map, option_map, IfErr, IfOk, IfSome, IsSome, OnOk};
 ghost use Rattle.std.specs.List.{list_any};
 ghost use Rattle.std.specs.Str.{bytes_eq};
 ghost use Rattle.clap.specs.Words.{fault_of, found_of, rows_of, subcommand_rows_of};
@@ -275,8 +275,14 @@ fn begins_as_table(bytes: &[u8]) -> bool
 fn has_comma(bytes: &[u8]) -> bool
     ensures { result ≡ has_comma bytes.now }
 {
-    let first = bytes.iter().copied().find(|b| *b == b',' || *b == b'\n');
-    matches!(first, Some(b','))
+    matches!(comma_or_end(bytes), Some(b','))
+}
+
+/// The first comma or line's end.
+fn comma_or_end(bytes: &[u8]) -> Option<u8>
+    ensures { result ≡ find (λ b. b == 44 || b == 10) bytes.now }
+{
+    bytes.iter().copied().find(|b| *b == b',' || *b == b'\n')
 }
 
 /// Whether a word is `--explain`: more is to be told of a refusal or of an error. No value of an

@@ -46,14 +46,14 @@ const OUTPUT_NAME: &str = "output";
 
 /// The file that is read. Words give it without a name of an option.
 pub const INPUT: FileArgument = FileArgument {
-    name: INPUT_NAME,
+    name: "file",
     help: "The file to read\n\
            [default: standard input, as with -]",
 };
 
 /// The file that is written.
 pub const OUTPUT: FileArgument = FileArgument {
-    name: OUTPUT_NAME,
+    name: "output",
     help: "The file to write, which is replaced when the\n\
            text is whole\n\
            [default: standard output, as with -]",

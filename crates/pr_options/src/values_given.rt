@@ -1,10 +1,11 @@
 //! The values that words give the options, each with the fault of a bad one.
 
-ghost use Rattle.std.specs.Prelude.{◌≡◌, Ok, IfErr, IfOk, option_map, unwrap_or};
+ghost use Rattle.std.specs.Prelude.{◌≡◌, Ok, IfErr, IfOk, find, option_map, unwrap_or};
+ghost use Rattle.std.specs.Str.{str_eq_ignore_ascii_case};
 ghost use Rattle.clap.specs.Words.{first_of, found_of, rows_of};
 ghost use Rattle.pr_bus.specs.DelaysLeft.{numbers_left};
 ghost use Rattle.pr_options.specs.DelayLists.{delays_of};
-ghost use Rattle.pr_options.specs.Given.{ending_value, file_in, has_ending, is_given, is_of_words, value_by_ending, value_in};
+ghost use Rattle.pr_options.specs.Given.{ending_value, file_in, has_ending, is_given, is_of_words, named, value_by_ending, value_in};
 ghost use Rattle.pr_options.specs.OptionNames as option;
 ghost use Rattle.pr_options.specs.Jobs.{fits, read, unless_found, wants_recording};
 ghost use Rattle.pr_options.specs.Options.{form_of, format_of, mode_of, present_of, reading_source_of, report_of, set_of, source_of, start_of, trace_format_of};
@@ -162,10 +163,24 @@ fn wants_recording(options: &ArgMatches<'_>) -> bool
 pub fn file_in<'a>(options: &ArgMatches<'a>, file: FileArgument) -> Option<&'a str>
     ensures { option_map (λ name. name.now) result ≡ file_in file.name.now (rows_of (found_of options.now)) }
 {
-    match options.get_str(file.name) {
-        Some(name) if name != "-" => Some(name),
-        _ => None,
+    match text_in(options, file.name) {
+        Some(name) => named(name),
+        None => None,
     }
+}
+
+/// The name of a file, which `-` is not.
+fn named(name: &str) -> Option<&str>
+    ensures { option_map (λ text. text.now) result ≡ named name.now }
+{
+    if name == "-" { None } else { Some(name) }
+}
+
+/// The text that words, or a default, give an argument.
+fn text_in<'a>(options: &ArgMatches<'a>, name: &str) -> Option<&'a str>
+    ensures { option_map (λ text. text.now) result ≡ first_of name.now (rows_of (found_of options.now)) }
+{
+    options.get_str(name)
 }
 
 /// The value of an option: the one that words give, else the one that a file's name gives, else its
@@ -193,22 +208,27 @@ fn ending_value(options: &ArgMatches<'_>, option: ValueOption) -> Option<&'stati
     if is_given(options, option.name) {
         return None;
     }
-    match options.get_str(option.file) {
+    match text_in(options, option.file) {
         Some(name) => value_by_ending(option.endings, name),
         None => None,
     }
 }
 
 /// The value of the first of these endings that the name has.
-fn value_by_ending(endings: &'static [Ending], name: &str) -> Option<&'static str>
+fn value_by_ending(endings: &[Ending], name: &str) -> Option<&'static str>
     ensures { option_map (λ value. value.now) result ≡ value_by_ending (endings_view endings.now) name.now }
 {
-    for e in endings {
-        if has_ending(name, e.ending) {
-            return Some(e.value);
-        }
+    match first_ending(endings, name) {
+        Some(e) => Some(e.value),
+        None => None,
     }
-    None
+}
+
+/// The first of these endings that the name has.
+fn first_ending<'a>(endings: &'a [Ending], name: &str) -> Option<&'a Ending>
+    ensures { option_map (λ e. e.now) result ≡ find (λ e. has_ending name.now e.ending.now) endings.now }
+{
+    endings.iter().find(|e| has_ending(name, e.ending))
 }
 
 /// Whether a file's name ends so, in capitals or not.
@@ -216,11 +236,17 @@ fn has_ending(name: &str, ending: &str) -> bool
     ensures { result ≡ has_ending name.now ending.now }
 {
     let bytes = name.as_bytes();
-    let wanted = ending.as_bytes();
-    if bytes.len() < wanted.len() {
+    if bytes.len() < ending.len() {
         return false;
     }
-    bytes[bytes.len() - wanted.len()..].eq_ignore_ascii_case(wanted)
+    is_same(&bytes[bytes.len() - ending.len()..], ending.as_bytes())
+}
+
+/// Whether two texts differ in nothing but capitals and small letters.
+fn is_same(a: &[u8], b: &[u8]) -> bool
+    ensures { result ≡ str_eq_ignore_ascii_case a.now b.now }
+{
+    a.eq_ignore_ascii_case(b)
 }
 
 /// Whether words gave an option or a flag, and not only its default.

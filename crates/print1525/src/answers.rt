@@ -4,6 +4,7 @@ ghost use Rattle.std.specs.Prelude.{◌≡◌};
 ghost use Rattle.print1525.specs.Statuses.{fault_status, text_status};
 
 use crate::jobs::do_job;
+use crate::progress::Progress;
 use crate::shown::Shown;
 use crate::statuses::{FAILED, ending_status, fault_status, is_answered, text_status};
 use crate::told::{subject_of, tell_more};
@@ -17,6 +18,7 @@ use std::alloc::Global;
 use std::fs::{File, Files};
 use std::io;
 use std::io::{Error, Read, Write};
+use std::time::Clock;
 
 /// How many bytes of a recording show its format, at most.
 const FIRST: usize = 4096;
@@ -35,11 +37,13 @@ pub struct Manner {
     pub is_explained: bool,
     /// Standard input is a terminal.
     pub is_typed: bool,
+    /// Standard error is a terminal.
+    pub is_watched: bool,
 }
 
 /// Opens the files that a task names, does its job and gives the exit status.
 pub fn answer_task(
-    rt: &(impl Files + Input + Print + Eprint + AllocGlobal),
+    rt: &(impl Files + Clock + Input + Print + Eprint + AllocGlobal),
     task: Task<'_>,
     manner: Manner,
 ) -> u8 {
@@ -49,10 +53,14 @@ pub fn answer_task(
         if manner.is_typed {
             tell_waiting(rt, &job);
         }
-        return answer_from(rt, rt.reader(), names, job, manner.is_explained);
+        let reader = Progress::new(rt, rt.reader(), manner.is_watched);
+        return answer_from(rt, reader, names, job, manner.is_explained);
     };
     match File::open(rt, name) {
-        Ok(file) => answer_from(rt, file, names, job, manner.is_explained),
+        Ok(file) => {
+            let reader = Progress::new(rt, file, manner.is_watched);
+            answer_from(rt, reader, names, job, manner.is_explained)
+        }
         Err(error) => tell_file(rt, name, &error),
     }
 }
