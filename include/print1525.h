@@ -75,7 +75,11 @@ enum print1525_fault {
     PRINT1525_NO_EAR = 26,
     PRINT1525_NO_DECODER = 27,
     /* of a number that stands for no input of a printer; `place` is its index, from 0 */
-    PRINT1525_NO_SUCH_INPUT = 28
+    PRINT1525_NO_SUCH_INPUT = 28,
+    /* of a sheet that the pages do not have; `place` is how many they have */
+    PRINT1525_NO_SUCH_SHEET = 50,
+    /* of a document that is longer than its format allows; `place` is 0 */
+    PRINT1525_DOCUMENT_TOO_LARGE = 51
 };
 
 /* The BASIC error that stopped a run: `fault` beside PRINT1525_STOPPED; `place` is the statement at
@@ -136,6 +140,8 @@ static inline const char *print1525_fault_text(size_t fault) {
     case PRINT1525_NO_EAR: return "no ear";
     case PRINT1525_NO_DECODER: return "no decoder";
     case PRINT1525_NO_SUCH_INPUT: return "no such input";
+    case PRINT1525_NO_SUCH_SHEET: return "no such sheet";
+    case PRINT1525_DOCUMENT_TOO_LARGE: return "document too large";
     default: return "no fault";
     }
 }

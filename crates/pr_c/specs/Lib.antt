@@ -2,5 +2,6 @@ pub mod Settings
 pub mod Answers
 pub mod Giving
 pub mod Printing
+pub mod Printed
 pub mod Asked
 pub mod Laws

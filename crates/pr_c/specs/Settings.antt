@@ -5,6 +5,7 @@ use Rattle.pr_basic.specs.declared.session.StatusMode.{StatusMode}
 use Rattle.pr_basic.specs.declared.session.StatusMode.TheVariants as mode
 use Rattle.pr_render.specs.declared.format.Format.{Format}
 use Rattle.pr_render.specs.declared.format.Format.TheVariants as format
+use Rattle.pr_render.specs.Showing.{whole}
 use Rattle.pr_capture.specs.declared.format.TraceFormat.{TraceFormat}
 use Rattle.pr_capture.specs.declared.format.TraceFormat.TheVariants as trace
 
@@ -24,7 +25,7 @@ mode_of status = if status == 0 then Some mode.Each else (if status == 1 then So
 abbrev pub format_of : ℕ → Option Format
 format_of number =
     if number == 0 then Some format.List
-    else (if number == 1 then Some format.Lines else (if number == 2 then Some format.Picture else None))
+    else (if number == 1 then Some format.Lines else (if number == 2 then Some (format.Svg whole) else None))
 
 -- the format of a trace: the trace text, or a Value Change Dump
 abbrev pub trace_format_of : ℕ → Option TraceFormat

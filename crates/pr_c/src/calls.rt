@@ -1,7 +1,7 @@
 //! The calls, over the crates' own types.
 
 ghost use Rattle.std.specs.Prelude.{◌≡◌, length};
-ghost use Rattle.pr_c.specs.Answers.{IsBusText, IsFramesText, IsPagesText, IsPaperRefusal, IsPaperText, IsScriptRefusal, IsTraceRefusal, Tells};
+ghost use Rattle.pr_c.specs.Answers.{IsBusText, IsFramesText, IsPagesRefusal, IsPagesText, IsPaperRefusal, IsPaperText, IsScriptRefusal, IsTraceRefusal, Tells};
 ghost use Rattle.pr_c.specs.Giving.{without_run};
 ghost use Rattle.pr_cli.specs.Pages.{start_of};
 
@@ -26,8 +26,8 @@ pub fn pages(
     format: Format,
     out: &mut [u8],
 ) -> Told
-    ensures tells { Tells (IsPagesText (start_of present delays mode) format script.now) (IsScriptRefusal script.now)
-        out.old out.new result }
+    ensures tells { Tells (IsPagesText (start_of present delays mode) format script.now)
+        (IsPagesRefusal (start_of present delays mode) format script.now) out.old out.new result }
     ensures length { length out.new ≡ length out.old }
 {
     let mut input = Watched::new(script);
@@ -75,7 +75,7 @@ pub fn bus(
 
 /// Puts the text of the page that a printer prints of some bytes at the front of a buffer.
 pub fn raw(alloc: Global, bytes: &[u8], lower: bool, format: Format, out: &mut [u8]) -> Told
-    ensures tells { Tells (IsPaperText lower format bytes.now) (IsPaperRefusal bytes.now) out.old out.new result }
+    ensures tells { Tells (IsPaperText lower format bytes.now) (IsPaperRefusal lower format bytes.now) out.old out.new result }
     ensures length { length out.new ≡ length out.old }
 {
     let mut input = Watched::new(bytes);

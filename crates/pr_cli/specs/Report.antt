@@ -26,7 +26,7 @@ use Rattle.pr_cli.specs.Check.{trace_limit}
 use Rattle.pr_cli.specs.FrameText.{frame_lines}
 use Rattle.pr_input.specs.PartlyWritten.{AppendsFront}
 use Rattle.pr_cli.specs.declared.fault.CliFault.{CliFault}
-use Rattle.pr_cli.specs.declared.fault.CliFault.TheVariants.{Script, Trace, Wave, Capture, TooLarge, NoMemory, ReadFailed, WriteFailed}
+use Rattle.pr_cli.specs.declared.fault.CliFault.TheVariants.{Script, Trace, Wave, Capture, Picture, TooLarge, NoMemory, ReadFailed, WriteFailed}
 
 -- What an input says.
 
@@ -112,6 +112,7 @@ AnswersReport input r text old new (Err (Trace fault)) = WritesReport input r te
 AnswersReport input r text old new (Err (Wave fault)) =
     (length text ≤ trace_limit) × WritesReport input r text (Some (Wave fault)) old new
 AnswersReport input r text old new (Err (Capture fault)) = WritesReport input r text (Some (Capture fault)) old new
+AnswersReport input r text old new (Err (Picture fault)) = ⊥
 AnswersReport input r text old new (Err TooLarge) = (trace_limit < length text) × Keeps old new
 AnswersReport input r text old new (Err NoMemory) = Keeps old new
 AnswersReport input r text old new (Err ReadFailed) = Keeps old new
@@ -138,6 +139,7 @@ ReadsAll r left (Err _) = Unit {0}
 -- a fault of an input: never one of a script, and want of memory always as itself
 abbrev pub IsReportFault : CliFault → Type 0
 IsReportFault (Script fault) = ⊥
+IsReportFault (Picture fault) = ⊥
 IsReportFault (Trace trace.NoMemory) = ⊥
 IsReportFault (Wave wave.NoMemory) = ⊥
 IsReportFault (Capture capture.NoMemory) = ⊥

@@ -23,7 +23,7 @@ use Rattle.pr_cli.specs.declared.reporter.FrameReporter.{FrameReporter}
 use Rattle.pr_cli.specs.declared.reporter.ReportText.{ReportText}
 use Rattle.pr_cli.specs.declared.input_reader.InputReader.{InputReader}
 use Rattle.pr_cli.specs.declared.fault.CliFault.{CliFault}
-use Rattle.pr_cli.specs.declared.fault.CliFault.TheVariants.{Script, Trace, Wave, Capture, TooLarge, NoMemory, ReadFailed, WriteFailed}
+use Rattle.pr_cli.specs.declared.fault.CliFault.TheVariants.{Script, Trace, Wave, Capture, Picture, TooLarge, NoMemory, ReadFailed, WriteFailed}
 
 -- a fault of a trace, itself or of its edges
 abbrev pub IsTraceFault : CliFault → Type 0
@@ -127,6 +127,7 @@ GivesReport limit input report (Err (Script fault)) text = ⊥
 GivesReport limit input report (Err (Trace fault)) text = ⊥
 GivesReport limit input report (Err (Wave fault)) text = ⊥
 GivesReport limit input report (Err (Capture fault)) text = ⊥
+GivesReport limit input report (Err (Picture fault)) text = ⊥
 
 -- so far as its end was read
 abbrev pub HasReadAll : Option (List ℕ) → Result ReportText CliFault → Type 0

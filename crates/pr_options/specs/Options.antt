@@ -11,6 +11,7 @@ use Rattle.pr_listing.specs.declared.form.ListingForm.{ListingForm}
 use Rattle.pr_listing.specs.declared.form.ListingForm.TheVariants as form
 use Rattle.pr_render.specs.declared.format.Format.{Format}
 use Rattle.pr_render.specs.declared.format.Format.TheVariants as format
+use Rattle.pr_render.specs.Showing.{whole}
 use Rattle.pr_capture.specs.declared.format.TraceFormat.{TraceFormat}
 use Rattle.pr_capture.specs.declared.format.TraceFormat.TheVariants as trace
 use Rattle.pr_capture.specs.declared.format.Source.{Source}
@@ -45,7 +46,7 @@ set_of = meaning_of ((codes "upper", false) ∷ (codes "lower", true) ∷ [])
 -- the format of the page: list, text or svg
 abbrev pub format_of : Text → Option Format
 format_of = meaning_of (
-    (codes "list", format.List) ∷ (codes "text", format.Lines) ∷ (codes "svg", format.Picture) ∷ [])
+    (codes "list", format.List) ∷ (codes "text", format.Lines) ∷ (codes "svg", format.Svg whole) ∷ [])
 
 -- the format of a run's trace: text or vcd
 abbrev pub trace_format_of : Text → Option TraceFormat

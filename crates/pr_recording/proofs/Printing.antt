@@ -9,7 +9,7 @@ use Rattle.pr_input.specs.PartlyWritten.{AppendsFront}
 use Rattle.pr_cli.specs.Inputs.{EachTextSaysEdges, HasReadEdges, HasTakenAll, HasTakenBefore, IsNoReading, IsTooLong, ReadsEdges, SaysWhole, edges_read, fault_read}
 use Rattle.pr_cli.specs.Sources.{IsOwnFault}
 use Rattle.pr_cli.specs.declared.fault.CliFault.{CliFault}
-use Rattle.pr_cli.specs.declared.fault.CliFault.TheVariants.{Script, Trace, Wave, Capture, TooLarge, NoMemory, ReadFailed, WriteFailed}
+use Rattle.pr_cli.specs.declared.fault.CliFault.TheVariants.{Script, Trace, Wave, Capture, Picture, TooLarge, NoMemory, ReadFailed, WriteFailed}
 use Rattle.pr_cli.specs.declared.input_reader.InputReader.{InputReader}
 use Rattle.pr_recording.specs.declared.capture_printer.CapturePrinter.{CapturePrinter}
 use Rattle.pr_recording.specs.declared.capture_printer.Printed.{Printed}
@@ -53,6 +53,7 @@ prints_none limit start now input r taken (Err x) f h e none long = rw e (by f n
     by (Trace fault) none long = absurd none
     by (Wave fault) none long = absurd none
     by (Capture fault) none long = absurd none
+    by (Picture fault) none long = absurd none
     by WriteFailed none long = absurd none
 
 -- what was printed at an input's end, or at its fault
@@ -92,23 +93,24 @@ answered input format text p old new v h stop w = record {
   leaves = rw (← h.ends.stop) (leaves v w);
 }
   where
-    pages : IsPagesOf format (readings_up_to p.stop h.edges) (text_of_print format p)
-    pages = record { reprinted = p.pages; are_papers = h.ends.papers; is_text = refl }
+    pages : (text : List ℕ) → text_of_print format p ≡ Ok text → IsPagesOf format (readings_up_to p.stop h.edges) text
+    pages text is = record { reprinted = p.pages; are_papers = h.ends.papers; is_text = is }
 
     never : (f : CliFault) → p.stop ≡ Some f → (IsStop f → ⊥) → ⊥
     never f e n = n (let k : IfSome (Some f) IsStop = rw e at stop in k)
 
     leaves : (v : Result (Unit {0}) CliFault) → WritesPrint format p old new v
         → LeavesPages (length text) p.stop format (readings_up_to p.stop h.edges) old new v
-    leaves (Ok u) w = (h.says.short (no_own (back_in h.edges) h.own (sym h.ends.stop ∙ w.0)), w.0, (text_of_print format p, pages, w.1))
-    leaves (Err (Script fault)) w = never (Script fault) w.0 (λ o. o)
-    leaves (Err (Trace fault)) w = (w.0, (text_of_print format p, pages, w.1))
-    leaves (Err (Wave fault)) w = (w.0, (text_of_print format p, pages, w.1))
-    leaves (Err (Capture fault)) w = (w.0, (text_of_print format p, pages, w.1))
-    leaves (Err TooLarge) w = absurd (never TooLarge w.0 (λ o. o))
+    leaves (Ok u) w = (h.says.short (no_own (back_in h.edges) h.own (sym h.ends.stop ∙ w.2)), w.2, (w.0, pages w.0 w.1, w.3))
+    leaves (Err (Script fault)) w = never (Script fault) w.2 (λ o. o)
+    leaves (Err (Trace fault)) w = (w.2, (w.0, pages w.0 w.1, w.3))
+    leaves (Err (Wave fault)) w = (w.2, (w.0, pages w.0 w.1, w.3))
+    leaves (Err (Capture fault)) w = (w.2, (w.0, pages w.0 w.1, w.3))
+    leaves (Err (Picture fault)) w = (record { reprinted = p.pages; are_papers = h.ends.papers; is_unshown = w.0 }, w.1)
+    leaves (Err TooLarge) w = absurd (never TooLarge w.2 (λ o. o))
     leaves (Err NoMemory) w = w
-    leaves (Err ReadFailed) w = absurd (never ReadFailed w.0 (λ o. o))
-    leaves (Err WriteFailed) w = (text_of_print format p, pages, w)
+    leaves (Err ReadFailed) w = absurd (never ReadFailed w.2 (λ o. o))
+    leaves (Err WriteFailed) w = (w.0, pages w.0 w.1, w.2)
 
 -- what is answered where nothing was printed
 pub unanswered : EachTextSaysEdges → (input : TraceInput) (format : Format) (text : List ℕ) (old new : Option (List ℕ)) (f : CliFault) → IsNoReading f → (f ≡ TooLarge → print_limit < length text) → Keeps old new
@@ -131,6 +133,7 @@ unanswered some input format text old new f none large keeps =
     by (Trace fault) n l = absurd n
     by (Wave fault) n l = absurd n
     by (Capture fault) n l = absurd n
+    by (Picture fault) n l = absurd n
     by WriteFailed n l = absurd n
 
 -- the same, where it is known what the reader gives
@@ -155,3 +158,4 @@ none_answered some (Some text) old input format f (Err x) is none keeps h =
     large (Trace fault) h e = absurd (cc)
     large (Wave fault) h e = absurd (cc)
     large (Capture fault) h e = absurd (cc)
+    large (Picture fault) h e = absurd (cc)

@@ -15,7 +15,7 @@ use Rattle.pr_capture.specs.declared.format.TraceInput.{TraceInput}
 use Rattle.pr_input.specs.PartlyWritten.{AppendsFront}
 use Rattle.pr_cli.specs.Report.{Says}
 use Rattle.pr_cli.specs.declared.fault.CliFault.{CliFault}
-use Rattle.pr_cli.specs.declared.fault.CliFault.TheVariants.{Script, Trace, Wave, Capture, TooLarge, NoMemory, ReadFailed, WriteFailed}
+use Rattle.pr_cli.specs.declared.fault.CliFault.TheVariants.{Script, Trace, Wave, Capture, Picture, TooLarge, NoMemory, ReadFailed, WriteFailed}
 
 -- Where a recording stops.
 
@@ -57,6 +57,7 @@ Leaves limit len stop told old new (Err (Script fault)) = ⊥
 Leaves limit len stop told old new (Err (Trace fault)) = (stop ≡ Some (Trace fault)) × Appends old new told
 Leaves limit len stop told old new (Err (Wave fault)) = (stop ≡ Some (Wave fault)) × Appends old new told
 Leaves limit len stop told old new (Err (Capture fault)) = (stop ≡ Some (Capture fault)) × Appends old new told
+Leaves limit len stop told old new (Err (Picture fault)) = ⊥
 Leaves limit len stop told old new (Err TooLarge) = (limit < len) × AppendsFront old new told
 Leaves limit len stop told old new (Err NoMemory) = AppendsFront old new told
 Leaves limit len stop told old new (Err ReadFailed) = AppendsFront old new told
@@ -79,6 +80,7 @@ ReadsAll left (Err fault) = Unit {0}
 -- a fault of a recording: of its edges only that time goes back, and want of memory always as itself
 abbrev pub IsDecodeFault : CliFault → Type 0
 IsDecodeFault (Script fault) = ⊥
+IsDecodeFault (Picture fault) = ⊥
 IsDecodeFault (Trace trace.NoMemory) = ⊥
 IsDecodeFault (Wave (wave.Order n)) = Unit {0}
 IsDecodeFault (Wave fault) = ⊥

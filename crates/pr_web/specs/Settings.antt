@@ -6,6 +6,7 @@ use Rattle.pr_channels.specs.declared.faults.Stop.{Stop}
 use Rattle.pr_channels.specs.declared.faults.Stop.TheVariants as stop
 use Rattle.pr_render.specs.declared.format.Format.{Format}
 use Rattle.pr_render.specs.declared.format.Format.TheVariants as format
+use Rattle.pr_render.specs.Showing.{whole}
 use Rattle.pr_capture.specs.declared.format.Source.{Source}
 use Rattle.pr_capture.specs.declared.format.Source.TheVariants as source
 use Rattle.pr_capture.specs.declared.format.TraceInput.{TraceInput}
@@ -41,7 +42,7 @@ mode_of true = mode.Kept
 -- the format of pages: lines of 80 columns, or an SVG document
 abbrev pub page_format_of : (is_picture : Bool) → Format
 page_format_of false = format.Lines
-page_format_of true = format.Picture
+page_format_of true = format.Svg whole
 
 -- a recording with these names of its signals, of levels as they stand or inverted, which starts at
 -- this microsecond

@@ -14,7 +14,7 @@ use Rattle.pr_options.specs.declared.command_line.Job.TheVariants.{Pages, Bus, C
 use Rattle.pr_cli.specs.declared.fault.CliFault.{CliFault}
 use Rattle.pr_cli.specs.declared.pages.Ending.{Ending}
 use Rattle.pr_cli.specs.declared.pages.Ending.TheVariants.{Done, Stopped}
-use Rattle.pr_cli.specs.Pages.{AnswersPages, IsRunFault, ReadsToEnd, WritesNothing, start_of}
+use Rattle.pr_cli.specs.Pages.{AnswersPages, IsPagesFault, IsRunFault, ReadsToEnd, WritesNothing, start_of}
 use Rattle.pr_cli.specs.Bus.{AnswersBus, WritesNoEdge}
 use Rattle.pr_cli.specs.Check.{AnswersCheck, trace_limit}
 use Rattle.pr_cli.specs.Report.{AnswersReport, IsReportFault, WritesNoReport}
@@ -63,12 +63,17 @@ AnswersJob (Raw lower f) text old new result = IsDone (AnswersRaw lower f text o
 
 -- Whatever the reader tells.
 
+-- a fault of a recording, and of its pages where they are asked for
+abbrev pub IsRecordingFault : Format → CliFault → Type 0
+IsRecordingFault format.List fault = IsDecodeFault fault
+IsRecordingFault f fault = reprint.IsReprintFault fault
+
 -- a fault of the job: want of memory always as itself
 abbrev pub IsJobFault : Job → CliFault → Type 0
-IsJobFault (Pages form present delays mode f) fault = IsRunFault fault
+IsJobFault (Pages form present delays mode f) fault = IsPagesFault fault
 IsJobFault (Bus form present delays mode f) fault = IsRunFault fault
 IsJobFault (Check input r) fault = IsReportFault fault
-IsJobFault (Decode is_found input f) fault = IsDecodeFault fault
+IsJobFault (Decode is_found input f) fault = IsRecordingFault f fault
 IsJobFault (Raw lower f) fault = IsRawFault fault
 
 -- the input has been read to its end, but where the job's subcommand ends earlier

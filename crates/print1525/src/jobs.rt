@@ -4,8 +4,7 @@ ghost use Rattle.std.specs.Prelude.{◌≡◌, ◌↔◌, false, true, IfErr, If
 ghost use Rattle.pr_cli.specs.Report.{IsReportFault, ReadsAll, WritesNoReport};
 ghost use Rattle.pr_input.specs.Watched.{has_failed, wrapped};
 ghost use Rattle.pr_recording.specs.Decoded as decode;
-ghost use Rattle.pr_recording.specs.Decoded.{IsDecodeFault};
-ghost use Rattle.print1525.specs.Jobs.{AnswersJob, AnswersRecording, AnswersTrace, IsJobFault, KeepsOutput, ReadsInput};
+ghost use Rattle.print1525.specs.Jobs.{AnswersJob, AnswersRecording, AnswersTrace, IsJobFault, IsRecordingFault, KeepsOutput, ReadsInput};
 
 use pr_capture::{Source, TraceInput};
 use pr_cli::{
@@ -120,12 +119,14 @@ fn decode_recording<R: Read, W: Write>(
         (W.contents (wrapped output.old)) (W.contents (wrapped output.new)) result) }
     ensures at_end { decode.ReadsAll (R.remaining (wrapped input.new)) result }
     // when it refuses, and what that leaves
-    ensures own { IfErr result IsDecodeFault }
+    ensures own { IfErr result (IsRecordingFault format) }
     ensures read_failed { IsErrOf result CliFault.ReadFailed ↔ (has_failed input.new ≡ true) }
     ensures write_failed { IsErrOf result CliFault.WriteFailed ↔ (has_failed output.new ≡ true) }
 {
     match format {
         Format::List => decode_over(alloc, input, output, trace),
-        Format::Lines | Format::Picture => reprint_over(alloc, input, output, trace, format),
+        Format::Lines | Format::Svg(_) | Format::Png(_) => reprint_over(
+            alloc, input, output, trace, format,
+        ),
     }
 }
