@@ -1,5 +1,5 @@
 -- Trusted: the program's command line, as a simple command of clap.
-use Rattle.std.specs.Prelude.{◌∷◌, [], Some, List, codes, false, true}
+use Rattle.std.specs.Prelude.{◌∷◌, ◌++◌, [], Some, List, codes, false, true}
 use Rattle.clap.specs.Words.{App, Rule, Shape, Text, new_rule}
 use Rattle.clap.specs.Simple.{new_shape}
 use Rattle.clap.specs.declared.builder.action.ArgAction.TheVariants.{SetTrue}
@@ -45,6 +45,11 @@ abbrev pub raw_shape : Shape
 raw_shape =
     subcommand (codes "raw") (value_rule option.set ∷ value_rule option.page_as ∷ flag_rule option.explain ∷ [])
 
+-- the same with what of the pages a picture shows
+abbrev pub with_part : Shape → Shape
+with_part s =
+    record s { rules = s.rules ++ value_rule option.device ∷ value_rule option.sheet ∷ [] }
+
 -- the program: it has a version, and wants one of its subcommands
 abbrev pub print1525 : App
 print1525 = record {
@@ -54,7 +59,9 @@ print1525 = record {
     subcommand_required = true;
     disable_help_subcommand = true;
   };
-  subs = run_shape (codes "pages") option.page_as ∷ run_shape (codes "bus") option.trace_as
+  subs = with_part (run_shape (codes "pages") option.page_as)
+      ∷ run_shape (codes "bus") option.trace_as
       ∷ trace_shape (codes "check") option.from option.report_as
-      ∷ trace_shape (codes "decode") option.reading_from option.reading_as ∷ raw_shape ∷ [];
+      ∷ with_part (trace_shape (codes "decode") option.reading_from option.reading_as)
+      ∷ with_part raw_shape ∷ [];
 }

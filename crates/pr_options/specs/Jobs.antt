@@ -9,7 +9,9 @@ use Rattle.pr_bus.specs.declared.wires.Delays.{Delays}
 use Rattle.pr_bus.specs.DelaysLeft.{numbers_left}
 use Rattle.pr_basic.specs.declared.session.StatusMode.{StatusMode}
 use Rattle.pr_listing.specs.declared.form.ListingForm.{ListingForm}
+use Rattle.pr_render.specs.Showing.{showing}
 use Rattle.pr_render.specs.declared.format.Format.{Format}
+use Rattle.pr_render.specs.declared.format.Part.{Part}
 use Rattle.pr_capture.specs.declared.format.TraceFormat.{TraceFormat}
 use Rattle.pr_capture.specs.declared.format.Source.{Source}
 use Rattle.pr_capture.specs.declared.format.Source.TheVariants as source
@@ -20,7 +22,7 @@ use Rattle.pr_options.specs.OptionNames as option
 use Rattle.pr_options.specs.CommandLine.{print1525}
 use Rattle.pr_options.specs.DelayLists.{delays_of}
 use Rattle.pr_options.specs.Given.{file_in, is_given, value_in}
-use Rattle.pr_options.specs.Options.{form_of, format_of, mode_of, present_of, reading_source_of, report_of, set_of, source_of, start_of, trace_format_of}
+use Rattle.pr_options.specs.Options.{device_of, form_of, format_of, mode_of, present_of, reading_source_of, report_of, set_of, sheet_of, source_of, start_of, trace_format_of}
 use Rattle.pr_options.specs.SignalNames.{Names, names_of, names_of_signals}
 use Rattle.pr_options.specs.declared.command_line.Job.{Job}
 use Rattle.pr_options.specs.declared.command_line.Job.TheVariants as job
@@ -130,6 +132,20 @@ wanted_input source rows =
     })
     else Err fault.NoRecording
 
+-- what of the pages is shown
+abbrev pub wanted_part : List Row → Result Part JobFault
+wanted_part rows =
+    read option.device device_of fault.BadDevice rows >>= λ device.
+    read option.sheet sheet_of fault.BadSheet rows >>= λ sheet.
+    Ok (record { device = device; sheet = sheet })
+
+-- the format of pages, which shows that part
+abbrev pub wanted_format : ValueOption → JobFault → List Row → Result Format JobFault
+wanted_format option bad rows =
+    read option format_of bad rows >>= λ format.
+    wanted_part rows >>= λ part.
+    ok_or (showing format part) fault.NoPart
+
 -- the jobs of the subcommands, each of which has a meaning of --as of its own
 abbrev pub wanted_check : List Row → Result JobView JobFault
 wanted_check rows =
@@ -148,7 +164,7 @@ abbrev pub wanted_decode : List Row → Result JobView JobFault
 wanted_decode rows =
     read option.reading_from reading_source_of fault.BadReadingFrom rows >>= λ source.
     wanted_input (unwrap_or source (unless_found rows)) rows >>= λ input.
-    read option.reading_as format_of fault.BadReadingAs rows >>= λ format.
+    wanted_format option.reading_as fault.BadReadingAs rows >>= λ format.
     Ok (Decode (is_none source) input format)
 
 abbrev pub wanted_bus : RunView → List Row → Result JobView JobFault
@@ -159,12 +175,12 @@ wanted_bus run rows =
 
 abbrev pub wanted_raw : Bool → List Row → Result JobView JobFault
 wanted_raw lower rows =
-    read option.page_as format_of fault.BadPageAs rows >>= λ format. Ok (Raw lower format)
+    wanted_format option.page_as fault.BadPageAs rows >>= λ format. Ok (Raw lower format)
 
 abbrev pub wanted_pages : RunView → List Row → Result JobView JobFault
 wanted_pages run rows =
     read option.listing_from form_of fault.BadForm rows >>= λ form.
-    read option.page_as format_of fault.BadPageAs rows >>= λ format.
+    wanted_format option.page_as fault.BadPageAs rows >>= λ format.
     Ok (Pages form run format)
 
 -- the job of a subcommand with these rows of options, or its first bad value: those of a run and

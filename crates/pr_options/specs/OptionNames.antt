@@ -41,7 +41,7 @@ reading_from_endings = (codes ".vcd", codes "vcd") ∷ (codes ".csv", codes "csv
 
 -- what the endings of a page's name say
 abbrev pub page_endings : List (Text × Text)
-page_endings = (codes ".svg", codes "svg") ∷ (codes ".txt", codes "text") ∷ []
+page_endings = (codes ".svg", codes "svg") ∷ (codes ".png", codes "png") ∷ (codes ".txt", codes "text") ∷ []
 
 -- what the endings of a trace's name say
 abbrev pub trace_endings : List (Text × Text)
@@ -49,7 +49,7 @@ trace_endings = (codes ".vcd", codes "vcd") ∷ []
 
 -- what the endings of a reading's name say
 abbrev pub reading_endings : List (Text × Text)
-reading_endings = (codes ".svg", codes "svg") ∷ []
+reading_endings = (codes ".svg", codes "svg") ∷ (codes ".png", codes "png") ∷ []
 
 -- which printers are present
 abbrev pub present : ValueOption
@@ -74,6 +74,14 @@ set = plain (codes "set") (codes "upper")
 -- the format of a page
 abbrev pub page_as : ValueOption
 page_as = by_file output page_endings (codes "as") (codes "list")
+
+-- the printer whose pages a picture shows
+abbrev pub device : ValueOption
+device = plain (codes "device") []
+
+-- the sheet that a picture shows
+abbrev pub sheet : ValueOption
+sheet = plain (codes "sheet") []
 
 -- the format of the trace of a run
 abbrev pub trace_as : ValueOption

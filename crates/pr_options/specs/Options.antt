@@ -1,5 +1,5 @@
 -- Trusted: the values of the program's options.
-use Rattle.std.specs.Prelude.{ℕ, ◌^◌, ◌&&◌, ◌∷◌, [], Bool, List, length, nat_lt, Option, Some, None, true, false, codes, if◌then◌else◌, find, option_map}
+use Rattle.std.specs.Prelude.{ℕ, ◌^◌, ◌&&◌, ◌∷◌, [], Bool, List, length, nat_lt, Option, Some, None, true, false, codes, if◌then◌else◌, find, option_and_then, option_map}
 use Rattle.std.specs.List.{list_all}
 use Rattle.std.specs.Str.{bytes_eq}
 use Rattle.clap.specs.Words.{Text}
@@ -12,6 +12,8 @@ use Rattle.pr_listing.specs.declared.form.ListingForm.TheVariants as form
 use Rattle.pr_render.specs.declared.format.Format.{Format}
 use Rattle.pr_render.specs.declared.format.Format.TheVariants as format
 use Rattle.pr_render.specs.Showing.{whole}
+use Rattle.pr_render.specs.declared.format.Device.{Device}
+use Rattle.pr_render.specs.declared.format.Device.TheVariants as device
 use Rattle.pr_capture.specs.declared.format.TraceFormat.{TraceFormat}
 use Rattle.pr_capture.specs.declared.format.TraceFormat.TheVariants as trace
 use Rattle.pr_capture.specs.declared.format.Source.{Source}
@@ -43,10 +45,14 @@ mode_of = meaning_of ((codes "each", Each) ∷ (codes "kept", Kept) ∷ [])
 abbrev pub set_of : Text → Option Bool
 set_of = meaning_of ((codes "upper", false) ∷ (codes "lower", true) ∷ [])
 
--- the format of the page: list, text or svg
+-- the format of the page: list, text, svg or png
 abbrev pub format_of : Text → Option Format
-format_of = meaning_of (
-    (codes "list", format.List) ∷ (codes "text", format.Lines) ∷ (codes "svg", format.Svg whole) ∷ [])
+format_of = meaning_of ((codes "list", format.List) ∷ (codes "text", format.Lines)
+    ∷ (codes "svg", format.Svg whole) ∷ (codes "png", format.Png whole) ∷ [])
+
+-- the printer whose pages are drawn: 4 or 5, or nothing for all of them
+abbrev pub device_of : Text → Option (Option Device)
+device_of = meaning_of (([], None) ∷ (codes "4", Some device.Four) ∷ (codes "5", Some device.Five) ∷ [])
 
 -- the format of a run's trace: text or vcd
 abbrev pub trace_format_of : Text → Option TraceFormat
@@ -66,8 +72,17 @@ reading_source_of = meaning_of ((codes "auto", None) ∷ (codes "text", Some sou
 abbrev pub report_of : Text → Option Report
 report_of = meaning_of ((codes "frames", report.Frames) ∷ (codes "story", report.Story) ∷ [])
 
+-- a number that is not 0
+abbrev pub above_zero : ℕ → Option ℕ
+above_zero n = if nat_lt 0 n then Some n else None
+
 -- the moment at which a trace starts, in microseconds: decimal digits that spell a number below 2^64
 abbrev pub start_of : Text → Option ℕ
 start_of text =
     if nat_lt 0 (length text) && (list_all is_digit text && nat_lt (number_of text) (2 ^ 64))
     then Some (number_of text) else None
+
+-- the sheet that is drawn: decimal digits that spell a number from 1, below 2^64, or nothing for none
+abbrev pub sheet_of : Text → Option (Option ℕ)
+sheet_of [] = Some None
+sheet_of text = option_map (λ n. Some n) (option_and_then above_zero (start_of text))

@@ -1,6 +1,6 @@
 -- Trusted: which option has a bad value, what its values are, and how its help says them.
 use Rattle.std.specs.Prelude.{ℕ, List, Option, Some, None, codes}
-use Rattle.pr_options.specs.declared.options.TheConstants.{DELAYS_HELP, FROM_HELP, FROM_TIME_HELP, LISTING_FROM_HELP, NAMES_HELP, PAGE_AS_HELP, PRESENT_HELP, READING_AS_HELP, READING_FROM_HELP, REPORT_AS_HELP, SET_HELP, STATUS_HELP, TRACE_AS_HELP}
+use Rattle.pr_options.specs.declared.options.TheConstants.{DELAYS_HELP, DEVICE_HELP, FROM_HELP, FROM_TIME_HELP, LISTING_FROM_HELP, NAMES_HELP, PAGE_AS_HELP, PRESENT_HELP, READING_AS_HELP, READING_FROM_HELP, REPORT_AS_HELP, SET_HELP, SHEET_HELP, STATUS_HELP, TRACE_AS_HELP}
 use Rattle.clap.specs.Words.{Text}
 use Rattle.pr_options.specs.OptionNames.{ValueOption}
 use Rattle.pr_options.specs.OptionNames as option
@@ -22,6 +22,8 @@ values_of fault.BadPageAs = Some PAGE_AS_HELP.now
 values_of fault.BadTraceAs = Some TRACE_AS_HELP.now
 values_of fault.BadReportAs = Some REPORT_AS_HELP.now
 values_of fault.BadReadingAs = Some READING_AS_HELP.now
+values_of fault.BadDevice = Some DEVICE_HELP.now
+values_of fault.BadSheet = Some SHEET_HELP.now
 values_of _ = None
 
 -- the option of which a value is bad
@@ -39,4 +41,6 @@ option_of fault.BadPageAs = Some option.page_as
 option_of fault.BadTraceAs = Some option.trace_as
 option_of fault.BadReportAs = Some option.report_as
 option_of fault.BadReadingAs = Some option.reading_as
+option_of fault.BadDevice = Some option.device
+option_of fault.BadSheet = Some option.sheet
 option_of _ = None

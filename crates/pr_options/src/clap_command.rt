@@ -1,16 +1,17 @@
 //! The program's command with its subcommands and options, as clap takes it.
 
 ghost use Rattle.std.specs.Prelude.{◌≡◌, [], IfOk, false};
-ghost use Rattle.clap.specs.Words.{app_of, new_app, rule_of};
+ghost use Rattle.clap.specs.Words.{app_of, new_app, rule_of, with_rule};
 ghost use Rattle.pr_options.specs.CommandLine.{flag_rule, input_rule, output_rule, print1525, raw_shape, run_shape, subcommand, trace_shape, value_rule};
+ghost use Rattle.pr_options.specs.OptionNames as option;
 ghost use Rattle.pr_options.specs.Subcommands.{IsLocal, alone, option_view};
 
 use crate::help;
 use crate::help::HelpText;
 use crate::options::{
-    DELAYS, EXPLAIN, FROM, FROM_TIME, FileArgument, Flag, INPUT, INVERT, LISTING_FROM, NAMES,
-    OUTPUT, OUTPUT_LETTER, PAGE_AS, PRESENT, READING_AS, READING_FROM, REPORT_AS, SET, STATUS,
-    TRACE_AS, ValueOption,
+    DELAYS, DEVICE, EXPLAIN, FROM, FROM_TIME, FileArgument, Flag, INPUT, INVERT, LISTING_FROM,
+    NAMES, OUTPUT, OUTPUT_LETTER, PAGE_AS, PRESENT, READING_AS, READING_FROM, REPORT_AS, SET,
+    SHEET, STATUS, TRACE_AS, ValueOption,
 };
 use clap::{Arg, ArgAction, Command};
 use std::alloc::{AllocError, Global};
@@ -140,16 +141,28 @@ fn raw_command<'a>(alloc: Global) -> Result<Command<'a>, AllocError>
     Ok(whole)
 }
 
+/// A subcommand with what of the pages a picture shows.
+fn with_part<'a>(alloc: Global, command: Command<'a>) -> Result<Command<'a>, AllocError>
+    requires { IsLocal command.entry }
+    ensures app { IfOk result (λ c. app_of c ≡ with_rule (with_rule (app_of command.entry) (value_rule option.device)) (value_rule option.sheet)) }
+    ensures local { IfOk result IsLocal }
+{
+    let one = command.arg(value_option(alloc, DEVICE))?;
+    let whole = one.arg(value_option(alloc, SHEET))?;
+    Ok(whole)
+}
+
 /// The command with its subcommands.
 pub fn make_command<'a>(alloc: Global) -> Result<Command<'a>, AllocError>
     ensures app { IfOk result (λ c. app_of c ≡ print1525) }
     ensures local { IfOk result IsLocal }
 {
-    let pages = run_command(alloc, "pages", help::PAGES, PAGE_AS)?;
+    let pages = with_part(alloc, run_command(alloc, "pages", help::PAGES, PAGE_AS)?)?;
     let bus = run_command(alloc, "bus", help::BUS, TRACE_AS)?;
     let check = trace_command(alloc, "check", help::CHECK, FROM, REPORT_AS)?;
-    let decode = trace_command(alloc, "decode", help::DECODE, READING_FROM, READING_AS)?;
-    let raw = raw_command(alloc)?;
+    let plain = trace_command(alloc, "decode", help::DECODE, READING_FROM, READING_AS)?;
+    let decode = with_part(alloc, plain)?;
+    let raw = with_part(alloc, raw_command(alloc)?)?;
     let program = new_command(alloc, "print1525", help::PROGRAM)
         .version(VERSION)
         .subcommand_required(true)

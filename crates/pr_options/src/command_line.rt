@@ -15,8 +15,8 @@ ghost use Rattle.pr_options.specs.Values.{option_of, values_of};
 use crate::clap_command::make_command;
 use crate::delays::DelayFault;
 use crate::options::{
-    DELAYS, FROM, FROM_TIME, INPUT, LISTING_FROM, NAMES, OUTPUT, PAGE_AS, PRESENT, READING_AS,
-    READING_FROM, REPORT_AS, SET, STATUS, TRACE_AS, ValueOption,
+    DELAYS, DEVICE, FROM, FROM_TIME, INPUT, LISTING_FROM, NAMES, OUTPUT, PAGE_AS, PRESENT,
+    READING_AS, READING_FROM, REPORT_AS, SET, SHEET, STATUS, TRACE_AS, ValueOption,
 };
 use crate::values_given::{
     delays_in, file_in, fits, form_in, page_format_in, present_in, reading_format_in,
@@ -112,7 +112,7 @@ pub enum JobFault {
     /// `--names`, `--invert` or `--from-time` is given where the trace is a text.
     #[error("--names, --invert and --from-time go with --from vcd or csv")]
     NoRecording,
-    /// The value of `--as` of `pages` or `raw` is not `list`, `text` or `svg`.
+    /// The value of `--as` of `pages` or `raw` is not `list`, `text`, `svg` or `png`.
     #[error("bad --as")]
     BadPageAs,
     /// The value of `--as` of `bus` is not `text` or `vcd`.
@@ -121,9 +121,18 @@ pub enum JobFault {
     /// The value of `--as` of `check` is not `frames` or `story`.
     #[error("bad --as")]
     BadReportAs,
-    /// The value of `--as` of `decode` is not `list`, `text` or `svg`.
+    /// The value of `--as` of `decode` is not `list`, `text`, `svg` or `png`.
     #[error("bad --as")]
     BadReadingAs,
+    /// The value of `--device` is not `4` or `5`.
+    #[error("bad --device")]
+    BadDevice,
+    /// The value of `--sheet` is no number from 1.
+    #[error("bad --sheet")]
+    BadSheet,
+    /// `--device` or `--sheet` is given where no picture is written.
+    #[error("--device and --sheet go with --as svg or png")]
+    NoPart,
     /// Memory was refused.
     #[error("out of memory")]
     NoMemory,
@@ -172,7 +181,10 @@ impl JobFault {
             JobFault::BadTraceAs => Some(TRACE_AS),
             JobFault::BadReportAs => Some(REPORT_AS),
             JobFault::BadReadingAs => Some(READING_AS),
-            JobFault::NoRecording | JobFault::Line(_) | JobFault::NoMemory => None,
+            JobFault::BadDevice => Some(DEVICE),
+            JobFault::BadSheet => Some(SHEET),
+            JobFault::NoRecording | JobFault::NoPart | JobFault::Line(_) | JobFault::NoMemory =>
+                None,
         }
     }
 }
@@ -202,7 +214,8 @@ impl From<DelayFault> for JobFault {
 /// [`JobFault::BadReadingFrom`], and of both [`JobFault::BadNames`], [`JobFault::BadStart`], then [`JobFault::NoRecording`], where these are good;
 /// and at last a bad `--as`:
 /// [`JobFault::BadPageAs`] of `pages` and `raw`, [`JobFault::BadTraceAs`] of `bus`,
-/// [`JobFault::BadReportAs`] of `check`, [`JobFault::BadReadingAs`] of `decode`.
+/// [`JobFault::BadReportAs`] of `check`, [`JobFault::BadReadingAs`] of `decode`. A good one of pages is
+/// followed by [`JobFault::BadDevice`], [`JobFault::BadSheet`] and [`JobFault::NoPart`].
 pub fn read_task<'a>(alloc: Global, words: &'a [&'a str]) -> Result<Task<'a>, JobFault>
     ensures ok { IfOk result (λ task. asked (map (λ s. s.now) words.entry.now) ≡ Some (Ok (task_view task))) }
     ensures taken { OnOk result (fault_of print1525 (map (λ s. s.now) words.entry.now) ≡ []) }

@@ -109,6 +109,10 @@ const PAGE_ENDINGS: &[Ending] = &[
         value: "svg",
     },
     Ending {
+        ending: ".png",
+        value: "png",
+    },
+    Ending {
         ending: ".txt",
         value: "text",
     },
@@ -121,10 +125,16 @@ const TRACE_ENDINGS: &[Ending] = &[Ending {
 }];
 
 /// What the endings of a reading's name say.
-const READING_ENDINGS: &[Ending] = &[Ending {
-    ending: ".svg",
-    value: "svg",
-}];
+const READING_ENDINGS: &[Ending] = &[
+    Ending {
+        ending: ".svg",
+        value: "svg",
+    },
+    Ending {
+        ending: ".png",
+        value: "png",
+    },
+];
 
 /// No ending says anything.
 const NO_ENDINGS: &[Ending] = &[];
@@ -214,7 +224,8 @@ pub const SET: ValueOption = ValueOption {
 
 /// What the values of [`PAGE_AS`] are.
 const PAGE_AS_HELP: &str = "list (every mark with its place), text (lines for\n\
-     a terminal) or svg (a picture)";
+     a terminal), svg (a picture) or png (a sheet as\n\
+     a bitmap)";
 
 /// The format of a page.
 pub const PAGE_AS: ValueOption = ValueOption {
@@ -223,8 +234,38 @@ pub const PAGE_AS: ValueOption = ValueOption {
     default: "list",
     file: OUTPUT_NAME,
     endings: PAGE_ENDINGS,
-    values: "list, text or svg",
+    values: "list, text, svg or png",
     help: PAGE_AS_HELP,
+};
+
+/// What the values of [`DEVICE`] are.
+const DEVICE_HELP: &str = "The printer whose pages svg and png draw: 4 or 5\n\
+     [default: svg draws all, png the first that printed]";
+
+/// The printer whose pages a picture shows.
+pub const DEVICE: ValueOption = ValueOption {
+    name: "device",
+    value: "PRINTER",
+    default: "",
+    file: "",
+    endings: NO_ENDINGS,
+    values: "4 or 5",
+    help: DEVICE_HELP,
+};
+
+/// What the values of [`SHEET`] are.
+const SHEET_HELP: &str = "The sheet of 11 inches that svg and png draw, from 1\n\
+     [default: svg draws all, png sheet 1]";
+
+/// The sheet that a picture shows.
+pub const SHEET: ValueOption = ValueOption {
+    name: "sheet",
+    value: "NUMBER",
+    default: "",
+    file: "",
+    endings: NO_ENDINGS,
+    values: "a whole number from 1",
+    help: SHEET_HELP,
 };
 
 /// What the values of [`TRACE_AS`] are.
@@ -260,7 +301,7 @@ pub const REPORT_AS: ValueOption = ValueOption {
 /// What the values of [`READING_AS`] are.
 const READING_AS_HELP: &str = "list (each byte with its times), or the pages\n\
      that the bytes print:\n\
-     text or svg";
+     text, svg or png";
 
 /// What is written of a recording that is decoded.
 pub const READING_AS: ValueOption = ValueOption {
@@ -269,7 +310,7 @@ pub const READING_AS: ValueOption = ValueOption {
     default: "list",
     file: OUTPUT_NAME,
     endings: READING_ENDINGS,
-    values: "list, text or svg",
+    values: "list, text, svg or png",
     help: READING_AS_HELP,
 };
 

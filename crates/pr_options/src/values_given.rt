@@ -1,13 +1,14 @@
 //! The values that words give the options, each with the fault of a bad one.
 
-ghost use Rattle.std.specs.Prelude.{◌≡◌, Ok, IfErr, IfOk, find, option_map, unwrap_or};
+ghost use Rattle.std.specs.Prelude.{◌≡◌, Ok, IfErr, IfOk, find, ok_or, option_map, unwrap_or};
 ghost use Rattle.std.specs.Str.{str_eq_ignore_ascii_case};
 ghost use Rattle.clap.specs.Words.{first_of, found_of, rows_of};
+ghost use Rattle.pr_render.specs.Showing.{showing};
 ghost use Rattle.pr_bus.specs.DelaysLeft.{numbers_left};
 ghost use Rattle.pr_options.specs.DelayLists.{delays_of};
 ghost use Rattle.pr_options.specs.Given.{ending_value, file_in, has_ending, is_given, is_of_words, named, value_by_ending, value_in};
 ghost use Rattle.pr_options.specs.OptionNames as option;
-ghost use Rattle.pr_options.specs.Jobs.{fits, read, unless_found, wants_recording};
+ghost use Rattle.pr_options.specs.Jobs.{◌>>=◌, fits, read, unless_found, wanted_format, wanted_part, wants_recording};
 ghost use Rattle.pr_options.specs.Options.{form_of, format_of, mode_of, present_of, reading_source_of, report_of, set_of, source_of, start_of, trace_format_of};
 ghost use Rattle.pr_options.specs.SignalNames.{names_of};
 ghost use Rattle.pr_options.specs.Steps.{IsFaultIn, signals_result};
@@ -16,12 +17,12 @@ ghost use Rattle.pr_options.specs.Subcommands.{endings_view, option_view};
 use crate::command_line::JobFault;
 use crate::delays::read_delays;
 use crate::option_values::{
-    read_form, read_format, read_present, read_reading_source, read_report, read_set, read_signals,
-    read_source, read_start, read_status, read_trace_format,
+    read_device, read_form, read_format, read_present, read_reading_source, read_report, read_set,
+    read_sheet, read_signals, read_source, read_start, read_status, read_trace_format,
 };
 use crate::options::{
-    DELAYS, Ending, FROM, FROM_TIME, FileArgument, INVERT, LISTING_FROM, NAMES, PAGE_AS, PRESENT,
-    READING_AS, READING_FROM, REPORT_AS, SET, STATUS, TRACE_AS, ValueOption,
+    DELAYS, DEVICE, Ending, FROM, FROM_TIME, FileArgument, INVERT, LISTING_FROM, NAMES, PAGE_AS,
+    PRESENT, READING_AS, READING_FROM, REPORT_AS, SET, SHEET, STATUS, TRACE_AS, ValueOption,
 };
 use clap::ArgMatches;
 use clap::parser::ValueSource;
@@ -29,7 +30,7 @@ use pr_basic::StatusMode;
 use pr_bus::Delays;
 use pr_capture::{Signals, Source, TraceFormat};
 use pr_listing::ListingForm;
-use pr_render::Format;
+use pr_render::{Format, Part};
 use pr_report::Report;
 use pr_serial::Present;
 use std::alloc::Global;
@@ -114,9 +115,27 @@ pub fn form_in(options: &ArgMatches<'_>) -> Result<ListingForm, JobFault>
 
 /// The format of a page.
 pub fn page_format_in(options: &ArgMatches<'_>) -> Result<Format, JobFault>
-    ensures { result ≡ read option.page_as format_of JobFault.BadPageAs (rows_of (found_of options.now)) }
+    ensures { result ≡ wanted_format option.page_as JobFault.BadPageAs (rows_of (found_of options.now)) }
 {
-    read_format(value_in(options, PAGE_AS)).ok_or(JobFault::BadPageAs)
+    let format = read_format(value_in(options, PAGE_AS)).ok_or(JobFault::BadPageAs)?;
+    shown_in(format, options)
+}
+
+/// A format, which shows the part of the pages that is asked for.
+fn shown_in(format: Format, options: &ArgMatches<'_>) -> Result<Format, JobFault>
+    ensures { result ≡ (wanted_part (rows_of (found_of options.now)) >>= λ part. ok_or (showing format part) JobFault.NoPart) }
+{
+    let part = part_in(options)?;
+    format.showing(part).ok_or(JobFault::NoPart)
+}
+
+/// What of the pages is shown.
+fn part_in(options: &ArgMatches<'_>) -> Result<Part, JobFault>
+    ensures { result ≡ wanted_part (rows_of (found_of options.now)) }
+{
+    let device = read_device(value_in(options, DEVICE)).ok_or(JobFault::BadDevice)?;
+    let sheet = read_sheet(value_in(options, SHEET)).ok_or(JobFault::BadSheet)?;
+    Ok(Part { device, sheet })
 }
 
 /// The format of a run's trace.
@@ -135,9 +154,10 @@ pub fn report_in(options: &ArgMatches<'_>) -> Result<Report, JobFault>
 
 /// The format of what a recording says.
 pub fn reading_format_in(options: &ArgMatches<'_>) -> Result<Format, JobFault>
-    ensures { result ≡ read option.reading_as format_of JobFault.BadReadingAs (rows_of (found_of options.now)) }
+    ensures { result ≡ wanted_format option.reading_as JobFault.BadReadingAs (rows_of (found_of options.now)) }
 {
-    read_format(value_in(options, READING_AS)).ok_or(JobFault::BadReadingAs)
+    let format = read_format(value_in(options, READING_AS)).ok_or(JobFault::BadReadingAs)?;
+    shown_in(format, options)
 }
 
 /// Whether what is given goes with the source: with a text nothing of a recording.
