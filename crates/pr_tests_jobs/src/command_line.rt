@@ -211,9 +211,9 @@ fn files_of_tasks(rt: HostRuntime) {
 /// The value of a fault is that of the words.
 #[test]
 fn bad_values(rt: HostRuntime) {
-    const WORDS: [&str; 4] = ["print1525", "pages", "--as", "png"];
+    const WORDS: [&str; 4] = ["print1525", "pages", "--as", "gif"];
     let value = bad_value(rt.alloc(), &WORDS, &JobFault::BadPageAs);
-    assert!(rt; value == Some("png"));
+    assert!(rt; value == Some("gif"));
     assert!(rt; bad_value(rt.alloc(), &WORDS, &JobFault::NoMemory).is_none());
     assert!(rt; JobFault::BadPageAs.good_values() == Some("list, text or svg"));
     assert!(rt; JobFault::BadPresent.good_values().is_none());
