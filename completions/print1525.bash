@@ -20,7 +20,9 @@ _print1525() {
         pages/--present) words='none 4 5 both' ;;
         pages/--delays) return ;;
         pages/--status) words='each kept' ;;
-        pages/--as) words='list text svg' ;;
+        pages/--as) words='list text svg png' ;;
+        pages/--device) words='4 5' ;;
+        pages/--sheet) return ;;
         bus/--from) words='text prg petcat' ;;
         bus/--present) words='none 4 5 both' ;;
         bus/--delays) return ;;
@@ -33,18 +35,22 @@ _print1525() {
         decode/--from) words='auto text vcd csv' ;;
         decode/--names) return ;;
         decode/--from-time) return ;;
-        decode/--as) words='list text svg' ;;
+        decode/--as) words='list text svg png' ;;
+        decode/--device) words='4 5' ;;
+        decode/--sheet) return ;;
         raw/--set) words='upper lower' ;;
-        raw/--as) words='list text svg' ;;
+        raw/--as) words='list text svg png' ;;
+        raw/--device) words='4 5' ;;
+        raw/--sheet) return ;;
         */-o | */--output) ;;
         *)
             if [[ $word == -* ]]; then
                 case $command in
-                pages) words='-o --output --from --present --delays --status --as --explain -h --help' ;;
+                pages) words='-o --output --from --present --delays --status --as --explain --device --sheet -h --help' ;;
                 bus) words='-o --output --from --present --delays --status --as --explain -h --help' ;;
                 check) words='-o --output --from --names --invert --from-time --as --explain -h --help' ;;
-                decode) words='-o --output --from --names --invert --from-time --as --explain -h --help' ;;
-                raw) words='-o --output --set --as --explain -h --help' ;;
+                decode) words='-o --output --from --names --invert --from-time --as --explain --device --sheet -h --help' ;;
+                raw) words='-o --output --set --as --explain --device --sheet -h --help' ;;
                 esac
             fi
             ;;

@@ -53,7 +53,8 @@ A FILE named *.prg or *.petcat is read so without --from.
 
 Output: the marks on the paper of printers 4 and 5, the status of each
 statement, the bytes on the screen, and the BASIC error that stopped the run.
-A file named *.svg or *.txt is written as svg or text without --as.
+A file named *.svg, *.png or *.txt is written so without --as. --device and
+--sheet go with svg and png; a sheet past the end is refused.
 
 Exit status: 0 done, 1 stopped by a BASIC error, 2 refused, 3 memory ran out
 or a file cannot be opened, read or written.
@@ -143,7 +144,7 @@ pub const RAW: HelpText = HelpText {
 Input: bytes as a printer gets them, such as an emulator's raw printer output.
 
 Output: the page that they print, under the heading of printer 4. A file named
-*.svg or *.txt is written as svg or text without --as.
+*.svg, *.png or *.txt is written so without --as.
 
 Exit status: 0 done, 2 refused, 3 memory ran out or a file cannot be opened,
 read or written.

@@ -215,7 +215,7 @@ fn bad_values(rt: HostRuntime) {
     let value = bad_value(rt.alloc(), &WORDS, &JobFault::BadPageAs);
     assert!(rt; value == Some("gif"));
     assert!(rt; bad_value(rt.alloc(), &WORDS, &JobFault::NoMemory).is_none());
-    assert!(rt; JobFault::BadPageAs.good_values() == Some("list, text or svg"));
+    assert!(rt; JobFault::BadPageAs.good_values() == Some("list, text, svg or png"));
     assert!(rt; JobFault::BadPresent.good_values().is_none());
 }
 
