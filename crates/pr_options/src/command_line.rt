@@ -8,7 +8,8 @@ ghost use Rattle.pr_options.specs.CommandLine.{print1525};
 ghost use Rattle.pr_options.specs.CommandLaws.{NamesOurs};
 ghost use Rattle.pr_options.specs.Jobs.{IsRefused, asked, input_view, job_view, task_view, wanted, wanted_bus, wanted_check, wanted_decode, wanted_input, wanted_pages, wanted_raw, wanted_run};
 ghost use Rattle.pr_options.specs.Steps.{IsFaultIn, IsOfClap, job_result, run_view, wanted_of};
-ghost use Rattle.pr_options.specs.Found.{bad_value, begins_as_dump, begins_as_table, found_source, front, has_comma};
+ghost use Rattle.pr_options.specs.Found.{bad_value, begins_as_dump, begins_as_table, found_source, front, has_comma, value_given};
+ghost use Rattle.pr_options.specs.Given.{value_in};
 ghost use Rattle.pr_options.specs.Subcommands.{option_view};
 ghost use Rattle.pr_options.specs.Values.{option_of, values_of};
 
@@ -222,16 +223,32 @@ pub fn read_task<'a>(alloc: Global, words: &'a [&'a str]) -> Result<Task<'a>, Jo
 pub fn bad_value<'a>(alloc: Global, words: &'a [&'a str], fault: &JobFault) -> Option<&'a str>
     ensures { IfSome result (λ value. bad_value (map (λ s. s.now) words.entry.now) fault.now ≡ Some value.now) }
 {
-    let option = fault.option()?;
+    match fault.option() {
+        Some(option) => given_to(alloc, words, option),
+        None => None,
+    }
+}
+
+/// The value that words give an option. None where clap refuses them, and where memory was refused.
+fn given_to<'a>(alloc: Global, words: &'a [&'a str], option: ValueOption) -> Option<&'a str>
+    ensures { IfSome result (λ value. value_given (map (λ s. s.now) words.entry.now) (option_view option) ≡ Some value.now) }
+{
     let Ok(command) = make_command(alloc) else {
         return None;
     };
     match command.try_get_matches_from(words) {
-        Ok(matches) => match matches.subcommand() {
-            Some((_name, options)) => Some(value_in(options, option)),
-            None => None,
-        },
+        Ok(matches) => value_of(&matches, option),
         Err(_error) => None,
+    }
+}
+
+/// The value of an option of the subcommand that was met.
+fn value_of<'a>(matches: &ArgMatches<'a>, option: ValueOption) -> Option<&'a str>
+    ensures { option_map (λ value. value.now) result ≡ option_map (λ met. value_in (option_view option) met.1) (subcommand_rows_of matches.now) }
+{
+    match matches.subcommand() {
+        Some((_name, options)) => Some(value_in(options, option)),
+        None => None,
     }
 }
 
