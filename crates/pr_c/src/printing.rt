@@ -5,7 +5,8 @@ ghost use Rattle.std.specs.List.{position};
 ghost use Rattle.pr_cli.specs.Raw.{printed_on};
 ghost use Rattle.pr_page.specs.Page.{IsPage};
 ghost use Rattle.pr_c.specs.Laws.{BytesAreInputs};
-ghost use Rattle.pr_c.specs.Printing.{IsInputsText, TellsInputs, input_of, is_no_input, inputs_limit};
+ghost use Rattle.pr_c.specs.Printed.{GivesInputsText};
+ghost use Rattle.pr_c.specs.Printing.{TellsInputs, input_of, is_no_input, inputs_limit};
 
 use crate::told::{Told, give};
 use pr_cli::{CliFault, text_in_format};
@@ -13,7 +14,7 @@ use pr_page::{Input, NoMemory, Paper, Printer, Sequence};
 use pr_render::Format;
 use pr_serial::Present;
 use pr_system::Outcome;
-use std::alloc::{AllocError, Global};
+use std::alloc::Global;
 
 /// The most inputs of a page: a printer takes no more.
 const INPUTS_LIMIT: usize = 4_294_967_296;
@@ -80,19 +81,24 @@ fn outcome_with(alloc: Global, paper: Paper) -> Outcome
 }
 
 /// The text of the page of the inputs that numbers stand for.
-fn text_of(alloc: Global, numbers: &[u16], format: Format) -> Result<Vec<u8>, NoMemory>
+fn text_of(alloc: Global, numbers: &[u16], format: Format) -> Result<Vec<u8>, CliFault>
     requires few { length numbers.now ≤ inputs_limit }
-    ensures { IfOk result (λ text. IsInputsText format (map input_of numbers.now) text.items) }
+    ensures { GivesInputsText format (map input_of numbers.now) result }
 {
     let paper = paper_of(alloc, numbers)?;
     let text = text_in_format(alloc, outcome_with(alloc, paper), FOUR_ALONE, format)?;
-    text.into_vec()
+    Ok(text.into_vec()?)
 }
 
-/// Puts the text of the page that a printer prints of its inputs, as that of printer 4, at the front of
-/// a buffer. The inputs are numbers: 0 to 255 a byte, 256 the selection of the graphic/upper case set,
-/// 257 that of the lower/upper case set; before the first selection the former is selected. A number
-/// that stands for no input is told by its index, from 0, before any memory is taken.
+/// Puts the text of the page that a printer prints of its inputs, as that of printer 4, at the
+/// front of a buffer. The rest of the buffer stays as it was. The inputs are numbers: 0 to 255 a
+/// byte, 256 the selection of the graphic/upper case set, 257 that of the lower/upper case set;
+/// before the first selection the former is selected.
+///
+/// It is refused for more than 2^32 inputs, exactly; then exactly where a number is above 257, with
+/// the index of the first, from 0, before any memory is taken; where memory was refused; and where
+/// the text has more bytes than the buffer has room for, with their number. The buffer is then as
+/// it was.
 pub fn print(alloc: Global, inputs: &[u16], format: Format, out: &mut [u8]) -> Told
     ensures tells { TellsInputs format inputs.now out.old out.new result }
     ensures length { length out.new ≡ length out.old }
@@ -105,12 +111,12 @@ pub fn print(alloc: Global, inputs: &[u16], format: Format, out: &mut [u8]) -> T
     }
     match text_of(alloc, inputs, format) {
         Ok(text) => give(Ok(None), &text, out),
-        Err(AllocError) => Told::Refused(CliFault::NoMemory),
+        Err(fault) => Told::Refused(fault),
     }
 }
 
-/// A law, with nothing to run: what is printed of bytes in a character set is printed of inputs, of
-/// which the first selects that set and the others are these bytes.
+/// A law, with nothing to run: bytes in a character set and inputs that select this set first, with
+/// these bytes after it, have the same pages.
 pub fn bytes_are_inputs()
     ensures { BytesAreInputs }
 {}

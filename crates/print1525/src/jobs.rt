@@ -4,8 +4,7 @@ ghost use Rattle.std.specs.Prelude.{◌≡◌, ◌↔◌, false, true, IfErr, If
 ghost use Rattle.pr_cli.specs.Report.{IsReportFault, ReadsAll, WritesNoReport};
 ghost use Rattle.pr_input.specs.Watched.{has_failed, wrapped};
 ghost use Rattle.pr_recording.specs.Decoded as decode;
-ghost use Rattle.pr_recording.specs.Decoded.{IsDecodeFault};
-ghost use Rattle.print1525.specs.Jobs.{AnswersJob, AnswersRecording, AnswersTrace, IsJobFault, KeepsOutput, ReadsInput};
+ghost use Rattle.print1525.specs.Jobs.{AnswersJob, AnswersRecording, AnswersTrace, IsJobFault, IsRecordingFault, KeepsOutput, ReadsInput};
 
 use pr_capture::{Source, TraceInput};
 use pr_cli::{
@@ -22,6 +21,9 @@ use std::io::{Read, Write};
 /// `bus` is a script's text, whatever form the listing has: `answers` gives the text of a listing in
 /// another form. So it gives the format of a recording where it is to be found.
 ///
+/// It takes the whole [`Job`]: only the form of a listing, and whether a recording's format is to be
+/// found, is read from it elsewhere, so every use of a format, a set or a delay is proved.
+///
 /// The answer is [`Ending::Stopped`] exactly if a BASIC error stopped the run of a script.
 ///
 /// # Errors
@@ -29,7 +31,8 @@ use std::io::{Read, Write};
 /// Those of the job's call: [`pr_cli::pages_as_over`], [`pr_cli::bus_as_over`],
 /// [`pr_cli::check_over`] for the frames of a trace text and else [`pr_cli::check_as_over`],
 /// [`pr_recording::decode_over`] for a list and else [`pr_recording::reprint_over`],
-/// [`pr_cli::raw_over`].
+/// [`pr_cli::raw_over`]. They leave what they leave there. A read failed exactly if the input has
+/// failed, and a write exactly if the output has.
 pub fn do_job<R: Read, W: Write>(
     alloc: Global,
     input: &mut Watched<R>,
@@ -120,12 +123,14 @@ fn decode_recording<R: Read, W: Write>(
         (W.contents (wrapped output.old)) (W.contents (wrapped output.new)) result) }
     ensures at_end { decode.ReadsAll (R.remaining (wrapped input.new)) result }
     // when it refuses, and what that leaves
-    ensures own { IfErr result IsDecodeFault }
+    ensures own { IfErr result (IsRecordingFault format) }
     ensures read_failed { IsErrOf result CliFault.ReadFailed ↔ (has_failed input.new ≡ true) }
     ensures write_failed { IsErrOf result CliFault.WriteFailed ↔ (has_failed output.new ≡ true) }
 {
     match format {
         Format::List => decode_over(alloc, input, output, trace),
-        Format::Lines | Format::Picture => reprint_over(alloc, input, output, trace, format),
+        Format::Lines | Format::Svg(_) | Format::Png(_) => reprint_over(
+            alloc, input, output, trace, format,
+        ),
     }
 }
