@@ -29,11 +29,12 @@ use Rattle.pr_c.specs.declared.told.Answer.{Answer}
 use Rattle.pr_c.specs.declared.told.Told.{Told}
 use Rattle.pr_c.specs.declared.told.Told.TheVariants.{Written, TooSmall, Refused, NoInput}
 
--- a BASIC error that stopped a run, with the number of its statement, from 1; none where no error did
+-- a BASIC error that stopped a run, with the number of its statement from 1; none where the run was not stopped
 abbrev pub Stopping : Type 0
 Stopping = Option (ℕ × Stop)
 
--- what is told is right, by the buffer before and after: the text in front, the rest as it was; or the text has no room; or there is none
+-- the outcome of a call, by the buffer before and after: the text in front and the rest as it was;
+-- or too little room for the text; or a refusal
 abbrev pub Tells : (Stopping → List ℕ → Type 0) → (CliFault → Type 0) → List ℕ → List ℕ → Told → Type 0
 Tells IsText IsFault old new (Written stop n) =
     (text : List ℕ) × IsText stop text × (n ≡ length text) × (n ≤ length old) × (new ≡ text ++ drop n old)
@@ -84,7 +85,7 @@ IsPaperRefusal lower format bytes (Picture fault) = (length bytes ≤ raw_limit)
 IsPaperRefusal lower format bytes NoMemory = Unit {0}
 IsPaperRefusal lower format bytes _ = ⊥
 
--- why a trace text gives none
+-- why a trace text gives no text
 abbrev pub IsTraceRefusal : List ℕ → CliFault → Type 0
 IsTraceRefusal text (Trace fault) = (length text ≤ trace_limit) × IsBadText text fault
 IsTraceRefusal text (Wave fault) = (length text ≤ trace_limit) × IsFaultyText text fault
@@ -92,7 +93,7 @@ IsTraceRefusal text TooLarge = trace_limit < length text
 IsTraceRefusal text NoMemory = Unit {0}
 IsTraceRefusal text _ = ⊥
 
--- a fault by its number and the line or the index of the edge at which it stands
+-- a fault as its number, and its line or the index of its edge
 abbrev pub script_numbers : ScriptFault → ℕ × ℕ
 script_numbers (script.UnknownWord line) = (1, line)
 script_numbers (script.BadNumber line) = (2, line)
@@ -129,11 +130,11 @@ refusal numbers = record { code = 2; fault = numbers.0; place = numbers.1; lengt
 abbrev pub plain : ℕ → ℕ → Answer
 plain code length = record { code = code; fault = 0; place = 0; length = length }
 
--- an answer with the error that stopped a run and its statement
+-- an answer with the error that stopped a run, and its statement
 abbrev pub stopped : ℕ → Stop → ℕ → Answer
 stopped statement stop length = record { code = 1; fault = stop_number stop; place = statement; length = length }
 
--- what is told, as numbers
+-- an outcome as numbers
 abbrev pub answer_of : Told → Answer
 answer_of (Written None n) = plain 0 n
 answer_of (Written (Some (statement, stop)) n) = stopped statement stop n

@@ -3,5 +3,6 @@ pub mod Answers
 pub mod Giving
 pub mod Printing
 pub mod Printed
+pub mod Listings
 pub mod Asked
 pub mod Laws

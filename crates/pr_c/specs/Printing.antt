@@ -19,11 +19,12 @@ use Rattle.pr_c.specs.declared.told.Told.TheVariants.{NoInput}
 abbrev pub is_no_input : ℕ → Bool
 is_no_input number = nat_lt 257 number
 
--- the input that another stands for: 0 to 255 a byte, 256 the selection of the graphic/upper case set, 257 that of the lower/upper case one
+-- the input that another number stands for: 0 to 255 a byte, 256 the selection of the graphic/upper
+-- case set, 257 that of the lower/upper case set
 abbrev pub input_of : ℕ → Input
 input_of number = if nat_lt number 256 then Byte number else Select (number == 257)
 
--- the most inputs: a printer takes no more
+-- the most inputs that a printer takes
 abbrev pub inputs_limit : ℕ
 inputs_limit = 4294967296
 
@@ -39,7 +40,7 @@ pub record IsInputsUnshown (format : Format) (inputs : List Input) (fault : Pict
   pub is_page : IsPage inputs paper
   pub is_unshown : text_in format four_alone (printed_on paper) ≡ Err fault
 
--- the text of the page of the inputs that numbers stand for, of which each stands for one
+-- the text of the page of the inputs that these numbers stand for; each stands for one
 abbrev pub IsPrintedText : Format → List ℕ → Stopping → List ℕ → Type 0
 IsPrintedText format numbers stop text =
     (length numbers ≤ inputs_limit) × (position is_no_input numbers ≡ None) × (stop ≡ None)
@@ -54,7 +55,7 @@ IsPrintRefusal format numbers (Picture fault) =
 IsPrintRefusal format numbers NoMemory = (length numbers ≤ inputs_limit) × (position is_no_input numbers ≡ None)
 IsPrintRefusal format numbers _ = ⊥
 
--- what is told of numbers: the index of the first that stands for no input, or what becomes of the page
+-- the outcome for numbers: the index of the first that stands for no input, or that of the page
 abbrev pub TellsInputs : Format → List ℕ → List ℕ → List ℕ → Told → Type 0
 TellsInputs format numbers old new (NoInput index) =
     (length numbers ≤ inputs_limit) × (position is_no_input numbers ≡ Some index) × (new ≡ old)

@@ -10,10 +10,11 @@ use Rattle.pr_report.specs.declared.report.Report.{Report}
 use Rattle.pr_report.specs.declared.report.Report.TheVariants as report
 use Rattle.pr_capture.specs.declared.format.TraceInput.{TraceInput}
 use Rattle.pr_cli.specs.Check.{trace_limit}
-use Rattle.pr_cli.specs.Inputs.{HasTakenAll, HasTakenBefore, IsNoReading, IsTooLong, SaysWhole, fault_read}
-use Rattle.pr_cli.specs.Report.{refusal, AnswersReport, IsReport, IsWhole, MayBeWritten, Reports, WritesReport}
+use Rattle.pr_cli.specs.Inputs.{fault_read}
+use Rattle.pr_cli.specs.EdgesTaken.{HasTakenAll, HasTakenBefore}
+use Rattle.pr_cli.specs.InputReads.{IsTooLong}
+use Rattle.pr_cli.specs.Report.{IsNoReading, SaysWhole, refusal, AnswersReport, IsReport, IsWhole, MayBeWritten, Reports, WritesReport, IsOwnFault}
 use Rattle.pr_cli.specs.Reported.{AreLines, EndsReport, EndsReported, GivesReport, HasReported, IsRefused, IsReportOf, IsTraceFault, WritesText}
-use Rattle.pr_cli.specs.Sources.{IsOwnFault}
 use Rattle.pr_cli.specs.declared.input_reader.InputReader.{InputReader}
 use Rattle.pr_cli.specs.declared.reporter.FrameReporter.{FrameReporter}
 use Rattle.pr_cli.specs.declared.reporter.ReportText.{ReportText}

@@ -20,9 +20,8 @@ use Rattle.pr_report.specs.FrameTiming.{HasTold}
 use Rattle.pr_report.specs.declared.report.Report.{Report}
 use Rattle.pr_report.specs.declared.report.Report.TheVariants as report
 use Rattle.pr_cli.specs.FrameText.{frame_line, frame_lines}
-use Rattle.pr_cli.specs.Report.{refusal, IsReport}
+use Rattle.pr_cli.specs.Report.{refusal, IsReport, IsOwnFault}
 use Rattle.pr_cli.specs.Reported.{data_behind, last_line, lines_of_frame, lines_of_frames, AreLines, EndsReport, HasEnded, HasReported, IsTraceFault, ReportsMore, TellsSoFar}
-use Rattle.pr_cli.specs.Sources.{IsOwnFault}
 use Rattle.pr_cli.specs.declared.reporter.FrameReporter.{FrameReporter}
 use Rattle.pr_cli.specs.declared.reporter.ReportText.{ReportText}
 use Rattle.pr_cli.specs.declared.fault.CliFault.{CliFault}

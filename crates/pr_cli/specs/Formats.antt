@@ -1,5 +1,5 @@
 -- Trusted: the text of an outcome in each format, and of each part of its pages.
-use Rattle.std.specs.Prelude.{ℕ, ◌-◌, List, ◌&&◌, nat_le, if◌then◌else◌, Option, Some, None, Result, Ok, Err}
+use Rattle.std.specs.Prelude.{ℕ, ◌-◌, true, false, List, ◌&&◌, nat_le, if◌then◌else◌, Option, Some, None, Result, Ok, Err}
 use Rattle.pr_page.specs.declared.paper.Paper.{Paper}
 use Rattle.pr_dots.specs.Sheets.{sheets_of}
 use Rattle.pr_serial.specs.declared.Present.{Present}

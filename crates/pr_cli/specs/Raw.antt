@@ -15,11 +15,11 @@ use Rattle.pr_cli.specs.declared.fault.CliFault.{CliFault}
 use Rattle.pr_cli.specs.declared.fault.PictureFault.{PictureFault}
 use Rattle.pr_cli.specs.declared.fault.CliFault.TheVariants.{Script, Trace, Wave, Capture, Picture, TooLarge, NoMemory, ReadFailed, WriteFailed}
 
--- the most bytes: a printer takes at most 2^32 inputs, and the selection is one of them
+-- the most bytes: a printer takes at most 2^32 inputs, and the selection of a set is one of them
 abbrev pub raw_limit : ℕ
 raw_limit = 4294967295
 
--- what the printer hears: a selection of the lower/upper case set or of the other one, and then the bytes
+-- what the printer hears: a selection of the lower/upper case set or of the graphic/upper case set, and then the bytes
 abbrev pub raw_inputs : Bool → List ℕ → List Input
 raw_inputs lower bytes = Select lower ∷ map Byte bytes
 
@@ -43,7 +43,7 @@ pub record IsRawUnshown (lower : Bool) (format : Format) (bytes : List ℕ) (fau
   pub is_page : IsPage (raw_inputs lower bytes) paper
   pub is_unshown : text_in format four_alone (printed_on paper) ≡ Err fault
 
--- the answer, by the bytes read and what the writer held before and after
+-- the answer, by the bytes and by what the writer held before and after
 abbrev pub AnswersRaw : Bool → Format → List ℕ → Option (List ℕ) → Option (List ℕ) → Result (Unit {0}) CliFault → Type 0
 AnswersRaw lower format bytes old new (Ok _) =
     (text : List ℕ) × (length bytes ≤ raw_limit) × IsRawText lower format bytes text × Appends old new text

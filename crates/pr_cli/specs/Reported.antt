@@ -15,9 +15,8 @@ use Rattle.pr_report.specs.declared.report.Report.{Report}
 use Rattle.pr_report.specs.declared.report.Report.TheVariants as report
 use Rattle.pr_capture.specs.declared.format.TraceInput.{TraceInput}
 use Rattle.pr_cli.specs.FrameText.{frame_line}
-use Rattle.pr_cli.specs.Inputs.{EndsReading, SaysWhole}
-use Rattle.pr_cli.specs.Report.{refusal, IsReport, IsWhole}
-use Rattle.pr_cli.specs.Sources.{IsOwnFault}
+use Rattle.pr_cli.specs.EdgesTaken.{EndsReading}
+use Rattle.pr_cli.specs.Report.{SaysWhole, refusal, IsReport, IsWhole, IsOwnFault}
 use Rattle.pr_input.specs.PartlyWritten.{AppendsFront}
 use Rattle.pr_cli.specs.declared.reporter.FrameReporter.{FrameReporter}
 use Rattle.pr_cli.specs.declared.reporter.ReportText.{ReportText}

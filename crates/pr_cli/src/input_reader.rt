@@ -1,7 +1,9 @@
 //! The edges of an input in any format, read block by block.
 
-ghost use Rattle.std.specs.Prelude.{◌≡◌, ◌+◌, ◌^◌, ◌<◌, ◌≤◌, ◌↔◌, ℕ, List, Option, [], false, true, length, IfErr, IfOk, IsErrOf, None, OnOk};
-ghost use Rattle.pr_cli.specs.Inputs.{EachTextSaysEdges, EndsInputs, HasReadEdges, IsNoReading, IsTooLong, ReadEdgesComeFirst, ReadsEdges, StopsWell, bytes_left, edges_read, fault_read, lines_ahead};
+ghost use Rattle.std.specs.Prelude.{◌≡◌, ◌+◌, ◌^◌, ◌<◌, ◌≤◌, ◌↔◌, ℕ, List, Option, [], false, true, length, IfErr, IfOk, IsErrOf, None, OnOk, Some};
+ghost use Rattle.pr_cli.specs.Inputs.{EachTextSaysEdges, HasReadEdges, ReadEdgesComeFirst, bytes_left, edges_read, fault_read, lines_ahead};
+ghost use Rattle.pr_cli.specs.InputReads.{EndsInputs, IsTooLong, ReadsEdges, StopsWell};
+ghost use Rattle.pr_cli.specs.Report.{IsNoReading};
 ghost use Rattle.pr_input.specs.Watched.{has_failed, wrapped};
 
 use crate::edge_maker::made_edges_come_first;
@@ -14,11 +16,14 @@ use pr_wire::Edge;
 use std::alloc::{AllocError, Global};
 use std::io::Read;
 
-/// Reads an input of at most so many bytes, in any format, and gives its edges block by block.
+/// Reads an input of at most a limit of bytes, in any format, and gives its edges block by block.
 ///
 /// Call [`read_block`](InputReader::read_block) until it answers false, and take the
 /// [`edges`](InputReader::edges) of each block for which it answers true; the last come with
 /// [`finish`](InputReader::finish).
+///
+/// The edges of a block are a list, 16 bytes each. A trait for whoever takes the edges would save
+/// the list, but want of memory, counts and the moment of writing differ from caller to caller.
 #[derive(Drop)]
 pub struct InputReader<'a> {
     edges: EdgeReader<'a>,
@@ -27,7 +32,7 @@ pub struct InputReader<'a> {
 }
 
 impl<'a> InputReader<'a> {
-    /// A reader that has read nothing of an input. It takes no memory.
+    /// Makes a reader that has read nothing of an input. It takes no memory.
     pub fn new(alloc: Global, trace: TraceInput<'a>, limit: usize) -> InputReader<'a>
         ensures read { (start : Option (List ℕ)) → HasReadEdges limit start start trace.entry [] result }
         ensures edges { edges_read result ≡ [] }
@@ -41,7 +46,7 @@ impl<'a> InputReader<'a> {
         }
     }
 
-    /// The edges of the last block.
+    /// Returns the edges of the last block.
     pub fn edges(&self) -> &[Edge]
         ensures { result.now ≡ edges_read self.now }
     {
@@ -50,13 +55,16 @@ impl<'a> InputReader<'a> {
 
     /// Reads the next bytes of the input, as many as `block` has room for at most: the edges that are
     /// known by them take the place of those of the block before. Returns whether the input goes on: false
-    /// at its end, and where its first fault is in this block.
+    /// at its end, and where its first fault is in this block, which is no error:
+    /// [`finish`](InputReader::finish) gives it.
     ///
     /// # Errors
     ///
+    /// Some bytes of the input may have been taken then.
+    ///
     /// - [`CliFault::ReadFailed`] exactly if the read has failed.
     /// - [`CliFault::TooLarge`]: only if the input has more bytes than the limit.
-    /// - [`CliFault::NoMemory`]: memory was refused.
+    /// - [`CliFault::NoMemory`]: memory was refused. The reader then has this fault, and reads no other block.
     pub fn read_block<R: Read>(
         &mut self,
         input: &mut Watched<R>,
@@ -74,10 +82,11 @@ impl<'a> InputReader<'a> {
         ensures few { OnOk result (length (edges_read self.new) + bytes_left self.new ≤ bytes_left self.old) }
         ensures less { IfOk result (λ goes_on. goes_on ≡ true → bytes_left self.new < bytes_left self.old) }
         ensures room { length block.new ≡ length block.old }
-        // faults
+        // when it refuses, and what that leaves
         ensures own { IfErr result IsNoReading }
         ensures large { IsErrOf result CliFault.TooLarge → IsTooLong (R.remaining (wrapped input.old)) self.old }
         ensures failed { IsErrOf result CliFault.ReadFailed ↔ (has_failed input.new ≡ true) }
+        ensures refused { IsErrOf result CliFault.NoMemory → fault_read self.new ≡ Some CliFault.NoMemory }
     {
         match input.read(block) {
             Err(_) => Err(CliFault::ReadFailed),
@@ -95,8 +104,8 @@ impl<'a> InputReader<'a> {
         }
     }
 
-    /// Ends the input, and gives the edges of the last block, the last of the input after them, at most
-    /// two, and the input's fault, if it has one.
+    /// Ends the input, and gives the edges of the last block, with the last of the input after
+    /// them, at most two, and the input's fault, if it has one: such a fault is no error.
     ///
     /// # Errors
     ///
@@ -110,9 +119,9 @@ impl<'a> InputReader<'a> {
     }
 }
 
-/// Laws, with nothing to run: whatever follows what a reader has read of an input, the input says the edges
-/// that the reader has given first; and each text says edges in each format, up to its fault if it has
-/// one.
+/// Laws, with nothing to run: whatever follows what a reader has read of an input, the edges that
+/// the reader has given are the first that the input says; and each text says edges in each format,
+/// up to its fault if it has one.
 pub fn read_edges_come_first()
     ensures first { ReadEdgesComeFirst }
     ensures some { EachTextSaysEdges }

@@ -3,7 +3,7 @@
 ghost use Rattle.std.specs.Prelude.{◌≡◌, List, [], None, IfOk, IfSome, MatchOption};
 ghost use Rattle.std.specs.String.{string_bytes};
 ghost use Rattle.pr_wire.specs.declared.Edge.{Edge};
-ghost use Rattle.pr_cli.specs.Sources.{IsOwnFault};
+ghost use Rattle.pr_cli.specs.Report.{IsOwnFault};
 ghost use Rattle.pr_explain.specs.Followed.{Follows, back_from, stands_before};
 ghost use Rattle.pr_explain.specs.TracePlaces.{AreInOrder, GoesBackAt, IsPlaceOf, IsPlaceRead, IsReadingPlace, IsTracePlace, nowhere};
 
@@ -18,7 +18,9 @@ use pr_cli::CliFault;
 use pr_wire::{Edge, NoMemory};
 use std::alloc::Global;
 
-/// Where a trace is refused.
+/// Where a trace is refused. It has two parts, since an input can have a bad line and, before it,
+/// an edge that is not lawful; that the edges before such a line end too soon is no fault of
+/// theirs.
 #[derive(Clone, Copy, Debug, PartialEq, Eq)]
 pub struct TracePlace {
     /// The line that cannot be read, from 1, if there is one.
@@ -27,7 +29,8 @@ pub struct TracePlace {
     pub edge: Option<EdgePlace>,
 }
 
-/// Where a recording cannot be read on.
+/// Where a recording cannot be read on. It is one or the other: `decode` stops at the first edge
+/// with which time goes back.
 #[derive(Clone, Copy, Debug, PartialEq, Eq)]
 pub enum ReadingPlace {
     /// The edge of this index, from 0, is earlier than the one before it.
@@ -37,13 +40,14 @@ pub enum ReadingPlace {
 }
 
 /// Says why a trace is refused. Its place is the line that cannot be read, and where its edges stop
-/// being lawful, with the edges that may follow there; of edges before a line that cannot be read
+/// being lawful: how many are allowed, the first fault, the edges that may follow there, and by how
+/// much the next edge misses the interval of its levels; of edges before a line that cannot be read
 /// only where one is not allowed. It has neither, and no text, exactly where the trace is lawful.
 /// The trace is read as `check` reads it.
 ///
 /// The text shows the line, and what it should have; the edge, those that could have followed, and
 /// by how much they were missed. Its times count from the start that the input has; the recording's
-/// own microseconds are in brackets where that is not 0.
+/// own microseconds are in brackets where that is not 0. It is tested, not proved.
 ///
 /// # Errors
 ///
@@ -98,7 +102,8 @@ fn place_of(followed: &Followed, fault: Option<CliFault>) -> TracePlace
 
 /// Says why a recording cannot be read to its end. Its place is the first edge that is earlier than
 /// the one before it, or else the line that cannot be read. It has none, and no text, exactly where
-/// the recording can be read. The recording is read as `decode` reads it.
+/// the recording can be read. The recording is read as `decode` reads it. The text is tested, not
+/// proved.
 ///
 /// # Errors
 ///

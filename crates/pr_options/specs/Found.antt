@@ -7,6 +7,7 @@ use Rattle.pr_capture.specs.declared.format.Source.{Source}
 use Rattle.pr_capture.specs.declared.format.Source.TheVariants.{Csv, Vcd}
 use Rattle.pr_options.specs.CommandLine.{print1525}
 use Rattle.pr_options.specs.Given.{value_in}
+use Rattle.pr_options.specs.OptionNames.{ValueOption}
 use Rattle.pr_options.specs.Values.{option_of}
 use Rattle.pr_options.specs.declared.command_line.JobFault.{JobFault}
 
@@ -32,7 +33,10 @@ abbrev pub found_source : Source → List ℕ → Source
 found_source source bytes =
     if begins_as_dump bytes then Vcd else (if begins_as_table bytes then Csv else source)
 
--- the value that words give the option of which it is a bad one, by the fault
+-- the value that words give an option, by the subcommand that they name
+abbrev pub value_given : List Text → ValueOption → Option Text
+value_given words option = option_map (λ met. value_in option met.1) (subcommand_of print1525 words)
+
+-- the value that words give the option of which the fault says that it is a bad one
 abbrev pub bad_value : List Text → JobFault → Option Text
-bad_value words f =
-    option_and_then (λ met. option_map (λ o. value_in o met.1) (option_of f)) (subcommand_of print1525 words)
+bad_value words f = option_and_then (value_given words) (option_of f)

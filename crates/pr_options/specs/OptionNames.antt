@@ -63,7 +63,7 @@ listing_from = by_file input listing_endings (codes "from") (codes "text")
 abbrev pub delays : ValueOption
 delays = plain (codes "delays") []
 
--- how the status goes from statement to statement
+-- whether the status is kept from statement to statement
 abbrev pub status : ValueOption
 status = plain (codes "status") (codes "each")
 
@@ -87,11 +87,11 @@ sheet = plain (codes "sheet") []
 abbrev pub trace_as : ValueOption
 trace_as = by_file output trace_endings (codes "as") (codes "text")
 
--- what is written of a trace that is checked
+-- what `check` writes
 abbrev pub report_as : ValueOption
 report_as = plain (codes "as") (codes "frames")
 
--- what is written of a recording that is decoded
+-- what `decode` writes
 abbrev pub reading_as : ValueOption
 reading_as = by_file output reading_endings (codes "as") (codes "list")
 
@@ -111,10 +111,10 @@ names = plain (codes "names") (codes "ATN,CLOCK,DATA")
 abbrev pub from_time : ValueOption
 from_time = plain (codes "from-time") (codes "0")
 
--- the probes invert; it has no value
+-- the probes invert; a flag without a value
 abbrev pub invert : Text
 invert = codes "invert"
 
--- more is said about a fault or a BASIC error; it has no value
+-- an explanation of a fault or of a BASIC error; a flag without a value
 abbrev pub explain : Text
 explain = codes "explain"

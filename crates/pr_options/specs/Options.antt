@@ -21,7 +21,7 @@ use Rattle.pr_capture.specs.declared.format.Source.TheVariants as source
 use Rattle.pr_report.specs.declared.report.Report.{Report}
 use Rattle.pr_report.specs.declared.report.Report.TheVariants as report
 
--- what a word means by a table
+-- the meaning of a word in a table
 abbrev pub meaning_of : {A : Type 0} → List (Text × A) → Text → Option A
 meaning_of table text = option_map (λ row. row.1) (find (λ row. bytes_eq text row.0) table)
 
@@ -37,7 +37,7 @@ abbrev pub form_of : Text → Option ListingForm
 form_of = meaning_of (
     (codes "text", form.Text) ∷ (codes "prg", form.Program) ∷ (codes "petcat", form.Petcat) ∷ [])
 
--- how the status goes from statement to statement: each or kept
+-- whether the status is kept from statement to statement: each (cleared) or kept
 abbrev pub mode_of : Text → Option StatusMode
 mode_of = meaning_of ((codes "each", Each) ∷ (codes "kept", Kept) ∷ [])
 

@@ -1,8 +1,8 @@
 //! The program's command with its subcommands and options, as clap takes it.
 
-ghost use Rattle.std.specs.Prelude.{◌≡◌, [], IfOk, false};
+ghost use Rattle.std.specs.Prelude.{◌≡◌, [], IfOk, codes, false};
 ghost use Rattle.clap.specs.Words.{app_of, new_app, rule_of, with_rule};
-ghost use Rattle.pr_options.specs.CommandLine.{flag_rule, input_rule, output_rule, print1525, raw_shape, run_shape, subcommand, trace_shape, value_rule};
+ghost use Rattle.pr_options.specs.CommandLine.{flag_rule, input_rule, output_rule, print1525, raw_shape, run_shape, subcommand, trace_shape, value_rule, with_part};
 ghost use Rattle.pr_options.specs.OptionNames as option;
 ghost use Rattle.pr_options.specs.Subcommands.{IsLocal, alone, option_view};
 
@@ -129,18 +129,6 @@ fn trace_command<'a>(
     Ok(whole)
 }
 
-/// The subcommand `raw`.
-fn raw_command<'a>(alloc: Global) -> Result<Command<'a>, AllocError>
-    ensures app { IfOk result (λ c. app_of c ≡ alone raw_shape) }
-    ensures local { IfOk result IsLocal }
-{
-    let command = file_command(alloc, "raw", help::RAW)?;
-    let one = command.arg(value_option(alloc, SET))?;
-    let two = one.arg(value_option(alloc, PAGE_AS))?;
-    let whole = two.arg(flag_option(alloc, EXPLAIN))?;
-    Ok(whole)
-}
-
 /// A subcommand with what of the pages a picture shows.
 fn with_part<'a>(alloc: Global, command: Command<'a>) -> Result<Command<'a>, AllocError>
     requires { IsLocal command.entry }
@@ -152,17 +140,49 @@ fn with_part<'a>(alloc: Global, command: Command<'a>) -> Result<Command<'a>, All
     Ok(whole)
 }
 
+/// The subcommand `pages`.
+fn pages_command<'a>(alloc: Global) -> Result<Command<'a>, AllocError>
+    ensures app { IfOk result (λ c. app_of c ≡ alone (with_part (run_shape (codes "pages") option.page_as))) }
+    ensures local { IfOk result IsLocal }
+{
+    let command = run_command(alloc, "pages", help::PAGES, PAGE_AS)?;
+    let whole = with_part(alloc, command)?;
+    Ok(whole)
+}
+
+/// The subcommand `decode`.
+fn decode_command<'a>(alloc: Global) -> Result<Command<'a>, AllocError>
+    ensures app { IfOk result (λ c. app_of c ≡ alone (with_part (trace_shape (codes "decode") option.reading_from option.reading_as))) }
+    ensures local { IfOk result IsLocal }
+{
+    let command = trace_command(alloc, "decode", help::DECODE, READING_FROM, READING_AS)?;
+    let whole = with_part(alloc, command)?;
+    Ok(whole)
+}
+
+/// The subcommand `raw`.
+fn raw_command<'a>(alloc: Global) -> Result<Command<'a>, AllocError>
+    ensures app { IfOk result (λ c. app_of c ≡ alone (with_part raw_shape)) }
+    ensures local { IfOk result IsLocal }
+{
+    let command = file_command(alloc, "raw", help::RAW)?;
+    let one = command.arg(value_option(alloc, SET))?;
+    let two = one.arg(value_option(alloc, PAGE_AS))?;
+    let three = two.arg(flag_option(alloc, EXPLAIN))?;
+    let whole = with_part(alloc, three)?;
+    Ok(whole)
+}
+
 /// The command with its subcommands.
 pub fn make_command<'a>(alloc: Global) -> Result<Command<'a>, AllocError>
     ensures app { IfOk result (λ c. app_of c ≡ print1525) }
     ensures local { IfOk result IsLocal }
 {
-    let pages = with_part(alloc, run_command(alloc, "pages", help::PAGES, PAGE_AS)?)?;
+    let pages = pages_command(alloc)?;
     let bus = run_command(alloc, "bus", help::BUS, TRACE_AS)?;
     let check = trace_command(alloc, "check", help::CHECK, FROM, REPORT_AS)?;
-    let plain = trace_command(alloc, "decode", help::DECODE, READING_FROM, READING_AS)?;
-    let decode = with_part(alloc, plain)?;
-    let raw = with_part(alloc, raw_command(alloc)?)?;
+    let decode = decode_command(alloc)?;
+    let raw = raw_command(alloc)?;
     let program = new_command(alloc, "print1525", help::PROGRAM)
         .version(VERSION)
         .subcommand_required(true)

@@ -8,7 +8,8 @@ ghost use Rattle.pr_options.specs.CommandLine.{print1525};
 ghost use Rattle.pr_options.specs.CommandLaws.{NamesOurs};
 ghost use Rattle.pr_options.specs.Jobs.{IsRefused, asked, input_view, job_view, task_view, wanted, wanted_bus, wanted_check, wanted_decode, wanted_input, wanted_pages, wanted_raw, wanted_run};
 ghost use Rattle.pr_options.specs.Steps.{IsFaultIn, IsOfClap, job_result, run_view, wanted_of};
-ghost use Rattle.pr_options.specs.Found.{bad_value, begins_as_dump, begins_as_table, found_source, front, has_comma};
+ghost use Rattle.pr_options.specs.Found.{bad_value, begins_as_dump, begins_as_table, found_source, front, has_comma, value_given};
+ghost use Rattle.pr_options.specs.Given.{value_in};
 ghost use Rattle.pr_options.specs.Subcommands.{option_view};
 ghost use Rattle.pr_options.specs.Values.{option_of, values_of};
 
@@ -139,8 +140,9 @@ pub enum JobFault {
 }
 
 impl JobFault {
-    /// What values the option has of which this is a bad one, as the help says it. None of other
-    /// faults.
+    /// Returns the values that an option may have, as the help says them, where this fault is a bad
+    /// value of it; of `--as` those of the subcommand that was met. None of other faults. It takes
+    /// no memory.
     pub fn values(&self) -> Option<&'static str>
         ensures { option_map (λ text. text.now) result ≡ values_of self.now }
     {
@@ -202,12 +204,15 @@ impl From<DelayFault> for JobFault {
     }
 }
 
-/// Reads a command line, of which the program's name is the first word.
+/// Reads a command line, of which the program's name is the first word, and gives the job that it
+/// asks for: that of the subcommand that clap's meaning of the command finds, with the values of
+/// its options, defaults included.
 ///
 /// # Errors
 ///
-/// [`JobFault::Line`] where clap refuses the words (a request for help or the version is such a
-/// refusal), and [`JobFault::NoMemory`] where memory was refused, by clap too. The other faults come
+/// [`JobFault::Line`] only for words that clap's meaning of the command does not take, with one of
+/// its reasons against them (a request for help or the version is such a refusal), and
+/// [`JobFault::NoMemory`] where memory was refused, by clap too. The other faults come
 /// only for words that clap takes, and report the first bad value in this order:
 /// [`JobFault::BadPresent`], [`JobFault::BadDelays`], [`JobFault::BadStatus`], [`JobFault::BadSet`];
 /// of `pages` and `bus` [`JobFault::BadForm`]; of `check` [`JobFault::BadFrom`], of `decode`
@@ -235,16 +240,32 @@ pub fn read_task<'a>(alloc: Global, words: &'a [&'a str]) -> Result<Task<'a>, Jo
 pub fn bad_value<'a>(alloc: Global, words: &'a [&'a str], fault: &JobFault) -> Option<&'a str>
     ensures { IfSome result (λ value. bad_value (map (λ s. s.now) words.entry.now) fault.now ≡ Some value.now) }
 {
-    let option = fault.option()?;
+    match fault.option() {
+        Some(option) => given_to(alloc, words, option),
+        None => None,
+    }
+}
+
+/// The value that words give an option. None where clap refuses them, and where memory was refused.
+fn given_to<'a>(alloc: Global, words: &'a [&'a str], option: ValueOption) -> Option<&'a str>
+    ensures { IfSome result (λ value. value_given (map (λ s. s.now) words.entry.now) (option_view option) ≡ Some value.now) }
+{
     let Ok(command) = make_command(alloc) else {
         return None;
     };
     match command.try_get_matches_from(words) {
-        Ok(matches) => match matches.subcommand() {
-            Some((_name, options)) => Some(value_in(options, option)),
-            None => None,
-        },
+        Ok(matches) => value_of(&matches, option),
         Err(_error) => None,
+    }
+}
+
+/// The value of an option of the subcommand that was met.
+fn value_of<'a>(matches: &ArgMatches<'a>, option: ValueOption) -> Option<&'a str>
+    ensures { option_map (λ value. value.now) result ≡ option_map (λ met. value_in (option_view option) met.1) (subcommand_rows_of matches.now) }
+{
+    match matches.subcommand() {
+        Some((_name, options)) => Some(value_in(options, option)),
+        None => None,
     }
 }
 
@@ -298,8 +319,9 @@ fn comma_or_end(bytes: &[u8]) -> Option<u8>
     bytes.iter().copied().find(|b| *b == b',' || *b == b'\n')
 }
 
-/// Whether a word is `--explain`: more is to be told of a refusal or of an error. No value of an
-/// option is that word in a command line that clap takes; a file is named so only after `--`.
+/// Returns whether a word is `--explain`, which asks for more on a refusal or an error; also on a
+/// bad value, where there is no job. No value of an option is that word in a command line that clap
+/// takes; a file has that name only after `--`. It takes no memory.
 pub fn explains(words: &[&str]) -> bool
     ensures { result ≡ list_any (λ word. bytes_eq word.now (codes "--explain")) words.now }
 {

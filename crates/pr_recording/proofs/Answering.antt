@@ -10,8 +10,10 @@ use Rattle.pr_capture.specs.declared.fault.CaptureFault.{CaptureFault}
 use Rattle.pr_capture.specs.declared.fault.CaptureFault.TheVariants as capture
 use Rattle.pr_capture.specs.declared.format.TraceInput.{TraceInput}
 use Rattle.pr_input.specs.PartlyWritten.{AppendsFront}
-use Rattle.pr_cli.specs.Inputs.{EachTextSaysEdges, HasReadEdges, HasTakenAll, HasTakenBefore, IsNoReading, IsTooLong, ReadEdgesComeFirst, ReadsEdges, SaysFirst, SaysWhole, edges_read, fault_read}
-use Rattle.pr_cli.specs.Sources.{IsOwnFault}
+use Rattle.pr_cli.specs.Inputs.{EachTextSaysEdges, HasReadEdges, ReadEdgesComeFirst, SaysFirst, edges_read, fault_read}
+use Rattle.pr_cli.specs.EdgesTaken.{HasTakenAll, HasTakenBefore}
+use Rattle.pr_cli.specs.Report.{IsNoReading, SaysWhole, IsOwnFault}
+use Rattle.pr_cli.specs.InputReads.{IsTooLong, ReadsEdges}
 use Rattle.pr_cli.specs.declared.fault.CliFault.{CliFault}
 use Rattle.pr_cli.specs.declared.fault.CliFault.TheVariants.{Script, Trace, Wave, Capture, Picture, TooLarge, NoMemory, ReadFailed, WriteFailed}
 use Rattle.pr_cli.specs.declared.input_reader.InputReader.{InputReader}

@@ -1,7 +1,7 @@
 //! Which marks have been defined.
 
 ghost use Rattle.std.specs.Prelude.{◌≡◌, false, ◌∷◌, [], flat_map, if◌then◌else◌, replicate, IfOk, OnOk};
-ghost use Rattle.pr_dots.specs.Sheets.{rows_on};
+ghost use Rattle.pr_dots.specs.Sheets.{is_on, rows_on};
 ghost use Rattle.pr_render.specs.Defined.{HasDefined, marks_on};
 ghost use Rattle.pr_render.specs.Svg.{marks_of};
 
@@ -73,7 +73,18 @@ impl Defined {
         Ok(())
     }
 
+    /// The same of the marks of a row, if it is on a sheet.
+    fn define_row(&mut self, text: &mut Vec<u8>, sheet: u64, row: &Row) -> Result<(), AllocError>
+        ensures { OnOk result (HasDefined (if is_on sheet row.now then marks_on row.now.marks else []) text.old.items self.old text.new.items self.new) }
+    {
+        if !is_on(sheet, row) {
+            return Ok(());
+        }
+        self.define_all(text, row.marks.as_slice())
+    }
+
     /// The same of the marks of the rows on a sheet.
+    #[tactic(auto, using(crate::proofs::Defining::marks_of_more))]
     pub fn define_sheet(
         &mut self,
         text: &mut Vec<u8>,
@@ -83,9 +94,7 @@ impl Defined {
         ensures { OnOk result (HasDefined (marks_on (flat_map (λ r. r.marks) (rows_on sheet rows.now))) text.old.items self.old text.new.items self.new) }
     {
         for row in rows {
-            if is_on(sheet, row) {
-                self.define_all(text, row.marks.as_slice())?;
-            }
+            self.define_row(text, sheet, row)?;
         }
         Ok(())
     }

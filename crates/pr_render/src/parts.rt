@@ -1,4 +1,8 @@
 //! The fixed parts of the picture.
+//!
+//! They are functions with twins in `specs/Parts.antt`: constants that the specification imports
+//! are unfolded in every goal, and two proofs then find no way through. The paper is a pattern half
+//! an inch long, so its size does not grow with the page.
 
 ghost use Rattle.std.specs.Prelude.{◌≡◌};
 ghost use Rattle.pr_render.specs.Parts.{definitions_begin, definitions_end, desk, document_about, document_begin, height_begin, held_begin, held_note, ink_begin, letters_fitted, letters_width, mark_begin, mark_path, notes_begin, paper_folds, paper_piece, row_begin, sheet_end, sheet_marks, sheet_name, sheet_paper, single_begin, single_end, single_marks, single_paper, single_size, status_begin, stop_begin, text_end, units_begin, units_between, use_begin, use_end, use_place};

@@ -123,7 +123,8 @@ fn push_name_line(text: &mut Vec<u8>, device: u64, x: u64) -> Result<(), AllocEr
     push_small(text, device)
 }
 
-/// Adds a sheet's paper.
+/// Adds a sheet's paper. The fold above the first line is not drawn, since it would touch the
+/// letters.
 #[tactic(auto, unfolding(crate::specs::Svg::paper_svg))]
 fn push_paper(text: &mut Vec<u8>, picas: u128) -> Result<(), AllocError>
     requires { picas ≤ 18446744073709551678 }

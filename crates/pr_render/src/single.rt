@@ -43,7 +43,8 @@ fn push_marks(text: &mut Vec<u8>, alloc: Global, sheet: u64, rows: &[Row]) -> Re
     ensures { OnOk result (text.new.items ≡ text.old.items ++ flat_map definition_svg (each_once (row_marks (rows_on sheet rows.now)))) }
 {
     let mut defined = Defined::new(alloc)?;
-    defined.define_sheet(text, sheet, rows)
+    defined.define_sheet(text, sheet, rows)?;
+    Ok(())
 }
 
 /// Adds these definitions with their begin and end.

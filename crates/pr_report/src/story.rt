@@ -1,4 +1,7 @@
 //! The story of a whole list of edges.
+//!
+//! A story goes by the table, edge by edge, so that edges that are no lawful trace have a story
+//! too: a fault of the edges is a value, and no error.
 
 ghost use Rattle.std.specs.Prelude.{◌≡◌, ◌++◌, OnOk, IfOk};
 ghost use Rattle.pr_wire.specs.Table.{fault_of};
@@ -31,8 +34,8 @@ fn push_if_some(
 }
 
 /// Adds the story of edges to a text: a line for each frame that they end, in order, and `lawful`
-/// where they are a lawful trace. Where they are not, it returns their first fault; the frames before
-/// it have their lines all the same.
+/// where they are a lawful trace. Where they are not, it returns their first fault; the frames
+/// before it have their lines all the same.
 ///
 /// # Errors
 ///

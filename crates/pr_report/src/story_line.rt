@@ -1,4 +1,6 @@
-//! The lines of a story. All of their form is this project's own choice (profile).
+//! The lines of a story. All of their form is this project's own choice (profile): `attention` and
+//! `data` have lines of their own, so that each frame has one line, all of one form; an apostrophe
+//! is between quotation marks, so that each text is that of one byte alone.
 
 ghost use Rattle.std.specs.Prelude.{◌≡◌, ◌++◌, OnOk};
 ghost use Rattle.pr_report.specs.StoryText.{command_text, control_name, data_text, frame_line, heading, is_data, line_end, saying, story_line};
@@ -94,7 +96,7 @@ fn heading(behind_data: bool, sending: ByteRole) -> &'static [u8]
     }
 }
 
-/// Whether a frame is a data byte.
+/// Returns whether a frame is a data byte. It takes no memory.
 pub fn is_data(sending: ByteRole) -> bool
     ensures { result ≡ is_data sending }
 {
@@ -117,10 +119,10 @@ fn push_frame(text: &mut Vec<u8>, frame: TimedFrame) -> Result<(), NoMemory>
     text.extend_from_slice(line_end(frame.eoi))
 }
 
-/// Adds a frame's line of the story: the moments of its look and of its acknowledgement in
-/// microseconds, its byte in hexadecimal, what it says, and end-or-identify. `behind_data` is
-/// whether the frame before it is a data byte. A line `attention` comes before each attention, and a
-/// line `data` before a data byte that follows no data byte.
+/// Adds a frame's line of the story to a text: the moments of its look and of its acknowledgement
+/// in microseconds, its byte in hexadecimal, what it says, and end-or-identify. `behind_data` is
+/// whether the frame before it is a data byte. A line `attention` comes before each attention, and
+/// a line `data` before a data byte that follows no data byte.
 ///
 /// # Errors
 ///

@@ -21,6 +21,9 @@ use std::io::{Read, Write};
 /// `bus` is a script's text, whatever form the listing has: `answers` gives the text of a listing in
 /// another form. So it gives the format of a recording where it is to be found.
 ///
+/// It takes the whole [`Job`]: only the form of a listing, and whether a recording's format is to be
+/// found, is read from it elsewhere, so every use of a format, a set or a delay is proved.
+///
 /// The answer is [`Ending::Stopped`] exactly if a BASIC error stopped the run of a script.
 ///
 /// # Errors
@@ -28,7 +31,8 @@ use std::io::{Read, Write};
 /// Those of the job's call: [`pr_cli::pages_as_over`], [`pr_cli::bus_as_over`],
 /// [`pr_cli::check_over`] for the frames of a trace text and else [`pr_cli::check_as_over`],
 /// [`pr_recording::decode_over`] for a list and else [`pr_recording::reprint_over`],
-/// [`pr_cli::raw_over`].
+/// [`pr_cli::raw_over`]. They leave what they leave there. A read failed exactly if the input has
+/// failed, and a write exactly if the output has.
 pub fn do_job<R: Read, W: Write>(
     alloc: Global,
     input: &mut Watched<R>,

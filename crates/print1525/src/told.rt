@@ -3,11 +3,10 @@
 ghost use Rattle.std.specs.Prelude.{◌≤◌, length};
 ghost use Rattle.pr_basic.specs.Limits.{statement_limit};
 
-use crate::statuses::{REFUSED, fault_status};
 use pr_basic::{Statement, StatusMode, read_script};
 use pr_bus::Delays;
 use pr_capture::TraceInput;
-use pr_cli::{CliFault, Ending};
+use pr_cli::{CliFault, Ending, PictureFault};
 use pr_explain::{explain_reading, explain_script, explain_stop, explain_trace};
 use pr_listing::{ListingForm, has_typed_strings, looks_like_disk, looks_saved};
 use pr_options::{Job, read_delays};
@@ -86,10 +85,22 @@ fn told(
     answer: Result<Ending, CliFault>,
 ) -> Result<String, AllocError> {
     match (subject, answer) {
+        (_, Err(CliFault::Picture(fault))) => sheets_told(rt, fault),
         (Subject::Script(job), _) => run_told(rt, bytes, job, answer),
         (Subject::Trace(trace), Err(fault)) => trace_told(rt, bytes, trace, fault),
         (Subject::Recording(trace), Err(fault)) => reading_told(rt, bytes, trace, fault),
         (Subject::Bytes, _) | (_, Ok(_)) => Ok(String::new(rt.alloc())),
+    }
+}
+
+/// What more there is to say of pages that are not shown.
+fn sheets_told(rt: &impl AllocGlobal, fault: PictureFault) -> Result<String, AllocError> {
+    match fault {
+        PictureFault::NoSuchSheet(1) => format!(in rt.alloc(); "  the paper has one sheet\n"),
+        PictureFault::NoSuchSheet(sheets) => {
+            format!(in rt.alloc(); "  the paper has {sheets} sheets\n")
+        }
+        PictureFault::TooLarge => Ok(String::new(rt.alloc())),
     }
 }
 
@@ -210,7 +221,10 @@ fn trace_told(
 
 /// Whether a fault is one of what the input says, so that there is more to tell of it.
 fn is_of_input(fault: CliFault) -> bool {
-    fault_status(fault) == REFUSED && fault != CliFault::TooLarge
+    matches!(
+        fault,
+        CliFault::Trace(_) | CliFault::Wave(_) | CliFault::Capture(_)
+    )
 }
 
 /// What more there is to say of a recording that can not be read to its end.
