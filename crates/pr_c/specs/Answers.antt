@@ -78,7 +78,7 @@ abbrev pub IsPagesRefusal : Start → Format → List ℕ → CliFault → Type 
 IsPagesRefusal start format script (Picture fault) = (length script ≤ script_limit) × IsUnshown start format script fault
 IsPagesRefusal start format script fault = IsScriptRefusal script fault
 
--- why a printer's bytes give none
+-- why a printer's bytes give no text
 abbrev pub IsPaperRefusal : Bool → Format → List ℕ → CliFault → Type 0
 IsPaperRefusal lower format bytes TooLarge = raw_limit < length bytes
 IsPaperRefusal lower format bytes (Picture fault) = (length bytes ≤ raw_limit) × IsRawUnshown lower format bytes fault
@@ -122,7 +122,7 @@ abbrev pub picture_numbers : PictureFault → ℕ × ℕ
 picture_numbers (picture.NoSuchSheet sheets) = (50, sheets)
 picture_numbers picture.TooLarge = (51, 0)
 
--- a refusal with its fault's numbers
+-- a refusal, with its fault's numbers
 abbrev pub refusal : ℕ × ℕ → Answer
 refusal numbers = record { code = 2; fault = numbers.0; place = numbers.1; length = 0 }
 

@@ -1,4 +1,4 @@
--- Trusted: the inputs of a printer as a C caller's numbers, and what is told of them.
+-- Trusted: a printer's inputs as the numbers that a C caller passes, and what the call answers for them.
 use Rattle.std.specs.Prelude.{◌≡◌, ℕ, ◌<◌, ◌≤◌, Bool, ◌==◌, nat_lt, if◌then◌else◌, List, length, map, Some, None, Ok, Err}
 use Rattle.std.specs.List.{position}
 use Rattle.pr_page.specs.Page.{IsPage}
@@ -46,7 +46,7 @@ IsPrintedText format numbers stop text =
     (length numbers ≤ inputs_limit) × (position is_no_input numbers ≡ None) × (stop ≡ None)
     × IsInputsText format (map input_of numbers) text
 
--- why numbers give none, other than by one of them; memory can be refused where each stands for an input
+-- why numbers that all stand for inputs, or are too many, give no text
 abbrev pub IsPrintRefusal : Format → List ℕ → CliFault → Type 0
 IsPrintRefusal format numbers TooLarge = inputs_limit < length numbers
 IsPrintRefusal format numbers (Picture fault) =

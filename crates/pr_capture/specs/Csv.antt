@@ -22,7 +22,7 @@ use Rattle.pr_capture.specs.declared.signals.Signals.{Signals}
 use Rattle.pr_capture.specs.Recording.{◌>>=◌, ended, first_some, is_framing, is_named, level_in, refused, second_name, with_samples, without_front, CaptureContents}
 use Rattle.pr_capture.specs.Words.{is_space}
 use Rattle.pr_capture.specs.Numbers.{behind_word}
-use Rattle.pr_capture.specs.TableTimes.{from_start, instant_in, no_remarks, remarked, start_of, time_at_rate, time_or, time_unit}
+use Rattle.pr_capture.specs.TableTimes.{from_start, instant_in, is_time_alone, no_remarks, remarked, start_of, time_at_rate, time_or, time_unit}
 
 -- Lines and fields.
 
@@ -98,13 +98,18 @@ abbrev pub rate_or : (number : ℕ) → (rate : Option ℕ) → Result ℕ Captu
 rate_or number None = Err (NoTime number)
 rate_or number (Some rate) = Ok rate
 
+-- the rate counts where the first column is another than one of times
+abbrev pub rate_beside : Remarks → (first : Option (List ℕ)) → Option ℕ
+rate_beside r None = r.rate
+rate_beside r (Some name) = if is_time_alone name then None else r.rate
+
 -- a table with times in its first column, by their unit, or a row a sample
 abbrev pub layout_by : Signals → Remarks → (number separator : ℕ) → (unit : Option ℕ) → (fields : List (List ℕ)) → Result Layout CaptureFault
 layout_by s r number sep (Some unit) fs =
     columns_in s number 1 (drop 1 fs) >>= λ c. Ok (record { columns = c; separator = sep; scale = Timed unit })
 layout_by s r number sep None fs =
     columns_in s number 0 fs >>= λ c.
-    rate_or number r.rate >>= λ rate. Ok (record { columns = c; separator = sep; scale = Counted rate })
+    rate_or number (rate_beside r (field_at 0 fs)) >>= λ rate. Ok (record { columns = c; separator = sep; scale = Counted rate })
 
 -- the unit of the first column, if it is one of times
 abbrev pub unit_in : (bare : Option ℕ) → (first : Option (List ℕ)) → Option ℕ

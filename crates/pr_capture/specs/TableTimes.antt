@@ -43,6 +43,10 @@ time_unit bare l =
     (first_some (unit_behind bare (behind_word (codes "t") l))
     (unit_of l)))
 
+-- a column is called by a word for time alone
+abbrev pub is_time_alone : (name : List ℕ) → Bool
+is_time_alone l = spells (codes "timestamp") l || spells (codes "time") l || spells (codes "t") l
+
 -- Remarks: the rate of samples, in samples a second, and the unit of a bare word for time.
 
 -- the power of ten behind a number

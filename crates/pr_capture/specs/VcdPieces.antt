@@ -1,9 +1,9 @@
--- Trusted: the pieces of a Value Change Dump: its sections, each from a keyword to `$end`, its time stamps and its changes.
+-- Trusted: the pieces of a Value Change Dump: its sections, from a keyword to `$end`, its time stamps and its changes.
 use Rattle.std.specs.Prelude.{ℕ, ◌==◌, ◌||◌, Bool, true, false, List, [], ◌∷◌, ◌++◌, codes, if◌then◌else◌}
 use Rattle.std.specs.List.{list_any}
 use Rattle.std.specs.Str.{bytes_eq}
 use Rattle.pr_capture.specs.declared.entries.Keyword.{Keyword}
-use Rattle.pr_capture.specs.declared.entries.Keyword.TheVariants.{Definitions, Other, Scope, Timescale, Upscope, Var}
+use Rattle.pr_capture.specs.declared.entries.Keyword.TheVariants.{Definitions, Other, Pause, Scope, Timescale, Upscope, Var}
 use Rattle.pr_capture.specs.declared.entries.Entry.{Entry}
 use Rattle.pr_capture.specs.declared.entries.Entry.TheVariants.{Foreign, Level, Opens, Resumes, Silent, Time, Value}
 use Rattle.pr_capture.specs.Words.{Word}
@@ -14,7 +14,7 @@ use Rattle.pr_capture.specs.Words.{Word}
 abbrev pub is_bracket : (letters : List ℕ) → Bool
 is_bracket l = bytes_eq l (codes "$end") || bytes_eq l (codes "$dumpvars") || bytes_eq l (codes "$dumpall")
 
--- what any other section is by its keyword. `$dumpoff` is one of the others: its values only say that recording ends
+-- what any other section is by its keyword. The values of `$dumpoff` say nothing: recording pauses behind it
 abbrev pub keyword_of : (letters : List ℕ) → Keyword
 keyword_of l =
     if bytes_eq l (codes "$timescale") then Timescale
@@ -22,7 +22,8 @@ keyword_of l =
     else (if bytes_eq l (codes "$upscope") then Upscope
     else (if bytes_eq l (codes "$var") then Var
     else (if bytes_eq l (codes "$enddefinitions") then Definitions
-    else Other))))
+    else (if bytes_eq l (codes "$dumpoff") then Pause
+    else Other)))))
 
 -- a word that begins with $: recording goes on, or a section does, or it says nothing by itself
 abbrev pub keyword_entry : (letters : List ℕ) → Entry
@@ -89,6 +90,7 @@ keeps Scope = true
 keeps Upscope = false
 keeps Var = true
 keeps Definitions = false
+keeps Pause = false
 keeps Other = false
 
 abbrev pub with_word : Keyword → (inside : List (List ℕ)) → (letters : List ℕ) → List (List ℕ)

@@ -6,7 +6,7 @@ use Rattle.pr_base.specs.Digits.{is_digit}
 use Rattle.pr_wire.specs.declared.Edge.{Edge}
 use Rattle.pr_wire.specs.Levels.{edge_at}
 use Rattle.pr_capture.specs.declared.entries.Keyword.{Keyword}
-use Rattle.pr_capture.specs.declared.entries.Keyword.TheVariants.{Definitions, Other, Scope, Timescale, Upscope, Var}
+use Rattle.pr_capture.specs.declared.entries.Keyword.TheVariants.{Definitions, Other, Pause, Scope, Timescale, Upscope, Var}
 use Rattle.pr_capture.specs.declared.changes.Seen.{Seen}
 use Rattle.pr_capture.specs.declared.fault.Wire.{Wire}
 use Rattle.pr_capture.specs.declared.fault.Wire.TheVariants.{Atn, Clock, Data}
@@ -187,7 +187,7 @@ pub record Codes : Type 0 where
 abbrev pub no_codes : Codes
 no_codes = record { atn = nothing; clock = nothing; second = nothing; line = nothing }
 
--- CLOCK's own
+-- CLOCK's code, by its first name or else by its second
 abbrev pub found_or : Option (List ℕ) → (first second : Found) → Found
 found_or None first second = second
 found_or (Some code) first second = first
@@ -223,15 +223,17 @@ with_scope scopes (Some name) = scopes ++ name ∷ []
 abbrev pub without_last : (scopes : List (List ℕ)) → List (List ℕ)
 without_last scopes = take (length scopes - 1) scopes
 
--- The places of a dump: in the header and some scopes, and among the changes, where times have a scale and some levels are known.
+-- The places of a dump: in the header and some scopes, and among the changes, where times have a scale and some
+-- levels are known, and behind them in a pause.
 pub data Place : Type 0 where
   Header : (scale : Option ℕ) → (scopes : List (List ℕ)) → Codes → Place
   Changes : (scale : ℕ) → Codes → Seen → Place
+  Paused : (scale : ℕ) → Codes → Seen → Place
 
 abbrev pub nothing_seen : Seen
 nothing_seen = record { time = 0; atn = None; clock = None; line = None }
 
--- a timescale there has to be
+-- the scale, which the header must have
 abbrev pub scale_or : (line : ℕ) → Option ℕ → Result ℕ CaptureFault
 scale_or line None = Err (NoTimescale line)
 scale_or line (Some scale) = Ok scale
@@ -254,7 +256,7 @@ alone wire (Some line) code = Err (TwoSignals line wire)
 abbrev pub signal_or : (line : ℕ) → Wire → Found → Result (List ℕ) CaptureFault
 signal_or line wire f = code_or line wire f.code >>= λ code. alone wire f.other code
 
--- the header ends
+-- the end of the header
 abbrev pub header_ended : (line : ℕ) → (scale : Option ℕ) → Codes → Result Place CaptureFault
 header_ended line scale c =
     scale_or line scale >>= λ n.
@@ -271,6 +273,7 @@ headed s scale scopes c line Scope inside = Ok (Header scale (with_scope scopes 
 headed s scale scopes c line Upscope inside = Ok (Header scale (without_last scopes) c)
 headed s scale scopes c line Var inside = Ok (Header scale scopes (with_signal s c line scopes inside))
 headed s scale scopes c line Definitions inside = header_ended line scale c
+headed s scale scopes c line Pause inside = Ok (Header scale scopes c)
 headed s scale scopes c line Other inside = Ok (Header scale scopes c)
 
 -- The changes.
@@ -301,7 +304,7 @@ abbrev pub all_known : (atn clock line : Option Bool) → Bool
 all_known (Some a) (Some c) (Some l) = true
 all_known _ _ _ = false
 
--- a level of a wire; x and z leave it not known, as long as the three levels have not all been known at once
+-- the level of a wire; x and z leave it unknown until all three levels have been known at once
 abbrev pub level_behind : (known : Bool) → (line : ℕ) → (inverted : Bool) → (level : ℕ)
     → Result (Option Bool) CaptureFault
 level_behind known line inverted b =
@@ -340,7 +343,7 @@ changed inverted c seen line bits code =
     level_if (all_known seen.atn seen.clock seen.line) line inverted c.line bits code seen.line >>= λ last.
     Ok (record { time = seen.time; atn = atn; clock = clock; line = last })
 
--- a time stamp, in whole microseconds not before that of an earlier one
+-- a time stamp: whole microseconds, no earlier than the stamp before
 abbrev pub stamped : (scale : ℕ) → Seen → (line : ℕ) → (digits : List ℕ) → Result Seen CaptureFault
 stamped scale seen line digits =
     time_or line seen.time (time_at scale digits) >>= λ t.
@@ -351,6 +354,19 @@ abbrev pub sample_in : (time : ℕ) → (atn clock line : Option Bool) → Optio
 sample_in time (Some a) (Some c) (Some l) = Some (edge_at time a c l)
 sample_in time _ _ _ = None
 
+-- recording pauses behind some sections
+abbrev pub pauses : Keyword → Bool
+pauses Timescale = false
+pauses Scope = false
+pauses Upscope = false
+pauses Var = false
+pauses Definitions = false
+pauses Pause = true
+pauses Other = false
+
+abbrev pub behind_section : Keyword → (scale : ℕ) → Codes → Seen → Place
+behind_section k scale c seen = if pauses k then Paused scale c seen else Changes scale c seen
+
 -- recording goes on after a pause: where the levels were known, nobody knows them in between
 abbrev pub resumed : (line : ℕ) → Place → (before : Option Edge) → Result Place CaptureFault
 resumed line p None = Ok p
@@ -359,7 +375,8 @@ resumed line p (Some e) = Err (Unknown line)
 -- The whole.
 
 -- a piece leads from one place to the next, or has a fault. In the header other words than those of sections say nothing, but for
--- `#` and digits, which show that the header did not end; among the changes sections say nothing
+-- `#` and digits, which show that the header did not end; among the changes sections say
+-- nothing, but that recording pauses; then nothing counts until it goes on
 abbrev pub step : Signals → Place → Piece → Result Place CaptureFault
 step s (Header scale scopes c) (Section line k inside) = headed s scale scopes c line k inside
 step s (Header scale scopes c) (Stamp line digits) = if is_number digits then Err (NoDefinitions line) else Ok (Header scale scopes c)
@@ -367,19 +384,27 @@ step s (Header scale scopes c) (Change line bits code) = Ok (Header scale scopes
 step s (Header scale scopes c) (Stray line) = Ok (Header scale scopes c)
 step s (Header scale scopes c) (Resume line) = Ok (Header scale scopes c)
 step s (Header scale scopes c) (Unended line) = Err (NoEnd line)
-step s (Changes scale c seen) (Section line k inside) = Ok (Changes scale c seen)
+step s (Changes scale c seen) (Section line k inside) = Ok (behind_section k scale c seen)
 step s (Changes scale c seen) (Stamp line digits) = stamped scale seen line digits >>= λ next. Ok (Changes scale c next)
 step s (Changes scale c seen) (Change line bits code) =
     changed s.is_inverted c seen line bits code >>= λ next. Ok (Changes scale c next)
 step s (Changes scale c seen) (Stray line) = Err (BadWord line)
 step s (Changes scale c seen) (Resume line) = resumed line (Changes scale c seen) (sample_in seen.time seen.atn seen.clock seen.line)
 step s (Changes scale c seen) (Unended line) = Err (NoEnd line)
+step s (Paused scale c seen) (Section line k inside) = Ok (Paused scale c seen)
+step s (Paused scale c seen) (Stamp line digits) = Ok (Paused scale c seen)
+step s (Paused scale c seen) (Change line bits code) = Ok (Paused scale c seen)
+step s (Paused scale c seen) (Stray line) = Err (BadWord line)
+step s (Paused scale c seen) (Resume line) =
+    resumed line (Changes scale c seen) (sample_in seen.time seen.atn seen.clock seen.line)
+step s (Paused scale c seen) (Unended line) = Err (NoEnd line)
 
 abbrev pub sample_of : Place → Option Edge
 sample_of (Header scale scopes c) = None
 sample_of (Changes scale c seen) = sample_in seen.time seen.atn seen.clock seen.line
+sample_of (Paused scale c seen) = None
 
--- the sample behind a piece, and what is told from there
+-- the sample after a piece, and what the rest says
 abbrev pub goes_on : Result Place CaptureFault → (Place → CaptureContents) → CaptureContents
 goes_on (Err f) rest = refused f
 goes_on (Ok p) rest = with_samples (listed (sample_of p)) (rest p)
@@ -391,24 +416,28 @@ without_level (Some a) None line = Some Clock
 without_level (Some a) (Some c) None = Some Data
 without_level (Some a) (Some c) (Some l) = None
 
--- no level was said, and no moment behind 0: so is the dump of an empty trace
+-- a dump of an empty trace: it gives no level and no moment after 0
 abbrev pub is_blank : (time : ℕ) → (atn clock line : Option Bool) → Bool
 is_blank time None None None = time == 0
 is_blank time _ _ _ = false
 
--- each wire has to have a level
+-- each wire must have a level
 abbrev pub level_wanted : (end : ℕ) → (missing : Option Wire) → CaptureContents
 level_wanted end None = ended
 level_wanted end (Some wire) = refused (NoLevel end wire)
 
--- a text ends on this line
-abbrev pub contents_at_end : (end : ℕ) → Place → CaptureContents
-contents_at_end end (Header scale scopes c) = refused (NoDefinitions end)
-contents_at_end end (Changes scale c seen) =
+abbrev pub contents_seen : (end : ℕ) → Seen → CaptureContents
+contents_seen end seen =
     if is_blank seen.time seen.atn seen.clock seen.line then ended
     else level_wanted end (without_level seen.atn seen.clock seen.line)
 
--- what pieces tell from a place on
+-- a text ends on this line
+abbrev pub contents_at_end : (end : ℕ) → Place → CaptureContents
+contents_at_end end (Header scale scopes c) = refused (NoDefinitions end)
+contents_at_end end (Changes scale c seen) = contents_seen end seen
+contents_at_end end (Paused scale c seen) = contents_seen end seen
+
+-- what pieces say from a place on
 abbrev pub piece_contents : Signals → (end : ℕ) → Place → List Piece → CaptureContents
 piece_contents s end p [] = contents_at_end end p
 piece_contents s end p (q ∷ qs) = goes_on (step s p q) (λ next. piece_contents s end next qs)

@@ -6,7 +6,7 @@ use Rattle.pr_wire.specs.declared.Edge.{Edge}
 use Rattle.pr_capture.specs.declared.header.WireCode.{WireCode}
 use Rattle.pr_capture.specs.declared.header.WireCodes.{WireCodes}
 use Rattle.pr_capture.specs.declared.known.Stage.{Stage}
-use Rattle.pr_capture.specs.declared.known.Stage.TheVariants.{InHeader, InChanges}
+use Rattle.pr_capture.specs.declared.known.Stage.TheVariants.{InHeader, InChanges, InPause}
 use Rattle.pr_capture.specs.declared.known.Known.{Known}
 use Rattle.pr_capture.specs.declared.vcd_parser.Phase.{Phase}
 use Rattle.pr_capture.specs.declared.vcd_parser.Phase.TheVariants.{Between, InSection, BehindValue}
@@ -21,7 +21,7 @@ use Rattle.pr_capture.specs.Words.{end_line, is_space, word_of, words_behind, Wo
 use Rattle.pr_capture.specs.VcdPieces.{pieces_behind, Begun, Piece}
 use Rattle.pr_capture.specs.VcdPieces.Begun.{Nothing, Inside, Behind}
 use Rattle.pr_capture.specs.VcdReading.{piece_contents, sample_of, step, vcd_contents, Codes, Found, Place}
-use Rattle.pr_capture.specs.VcdReading.Place.{Header, Changes}
+use Rattle.pr_capture.specs.VcdReading.Place.{Header, Changes, Paused}
 
 -- What is held.
 
@@ -46,6 +46,7 @@ codes_of c = record { atn = found_of c.atn; clock = found_of c.clock; second = f
 abbrev pub place_at : Stage → (scopes : List (List ℕ)) → Codes → Place
 place_at (InHeader scale) scopes c = Header scale scopes c
 place_at (InChanges scale seen) scopes c = Changes scale c seen
+place_at (InPause scale seen) scopes c = Paused scale c seen
 
 abbrev pub place_of : Known → Place
 place_of k = place_at k.stage (words_in k.scopes.items) (codes_of k.codes)

@@ -6,7 +6,7 @@
 
 ghost use Rattle.std.specs.Prelude.{◌≡◌, ◌+◌, ◌^◌, ◌<◌, ◌≤◌, ◌∷◌, [], false, true, None, Err, IfErr, IfOk, Ok, drop, length, option_copied, take};
 ghost use Rattle.std.specs.List.{list_all, prefix_len};
-ghost use Rattle.pr_capture.specs.Csv.{behind_point, clock_column, column_of, columns_in, field_at, fields_of, first_moment, is_archive, is_in_front, is_separator, is_silent, is_wide, layout_by, layout_of, level_of, level_or, moment_at, moment_next, moment_of, opened, row_of, sample_of, separator_of, without_space, without_zeros};
+ghost use Rattle.pr_capture.specs.Csv.{behind_point, clock_column, column_of, columns_in, field_at, fields_of, first_moment, is_archive, is_in_front, is_separator, is_silent, is_wide, layout_by, layout_of, level_of, level_or, moment_at, moment_next, moment_of, opened, rate_beside, row_of, sample_of, separator_of, without_space, without_zeros};
 ghost use Rattle.pr_capture.specs.CsvReads.{EndsText, FaultsIn, ReadsMore, RefusesTable};
 ghost use Rattle.pr_capture.specs.CsvSteps.{field_len, fields_left, is_inner, line_number, AnswersEnd, HasNoRows, HasReadTable, HoldsMore, NamesAreRefused, NamesLeadTo, ReadsLine};
 ghost use Rattle.pr_capture.specs.TableTimes.{time_at_rate};
@@ -15,7 +15,7 @@ ghost use Rattle.pr_capture.specs.declared.fault.CaptureFault.TheVariants.{NoMem
 use crate::entries::is_word;
 use crate::fault::{CaptureFault, Wire};
 use crate::numbers::{behind_first, behind_word, first_of};
-use crate::remarks::{Remarks, time_unit};
+use crate::remarks::{Remarks, is_time_alone, time_unit};
 use crate::signals::{Signals, are_framing, is_named, is_space, level_in, without_front};
 use crate::times::{Instant, from_start, instant_in, start_of, time_at_rate, time_or};
 use pr_wire::{Edge, Levels};
@@ -208,6 +208,22 @@ fn columns_in(
     Ok(Columns { atn, clock, line })
 }
 
+/// The rate of samples, where the first column is another than one of times.
+fn rate_beside(remarks: Remarks, first: Option<&[u8]>) -> Option<u64>
+    ensures { result ≡ rate_beside remarks (option_copied first.entry) }
+{
+    match first {
+        None => remarks.rate,
+        Some(name) => {
+            if is_time_alone(name) {
+                None
+            } else {
+                remarks.rate
+            }
+        }
+    }
+}
+
 /// How a table is read whose first column has times of this unit, or no times, by the line of its names
 /// and what stands behind its first field.
 fn layout_by(
@@ -235,7 +251,7 @@ fn layout_by(
         }
         None => {
             let columns = columns_in(signals, number, 0, separator, Some(line))?;
-            match remarks.rate {
+            match rate_beside(remarks, field_at(separator, line, 0)) {
                 None => Err(CaptureFault::NoTime(number)),
                 Some(rate) => Ok(Layout {
                     columns,

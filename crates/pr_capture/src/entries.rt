@@ -17,6 +17,8 @@ pub enum Keyword {
     Var,
     /// Nothing but that the header ends.
     Definitions,
+    /// Nothing but that recording pauses.
+    Pause,
     /// Nothing of the bus.
     Other,
 }
@@ -68,6 +70,8 @@ fn keyword_of(letters: &[u8]) -> Keyword
         Keyword::Var
     } else if is_word(letters, b"$enddefinitions") {
         Keyword::Definitions
+    } else if is_word(letters, b"$dumpoff") {
+        Keyword::Pause
     } else {
         Keyword::Other
     }
@@ -165,6 +169,6 @@ pub fn keeps(keyword: Keyword) -> bool
 {
     match keyword {
         Keyword::Timescale | Keyword::Scope | Keyword::Var => true,
-        Keyword::Upscope | Keyword::Definitions | Keyword::Other => false,
+        Keyword::Upscope | Keyword::Definitions | Keyword::Pause | Keyword::Other => false,
     }
 }

@@ -2,8 +2,9 @@
 
 ghost use Rattle.std.specs.Prelude.{◌≡◌, ℕ, List, IfErr, IfOk, IsOk, OnOk, Err, Ok};
 ghost use Rattle.pr_capture.specs.Csv.{field_at};
+ghost use Rattle.pr_capture.specs.declared.known.Stage.TheVariants.{InHeader};
 ghost use Rattle.pr_capture.specs.VcdPieces.Piece.{Change, Resume, Section, Stamp, Stray};
-ghost use Rattle.pr_capture.specs.VcdReading.{changed, header_ended, level_if, sample_of, signal_or, stamped, with_scope, without_last};
+ghost use Rattle.pr_capture.specs.VcdReading.{changed, header_ended, level_if, pauses, sample_of, signal_or, stamped, with_scope, without_last};
 ghost use Rattle.pr_capture.specs.VcdSteps.{codes_of, found_of, place_at, place_of, words_in, ReadsPiece};
 
 use crate::bits::level_at;
@@ -23,6 +24,8 @@ pub enum Stage {
     InHeader(Option<u64>),
     /// Changes, by this timescale.
     InChanges(u64, Seen),
+    /// What says nothing, until recording goes on after a pause.
+    InPause(u64, Seen),
 }
 
 /// What is known of a dump so far.
@@ -66,6 +69,21 @@ fn header_ended(line: usize, scale: Option<u64>, codes: &WireCodes) -> Result<St
         line: None,
     };
     Ok(Stage::InChanges(scale, seen))
+}
+
+/// Whether recording pauses behind a section with this keyword.
+fn pauses(keyword: Keyword) -> bool
+    ensures { result ≡ pauses keyword }
+{
+    match keyword {
+        Keyword::Pause => true,
+        Keyword::Timescale
+        | Keyword::Scope
+        | Keyword::Upscope
+        | Keyword::Var
+        | Keyword::Definitions
+        | Keyword::Other => false,
+    }
 }
 
 /// What is known behind a time stamp, which in whole microseconds is not before that of an earlier one.
@@ -150,6 +168,7 @@ impl Known {
         match self.stage {
             Stage::InHeader(_) => None,
             Stage::InChanges(_, seen) => seen.sample(),
+            Stage::InPause(_, _) => None,
         }
     }
 
@@ -177,20 +196,19 @@ impl Known {
         self.scopes.truncate(len.saturating_sub(1));
     }
 
-    /// Goes on behind a section.
-    pub fn take_section(
+    /// Goes on behind a section of the header, with this timescale, if one came.
+    fn take_heading(
         &mut self,
         alloc: Global,
         signals: &Signals<'_>,
         line: usize,
+        scale: Option<u64>,
         keyword: Keyword,
         inside: &[Vec<u8>],
     ) -> Result<Option<Edge>, CaptureFault>
+        requires { self.old.stage ≡ InHeader scale }
         ensures { ReadsPiece signals.now (Section line keyword (words_in inside.now)) (place_of self.old) result (place_of self.new) }
     {
-        let Stage::InHeader(scale) = self.stage else {
-            return Ok(self.sample());
-        };
         match keyword {
             Keyword::Timescale => {
                 let Some(scale) = scale_in(inside) else {
@@ -216,7 +234,33 @@ impl Known {
                 self.stage = header_ended(line, scale, &self.codes)?;
                 Ok(None)
             }
-            Keyword::Other => Ok(None),
+            Keyword::Pause | Keyword::Other => Ok(None),
+        }
+    }
+
+    /// Goes on behind a section.
+    pub fn take_section(
+        &mut self,
+        alloc: Global,
+        signals: &Signals<'_>,
+        line: usize,
+        keyword: Keyword,
+        inside: &[Vec<u8>],
+    ) -> Result<Option<Edge>, CaptureFault>
+        ensures { ReadsPiece signals.now (Section line keyword (words_in inside.now)) (place_of self.old) result (place_of self.new) }
+    {
+        match self.stage {
+            Stage::InHeader(scale) => {
+                self.take_heading(alloc, signals, line, scale, keyword, inside)
+            }
+            Stage::InChanges(scale, seen) => {
+                if pauses(keyword) {
+                    self.stage = Stage::InPause(scale, seen);
+                    return Ok(None);
+                }
+                Ok(seen.sample())
+            }
+            Stage::InPause(_, _) => Ok(None),
         }
     }
 
@@ -229,16 +273,21 @@ impl Known {
     ) -> Result<Option<Edge>, CaptureFault>
         ensures { ReadsPiece signals.now (Stamp line digits.now) (place_of self.old) result (place_of self.new) }
     {
-        let Stage::InChanges(scale, seen) = self.stage else {
-            return if is_number(digits) {
-                Err(CaptureFault::NoDefinitions(line))
-            } else {
-                Ok(None)
-            };
-        };
-        let seen = stamped(scale, seen, line, digits)?;
-        self.stage = Stage::InChanges(scale, seen);
-        Ok(seen.sample())
+        match self.stage {
+            Stage::InHeader(_) => {
+                if is_number(digits) {
+                    Err(CaptureFault::NoDefinitions(line))
+                } else {
+                    Ok(None)
+                }
+            }
+            Stage::InChanges(scale, seen) => {
+                let seen = stamped(scale, seen, line, digits)?;
+                self.stage = Stage::InChanges(scale, seen);
+                Ok(seen.sample())
+            }
+            Stage::InPause(_, _) => Ok(None),
+        }
     }
 
     /// Goes on behind a word that is none of these.
@@ -251,7 +300,7 @@ impl Known {
     {
         match self.stage {
             Stage::InHeader(_) => Ok(None),
-            Stage::InChanges(_, _) => Err(CaptureFault::BadWord(line)),
+            Stage::InChanges(_, _) | Stage::InPause(_, _) => Err(CaptureFault::BadWord(line)),
         }
     }
 
@@ -264,9 +313,19 @@ impl Known {
     ) -> Result<Option<Edge>, CaptureFault>
         ensures { ReadsPiece signals.now (Resume line) (place_of self.old) result (place_of self.new) }
     {
-        match self.sample() {
-            None => Ok(None),
-            Some(_) => Err(CaptureFault::Unknown(line)),
+        match self.stage {
+            Stage::InHeader(_) => Ok(None),
+            Stage::InChanges(_, seen) => match seen.sample() {
+                None => Ok(None),
+                Some(_) => Err(CaptureFault::Unknown(line)),
+            },
+            Stage::InPause(scale, seen) => match seen.sample() {
+                None => {
+                    self.stage = Stage::InChanges(scale, seen);
+                    Ok(None)
+                }
+                Some(_) => Err(CaptureFault::Unknown(line)),
+            },
         }
     }
 

@@ -1,7 +1,7 @@
 //! What the name of a table's first column and its remarks say of time.
 
 ghost use Rattle.std.specs.Prelude.{◌≡◌, ◌∷◌, [], option_copied};
-ghost use Rattle.pr_capture.specs.TableTimes.{is_micro, is_unit, no_remarks, rate_by, rate_in, rate_unit, remarked, time_unit, unit_behind, unit_by, unit_of, with_rate};
+ghost use Rattle.pr_capture.specs.TableTimes.{is_micro, is_time_alone, is_unit, no_remarks, rate_by, rate_in, rate_unit, remarked, time_unit, unit_behind, unit_by, unit_of, with_rate};
 
 use crate::entries::is_word;
 use crate::numbers::{
@@ -76,6 +76,13 @@ pub fn time_unit(bare: Option<u8>, name: &[u8]) -> Option<u8>
         return Some(unit);
     }
     unit_of(name)
+}
+
+/// Whether a column is called by a word for time alone.
+pub fn is_time_alone(name: &[u8]) -> bool
+    ensures { result ≡ is_time_alone name.now }
+{
+    spells(b"timestamp", name) || spells(b"time", name) || spells(b"t", name)
 }
 
 /// The power of ten behind the number of a rate.

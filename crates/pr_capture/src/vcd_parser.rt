@@ -163,7 +163,8 @@ impl VcdParser {
             (Phase::InSection(line, _), _) => Err(CaptureFault::NoEnd(line)),
             (_, Stage::InHeader(_)) => Err(CaptureFault::NoDefinitions(end)),
             (Phase::BehindValue(line), _) => Err(CaptureFault::BadWord(line)),
-            (Phase::Between, Stage::InChanges(_, seen)) => match seen.missing() {
+            (Phase::Between, Stage::InChanges(_, seen))
+            | (Phase::Between, Stage::InPause(_, seen)) => match seen.missing() {
                 Some(wire) => Err(CaptureFault::NoLevel(end, wire)),
                 None => Ok(None),
             },

@@ -87,12 +87,15 @@ capture_line (capture.NoDefinitions n) = Some n
 capture_line (capture.TwoSignals n wire) = Some n
 capture_line (capture.NoTimescale n) = Some n
 capture_line (capture.BadTimescale n) = Some n
+capture_line (capture.NoTime n) = Some n
 capture_line (capture.BadTime n) = Some n
 capture_line (capture.GoesBack n) = Some n
 capture_line (capture.NoLevel n wire) = Some n
 capture_line (capture.Unknown n) = Some n
 capture_line (capture.Floating n) = Some n
 capture_line (capture.BadLevel n) = Some n
+capture_line capture.WideText = Some 1
+capture_line capture.Archive = Some 1
 capture_line capture.NoMemory = None
 
 -- the line of a fault of an input, from 1

@@ -21,7 +21,8 @@ fn line_of(fault: CliFault) -> Option<usize>
     }
 }
 
-/// The line of a recording's fault, from 1. Want of memory has none, nor has a file of another kind.
+/// The line of a recording's fault, from 1. Want of memory has none; a file of another kind shows it on
+/// its first line.
 fn line_of_capture(fault: CaptureFault) -> Option<usize>
     ensures { result ≡ capture_line fault }
 {
@@ -40,7 +41,8 @@ fn line_of_capture(fault: CaptureFault) -> Option<usize>
         | CaptureFault::Unknown(line)
         | CaptureFault::Floating(line)
         | CaptureFault::BadLevel(line) => Some(line),
-        CaptureFault::WideText | CaptureFault::Archive | CaptureFault::NoMemory => None,
+        CaptureFault::WideText | CaptureFault::Archive => Some(1),
+        CaptureFault::NoMemory => None,
     }
 }
 
@@ -183,6 +185,11 @@ fn rule_of_levels(fault: CaptureFault) -> &'static str {
             "z says that nobody drives the line; a level of the three lines is 0 or 1, and a pull-up makes it 1"
         }
         CaptureFault::BadLevel(_) => "a level of the three lines is 0 or 1, L or H",
+        CaptureFault::WideText =>
+            "this text has two bytes a letter, as UTF-16 has: save it as UTF-8",
+        CaptureFault::Archive => {
+            "this is an archive, as .sr, .sal and .dsl files are: export a dump (VCD) or a table (CSV) with the tool"
+        }
         _ => "this can not stand here",
     }
 }

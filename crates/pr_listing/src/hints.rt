@@ -1,7 +1,7 @@
 //! What an input looks like.
 
 ghost use Rattle.std.specs.Prelude.{◌≡◌, false, length};
-ghost use Rattle.std.specs.List.{list_any};
+ghost use Rattle.std.specs.List.{list_all, list_any};
 ghost use Rattle.pr_base.specs.Lines.{lines_of};
 ghost use Rattle.pr_listing.specs.Hints.{begins_saved, has_typed, has_typed_string, is_disk_size, is_text, is_text_byte};
 
@@ -22,7 +22,14 @@ pub fn looks_saved(bytes: &[u8]) -> bool
 pub fn looks_like_text(bytes: &[u8]) -> bool
     ensures { result ≡ is_text bytes.now }
 {
-    bytes.len() > 0 && bytes.iter().all(|b| is_text_byte(*b))
+    bytes.len() > 0 && all_text(bytes)
+}
+
+/// Whether each byte is a text's.
+fn all_text(bytes: &[u8]) -> bool
+    ensures { result ≡ list_all is_text_byte bytes.now }
+{
+    bytes.iter().all(|b| is_text_byte(*b))
 }
 
 /// Whether a byte is a text's: no control code but a tab, byte 10 or 13.

@@ -7,7 +7,7 @@ use Rattle.clap.specs.declared.parser.matches.ValueSource.{ValueSource}
 use Rattle.clap.specs.declared.parser.matches.ValueSource.TheVariants.{CommandLine, DefaultValue}
 use Rattle.pr_options.specs.OptionNames.{ValueOption}
 
--- a value comes from the words, and not from a default
+-- a value comes from the words, not from a default
 abbrev pub is_of_words : Option ValueSource → Bool
 is_of_words None = false
 is_of_words (Some DefaultValue) = false

@@ -1,4 +1,4 @@
--- Trusted: what a command line asks for, by clap's meaning of the command.
+-- Trusted: the job that a command line asks for, with clap's reading of the words.
 use Rattle.std.specs.Prelude.{◌≡◌, ◌≢◌, ◌||◌, ⊤, ℕ, Bool, true, false, not, List, Option, Some, None, Result, Ok, Err, [], codes, is_none, ok_or, option_map, unwrap_or, if◌then◌else◌}
 use Rattle.std.specs.Str.{bytes_eq}
 use Rattle.clap.specs.Words.{IsAmong, Row, Text, fault_of, kind_of, subcommand_of, takes}
@@ -89,7 +89,7 @@ task_view task = record {
   output = option_map (λ name. name.now) task.output;
 }
 
--- what follows a value, or the first fault
+-- the next step with a value, or the first fault
 infixl 10 ◌>>=◌
 abbrev pub ◌>>=◌ : {A B : Type 0} → Result A JobFault → (A → Result B JobFault) → Result B JobFault
 Ok value >>= next = next value
@@ -205,7 +205,7 @@ wanted_task name rows =
       output = file_in option.output rows;
     })
 
--- the job that words ask for, with its files, by the subcommand that they name
+-- the job that words ask for and its files, with the subcommand that they name
 abbrev pub asked : List Text → Option (Result TaskView JobFault)
 asked words = option_map (λ met. wanted_task met.0 met.1) (subcommand_of print1525 words)
 

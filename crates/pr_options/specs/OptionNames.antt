@@ -1,4 +1,4 @@
--- Trusted: the names of the program's options, and the values of those that are not given.
+-- Trusted: the names of the program's options, their defaults, and what the endings of file names say.
 use Rattle.std.specs.Prelude.{◌∷◌, [], List, codes}
 use Rattle.clap.specs.Words.{Text}
 

@@ -68,7 +68,7 @@ abbrev pub reading_source_of : Text → Option (Option Source)
 reading_source_of = meaning_of ((codes "auto", None) ∷ (codes "text", Some source.Text)
     ∷ (codes "vcd", Some source.Vcd) ∷ (codes "csv", Some source.Csv) ∷ [])
 
--- what is written of a trace that is checked: frames or story
+-- what `check` writes: frames or story
 abbrev pub report_of : Text → Option Report
 report_of = meaning_of ((codes "frames", report.Frames) ∷ (codes "story", report.Story) ∷ [])
 

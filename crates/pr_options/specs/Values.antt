@@ -1,4 +1,4 @@
--- Trusted: which option has a bad value, what its values are, and how its help says them.
+-- Trusted: the option that has a bad value, and its values as its help says them.
 use Rattle.std.specs.Prelude.{ℕ, List, Option, Some, None, codes}
 use Rattle.pr_options.specs.declared.options.TheConstants.{DELAYS_HELP, DEVICE_HELP, FROM_HELP, FROM_TIME_HELP, LISTING_FROM_HELP, NAMES_HELP, PAGE_AS_HELP, PRESENT_HELP, READING_AS_HELP, READING_FROM_HELP, REPORT_AS_HELP, SET_HELP, SHEET_HELP, STATUS_HELP, TRACE_AS_HELP}
 use Rattle.clap.specs.Words.{Text}

@@ -11,6 +11,7 @@ use Rattle.pr_report.specs.declared.reading_line.Preceding.TheVariants.{Nothing}
 use Rattle.pr_report.specs.ReadingText.{all_lines}
 use Rattle.pr_report.specs.Summary.{summary}
 use Rattle.pr_report.specs.Verdict.{verdict_text}
+use Rattle.pr_report.specs.Oddities.{oddities_of, oddities_text}
 use Rattle.pr_capture.specs.declared.format.TraceInput.{TraceInput}
 use Rattle.pr_input.specs.PartlyWritten.{AppendsFront}
 use Rattle.pr_cli.specs.Report.{Says}
@@ -40,11 +41,13 @@ stop_at (Some n) own = Some (Wave (wave.Order n))
 
 -- What is written.
 
--- for a whole recording the lines of its readings, their summary, and whether it is lawful; for any
--- other the lines of what its edges settle up to where it stops
+-- for a whole recording the lines of its readings, their summary, whether it is lawful, and what is odd
+-- about it; for any other the lines of what its edges settle up to where it stops
 abbrev pub told_of : (stop : Option CliFault) → List Edge → List ℕ
 told_of None edges =
-    all_lines Nothing (readings_of edges) ++ (summary (readings_of edges) ++ verdict_text (fault_of edges))
+    all_lines Nothing (readings_of edges)
+    ++ (summary (readings_of edges)
+    ++ (verdict_text (fault_of edges) ++ oddities_text (oddities_of edges (readings_of edges))))
 told_of (Some fault) edges = all_lines Nothing (settled_of (in_front (back_in edges) edges))
 
 -- what the writer holds with each answer, by the limit and the length of the input, why it stops, and the text for it

@@ -46,9 +46,9 @@ IsDone answers (Ok Done) = answers (Ok tt)
 IsDone answers (Ok Stopped) = ⊥
 IsDone answers (Err fault) = answers (Err fault)
 
--- the answer of a job, by the input's bytes and what the writer held before and after; the bytes of a
--- run are a script's text, also where the listing has another form, and the format of a recording is the
--- input's, also where it is to be found
+-- the answer of a job, by the input's bytes and by what the writer held before and after; for a run
+-- they are the bytes of a script text, also where the listing has another form; the format of a
+-- recording is the input's, also where it was found in the first bytes
 abbrev pub AnswersJob :
     Job → List ℕ → Option (List ℕ) → Option (List ℕ) → Result Ending CliFault → Type 0
 AnswersJob (Pages form present delays mode f) text old new result =
@@ -68,7 +68,7 @@ abbrev pub IsRecordingFault : Format → CliFault → Type 0
 IsRecordingFault format.List fault = IsDecodeFault fault
 IsRecordingFault f fault = reprint.IsReprintFault fault
 
--- a fault of the job: want of memory always as itself
+-- a fault of the job; want of memory is always `NoMemory` itself
 abbrev pub IsJobFault : Job → CliFault → Type 0
 IsJobFault (Pages form present delays mode f) fault = IsPagesFault fault
 IsJobFault (Bus form present delays mode f) fault = IsRunFault fault

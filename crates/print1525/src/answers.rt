@@ -222,7 +222,7 @@ fn form_of(job: &Job<'_>) -> ListingForm {
 }
 
 /// Does a job over a reader and a writer, and gives the exit status and the writer. Where more is to
-/// be told, the input is kept.
+/// be told, the input is kept, since a trace text's first bad line may be its last.
 fn answer_over<R: Read + Drop, W: Write + Drop>(
     rt: &(impl Eprint + AllocGlobal),
     reader: R,

@@ -198,7 +198,8 @@ fn run_again(
     Ok(running.finish())
 }
 
-/// Writes further lines on standard error; nothing, where there was no memory for them.
+/// Writes further lines on standard error. Where there was no memory for them there are none, and
+/// the exit status is that of the refusal all the same.
 fn show(rt: &impl Eprint, lines: Result<String, AllocError>) {
     if let Ok(lines) = lines {
         let _ = rt.eprint(format_args!("{lines}"));
