@@ -17,7 +17,7 @@ use Rattle.pr_render.specs.declared.format.Part.{Part}
 use Rattle.pr_options.specs.CommandLine.{print1525}
 use Rattle.pr_options.specs.DelayLists.{delays_of}
 use Rattle.pr_options.specs.Given.{file_in, is_given, value_in}
-use Rattle.pr_options.specs.Jobs.{◌>>=◌, Bus, Check, Decode, InputView, IsRefused, JobView, Pages, Raw, RunView, TaskView, asked, fits, unless_found, wanted, wanted_bus, wanted_check, wanted_decode, wanted_format, wanted_input, wanted_pages, wanted_part, wanted_raw, wanted_run, wanted_task}
+use Rattle.pr_options.specs.Jobs.{◌>>=◌, Bus, Check, Decode, InputView, IsRefused, JobView, Pages, Raw, RunView, TaskView, asked, fits, shown, unless_found, wanted, wanted_bus, wanted_check, wanted_decode, wanted_format, wanted_input, wanted_pages, wanted_part, wanted_raw, wanted_run, wanted_task}
 use Rattle.pr_options.specs.OptionNames.{ValueOption}
 use Rattle.pr_options.specs.OptionNames as option
 use Rattle.pr_options.specs.Options.{device_of, form_of, format_of, mode_of, present_of, reading_source_of, report_of, set_of, sheet_of, source_of, start_of, trace_format_of}
@@ -103,7 +103,7 @@ shown_no_line (Ok p) show h = by (show p)
 format_no_line : (o : ValueOption) (bad : JobFault) (rows : List Row) → ¬ IsLine bad → NoLine (wanted_format o bad rows)
 format_no_line o bad rows h = by (format_of (value_in o rows))
   where
-    by : (f : Option Format) → NoLine (ok_or f bad >>= λ format. wanted_part rows >>= λ part. ok_or (showing format part) fault.NoPart)
+    by : (f : Option Format) → NoLine (ok_or f bad >>= λ format. shown format rows)
     by None = h
     by (Some format) =
         shown_no_line (wanted_part rows) (λ part. showing format part) (part_no_line (device_of (value_in option.device rows)) (sheet_of (value_in option.sheet rows)))

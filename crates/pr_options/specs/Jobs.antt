@@ -139,12 +139,13 @@ wanted_part rows =
     read option.sheet sheet_of fault.BadSheet rows >>= λ sheet.
     Ok (record { device = device; sheet = sheet })
 
--- the format of pages, which shows that part
+-- a format that shows that part
+abbrev pub shown : Format → List Row → Result Format JobFault
+shown format rows = wanted_part rows >>= λ part. ok_or (showing format part) fault.NoPart
+
+-- the format of pages
 abbrev pub wanted_format : ValueOption → JobFault → List Row → Result Format JobFault
-wanted_format option bad rows =
-    read option format_of bad rows >>= λ format.
-    wanted_part rows >>= λ part.
-    ok_or (showing format part) fault.NoPart
+wanted_format option bad rows = read option format_of bad rows >>= λ format. shown format rows
 
 -- the jobs of the subcommands; each has its own values of --as
 abbrev pub wanted_check : List Row → Result JobView JobFault

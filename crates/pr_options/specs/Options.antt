@@ -1,5 +1,5 @@
 -- Trusted: the values of the program's options.
-use Rattle.std.specs.Prelude.{ℕ, ◌^◌, ◌&&◌, ◌∷◌, [], Bool, List, length, nat_lt, Option, Some, None, true, false, codes, if◌then◌else◌, find, option_and_then, option_map}
+use Rattle.std.specs.Prelude.{ℕ, ◌^◌, ◌==◌, ◌&&◌, ◌∷◌, [], Bool, List, length, nat_lt, Option, Some, None, true, false, codes, if◌then◌else◌, find, option_and_then, option_map}
 use Rattle.std.specs.List.{list_all}
 use Rattle.std.specs.Str.{bytes_eq}
 use Rattle.clap.specs.Words.{Text}
@@ -72,17 +72,17 @@ reading_source_of = meaning_of ((codes "auto", None) ∷ (codes "text", Some sou
 abbrev pub report_of : Text → Option Report
 report_of = meaning_of ((codes "frames", report.Frames) ∷ (codes "story", report.Story) ∷ [])
 
--- a number that is not 0
-abbrev pub above_zero : ℕ → Option ℕ
-above_zero n = if nat_lt 0 n then Some n else None
-
 -- the moment at which a trace starts, in microseconds: decimal digits that spell a number below 2^64
 abbrev pub start_of : Text → Option ℕ
 start_of text =
     if nat_lt 0 (length text) && (list_all is_digit text && nat_lt (number_of text) (2 ^ 64))
     then Some (number_of text) else None
 
+-- the sheet of a number; sheets count from 1
+abbrev pub sheet_numbered : ℕ → Option (Option ℕ)
+sheet_numbered n = if n == 0 then None else Some (Some n)
+
 -- the sheet that is drawn: decimal digits that spell a number from 1, below 2^64, or nothing for none
 abbrev pub sheet_of : Text → Option (Option ℕ)
-sheet_of [] = Some None
-sheet_of text = option_map (λ n. Some n) (option_and_then above_zero (start_of text))
+sheet_of text =
+    if length text == 0 then Some None else option_and_then sheet_numbered (start_of text)

@@ -1,7 +1,7 @@
 //! The values of the program's options.
 
 ghost use Rattle.std.specs.Prelude.{◌≡◌, ◌∷◌, [], option_map, IfSome};
-ghost use Rattle.pr_options.specs.Options.{device_of, form_of, format_of, mode_of, present_of, reading_source_of, report_of, set_of, sheet_of, source_of, start_of, trace_format_of};
+ghost use Rattle.pr_options.specs.Options.{device_of, form_of, format_of, mode_of, present_of, reading_source_of, report_of, set_of, sheet_numbered, sheet_of, source_of, start_of, trace_format_of};
 ghost use Rattle.pr_options.specs.SignalNames.{are_names, differ, is_clock_twice, is_name, names_of, names_of_signals, three_names};
 
 use crate::parts::{all_digits, cut};
@@ -98,9 +98,16 @@ pub fn read_sheet(text: &str) -> Option<Option<u64>>
         return Some(None);
     }
     match read_start(text) {
-        Some(n) if n > 0 => Some(Some(n)),
-        _ => None,
+        Some(n) => sheet_numbered(n),
+        None => None,
     }
+}
+
+/// The sheet of a number; sheets count from 1.
+fn sheet_numbered(n: u64) -> Option<Option<u64>>
+    ensures { result ≡ sheet_numbered n }
+{
+    if n == 0 { None } else { Some(Some(n)) }
 }
 
 /// The format of a run's trace: `text` or `vcd` (profile). None for any other text.

@@ -242,8 +242,8 @@ pub const PAGE_AS: ValueOption = ValueOption {
 };
 
 /// What the values of [`DEVICE`] are.
-const DEVICE_HELP: &str = "The printer whose pages svg and png draw: 4 or 5\n\
-     [default: svg draws all, png the first that printed]";
+const DEVICE_HELP: &str = "The printer that svg and png draw: 4 or 5\n\
+     [default: all, or the first with a page]";
 
 /// The printer whose pages a picture shows.
 pub const DEVICE: ValueOption = ValueOption {
@@ -257,8 +257,8 @@ pub const DEVICE: ValueOption = ValueOption {
 };
 
 /// What the values of [`SHEET`] are.
-const SHEET_HELP: &str = "The sheet of 11 inches that svg and png draw, from 1\n\
-     [default: svg draws all, png sheet 1]";
+const SHEET_HELP: &str = "The sheet of 11 inches that svg and png draw,\n\
+     from 1 [default: all, or sheet 1]";
 
 /// The sheet that a picture shows.
 pub const SHEET: ValueOption = ValueOption {

@@ -1,15 +1,14 @@
 //! The values that words give the options, each with the fault of a bad one.
 
-ghost use Rattle.std.specs.Prelude.{◌≡◌, Ok, IfErr, IfOk, find, ok_or, option_map, unwrap_or};
+ghost use Rattle.std.specs.Prelude.{◌≡◌, Ok, IfErr, IfOk, find, option_map, unwrap_or};
 ghost use Rattle.std.specs.Str.{str_eq_ignore_ascii_case};
 ghost use Rattle.clap.specs.Words.{first_of, found_of, rows_of};
-ghost use Rattle.pr_render.specs.Showing.{showing};
 ghost use Rattle.pr_bus.specs.DelaysLeft.{numbers_left};
 ghost use Rattle.pr_options.specs.DelayLists.{delays_of};
 ghost use Rattle.pr_options.specs.Given.{ending_value, file_in, has_ending, is_given, is_of_words, named, value_by_ending, value_in};
 ghost use Rattle.pr_options.specs.OptionNames as option;
-ghost use Rattle.pr_options.specs.Jobs.{◌>>=◌, fits, read, unless_found, wanted_format, wanted_part, wants_recording};
-ghost use Rattle.pr_options.specs.Options.{form_of, format_of, mode_of, present_of, reading_source_of, report_of, set_of, source_of, start_of, trace_format_of};
+ghost use Rattle.pr_options.specs.Jobs.{fits, read, shown, unless_found, wanted_format, wanted_part, wants_recording};
+ghost use Rattle.pr_options.specs.Options.{device_of, form_of, format_of, mode_of, present_of, reading_source_of, report_of, set_of, sheet_of, source_of, start_of, trace_format_of};
 ghost use Rattle.pr_options.specs.SignalNames.{names_of};
 ghost use Rattle.pr_options.specs.Steps.{IsFaultIn, signals_result};
 ghost use Rattle.pr_options.specs.Subcommands.{endings_view, option_view};
@@ -30,7 +29,7 @@ use pr_basic::StatusMode;
 use pr_bus::Delays;
 use pr_capture::{Signals, Source, TraceFormat};
 use pr_listing::ListingForm;
-use pr_render::{Format, Part};
+use pr_render::{Device, Format, Part};
 use pr_report::Report;
 use pr_serial::Present;
 use std::alloc::Global;
@@ -113,17 +112,24 @@ pub fn form_in(options: &ArgMatches<'_>) -> Result<ListingForm, JobFault>
     read_form(value_in(options, LISTING_FROM)).ok_or(JobFault::BadForm)
 }
 
-/// The format of a page.
+/// The format of a page, and what of the pages it shows.
 pub fn page_format_in(options: &ArgMatches<'_>) -> Result<Format, JobFault>
     ensures { result ≡ wanted_format option.page_as JobFault.BadPageAs (rows_of (found_of options.now)) }
 {
-    let format = read_format(value_in(options, PAGE_AS)).ok_or(JobFault::BadPageAs)?;
+    let format = page_as_in(options)?;
     shown_in(format, options)
 }
 
-/// A format, which shows the part of the pages that is asked for.
+/// The format of a page.
+fn page_as_in(options: &ArgMatches<'_>) -> Result<Format, JobFault>
+    ensures { result ≡ read option.page_as format_of JobFault.BadPageAs (rows_of (found_of options.now)) }
+{
+    read_format(value_in(options, PAGE_AS)).ok_or(JobFault::BadPageAs)
+}
+
+/// A format that shows the part of the pages that is asked for.
 fn shown_in(format: Format, options: &ArgMatches<'_>) -> Result<Format, JobFault>
-    ensures { result ≡ (wanted_part (rows_of (found_of options.now)) >>= λ part. ok_or (showing format part) JobFault.NoPart) }
+    ensures { result ≡ shown format (rows_of (found_of options.now)) }
 {
     let part = part_in(options)?;
     format.showing(part).ok_or(JobFault::NoPart)
@@ -133,9 +139,23 @@ fn shown_in(format: Format, options: &ArgMatches<'_>) -> Result<Format, JobFault
 fn part_in(options: &ArgMatches<'_>) -> Result<Part, JobFault>
     ensures { result ≡ wanted_part (rows_of (found_of options.now)) }
 {
-    let device = read_device(value_in(options, DEVICE)).ok_or(JobFault::BadDevice)?;
-    let sheet = read_sheet(value_in(options, SHEET)).ok_or(JobFault::BadSheet)?;
+    let device = device_in(options)?;
+    let sheet = sheet_in(options)?;
     Ok(Part { device, sheet })
+}
+
+/// The printer whose pages are shown.
+fn device_in(options: &ArgMatches<'_>) -> Result<Option<Device>, JobFault>
+    ensures { result ≡ read option.device device_of JobFault.BadDevice (rows_of (found_of options.now)) }
+{
+    read_device(value_in(options, DEVICE)).ok_or(JobFault::BadDevice)
+}
+
+/// The sheet that is shown.
+fn sheet_in(options: &ArgMatches<'_>) -> Result<Option<u64>, JobFault>
+    ensures { result ≡ read option.sheet sheet_of JobFault.BadSheet (rows_of (found_of options.now)) }
+{
+    read_sheet(value_in(options, SHEET)).ok_or(JobFault::BadSheet)
 }
 
 /// The format of a run's trace.
@@ -152,12 +172,19 @@ pub fn report_in(options: &ArgMatches<'_>) -> Result<Report, JobFault>
     read_report(value_in(options, REPORT_AS)).ok_or(JobFault::BadReportAs)
 }
 
-/// The format of what a recording says.
+/// The format of what a recording says, and what of its pages it shows.
 pub fn reading_format_in(options: &ArgMatches<'_>) -> Result<Format, JobFault>
     ensures { result ≡ wanted_format option.reading_as JobFault.BadReadingAs (rows_of (found_of options.now)) }
 {
-    let format = read_format(value_in(options, READING_AS)).ok_or(JobFault::BadReadingAs)?;
+    let format = reading_as_in(options)?;
     shown_in(format, options)
+}
+
+/// The format of what a recording says.
+fn reading_as_in(options: &ArgMatches<'_>) -> Result<Format, JobFault>
+    ensures { result ≡ read option.reading_as format_of JobFault.BadReadingAs (rows_of (found_of options.now)) }
+{
+    read_format(value_in(options, READING_AS)).ok_or(JobFault::BadReadingAs)
 }
 
 /// Whether what is given goes with the source: with a text nothing of a recording.
