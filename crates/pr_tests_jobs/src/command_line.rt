@@ -181,39 +181,60 @@ fn fault_texts(rt: HostRuntime) {
     assert!(rt; JobFault::NoMemory.values().is_none());
 }
 
+/// Whether words ask for a job that reads and writes these files.
+fn has_files<'a>(
+    alloc: Global,
+    words: &'a [&'a str],
+    input: Option<&str>,
+    output: Option<&str>,
+) -> bool {
+    match read_task(alloc, words) {
+        Ok(task) => task.input == input && task.output == output,
+        Err(_fault) => false,
+    }
+}
+
 /// The files that words name: `-` is none.
 #[test]
 fn files_of_tasks(rt: HostRuntime) {
-    const ROWS: [(&[&str], Option<&str>, Option<&str>); 5] = [
-        (&["print1525", "pages"], None, None),
-        (
+    let alloc = rt.alloc();
+    assert!(rt; has_files(alloc, &["print1525", "pages"], None, None));
+    let alloc = rt.alloc();
+    assert!(rt;
+        has_files(
+            alloc,
             &["print1525", "raw", "a", "--output=b"],
             Some("a"),
-            Some("b"),
-        ),
-        (
+            Some("b")
+        )
+    );
+    let alloc = rt.alloc();
+    assert!(rt;
+        has_files(
+            alloc,
             &["print1525", "bus", "-o", "b.vcd", "-"],
             None,
-            Some("b.vcd"),
-        ),
-        (&["print1525", "check", "-o-", "--", "-"], None, None),
-        (&["print1525", "decode", "--", "-o"], Some("-o"), None),
-    ];
-    for (words, input, output) in ROWS {
-        let is_well = match read_task(rt.alloc(), words) {
-            Ok(task) => task.input == input && task.output == output,
-            Err(_fault) => false,
-        };
-        assert!(rt; is_well, "{words:?}");
-    }
+            Some("b.vcd")
+        )
+    );
+    let alloc = rt.alloc();
+    assert!(rt; has_files(alloc, &["print1525", "check", "-o-", "--", "-"], None, None));
+    let alloc = rt.alloc();
+    assert!(rt;
+        has_files(
+            alloc,
+            &["print1525", "decode", "--", "-o"],
+            Some("-o"),
+            None
+        )
+    );
 }
 
 /// The value of a fault is that of the words.
 #[test]
 fn bad_values(rt: HostRuntime) {
     const WORDS: [&str; 4] = ["print1525", "pages", "--as", "gif"];
-    let value = bad_value(rt.alloc(), &WORDS, &JobFault::BadPageAs);
-    assert!(rt; value == Some("gif"));
+    assert!(rt; bad_value(rt.alloc(), &WORDS, &JobFault::BadPageAs) == Some("gif"));
     assert!(rt; bad_value(rt.alloc(), &WORDS, &JobFault::NoMemory).is_none());
     assert!(rt; JobFault::BadPageAs.good_values() == Some("list, text, svg or png"));
     assert!(rt; JobFault::BadPresent.good_values().is_none());
@@ -222,17 +243,11 @@ fn bad_values(rt: HostRuntime) {
 /// The format of a recording by its first bytes.
 #[test]
 fn found_sources(rt: HostRuntime) {
-    const ROWS: [(&[u8], Source); 7] = [
-        (b"", Source::Text),
-        (b"0 111\n100 001\n", Source::Text),
-        (b"0 111\n1,1\n", Source::Text),
-        (b" \n\t$date", Source::Vcd),
-        (b"# a, b", Source::Csv),
-        (b"\n; table", Source::Csv),
-        (b"Time,ATN\n", Source::Csv),
-    ];
-    for (bytes, wanted) in ROWS {
-        assert!(rt; found_source(Source::Text, bytes) == wanted, "{bytes:?}");
-    }
+    assert!(rt; found_source(Source::Text, b"") == Source::Text);
+    assert!(rt; found_source(Source::Text, b"0 111\n1,1\n") == Source::Text);
+    assert!(rt; found_source(Source::Text, b" \n\t$date") == Source::Vcd);
+    assert!(rt; found_source(Source::Text, b"# a, b") == Source::Csv);
+    assert!(rt; found_source(Source::Text, b"\n; table") == Source::Csv);
+    assert!(rt; found_source(Source::Text, b"Time,ATN\n") == Source::Csv);
     assert!(rt; found_source(Source::Csv, b"0 111") == Source::Csv);
 }
