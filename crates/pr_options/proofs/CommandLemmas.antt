@@ -106,9 +106,9 @@ found_by name (e ∷ es) =
 
 -- the value that a subcommand's rows give is that of the words
 pub value_by_rows : (r : Option (Bor Text)) (o : ValueOption) (words : List Text) (met : Met) → met ≡ subcommand_of print1525 words
-    → option_map (λ (v : Bor Text). v.now) r ≡ option_map (λ (m : Text × List Row). value_in o m.1) met → IfSome r (λ v. value_given words o ≡ Some v.now)
+    → option_map (λ (v : Bor Text). v.now) r ≡ option_map (value_in o) (option_map (λ (m : Text × List Row). m.1) met) → IfSome r (λ v. value_given words o ≡ Some v.now)
 value_by_rows None o words met e h = tt
-value_by_rows (Some v) o words met e h = ap (option_map (λ (m : Text × List Row). value_in o m.1)) (sym e) ∙ sym h
+value_by_rows (Some v) o words met e h = ap (λ (x : Met). option_map (value_in o) (option_map (λ (m : Text × List Row). m.1) x)) (sym e) ∙ sym h
 
 -- the value of a fault's option is that of the fault
 pub value_by_fault : (r : Option (Bor Text)) (o : ValueOption) (words : List Text) (f : JobFault) → Some o ≡ option_of f

@@ -35,7 +35,8 @@ found_source source bytes =
 
 -- the value that words give an option, by the subcommand that they name
 abbrev pub value_given : List Text → ValueOption → Option Text
-value_given words option = option_map (λ met. value_in option met.1) (subcommand_of print1525 words)
+value_given words option =
+    option_map (value_in option) (option_map (λ met. met.1) (subcommand_of print1525 words))
 
 -- the value that words give the option of which the fault says that it is a bad one
 abbrev pub bad_value : List Text → JobFault → Option Text

@@ -261,7 +261,7 @@ fn given_to<'a>(alloc: Global, words: &'a [&'a str], option: ValueOption) -> Opt
 
 /// The value of an option of the subcommand that was met.
 fn value_of<'a>(matches: &ArgMatches<'a>, option: ValueOption) -> Option<&'a str>
-    ensures { option_map (λ value. value.now) result ≡ option_map (λ met. value_in (option_view option) met.1) (subcommand_rows_of matches.now) }
+    ensures { option_map (λ value. value.now) result ≡ option_map (value_in (option_view option)) (option_map (λ met. met.1) (subcommand_rows_of matches.now)) }
 {
     match matches.subcommand() {
         Some((_name, options)) => Some(value_in(options, option)),
