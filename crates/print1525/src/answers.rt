@@ -117,19 +117,28 @@ fn answer_job<R: Read + Drop, W: Write + Drop>(
     job: Job<'_>,
     is_explained: bool,
 ) -> (u8, W) {
+    if let Some(reading) = reading_to_find(&job) {
+        return answer_recording(rt, reader, writer, names, reading, is_explained);
+    }
+    let form = form_of(&job);
+    if form == ListingForm::Text {
+        return answer_over(rt, reader, writer, names, job, is_explained);
+    }
+    answer_listing(rt, reader, writer, names, form, job, is_explained)
+}
+
+/// The recording of which a job has to find the format.
+fn reading_to_find<'a>(job: &Job<'a>) -> Option<Reading<'a>> {
     match job {
         Job::Decode {
             is_found: true,
             input,
             format,
-        } => {
-            let reading = Reading { input, format };
-            answer_recording(rt, reader, writer, names, reading, is_explained)
-        }
-        job => match form_of(&job) {
-            ListingForm::Text => answer_over(rt, reader, writer, names, job, is_explained),
-            form => answer_listing(rt, reader, writer, names, (form, job), is_explained),
-        },
+        } => Some(Reading {
+            input: *input,
+            format: *format,
+        }),
+        _ => None,
     }
 }
 
@@ -157,7 +166,8 @@ fn answer_recording<R: Read + Drop, W: Write + Drop>(
                 is_found: false,
                 input: TraceInput {
                     source,
-                    ..reading.input
+                    signals: reading.input.signals,
+                    start: reading.input.start,
                 },
                 format: reading.format,
             };
@@ -200,7 +210,8 @@ fn answer_listing<R: Read + Drop, W: Write + Drop>(
     reader: R,
     writer: W,
     names: Names<'_>,
-    (form, job): (ListingForm, Job<'_>),
+    form: ListingForm,
+    job: Job<'_>,
     is_explained: bool,
 ) -> (u8, W) {
     let mut input = Watched::new(Noting::new(reader));
