@@ -24,7 +24,7 @@ struct Reason {
 }
 
 impl<T> Noting<T> {
-    /// No call has failed yet. It takes no memory.
+    /// Wraps a reader or a writer of which no call has failed yet. It takes no memory.
     pub fn new(inner: T) -> Noting<T>
         ensures { noted result ≡ inner }
     {
@@ -34,7 +34,7 @@ impl<T> Noting<T> {
         }
     }
 
-    /// Why the last call failed that has failed.
+    /// Returns why the last call failed that has failed. It takes no memory.
     pub fn error(&self) -> Option<Error> {
         match self.reason {
             Some(reason) => match reason.code {
@@ -45,7 +45,7 @@ impl<T> Noting<T> {
         }
     }
 
-    /// The reader or writer inside. It takes no memory.
+    /// Returns the reader or writer inside. It takes no memory.
     pub fn into_inner(self) -> T
         ensures { result ≡ noted self }
     {

@@ -44,11 +44,7 @@ pub fn save<R: Files + AllocGlobal>(rt: &R, name: &str) -> io::Result<Saving<R::
 }
 
 /// Begins to write over an open file.
-fn over<R: Files + AllocGlobal>(
-    rt: &R,
-    name: &str,
-    file: R::File,
-) -> io::Result<Saving<R::File>> {
+fn over<R: Files + AllocGlobal>(rt: &R, name: &str, file: R::File) -> io::Result<Saving<R::File>> {
     let metadata = file.metadata()?;
     if metadata.is_file() {
         beside(rt, name, Some(metadata.permissions()))

@@ -152,8 +152,9 @@ impl JobFault {
         }
     }
 
-    /// The values that the option has of which this is a bad one, in a few words: none where the
-    /// fault says no more than that it is bad. None of other faults.
+    /// Returns the values that the option has of which this is a bad one, in a few words, which the
+    /// line of the fault has too. None where that line's text is fixed, and of other faults. It takes
+    /// no memory.
     pub fn good_values(&self) -> Option<&'static str> {
         match self {
             JobFault::BadPresent | JobFault::BadDelays | JobFault::BadStatus => None,
@@ -164,7 +165,7 @@ impl JobFault {
         }
     }
 
-    /// The option of which this is a bad value.
+    /// Returns the option of which this is a bad value.
     fn option(&self) -> Option<ValueOption>
         ensures option { option_map option_view result ≡ option_of self.now }
         ensures help { option_map (λ o. o.help.now) result ≡ values_of self.now }
@@ -235,8 +236,8 @@ pub fn read_task<'a>(alloc: Global, words: &'a [&'a str]) -> Result<Task<'a>, Jo
     }
 }
 
-/// The value that words give the option of which the fault, that of [`read_task`] for them, says that
-/// it is a bad one. None of other faults, and where memory was refused.
+/// Returns the value that words give the option of which the fault says that it is a bad one, where
+/// the fault is [`read_task`]'s for these words. None of other faults, and where memory was refused.
 pub fn bad_value<'a>(alloc: Global, words: &'a [&'a str], fault: &JobFault) -> Option<&'a str>
     ensures { IfSome result (λ value. bad_value (map (λ s. s.now) words.entry.now) fault.now ≡ Some value.now) }
 {
@@ -269,8 +270,8 @@ fn value_of<'a>(matches: &ArgMatches<'a>, option: ValueOption) -> Option<&'a str
     }
 }
 
-/// The format that the first bytes of a recording show, or else `source`: a dump begins with `$`, a
-/// table with `;` or `#`, or it has a comma in its first line.
+/// Returns the format that the first bytes of a recording show, or else `source`: a dump begins with
+/// `$`, a table with `;` or `#`, or it has a comma in its first line. It takes no memory.
 pub fn found_source(source: Source, bytes: &[u8]) -> Source
     ensures { result ≡ found_source source bytes.now }
 {
