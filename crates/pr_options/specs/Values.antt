@@ -1,7 +1,6 @@
 -- Trusted: the option that has a bad value, and its values as its help says them.
-use Rattle.std.specs.Prelude.{ℕ, List, Option, Some, None, codes}
+use Rattle.std.specs.Prelude.{ℕ, Bool, true, false, List, Option, Some, None}
 use Rattle.pr_options.specs.declared.options.TheConstants.{DELAYS_HELP, DEVICE_HELP, FROM_HELP, FROM_TIME_HELP, LISTING_FROM_HELP, NAMES_HELP, PAGE_AS_HELP, PRESENT_HELP, READING_AS_HELP, READING_FROM_HELP, REPORT_AS_HELP, SET_HELP, SHEET_HELP, STATUS_HELP, TRACE_AS_HELP}
-use Rattle.clap.specs.Words.{Text}
 use Rattle.pr_options.specs.OptionNames.{ValueOption}
 use Rattle.pr_options.specs.OptionNames as option
 use Rattle.pr_options.specs.declared.command_line.JobFault.{JobFault}
@@ -44,3 +43,19 @@ option_of fault.BadReadingAs = Some option.reading_as
 option_of fault.BadDevice = Some option.device
 option_of fault.BadSheet = Some option.sheet
 option_of _ = None
+
+-- the line of the fault names the bad value and the good ones; the texts of the others are fixed
+abbrev pub names_good_values : JobFault → Bool
+names_good_values fault.BadSet = true
+names_good_values fault.BadFrom = true
+names_good_values fault.BadReadingFrom = true
+names_good_values fault.BadForm = true
+names_good_values fault.BadNames = true
+names_good_values fault.BadStart = true
+names_good_values fault.BadPageAs = true
+names_good_values fault.BadTraceAs = true
+names_good_values fault.BadReportAs = true
+names_good_values fault.BadReadingAs = true
+names_good_values fault.BadDevice = true
+names_good_values fault.BadSheet = true
+names_good_values _ = false

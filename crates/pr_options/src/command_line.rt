@@ -1,6 +1,6 @@
 //! What a command line asks for: the program's job.
 
-ghost use Rattle.std.specs.Prelude.{◌≡◌, ◌==◌, ◌||◌, ◌⊎◌, [], Err, Ok, Some, codes, find, map, option_map, IfErr, IfOk, IfSome, IsSome, OnOk};
+ghost use Rattle.std.specs.Prelude.{◌≡◌, ◌==◌, ◌||◌, ◌⊎◌, [], Err, Ok, Some, codes, find, map, option_map, IfErr, IfOk, IfSome, IsSome, OnOk, is_some};
 ghost use Rattle.std.specs.List.{list_any};
 ghost use Rattle.std.specs.Str.{bytes_eq};
 ghost use Rattle.clap.specs.Words.{fault_of, found_of, rows_of, subcommand_rows_of};
@@ -11,7 +11,7 @@ ghost use Rattle.pr_options.specs.Steps.{IsFaultIn, IsOfClap, job_result, run_vi
 ghost use Rattle.pr_options.specs.Found.{bad_value, begins_as_dump, begins_as_table, found_source, front, has_comma, value_given};
 ghost use Rattle.pr_options.specs.Given.{value_in};
 ghost use Rattle.pr_options.specs.Subcommands.{option_view};
-ghost use Rattle.pr_options.specs.Values.{option_of, values_of};
+ghost use Rattle.pr_options.specs.Values.{names_good_values, option_of, values_of};
 
 use crate::clap_command::make_command;
 use crate::delays::DelayFault;
@@ -155,13 +155,25 @@ impl JobFault {
     /// Returns the values that the option has of which this is a bad one, in a few words, which the
     /// line of the fault has too. None where that line's text is fixed, and of other faults. It takes
     /// no memory.
-    pub fn good_values(&self) -> Option<&'static str> {
+    pub fn good_values(&self) -> Option<&'static str>
+        ensures { is_some result ≡ names_good_values self.now }
+    {
         match self {
+            JobFault::BadSet => Some(SET.values),
+            JobFault::BadFrom => Some(FROM.values),
+            JobFault::BadReadingFrom => Some(READING_FROM.values),
+            JobFault::BadForm => Some(LISTING_FROM.values),
+            JobFault::BadNames => Some(NAMES.values),
+            JobFault::BadStart => Some(FROM_TIME.values),
+            JobFault::BadPageAs => Some(PAGE_AS.values),
+            JobFault::BadTraceAs => Some(TRACE_AS.values),
+            JobFault::BadReportAs => Some(REPORT_AS.values),
+            JobFault::BadReadingAs => Some(READING_AS.values),
+            JobFault::BadDevice => Some(DEVICE.values),
+            JobFault::BadSheet => Some(SHEET.values),
             JobFault::BadPresent | JobFault::BadDelays | JobFault::BadStatus => None,
-            _ => match self.option() {
-                Some(option) => Some(option.values),
-                None => None,
-            },
+            JobFault::NoRecording | JobFault::NoPart | JobFault::Line(_) | JobFault::NoMemory =>
+                None,
         }
     }
 
