@@ -11,11 +11,136 @@ pub struct ValueOption {
     pub name: &'static str,
     /// What help calls its value.
     pub value: &'static str,
-    /// The value where none is given.
+    /// The value where nothing else gives one.
     pub default: &'static str,
-    /// What its values are.
+    /// The argument that names the file whose ending can give the value; empty where none does.
+    pub file: &'static str,
+    /// What the endings of that file's name say.
+    pub endings: &'static [Ending],
+    /// Its values, in a few words.
+    pub values: &'static str,
+    /// What its values are, as help says it.
     pub help: &'static str,
 }
+
+/// An ending of a file's name, and the value that it gives an option.
+#[derive(Clone, Copy)]
+pub struct Ending {
+    /// The ending with its point, in small letters; capitals are the same.
+    pub ending: &'static str,
+    /// The value, as words would give it.
+    pub value: &'static str,
+}
+
+/// An argument that names a file.
+#[derive(Clone, Copy)]
+pub struct FileArgument {
+    /// Its name; that of an option stands after `--`.
+    pub name: &'static str,
+    /// What it is for.
+    pub help: &'static str,
+}
+
+/// The name of [`INPUT`].
+const INPUT_NAME: &str = "file";
+
+/// The name of [`OUTPUT`].
+const OUTPUT_NAME: &str = "output";
+
+/// The file that is read. Words give it without a name of an option.
+pub const INPUT: FileArgument = FileArgument {
+    name: "file",
+    help: "The file to read\n\
+           [default: standard input, as with -]",
+};
+
+/// The file that is written.
+pub const OUTPUT: FileArgument = FileArgument {
+    name: "output",
+    help: "The file to write, which is replaced when the\n\
+           text is whole\n\
+           [default: standard output, as with -]",
+};
+
+/// The letter of [`OUTPUT`], after `-`.
+pub const OUTPUT_LETTER: char = 'o';
+
+/// What the endings of a listing's name say.
+const LISTING_ENDINGS: &[Ending] = &[
+    Ending {
+        ending: ".prg",
+        value: "prg",
+    },
+    Ending {
+        ending: ".petcat",
+        value: "petcat",
+    },
+];
+
+/// What the endings of a recording's name say.
+const RECORDING_ENDINGS: &[Ending] = &[
+    Ending {
+        ending: ".vcd",
+        value: "vcd",
+    },
+    Ending {
+        ending: ".csv",
+        value: "csv",
+    },
+];
+
+/// What the endings of the name of any recording say.
+const READING_FROM_ENDINGS: &[Ending] = &[
+    Ending {
+        ending: ".vcd",
+        value: "vcd",
+    },
+    Ending {
+        ending: ".csv",
+        value: "csv",
+    },
+    Ending {
+        ending: ".trace",
+        value: "text",
+    },
+];
+
+/// What the endings of a page's name say.
+const PAGE_ENDINGS: &[Ending] = &[
+    Ending {
+        ending: ".svg",
+        value: "svg",
+    },
+    Ending {
+        ending: ".png",
+        value: "png",
+    },
+    Ending {
+        ending: ".txt",
+        value: "text",
+    },
+];
+
+/// What the endings of a trace's name say.
+const TRACE_ENDINGS: &[Ending] = &[Ending {
+    ending: ".vcd",
+    value: "vcd",
+}];
+
+/// What the endings of a reading's name say.
+const READING_ENDINGS: &[Ending] = &[
+    Ending {
+        ending: ".svg",
+        value: "svg",
+    },
+    Ending {
+        ending: ".png",
+        value: "png",
+    },
+];
+
+/// No ending says anything.
+const NO_ENDINGS: &[Ending] = &[];
 
 /// An option without a value.
 #[derive(Clone, Copy)]
@@ -34,6 +159,9 @@ pub const PRESENT: ValueOption = ValueOption {
     name: "present",
     value: "PRINTERS",
     default: "both",
+    file: "",
+    endings: NO_ENDINGS,
+    values: "none, 4, 5 or both",
     help: PRESENT_HELP,
 };
 
@@ -46,6 +174,9 @@ pub const LISTING_FROM: ValueOption = ValueOption {
     name: "from",
     value: "FORM",
     default: "text",
+    file: INPUT_NAME,
+    endings: LISTING_ENDINGS,
+    values: "text, prg or petcat",
     help: LISTING_FROM_HELP,
 };
 
@@ -59,6 +190,9 @@ pub const DELAYS: ValueOption = ValueOption {
     name: "delays",
     value: "LISTS",
     default: "",
+    file: "",
+    endings: NO_ENDINGS,
+    values: "lists as in 900,999/9",
     help: DELAYS_HELP,
 };
 
@@ -70,6 +204,9 @@ pub const STATUS: ValueOption = ValueOption {
     name: "status",
     value: "MODE",
     default: "each",
+    file: "",
+    endings: NO_ENDINGS,
+    values: "each or kept",
     help: STATUS_HELP,
 };
 
@@ -82,19 +219,56 @@ pub const SET: ValueOption = ValueOption {
     name: "set",
     value: "SET",
     default: "upper",
+    file: "",
+    endings: NO_ENDINGS,
+    values: "upper or lower",
     help: SET_HELP,
 };
 
 /// What the values of [`PAGE_AS`] are.
 const PAGE_AS_HELP: &str = "list (every mark with its place), text (lines for\n\
-     a terminal) or svg (a picture)";
+     a terminal), svg (a picture) or png (a sheet as\n\
+     a bitmap)";
 
 /// The format of a page.
 pub const PAGE_AS: ValueOption = ValueOption {
     name: "as",
     value: "FORMAT",
     default: "list",
+    file: OUTPUT_NAME,
+    endings: PAGE_ENDINGS,
+    values: "list, text, svg or png",
     help: PAGE_AS_HELP,
+};
+
+/// What the values of [`DEVICE`] are.
+const DEVICE_HELP: &str = "The printer that svg and png draw: 4 or 5\n\
+     [default: all, or the first with a page]";
+
+/// The printer whose pages a picture shows.
+pub const DEVICE: ValueOption = ValueOption {
+    name: "device",
+    value: "PRINTER",
+    default: "",
+    file: "",
+    endings: NO_ENDINGS,
+    values: "4 or 5",
+    help: DEVICE_HELP,
+};
+
+/// What the values of [`SHEET`] are.
+const SHEET_HELP: &str = "The sheet of 11 inches that svg and png draw,\n\
+     from 1 [default: all, or sheet 1]";
+
+/// The sheet that a picture shows.
+pub const SHEET: ValueOption = ValueOption {
+    name: "sheet",
+    value: "NUMBER",
+    default: "",
+    file: "",
+    endings: NO_ENDINGS,
+    values: "a whole number from 1",
+    help: SHEET_HELP,
 };
 
 /// What the values of [`TRACE_AS`] are.
@@ -106,6 +280,9 @@ pub const TRACE_AS: ValueOption = ValueOption {
     name: "as",
     value: "FORMAT",
     default: "text",
+    file: OUTPUT_NAME,
+    endings: TRACE_ENDINGS,
+    values: "text or vcd",
     help: TRACE_AS_HELP,
 };
 
@@ -118,19 +295,25 @@ pub const REPORT_AS: ValueOption = ValueOption {
     name: "as",
     value: "FORMAT",
     default: "frames",
+    file: "",
+    endings: NO_ENDINGS,
+    values: "frames or story",
     help: REPORT_AS_HELP,
 };
 
 /// What the values of [`READING_AS`] are.
 const READING_AS_HELP: &str = "list (each byte with its times), or the pages\n\
      that the bytes print:\n\
-     text or svg";
+     text, svg or png";
 
 /// What is written of a recording that is decoded.
 pub const READING_AS: ValueOption = ValueOption {
     name: "as",
     value: "FORMAT",
     default: "list",
+    file: OUTPUT_NAME,
+    endings: READING_ENDINGS,
+    values: "list, text, svg or png",
     help: READING_AS_HELP,
 };
 
@@ -143,7 +326,27 @@ pub const FROM: ValueOption = ValueOption {
     name: "from",
     value: "FORMAT",
     default: "text",
+    file: INPUT_NAME,
+    endings: RECORDING_ENDINGS,
+    values: "text, vcd or csv",
     help: FROM_HELP,
+};
+
+/// What the values of [`READING_FROM`] are.
+const READING_FROM_HELP: &str = "auto (what the first bytes show),\n\
+     text (a trace as bus writes it),\n\
+     vcd (a Value Change Dump) or\n\
+     csv (a table of samples)";
+
+/// The format of a recording that is decoded.
+pub const READING_FROM: ValueOption = ValueOption {
+    name: "from",
+    value: "FORMAT",
+    default: "auto",
+    file: INPUT_NAME,
+    endings: READING_FROM_ENDINGS,
+    values: "auto, text, vcd or csv",
+    help: READING_FROM_HELP,
 };
 
 /// What the values of [`NAMES`] are.
@@ -155,6 +358,9 @@ pub const NAMES: ValueOption = ValueOption {
     name: "names",
     value: "NAMES",
     default: "ATN,CLOCK,DATA",
+    file: "",
+    endings: NO_ENDINGS,
+    values: "three different names, as in ATN,CLOCK,DATA",
     help: NAMES_HELP,
 };
 
@@ -166,6 +372,9 @@ pub const FROM_TIME: ValueOption = ValueOption {
     name: "from-time",
     value: "MICROSECONDS",
     default: "0",
+    file: "",
+    endings: NO_ENDINGS,
+    values: "a whole number below 2^64",
     help: FROM_TIME_HELP,
 };
 

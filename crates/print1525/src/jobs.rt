@@ -18,11 +18,11 @@ use std::alloc::Global;
 use std::io::{Read, Write};
 
 /// Does a job: reads the input and writes what the job's own fields ask for. The input of `pages` and
-/// `bus` is a script's text, whatever form the listing has: `main` gives the text of a listing in
-/// another form.
+/// `bus` is a script's text, whatever form the listing has: `answers` gives the text of a listing in
+/// another form. So it gives the format of a recording where it is to be found.
 ///
-/// It takes the whole [`Job`]: `main` reads only the form of a listing from it, so every use of a
-/// format, a set or a delay is proved.
+/// It takes the whole [`Job`]: only the form of a listing, and whether a recording's format is to be
+/// found, is read from it elsewhere, so every use of a format, a set or a delay is proved.
 ///
 /// The answer is [`Ending::Stopped`] exactly if a BASIC error stopped the run of a script.
 ///
@@ -63,7 +63,11 @@ pub fn do_job<R: Read, W: Write>(
             check_trace(alloc, input, output, trace, report)?;
             Ok(Ending::Done)
         }
-        Job::Decode(trace, format) => {
+        Job::Decode {
+            input: trace,
+            format,
+            ..
+        } => {
             decode_recording(alloc, input, output, trace, format)?;
             Ok(Ending::Done)
         }

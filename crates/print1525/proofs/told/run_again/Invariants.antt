@@ -1,5 +1,5 @@
 use Rattle.std.proofs.Common.{◌≡◌, None, false, length}
-use Rattle.print1525.proofs.run_again.Given as goal
+use Rattle.print1525.proofs.told.run_again.Given as goal
 
 -- a status stands for each statement performed, and none has stopped
 abbrev pub invariant-loop-statement : goal.invariant-loop-statement
