@@ -176,8 +176,9 @@ static inline const char *print1525_stop_text(size_t stop) {
 enum { PRINT1525_NO_PRINTER = 0, PRINT1525_FOUR = 1, PRINT1525_FIVE = 2, PRINT1525_BOTH = 3 };
 /* `status`: cleared before each statement, or kept. */
 enum { PRINT1525_EACH = 0, PRINT1525_KEPT = 1 };
-/* `format` of a page: a line for each row and mark, lines of 80 columns, or an SVG document. */
-enum { PRINT1525_LIST = 0, PRINT1525_TEXT = 1, PRINT1525_SVG = 2 };
+/* `format` of a page: a line for each row and mark, lines of 80 columns, an SVG document, or a sheet of eleven
+ * inches as a PNG file: the first of the first printer that printed. */
+enum { PRINT1525_LIST = 0, PRINT1525_TEXT = 1, PRINT1525_SVG = 2, PRINT1525_PNG = 3 };
 /* `format` of a trace: a line for each edge, or a Value Change Dump. */
 enum { PRINT1525_TRACE = 0, PRINT1525_VCD = 1 };
 /* `set`: the graphic/upper case or the lower/upper case characters. */

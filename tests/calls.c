@@ -1,7 +1,7 @@
 /* The calls of include/print1525.h over standard input, as a test of them: calls CALL SETTING..
  *
  *     calls pages PRINTERS STATUS FORMAT DELAYS       (the header's names by their index: no printer, 4, 5, both; each, kept;
- *                                                      list, text, svg; DELAYS as of --delays)
+ *                                                      list, text, svg, png; DELAYS as of --delays)
  *     calls bus PRINTERS STATUS FORMAT DELAYS
  *     calls raw SET FORMAT
  *     calls print FORMAT                              (inputs, a number each line)
@@ -572,13 +572,13 @@ static void try_settings(void) {
     } rows[] = {
         {"pages", 4, 0, 0, PRINT1525_NO_SUCH_PRINTERS}, {"pages", 255, 2, 3, PRINT1525_NO_SUCH_PRINTERS},
         {"pages", 3, 2, 0, PRINT1525_NO_SUCH_STATUS},   {"pages", 3, 255, 3, PRINT1525_NO_SUCH_STATUS},
-        {"pages", 3, 1, 3, PRINT1525_NO_SUCH_FORMAT},   {"pages", 0, 0, 255, PRINT1525_NO_SUCH_FORMAT},
+        {"pages", 3, 1, 4, PRINT1525_NO_SUCH_FORMAT},   {"pages", 0, 0, 255, PRINT1525_NO_SUCH_FORMAT},
         {"bus", 4, 0, 0, PRINT1525_NO_SUCH_PRINTERS},   {"bus", 255, 2, 2, PRINT1525_NO_SUCH_PRINTERS},
         {"bus", 3, 2, 0, PRINT1525_NO_SUCH_STATUS},     {"bus", 3, 255, 2, PRINT1525_NO_SUCH_STATUS},
         {"bus", 3, 1, 2, PRINT1525_NO_SUCH_FORMAT},     {"bus", 0, 0, 255, PRINT1525_NO_SUCH_FORMAT},
         {"raw", 2, 0, 0, PRINT1525_NO_SUCH_SET},        {"raw", 255, 0, 3, PRINT1525_NO_SUCH_SET},
-        {"raw", 1, 0, 3, PRINT1525_NO_SUCH_FORMAT},     {"raw", 0, 0, 255, PRINT1525_NO_SUCH_FORMAT},
-        {"print", 0, 0, 3, PRINT1525_NO_SUCH_FORMAT},   {"print", 0, 0, 255, PRINT1525_NO_SUCH_FORMAT},
+        {"raw", 1, 0, 4, PRINT1525_NO_SUCH_FORMAT},     {"raw", 0, 0, 255, PRINT1525_NO_SUCH_FORMAT},
+        {"print", 0, 0, 4, PRINT1525_NO_SUCH_FORMAT},   {"print", 0, 0, 255, PRINT1525_NO_SUCH_FORMAT},
         {"listing", 3, 0, 0, PRINT1525_NO_SUCH_FORM},   {"listing", 255, 0, 0, PRINT1525_NO_SUCH_FORM},
     };
     static const uint16_t no_input[1] = {65535};
@@ -780,7 +780,7 @@ static uint8_t named(const uint8_t *names, size_t count, int index) {
 static void set(job *j, int words, char **word) {
     static const uint8_t printers[] = {PRINT1525_NO_PRINTER, PRINT1525_FOUR, PRINT1525_FIVE, PRINT1525_BOTH};
     static const uint8_t statuses[] = {PRINT1525_EACH, PRINT1525_KEPT}, sets[] = {PRINT1525_UPPER, PRINT1525_LOWER};
-    static const uint8_t pages[] = {PRINT1525_LIST, PRINT1525_TEXT, PRINT1525_SVG}, traces[] = {PRINT1525_TRACE, PRINT1525_VCD};
+    static const uint8_t pages[] = {PRINT1525_LIST, PRINT1525_TEXT, PRINT1525_SVG, PRINT1525_PNG}, traces[] = {PRINT1525_TRACE, PRINT1525_VCD};
     static const uint8_t forms[] = {PRINT1525_SCRIPT, PRINT1525_PROGRAM, PRINT1525_PETCAT};
     if (strcmp(j->name, "listing") == 0 && words > 2) {
         j->first = named(forms, sizeof forms, atoi(word[2]));

@@ -118,6 +118,7 @@ function download(bytes, name, type) {
 
 const FILES = {
   svg: ['svg', 'image/svg+xml'],
+  png: ['png', 'image/png'],
   text: ['txt', 'text/plain'],
   list: ['page', 'text/plain'],
   trace: ['trace', 'text/plain'],

@@ -164,7 +164,7 @@ const loadPrint1525 = (() => {
 
   const bytesOf = bytes => (bytes instanceof Uint8Array ? bytes : new Uint8Array(bytes));
   const latin = text => Uint8Array.from(text, it => it.charCodeAt(0));
-  const pageFormat = format => numberOf(format, ['list', 'text', 'svg'], 'format');
+  const pageFormat = format => numberOf(format, ['list', 'text', 'svg', 'png'], 'format');
 
   function scriptWords({ script, printers = 3, status = 0, delays = [] }) {
     const lists = [0, 1, 2].map(it => Uint16Array.from(delays[it] || []));
@@ -227,7 +227,7 @@ const loadPrint1525 = (() => {
       check: ({ text }) => call('print1525_check', [bytesOf(text)]),
       // What a recording says. With code 2 the text is what stands before the fault.
       decode: asked => {
-        const output = numberOf(asked.output || 'readings', ['readings', 'text', 'svg'], 'output');
+        const output = numberOf(asked.output || 'readings', ['readings', 'text', 'svg', 'png'], 'output');
         if (output === 0) return call('print1525_readings', recordingWords(asked));
         return call('print1525_reprint', [...recordingWords(asked), output - 1]);
       },

@@ -23,11 +23,12 @@ present_of printers =
 abbrev pub mode_of : ℕ → Option StatusMode
 mode_of status = if status == 0 then Some mode.Each else (if status == 1 then Some mode.Kept else None)
 
--- the format: the page text, lines of 80 columns, or an SVG document
+-- the format: the page text, lines of 80 columns, an SVG document, or the first sheet as a PNG file
 abbrev pub format_of : ℕ → Option Format
 format_of number =
     if number == 0 then Some format.List
-    else (if number == 1 then Some format.Lines else (if number == 2 then Some (format.Svg whole) else None))
+    else (if number == 1 then Some format.Lines
+    else (if number == 2 then Some (format.Svg whole) else (if number == 3 then Some (format.Png whole) else None)))
 
 -- the format of a trace: the trace text, or a Value Change Dump
 abbrev pub trace_format_of : ℕ → Option TraceFormat

@@ -34,7 +34,7 @@ pub fn mode_for(status: u8) -> Option<StatusMode>
     }
 }
 
-/// The format: 0 the page text, 1 lines of 80 columns, 2 an SVG document.
+/// The format: 0 the page text, 1 lines of 80 columns, 2 an SVG document, 3 the first sheet as a PNG file.
 pub fn format_for(format: u8) -> Option<Format>
     ensures { result ≡ format_of format }
 {
@@ -42,6 +42,7 @@ pub fn format_for(format: u8) -> Option<Format>
         0 => Some(Format::List),
         1 => Some(Format::Lines),
         2 => Some(Format::Svg(Part::whole())),
+        3 => Some(Format::Png(Part::whole())),
         _ => None,
     }
 }

@@ -39,10 +39,10 @@ abbrev pub mode_of : (is_kept : Bool) → StatusMode
 mode_of false = mode.Each
 mode_of true = mode.Kept
 
--- the format of pages: lines of 80 columns, or an SVG document
-abbrev pub page_format_of : (is_picture : Bool) → Format
-page_format_of false = format.Lines
-page_format_of true = format.Svg whole
+-- the format of pages: lines of 80 columns, the first sheet as a PNG file, or an SVG document
+abbrev pub page_format_of : ℕ → Format
+page_format_of number =
+    if number == 0 then format.Lines else (if number == 2 then format.Png whole else format.Svg whole)
 
 -- a recording with these names of its signals, with levels as they are or inverted, which starts at this microsecond
 pub record IsInput (source : Source) (atn clock line : List ℕ) (is_inverted : Bool) (start : ℕ)

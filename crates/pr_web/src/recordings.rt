@@ -103,6 +103,6 @@ pub extern "C" fn print1525_reprint(
         return;
     };
     let input = input_for(source, atn, clock, line, inverted != 0, start);
-    let format = page_format_for(picture != 0);
+    let format = page_format_for(picture);
     *answer = numbered(reprint(alloc, bytes, input, format, out));
 }

@@ -45,14 +45,14 @@ pub fn mode_for(is_kept: bool) -> StatusMode
     }
 }
 
-/// The format of pages: lines of 80 columns, or an SVG document.
-pub fn page_format_for(is_picture: bool) -> Format
-    ensures { result ≡ page_format_of is_picture }
+/// The format of pages: 0 lines of 80 columns, 2 the first sheet as a PNG file, another number an SVG document.
+pub fn page_format_for(picture: u8) -> Format
+    ensures { result ≡ page_format_of picture }
 {
-    if is_picture {
-        Format::Svg(Part::whole())
-    } else {
-        Format::Lines
+    match picture {
+        0 => Format::Lines,
+        2 => Format::Png(Part::whole()),
+        _ => Format::Svg(Part::whole()),
     }
 }
 
