@@ -1,26 +1,35 @@
 //! What an input looks like.
 
 ghost use Rattle.std.specs.Prelude.{◌≡◌, false, length};
-ghost use Rattle.std.specs.List.{list_any};
+ghost use Rattle.std.specs.List.{list_all, list_any};
 ghost use Rattle.pr_base.specs.Lines.{lines_of};
 ghost use Rattle.pr_listing.specs.Hints.{begins_saved, has_typed, has_typed_string, is_disk_size, is_text, is_text_byte};
 
 use crate::petcat::before_remark;
 use pr_basic::cut_line;
 
-/// Whether bytes begin as a program saved on a Commodore 64 does, with the load address $0801.
+/// Returns whether bytes begin as a program saved on a Commodore 64 does, with the load address
+/// $0801.
 pub fn looks_saved(bytes: &[u8]) -> bool
     ensures { result ≡ begins_saved bytes.now }
 {
     bytes.len() >= 2 && bytes[0] == 1 && bytes[1] == 8
 }
 
-/// Whether bytes are a text's: there are some, and of the control codes they have tabs and the ends of
-/// lines alone. No saved program is: each of its lines ends with byte 0, and so does the program.
+/// Returns whether bytes are a text's: there are some, and of the control codes they have tabs and
+/// the ends of lines alone. No saved program is: each of its lines ends with byte 0, and so does the
+/// program.
 pub fn looks_like_text(bytes: &[u8]) -> bool
     ensures { result ≡ is_text bytes.now }
 {
-    bytes.len() > 0 && bytes.iter().all(|b| is_text_byte(*b))
+    bytes.len() > 0 && all_text(bytes)
+}
+
+/// Whether each byte is a text's.
+fn all_text(bytes: &[u8]) -> bool
+    ensures { result ≡ list_all is_text_byte bytes.now }
+{
+    bytes.iter().all(|b| is_text_byte(*b))
 }
 
 /// Whether a byte is a text's: no control code but a tab, byte 10 or 13.
@@ -30,15 +39,16 @@ fn is_text_byte(b: u8) -> bool
     b >= b' ' || matches!(b, b'\t' | b'\n' | b'\r')
 }
 
-/// Whether bytes are as many as an image of a 1541's disk has: 35 or 40 tracks, without or with a byte
-/// for each sector's error.
+/// Returns whether bytes are as many as an image of a 1541's disk has: 35 or 40 tracks, without or
+/// with a byte for each sector's error.
 pub fn looks_like_disk(bytes: &[u8]) -> bool
     ensures { result ≡ is_disk_size (length bytes.now) }
 {
     matches!(bytes.len(), 174_848 | 175_531 | 196_608 | 197_376)
 }
 
-/// Whether a string of a script has a small letter or a brace, which petcat's text has for other bytes.
+/// Returns whether a string of a script has a small letter or a brace, which petcat's text has for
+/// other bytes.
 pub fn has_typed_strings(script: &[u8]) -> bool
     ensures { result ≡ list_any has_typed_string (lines_of script.now) }
 {
