@@ -15,11 +15,20 @@ function kindOf(bytes, name) {
   return bytes.some(byte => byte < 9 || (byte > 13 && byte < 32) || byte > 126) ? 'raw' : 'script';
 }
 
+let taking = 0;     // files that are read and not yet shown
+
 /** Shows a file as what it seems to be. */
-function takeFile(bytes, name) {
-  const why = refusalOf(bytes, name);
-  tellOnce('file', why);
-  return why ? undefined : take(bytes, name, kindOf(bytes, name));
+async function takeFile(file) {
+  taking++;
+  try {
+    const bytes = new Uint8Array(await file.arrayBuffer()), why = refusalOf(bytes, file.name);
+    tellOnce('file', why);
+    if (!why) await take(bytes, file.name, kindOf(bytes, file.name));
+  } catch (error) {
+    tellOnce('file', `${file.name} cannot be read: ${error.message}`);
+  } finally {
+    taking--;
+  }
 }
 
 /** Shows a saved program as petcat writes it; as the script that the module makes of it, where that would be another program. */

@@ -20,8 +20,6 @@
 const loadPrint1525 = (() => {
   'use strict';
 
-  // A module of nothing but a memory with 64-bit addresses.
-  const MEMORY64 = new Uint8Array([0, 97, 115, 109, 1, 0, 0, 0, 5, 3, 1, 4, 1]);
   const PAGE = 65536;
   // An instance whose memory has grown beyond this many bytes is not kept for the next call.
   const KEPT = 2 ** 28;
@@ -42,17 +40,14 @@ const loadPrint1525 = (() => {
       return c;
     };
 
-    // Whether the memory has grown by so many pages. A Node before 23 wants a number, and all else a BigInt.
+    // Whether the memory has grown by so many pages.
     function grow(pages) {
-      for (const count of [BigInt(pages), pages]) {
-        try {
-          memory.grow(count);
-          return true;
-        } catch (error) {
-          if (!(error instanceof TypeError)) return false;
-        }
+      try {
+        memory.grow(pages);
+        return true;
+      } catch {
+        return false;
       }
-      return false;
     }
 
     // The address of a new block of so many bytes, a multiple of 16, or 0 where the browser gives no more.
@@ -181,9 +176,8 @@ const loadPrint1525 = (() => {
   }
 
   return async function loadPrint1525(bytes) {
-    if (typeof WebAssembly !== 'object' || !WebAssembly.validate(MEMORY64)) {
-      throw new Error('This browser cannot run print1525: it has no WebAssembly with 64-bit memory ("memory64"). ' +
-        'Recent versions of Chrome, Edge and Firefox have it.');
+    if (typeof WebAssembly !== 'object' || typeof BigUint64Array !== 'function') {
+      throw new Error('This browser cannot run print1525: it has no WebAssembly.');
     }
     const compiled = await WebAssembly.compile(bytes);
     let instance = makeInstance(compiled);

@@ -40,8 +40,8 @@ worker.onerror = event => {
   answers.clear();
 };
 
-/** Whether the browser has 64-bit memories, by a module that is nothing but one. */
-const has64BitMemory = () => WebAssembly.validate(Uint8Array.of(0, 97, 115, 109, 1, 0, 0, 0, 5, 3, 1, 4, 1));
+/** Whether the browser can run the module. */
+const hasWebAssembly = () => typeof WebAssembly === 'object' && typeof DecompressionStream === 'function';
 
 // the parts of the page
 

@@ -19,7 +19,12 @@ pub enum Listed {
     Refused(ListingFault),
 }
 
-/// Puts the text of a script that a listing in a form has at the front of a buffer.
+/// Puts the text of a script that a listing in a form has at the front of a buffer. The rest of the
+/// buffer stays as it was.
+///
+/// Where the text has more bytes than the buffer has room for, the answer is their number. Otherwise
+/// the listing has no text, for the fault of [`script_text`], or memory was refused. The buffer is then
+/// as it was.
 pub fn listing(alloc: Global, bytes: &[u8], form: ListingForm, out: &mut [u8]) -> Listed
     ensures tells { TellsText form bytes.now out.old out.new result }
     ensures length { length out.new ≡ length out.old }
