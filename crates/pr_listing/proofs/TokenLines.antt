@@ -133,15 +133,10 @@ IsFine l = (l.number < 2 ^ 64) × (list_all is_small l.bytes ≡ true)
 shown_printable : (l : Line) → IsFine l → list_all is_printable (shown l) ≡ true
 shown_printable l h = both_printable (decimal l.number) (32 ∷ bytes_text Plain l.bytes) (decimal_printable l.number h.0) (text_printable Plain l.bytes h.1)
 
--- a mark in the middle of lists
-mark_between : (d t r : List ℕ) (c e : ℕ) → (d ++ c ∷ (t ++ e ∷ [])) ++ r ≡ (d ++ c ∷ t) ++ e ∷ r
-mark_between [] t r c e = ap (λ v. c ∷ v) (append_assoc t (e ∷ []) r)
-mark_between (x ∷ d) t r c e = ap (λ v. x ∷ v) (mark_between d t r c e)
-
 -- it is a line of the text
 shown_first : (l : Line) (rest : List ℕ) → IsFine l → lines_of (line_text l ++ rest) ≡ shown l ∷ lines_of rest
 shown_first l rest h =
-    ap lines_of (mark_between (decimal l.number) (bytes_text Plain l.bytes) rest 32 10) ∙ line_cut (shown l) rest (shown_printable l h)
+    ap lines_of (append_assoc (shown l) (10 ∷ []) rest) ∙ line_cut (shown l) rest (shown_printable l h)
 
 -- its lexemes are its number and those of its bytes
 shown_lexemes : LinesHaveLexemes → LexemesAreFound → (l : Line) → IsFine l → lexemes_of (shown l) ≡ Digits (decimal l.number) ∷ lexemes_behind 0 l.bytes
