@@ -68,12 +68,16 @@ token_read b t r = tests (nat_lt b 143) refl
   where
     tests : (low : Bool) → nat_lt b 143 ≡ low → IsRead b
     tests true e =
-        let in_low : b - 128 < 15 = grind (arith, common_steps, nat_tests) in
-        let same : 128 + (b - 128) ≡ b = grind (arith, common_steps, nat_tests) in
+        let low : 128 ≤ b = grind (arith, common_steps, nat_tests) in
+        let high : b < 143 = grind (arith, common_steps, nat_tests) in
+        let in_low : b - 128 < 15 = omega (arith, low, high) in
+        let same : 128 + (b - 128) ≡ b = omega (arith, low) in
         subst IsRead same (one_read 128 15 (b - 128) in_low low_tokens)
     tests false e =
-        let in_high : b - 144 < 60 = grind (arith, common_steps, nat_tests) in
-        let same : 144 + (b - 144) ≡ b = grind (arith, common_steps, nat_tests) in
+        let low : 144 ≤ b = grind (arith, common_steps, nat_tests) in
+        let high : b ≤ 203 = grind (arith, common_steps, nat_tests) in
+        let in_high : b - 144 < 60 = omega (arith, low, high) in
+        let same : 144 + (b - 144) ≡ b = omega (arith, low) in
         subst IsRead same (one_read 144 60 (b - 144) in_high high_tokens)
 
 -- a word does not begin with another byte than its first

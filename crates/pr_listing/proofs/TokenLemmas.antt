@@ -310,7 +310,8 @@ string_same all found bs small more = tests (nat_lt m (length bs)) refl
         ∙ (closed_same all found (take m bs) (drop (suc m) bs) (of_front is_small m bs small) (before_mark is_no_quote bs) (more (suc m)) ∙ sym told)
     tests false e =
         let within : m ≤ length bs = prefix_within is_no_quote bs in
-        let whole : m ≡ length bs = grind (arith, common_steps, nat_tests) in
+        let most : length bs ≤ m = grind (arith, common_steps, nat_tests) in
+        let whole : m ≡ length bs = omega (arith, within, most) in
         let front : take m bs ≡ bs = take_all m bs (omega (arith, whole)) in
         let left : drop (suc m) bs ≡ [] = drop_all (suc m) bs (omega (arith, whole)) in
         open_same all found bs small (no_mark is_no_quote bs whole)
