@@ -76,6 +76,10 @@ enum print1525_fault {
     PRINT1525_NO_DECODER = 27,
     /* of a number that stands for no input of a printer; `place` is its index, from 0 */
     PRINT1525_NO_SUCH_INPUT = 28,
+    /* of a sheet that the pages do not have; `place` is how many they have */
+    PRINT1525_NO_SUCH_SHEET = 50,
+    /* of a document that is longer than its format allows; `place` is 0 */
+    PRINT1525_DOCUMENT_TOO_LARGE = 51,
     /* of a number that stands for no form of a listing; `place` is 0 */
     PRINT1525_NO_SUCH_FORM = 60,
     /* of a listing: it has no load address (`place` is 0); it ends within a line; in a string of petcat's text
@@ -145,6 +149,8 @@ static inline const char *print1525_fault_text(size_t fault) {
     case PRINT1525_NO_EAR: return "no ear";
     case PRINT1525_NO_DECODER: return "no decoder";
     case PRINT1525_NO_SUCH_INPUT: return "no such input";
+    case PRINT1525_NO_SUCH_SHEET: return "no such sheet";
+    case PRINT1525_DOCUMENT_TOO_LARGE: return "document too large";
     case PRINT1525_NO_SUCH_FORM: return "no such form";
     case PRINT1525_NOT_SAVED: return "not a saved program";
     case PRINT1525_CUT_OFF: return "cut off";

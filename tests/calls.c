@@ -334,7 +334,7 @@ static int is_place(const print1525_edge *last, const print1525_ear_place *p) {
     return p->since == last->time;
 }
 
-/* The numbers are those of an ear, as docs/DEFINITIONS.md says. */
+/* The numbers are those of an ear, as crates/pr_ear/specs/EarNumbers.antt says. */
 static int is_ear(const print1525_ear *ear) {
     const print1525_edge *const last = &ear->last;
     static const print1525_ear none = {0, {0, 0, 0, 0}, {0, 0, 0, 0, 0, 0, 0, 0, 0}, 0, 0, 0, 0, 0};
@@ -641,7 +641,7 @@ static int is_byte(const print1525_decoder *decoder) {
     return byte->bits != 8 || (!decoder->first.clock && decoder->turns <= 1);
 }
 
-/* The numbers are those of a decoder, as docs/DEFINITIONS.md says. */
+/* The numbers are those of a decoder, as crates/pr_ear/specs/DecoderNumbers.antt says. */
 static int is_decoder(const print1525_decoder *decoder) {
     const print1525_edge *const turns[] = {&decoder->turn1, &decoder->turn2, &decoder->turn3, &decoder->turn4}, *const first = &decoder->first;
     size_t index;

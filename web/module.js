@@ -136,12 +136,14 @@ const loadPrint1525 = (() => {
     25: 'no such character set', 28: 'no such input', 29: 'no such source', 30: 'no such stop', 31: 'no signal ATN', 32: 'no signal CLOCK',
     33: 'no signal DATA', 34: 'no level of ATN', 35: 'no level of CLOCK', 36: 'no level of DATA', 41: 'bad word', 42: 'no $end',
     43: 'no $enddefinitions', 44: 'no timescale', 45: 'bad time', 46: 'time goes back', 47: 'level x', 48: 'level z',
-    49: 'bad level', 60: 'no such form', 61: 'not a saved program', 62: 'cut off', 63: 'unknown name', 64: 'bad byte',
+    49: 'bad level', 50: 'no such sheet', 51: 'document too large', 60: 'no such form', 61: 'not a saved program', 62: 'cut off',
+    63: 'unknown name', 64: 'bad byte', 70: 'bad timescale', 71: 'no time', 72: 'UTF-16 text', 73: 'zip archive',
+    75: 'another signal ATN', 76: 'another signal CLOCK', 77: 'another signal DATA',
   };
   const STOPS = { 1: 'TOO MANY FILES', 2: 'FILE OPEN', 3: 'FILE NOT OPEN', 5: 'DEVICE NOT PRESENT', 6: 'NOT INPUT FILE' };
 
   const isEdge = fault => fault >= 11 && fault <= 16;
-  const isLine = fault => (fault >= 1 && fault <= 8) || (fault >= 31 && fault <= 49) || fault >= 62;
+  const isLine = fault => (fault >= 1 && fault <= 8) || (fault >= 31 && fault <= 49) || (fault >= 62 && ![72, 73].includes(fault));
   const isOfListing = fault => fault >= 60 && fault <= 64;
 
   function words({ code, fault, line, column, edge }) {

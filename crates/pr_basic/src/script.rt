@@ -32,7 +32,7 @@ pub const LINE_NUMBER_LIMIT: u32 = 63_999;
 /// # Errors
 ///
 /// The first fault from the left with its line's number from 1, as [`ScriptFault`] says; or
-/// [`ScriptFault::NoMemory`], if memory was refused.
+/// [`ScriptFault::NoMemory`], if memory was refused. The statements read so far are dropped.
 pub fn read_script(alloc: Global, bytes: &[u8]) -> Result<Vec<Statement>, ScriptFault>
     ensures read { IfOk result (λ statements. IsScript bytes.now statements.items) }
     ensures few { IfOk result (λ statements. length statements.items ≤ statement_limit) }

@@ -5,7 +5,7 @@ use Rattle.pr_serial.specs.declared.Present.{Present}
 use Rattle.pr_basic.specs.declared.session.StatusMode.{StatusMode}
 use Rattle.pr_render.specs.declared.format.Format.{Format}
 use Rattle.pr_capture.specs.declared.format.TraceFormat.{TraceFormat}
-use Rattle.pr_c.specs.Answers.{IsBusText, IsFramesText, IsPagesText, IsPaperRefusal, IsPaperText, IsScriptRefusal, IsTraceRefusal, Tells, answer_of, refusal}
+use Rattle.pr_c.specs.Answers.{IsBusText, IsFramesText, IsPagesRefusal, IsPagesText, IsPaperRefusal, IsPaperText, IsScriptRefusal, IsTraceRefusal, Tells, answer_of, refusal}
 use Rattle.pr_listing.specs.declared.form.ListingForm.{ListingForm}
 use Rattle.pr_c.specs.Listings.{TellsText, answer_for}
 use Rattle.pr_c.specs.Printing.{TellsInputs}
@@ -30,7 +30,7 @@ TellsPages (Some present) (Some mode) None delays script old new answer = Refuse
 TellsPages (Some present) (Some mode) (Some format) delays script old new answer =
     (told : Told) × (answer ≡ answer_of told)
     × Tells (IsPagesText (record { present = present; delays = delays; mode = mode }) format script)
-    (IsScriptRefusal script) old new told
+    (IsPagesRefusal (record { present = present; delays = delays; mode = mode }) format script) old new told
 
 -- the trace of a script's run
 abbrev pub TellsBus : Option Present → Option StatusMode → Option TraceFormat → DelayNumbers → List ℕ → List ℕ → List ℕ
@@ -55,7 +55,7 @@ TellsRaw None _ bytes old new answer = Refuses 25 old new answer
 TellsRaw (Some lower) None bytes old new answer = Refuses 24 old new answer
 TellsRaw (Some lower) (Some format) bytes old new answer =
     (told : Told) × (answer ≡ answer_of told)
-    × Tells (IsPaperText lower format bytes) (IsPaperRefusal bytes) old new told
+    × Tells (IsPaperText lower format bytes) (IsPaperRefusal lower format bytes) old new told
 
 -- the page of a printer's inputs, as numbers
 abbrev pub TellsPrint : Option Format → List ℕ → List ℕ → List ℕ → Answer → Type 0

@@ -7,6 +7,7 @@ use Rattle.pr_listing.specs.declared.form.ListingForm.{ListingForm}
 use Rattle.pr_listing.specs.declared.form.ListingForm.TheVariants as listing
 use Rattle.pr_render.specs.declared.format.Format.{Format}
 use Rattle.pr_render.specs.declared.format.Format.TheVariants as format
+use Rattle.pr_render.specs.Showing.{whole}
 use Rattle.pr_capture.specs.declared.format.TraceFormat.{TraceFormat}
 use Rattle.pr_capture.specs.declared.format.TraceFormat.TheVariants as trace
 
@@ -18,7 +19,7 @@ present_of printers =
     else (if printers == 2 then Some (record { four = false; five = true })
     else (if printers == 3 then Some (record { four = true; five = true }) else None)))
 
--- how the status goes on: cleared before each statement, or kept
+-- the status: cleared before each statement, or kept
 abbrev pub mode_of : ℕ → Option StatusMode
 mode_of status = if status == 0 then Some mode.Each else (if status == 1 then Some mode.Kept else None)
 
@@ -26,7 +27,7 @@ mode_of status = if status == 0 then Some mode.Each else (if status == 1 then So
 abbrev pub format_of : ℕ → Option Format
 format_of number =
     if number == 0 then Some format.List
-    else (if number == 1 then Some format.Lines else (if number == 2 then Some format.Picture else None))
+    else (if number == 1 then Some format.Lines else (if number == 2 then Some (format.Svg whole) else None))
 
 -- the format of a trace: the trace text, or a Value Change Dump
 abbrev pub trace_format_of : ℕ → Option TraceFormat

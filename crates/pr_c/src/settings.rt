@@ -6,7 +6,7 @@ ghost use Rattle.pr_c.specs.Settings.{form_of, format_of, lower_of, mode_of, pre
 use pr_basic::StatusMode;
 use pr_capture::TraceFormat;
 use pr_listing::ListingForm;
-use pr_render::Format;
+use pr_render::{Format, Part};
 use pr_serial::Present;
 
 /// The printers present: 0 none, 1 printer 4, 2 printer 5, 3 both.
@@ -41,7 +41,7 @@ pub fn format_for(format: u8) -> Option<Format>
     match format {
         0 => Some(Format::List),
         1 => Some(Format::Lines),
-        2 => Some(Format::Picture),
+        2 => Some(Format::Svg(Part::whole())),
         _ => None,
     }
 }

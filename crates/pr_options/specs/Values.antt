@@ -1,10 +1,10 @@
--- Trusted: what values an option has, as its help says them where one is bad.
+-- Trusted: the values of an option, as its help says them when one is bad.
 use Rattle.std.specs.Prelude.{ℕ, List, Option, Some, None}
 use Rattle.pr_options.specs.declared.options.TheConstants.{DELAYS_HELP, FROM_HELP, FROM_TIME_HELP, LISTING_FROM_HELP, NAMES_HELP, PAGE_AS_HELP, PRESENT_HELP, READING_AS_HELP, REPORT_AS_HELP, SET_HELP, STATUS_HELP, TRACE_AS_HELP}
 use Rattle.pr_options.specs.declared.command_line.JobFault.{JobFault}
 use Rattle.pr_options.specs.declared.command_line.JobFault.TheVariants as fault
 
--- the values of the option of which one is bad; no other fault has any
+-- the values of the option that has a bad value; for any other fault none
 abbrev pub values_of : JobFault → Option (List ℕ)
 values_of fault.BadPresent = Some PRESENT_HELP.now
 values_of fault.BadDelays = Some DELAYS_HELP.now

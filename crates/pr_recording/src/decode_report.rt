@@ -10,6 +10,7 @@ ghost use Rattle.pr_recording.specs.Narrated.{EndsEdges, GivesUp, HasNarrated, I
 use crate::reading_log::ReadingLog;
 use pr_cli::CliFault;
 use pr_decode::{Decoder, GoesBack, readings_add_up};
+use pr_report::LinesSeen;
 use pr_wire::{Edge, TraceFollower, WaveFault};
 use std::alloc::{AllocError, Global};
 
@@ -26,6 +27,8 @@ pub struct DecodeReport {
     decoder: Decoder,
     /// Whether the edges taken are a lawful trace.
     follower: TraceFollower,
+    /// What the edges taken say of the lines.
+    seen: LinesSeen,
     log: ReadingLog,
     /// How many edges were taken.
     taken: usize,
@@ -42,6 +45,7 @@ impl DecodeReport {
         Ok(DecodeReport {
             decoder: Decoder::new(),
             follower: TraceFollower::new(),
+            seen: LinesSeen::new(),
             log: ReadingLog::new(alloc)?,
             taken: 0,
             back: None,
@@ -60,6 +64,7 @@ impl DecodeReport {
         match self.decoder.take(edge) {
             Ok(reading) => {
                 follow(&mut self.follower, edge);
+                self.seen.take(edge);
                 self.taken += 1;
                 self.log.push_if(reading)
             }
@@ -113,7 +118,7 @@ impl DecodeReport {
         let cut = self.decoder.finish();
         self.log.push_if(cut)?;
         let verdict = self.follower.finish().err();
-        let lines = self.log.finish(verdict)?;
+        let lines = self.log.finish(verdict, self.seen)?;
         Ok(Ended { lines, stop: None })
     }
 }

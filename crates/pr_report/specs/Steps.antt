@@ -1,5 +1,6 @@
 -- Machine steps: what a tally keeps of lengths, and what one length more comes to. No reader needs to believe them.
 use Rattle.std.specs.Prelude.{◌≡◌, ℕ, ◌+◌, ◌-◌, ◌^◌, ◌<◌, ◌==◌, cond, min, max, nat_le, Bool, List, [], ◌∷◌, length, get_or, Option, Some, None, codes, if◌then◌else◌}
+use Rattle.pr_wire.specs.declared.Levels.{Levels}
 use Rattle.pr_report.specs.declared.tally.Tally.{Tally}
 use Rattle.pr_report.specs.Intervals.{is_outside}
 use Rattle.pr_report.specs.Summary.{figures_text}
@@ -39,3 +40,8 @@ abbrev pub known_text : Tally → List ℕ
 known_text t =
     if t.count == 0 then codes ": none"
     else figures_text t.interval t.count t.least (first_half t.count 0 0 t.counters.items) t.greatest t.outside
+
+-- the levels of the first edge, behind one edge more
+abbrev pub first_or : Option Levels → (next : Levels) → Levels
+first_or None next = next
+first_or (Some first) next = first

@@ -94,7 +94,7 @@ const ACKNOWLEDGED_BYTES: [Row; 13] = [
     (
         Preceding::Command,
         Reading::Frame(Transfer { byte: 95, ..ATN }, ACKNOWLEDGED),
-        "attention\n        1100         1930  $5F  command 95\n",
+        "attention\n        1100         1930  $5F  UNTALK\n",
     ),
     (
         Preceding::Command,

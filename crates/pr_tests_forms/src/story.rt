@@ -80,17 +80,19 @@ const MOMENTS: &str = "           7 1234567890123  ";
 
 /// Frames, each by how it is sent, its byte and whether a data byte stands before it; perhaps a heading of its
 /// line, and what the line says behind the moments.
-static LINES: [(ByteRole, u8, bool, &str, &str); 31] = [
+static LINES: [(ByteRole, u8, bool, &str, &str); 33] = [
     // command bytes
     (Second, 32, true, "", "$20  LISTEN 0"),
     (Second, 62, true, "", "$3E  LISTEN 30"),
     (Second, 63, true, "", "$3F  UNLISTEN"),
-    (Second, 95, false, "", "$5F  command 95"),
+    (Second, 64, false, "", "$40  TALK 0"),
+    (Second, 94, false, "", "$5E  TALK 30"),
+    (Second, 95, false, "", "$5F  UNTALK"),
     (Second, 96, false, "", "$60  SECOND 0"),
     (Second, 111, false, "", "$6F  SECOND 15"),
     (Second, 112, false, "", "$70  command 112"),
     (Second, 231, false, "", "$E7  CLOSE 7"),
-    (Second, 240, false, "", "$F0  command 240"),
+    (Second, 240, false, "", "$F0  OPEN 0"),
     (First, 31, true, "attention\n", "$1F  command 31"),
     (First, 37, false, "attention\n", "$25  LISTEN 5"),
     // data bytes
