@@ -24,6 +24,7 @@ mod form;
 mod hints;
 mod input;
 mod keywords;
+pub mod laws;
 mod line;
 mod names;
 mod petcat;
