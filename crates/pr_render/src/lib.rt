@@ -25,6 +25,7 @@ mod plain;
 mod sheets;
 mod uses;
 
+pub use characters::character;
 pub use drawing::svg;
 pub use format::Format;
 pub use plain::text;

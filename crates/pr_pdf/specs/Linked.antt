@@ -1,0 +1,64 @@
+-- Linking words, for proofs.
+use Rattle.std.specs.Prelude.{◌≡◌, ℕ, ◌<◌, ◌≤◌, Bool, true, List, [], ◌∷◌, ◌++◌, ◌==◌, ◌&&◌, codes, drop, filter, length, map, nat_le, nat_lt, if◌then◌else◌, MatchResult, Result, Vec}
+use Rattle.std.specs.Global.{Global}
+use Rattle.pr_page.specs.declared.paper.Mark.{Mark}
+use Rattle.pr_page.specs.declared.paper.Placed.{Placed}
+use Rattle.pr_page.specs.declared.paper.Row.{Row}
+use Rattle.pr_pdf.specs.declared.document.Document.{Document}
+use Rattle.pr_pdf.specs.declared.fault.PdfFault.{PdfFault}
+use Rattle.pr_pdf.specs.declared.fault.PdfFault.TheVariants.{TooLarge}
+use Rattle.pr_pdf.specs.Fonts.{code_of, font_of, font_pdf, used_among, used_of}
+use Rattle.pr_pdf.specs.Parts.{run_end}
+use Rattle.pr_pdf.specs.Pdf.{file_limit, first_bodies, front_pdf, glyph_body, places_of}
+use Rattle.pr_pdf.specs.Sheets.{end_of, is_on, run_begin}
+use Rattle.pr_pdf.specs.Words.{hex_2, numbers_from}
+
+-- if a table said what some marks use, the new one says what they and more marks use
+abbrev pub HasSeen : List Mark → List Bool → List Bool → Type 0
+HasSeen marks old new = (before : List Mark) → old ≡ used_of before → new ≡ used_of (before ++ marks)
+
+-- the end of the run of a font, or nothing where the number is no font's
+abbrev pub close_pdf : ℕ → List ℕ
+close_pdf font = if nat_lt font 9 then run_end else []
+
+-- what is left of the runs of marks, behind the run of a font that has begun and ends at a dot column
+abbrev pub rest_pdf : (height font end : ℕ) → List Placed → List ℕ
+rest_pdf height font end [] = close_pdf font
+rest_pdf height font end (placed ∷ marks) =
+    (if (font == font_of placed.mark && end == placed.x) then []
+    else close_pdf font ++ run_begin height (font_of placed.mark) placed.x)
+    ++ hex_2 (code_of placed.mark) ++ rest_pdf height (font_of placed.mark) (end_of placed) marks
+
+-- no row is above a distance, or above the row before it
+abbrev pub ascend : ℕ → List Row → Bool
+ascend y [] = true
+ascend y (row ∷ rows) = nat_le y row.y && ascend row.y rows
+
+-- so many rows in front are on no sheet from a sheet on
+abbrev pub IsSkipped : (sheet count : ℕ) → List Row → Type 0
+IsSkipped sheet count rows = (later : ℕ) → sheet ≤ later → filter (is_on later) rows ≡ filter (is_on later) (drop count rows)
+
+-- a document has these objects so far
+pub record HasBodies (bodies : List (List ℕ)) (document : Document) : Type 0 where
+  pub text : document.text.items ≡ front_pdf bodies
+  pub places : document.places.items ≡ places_of bodies
+
+-- objects are added to those that there are
+pub record Adds (more : List (List ℕ)) (old new : Document) : Type 0 where
+  pub has : (bodies : List (List ℕ)) → HasBodies bodies old → HasBodies (bodies ++ more) new
+
+-- a file, or why there is none
+abbrev pub IsFile : List ℕ → Result (Vec ℕ Global) PdfFault → Type 0
+IsFile file result = MatchResult result (λ v. (v.items ≡ file) × (length file ≤ file_limit)) (λ fault. fault ≡ TooLarge → file_limit < length file)
+
+-- with these objects a document is longer than a file may be
+pub record IsPast (more : List (List ℕ)) (old : Document) : Type 0 where
+  pub past : (bodies : List (List ℕ)) → HasBodies bodies old → file_limit < length (front_pdf (bodies ++ more))
+
+-- P holds if a result is this error
+abbrev pub OnErrOf : {X : Type 0} → Result X PdfFault → PdfFault → Type 0 → Type 0
+OnErrOf result wanted P = MatchResult result (λ _. Unit {0}) (λ fault. fault ≡ wanted → P)
+
+-- all objects before the sheets
+abbrev pub bodies_before : (pages : ℕ) → List Bool → List (List ℕ)
+bodies_before pages used = first_bodies pages ++ map (font_pdf used) (numbers_from 0 9) ++ map glyph_body (used_among used 0 2304)
