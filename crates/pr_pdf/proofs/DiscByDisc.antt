@@ -40,7 +40,11 @@ bit_moved sheet x y i j v b at within few = by (v / 2 ^ b % 2 == 1)
 column_moved : (sheet x y i j v : ℕ) → j ≡ x + i → y ≤ 1386 * (sheet + 1)
     → map (moved (42 * x) (height_on sheet y)) (map glyph_disc (column_dots i 0 v)) ≡ map (disc_on sheet) (column_dots j y v)
 column_moved sheet x y i j v at within =
-    step 0 _ (omega arith) (step 1 _ (omega arith) (step 2 _ (omega arith) (step 3 _ (omega arith) (step 4 _ (omega arith) (step 5 _ (omega arith) (step 6 _ (omega arith) refl))))))
+    step 0 (1 ∷ 2 ∷ 3 ∷ 4 ∷ 5 ∷ 6 ∷ []) (omega arith)
+    (step 1 (2 ∷ 3 ∷ 4 ∷ 5 ∷ 6 ∷ []) (omega arith)
+    (step 2 (3 ∷ 4 ∷ 5 ∷ 6 ∷ []) (omega arith)
+    (step 3 (4 ∷ 5 ∷ 6 ∷ []) (omega arith)
+    (step 4 (5 ∷ 6 ∷ []) (omega arith) (step 5 (6 ∷ []) (omega arith) (step 6 [] (omega arith) refl))))))
   where
     joined_maps : (f : Disc → Disc) (a b c d : List Dot) → map f (map glyph_disc a) ≡ map (disc_on sheet) c → map f (map glyph_disc b) ≡ map (disc_on sheet) d
         → map f (map glyph_disc (a ++ b)) ≡ map (disc_on sheet) (c ++ d)

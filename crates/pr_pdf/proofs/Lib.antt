@@ -6,3 +6,4 @@ pub mod RunByRun
 pub mod SheetBySheet
 pub mod Sheeted
 pub mod Using
+pub mod Whole

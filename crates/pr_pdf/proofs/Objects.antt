@@ -1,16 +1,17 @@
 -- Objects one after another.
-use Rattle.std.proofs.Common.{◌≡◌, ℕ, zero, suc, ◌+◌, ◌*◌, ◌<◌, ◌≤◌, List, [], ◌∷◌, ◌++◌, length, refl, sym, ap, ◌∙◌, arith}
-use Rattle.std.specs.Prelude.{Bool, true, false, decimal, map, slice_index_or}
+use Rattle.std.proofs.Common.{◌≡◌, ℕ, zero, suc, ◌+◌, ◌*◌, ◌/◌, ◌%◌, ◌<◌, ◌≤◌, List, [], ◌∷◌, ◌++◌, length, refl, sym, ap, ◌∙◌, arith, append_assoc}
+use Rattle.std.specs.Prelude.{Bool, true, false, map, slice_index_or}
 use Rattle.std.specs.List.{concat}
 use Rattle.std.proofs.lemmas.Grind.{common_steps}
+use Rattle.std.proofs.lemmas.List.{map-append}
 use Rattle.std.proofs.lemmas.List.Folds.{concat-append}
 use Rattle.pr_pdf.specs.declared.document.Document.{Document}
-use Rattle.pr_pdf.specs.Linked.{Adds, HasBodies, IsPast}
-use Rattle.pr_pdf.specs.Fonts.{used_among}
+use Rattle.pr_pdf.specs.Linked.{Adds, HasBodies}
+use Rattle.pr_pdf.specs.Fonts.{glyph_pdf, used_among}
 use Rattle.pr_pdf.specs.Parts.{header}
-use Rattle.pr_pdf.specs.Pdf.{file_limit, front_pdf, object_pdf, objects_from, places_from, places_of}
+use Rattle.pr_pdf.specs.Pdf.{file_of, front_pdf, glyph_body, object_pdf, objects_from, places_from, places_of, stream_pdf, table_pdf, trailer_pdf}
 use Rattle.pr_pdf.specs.Words.{numbers_from}
-use Rattle.pr_pdf.proofs.Numbers.{numbers_more, unused_more, used_more}
+use Rattle.pr_pdf.proofs.Numbers.{map_more, map_none, unused_one, used_more, used_none, used_one}
 
 -- objects behind objects
 objects_append : (n : ℕ) (xs ys : List (List ℕ)) → objects_from n (xs ++ ys) ≡ objects_from n xs ++ objects_from (n + length xs) ys
@@ -71,61 +72,54 @@ none_adds document = record {
 }
 
 -- objects behind objects
-pub then_adds : (xs ys : List (List ℕ)) (a b c : Document) → Adds xs a b → Adds ys b c → Adds (xs ++ ys) a c
-then_adds xs ys a b c first second = record {
+pub then_adds : {xs ys : List (List ℕ)} {a b c : Document} → Adds xs a b → Adds ys b c → Adds (xs ++ ys) a c
+then_adds {xs} {ys} {a} {b} {c} first second = record {
   has = λ bodies has.
-      let both = second.has (bodies ++ xs) (first.has bodies has) in
-      record {
-        text = grind (arith, common_steps, both.text);
-        places = grind (arith, common_steps, both.places);
-      };
+      let both : HasBodies ((bodies ++ xs) ++ ys) c = second.has (bodies ++ xs) (first.has bodies has) in
+      let all : (bodies ++ xs) ++ ys ≡ bodies ++ (xs ++ ys) = append_assoc bodies xs ys in
+      rw all at both;
 }
 
 -- objects behind one
-pub cons_adds : (x : List ℕ) (ys : List (List ℕ)) (a b c : Document) → Adds (x ∷ []) a b → Adds ys b c → Adds (x ∷ ys) a c
-cons_adds x ys a b c first second = then_adds (x ∷ []) ys a b c first second
+pub cons_adds : {x : List ℕ} {ys : List (List ℕ)} {a b c : Document} → Adds (x ∷ []) a b → Adds ys b c → Adds (x ∷ ys) a c
+cons_adds {x} {ys} {a} {b} {c} first second = then_adds {xs = x ∷ []} {ys = ys} {a = a} {b = b} {c = c} first second
 
 -- one object for each number
-pub map_adds : (f : ℕ → List ℕ) (count : ℕ) (a b c : Document) → Adds (map f (numbers_from 0 count)) a b → Adds (f count ∷ []) b c
+pub map_adds : (f : ℕ → List ℕ) (count : ℕ) {a b c : Document} → Adds (map f (numbers_from 0 count)) a b → Adds (f count ∷ []) b c
     → Adds (map f (numbers_from 0 (count + 1))) a c
-map_adds f count a b c first second =
-    let more : map f (numbers_from 0 (count + 1)) ≡ map f (numbers_from 0 count) ++ f count ∷ [] = grind (arith, common_steps, numbers_more 0 count) in
-    rw more (then_adds (map f (numbers_from 0 count)) (f count ∷ []) a b c first second)
+map_adds f count first second = rw (map_more f count) (then_adds first second)
+
+-- no numbers, no objects
+pub map_adds_none : (f : ℕ → List ℕ) (document : Document) → Adds (map f (numbers_from 0 0)) document document
+map_adds_none f document = rw (map_none f) (none_adds document)
 
 -- one object for each glyph that is used
-pub used_adds : (f : ℕ → List ℕ) (used : List Bool) (count : ℕ) (a b c : Document) → slice_index_or used count false ≡ true
-    → Adds (map f (used_among used 0 count)) a b → Adds (f count ∷ []) b c → Adds (map f (used_among used 0 (count + 1))) a c
-used_adds f used count a b c is first second =
-    let more : map f (used_among used 0 (count + 1)) ≡ map f (used_among used 0 count) ++ f count ∷ [] = grind (arith, common_steps, used_more used 0 count is) in
-    rw more (then_adds (map f (used_among used 0 count)) (f count ∷ []) a b c first second)
+pub used_adds : (f : ℕ → List ℕ) (used : List Bool) (count : ℕ) {a b c : Document} → Adds (map f (used_among used 0 count)) a b
+    → Adds (map f (used_among used count 1)) b c → Adds (map f (used_among used 0 (count + 1))) a c
+used_adds f used count first second =
+    let all : map f (used_among used 0 (count + 1)) ≡ map f (used_among used 0 count) ++ map f (used_among used count 1) =
+    ap (map f) (used_more used 0 count count (omega arith)) ∙ map-append f (used_among used 0 count) (used_among used count 1) in
+    rw all (then_adds first second)
 
-pub unused_adds : (f : ℕ → List ℕ) (used : List Bool) (count : ℕ) (a b : Document) → slice_index_or used count false ≡ false
-    → Adds (map f (used_among used 0 count)) a b → Adds (map f (used_among used 0 (count + 1))) a b
-unused_adds f used count a b is first = rw (unused_more used 0 count is) first
+pub used_adds_none : (f : ℕ → List ℕ) (used : List Bool) (document : Document) → Adds (map f (used_among used 0 0)) document document
+used_adds_none f used document = rw (used_none used 0) (none_adds document)
 
--- a text with more objects is longer
-front_longer : (xs ys : List (List ℕ)) → length (front_pdf xs) ≤ length (front_pdf (xs ++ ys))
-front_longer xs ys =
-    let e = objects_append 1 xs ys in
-    let f = concat-append (objects_from 1 xs) (objects_from (1 + length xs) ys) in
-    grind (arith, common_steps, front_length xs, front_length (xs ++ ys), e, f)
+-- a glyph that is used, and one that is not
+pub one_used_adds : (f : ℕ → List ℕ) (used : List Bool) (n : ℕ) {a b : Document} → slice_index_or used n false ≡ true
+    → Adds (f n ∷ []) a b → Adds (map f (used_among used n 1)) a b
+one_used_adds f used n is adds = rw (used_one used n is) adds
 
--- and so it stays too long
-pub past_later : (xs ys : List (List ℕ)) (a : Document) → IsPast xs a → IsPast (xs ++ ys) a
-past_later xs ys a past = record {
-  past = λ bodies has.
-      let long = past.past bodies has in
-      grind (arith, common_steps, long, front_longer (bodies ++ xs) ys);
-}
+pub unused_adds : (f : ℕ → List ℕ) (used : List Bool) (n : ℕ) (document : Document) → slice_index_or used n false ≡ false
+    → Adds (map f (used_among used n 1)) document document
+unused_adds f used n document is = rw (unused_one used n is) (none_adds document)
 
--- objects so far that are too long
-pub past_now : (xs : List (List ℕ)) (a b : Document) → Adds xs a b → file_limit < length b.text.items → IsPast xs a
-past_now xs a b adds long = record { past = λ bodies has. let both = adds.has bodies has in grind (arith, common_steps, long, both.text) }
+-- the file of a document
+pub file_is : (bodies : List (List ℕ)) (document : Document) → HasBodies bodies document
+    → document.text.items ++ table_pdf document.places.items ++ trailer_pdf (length document.places.items) (length document.text.items) ≡ file_of bodies
+unfolding file_of
+file_is bodies document has = rw (has.text, has.places, places_count bodies) refl
 
--- objects behind those that there are are too long
-pub past_then : (xs ys : List (List ℕ)) (a b : Document) → Adds xs a b → IsPast ys b → IsPast (xs ++ ys) a
-past_then xs ys a b adds past = record {
-  past = λ bodies has.
-      let long = past.past (bodies ++ xs) (adds.has bodies has) in
-      grind (arith, common_steps, long);
-}
+-- a glyph's object
+pub glyph_added : (number : ℕ) (text : List ℕ) {a b : Document} → text ≡ glyph_pdf (number / 256) (number % 256) → Adds (stream_pdf text ∷ []) a b
+    → Adds (glyph_body number ∷ []) a b
+glyph_added number text is adds = rw (sym is) adds

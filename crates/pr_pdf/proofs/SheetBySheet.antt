@@ -1,15 +1,16 @@
 -- The objects of sheets.
-use Rattle.std.proofs.Common.{◌≡◌, ℕ, zero, suc, ◌+◌, ◌-◌, ◌*◌, ◌<◌, ◌≤◌, List, [], ◌∷◌, ◌++◌, drop, length, refl, sym, ap, ◌∙◌, arith}
+use Rattle.std.proofs.Common.{◌≡◌, ℕ, zero, suc, ◌+◌, ◌*◌, ◌<◌, ◌≤◌, List, [], ◌∷◌, ◌++◌, drop, length, refl, sym, ap, subst, ◌∙◌, arith}
 use Rattle.std.specs.Prelude.{map}
 use Rattle.std.proofs.lemmas.Grind.{common_steps}
+use Rattle.std.proofs.lemmas.List.{length-append, length-map}
 use Rattle.pr_page.specs.declared.paper.Row.{Row}
 use Rattle.pr_pdf.specs.declared.document.Document.{Document}
-use Rattle.pr_pdf.specs.Linked.{Adds, IsPast, IsSkipped}
+use Rattle.pr_pdf.specs.Linked.{Adds, IsSkipped}
 use Rattle.pr_pdf.specs.Pdf.{or_empty, sheet_bodies}
 use Rattle.pr_pdf.specs.Sheets.{sheet_count, sheet_pdf, sheets_of}
 use Rattle.pr_pdf.specs.Words.{numbers_from}
-use Rattle.pr_pdf.proofs.Numbers.{numbers_length, numbers_more}
-use Rattle.pr_pdf.proofs.Objects.{past_later, then_adds}
+use Rattle.pr_pdf.proofs.Numbers.{map_more, map_none, numbers_length}
+use Rattle.pr_pdf.proofs.Objects.{none_adds, then_adds}
 
 -- sheets behind sheets
 bodies_append : (pages number : ℕ) (xs ys : List (List ℕ))
@@ -27,28 +28,81 @@ unfolding sheet_pdf
 sheet_skipped sheet count rows skipped = rw (skipped sheet (omega arith)) refl
 
 -- one sheet more
-pub sheet_adds : (pages first number : ℕ) (f : ℕ → List ℕ) (sheet : ℕ) (a b c : Document) → number ≡ first + 2 * sheet
+pub sheet_adds : (pages first number : ℕ) (f : ℕ → List ℕ) (sheet : ℕ) {a b c : Document} → number ≡ first + 2 * sheet
     → Adds (sheet_bodies pages first (map f (numbers_from 0 sheet))) a b → Adds (sheet_bodies pages number (f sheet ∷ [])) b c
     → Adds (sheet_bodies pages first (map f (numbers_from 0 (sheet + 1)))) a c
-sheet_adds pages first number f sheet a b c at before now =
-    let more : map f (numbers_from 0 (sheet + 1)) ≡ map f (numbers_from 0 sheet) ++ f sheet ∷ [] = grind (arith, common_steps, numbers_more 0 sheet) in
-    let long : length (map f (numbers_from 0 sheet)) ≡ sheet = grind (arith, common_steps, numbers_length 0 sheet) in
-    rw (more, bodies_append pages first (map f (numbers_from 0 sheet)) (f sheet ∷ []), long, sym at)
-    (then_adds (sheet_bodies pages first (map f (numbers_from 0 sheet))) (sheet_bodies pages number (f sheet ∷ [])) a b c before now)
+sheet_adds pages first number f sheet at before now =
+    let long : length (map f (numbers_from 0 sheet)) ≡ sheet = length-map (numbers_from 0 sheet) f ∙ numbers_length 0 sheet in
+    let here : number ≡ first + 2 * length (map f (numbers_from 0 sheet)) = rw long at in
+    let one = bodies_append pages first (map f (numbers_from 0 sheet)) (f sheet ∷ []) in
+    rw (map_more f sheet, one, ← here) (then_adds before now)
 
--- numbers and numbers
-numbers_append : (first count more : ℕ) → numbers_from first (count + more) ≡ numbers_from first count ++ numbers_from (first + count) more
-unfolding numbers_from
-numbers_append first zero more = grind (arith, common_steps)
-numbers_append first (suc count) more = grind (arith, common_steps, numbers_append (first + 1) count more)
+-- no sheets
+pub sheet_adds_none : (pages first : ℕ) (f : ℕ → List ℕ) (document : Document) → Adds (sheet_bodies pages first (map f (numbers_from 0 0))) document document
+sheet_adds_none pages first f document = rw (map_none f) (none_adds document)
 
--- sheets so far that are too long
-pub sheets_past : (pages first : ℕ) (f : ℕ → List ℕ) (sheet count : ℕ) (a : Document) → sheet ≤ count
-    → IsPast (sheet_bodies pages first (map f (numbers_from 0 sheet))) a → IsPast (sheet_bodies pages first (map f (numbers_from 0 count))) a
-sheets_past pages first f sheet count a within past =
-    let all : count ≡ sheet + (count - sheet) = omega (arith, within) in
-    let e : map f (numbers_from 0 count) ≡ map f (numbers_from 0 sheet) ++ map f (numbers_from sheet (count - sheet)) =
-        ap (λ n. map f (numbers_from 0 n)) all ∙ grind (arith, common_steps, numbers_append 0 sheet (count - sheet)) in
-    rw (e, bodies_append pages first (map f (numbers_from 0 sheet)) (map f (numbers_from sheet (count - sheet))))
-    (past_later (sheet_bodies pages first (map f (numbers_from 0 sheet)))
-    (sheet_bodies pages (first + 2 * length (map f (numbers_from 0 sheet))) (map f (numbers_from sheet (count - sheet)))) a past)
+-- sheets behind sheets
+pub sheets_add : (pages first second : ℕ) (xs ys : List (List ℕ)) {a b c : Document} → second ≡ first + 2 * length xs
+    → Adds (sheet_bodies pages first xs) a b → Adds (sheet_bodies pages second ys) b c → Adds (sheet_bodies pages first (xs ++ ys)) a c
+sheets_add pages first second xs ys at before now = rw (bodies_append pages first xs ys, ← at) (then_adds before now)
+
+-- no sheets, and at least one
+pub or_empty_none : (sheets : List (List ℕ)) → length sheets ≡ 0 → or_empty sheets ≡ sheet_pdf [] 0 ∷ []
+or_empty_none [] none = refl
+or_empty_none (sheet ∷ sheets) none = absurd (omega (arith, none))
+
+pub or_empty_some : (sheets : List (List ℕ)) → 0 < length sheets → or_empty sheets ≡ sheets
+or_empty_some [] some = absurd (omega (arith, some))
+or_empty_some (sheet ∷ sheets) some = refl
+
+-- how many sheets both printers' rows take
+pub both_length : (rows4 rows5 : List Row) → length (sheets_of rows4 ++ sheets_of rows5) ≡ sheet_count rows4 + sheet_count rows5
+both_length rows4 rows5 = length-append (sheets_of rows4) (sheets_of rows5) ∙ both (length (sheets_of rows4)) (length (sheets_of rows5)) (sheet_count rows4) (sheet_count rows5) (sheets_length rows4) (sheets_length rows5)
+  where
+    both : (a b c d : ℕ) → a ≡ c → b ≡ d → a + b ≡ c + d
+    both a b c d p q = omega (arith, p, q)
+
+-- the sheets of both printers' rows, or an empty one
+pub some_add : (pages first second : ℕ) (rows4 rows5 : List Row) {a b c : Document} → second ≡ first + 2 * sheet_count rows4
+    → 0 < sheet_count rows4 + sheet_count rows5
+    → Adds (sheet_bodies pages first (sheets_of rows4)) a b → Adds (sheet_bodies pages second (sheets_of rows5)) b c
+    → Adds (sheet_bodies pages first (or_empty (sheets_of rows4 ++ sheets_of rows5))) a c
+some_add pages first second rows4 rows5 at some before now =
+    let long : second ≡ first + 2 * length (sheets_of rows4) = rw (sheets_length rows4) at in
+    let some_sheets : 0 < length (sheets_of rows4 ++ sheets_of rows5) = rw (both_length rows4 rows5) some in
+    rw (or_empty_some (sheets_of rows4 ++ sheets_of rows5) some_sheets)
+    (sheets_add pages first second (sheets_of rows4) (sheets_of rows5) long before now)
+
+pub empty_adds : (pages first second : ℕ) (rows4 rows5 : List Row) {a b c d : Document} → second ≡ first + 2 * sheet_count rows4
+    → sheet_count rows4 + sheet_count rows5 ≡ 0
+    → Adds (sheet_bodies pages first (sheets_of rows4)) a b → Adds (sheet_bodies pages second (sheets_of rows5)) b c
+    → Adds (sheet_bodies pages first (sheet_pdf [] 0 ∷ [])) c d
+    → Adds (sheet_bodies pages first (or_empty (sheets_of rows4 ++ sheets_of rows5))) a d
+empty_adds pages first second rows4 rows5 {a} {b} {c} {d} at none before now empty =
+    let no4 : sheet_count rows4 ≡ 0 = omega (arith, none) in
+    let no5 : sheet_count rows5 ≡ 0 = omega (arith, none) in
+    let none4 : sheets_of rows4 ≡ [] = rw no4 (map_none (sheet_pdf rows4)) in
+    let none5 : sheets_of rows5 ≡ [] = rw no5 (map_none (sheet_pdf rows5)) in
+    let no_sheets : length (sheets_of rows4 ++ sheets_of rows5) ≡ 0 = both_length rows4 rows5 ∙ none in
+    let from : Adds [] a b = rw none4 at before in
+    let to : Adds [] b c = rw none5 at now in
+    rw (or_empty_none (sheets_of rows4 ++ sheets_of rows5) no_sheets) (then_adds from (then_adds to empty))
+
+-- how many sheets that makes
+pub count_none : (rows4 rows5 : List Row) → sheet_count rows4 + sheet_count rows5 ≡ 0 → 1 ≡ length (or_empty (sheets_of rows4 ++ sheets_of rows5))
+count_none rows4 rows5 none =
+    let no_sheets : length (sheets_of rows4 ++ sheets_of rows5) ≡ 0 = both_length rows4 rows5 ∙ none in
+    rw (or_empty_none (sheets_of rows4 ++ sheets_of rows5) no_sheets) refl
+
+pub count_some : (rows4 rows5 : List Row) → 0 < sheet_count rows4 + sheet_count rows5
+    → sheet_count rows4 + sheet_count rows5 ≡ length (or_empty (sheets_of rows4 ++ sheets_of rows5))
+count_some rows4 rows5 some =
+    let some_sheets : 0 < length (sheets_of rows4 ++ sheets_of rows5) = rw (both_length rows4 rows5) some in
+    rw (or_empty_some (sheets_of rows4 ++ sheets_of rows5) some_sheets) (sym (both_length rows4 rows5))
+
+-- a sheet of the rows that are left
+pub sheet_now : (pages number sheet k : ℕ) (rows rest : List Row) {a b : Document} → rest ≡ drop k rows → IsSkipped sheet k rows
+    → Adds (sheet_bodies pages number (sheet_pdf rest sheet ∷ [])) a b → Adds (sheet_bodies pages number (sheet_pdf rows sheet ∷ [])) a b
+sheet_now pages number sheet k rows rest {a} {b} is skipped adds =
+    let same : sheet_pdf rest sheet ≡ sheet_pdf rows sheet = ap (λ rs. sheet_pdf rs sheet) is ∙ sheet_skipped sheet k rows skipped in
+    subst (λ (text : List ℕ). Adds (sheet_bodies pages number (text ∷ [])) a b) same adds

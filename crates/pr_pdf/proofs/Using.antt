@@ -34,8 +34,13 @@ set_map f g m first (suc count) zero more is = grind (arith, common_steps, more 
 set_map f g m first (suc count) (suc k) more is = grind (arith, common_steps, more first, is, set_map f g m (first + 1) count k more)
 
 -- one mark more
-pub one_seen : (marks : List Mark) (mark : Mark) → slice_set (used_of marks) (number_of mark) true ≡ used_of (marks ++ mark ∷ [])
+one_seen : (marks : List Mark) (mark : Mark) → slice_set (used_of marks) (number_of mark) true ≡ used_of (marks ++ mark ∷ [])
 unfolding used_of
 one_seen marks mark =
     set_map (λ n. list_any (has_number n) marks) (λ n. list_any (has_number n) (marks ++ mark ∷ [])) (number_of mark) 0 2304 (number_of mark)
-    (λ n. list_any-append (has_number n) marks (mark ∷ []) ∙ grind (arith, common_steps)) refl
+    (λ n. list_any-append (has_number n) marks (mark ∷ []) ∙ grind (arith, common_steps)) (omega arith)
+
+-- the same of a table that says what marks use
+pub seen_at : (items : List Bool) (marks : List Mark) (mark : Mark) (n : ℕ) → items ≡ used_of marks → n ≡ number_of mark
+    → slice_set items n true ≡ used_of (marks ++ mark ∷ [])
+seen_at items marks mark n is at = rw (is, at) (one_seen marks mark)

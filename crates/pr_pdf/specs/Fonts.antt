@@ -1,4 +1,5 @@
--- Trusted: the fonts of the document and their glyphs. A unit is 1/2520 inch: a dot column is 42 units wide, and 1/126 inch is 20 units.
+-- Trusted: the fonts of the document and their glyphs.
+-- A unit is 1/2520 inch: a dot column is 42 units wide, and 1/126 inch is 20 units.
 use Rattle.std.specs.Prelude.{ℕ, zero, suc, ◌+◌, ◌-◌, ◌*◌, ◌/◌, ◌%◌, Bool, false, List, [], ◌∷◌, ◌++◌, ◌==◌, nat_lt, codes, decimal, filter, flat_map, length, map, slice_index_or, if◌then◌else◌}
 use Rattle.std.specs.List.{list_any}
 use Rattle.pr_page.specs.declared.paper.Mark.{Mark}
@@ -8,8 +9,8 @@ use Rattle.pr_render.specs.Characters.{character}
 use Rattle.pr_pdf.specs.Parts.{characters_begin, characters_end, dictionary_end, disc_move, disc_stroke, encoding_begin, font_begin, font_characters, font_glyphs, fonts_begin, glyph_box, glyph_strokes, list_end, reference}
 use Rattle.pr_pdf.specs.Words.{bit, hex_2, hex_4, numbers_from}
 
--- the font of a mark: four for each character set, the graphic/upper case set first, where 1 more is wide and 2 more are reversed;
--- and the last font has the columns of dots
+-- the font of a mark: four for each character set, the graphic/upper case set first, of which the second is wide, the
+-- third reversed and the fourth both; and the last font has the columns of dots
 abbrev pub font_of : Mark → ℕ
 font_of (Cell code lower reverse wide) = (if lower then 4 else 0) + (if reverse then 2 else 0) + (if wide then 1 else 0)
 font_of (Dots value) = 8
@@ -23,10 +24,12 @@ code_of (Dots value) = value
 abbrev pub mark_of : (font code : ℕ) → Mark
 mark_of font code = if font == 8 then Dots code else Cell code (bit 4 font) (bit 2 font) (bit 1 font)
 
--- the names of the fonts: U (graphic/upper case) or L (lower/upper case), with R if reversed and W if wide; and D for columns of dots
+-- the names of the fonts: U (graphic/upper case) or L (lower/upper case), with R if reversed and W if wide;
+-- and D for columns of dots
 unfoldable pub font_names : List (List ℕ)
 font_names =
-    codes "U" ∷ codes "UW" ∷ codes "UR" ∷ codes "URW" ∷ codes "L" ∷ codes "LW" ∷ codes "LR" ∷ codes "LRW" ∷ codes "D" ∷ []
+    codes "U" ∷ codes "UW" ∷ codes "UR" ∷ codes "URW"
+    ∷ codes "L" ∷ codes "LW" ∷ codes "LR" ∷ codes "LRW" ∷ codes "D" ∷ []
 
 -- the name of a font
 abbrev pub font_name : ℕ → List ℕ
@@ -52,9 +55,11 @@ glyph_discs mark = map glyph_disc (columns_dots 0 0 (columns_of mark))
 -- a disc: a stroke without length, whose ends are round
 unfoldable pub disc_pdf : Disc → List ℕ
 disc_pdf disc =
-    decimal disc.across ++ codes " " ++ decimal disc.up ++ disc_move ++ decimal disc.across ++ codes " " ++ decimal disc.up ++ disc_stroke
+    decimal disc.across ++ codes " " ++ decimal disc.up ++ disc_move
+    ++ decimal disc.across ++ codes " " ++ decimal disc.up ++ disc_stroke
 
--- a glyph: its width, the box that holds its discs, strokes a little wider than a dot column with round ends, and the discs
+-- a glyph: its width, the box that holds its discs, strokes a little wider than a dot column with round ends,
+-- and the discs
 unfoldable pub glyph_pdf : (font code : ℕ) → List ℕ
 glyph_pdf font code =
     decimal (42 * font_columns font) ++ glyph_box ++ decimal (42 * font_columns font + 1) ++ glyph_strokes
@@ -102,7 +107,8 @@ utf_16 u =
     if nat_lt u 65536 then hex_4 u
     else hex_4 (55296 + (u - 65536) / 1024) ++ hex_4 (56320 + u % 1024)
 
--- the character of a code in a set (0 graphic/upper case, 1 lower/upper case), where a blank is a space; in place of a column of dots (2) stands a space
+-- the character of a code in a set (0 graphic/upper case, 1 lower/upper case), where a blank is a space;
+-- the character of a column of dots (2) is a space
 abbrev pub set_character : (set code : ℕ) → ℕ
 set_character set code =
     if set == 2 then 32

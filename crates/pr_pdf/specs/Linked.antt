@@ -1,15 +1,12 @@
 -- Linking words, for proofs.
-use Rattle.std.specs.Prelude.{◌≡◌, ℕ, ◌<◌, ◌≤◌, Bool, true, List, [], ◌∷◌, ◌++◌, ◌==◌, ◌&&◌, codes, drop, filter, length, map, nat_le, nat_lt, if◌then◌else◌, MatchResult, Result, Vec}
-use Rattle.std.specs.Global.{Global}
+use Rattle.std.specs.Prelude.{◌≡◌, ℕ, ◌≤◌, Bool, true, List, [], ◌∷◌, ◌++◌, ◌==◌, ◌&&◌, codes, drop, filter, length, map, nat_le, nat_lt, if◌then◌else◌}
 use Rattle.pr_page.specs.declared.paper.Mark.{Mark}
 use Rattle.pr_page.specs.declared.paper.Placed.{Placed}
 use Rattle.pr_page.specs.declared.paper.Row.{Row}
 use Rattle.pr_pdf.specs.declared.document.Document.{Document}
-use Rattle.pr_pdf.specs.declared.fault.PdfFault.{PdfFault}
-use Rattle.pr_pdf.specs.declared.fault.PdfFault.TheVariants.{TooLarge}
 use Rattle.pr_pdf.specs.Fonts.{code_of, font_of, font_pdf, used_among, used_of}
 use Rattle.pr_pdf.specs.Parts.{run_end}
-use Rattle.pr_pdf.specs.Pdf.{file_limit, first_bodies, front_pdf, glyph_body, places_of}
+use Rattle.pr_pdf.specs.Pdf.{first_bodies, front_pdf, glyph_body, places_of}
 use Rattle.pr_pdf.specs.Sheets.{end_of, is_on, run_begin}
 use Rattle.pr_pdf.specs.Words.{hex_2, numbers_from}
 
@@ -36,7 +33,8 @@ ascend y (row ∷ rows) = nat_le y row.y && ascend row.y rows
 
 -- so many rows in front are on no sheet from a sheet on
 abbrev pub IsSkipped : (sheet count : ℕ) → List Row → Type 0
-IsSkipped sheet count rows = (later : ℕ) → sheet ≤ later → filter (is_on later) rows ≡ filter (is_on later) (drop count rows)
+IsSkipped sheet count rows = (later : ℕ) → sheet ≤ later
+    → filter (is_on later) rows ≡ filter (is_on later) (drop count rows)
 
 -- a document has these objects so far
 pub record HasBodies (bodies : List (List ℕ)) (document : Document) : Type 0 where
@@ -47,18 +45,7 @@ pub record HasBodies (bodies : List (List ℕ)) (document : Document) : Type 0 w
 pub record Adds (more : List (List ℕ)) (old new : Document) : Type 0 where
   pub has : (bodies : List (List ℕ)) → HasBodies bodies old → HasBodies (bodies ++ more) new
 
--- a file, or why there is none
-abbrev pub IsFile : List ℕ → Result (Vec ℕ Global) PdfFault → Type 0
-IsFile file result = MatchResult result (λ v. (v.items ≡ file) × (length file ≤ file_limit)) (λ fault. fault ≡ TooLarge → file_limit < length file)
-
--- with these objects a document is longer than a file may be
-pub record IsPast (more : List (List ℕ)) (old : Document) : Type 0 where
-  pub past : (bodies : List (List ℕ)) → HasBodies bodies old → file_limit < length (front_pdf (bodies ++ more))
-
--- P holds if a result is this error
-abbrev pub OnErrOf : {X : Type 0} → Result X PdfFault → PdfFault → Type 0 → Type 0
-OnErrOf result wanted P = MatchResult result (λ _. Unit {0}) (λ fault. fault ≡ wanted → P)
-
 -- all objects before the sheets
 abbrev pub bodies_before : (pages : ℕ) → List Bool → List (List ℕ)
-bodies_before pages used = first_bodies pages ++ map (font_pdf used) (numbers_from 0 9) ++ map glyph_body (used_among used 0 2304)
+bodies_before pages used =
+    first_bodies pages ++ map (font_pdf used) (numbers_from 0 9) ++ map glyph_body (used_among used 0 2304)

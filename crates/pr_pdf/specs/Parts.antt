@@ -55,7 +55,11 @@ encoding_begin = codes "<< /Type /Encoding /Differences [0 "
 
 -- a set's characters: one range of 256 codes, up to the character of code 0
 unfoldable pub characters_begin : List ℕ
-characters_begin = codes "/CIDInit /ProcSet findresource begin\n12 dict begin\nbegincmap\n/CIDSystemInfo << /Registry (Adobe) /Ordering (UCS) /Supplement 0 >> def\n/CMapName /Adobe-Identity-UCS def\n/CMapType 2 def\n1 begincodespacerange\n<00> <ff>\nendcodespacerange\n1 beginbfrange\n<00> <ff> ["
+characters_begin =
+    codes "/CIDInit /ProcSet findresource begin\n12 dict begin\nbegincmap\n"
+    ++ codes "/CIDSystemInfo << /Registry (Adobe) /Ordering (UCS) /Supplement 0 >> def\n"
+    ++ codes "/CMapName /Adobe-Identity-UCS def\n/CMapType 2 def\n"
+    ++ codes "1 begincodespacerange\n<00> <ff>\nendcodespacerange\n1 beginbfrange\n<00> <ff> ["
 
 -- behind the last character
 unfoldable pub characters_end : List ℕ
@@ -63,7 +67,9 @@ characters_end = codes "]\nendbfrange\nendcmap\nCMapName currentdict /CMap defin
 
 -- a font, up to its widths: its box holds the discs of all glyphs
 unfoldable pub font_begin : List ℕ
-font_begin = codes "<< /Type /Font /Subtype /Type3 /FontBBox [-1 -22 505 262] /FontMatrix [1 0 0 1 0 0] /FirstChar 0 /LastChar 255 /Encoding 3 0 R /Resources << >> /Widths "
+font_begin =
+    codes "<< /Type /Font /Subtype /Type3 /FontBBox [-1 -22 505 262] /FontMatrix [1 0 0 1 0 0] "
+    ++ codes "/FirstChar 0 /LastChar 255 /Encoding 3 0 R /Resources << >> /Widths "
 
 -- up to its codes' characters
 unfoldable pub font_characters : List ℕ
@@ -97,8 +103,8 @@ pages_begin = codes "<< /Type /Pages /MediaBox [0 0 684 792] /Resources 2 0 R /C
 unfoldable pub pages_kids : List ℕ
 pages_kids = codes " /Kids [ "
 
--- what a sheet draws: 1/35 point a unit (a little more across and a little less up, so that a viewer that rounds down to whole pixels
--- does not lose one), from 3/4 inch from the left and 8 points below the lower edge
+-- what a sheet draws: 1/35 point a unit (a little more across and a little less up, so that a viewer that rounds down
+-- to whole pixels does not lose one), from 3/4 inch from the left and 8 points below the lower edge
 unfoldable pub sheet_begin : List ℕ
 sheet_begin = codes ".0285714286 0 0 .0285714285 54 -8 cm\nBT\n"
 

@@ -1,5 +1,6 @@
--- Trusted: papers as a PDF document (ISO 32000-1): objects that are numbered from 1 on, a table of the places at which they begin, and a trailer.
-use Rattle.std.specs.Prelude.{ℕ, ◌+◌, ◌-◌, ◌*◌, Bool, List, [], ◌∷◌, ◌++◌, ◌&&◌, codes, decimal, flat_map, length, map, replicate, if◌then◌else◌}
+-- Trusted: papers as a PDF document (ISO 32000-1): objects that are numbered from 1 on, a table of the places at which
+-- they begin, and a trailer.
+use Rattle.std.specs.Prelude.{ℕ, ◌+◌, ◌-◌, ◌*◌, ◌/◌, ◌%◌, Bool, List, [], ◌∷◌, ◌++◌, ◌&&◌, codes, decimal, flat_map, length, map, replicate, if◌then◌else◌}
 use Rattle.std.specs.List.{concat}
 use Rattle.pr_page.specs.declared.paper.Paper.{Paper}
 use Rattle.pr_page.specs.declared.paper.Row.{Row}
@@ -46,7 +47,8 @@ trailer_pdf count table = trailer_begin ++ decimal (count + 1) ++ trailer_root +
 
 -- the file of these objects
 unfoldable pub file_of : List (List ℕ) → List ℕ
-file_of bodies = front_pdf bodies ++ table_pdf (places_of bodies) ++ trailer_pdf (length bodies) (length (front_pdf bodies))
+file_of bodies =
+    front_pdf bodies ++ table_pdf (places_of bodies) ++ trailer_pdf (length bodies) (length (front_pdf bodies))
 
 -- the most bytes of a file: ten digits say a place in it
 abbrev pub file_limit : ℕ
@@ -67,7 +69,8 @@ page_pdf pages content = page_begin ++ decimal pages ++ page_content ++ decimal 
 -- the objects of sheets from a number on: two for each
 abbrev pub sheet_bodies : (pages number : ℕ) → List (List ℕ) → List (List ℕ)
 sheet_bodies pages number [] = []
-sheet_bodies pages number (sheet ∷ sheets) = page_pdf pages (number + 1) ∷ stream_pdf sheet ∷ sheet_bodies pages (number + 2) sheets
+sheet_bodies pages number (sheet ∷ sheets) =
+    page_pdf pages (number + 1) ∷ stream_pdf sheet ∷ sheet_bodies pages (number + 2) sheets
 
 -- a sheet among the others: its number counts from 0
 unfoldable pub kid_pdf : (first sheet : ℕ) → List ℕ
@@ -75,7 +78,8 @@ kid_pdf first sheet = decimal (first + 2 * sheet) ++ reference
 
 -- all sheets, of 9.5 by 11 inches, the first of which is an object with this number
 unfoldable pub pages_pdf : (first count : ℕ) → List ℕ
-pages_pdf first count = pages_begin ++ decimal count ++ pages_kids ++ flat_map (kid_pdf first) (numbers_from 0 count) ++ list_end
+pages_pdf first count =
+    pages_begin ++ decimal count ++ pages_kids ++ flat_map (kid_pdf first) (numbers_from 0 count) ++ list_end
 
 -- objects 1 to 9
 abbrev pub first_bodies : ℕ → List (List ℕ)
@@ -90,7 +94,8 @@ glyph_body number = stream_pdf (glyph_pdf (number / 256) (number % 256))
 -- all objects, of which `first` is the number of the first sheet
 abbrev pub bodies_from : (first : ℕ) → List Bool → List (List ℕ) → List (List ℕ)
 bodies_from first used sheets =
-    first_bodies (first + 2 * length sheets) ++ map (font_pdf used) (numbers_from 0 9) ++ map glyph_body (used_among used 0 2304)
+    first_bodies (first + 2 * length sheets) ++ map (font_pdf used) (numbers_from 0 9)
+    ++ map glyph_body (used_among used 0 2304)
     ++ sheet_bodies (first + 2 * length sheets) first sheets ++ pages_pdf first (length sheets) ∷ []
 
 -- the rows of the printers that are drawn
@@ -111,7 +116,8 @@ abbrev pub rows_pdf : (rows4 rows5 : List Row) → List ℕ
 rows_pdf rows4 rows5 = rows_with (used_of (marks_of rows4 ++ marks_of rows5))
   where
     rows_with : List Bool → List ℕ
-    rows_with used = file_of (bodies_from (19 + used_before used 2304) used (or_empty (sheets_of rows4 ++ sheets_of rows5)))
+    rows_with used =
+        file_of (bodies_from (19 + used_before used 2304) used (or_empty (sheets_of rows4 ++ sheets_of rows5)))
 
 -- papers as a document of sheets. Marks that are held have no place yet, and are left out
 unfoldable pub pdf_of : (paper4 paper5 : Paper) → Present → List ℕ

@@ -33,7 +33,8 @@ runs_left placed (run ∷ runs) = if goes_on placed run then runs else run ∷ r
 -- a mark in front of the runs of the marks after it
 abbrev pub joined : Placed → List Run → List Run
 joined placed runs =
-    record { x = placed.x; font = font_of placed.mark; string = code_of placed.mark ∷ codes_taken placed runs } ∷ runs_left placed runs
+    record { x = placed.x; font = font_of placed.mark; string = code_of placed.mark ∷ codes_taken placed runs }
+    ∷ runs_left placed runs
 
 -- the runs of marks
 abbrev pub runs_of : List Placed → List Run
@@ -49,7 +50,8 @@ run_begin height font x =
 abbrev pub run_pdf : ℕ → Run → List ℕ
 run_pdf height run = run_begin height run.font run.x ++ flat_map hex_2 run.string ++ run_end
 
--- how high the base line of a row is on a sheet, above a place 14/126 inch below the sheet's lower edge. Sheets are counted from 0
+-- how high the base line of a row is on a sheet, above a place 14/126 inch below the sheet's lower edge.
+-- Sheets are counted from 0
 abbrev pub height_on : (sheet y : ℕ) → ℕ
 height_on sheet y = 20 * (1386 * (sheet + 1) + 1 - y)
 

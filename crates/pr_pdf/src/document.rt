@@ -1,21 +1,17 @@
 //! A document as its objects come.
 
-ghost use Rattle.std.specs.Prelude.{◌≡◌, ℕ, ◌+◌, ◌<◌, List, ◌∷◌, ◌++◌, [], decimal, flat_map, length, nat_lt, IfOk, OnOk};
+ghost use Rattle.std.specs.Prelude.{◌≡◌, ◌+◌, ◌<◌, ◌∷◌, ◌++◌, [], decimal, flat_map, length, replicate, IfOk, OnOk};
 ghost use Rattle.pr_pdf.specs.Parts.{object_begin};
-ghost use Rattle.pr_pdf.specs.Pdf.{file_limit, file_of, place_pdf, stream_pdf, table_pdf, trailer_pdf};
-ghost use Rattle.pr_pdf.specs.Linked.{Adds, HasBodies, IsFile};
+ghost use Rattle.pr_pdf.specs.Pdf.{place_pdf, stream_pdf, table_pdf, trailer_pdf};
+ghost use Rattle.pr_pdf.specs.Linked.{Adds, HasBodies};
 
 use crate::adding::{push_between, push_number};
-use crate::fault::PdfFault;
 use crate::parts::{
-    header, object_begin, object_end, place_end, stream_begin, stream_bytes, stream_end, table_begin,
-    table_free, trailer_begin, trailer_end, trailer_root,
+    header, object_begin, object_end, place_end, stream_begin, stream_bytes, stream_end,
+    table_begin, table_free, trailer_begin, trailer_end, trailer_root,
 };
 use itoa::Buffer;
 use std::alloc::{AllocError, Global};
-
-/// The most bytes of a document: those places that ten digits can say.
-pub const LIMIT: u64 = 9_999_999_999;
 
 /// The objects so far, and where each begins.
 #[derive(Drop)]
@@ -24,15 +20,24 @@ pub struct Document {
     pub places: Vec<u64>,
 }
 
+/// Adds zeros.
+fn push_zeros(text: &mut Vec<u8>, count: usize) -> Result<(), AllocError>
+    ensures { OnOk result (text.new.items ≡ text.old.items ++ replicate count 48) }
+{
+    for _zero in 0..count {
+        text.push(b'0')?;
+    }
+    Ok(())
+}
+
 /// Adds a place in ten digits.
+#[tactic(auto, unfolding(crate::specs::Pdf::place_pdf))]
 fn push_place(text: &mut Vec<u8>, place: u64) -> Result<(), AllocError>
     ensures { OnOk result (text.new.items ≡ text.old.items ++ place_pdf place) }
 {
     let mut buffer = Buffer::new();
     let digits = buffer.format(place).as_bytes();
-    for _zero in digits.len()..10 {
-        text.push(b'0')?;
-    }
+    push_zeros(text, 10_usize.saturating_sub(digits.len()))?;
     text.extend_from_slice(digits)?;
     text.extend_from_slice(place_end())
 }
@@ -101,44 +106,33 @@ impl Document {
     }
 
     /// Adds an object.
-    #[tactic(auto, unfolding(crate::specs::Pdf::object_pdf), using(crate::proofs::Objects::one_more))]
     pub fn add(&mut self, body: &[u8]) -> Result<(), AllocError>
         ensures { OnOk result (Adds (body.now ∷ []) self.old self.new) }
     {
         self.begin()?;
         self.text.extend_from_slice(body)?;
-        self.text.extend_from_slice(object_end())
+        self.text.extend_from_slice(object_end())?;
+        Ok(())
     }
 
     /// Adds an object that is a stream.
-    #[tactic(auto, unfolding(crate::specs::Pdf::object_pdf), using(crate::proofs::Objects::one_more))]
     pub fn add_stream(&mut self, bytes: &[u8]) -> Result<(), AllocError>
         ensures { OnOk result (Adds (stream_pdf bytes.now ∷ []) self.old self.new) }
     {
         self.begin()?;
         push_stream(&mut self.text, bytes)?;
-        self.text.extend_from_slice(object_end())
+        self.text.extend_from_slice(object_end())?;
+        Ok(())
     }
 
-    /// Whether the objects alone are more than [`LIMIT`] bytes.
-    pub fn is_too_large(&self) -> bool
-        ensures { result ≡ nat_lt file_limit (length self.now.text.items) }
-    {
-        LIMIT < self.text.len() as u64
-    }
-
-    /// The document as a file.
-    #[tactic(auto, unfolding(crate::specs::Pdf::file_of))]
-    pub fn finish(self) -> Result<Vec<u8>, PdfFault>
-        ensures { (bodies : List (List ℕ)) → HasBodies bodies self → IsFile (file_of bodies) result }
+    /// The document as a file: the objects, the table of their places and the trailer.
+    pub fn finish(self) -> Result<Vec<u8>, AllocError>
+        ensures { IfOk result (λ file. file.items ≡ self.text.items ++ table_pdf self.places.items ++ trailer_pdf (length self.places.items) (length self.text.items)) }
     {
         let Document { mut text, places } = self;
         let table = text.len() as u64;
         push_table(&mut text, places.as_slice())?;
         push_trailer(&mut text, places.len() as u64, table)?;
-        if LIMIT < text.len() as u64 {
-            return Err(PdfFault::TooLarge);
-        }
         Ok(text)
     }
 }

@@ -5,7 +5,7 @@ ghost use Rattle.pr_pdf.specs.Fonts.{encoding_pdf, font_pdf, glyph_object, resou
 ghost use Rattle.pr_pdf.specs.Sheets.{sheet_count, sheet_pdf, sheets_of};
 ghost use Rattle.pr_pdf.specs.Pdf.{catalog_pdf, file_limit, first_bodies, glyph_body, kid_pdf, marks_of, or_empty, page_pdf, pages_pdf, pdf_of, rows_if, rows_pdf, sheet_bodies, stream_pdf};
 ghost use Rattle.pr_pdf.specs.Words.{numbers_from};
-ghost use Rattle.pr_pdf.specs.Linked.{Adds, HasBodies, IsFile, IsPast, OnErrOf, ascend, bodies_before};
+ghost use Rattle.pr_pdf.specs.Linked.{Adds, HasBodies, ascend, bodies_before};
 
 use crate::adding::{push_between, push_number};
 use crate::document::Document;
@@ -17,11 +17,14 @@ use crate::parts::{
     catalog_begin, list_end, page_begin, page_content, pages_begin, pages_kids, reference,
     reference_end,
 };
-use crate::sheets::{are_ascending, push_sheet, sheet_count, skip_before};
+use crate::sheets::{are_ascending, push_sheet, rows_from, sheet_count, skip_before};
 use crate::used::{GLYPHS, Used};
 use pr_page::{Paper, Row};
 use pr_serial::Present;
 use std::alloc::{AllocError, Global};
+
+/// The most bytes of a document: those places that ten digits can say.
+pub const LIMIT: u64 = 9_999_999_999;
 
 /// The number of the first glyph's object.
 const FIRST_GLYPH: u64 = 19;
@@ -99,7 +102,7 @@ fn add_font(
     requires font { font < 9 }
     requires object { object ≡ glyph_object used.now (256 * font) }
     ensures font { OnOk result (Adds (font_pdf used.now font ∷ []) document.old document.new) }
-    ensures next { IfOk result (λ next. next ≡ glyph_object used.now (256 * (font + 1))) }
+    ensures next { IfOk result (λ next. next ≡ glyph_object used.now (256 * font + 256)) }
 {
     let mut text = Vec::new(alloc);
     let next = push_font(&mut text, used, font, object)?;
@@ -118,13 +121,22 @@ fn add_fonts(document: &mut Document, alloc: Global, used: &Used) -> Result<(), 
     Ok(())
 }
 
-/// Adds a glyph.
-fn add_glyph(document: &mut Document, alloc: Global, number: usize) -> Result<(), AllocError>
-    ensures { OnOk result (Adds (glyph_body number ∷ []) document.old document.new) }
+/// Adds a number's glyph, if it is used.
+fn add_glyph(
+    document: &mut Document,
+    alloc: Global,
+    used: &Used,
+    number: usize,
+) -> Result<(), AllocError>
+    ensures { OnOk result (Adds (map glyph_body (used_among used.now number 1)) document.old document.new) }
 {
+    if !used.has(number) {
+        return Ok(());
+    }
     let mut text = Vec::new(alloc);
     push_glyph(&mut text, number / 256, (number % 256) as u8)?;
-    document.add_stream(&text)
+    document.add_stream(&text)?;
+    Ok(())
 }
 
 /// Adds the glyphs before a number that are used.
@@ -137,9 +149,7 @@ fn add_glyphs(
     ensures { OnOk result (Adds (map glyph_body (used_among used.now 0 end)) document.old document.new) }
 {
     for number in 0..end {
-        if used.has(number) {
-            add_glyph(document, alloc, number)?;
-        }
+        add_glyph(document, alloc, used, number)?;
     }
     Ok(())
 }
@@ -190,36 +200,26 @@ fn add_sheets(
     pages: u64,
     first: u64,
     rows: &[Row],
-) -> Result<u64, PdfFault>
+) -> Result<u64, AllocError>
     requires { first < 2 ^ 60 }
     ensures sheets { OnOk result (Adds (sheet_bodies pages first (sheets_of rows.now)) document.old document.new) }
     ensures next { IfOk result (λ next. next ≡ first + 2 * sheet_count rows.now) }
-    ensures too_large { OnErrOf result PdfFault.TooLarge (IsPast (sheet_bodies pages first (sheets_of rows.now)) document.old) }
+    ensures within { IfOk result (λ next. next ≤ first + 2 ^ 55) }
 {
     let ascending = are_ascending(rows);
     let mut number = first;
     let mut before = 0;
     for sheet in 0..sheet_count(rows) {
-        if document.is_too_large() {
-            return Err(PdfFault::TooLarge);
-        }
-        before += skip_before(&rows[before..], sheet);
-        add_sheet_of(
-            document,
-            alloc,
-            pages,
-            number,
-            sheet,
-            &rows[before..],
-            ascending,
-        )?;
+        before = skip_before(rows, before, sheet);
+        let rest = rows_from(rows, before);
+        add_sheet_of(document, alloc, pages, number, sheet, rest, ascending)?;
         number += 2;
     }
     Ok(number)
 }
 
 /// Adds the numbers of sheets.
-#[tactic(auto, unfolding(crate::specs::Pdf::kid_pdf), using(crate::proofs::Numbers::flat_more, crate::proofs::Numbers::flat_none))]
+#[tactic(auto, unfolding(crate::specs::Pdf::kid_pdf))]
 fn push_kids(text: &mut Vec<u8>, first: u64, count: u64) -> Result<(), AllocError>
     requires { first + 2 * count < 2 ^ 64 }
     ensures { OnOk result (text.new.items ≡ text.old.items ++ flat_map (kid_pdf first) (numbers_from 0 count)) }
@@ -278,10 +278,9 @@ fn add_all_sheets(
     first: u64,
     rows4: &[Row],
     rows5: &[Row],
-) -> Result<(), PdfFault>
+) -> Result<(), AllocError>
     requires { first < 2 ^ 50 }
-    ensures sheets { OnOk result (Adds (sheet_bodies pages first (or_empty (sheets_of rows4.now ++ sheets_of rows5.now))) document.old document.new) }
-    ensures too_large { OnErrOf result PdfFault.TooLarge (IsPast (sheet_bodies pages first (or_empty (sheets_of rows4.now ++ sheets_of rows5.now))) document.old) }
+    ensures { OnOk result (Adds (sheet_bodies pages first (or_empty (sheets_of rows4.now ++ sheets_of rows5.now))) document.old document.new) }
 {
     let second = add_sheets(document, alloc, pages, first, rows4)?;
     let end = add_sheets(document, alloc, pages, second, rows5)?;
@@ -291,19 +290,30 @@ fn add_all_sheets(
     Ok(())
 }
 
+/// How many sheets the rows of both printers take, or 1 for an empty one.
+#[tactic(auto, using(crate::proofs::SheetBySheet::count_none, crate::proofs::SheetBySheet::count_some))]
+fn all_sheet_count(rows4: &[Row], rows5: &[Row]) -> u64
+    ensures count { result ≡ length (or_empty (sheets_of rows4.now ++ sheets_of rows5.now)) }
+    ensures within { result ≤ 2 ^ 55 }
+{
+    let drawn = sheet_count(rows4) + sheet_count(rows5);
+    if drawn == 0 { 1 } else { drawn }
+}
+
 /// The document of rows of both printers.
-fn draw(alloc: Global, rows4: &[Row], rows5: &[Row]) -> Result<Vec<u8>, PdfFault>
-    ensures { IsFile (rows_pdf rows4.now rows5.now) result }
+fn draw(alloc: Global, rows4: &[Row], rows5: &[Row]) -> Result<Vec<u8>, AllocError>
+    ensures { IfOk result (λ file. file.items ≡ rows_pdf rows4.now rows5.now) }
 {
     let used = used_by(alloc, rows4, rows5)?;
-    let drawn = sheet_count(rows4) + sheet_count(rows5);
-    let count = if drawn == 0 { 1 } else { drawn };
-    let first = FIRST_GLYPH + used.before(GLYPHS);
+    let count = all_sheet_count(rows4, rows5);
+    let glyphs = used.before(GLYPHS);
+    let first = FIRST_GLYPH + glyphs;
     let pages = first + 2 * count;
     let mut document = begun(alloc, &used, pages)?;
     add_all_sheets(&mut document, alloc, pages, first, rows4, rows5)?;
     add_pages(&mut document, alloc, first, count)?;
-    document.finish()
+    let file = document.finish()?;
+    Ok(file)
 }
 
 /// The rows of a paper, if its printer is drawn.
@@ -333,9 +343,11 @@ pub fn pdf(
     ensures within { IfOk result (λ file. length file.items ≤ file_limit) }
     ensures too_large { IfErr result (λ fault. fault ≡ PdfFault.TooLarge → file_limit < length (pdf_of paper4.now paper5.now drawn)) }
 {
-    draw(
-        alloc,
-        rows_if(drawn.four, paper4),
-        rows_if(drawn.five, paper5),
-    )
+    let rows4 = rows_if(drawn.four, paper4);
+    let rows5 = rows_if(drawn.five, paper5);
+    let file = draw(alloc, rows4, rows5)?;
+    if LIMIT < file.len() as u64 {
+        return Err(PdfFault::TooLarge);
+    }
+    Ok(file)
 }

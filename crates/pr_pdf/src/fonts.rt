@@ -22,7 +22,6 @@ pub fn push_code_name(text: &mut Vec<u8>, code: u64) -> Result<(), AllocError>
 }
 
 /// Adds the names of codes.
-#[tactic(auto, using(crate::proofs::Numbers::flat_more, crate::proofs::Numbers::flat_none))]
 fn push_code_names(text: &mut Vec<u8>, count: u64) -> Result<(), AllocError>
     ensures { OnOk result (text.new.items ≡ text.old.items ++ flat_map code_name (numbers_from 0 count)) }
 {
@@ -43,7 +42,7 @@ pub fn push_encoding(text: &mut Vec<u8>) -> Result<(), AllocError>
 }
 
 /// Adds the width of glyphs.
-#[tactic(auto, unfolding(crate::specs::Fonts::width_pdf), using(crate::proofs::Numbers::flat_more, crate::proofs::Numbers::flat_none))]
+#[tactic(auto, unfolding(crate::specs::Fonts::width_pdf))]
 fn push_each_width(text: &mut Vec<u8>, columns: u64, count: u64) -> Result<(), AllocError>
     requires { columns ≤ 12 }
     ensures { OnOk result (text.new.items ≡ text.old.items ++ flat_map (width_pdf columns) (numbers_from 0 count)) }
@@ -102,7 +101,6 @@ fn push_character(text: &mut Vec<u8>, set: u64, code: u8) -> Result<(), AllocErr
 }
 
 /// Adds the characters of codes.
-#[tactic(auto, using(crate::proofs::Numbers::flat_more, crate::proofs::Numbers::flat_none))]
 fn push_each_character(text: &mut Vec<u8>, set: u64, count: u64) -> Result<(), AllocError>
     requires { count ≤ 256 }
     ensures { OnOk result (text.new.items ≡ text.old.items ++ flat_map (character_pdf set) (numbers_from 0 count)) }
@@ -135,7 +133,6 @@ fn push_font_entry(text: &mut Vec<u8>, font: usize) -> Result<(), AllocError>
 }
 
 /// Adds the entries of fonts.
-#[tactic(auto, using(crate::proofs::Numbers::flat_more, crate::proofs::Numbers::flat_none))]
 fn push_font_entries(text: &mut Vec<u8>, count: usize) -> Result<(), AllocError>
     requires { count ≤ 9 }
     ensures { OnOk result (text.new.items ≡ text.old.items ++ flat_map font_entry (numbers_from 0 count)) }

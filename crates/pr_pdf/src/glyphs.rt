@@ -1,6 +1,6 @@
 //! Fonts and their glyphs.
 
-ghost use Rattle.std.specs.Prelude.{◌≡◌, ◌+◌, ◌*◌, ◌<◌, ◌≤◌, ◌++◌, flat_map, length, map, OnOk};
+ghost use Rattle.std.specs.Prelude.{◌≡◌, ◌+◌, ◌*◌, ◌<◌, ◌≤◌, ◌++◌, flat_map, length, map, IfOk, OnOk};
 ghost use Rattle.pr_dots.specs.Dots.{bit_dots, column_dots, columns_dots};
 ghost use Rattle.pr_pdf.specs.Fonts.{disc_pdf, font_pdf, glyph_disc, glyph_object, glyph_pdf, proc_pdf, used_among, widths_object};
 
@@ -93,18 +93,24 @@ fn widths_object(font: usize) -> u64
     }
 }
 
-/// Adds a glyph among those of its font.
-#[tactic(auto, unfolding(crate::specs::Fonts::proc_pdf))]
-fn push_proc(text: &mut Vec<u8>, number: usize, object: u64) -> Result<(), AllocError>
-    ensures { (used : List Bool) → object ≡ glyph_object used number → OnOk result (text.new.items ≡ text.old.items ++ proc_pdf used number) }
+/// Adds a number's glyph among those of its font, if it is used, and gives the next glyph's object.
+#[tactic(auto, unfolding(crate::specs::Fonts::proc_pdf), using(crate::proofs::Numbers::used_few))]
+fn push_proc(text: &mut Vec<u8>, used: &Used, number: usize, object: u64) -> Result<u64, AllocError>
+    requires number { number < 2304 }
+    requires object { object ≡ glyph_object used.now number }
+    ensures proc { OnOk result (text.new.items ≡ text.old.items ++ flat_map (proc_pdf used.now) (used_among used.now number 1)) }
+    ensures next { IfOk result (λ next. next ≡ glyph_object used.now (number + 1)) }
 {
+    if !used.has(number) {
+        return Ok(object);
+    }
     push_code_name(text, (number % 256) as u64)?;
     push_number(text, object)?;
-    text.extend_from_slice(reference())
+    text.extend_from_slice(reference())?;
+    Ok(object + 1)
 }
 
 /// Adds the glyphs of so many numbers that are used, and gives the next glyph's object.
-#[tactic(auto, using(crate::proofs::Numbers::used_more, crate::proofs::Numbers::unused_more))]
 fn push_procs(
     text: &mut Vec<u8>,
     used: &Used,
@@ -120,11 +126,7 @@ fn push_procs(
 {
     let mut next = object;
     for place in 0..count {
-        let number = first + place;
-        if used.has(number) {
-            push_proc(text, number, next)?;
-            next += 1;
-        }
+        next = push_proc(text, used, first + place, next)?;
     }
     Ok(next)
 }
@@ -140,11 +142,16 @@ pub fn push_font(
     requires font { font < 9 }
     requires object { object ≡ glyph_object used.now (256 * font) }
     ensures font { OnOk result (text.new.items ≡ text.old.items ++ font_pdf used.now font) }
-    ensures next { IfOk result (λ next. next ≡ glyph_object used.now (256 * (font + 1))) }
+    ensures next { IfOk result (λ next. next ≡ glyph_object used.now (256 * font + 256)) }
 {
     text.extend_from_slice(font_begin())?;
     push_number(text, widths_object(font))?;
-    push_between(text, font_characters(), 7 + (font / 4) as u64, font_glyphs())?;
+    push_between(
+        text,
+        font_characters(),
+        7 + (font / 4) as u64,
+        font_glyphs(),
+    )?;
     let next = push_procs(text, used, 256 * font, 256, object)?;
     text.extend_from_slice(dictionary_end())?;
     Ok(next)

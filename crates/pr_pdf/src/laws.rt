@@ -1,15 +1,14 @@
 //! Laws of the definitions, with nothing to run.
 
-ghost use Rattle.pr_pdf.specs.Laws.{SheetsDrawTheirDots, SheetsHaveTheirDots};
+ghost use Rattle.pr_pdf.specs.Laws.{DrawsDots, DrawsPaper};
 
 /// A law: a sheet draws a disc for each dot of the rows that are on it, and no other disc; the glyphs of a string
-/// stand side by side.
-pub fn sheets_draw_their_dots()
-    ensures { SheetsDrawTheirDots }
+/// are side by side.
+pub fn sheets_draw_dots()
+    ensures { DrawsDots }
 {}
 
-/// A law: each dot of a paper is among those of the rows that are on its sheet, and what else these rows have
-/// there is a dot of the paper.
-pub fn sheets_have_their_dots()
-    ensures { SheetsHaveTheirDots }
+/// A law: a place of a paper has a disc on its sheet exactly if the paper has a dot there.
+pub fn sheets_draw_papers()
+    ensures { DrawsPaper }
 {}

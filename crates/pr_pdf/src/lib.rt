@@ -20,7 +20,6 @@ mod runs;
 mod sheets;
 mod used;
 
-pub use document::LIMIT;
-pub use drawing::pdf;
+pub use drawing::{LIMIT, pdf};
 pub use fault::PdfFault;
-pub use laws::{sheets_draw_their_dots, sheets_have_their_dots};
+pub use laws::{sheets_draw_dots, sheets_draw_papers};

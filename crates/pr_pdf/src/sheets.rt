@@ -1,6 +1,6 @@
 //! What is on a sheet.
 
-ghost use Rattle.std.specs.Prelude.{◌≡◌, ◌<◌, ◌≤◌, ◌++◌, filter, flat_map, length, true, OnOk};
+ghost use Rattle.std.specs.Prelude.{◌≡◌, ◌<◌, ◌≤◌, ◌∷◌, ◌++◌, [], ◌&&◌, drop, filter, flat_map, length, nat_lt, true, OnOk};
 ghost use Rattle.pr_pdf.specs.Sheets.{first_sheet, height_on, is_on, last_sheet, row_pdf, sheet_count, sheet_pdf};
 ghost use Rattle.pr_pdf.specs.Linked.{IsSkipped, ascend};
 
@@ -57,7 +57,7 @@ pub fn are_ascending(rows: &[Row]) -> bool
     true
 }
 
-/// Adds a row, if it is on a sheet.
+/// Adds a row that is on a sheet.
 fn push_row(text: &mut Vec<u8>, sheet: u64, row: &Row) -> Result<(), AllocError>
     requires { is_on sheet row.now ≡ true }
     ensures { OnOk result (text.new.items ≡ text.old.items ++ row_pdf sheet row.now) }
@@ -71,8 +71,24 @@ fn push_row(text: &mut Vec<u8>, sheet: u64, row: &Row) -> Result<(), AllocError>
     push_runs(text, height, row.marks.as_slice())
 }
 
+/// Adds a row, if it is on a sheet.
+fn push_row_if(text: &mut Vec<u8>, sheet: u64, row: &Row) -> Result<(), AllocError>
+    ensures { OnOk result (text.new.items ≡ text.old.items ++ flat_map (row_pdf sheet) (filter (is_on sheet) (row.now ∷ []))) }
+{
+    if first_sheet(row) == sheet || last_sheet(row) == sheet {
+        push_row(text, sheet, row)?;
+    }
+    Ok(())
+}
+
+/// Whether a row is after a sheet, and so are those after it.
+fn is_past(ascending: bool, sheet: u64, row: &Row) -> bool
+    ensures { result ≡ (ascending && nat_lt sheet (first_sheet row.now)) }
+{
+    ascending && sheet < first_sheet(row)
+}
+
 /// Adds the rows that are on a sheet. Where the rows ascend, those after the sheet are not looked at.
-#[tactic(auto, using(crate::proofs::Sheeted::none_after, crate::proofs::Sheeted::ascend_lower))]
 fn push_rows(
     text: &mut Vec<u8>,
     sheet: u64,
@@ -83,12 +99,10 @@ fn push_rows(
     ensures { OnOk result (text.new.items ≡ text.old.items ++ flat_map (row_pdf sheet) (filter (is_on sheet) rows.now)) }
 {
     for row in rows {
-        let first = first_sheet(row);
-        if first == sheet || last_sheet(row) == sheet {
-            push_row(text, sheet, row)?;
-        } else if ascending && sheet < first {
+        if is_past(ascending, sheet, row) {
             return Ok(());
         }
+        push_row_if(text, sheet, row)?;
     }
     Ok(())
 }
@@ -109,15 +123,24 @@ pub fn push_sheet(
     text.extend_from_slice(sheet_end())
 }
 
-/// How many rows from a place on are before a sheet.
+/// The first row, from one on, that does not end before a sheet.
 #[tactic(auto, using(crate::proofs::Sheeted::one_skipped))]
-pub fn skip_before(rows: &[Row], sheet: u64) -> usize
+pub fn skip_before(rows: &[Row], from: usize, sheet: u64) -> usize
+    requires { from ≤ length rows.now }
     ensures within { result ≤ length rows.now }
-    ensures before { IsSkipped sheet result rows.now }
+    ensures before { IsSkipped sheet from rows.now → IsSkipped sheet result rows.now }
 {
-    let mut count = 0;
+    let mut count = from;
     while count < rows.len() && last_sheet(&rows[count]) < sheet {
         count += 1;
     }
     count
+}
+
+/// The rows from one on.
+pub fn rows_from(rows: &[Row], from: usize) -> &[Row]
+    requires { from ≤ length rows.now }
+    ensures { result.now ≡ drop from rows.now }
+{
+    &rows[from..]
 }

@@ -47,7 +47,6 @@ impl Used {
     }
 
     /// Takes a mark's glyph as used.
-    #[tactic(auto, using(crate::proofs::Using::one_seen))]
     fn see(&mut self, mark: Mark)
         ensures { HasSeen (mark ∷ []) self.old self.new }
     {
@@ -73,7 +72,6 @@ impl Used {
     }
 
     /// How many glyphs before a number are used.
-    #[tactic(auto, using(crate::proofs::Numbers::used_more, crate::proofs::Numbers::unused_more))]
     pub fn before(&self, end: usize) -> u64
         ensures count { result ≡ used_before self.now end }
         ensures within { result ≤ end }

@@ -1,8 +1,10 @@
-//! Tests of forms: dots, pages as pictures, recordings in the formats of other tools, what recordings say, and stories.
+//! Tests of forms: dots, pages as pictures and as documents, recordings in the formats of other tools, what recordings say, and stories.
 #![tactic(auto)]
 
 #[cfg(test)]
 mod decoder;
+#[cfg(test)]
+mod documents;
 #[cfg(test)]
 mod dots;
 #[cfg(test)]

@@ -1,13 +1,9 @@
-use Rattle.std.proofs.Common.{◌≡◌, true, ◌++◌, drop}
+use Rattle.std.proofs.Common.{◌≡◌, ◌++◌, drop}
 use Rattle.std.specs.Prelude.{filter, flat_map}
-use Rattle.pr_pdf.specs.Linked.{ascend}
 use Rattle.pr_pdf.specs.Sheets.{is_on, row_pdf}
 use Rattle.pr_pdf.proofs.sheets.push_rows.Given as goal
 
 -- the text so far and that of what is left make the whole
 abbrev pub invariant-loop-row : goal.invariant-loop-row
-invariant-loop-row l = record {
-  text : l.text.items ++ flat_map (row_pdf l.sheet) (filter (is_on l.sheet) (drop l.row-index l.rows))
-      ≡ l.fn.text.items ++ flat_map (row_pdf l.sheet) (filter (is_on l.sheet) l.rows);
-  ascends : l.ascending ≡ true → ascend 0 (drop l.row-index l.rows) ≡ true;
-}
+invariant-loop-row l = l.text.items ++ flat_map (row_pdf l.sheet) (filter (is_on l.sheet) (drop l.row-index l.rows))
+    ≡ l.fn.text.items ++ flat_map (row_pdf l.sheet) (filter (is_on l.sheet) l.rows)

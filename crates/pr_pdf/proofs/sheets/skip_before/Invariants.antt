@@ -5,7 +5,7 @@ use Rattle.pr_pdf.proofs.sheets.skip_before.Given as goal
 abbrev pub invariant-loop-count : goal.invariant-loop-count
 invariant-loop-count l = record {
   within : l.count ≤ length l.rows;
-  before : IsSkipped l.sheet l.count l.rows;
+  before : IsSkipped l.sheet l.from l.rows → IsSkipped l.sheet l.count l.rows;
 }
 
 abbrev pub decreases-loop-count : goal.decreases-loop-count
