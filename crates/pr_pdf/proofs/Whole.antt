@@ -3,16 +3,23 @@ use Rattle.std.proofs.Common.{◌≡◌, ℕ, ◌+◌, ◌*◌, Bool, List, [], 
 use Rattle.std.specs.Prelude.{map}
 use Rattle.pr_page.specs.declared.paper.Row.{Row}
 use Rattle.pr_pdf.specs.declared.document.Document.{Document}
-use Rattle.pr_pdf.specs.Fonts.{used_before, used_of}
+use Rattle.pr_pdf.specs.Fonts.{font_pdf, used_among, used_before, used_of}
 use Rattle.pr_pdf.specs.Linked.{Adds, HasBodies, bodies_before}
-use Rattle.pr_pdf.specs.Pdf.{bodies_from, file_of, marks_of, or_empty, pages_pdf, rows_pdf, sheet_bodies, table_pdf, trailer_pdf}
+use Rattle.pr_pdf.specs.Pdf.{bodies_from, file_of, first_bodies, glyph_body, marks_of, or_empty, pages_pdf, rows_pdf, sheet_bodies, table_pdf, trailer_pdf}
 use Rattle.pr_pdf.specs.Sheets.{sheets_of}
+use Rattle.pr_pdf.specs.Words.{numbers_from}
 use Rattle.pr_pdf.proofs.Objects.{file_is}
+
+regrouped : (a b c d e : List (List ℕ)) → ((a ++ b ++ c) ++ d) ++ e ≡ a ++ b ++ c ++ d ++ e
+regrouped a b c d e = simp append_assoc
 
 -- all objects
 all_bodies : (first pages count : ℕ) (used : List Bool) (sheets : List (List ℕ)) → pages ≡ first + 2 * count → count ≡ length sheets
     → (bodies_before pages used ++ sheet_bodies pages first sheets) ++ pages_pdf first count ∷ [] ≡ bodies_from first used sheets
-all_bodies first pages count used sheets pages_is count_is = rw (pages_is, count_is) (simp append_assoc)
+all_bodies first pages count used sheets pages_is count_is =
+    rw (pages_is, count_is)
+    (regrouped (first_bodies (first + 2 * length sheets)) (map (font_pdf used) (numbers_from 0 9)) (map glyph_body (used_among used 0 2304))
+    (sheet_bodies (first + 2 * length sheets) first sheets) (pages_pdf first (length sheets) ∷ []))
 
 -- the file of all objects
 drawn : (first pages count : ℕ) (used : List Bool) (sheets : List (List ℕ)) (a b c : Document) → pages ≡ first + 2 * count → count ≡ length sheets

@@ -8,7 +8,7 @@ use Rattle.pr_pdf.proofs.drawing.add_sheets.Goals as goal
 pub loop-sheet-init : goal.loop-sheet-init
 loop-sheet-init c = record {
   sheets = sheet_adds_none c.args.pages c.args.first (sheet_pdf c.args.rows.now) c.args.document.now;
-  number = refl;
+  number = omega arith;
   within = omega arith;
   before = λ later from. refl;
 }

@@ -1,7 +1,7 @@
 use Rattle.std.proofs.Common.{◌≡◌, ◌+◌, ◌∙◌, ap, arith, sym, true, false, append-nil}
 use Rattle.std.specs.Prelude.{slice_index_or}
 use Rattle.std.proofs.lemmas.Grind.{common_steps}
-use Rattle.pr_pdf.proofs.Numbers.{before_unused, before_used, proc_is, unused_one}
+use Rattle.pr_pdf.proofs.Numbers.{before_unused, object_more, proc_is, unused_one}
 use Rattle.pr_pdf.proofs.glyphs.push_proc.Goals as goal
 
 pub returns-then-not-has-clause-proc : goal.returns-then-not-has-clause-proc
@@ -22,4 +22,4 @@ returns-clause-proc c =
 pub returns-clause-next : goal.returns-clause-next
 returns-clause-next c =
     let is : slice_index_or c.args.used.now c.args.number false ≡ true = grind (arith, c.has.ensures, c.if-not-has.false) in
-    ap (λ n. n + 1) c.requires.object ∙ ap (λ n. 19 + n) (sym (before_used c.args.used.now c.args.number is))
+    object_more c.args.used.now c.args.number c.args.object c.requires.object is
