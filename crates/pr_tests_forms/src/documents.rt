@@ -1,6 +1,6 @@
 //! Documents of papers, worked out by hand.
 
-use crate::picture::{cell, paper};
+use crate::picture::paper;
 use pr_page::{Mark, Paper, Placed};
 use pr_pdf::{LIMIT, PdfFault, pdf, sheets_draw_dots, sheets_draw_papers};
 use pr_serial::Present;
@@ -22,9 +22,25 @@ const BOTH: Present = Present {
 };
 
 /// A `T` at dot column 6, and the `T` of the other set right behind it.
-const LETTER: Placed = cell(6, 84, false);
+const LETTER: Placed = Placed {
+    x: 6,
+    mark: Mark::Cell {
+        code: 84,
+        lower: false,
+        reverse: false,
+        wide: false,
+    },
+};
 
-const SMALL: Placed = cell(12, 84, true);
+const SMALL: Placed = Placed {
+    x: 12,
+    mark: Mark::Cell {
+        code: 84,
+        lower: true,
+        reverse: false,
+        wide: false,
+    },
+};
 
 /// A column of dots right behind them, and another one behind an empty dot column.
 const COLUMN: Placed = Placed {
