@@ -4,7 +4,7 @@ ghost use Rattle.std.specs.Prelude.{◌≡◌, ◌≤◌, length};
 ghost use Rattle.std.specs.List.{prefix_len};
 ghost use Rattle.pr_base.specs.Digits.{is_digit};
 
-/// Whether a byte is a decimal digit.
+/// Returns whether a byte is a decimal digit, 48 to 57.
 #[inline(always)]
 pub fn is_digit(b: u8) -> bool
     ensures { result ≡ is_digit b }
@@ -12,7 +12,7 @@ pub fn is_digit(b: u8) -> bool
     b >= b'0' && b <= b'9'
 }
 
-/// How many digits stand in front, in bytes.
+/// Returns the number of decimal digits at the front of some bytes.
 pub fn digit_count(bytes: &[u8]) -> usize
     ensures count { result ≡ prefix_len is_digit bytes.now }
     ensures within { result ≤ length bytes.now }

@@ -37,7 +37,7 @@ pub enum ScriptFault {
     NoMemory,
 }
 
-/// The first fault of a script, and where it stands.
+/// The first fault of a script, and where it is.
 #[derive(Clone, Copy, Debug, PartialEq, Eq, Error)]
 #[error("{fault}")]
 pub struct FaultAt {

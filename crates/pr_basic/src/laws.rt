@@ -5,10 +5,10 @@ ghost use Rattle.pr_basic.specs.FaultLaws.{PlacesChangeNoFault};
 
 use pr_serial::laws::{answers_add_up, elements_send_items};
 
-/// A law: CMD and PRINT# stop with DEVICE NOT PRESENT exactly where the file is open and the LISTEN
-/// to its device is not answered, or the element directly before it is a byte that is not answered;
-/// where the status is kept, exactly where the LISTEN or any item before it in the run is not
-/// answered. The other stops are those of the file table.
+/// A law: a CMD or PRINT# stops with DEVICE NOT PRESENT exactly where the file is open and the
+/// LISTEN to its device is not answered, or the element directly before it is a byte that is not
+/// answered; where the status is kept, exactly where the LISTEN or any item before it in the run is
+/// not answered. The other stops are those of the file table.
 pub fn stops_are_exact()
     ensures { StopsExactly }
 {
@@ -27,15 +27,16 @@ pub fn statuses_are_exact()
     answers_add_up();
 }
 
-/// A law: the items sent in a statement are exactly those after the items of what stood before it.
+/// A law: the items that a statement sends are exactly those that follow the items of all before
+/// it.
 pub fn statements_send_their_items()
     ensures { SentAfterEarlier }
 {
     elements_send_items();
 }
 
-/// A law: the table of faults with their places is the table without them: a text has a first fault
-/// at some place exactly where it has it by the same rules, of which none speaks of places.
+/// A law: a text has a first fault at some place exactly where it has that fault by the same rules
+/// without places.
 pub fn places_change_no_fault()
     ensures { PlacesChangeNoFault }
 {}

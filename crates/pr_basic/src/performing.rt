@@ -229,8 +229,8 @@ fn perform_begun<S: Serial>(
 
 /// Performs one statement, and answers the error of BASIC that stops it, if one does.
 ///
-/// It begins with status 0, or, where the status is kept, with the status that is there, which
-/// stands for what earlier items lacked. Then:
+/// It begins with status 0, or, where the status is kept, with the status that is there, which says
+/// whether an earlier item was not answered. Then:
 ///
 /// - OPEN opens the file and sends nothing.
 /// - CMD calls the file's device with LISTEN, makes it the output device and the file's number the
@@ -239,7 +239,8 @@ fn perform_begun<S: Serial>(
 /// - PRINT prints its list to the output device.
 /// - Printing a list sends its bytes, then a carriage return unless the list ends with `;`, and
 ///   after that one a line feed where the channel number is 128 or more.
-/// - CLOSE takes the file out of the table, and tells its device where it has a secondary address.
+/// - CLOSE takes the file out of the table, and closes the channel at its device where it has a
+///   secondary address.
 /// - A stop sends UNLISTEN where a device of the bus is the output device, makes the screen the
 ///   output device and the channel number 0.
 ///

@@ -1,4 +1,4 @@
-//! What stands at a place of a script's text, as an explanation of a fault shows it.
+//! What is at a place of a script's text, as an explanation of a fault shows it.
 
 ghost use Rattle.std.specs.Prelude.{ℕ, List, MatchOption};
 ghost use Rattle.pr_basic.specs.FaultLaws.{FaultsTellTheirLine, PlacesHaveOneLine};
@@ -19,9 +19,10 @@ pub struct LineAt<'a> {
     pub bytes: &'a [u8],
 }
 
-/// The line in which a place stands, or at whose end: a place is how many bytes of the text stand
-/// before it, and its column, counted from 1 in bytes, is the place less the line's `start` and
-/// one more. None where no line stands there: behind the text, or behind its last byte 10.
+/// Returns the line of a text that a place is in, or at whose end it is. A place is the number of
+/// bytes of the text before it; its column, counted from 1 in bytes, is the place less the line's
+/// `start`, plus one. None exactly where it is in no line: after the text, or after its last byte
+/// 10.
 ///
 /// The time is linear in the bytes up to the line's end.
 pub fn line_at(text: &[u8], place: usize) -> Option<LineAt<'_>>
@@ -47,7 +48,8 @@ pub fn line_at(text: &[u8], place: usize) -> Option<LineAt<'_>>
     None
 }
 
-/// The BASIC number at the front of a line, if one of at most 63999 stands there.
+/// Returns the BASIC number at the front of a line; None exactly where there is none of at most
+/// 63999.
 pub fn basic_number(line: &[u8]) -> Option<u32>
     ensures { MatchOption result ((n : ℕ) → HasBasicNumber line.now n → ⊥) (λ n. HasBasicNumber line.now n) }
 {
@@ -67,8 +69,8 @@ pub fn basic_number(line: &[u8]) -> Option<u32>
     }
 }
 
-/// The bytes of the lexeme at the front of some bytes of a line. None where a space or a tab stands
-/// there, or nothing.
+/// Returns the bytes of the lexeme at the front of some bytes of a line. None exactly where there
+/// is none: they begin with a space or a tab, or are no bytes.
 pub fn lexeme_at(bytes: &[u8]) -> Option<&[u8]>
     ensures { MatchOption result ((lexeme : List ℕ) → IsLexemeAt bytes.now lexeme → ⊥) (λ lexeme. IsLexemeAt bytes.now lexeme.now) }
 {
@@ -79,8 +81,8 @@ pub fn lexeme_at(bytes: &[u8]) -> Option<&[u8]>
     Some(&bytes[..size])
 }
 
-/// A law, with nothing to run: a place stands in at most one line, and the first fault of a text
-/// stands in the line whose number it tells.
+/// A law, with nothing to run: a place is in at most one line, and the place of a text's first
+/// fault is in the line whose number the fault has.
 pub fn faults_tell_their_line()
     ensures one_line { PlacesHaveOneLine }
     ensures told { FaultsTellTheirLine }

@@ -24,12 +24,15 @@ pub const STATEMENT_LIMIT: usize = 1_000_000;
 /// The largest line number (profile, after the KERNAL's BASIC).
 pub const LINE_NUMBER_LIMIT: u32 = 63_999;
 
-/// The statements of a script, in order, at most [`STATEMENT_LIMIT`].
+/// Reads the statements of a script, in order, at most [`STATEMENT_LIMIT`]. It is Ok exactly if the
+/// grammar relates the bytes to a list of statements, with that list. The time is linear in the
+/// bytes. (Profile, after the Programmer's Reference Guide's OPEN, CLOSE, CMD, PRINT#, PRINT, REM
+/// and CHR$.)
 ///
-/// Ok exactly if the grammar relates the bytes to a list of statements, with that list. Else the
-/// first fault from the left with its line's number from 1, as [`ScriptFault`] says; or
-/// [`ScriptFault::NoMemory`], if memory was refused. The time is linear in the bytes. (Profile,
-/// after the Programmer's Reference Guide's OPEN, CLOSE, CMD, PRINT#, PRINT, REM and CHR$.)
+/// # Errors
+///
+/// The first fault from the left with its line's number from 1, as [`ScriptFault`] says; or
+/// [`ScriptFault::NoMemory`], if memory was refused.
 pub fn read_script(alloc: Global, bytes: &[u8]) -> Result<Vec<Statement>, ScriptFault>
     ensures read { IfOk result (λ statements. IsScript bytes.now statements.items) }
     ensures few { IfOk result (λ statements. length statements.items ≤ statement_limit) }
@@ -43,14 +46,19 @@ pub fn read_script(alloc: Global, bytes: &[u8]) -> Result<Vec<Statement>, Script
     }
 }
 
-/// The statements of a script, as [`read_script`] gives them, or its first fault with the place
-/// where it stands: how many bytes of the text stand before the place.
+/// Reads the statements of a script, as [`read_script`] does, but an error has its place too.
 ///
-/// The place is the lexeme that is wrong, or the one that stands where another is missing. Where
-/// none stands there, it is the colon that ends the statement, or the end of the line (its byte 13
-/// or 10, or the text's end). In a string it is the byte that may not stand there, or the 256th of
-/// the list; for a CHR$ that would be the 256th, the CHR$. Spaces and tabs before a lexeme do not
-/// belong to the place. If memory was refused, the place is where the reading had come.
+/// # Errors
+///
+/// The first fault as [`read_script`] gives it, with its place: the number of bytes of the text
+/// before it, never more than the text has. If memory was refused, the place is where the reading
+/// had come.
+///
+/// The place is the lexeme that is wrong, or the one that comes where another is missing. Where
+/// none comes, it is the colon that ends the statement, or the end of the line (its byte 13 or 10,
+/// or the text's end). In a string it is the byte that is not allowed there, or the 256th of the
+/// list; for a CHR$ that would be the 256th, the CHR$. Spaces and tabs before a lexeme do not
+/// belong to the place.
 pub fn read_script_at(alloc: Global, bytes: &[u8]) -> Result<Vec<Statement>, FaultAt>
     ensures read { IfOk result (λ statements. IsScript bytes.now statements.items) }
     ensures few { IfOk result (λ statements. length statements.items ≤ statement_limit) }
@@ -244,8 +252,8 @@ fn without_return(line: &[u8]) -> &[u8]
     }
 }
 
-/// A law, with nothing to run: each text is a script of one list of statements, or it has one
-/// first fault, which stands at one place, and never both.
+/// A law, with nothing to run: each text is a script of one list of statements, or it has one first
+/// fault, at one place, and never both.
 pub fn each_text_is_a_script_or_has_one_fault()
     ensures one_list { (bytes : List ℕ) (ss others : List Statement) → IsScript bytes ss → IsScript bytes others → ss ≡ others }
     ensures one_fault { (bytes : List ℕ) (fault other : ScriptFault) → IsFirstFault bytes fault → IsFirstFault bytes other → fault ≡ other }

@@ -22,7 +22,7 @@ pub struct Session {
 }
 
 impl Session {
-    /// The session of a run of which no statement was performed: the channel number is 0.
+    /// Makes the session of a run of which no statement was performed: the channel number is 0.
     pub fn new(mode: StatusMode) -> Session
         ensures { result ≡ record { channel = 0; mode = mode } }
     {

@@ -31,7 +31,11 @@ impl Model for Line {
 }
 
 impl Line {
-    /// The same line once more. The one refusal is want of memory.
+    /// Makes the same line once more.
+    ///
+    /// # Errors
+    ///
+    /// `AllocError` where memory was refused.
     pub fn copy(&self, alloc: Global) -> Result<Line, AllocError>
         ensures { IfOk result (λ line. line ≡ self.now) }
     {
@@ -62,8 +66,8 @@ impl Model for Device {
 }
 
 impl Device {
-    /// The device with this number; None outside 4 to 30 (profile: devices 0 to 3 are no devices
-    /// of the bus).
+    /// Makes the device with this number; None exactly outside 4 to 30 (profile: devices 0 to 3 are
+    /// no devices of the bus).
     pub fn new(number: u8) -> Option<Self>
         ensures some { IfSome result (λ device. (device ≡ number) × (4 ≤ number) × (number ≤ 30)) }
         ensures none { IfNone result ((number < 4) ⊎ (30 < number)) }
@@ -74,7 +78,7 @@ impl Device {
         Some(Device { number })
     }
 
-    /// Its number.
+    /// Returns the device's number, 4 to 30.
     pub fn get(self) -> u8
         ensures number { result ≡ self }
         ensures low { 4 ≤ result }
@@ -103,7 +107,7 @@ impl Model for Second {
 }
 
 impl Second {
-    /// The secondary address with this number; None above 15 (profile).
+    /// Makes the secondary address with this number; None exactly above 15 (profile).
     pub fn new(number: u8) -> Option<Self>
         ensures some { IfSome result (λ second. (second ≡ number) × (number ≤ 15)) }
         ensures none { IfNone result (15 < number) }
@@ -114,7 +118,7 @@ impl Second {
         Some(Second { number })
     }
 
-    /// Its number.
+    /// Returns the secondary address's number, 0 to 15.
     pub fn get(self) -> u8
         ensures number { result ≡ self }
         ensures high { result ≤ 15 }
@@ -123,7 +127,7 @@ impl Second {
     }
 }
 
-/// The number of a secondary address, 0 to 15, where there is one.
+/// Returns the number of a secondary address, 0 to 15, where there is one.
 pub fn number_of_second(second: Option<Second>) -> Option<u8>
     ensures same { result ≡ second }
     ensures in_range { ForSome result (λ s. s ≤ 15) }
@@ -166,7 +170,11 @@ pub enum Statement {
 }
 
 impl Statement {
-    /// The same statement once more. The one refusal is want of memory.
+    /// Makes the same statement once more.
+    ///
+    /// # Errors
+    ///
+    /// `AllocError` where memory was refused.
     pub fn copy(&self, alloc: Global) -> Result<Statement, AllocError>
         ensures { IfOk result (λ statement. statement ≡ self.now) }
     {

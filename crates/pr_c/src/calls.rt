@@ -16,7 +16,13 @@ use pr_render::Format;
 use pr_serial::Present;
 use std::alloc::Global;
 
-/// Runs a script over wires, and puts the text of its pages in a format at the front of a buffer.
+/// Runs a script over wires, and puts the text of its pages in a format at the front of a buffer:
+/// the text that [`pr_cli::pages_as_over`] writes. The rest of the buffer stays as it was. The
+/// BASIC error that stopped the run is there exactly if one did, with its statement.
+///
+/// It is refused with the faults of [`pr_cli::pages_as_over`] but for reads and writes, and where
+/// the text has more bytes than the buffer has room for, with their number. The buffer is then as
+/// it was.
 pub fn pages(
     alloc: Global,
     script: &[u8],
@@ -45,7 +51,8 @@ pub fn pages(
     give(stopped, &output.into_inner(), out)
 }
 
-/// Runs a script over wires, and puts the trace of its run in a format at the front of a buffer.
+/// Runs a script over wires, and puts the trace of its run in a format at the front of a buffer:
+/// the text that [`pr_cli::bus_as_over`] writes, with its faults. The rest is as with [`pages`].
 pub fn bus(
     alloc: Global,
     script: &[u8],
@@ -73,7 +80,9 @@ pub fn bus(
     give(stopped, &output.into_inner(), out)
 }
 
-/// Puts the text of the page that a printer prints of some bytes at the front of a buffer.
+/// Puts the text of the page that a printer prints of some bytes at the front of a buffer: the text
+/// that [`pr_cli::raw_over`] writes, with its faults. The rest is as with [`pages`], but nothing
+/// can stop.
 pub fn raw(alloc: Global, bytes: &[u8], lower: bool, format: Format, out: &mut [u8]) -> Told
     ensures tells { Tells (IsPaperText lower format bytes.now) (IsPaperRefusal bytes.now) out.old out.new result }
     ensures length { length out.new ≡ length out.old }
@@ -84,7 +93,9 @@ pub fn raw(alloc: Global, bytes: &[u8], lower: bool, format: Format, out: &mut [
     give(made, &output.into_inner(), out)
 }
 
-/// Puts the frames that a trace text spells at the front of a buffer, a line for each.
+/// Puts the frames that a trace text spells at the front of a buffer, a line for each, and then
+/// `lawful`: the text that [`pr_cli::check_over`] writes, with its faults. The rest is as with
+/// [`pages`], but nothing can stop.
 pub fn check(alloc: Global, text: &[u8], out: &mut [u8]) -> Told
     ensures tells { Tells (IsFramesText text.now) (IsTraceRefusal text.now) out.old out.new result }
     ensures length { length out.new ≡ length out.old }

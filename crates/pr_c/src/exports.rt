@@ -41,6 +41,9 @@ fn delays_for(
 }
 
 /// Runs a script, and puts the text of its pages at the front of the caller's buffer.
+///
+/// It does what [`pages`](crate::pages) does, in plain numbers. A number that stands for no setting
+/// is refused: of the printers first, then of the status and the format.
 #[unsafe(no_mangle)]
 pub extern "C" fn print1525_pages(
     alloc: Global,
@@ -78,6 +81,9 @@ pub extern "C" fn print1525_pages(
 }
 
 /// Runs a script, and puts the trace of its run at the front of the caller's buffer.
+///
+/// It does what [`bus`](crate::bus) does, in plain numbers. A number that stands for no setting is
+/// refused: of the printers first, then of the status and the format.
 #[unsafe(no_mangle)]
 pub extern "C" fn print1525_bus(
     alloc: Global,
@@ -115,6 +121,9 @@ pub extern "C" fn print1525_bus(
 }
 
 /// Puts the page that a printer prints of some bytes at the front of the caller's buffer.
+///
+/// It does what [`raw`](crate::raw) does, in plain numbers. A number that stands for no setting is
+/// refused: of the set first, then of the format.
 #[unsafe(no_mangle)]
 pub extern "C" fn print1525_raw(
     alloc: Global,
@@ -139,6 +148,9 @@ pub extern "C" fn print1525_raw(
 }
 
 /// Puts the page that a printer prints of its inputs at the front of the caller's buffer.
+///
+/// It does what [`print`](crate::print) does, in plain numbers. A number that stands for no format
+/// is refused.
 #[unsafe(no_mangle)]
 pub extern "C" fn print1525_print(
     alloc: Global,
@@ -158,6 +170,8 @@ pub extern "C" fn print1525_print(
 }
 
 /// Puts the frames that a trace text spells at the front of the caller's buffer.
+///
+/// It does what [`check`](crate::check) does, in plain numbers.
 #[unsafe(no_mangle)]
 pub extern "C" fn print1525_check(alloc: Global, text: &[u8], out: &mut [u8], answer: &mut Answer)
     ensures tells { TellsCheck text.now out.old out.new answer.new }

@@ -1,6 +1,8 @@
 //! The library for C: memory in, memory out, no pointer kept.
 //!
-//! The caller owns every buffer. Each slice is a pointer and then a length.
+//! The caller owns every buffer. Each slice is a pointer and then a length. A call puts its text at
+//! the buffer's front where it has room, with the rest of the buffer as it was, and writes the
+//! whole answer; where it gives no text, the buffer stays as it was.
 //!
 //! - `exports` has the calls of the header, in plain numbers: no enum, bool or returned pointer crosses.
 //!   `settings` gives the numbers their meaning.

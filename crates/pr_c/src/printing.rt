@@ -89,10 +89,15 @@ fn text_of(alloc: Global, numbers: &[u16], format: Format) -> Result<Vec<u8>, No
     text.into_vec()
 }
 
-/// Puts the text of the page that a printer prints of its inputs, as that of printer 4, at the front of
-/// a buffer. The inputs are numbers: 0 to 255 a byte, 256 the selection of the graphic/upper case set,
-/// 257 that of the lower/upper case set; before the first selection the former is selected. A number
-/// that stands for no input is told by its index, from 0, before any memory is taken.
+/// Puts the text of the page that a printer prints of its inputs, as that of printer 4, at the
+/// front of a buffer. The rest of the buffer stays as it was. The inputs are numbers: 0 to 255 a
+/// byte, 256 the selection of the graphic/upper case set, 257 that of the lower/upper case set;
+/// before the first selection the former is selected.
+///
+/// It is refused for more than 2^32 inputs, exactly; then exactly where a number is above 257, with
+/// the index of the first, from 0, before any memory is taken; where memory was refused; and where
+/// the text has more bytes than the buffer has room for, with their number. The buffer is then as
+/// it was.
 pub fn print(alloc: Global, inputs: &[u16], format: Format, out: &mut [u8]) -> Told
     ensures tells { TellsInputs format inputs.now out.old out.new result }
     ensures length { length out.new ≡ length out.old }
@@ -109,8 +114,8 @@ pub fn print(alloc: Global, inputs: &[u16], format: Format, out: &mut [u8]) -> T
     }
 }
 
-/// A law, with nothing to run: what is printed of bytes in a character set is printed of inputs, of
-/// which the first selects that set and the others are these bytes.
+/// A law, with nothing to run: bytes in a character set and inputs that select this set first, with
+/// these bytes after it, have the same pages.
 pub fn bytes_are_inputs()
     ensures { BytesAreInputs }
 {}

@@ -350,7 +350,7 @@ pub struct CsvReader<'a> {
 }
 
 impl<'a> CsvReader<'a> {
-    /// Nothing of a text has come. It takes no memory.
+    /// Makes a reader that has taken nothing of a text. It takes no memory.
     pub fn new(alloc: Global, signals: Signals<'a>) -> CsvReader<'a>
         ensures read { HasReadTable signals.entry [] [] result }
         ensures number { line_number result ≡ 1 }
@@ -408,12 +408,14 @@ impl<'a> CsvReader<'a> {
     }
 
     /// Takes bytes from the front of a block: the rest of a line with its end, or else all of them.
-    /// Gives how many, and the sample of the line that they end, if it has one.
+    /// Gives how many, at least one, and the sample of the line that they end, if it has one.
+    /// However the text is cut into blocks, the samples given are those that it says before its
+    /// first fault.
     ///
     /// # Errors
     ///
-    /// The first fault of the text, whose line these bytes end; [`CaptureFault::NoMemory`] where the
-    /// growth of the line was refused. Nothing is promised of the reader afterwards.
+    /// The first fault of the text, whose line these bytes end; [`CaptureFault::NoMemory`] where
+    /// the growth of the line was refused. Nothing is promised of the reader afterwards.
     pub fn take_front(&mut self, block: &[u8]) -> Result<(usize, Option<Edge>), CaptureFault>
         // the caller's part
         requires few { line_number self.old + 1 < 2 ^ 64 }
@@ -435,12 +437,13 @@ impl<'a> CsvReader<'a> {
         Ok((len + 1, sample))
     }
 
-    /// Ends the text, whose last line may lack its end, and gives the sample of that line, if it has
-    /// one. It takes no memory.
+    /// Ends the text, whose last line may lack its end, and gives the sample of that line, if it
+    /// has one. It takes no memory.
     ///
     /// # Errors
     ///
-    /// The fault of the last line, or [`CaptureFault::NoSignal`] with ATN where no line had the names.
+    /// The fault of the last line, or [`CaptureFault::NoSignal`] with ATN where no line had the
+    /// names; never [`CaptureFault::NoMemory`].
     pub fn finish(mut self) -> Result<Option<Edge>, CaptureFault>
         requires few { line_number self + 1 < 2 ^ 64 }
         ensures { EndsText self.entry result }

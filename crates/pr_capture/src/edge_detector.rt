@@ -83,8 +83,9 @@ fn told_with(told: Option<Levels>, edge: Option<Edge>) -> Option<Levels>
 }
 
 impl EdgeDetector {
-    /// A gatherer that has taken no sample. The moments of its edges are counted from this start, in
-    /// microseconds; samples before the start count as standing there. It takes no memory.
+    /// Makes a detector that has taken no sample. The moments of its edges are counted from this
+    /// start, in microseconds; samples before the start count as samples at the start. It takes no
+    /// memory.
     pub fn new(start: u64) -> EdgeDetector
         ensures { HasGathered start [] [] result }
     {
@@ -108,7 +109,8 @@ impl EdgeDetector {
         edge
     }
 
-    /// Takes a sample, and gives the edge that is known by it, if any. It is that of an earlier sample.
+    /// Takes a sample, and gives the edge that is known by it, if any. It is that of an earlier
+    /// sample. It takes no memory.
     pub fn take(&mut self, sample: Edge) -> Option<Edge>
         ensures { GathersMore (sample ∷ []) (listed result) self.old self.new }
     {
@@ -116,7 +118,7 @@ impl EdgeDetector {
         self.hold(next)
     }
 
-    /// Ends the samples, and gives the last edge, if it was not given before.
+    /// Ends the samples, and gives the last edge, if it was not given before. It takes no memory.
     pub fn finish(self) -> Option<Edge>
         ensures { (start : ℕ) (samples edges : List Edge) → HasGathered start samples edges self →
             edges_of start samples ≡ edges ++ listed result }

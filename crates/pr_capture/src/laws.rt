@@ -12,14 +12,15 @@ pub fn given_samples_come_first()
     ensures table { csv.GivenSamplesComeFirst }
 {}
 
-/// A law: whatever follows the samples that a gatherer has taken, the edges that it has given are the
-/// first that the samples make.
+/// A law: whatever follows the samples that a detector has taken, the edges that it has given are
+/// the first that the samples make.
 pub fn given_edges_come_first()
     ensures { GivenEdgesComeFirst }
 {}
 
-/// A law: a table with a row for each of some samples, in the order of time, says these samples; of
-/// edges, each later than the one before and with other levels, it says these edges.
+/// A law: a table with a row for each of some samples, in the order of time, says these samples and
+/// has no fault; of edges, each later than the one before and with other levels, it says these
+/// edges.
 pub fn csv_is_read_back()
     ensures { CsvIsReadBack }
 {}

@@ -76,7 +76,8 @@ pub fn is_named(name: &[u8], field: &[u8]) -> bool
 }
 
 impl Signals<'_> {
-    /// The name that counts for CLOCK where no signal has the first: CLK, if that is CLOCK.
+    /// Returns the name that counts for CLOCK where no signal has CLOCK's own (`clk` where that is
+    /// `clock`, and else the same name).
     pub fn second_name(&self) -> &[u8]
         ensures { result.now ≡ second_name self.now }
     {

@@ -21,12 +21,12 @@ fn head() -> &'static [u8]
     b"$timescale 1 us $end\n$scope module bus $end\n$var wire 1 A ATN $end\n$var wire 1 C CLOCK $end\n$var wire 1 D DATA $end\n$upscope $end\n$enddefinitions $end\n"
 }
 
-/// Adds what stands before the changes: the unit of time is a microsecond, and the wires are ATN
-/// (`A`), CLOCK (`C`) and DATA (`D`).
+/// Adds the header of a Value Change Dump to a text: the unit of time is a microsecond, and the
+/// wires are ATN (`A`), CLOCK (`C`) and DATA (`D`).
 ///
 /// # Errors
 ///
-/// [`NoMemory`] where a growth of the text was refused.
+/// [`NoMemory`] where a growth of the text was refused. Nothing is promised of the text then.
 pub fn push_vcd_head(text: &mut Vec<u8>) -> Result<(), NoMemory>
     ensures { OnOk result (text.new.items ≡ text.old.items ++ head) }
 {
@@ -104,7 +104,7 @@ pub struct VcdWriter {
 }
 
 impl VcdWriter {
-    /// A writer that has written no edge. It takes no memory.
+    /// Makes a writer that has written no edge. It takes no memory.
     pub fn new() -> VcdWriter
         ensures { last_written result ≡ None }
     {
@@ -139,12 +139,12 @@ impl VcdWriter {
         Ok(())
     }
 
-    /// Ends a text: a time stamp 1000 microseconds behind the last edge, so that viewers show the last
-    /// levels. Where no edge was written there is none.
+    /// Ends a text: adds a time stamp 1000 microseconds after the last edge, so that viewers show
+    /// the last levels. Where no edge was written it adds nothing.
     ///
     /// # Errors
     ///
-    /// [`NoMemory`] where a growth of the text was refused.
+    /// [`NoMemory`] where a growth of the text was refused. Nothing is promised of the text then.
     pub fn push_end(self, text: &mut Vec<u8>) -> Result<(), NoMemory>
         ensures { OnOk result (text.new.items ≡ text.old.items ++ vcd_end (last_written self)) }
     {
@@ -155,7 +155,7 @@ impl VcdWriter {
     }
 }
 
-/// The Value Change Dump of a list of edges.
+/// Writes a list of edges as a Value Change Dump.
 ///
 /// # Errors
 ///

@@ -45,7 +45,7 @@ pub struct VcdReader<'a> {
 }
 
 impl<'a> VcdReader<'a> {
-    /// Nothing of a text has come. It takes no memory.
+    /// Makes a reader that has taken nothing of a text. It takes no memory.
     pub fn new(alloc: Global, signals: Signals<'a>) -> VcdReader<'a>
         ensures read { HasReadDump signals.entry [] [] result }
         ensures number { line_number result ≡ 1 }
@@ -102,14 +102,16 @@ impl<'a> VcdReader<'a> {
         Ok(sample)
     }
 
-    /// Takes bytes from the front of a block: the rest of a word with the byte behind it, or else all of
-    /// them. Gives how many, and the sample that the word makes, if it makes one.
+    /// Takes bytes from the front of a block: the rest of a word with the byte after it, or else
+    /// all of them. Gives how many, at least one, and the sample that the word makes, if it makes
+    /// one. However the text is cut into blocks, the samples given are those that it says before
+    /// its first fault.
     ///
     /// # Errors
     ///
-    /// The first fault of the text, whose word these bytes end; [`CaptureFault::NoMemory`] where the growth
-    /// of the word, or of what is kept of a section, was refused. Nothing is promised of the reader
-    /// afterwards.
+    /// The first fault of the text, whose word these bytes end; [`CaptureFault::NoMemory`] where
+    /// the growth of the word, or of what is kept of a section, was refused. Nothing is promised of
+    /// the reader afterwards.
     pub fn take_front(&mut self, block: &[u8]) -> Result<(usize, Option<Edge>), CaptureFault>
         // the caller's part
         requires few { line_number self.old + 1 < 2 ^ 64 }
@@ -131,13 +133,15 @@ impl<'a> VcdReader<'a> {
         Ok((len + 1, sample))
     }
 
-    /// Ends the text, whose last word may end with it, and gives the sample of that word, if it makes one.
+    /// Ends the text, whose last word may end with it, and gives the sample of that word, if it
+    /// makes one.
     ///
     /// # Errors
     ///
     /// The fault of the last word; a section without its end, or a value without a code; no
-    /// `$enddefinitions`; a wire that never got a level, unless the dump is blank behind its header: no
-    /// level there, and no moment behind 0; [`CaptureFault::NoMemory`] as for [`VcdReader::take_front`].
+    /// `$enddefinitions`; a wire that never got a level, unless the dump is blank after its header:
+    /// no level there, and no moment after 0; [`CaptureFault::NoMemory`] as for
+    /// [`VcdReader::take_front`].
     pub fn finish(mut self) -> Result<Option<Edge>, CaptureFault>
         ensures { EndsText self.entry result }
     {
@@ -148,8 +152,8 @@ impl<'a> VcdReader<'a> {
     }
 }
 
-/// A law, with nothing to run: what is written of edges, each later than the one before and with other
-/// levels, is read back as these edges.
+/// A law, with nothing to run: what is written of edges, each later than the one before and with
+/// other levels, is read back as these edges, without a fault.
 pub fn vcd_is_read_back()
     ensures { VcdIsReadBack }
 {}

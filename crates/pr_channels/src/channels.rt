@@ -66,8 +66,8 @@ impl<S: Serial> Channels<S> {
     ghost use Rattle.pr_channels.specs.Seen.{IsInStep, KeepsBus};
     ghost use Rattle.pr_channels.specs.Calls.{chkout_of, chrout_of, clrchn_of, close_of, IsFault};
 
-    /// No file is open, the screen (device 3) is the output device, the status is 0. The bus has
-    /// sent nothing yet. It takes no memory.
+    /// Makes channels over a bus that has sent nothing yet: no file is open, the screen (device 3)
+    /// is the output device, the status is 0. It takes no memory.
     pub fn new(alloc: Global, serial: S) -> Channels<S>
         // the caller's part
         requires { S.sent serial ≡ [] }
@@ -94,7 +94,7 @@ impl<S: Serial> Channels<S> {
     ///
     /// # Errors
     ///
-    /// As [`FileTable::open`]; nothing is changed then.
+    /// Those of [`FileTable::open`], the first that applies; nothing is changed then.
     pub fn open_file(&mut self, file: u8, device: u8, second: Option<u8>) -> Result<(), Stop>
         requires low { 4 ≤ device }
         requires high { device ≤ 30 }
@@ -111,10 +111,12 @@ impl<S: Serial> Channels<S> {
     ///
     /// # Errors
     ///
-    /// - [`Stop::FileNotOpen`] where the file is not open: nothing is sent and nothing changed.
-    /// - [`Stop::DeviceNotPresent`] where the status is 128 after the LISTEN, also if it was
-    ///   before: the output device is as before (profile).
-    /// - [`Fault::NoMemory`] where the bus refused; it has then failed for good.
+    /// - [`Stop::FileNotOpen`] exactly where the file is not open: nothing is sent and nothing
+    ///   changed.
+    /// - [`Stop::DeviceNotPresent`] exactly where the status is 128 after the LISTEN, also if it
+    ///   was before: the output device is as before (profile).
+    /// - [`Fault::NoMemory`] where the bus refused, in this call or an earlier one; it has then
+    ///   failed for good.
     pub fn chkout(&mut self, file: u8) -> Result<(), Fault>
         // the caller's part
         requires room { file_at self.old.files file ≢ None → length self.old.sent + 3 ≤ 2 ^ 32 }
@@ -152,7 +154,8 @@ impl<S: Serial> Channels<S> {
     /// # Errors
     ///
     /// [`NoMemory`]: on the screen where the growth of its list was refused, which changes nothing;
-    /// for a serial device where the bus refused, in this call or an earlier one.
+    /// for a serial device where the bus refused, in this call or an earlier one, and it has then
+    /// failed for good.
     pub fn chrout(&mut self, byte: u8) -> Result<(), NoMemory>
         // the caller's part
         requires room { 3 < self.old.output → length self.old.sent + 3 ≤ 2 ^ 32 }
@@ -180,8 +183,8 @@ impl<S: Serial> Channels<S> {
     ///
     /// # Errors
     ///
-    /// [`NoMemory`] where the bus refused, in this call or an earlier one; never where the screen
-    /// is the output device, since then nothing is sent.
+    /// [`NoMemory`] where the bus refused, in this call or an earlier one; it has then failed for
+    /// good. Never where the screen is the output device, since then nothing is sent.
     pub fn clrchn(&mut self) -> Result<(), NoMemory>
         // the caller's part
         requires room { 3 < self.old.output → length self.old.sent + 3 ≤ 2 ^ 32 }
@@ -236,8 +239,8 @@ impl<S: Serial> Channels<S> {
     ///
     /// # Errors
     ///
-    /// [`NoMemory`] where the bus refused, in this call or an earlier one; never where nothing is
-    /// sent.
+    /// [`NoMemory`] where the bus refused, in this call or an earlier one; it has then failed for
+    /// good. Never where nothing is sent.
     pub fn close_file(&mut self, file: u8) -> Result<(), NoMemory>
         // the caller's part
         requires room { closing (file_at self.old.files file) ≢ [] → length self.old.sent + 3 ≤ 2 ^ 32 }
@@ -259,8 +262,8 @@ impl<S: Serial> Channels<S> {
         Ok(())
     }
 
-    /// READST: the status, 128 where an item sent since the last [`Channels::clear_status`] was not
-    /// answered, else 0.
+    /// READST: returns the status, 128 where an item sent since the last [`Channels::clear_status`]
+    /// was not answered, else 0.
     pub fn readst(&self) -> u8
         ensures status { result ≡ self.now.status }
         ensures values { (result ≡ 0) ⊎ (result ≡ 128) }
@@ -268,7 +271,7 @@ impl<S: Serial> Channels<S> {
         self.sender.status()
     }
 
-    /// Makes the status 0.
+    /// Makes the status 0; nothing else changes.
     pub fn clear_status(&mut self)
         ensures status { self.new ≡ record self.old { status = 0 } }
     {
@@ -282,14 +285,14 @@ impl<S: Serial> Channels<S> {
         self.sender.forget();
     }
 
-    /// The bytes that went to the screen, in order.
+    /// Returns the bytes that went to the screen, in order.
     pub fn screen(&self) -> &[u8]
         ensures { result.now ≡ self.now.screen }
     {
         &self.screen
     }
 
-    /// The output device: 3 for the screen, or 4 to 30.
+    /// Returns the output device: 3 for the screen, or 4 to 30.
     pub fn output(&self) -> u8
         ensures value { result ≡ self.now.output }
         ensures low { 3 ≤ result }
@@ -298,15 +301,15 @@ impl<S: Serial> Channels<S> {
         self.output
     }
 
-    /// The open files.
+    /// Returns the open files.
     pub fn files(&self) -> &FileTable
         ensures { result.now ≡ self.now.files }
     {
         &self.files
     }
 
-    /// The bus. As long as it works, its items are those that the elements send, and the elements
-    /// are those of its items and then the byte held back.
+    /// Returns the bus. As long as it works, its items are those that the elements send, and the
+    /// elements are those of its items and then the byte held back.
     pub fn serial(&self) -> &S
         // the bus that the channels are seen with
         ensures present { S.printers result.now ≡ self.now.present }
@@ -320,8 +323,8 @@ impl<S: Serial> Channels<S> {
         self.sender.bus()
     }
 
-    /// The bus, and the bytes that went to the screen. A byte still held back stays unsent
-    /// (profile). It takes no memory.
+    /// Turns the channels into the bus and the bytes that went to the screen. A byte still held
+    /// back stays unsent (profile). It takes no memory.
     pub fn into_parts(self) -> (S, Vec<u8>)
         // the bus that the channels were seen with
         ensures present { S.printers result.0 ≡ self.present }

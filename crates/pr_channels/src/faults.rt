@@ -26,7 +26,7 @@ pub enum Stop {
 }
 
 impl Stop {
-    /// The number of the error: 1, 2, 3, 5 or 6.
+    /// Returns the number of the error: 1, 2, 3, 5 or 6.
     pub fn number(self) -> u8
         ensures { result ≡ stop_number self }
     {

@@ -10,12 +10,12 @@ use crate::file::File;
 use arrayvec::ArrayVec;
 use std::marker::Model;
 
-/// At most so many files are open at a time (Programmer's Reference Guide, OPEN).
+/// The most files that are open at a time (Programmer's Reference Guide, OPEN).
 const FILES: usize = 10;
 
 /// A finite map from file numbers to a device and an optional secondary address, with at most ten
-/// keys. Contracts see it as the list of its files in the order of opening, in which each number
-/// stands once. It never takes memory.
+/// keys. Contracts see it as the list of its files in the order of opening, with each number once.
+/// It never takes memory.
 #[derive(Drop)]
 pub struct FileTable {
     files: ArrayVec<File, FILES>,
@@ -33,7 +33,7 @@ impl Model for FileTable {
 }
 
 impl FileTable {
-    /// No file is open.
+    /// Makes a table in which no file is open.
     pub fn new() -> FileTable
         ensures { result ≡ [] }
     {
@@ -42,7 +42,7 @@ impl FileTable {
         }
     }
 
-    /// The open files, in the order of opening.
+    /// Returns the open files, in the order of opening.
     pub fn as_slice(&self) -> &[File]
         ensures value { result.now ≡ self.now }
         ensures is_table { IsTable result.now }
@@ -51,7 +51,7 @@ impl FileTable {
         self.files.as_slice()
     }
 
-    /// The file with this number, if it is open.
+    /// Returns the file with this number, if it is open.
     pub fn get(&self, number: u8) -> Option<File>
         ensures found { result ≡ file_at self.now number }
         ensures in_range { ForSome result IsFile }

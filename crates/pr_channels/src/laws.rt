@@ -14,8 +14,9 @@ pub fn elements_add_up()
     answers_add_up();
 }
 
-/// A law: one more file against which nothing stands makes a file table of a file table, and so
-/// does leaving files out; and what may be opened beside the files may be opened beside those left.
+/// A law: a file table with one more file that may be opened is a file table, and so is one without
+/// some of its files; what may be opened beside the files of a table may be opened beside some of
+/// them.
 pub fn tables_stay_tables()
     ensures one_more { TableWithOneMore }
     ensures some { TableWithSome }

@@ -15,7 +15,7 @@ pub struct EdgeMaker {
 }
 
 impl EdgeMaker {
-    /// A maker that has taken nothing of an input. It takes no memory.
+    /// Makes an edge maker that has taken nothing of an input. It takes no memory.
     pub fn new(input: TraceInput<'_>) -> EdgeMaker
         ensures { HasMade input.entry [] [] result }
     {
@@ -27,7 +27,7 @@ impl EdgeMaker {
     }
 
     /// Takes the next sample, or the next edge of an input that has edges, and gives the edge that is
-    /// known by it, if any.
+    /// known by it, if any. It takes no memory.
     pub fn take(&mut self, sample: Edge) -> Option<Edge>
         ensures { MakesMore sample self.old result self.new }
     {
@@ -37,7 +37,7 @@ impl EdgeMaker {
         }
     }
 
-    /// Ends the samples, and gives the last edge, if it was not given before.
+    /// Ends the samples, and gives the last edge, if it was not given before. It takes no memory.
     pub fn finish(self) -> Option<Edge>
         ensures { MakesAll self result }
     {

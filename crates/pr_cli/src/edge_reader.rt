@@ -35,7 +35,7 @@ pub struct EdgeReader<'a> {
 }
 
 impl<'a> EdgeReader<'a> {
-    /// A reader that has taken nothing of an input. It takes no memory.
+    /// Makes a reader that has taken nothing of an input. It takes no memory.
     pub fn new(alloc: Global, input: TraceInput<'a>) -> EdgeReader<'a>
         ensures known { HasEdges input.entry [] [] result }
         ensures edges { edges_in result ≡ [] }
@@ -50,7 +50,7 @@ impl<'a> EdgeReader<'a> {
         }
     }
 
-    /// The edges of the last block.
+    /// Returns the edges of the last block.
     pub fn edges(&self) -> &[Edge]
         ensures { result.now ≡ edges_in self.now }
     {
@@ -89,8 +89,8 @@ impl<'a> EdgeReader<'a> {
         Ok(self.fault.is_none())
     }
 
-    /// Ends the input, and gives the edges of the last block, the last of the input after them, at most
-    /// two, and the input's fault, if it has one.
+    /// Ends the input, and gives the edges of the last block, with the last of the input after
+    /// them, at most two, and the input's fault, if it has one: such a fault is no error.
     ///
     /// # Errors
     ///

@@ -115,11 +115,11 @@ impl From<ReadFault> for CliFault {
     }
 }
 
-/// A fault of an input itself.
+/// Returns a fault as it is, if it is one of an input itself.
 ///
 /// # Errors
 ///
-/// `AllocError` where the fault is [`CliFault::NoMemory`], which is no fault of an input.
+/// `AllocError` exactly where the fault is [`CliFault::NoMemory`], which is no fault of an input.
 pub fn own_fault(fault: CliFault) -> Result<CliFault, AllocError>
     ensures same { IfOk result (λ own. own ≡ fault) }
     ensures own { OnOk result (fault ≢ CliFault.NoMemory) }

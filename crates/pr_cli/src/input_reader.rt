@@ -14,7 +14,7 @@ use pr_wire::Edge;
 use std::alloc::{AllocError, Global};
 use std::io::Read;
 
-/// Reads an input of at most so many bytes, in any format, and gives its edges block by block.
+/// Reads an input of at most a limit of bytes, in any format, and gives its edges block by block.
 ///
 /// Call [`read_block`](InputReader::read_block) until it answers false, and take the
 /// [`edges`](InputReader::edges) of each block for which it answers true; the last come with
@@ -27,7 +27,7 @@ pub struct InputReader<'a> {
 }
 
 impl<'a> InputReader<'a> {
-    /// A reader that has read nothing of an input. It takes no memory.
+    /// Makes a reader that has read nothing of an input. It takes no memory.
     pub fn new(alloc: Global, trace: TraceInput<'a>, limit: usize) -> InputReader<'a>
         ensures read { (start : Option (List ℕ)) → HasReadEdges limit start start trace.entry [] result }
         ensures edges { edges_read result ≡ [] }
@@ -41,7 +41,7 @@ impl<'a> InputReader<'a> {
         }
     }
 
-    /// The edges of the last block.
+    /// Returns the edges of the last block.
     pub fn edges(&self) -> &[Edge]
         ensures { result.now ≡ edges_read self.now }
     {
@@ -50,9 +50,12 @@ impl<'a> InputReader<'a> {
 
     /// Reads the next bytes of the input, as many as `block` has room for at most: the edges that are
     /// known by them take the place of those of the block before. Returns whether the input goes on: false
-    /// at its end, and where its first fault is in this block.
+    /// at its end, and where its first fault is in this block, which is no error:
+    /// [`finish`](InputReader::finish) gives it.
     ///
     /// # Errors
+    ///
+    /// Some bytes of the input may have been taken then.
     ///
     /// - [`CliFault::ReadFailed`] exactly if the read has failed.
     /// - [`CliFault::TooLarge`]: only if the input has more bytes than the limit.
@@ -95,8 +98,8 @@ impl<'a> InputReader<'a> {
         }
     }
 
-    /// Ends the input, and gives the edges of the last block, the last of the input after them, at most
-    /// two, and the input's fault, if it has one.
+    /// Ends the input, and gives the edges of the last block, with the last of the input after
+    /// them, at most two, and the input's fault, if it has one: such a fault is no error.
     ///
     /// # Errors
     ///
@@ -110,9 +113,9 @@ impl<'a> InputReader<'a> {
     }
 }
 
-/// Laws, with nothing to run: whatever follows what a reader has read of an input, the input says the edges
-/// that the reader has given first; and each text says edges in each format, up to its fault if it has
-/// one.
+/// Laws, with nothing to run: whatever follows what a reader has read of an input, the edges that
+/// the reader has given are the first that the input says; and each text says edges in each format,
+/// up to its fault if it has one.
 pub fn read_edges_come_first()
     ensures first { ReadEdgesComeFirst }
     ensures some { EachTextSaysEdges }

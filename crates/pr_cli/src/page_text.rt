@@ -296,9 +296,9 @@ fn push_stop(text: &mut Text, stop: Option<(usize, Stop)>) -> Result<(), AllocEr
     text.add(b"\n")
 }
 
-/// The page text of an outcome (profile): for each printer its name and, row by row, a line for
-/// the row and one for each of its marks, then the marks held; then the statuses, the bytes of the
-/// screen, and the stop with its place from 1, if there is one. Each line ends with byte 10.
+/// Writes the page text of an outcome (profile): for each printer its name and, row by row, a line
+/// for the row and one for each of its marks, then the marks held; then the statuses, the bytes of
+/// the screen, and the stop with its place from 1, if there is one. Each line ends with byte 10.
 ///
 /// # Errors
 ///

@@ -22,8 +22,8 @@ use std::io::{Read, Write};
 pub const RAW_LIMIT: usize = 4_294_967_295;
 
 /// Reads the bytes that a printer gets to their end, and writes the page that it prints after a
-/// selection of the lower/upper case set, or else of the graphic/upper case set, in this format
-/// (profile; what the bytes do: VIC-1525 User's Manual).
+/// selection of the lower/upper case set, or else of the graphic/upper case set, in this format.
+/// (Profile; the VIC-1525 User's Manual says what the bytes do.)
 ///
 /// The page is that of printer 4, as of a run in which nothing else happened: printer 5 printed
 /// nothing, and there are no statuses, no bytes on the screen and no stop. The input is printed as
@@ -92,7 +92,8 @@ fn outcome_with(alloc: Global, paper: Paper) -> Outcome
 ///
 /// # Errors
 ///
-/// Those of [`raw_over`] but a failed write, with `limit` in place of [`RAW_LIMIT`].
+/// Those of [`raw_over`] but a failed write, with `limit` in place of [`RAW_LIMIT`]. This call
+/// writes nothing.
 pub fn print_input<R: Read>(
     alloc: Global,
     input: &mut Watched<R>,

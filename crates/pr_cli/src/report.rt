@@ -19,7 +19,7 @@ use std::alloc::{AllocError, Global};
 use std::io::{Read, Write};
 
 /// Reads a trace in any format and writes a report on it: a line for each frame, as
-/// [`crate::check_over`] does, or its story, which tells the moments too; and then `lawful`.
+/// [`crate::check_over`] does, or its story, which has the moments too; and then `lawful`.
 ///
 /// A trace text says its edges. A recording, as a Value Change Dump or as a table of comma separated
 /// values, says samples of the signals with these names, from which the edges are made, counted from
@@ -30,7 +30,7 @@ use std::io::{Read, Write};
 /// # Errors
 ///
 /// - [`CliFault::Trace`]: a trace text with its first bad line; [`CliFault::Capture`]: a recording with
-///   its first fault. No further block is read, and it is told before any fault of the edges.
+///   its first fault. No further block is read, and it is reported before any fault of the edges.
 /// - [`CliFault::Wave`]: the edges are no lawful trace, with their first fault.
 /// - [`CliFault::TooLarge`]: only if the input has more than [`CHECK_LIMIT`] bytes.
 /// - [`CliFault::ReadFailed`] exactly if the input has failed, [`CliFault::WriteFailed`] exactly if the
@@ -104,7 +104,7 @@ fn write_report<W: Write>(output: &mut Watched<W>, text: ReportText) -> Result<(
 ///
 /// Those of [`check_as_over`] but a failed write, with `limit` in place of
 /// [`CHECK_LIMIT`](crate::CHECK_LIMIT). A trace that is refused with lines before its fault is no error here: the
-/// report has the lines and the fault.
+/// report has the lines and the fault. This call writes nothing.
 pub fn report_input<R: Read>(
     alloc: Global,
     input: &mut Watched<R>,

@@ -17,7 +17,7 @@ pub enum SourceReader<'a> {
 }
 
 impl<'a> SourceReader<'a> {
-    /// Nothing of an input has come. It takes no memory.
+    /// Makes a reader that has taken nothing of an input. It takes no memory.
     pub fn new(alloc: Global, input: TraceInput<'a>) -> SourceReader<'a>
         ensures given { HasGiven input.entry [] [] result }
         ensures lines { lines_read result ≤ 1 }
@@ -34,7 +34,8 @@ impl<'a> SourceReader<'a> {
     ///
     /// # Errors
     ///
-    /// The first fault of the input, where these bytes end it, or [`CliFault::NoMemory`].
+    /// The first fault of the input, where these bytes end it, or [`CliFault::NoMemory`]; both come
+    /// as with the reader of this format. Nothing is promised of the reader afterwards.
     pub fn take_front(&mut self, block: &[u8]) -> Result<(usize, Option<Edge>), CliFault>
         // the caller's part
         requires few { lines_read self.old + 1 < 2 ^ 64 }
@@ -58,7 +59,8 @@ impl<'a> SourceReader<'a> {
     ///
     /// # Errors
     ///
-    /// The first fault of the input, or [`CliFault::NoMemory`].
+    /// The first fault of the input, or [`CliFault::NoMemory`]; both come as with the reader of
+    /// this format.
     pub fn finish(self) -> Result<Option<Edge>, CliFault>
         requires few { lines_read self + 1 < 2 ^ 64 }
         ensures { EndsInput self.entry result }

@@ -36,7 +36,7 @@ impl Model for Text {
 }
 
 impl Text {
-    /// The empty text. It takes no memory.
+    /// Makes an empty text. It takes no memory.
     pub fn new(alloc: Global) -> Text
         ensures { result ≡ [] }
     {
@@ -47,7 +47,7 @@ impl Text {
         }
     }
 
-    /// The text of a vector's bytes. It takes no memory.
+    /// Makes a text of a vector's bytes. It takes no memory.
     pub fn from_vec(alloc: Global, bytes: Vec<u8>) -> Text
         ensures { result ≡ bytes.items }
     {
@@ -59,6 +59,10 @@ impl Text {
     }
 
     /// Adds bytes at the end.
+    ///
+    /// # Errors
+    ///
+    /// `AllocError` where memory was refused. Nothing is promised of the text then.
     pub fn add(&mut self, bytes: &[u8]) -> Result<(), AllocError>
         ensures { OnOk result (self.new ≡ self.old ++ bytes.now) }
     {
@@ -66,8 +70,12 @@ impl Text {
         self.last.extend_from_slice(bytes)
     }
 
-    /// Adds the first of some bytes at the end. All of them are copied, so a copy of few bytes
-    /// whose number is known is a single move.
+    /// Adds the first `count` of some bytes at the end. All of them are copied, so a copy of few
+    /// bytes whose number is known is a single move.
+    ///
+    /// # Errors
+    ///
+    /// As [`Text::add`].
     #[inline(always)]
     pub fn add_front(&mut self, bytes: &[u8], count: usize) -> Result<(), AllocError>
         requires { count ≤ length bytes.now }
@@ -81,6 +89,10 @@ impl Text {
     }
 
     /// Adds a number in decimal at the end.
+    ///
+    /// # Errors
+    ///
+    /// As [`Text::add`].
     pub fn add_number(&mut self, n: u64) -> Result<(), AllocError>
         ensures { OnOk result (self.new ≡ self.old ++ decimal n) }
     {
@@ -109,7 +121,11 @@ impl Text {
         Ok(())
     }
 
-    /// The text in one piece. The blocks are let go, each when it was copied.
+    /// Turns the text into one piece. The blocks are let go, each when it was copied.
+    ///
+    /// # Errors
+    ///
+    /// `AllocError` where memory was refused.
     pub fn into_vec(self) -> Result<Vec<u8>, AllocError>
         ensures { IfOk result (λ v. v.items ≡ self) }
     {

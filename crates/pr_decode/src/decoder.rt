@@ -14,7 +14,7 @@ use crate::reading::{FrameEnd, IncompleteEnd, Reading, Transfer};
 use pr_wire::Edge;
 use thiserror::Error;
 
-/// An edge that stands before the one taken last.
+/// An edge's time is before that of the edge taken last.
 #[derive(Clone, Copy, Debug, Drop, Error, PartialEq, Eq)]
 #[error("time goes back")]
 pub struct GoesBack;
@@ -159,7 +159,7 @@ fn step(transfer: &mut Option<Transfer>, stretch: &mut ClockPhase, edge: Edge) -
 }
 
 impl Decoder {
-    /// A decoder that has taken no edge. It takes no memory.
+    /// Makes a decoder that has taken no edge. It takes no memory.
     pub fn new() -> Decoder
         ensures read { HasReadings [] [] result }
         ensures last { last_time result ≡ None }
@@ -170,13 +170,14 @@ impl Decoder {
         }
     }
 
-    /// Takes the next edge of a recording, and gives the reading that it settles, if it settles one:
-    /// a frame with its acknowledgement, or with what ends the waiting for it; a glitch with what ends
-    /// it. It takes no memory.
+    /// Takes the next edge of a recording, and gives the reading that it settles, if it settles
+    /// one: a frame with its acknowledgement, or with what ends the waiting for it; a glitch with
+    /// what ends it. It takes no memory.
     ///
     /// # Errors
     ///
-    /// [`GoesBack`] where the edge stands before the one taken last. The decoder is then as it was.
+    /// [`GoesBack`] exactly where the edge's time is before that of the edge taken last. The
+    /// decoder is then as it was.
     pub fn take(&mut self, edge: Edge) -> Result<Option<Reading>, GoesBack>
         ensures read { IfOk result (λ reading. (edges : List Edge) (given : List Reading) → HasReadings edges given self.old →
             HasReadings (edges ++ edge ∷ []) (given ++ option_to_list reading) self.new) }
@@ -194,8 +195,9 @@ impl Decoder {
         Ok(step(&mut self.transfer, stretch, edge))
     }
 
-    /// Ends the recording, and gives the reading that it cuts, if there is one: a frame that was not
-    /// acknowledged yet, or a byte begun and not ended.
+    /// Ends the recording, and gives the reading that it cuts, if there is one: a frame that was
+    /// not acknowledged yet, or an incomplete byte. With the readings given before, it is all that
+    /// the recording says. It takes no memory.
     pub fn finish(self) -> Option<Reading>
         ensures read { (edges : List Edge) (given : List Reading) → HasReadings edges given self →
             readings_of edges ≡ given ++ option_to_list result }

@@ -3,7 +3,7 @@
 ghost use Rattle.pr_decode.specs.Taking.{GivenAreSettled};
 ghost use Rattle.pr_decode.specs.Laws.{MoreEdgesAddReadings, OnlyTheLastIsCut, OutlinesDecide, TracesSayTheirPieces, TracesSayWhatTheySpell};
 
-/// A law: more edges only add readings behind those that there were, and the end of a recording cuts
+/// A law: more edges only add readings after those that there were, and the end of a recording cuts
 /// at most the last. A decoder has given all that the edges taken settle.
 pub fn readings_add_up()
     ensures more { MoreEdgesAddReadings }
@@ -18,10 +18,10 @@ pub fn traces_are_read()
     ensures spelled { TracesSayWhatTheySpell }
 {}
 
-/// A law: recordings whose stretches, in which CLOCK stays as it is, have the same outlines and openings say
-/// the same. So in the bits of a byte nothing counts but when CLOCK turns and DATA's level where CLOCK is
-/// released, when an edge first came too late for a bit, and ATN's pulls; behind eight bits the
-/// acknowledgement.
+/// A law: recordings say the same if their stretches, in which CLOCK stays as it is, have the same
+/// outlines and openings. So in the bits of a byte nothing counts but when CLOCK turns and DATA's
+/// level where CLOCK is released, when an edge first came too late for a bit, and ATN's pulls;
+/// after eight bits the acknowledgement.
 pub fn moments_decide()
     ensures { OutlinesDecide }
 {}

@@ -1,4 +1,4 @@
-//! Where the character of a code stands in tables of characters.
+//! Where the character of a code is in tables of characters.
 
 ghost use Rattle.std.specs.Prelude.{◌≡◌, ◌<◌};
 ghost use Rattle.pr_dots.specs.Codes.{place_of, printed_as};
@@ -31,7 +31,8 @@ fn place_of(printed: u8) -> usize
     }
 }
 
-/// Where the character of a code stands in tables of codes 32 to 95 and 160 to 223.
+/// Returns where a code's character is in tables of the characters 32 to 95 and 160 to 223, from 0
+/// to 127. A code that prints as another one has that one's place.
 pub fn place_of_code(code: u8) -> usize
     ensures place { result ≡ place_of (printed_as code) }
     ensures within { result < 128 }

@@ -57,8 +57,8 @@ fn row_has_dot(row: &Row, x: u64, y: u128) -> bool
     false
 }
 
-/// Whether a paper has a dot at dot column `x` (1/60 inch from the left) and `y` 1/126 inch from the top.
-/// Marks that are held have no place yet, and no dots.
+/// Returns whether a paper has a dot at dot column `x` (1/60 inch from the left) and `y` 1/126 inch
+/// from the top. The held marks of an unfinished line have no place yet, and no dots.
 #[tactic(auto, unfolding(crate::specs::Dots::has_dot, crate::specs::Dots::dots_of))]
 pub fn has_dot(paper: &Paper, x: u64, y: u128) -> bool
     ensures { result ≡ has_dot paper.now x y }

@@ -40,8 +40,9 @@ fn cell_columns(code: u8, lower: bool, reverse: bool, wide: bool) -> ArrayVec<u8
     columns
 }
 
-/// The columns of a mark, from the left: bit 0 of each is its top dot. A graphic column is its own value;
-/// a cell has the six columns of its character, each inverted if it is reversed, and twice if it is wide.
+/// Returns the columns of a mark, from the left: bit 0 of each is its top dot. A graphic column is
+/// its own value; a cell has the six columns of its character, each inverted if it is reversed, and
+/// twice if it is wide.
 pub fn columns(mark: Mark) -> ArrayVec<u8, COLUMNS>
     ensures { result.items ≡ columns_of mark }
 {

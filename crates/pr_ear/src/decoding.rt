@@ -15,27 +15,28 @@ use crate::decoder_numbers::{WireDecoder, WireReading, numbers_of_reading, resto
 use crate::{Answer, WireEdge, edge_for};
 use pr_decode::{Decoder, GoesBack, Reading, readings_add_up};
 
-/// What a decoder tells.
+/// What a decoder answers.
 #[derive(Clone, Copy, Debug, PartialEq, Eq)]
 pub enum DecoderTold {
     /// The call did what it is for. With an edge, or an end: the reading that it settles, if it settles one.
     Done(Option<Reading>),
-    /// The edge stands before the one taken last.
+    /// The edge is earlier than the one taken last.
     GoesBack,
     /// The numbers are not those of a decoder.
     NoDecoder,
 }
 
-/// Begins a decoder, which has taken no edge.
+/// Begins a decoder, which has taken no edge. It takes no memory.
 pub fn begin_decoder(decoder: &mut WireDecoder)
     ensures { HasDecoded [] [] decoder.new }
 {
     *decoder = store(&Decoder::new());
 }
 
-/// Gives a decoder the next edge of a recording, and tells the reading that it settles. An edge that
-/// stands before the one taken last is refused, and the decoder is then as it was; likewise where its
-/// numbers are not those of one.
+/// Gives a decoder the next edge of a recording, and returns the reading that it settles, if it
+/// settles one. It is refused exactly where the edge is earlier than the one taken last, and where
+/// the numbers are not those of a decoder (`IsDecoder`); the decoder is then as it was. It takes no
+/// memory.
 pub fn decode_edge(decoder: &mut WireDecoder, edge: WireEdge) -> DecoderTold
     ensures tells { (edges : List WireEdge) (given : List Reading) → HasDecoded edges given decoder.old → TellsNext edges edge result }
     ensures takes { (edges : List WireEdge) (given : List Reading) → HasDecoded edges given decoder.old →
@@ -57,8 +58,10 @@ pub fn decode_edge(decoder: &mut WireDecoder, edge: WireEdge) -> DecoderTold
     }
 }
 
-/// Tells the reading that the end of a recording cuts, if it cuts one. The decoder may be given more
-/// edges.
+/// Returns the reading that the end of a recording cuts, if it cuts one; with those given before,
+/// it is all that the recording says. It is refused exactly where the numbers are not those of a
+/// decoder (`IsDecoder`). The decoder is only read, and may be given more edges. It takes no
+/// memory.
 pub fn end_decoder(decoder: &WireDecoder) -> DecoderTold
     ensures tells { (edges : List WireEdge) (given : List Reading) → HasDecoded edges given decoder.now → TellsCut edges given result }
     ensures decoder { IsDecoder decoder.now → result ≢ NoDecoder }
@@ -98,7 +101,7 @@ fn reading(told: DecoderTold) -> WireReading
     }
 }
 
-/// Begins a decoder, which has taken no edge.
+/// Begins a decoder, which has taken no edge. It takes no memory.
 #[unsafe(no_mangle)]
 pub extern "C" fn print1525_decode_begin(decoder: &mut WireDecoder)
     ensures { HasDecoded [] [] decoder.new }
@@ -106,7 +109,8 @@ pub extern "C" fn print1525_decode_begin(decoder: &mut WireDecoder)
     begin_decoder(decoder);
 }
 
-/// Gives a decoder the next edge of a recording.
+/// Gives a decoder the next edge of a recording, and puts the reading that it settles into `out`,
+/// if it settles one. `told` is what [`decode_edge`] answers, in plain numbers. It takes no memory.
 #[unsafe(no_mangle)]
 pub extern "C" fn print1525_decode_edge(
     decoder: &mut WireDecoder,
@@ -128,7 +132,8 @@ pub extern "C" fn print1525_decode_edge(
     *told = answer(said);
 }
 
-/// Tells the reading that the end of a recording cuts.
+/// Puts the reading that the end of a recording cuts into `out`, if it cuts one. `told` is what
+/// [`end_decoder`] answers, in plain numbers. It takes no memory.
 #[unsafe(no_mangle)]
 pub extern "C" fn print1525_decode_end(
     decoder: &WireDecoder,

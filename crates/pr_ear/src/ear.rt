@@ -18,7 +18,7 @@ use pr_page::Input;
 use pr_receiver::{fronts_are_allowed, traces_give_what_is_heard};
 use pr_wire::{WaveFault, allowed_traces};
 
-/// What an ear tells.
+/// What an ear answers.
 #[derive(Clone, Copy, Debug, PartialEq, Eq)]
 pub enum EarTold {
     /// The call did what it is for. With an edge: the input that came with it, if one did.
@@ -48,8 +48,8 @@ pub struct EarAnswer {
     pub input: usize,
 }
 
-/// Begins an ear for a device, to which no edge has come; it does not listen. Where there is no such
-/// device the ear is left as it was.
+/// Begins an ear for a device, to which no edge has come; it does not listen. It is refused exactly
+/// where the device is none of 4 to 30; the ear is then as it was. It takes no memory.
 pub fn begin_ear(ear: &mut Ear, device: u8) -> EarTold
     ensures begun { IsDevice device → (result ≡ Done None) × HasTaken device [] ear.new }
     ensures no_device { (IsDevice device → ⊥) → (result ≡ NoDevice) × (ear.new ≡ ear.old) }
@@ -61,9 +61,11 @@ pub fn begin_ear(ear: &mut Ear, device: u8) -> EarTold
     EarTold::Done(None)
 }
 
-/// Gives an ear the next edge of a trace, `0 111` included, and tells the input that comes with it;
-/// or the first fault of all edges given, for good. An ear whose numbers are not those of one is
-/// left as it was.
+/// Gives an ear the next edge of a trace, `0 111` included, and returns the input that comes with
+/// it, if one does; or the first fault of all edges given, exactly if they have one. The ear has
+/// then taken this edge too, so the next call returns the same fault. Numbers that are not those of
+/// an ear (`IsEar`) are refused and left as they were; those of an ear stay those of an ear. It
+/// takes no memory.
 pub fn take_edge(ear: &mut Ear, edge: WireEdge) -> EarTold
     ensures tells { (device : ℕ) (edges : List WireEdge) → HasTaken device edges ear.old → TellsEdge device edges edge result }
     ensures taken { (device : ℕ) (edges : List WireEdge) → HasTaken device edges ear.old → HasTaken device (edges ++ edge ∷ []) ear.new }
@@ -82,8 +84,9 @@ pub fn take_edge(ear: &mut Ear, edge: WireEdge) -> EarTold
     }
 }
 
-/// Tells whether the edges that an ear was given are a lawful trace, or their first fault. The ear
-/// may be given more.
+/// Returns whether the edges that an ear was given are a lawful trace, or else their first fault.
+/// Numbers that are not those of an ear (`IsEar`) are refused. The ear is only read, and may be
+/// given more edges. It takes no memory.
 pub fn end_ear(ear: &Ear) -> EarTold
     ensures tells { (device : ℕ) (edges : List WireEdge) → HasTaken device edges ear.now → TellsEnd edges result }
     ensures ear { IsEar ear.now → result ≢ NoEar }
@@ -99,14 +102,15 @@ pub fn end_ear(ear: &Ear) -> EarTold
     }
 }
 
-/// A law: the inputs that ears tell with the edges of a trace are those that [`crate::hear`] gives.
+/// A law: the inputs that ears give with the edges of a trace are those that [`crate::hear`] gives.
 pub fn ears_hear_the_same()
     ensures heard { EarsHearTheSame }
 {
     traces_give_what_is_heard();
 }
 
-/// A law: where edges are not allowed, their first fault stays the first, whatever comes behind.
+/// A law: where edges are not allowed, their first fault stays the first, whatever comes after
+/// them.
 pub fn first_faults_stay()
     ensures stays { FirstFaultsStay }
 {
@@ -156,7 +160,8 @@ fn refused(fault: usize, place: usize) -> EarAnswer
     }
 }
 
-/// Begins an ear for a device.
+/// Begins an ear for a device. The answer is that of [`begin_ear`], in plain numbers. It takes no
+/// memory.
 #[unsafe(no_mangle)]
 pub extern "C" fn print1525_ear_begin(ear: &mut Ear, device: u8, answer: &mut EarAnswer)
     ensures begun { IsDevice device → HasTaken device [] ear.new × (answer.new ≡ ear_answer_of (Done None)) }
@@ -165,7 +170,8 @@ pub extern "C" fn print1525_ear_begin(ear: &mut Ear, device: u8, answer: &mut Ea
     *answer = ear_numbers(begin_ear(ear, device));
 }
 
-/// Gives an ear the next edge of a trace.
+/// Gives an ear the next edge of a trace. The answer is that of [`take_edge`], in plain numbers. It
+/// takes no memory.
 #[unsafe(no_mangle)]
 pub extern "C" fn print1525_ear_edge(ear: &mut Ear, edge: &WireEdge, answer: &mut EarAnswer)
     ensures tells { (device : ℕ) (edges : List WireEdge) → HasTaken device edges ear.old →
@@ -178,7 +184,8 @@ pub extern "C" fn print1525_ear_edge(ear: &mut Ear, edge: &WireEdge, answer: &mu
     *answer = ear_numbers(take_edge(ear, *edge));
 }
 
-/// Tells whether the edges that an ear was given are a lawful trace.
+/// Answers whether the edges that an ear was given are a lawful trace: what [`end_ear`] answers, in
+/// plain numbers. It takes no memory.
 #[unsafe(no_mangle)]
 pub extern "C" fn print1525_ear_end(ear: &Ear, answer: &mut EarAnswer)
     ensures tells { (device : ℕ) (edges : List WireEdge) → HasTaken device edges ear.now →

@@ -61,11 +61,11 @@ pub struct WireEdge {
 /// What came of a trace.
 #[derive(Clone, Copy, Debug, PartialEq, Eq)]
 pub enum Told {
-    /// So many inputs were heard, and they stand at the front of the buffer.
+    /// This many inputs were heard, and they are at the front of the buffer.
     Heard(usize),
     /// The trace is not lawful, with its first fault.
     Unlawful(WaveFault),
-    /// So many inputs were heard, more than the buffer has room for.
+    /// This many inputs were heard, more than the buffer has room for.
     TooSmall(usize),
     /// There is no such device: 4 to 30 are devices.
     NoDevice,
@@ -182,7 +182,11 @@ fn hear_twice(device: u8, edges: &[WireEdge], out: &mut [u16]) -> Told
 
 /// Puts the inputs that a device hears of a trace at the front of a buffer: a byte as its number,
 /// the selection of the graphic/upper case set as 256, that of the lower/upper case set as 257. The
-/// rest of the buffer is left as it was, and all of it where anything else is told.
+/// rest of the buffer is left as it was. It takes no memory.
+///
+/// It is refused where the device is none of 4 to 30; with the first fault of the edges, where they
+/// are not lawful; and where there are more inputs than the buffer has room for, with their number.
+/// All of the buffer is then as it was.
 pub fn hear(device: u8, edges: &[WireEdge], out: &mut [u16]) -> Told
     ensures tells { Tells device edges.now out.old out.new result }
     ensures memory { result ≢ Unlawful NoMemory }
@@ -247,7 +251,8 @@ fn numbers_of(fault: WaveFault) -> (usize, usize)
     }
 }
 
-/// What a device hears of a trace, at the front of the caller's buffer.
+/// Puts the inputs that a device hears of a trace at the front of the caller's buffer, and writes
+/// the whole answer: what [`hear`] answers, in plain numbers. It takes no memory.
 #[unsafe(no_mangle)]
 pub extern "C" fn print1525_hear(
     device: u8,

@@ -39,12 +39,12 @@ struct CutLine<'a> {
     rest: &'a [u8],
 }
 
-/// Says why a script is refused. Its place is that of the first fault: the line, the column, and
-/// the number of the BASIC line if that has one. It has none, and no text, exactly where the script
-/// is not refused.
+/// Says why a script is refused. Its place is that of the first fault: the line and the column,
+/// both from 1, and the number of the BASIC line if that has one. It has none, and no text, exactly
+/// where the script is not refused.
 ///
 /// The text shows the line with a caret under the place, the word found there, and what can be
-/// there.
+/// there; it is tested, not proved.
 ///
 /// # Errors
 ///

@@ -59,9 +59,11 @@ struct FirstLine<'a> {
 }
 
 /// Says which error stopped the run of a script at a statement, counted from 1, as BASIC says it.
-/// Its place is the statement, its line, the number of the BASIC line if that has one, its device,
-/// and what the error comes from. It has none, and no text, exactly where the script has no such
-/// statement.
+/// Its place is the statement, its line, the number of the BASIC line if that has one, its device
+/// (that of an OPEN, or of the last OPEN before it of the file of a CMD or a PRINT#), and what the
+/// error comes from: the files, no printer that is present, or a byte that no printer took, and
+/// then whether the device is an absent printer. It has none, and no text, exactly where the script
+/// has no such statement. The text is tested, not proved.
 ///
 /// Where the status goes on from statement to statement, a device that did not answer may be that
 /// of a statement before. Where each statement begins with status 0 and a printer is there, it is

@@ -37,13 +37,14 @@ pub enum ReadingPlace {
 }
 
 /// Says why a trace is refused. Its place is the line that cannot be read, and where its edges stop
-/// being lawful, with the edges that may follow there; of edges before a line that cannot be read
+/// being lawful: how many are allowed, the first fault, the edges that may follow there, and by how
+/// much the next edge misses the interval of its levels; of edges before a line that cannot be read
 /// only where one is not allowed. It has neither, and no text, exactly where the trace is lawful.
 /// The trace is read as `check` reads it.
 ///
 /// The text shows the line, and what it should have; the edge, those that could have followed, and
 /// by how much they were missed. Its times count from the start that the input has; the recording's
-/// own microseconds are in brackets where that is not 0.
+/// own microseconds are in brackets where that is not 0. It is tested, not proved.
 ///
 /// # Errors
 ///
@@ -98,7 +99,8 @@ fn place_of(followed: &Followed, fault: Option<CliFault>) -> TracePlace
 
 /// Says why a recording cannot be read to its end. Its place is the first edge that is earlier than
 /// the one before it, or else the line that cannot be read. It has none, and no text, exactly where
-/// the recording can be read. The recording is read as `decode` reads it.
+/// the recording can be read. The recording is read as `decode` reads it. The text is tested, not
+/// proved.
 ///
 /// # Errors
 ///

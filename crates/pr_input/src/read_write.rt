@@ -36,12 +36,12 @@ impl From<AllocError> for ReadFault {
     }
 }
 
-/// All that the reader has left, at most `limit` bytes.
+/// Reads all that the reader has left, at most `limit` bytes.
 ///
 /// # Errors
 ///
-/// `ReadFailed` exactly if a read failed, `TooLarge` only if the reader had more than `limit`
-/// bytes left. After an error some of the bytes have been taken from the reader.
+/// `ReadFailed` exactly if a read failed, `TooLarge` only if the reader had more than `limit` bytes
+/// left, else `NoMemory`. After an error some of the bytes may have been taken from the reader.
 pub fn read_whole<R: Read>(
     alloc: Global,
     input: &mut Watched<R>,

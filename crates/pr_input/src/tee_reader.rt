@@ -11,8 +11,11 @@ use std::io::Read;
 
 /// A reader, and the bytes that have come of it, if they are kept.
 ///
-/// They are kept while there is memory for them. A read answers as the reader inside does, whether
-/// they are kept or not.
+/// They are kept while there is memory for them: after memory was refused, nothing is kept any
+/// more, and reads go on. A read that succeeds takes just its bytes of the reader inside, and one
+/// that fails takes none, where that reader's bytes are known. That a read answers as the reader
+/// inside does, whether they are kept or not, is tested: no clause for any reader can name that
+/// answer.
 #[derive(Drop)]
 pub struct TeeReader<R> {
     inner: R,
@@ -21,8 +24,8 @@ pub struct TeeReader<R> {
 }
 
 impl<R> TeeReader<R> {
-    /// A reader of which nothing has been read yet; its bytes will be kept if that is asked for. It
-    /// takes no memory.
+    /// Wraps a reader of which nothing has been read yet; its bytes will be kept if that is asked
+    /// for. It takes no memory.
     pub fn new(alloc: Global, inner: R, is_kept: bool) -> TeeReader<R>
         ensures inner { read_from result ≡ inner }
         ensures bytes { kept result ≡ if is_kept then Some [] else None }
@@ -45,8 +48,8 @@ impl<R> TeeReader<R> {
 }
 
 impl<R: Drop> TeeReader<R> {
-    /// All the bytes that have come of the reader. None where they were not to be kept, or where memory
-    /// was refused for them.
+    /// Returns all the bytes that have come of the reader, in order. None where they were not to be
+    /// kept, or where memory was refused for them. It takes no memory.
     pub fn into_bytes(self) -> Option<Vec<u8>>
         ensures { result ≡ self.bytes }
     {

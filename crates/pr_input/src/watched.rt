@@ -8,12 +8,13 @@ ghost use Rattle.pr_input.specs.Watched.{has_failed, is_flushed, wrapped, write_
 use std::io;
 use std::io::{ErrorKind, Read, Write};
 
-/// A reader or a writer, whether a call through it has failed, and whether all that was written through it
-/// has been flushed.
+/// A reader or a writer, whether a call through it has failed, and whether all that was written
+/// through it has been flushed.
 ///
-/// It has failed for good exactly when a read, a write or a flush through it fails, or when a write of
-/// some bytes answers 0. So a caller can tell a failed read or write from every other refusal. A call
-/// that a signal interrupts is made again, and has not failed.
+/// It has failed for good exactly when a read, a write or a flush through it fails, or when a write
+/// of some bytes answers 0. So a caller can tell a failed read or write from every other refusal.
+/// Reads, writes and flushes do what those of the reader or writer inside do, and fail as they do.
+/// A call that a signal interrupts is made again, and has not failed (tested).
 #[derive(Drop)]
 pub struct Watched<T> {
     inner: T,
@@ -22,7 +23,8 @@ pub struct Watched<T> {
 }
 
 impl<T> Watched<T> {
-    /// Nothing has failed yet, and nothing was written. It takes no memory.
+    /// Wraps a reader or a writer: nothing has failed yet, and nothing was written. It takes no
+    /// memory.
     pub fn new(inner: T) -> Watched<T>
         ensures inner { wrapped result ≡ inner }
         ensures failed { has_failed result ≡ false }
@@ -35,21 +37,21 @@ impl<T> Watched<T> {
         }
     }
 
-    /// The reader or writer inside. It takes no memory.
+    /// Returns the reader or writer inside. It takes no memory.
     pub fn into_inner(self) -> T
         ensures { result ≡ wrapped self }
     {
         self.inner
     }
 
-    /// Whether a read, a write or a flush has failed, or a write of bytes has taken none.
+    /// Returns whether a read, a write or a flush has failed, or a write of bytes has taken none.
     pub fn failed(&self) -> bool
         ensures { result ≡ has_failed self.now }
     {
         self.failed
     }
 
-    /// Whether a flush has succeeded since the last write, if there was one.
+    /// Returns whether a flush has succeeded since the last write, if there was one.
     pub fn is_flushed(&self) -> bool
         ensures { result ≡ is_flushed self.now }
     {

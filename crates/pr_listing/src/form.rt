@@ -33,8 +33,8 @@ pub enum Refusal {
     Script(ScriptFault),
 }
 
-/// The text of a script that a listing in this form has: a line for each line of the listing. A
-/// listing that is text is itself.
+/// Makes the script's text that a listing in this form has: a line for each line of the listing. It
+/// is Ok exactly where the listing has a text. A listing that is text is itself.
 ///
 /// # Errors
 ///
@@ -57,7 +57,7 @@ pub fn script_text(
     }
 }
 
-/// The statements of a listing in this form, in order: those of which its text is a script.
+/// Reads the statements of a listing in this form, in order: those of which its text is a script.
 ///
 /// # Errors
 ///

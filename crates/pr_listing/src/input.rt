@@ -29,8 +29,8 @@ pub enum TextFault {
     NoMemory,
 }
 
-/// The text of a script that a listing in this form has, of which the reader has at most `limit` bytes.
-/// The reader is read to its end.
+/// Reads a listing in this form, at most `limit` bytes, to the reader's end, and gives the text of
+/// a script that it has.
 ///
 /// # Errors
 ///

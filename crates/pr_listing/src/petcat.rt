@@ -221,8 +221,9 @@ fn add_line(text: &mut Vec<u8>, line: &[u8]) -> Result<(), (PieceFault, usize)>
     }
 }
 
-/// The script's text that petcat's text says: a line for each line, as `specs/Petcat.antt` says it.
-/// `pr_basic` reads it as a script.
+/// Makes the script's text that petcat's text says: a line for each line, as `specs/Petcat.antt`
+/// says it. It is Ok exactly where all strings have petcat's characters and names. `pr_basic` reads
+/// it as a script.
 ///
 /// Outside strings and in remarks the text is as it was. In a string, letters of one case are what
 /// the computer has for the other: `a` is byte 65, and `A` is byte 193, which is shifted. A name in
@@ -236,7 +237,7 @@ fn add_line(text: &mut Vec<u8>, line: &[u8]) -> Result<(), (PieceFault, usize)>
 /// - [`ListingFault::BadByte`]: a byte of a string that petcat does not write.
 /// - [`ListingFault::NoMemory`]: memory was refused.
 ///
-/// Either of the first two comes with the line and the column of the first fault.
+/// Each of the first two comes with the line and the column of the first fault, counted from 1.
 pub fn petcat_text(alloc: Global, file: &[u8]) -> Result<Vec<u8>, ListingFault>
     ensures ok { IfOk result (λ text. IsPetcatText file.now text.items) }
     ensures err { IfErr result (λ fault. (fault ≡ ListingFault.NoMemory) ⊎ IsPetcatFault file.now fault) }

@@ -64,12 +64,14 @@ fn front_of(bytes: &[u8]) -> Front<'_>
     }
 }
 
-/// The text of a saved program: a line of the text for each line of the program, as
-/// `specs/Listing.antt` says it. `pr_basic` reads the text as a script.
+/// Makes the text of a saved program: a line of the text for each line of the program, as
+/// `specs/Listing.antt` says it. It is Ok exactly where the file is a saved program. `pr_basic`
+/// reads the text as a script.
 ///
-/// A saved program is two bytes of a load address, and then lines. A line is two bytes of a link, two
-/// of its number (the low one first), its bytes, and a 0. A link of 0 ends the program; what follows
-/// it is ignored, as all other links are (Commodore 64 Programmer's Reference Guide, BASIC storage).
+/// A saved program is two bytes of a load address, and then lines. A line is two bytes of a link,
+/// two of its number (the low one first), its bytes, and a 0. A link of 0 ends the program; what
+/// follows it is ignored, as all other links are (Commodore 64 Programmer's Reference Guide, BASIC
+/// storage).
 ///
 /// # Errors
 ///

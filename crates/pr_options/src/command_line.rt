@@ -106,8 +106,9 @@ pub enum JobFault {
 }
 
 impl JobFault {
-    /// What values the option has of which this is a bad one, as the help says it. None of other
-    /// faults.
+    /// Returns the values that an option may have, as the help says them, where this fault is a bad
+    /// value of it; of `--as` those of the subcommand that was met. None of other faults. It takes
+    /// no memory.
     pub fn values(&self) -> Option<&'static str>
         ensures { option_map (λ text. text.now) result ≡ values_of self.now }
     {
@@ -142,12 +143,15 @@ impl From<DelayFault> for JobFault {
     }
 }
 
-/// Reads a command line, of which the program's name is the first word.
+/// Reads a command line, of which the program's name is the first word, and gives the job that it
+/// asks for: that of the subcommand that clap's meaning of the command finds, with the values of
+/// its options, defaults included.
 ///
 /// # Errors
 ///
-/// [`JobFault::Line`] where clap refuses the words (a request for help or the version is such a
-/// refusal), and [`JobFault::NoMemory`] where memory was refused, by clap too. The other faults come
+/// [`JobFault::Line`] only for words that clap's meaning of the command does not take, with one of
+/// its reasons against them (a request for help or the version is such a refusal), and
+/// [`JobFault::NoMemory`] where memory was refused, by clap too. The other faults come
 /// only for words that clap takes, and report the first bad value in this order:
 /// [`JobFault::BadPresent`], [`JobFault::BadDelays`], [`JobFault::BadStatus`], [`JobFault::BadSet`];
 /// of `pages` and `bus` [`JobFault::BadForm`]; of `check` and `decode` [`JobFault::BadFrom`],
@@ -169,8 +173,8 @@ pub fn read_job<'a>(alloc: Global, words: &'a [&'a str]) -> Result<Job<'a>, JobF
     }
 }
 
-/// Whether a word is `--explain`: more is to be told of a refusal or of an error. No value of an
-/// option is that word in a command line that clap takes.
+/// Returns whether a word is `--explain`, which asks for more on a refusal or an error. No value of
+/// an option is that word in a command line that clap takes. It takes no memory.
 pub fn explains(words: &[&str]) -> bool
     ensures { result ≡ list_any (λ word. bytes_eq word.now (codes "--explain")) words.now }
 {

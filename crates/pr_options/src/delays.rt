@@ -36,9 +36,9 @@ impl<T: Drop> From<AllocFailed<T>> for DelayFault {
     }
 }
 
-/// Reads the delays of a run: at most three lists parted by `/`, for the computer, printer 4 and
+/// Reads the delays of a run: at most three lists separated by `/`, for the computer, printer 4 and
 /// printer 5, of which missing ones are empty. A list is empty, or numbers of one to five digits,
-/// at most 65535, parted by commas (profile). No number of them has been taken.
+/// at most 65535, separated by commas (profile). No number of them has been taken.
 ///
 /// # Errors
 ///

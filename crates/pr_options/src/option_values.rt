@@ -12,7 +12,8 @@ use pr_render::Format;
 use pr_report::Report;
 use pr_serial::Present;
 
-/// Which printers are present: `none`, `4`, `5` or `both` (profile). None for any other text.
+/// Reads which printers are present, from `none`, `4`, `5` or `both` (profile). None for any other
+/// text. It takes no memory.
 pub fn read_present(text: &str) -> Option<Present>
     ensures { result ≡ present_of text.now }
 {
@@ -38,8 +39,8 @@ pub fn read_form(text: &str) -> Option<ListingForm>
     }
 }
 
-/// How the status goes from statement to statement: `each` or `kept` (profile). None for any
-/// other text.
+/// Reads how the status goes from statement to statement, from `each` or `kept` (profile). None for
+/// any other text. It takes no memory.
 pub fn read_status(text: &str) -> Option<StatusMode>
     ensures { result ≡ mode_of text.now }
 {

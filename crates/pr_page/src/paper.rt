@@ -30,7 +30,8 @@ pub struct Placed {
     pub mark: Mark,
 }
 
-/// A list kept in a vector. Contracts see the list alone, not room or place in memory.
+/// A list kept in a vector. Contracts see the list alone, not room or place in memory. Its calls
+/// take no memory.
 #[derive(Debug, Drop)]
 pub struct Sequence<T> {
     items: Vec<T>,
@@ -45,7 +46,7 @@ impl<T> Model for Sequence<T> {
 }
 
 impl<T> Sequence<T> {
-    /// The empty list. It takes no memory.
+    /// Makes an empty list. It takes no memory.
     pub fn new(alloc: Global) -> Self
         ensures { result ≡ [] }
     {
@@ -54,14 +55,14 @@ impl<T> Sequence<T> {
         }
     }
 
-    /// The vector's items, in order. It takes no memory.
+    /// Makes a list of a vector's items, in order. It takes no memory.
     pub fn from_vec(items: Vec<T>) -> Self
         ensures { result ≡ items.items }
     {
         Self { items }
     }
 
-    /// The items as a vector, in order. It takes no memory.
+    /// Turns the list into a vector of its items, in order. It takes no memory.
     pub fn into_vec(self) -> Vec<T>
         ensures { result.items ≡ self }
     {
@@ -69,21 +70,21 @@ impl<T> Sequence<T> {
         items
     }
 
-    /// The items, in order.
+    /// Returns the items, in order.
     pub fn as_slice(&self) -> &[T]
         ensures { result.now ≡ self.now }
     {
         self.items.as_slice()
     }
 
-    /// The number of items.
+    /// Returns the number of items.
     pub fn len(&self) -> usize
         ensures { result ≡ length self.now }
     {
         self.items.len()
     }
 
-    /// Whether there is no item.
+    /// Returns whether there is no item.
     pub fn is_empty(&self) -> bool
         ensures { IsTrue result ↔ (length self.now ≡ 0) }
     {

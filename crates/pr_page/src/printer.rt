@@ -38,7 +38,7 @@ impl Model for Printer {
 }
 
 impl Printer {
-    /// A printer that has taken nothing: character mode, standard width, reverse off, the
+    /// Makes a printer that has taken nothing: character mode, standard width, reverse off, the
     /// graphic/upper case set, at dot 0 of an empty paper. It takes no memory.
     pub fn new(alloc: Global) -> Printer
         ensures inputs { HasTaken [] result }
@@ -50,12 +50,12 @@ impl Printer {
         }
     }
 
-    /// Takes an input.
+    /// Takes one more input, of any kind. Fewer than 2^32 inputs were taken before.
     ///
     /// # Errors
     ///
-    /// [`NoMemory`] where a growth of the paper was refused; the printer is then as it was, and
-    /// the input can be given again. An [`Input::Select`] never fails.
+    /// [`NoMemory`] where a growth of the paper was refused; the printer is then as it was, and the
+    /// input can be given again. An [`Input::Select`] never fails.
     #[inline(always)]
     pub fn take(&mut self, input: Input) -> Result<(), NoMemory>
         requires { number_taken self.old < 2 ^ 32 }
@@ -67,7 +67,7 @@ impl Printer {
         self.state.take(self.alloc, input)
     }
 
-    /// The paper: the page of all inputs taken.
+    /// Returns the paper: the page of all inputs taken.
     pub fn paper(&self) -> &Paper
         ensures page { (inputs : List Input) → HasTaken inputs self.now → IsPage inputs result.now }
         ensures value { (inputs : List Input) → HasTaken inputs self.now → result.now ≡ page_of inputs }
@@ -75,7 +75,7 @@ impl Printer {
         &self.state.sheet.paper
     }
 
-    /// The paper, in place of the printer: the page of all inputs taken. It takes no memory.
+    /// Turns the printer into its paper: the page of all inputs taken. It takes no memory.
     pub fn into_paper(self) -> Paper
         ensures page { (inputs : List Input) → HasTaken inputs self → IsPage inputs result }
         ensures value { (inputs : List Input) → HasTaken inputs self → result ≡ page_of inputs }
@@ -83,7 +83,7 @@ impl Printer {
         self.state.sheet.paper
     }
 
-    /// The number of inputs taken.
+    /// Returns the number of inputs taken.
     pub fn taken(&self) -> u64
         ensures value { result ≡ number_taken self.now }
         ensures inputs { (inputs : List Input) → HasTaken inputs self.now → result ≡ length inputs }
@@ -92,8 +92,7 @@ impl Printer {
     }
 }
 
-/// A law, with nothing to run: each list of inputs has a page and no other, and `page_of`
-/// computes it.
+/// A law, with nothing to run: each list of inputs has exactly one page, and `page_of` computes it.
 pub fn each_list_has_one_page()
     ensures page { (inputs : List Input) → IsPage inputs (page_of inputs) }
     ensures only { (inputs : List Input) (paper : Paper) → IsPage inputs paper → paper ≡ page_of inputs }

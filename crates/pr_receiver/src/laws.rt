@@ -5,7 +5,7 @@ ghost use Rattle.pr_receiver.specs.Laws.{TracesGiveWhatIsHeard, TracesEndWhatThe
 use pr_wire::allowed_traces;
 
 /// A law: a trace gives a device, edge by edge, exactly what it hears of the frames that the trace
-/// spells; the edges end just these frames, those of a front of it a front of these, and any edges
+/// spells. The edges end just these frames, and the first edges end the first frames. Any edges
 /// give what is heard of the frames that they end.
 pub fn traces_give_what_is_heard()
     ensures heard { TracesGiveWhatIsHeard }
@@ -17,13 +17,13 @@ pub fn traces_give_what_is_heard()
     allowed_traces();
 }
 
-/// A law: the inputs of edges and more edges, and of one edge more.
+/// A law: more edges, or one edge more, only add inputs to those of the edges before them.
 pub fn inputs_add_up()
     ensures two_parts { InputsOfTwoParts }
     ensures one_more { InputsOfOneMore }
 {}
 
-/// A law: a lawful trace is allowed, and so is each front of allowed edges.
+/// A law: a lawful trace is allowed, and so are the first edges of allowed edges, however many.
 pub fn fronts_are_allowed()
     ensures lawful { LawfulIsAllowed }
     ensures fronts { FrontsAreAllowed }
@@ -31,7 +31,8 @@ pub fn fronts_are_allowed()
     allowed_traces();
 }
 
-/// A law: what a device hears of one frame more, and whether it then listens and is called.
+/// A law: what a device hears of one frame more follows what it heard before, and that frame
+/// decides whether the device then listens and is called.
 pub fn frames_are_heard_in_turn()
     ensures heard { HeardOfOneMore }
     ensures listening { ListeningAfterOneMore }

@@ -23,7 +23,7 @@ pub struct Listener {
 }
 
 impl Listener {
-    /// A device that no frame has reached.
+    /// Makes a device, by its number, that no frame has reached. It takes no memory.
     pub fn new(device: u8) -> Listener
         ensures { result ≡ kept_of device [] }
     {
@@ -34,8 +34,9 @@ impl Listener {
         }
     }
 
-    /// Takes the next frame, and gives the input that it has for the device: of a frame with ATN pulled a
-    /// selection of a character set, of another its byte while the device listens. It takes no memory.
+    /// Takes the next frame, and gives the input that it has for the device: of a frame with ATN
+    /// pulled a selection of a character set, of another its byte while the device listens. It
+    /// takes no memory.
     ///
     /// Only devices up to 30 can be called (LISTEN 31 would be UNLISTEN).
     pub fn hear(&mut self, frame: Frame) -> Option<Input>

@@ -32,8 +32,8 @@ use std::io::{Read, Write};
 /// - [`CliFault::Trace`]: a trace text with its first bad line; [`CliFault::Capture`]: a recording with
 ///   its first fault. No further block is read.
 /// - [`CliFault::Wave`] with [`pr_wire::WaveFault::Order`]: a trace text in which time goes back, with the
-///   index of the first edge that stands before the one in front of it, unless a bad line stands before it.
-///   The rest of the text is read, to its end or to its first bad line.
+///   index of the first edge that is earlier than the one before it, unless a bad line comes before
+///   that. The rest of the text is read, to its end or to its first bad line.
 /// - [`CliFault::TooLarge`]: only if the input has more than [`CHECK_LIMIT`] bytes.
 /// - [`CliFault::ReadFailed`] exactly if the input has failed, [`CliFault::WriteFailed`] exactly if the
 ///   output has.
@@ -63,11 +63,13 @@ pub fn decode_over<R: Read, W: Write>(
     decode_input(alloc, input, output, trace, CHECK_LIMIT)
 }
 
-/// Writes what a recording of at most `limit` bytes says, block by block, as [`decode_over`] does.
+/// Reads a recording of at most `limit` bytes and writes what it says, block by block, as
+/// [`decode_over`] does.
 ///
 /// # Errors
 ///
-/// Those of [`decode_over`], with `limit` in place of [`CHECK_LIMIT`](pr_cli::CHECK_LIMIT).
+/// Those of [`decode_over`], with `limit` in place of [`CHECK_LIMIT`](pr_cli::CHECK_LIMIT), and
+/// what they leave is the same.
 pub fn decode_input<R: Read, W: Write>(
     alloc: Global,
     input: &mut Watched<R>,

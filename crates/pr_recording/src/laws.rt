@@ -5,7 +5,7 @@ ghost use Rattle.pr_recording.specs.Laws.{InputsAreFew, MoreReadingsAddInputs, T
 use pr_decode::traces_are_read;
 use pr_receiver::frames_are_heard_in_turn;
 
-/// A law: more readings only add inputs behind those that there were, each at most one.
+/// A law: more readings only add inputs after those that there were, each at most one.
 pub fn readings_are_heard_in_turn()
     ensures more { MoreReadingsAddInputs }
     ensures few { InputsAreFew }
@@ -13,8 +13,8 @@ pub fn readings_are_heard_in_turn()
     frames_are_heard_in_turn();
 }
 
-/// A law: of what a lawful trace says a device hears just what it hears of the frames that the trace
-/// spells, so its page is theirs.
+/// A law: of what a lawful trace says a device hears just what it hears of the frames that the
+/// trace spells, so its page is theirs.
 pub fn traces_are_heard_as_spelled()
     ensures { TracesAreHeardAsSpelled }
 {

@@ -38,7 +38,8 @@ pub const PRINT_LIMIT: usize = 4_000_000_000;
 /// - [`CliFault::Trace`]: a trace text with its first bad line; [`CliFault::Capture`]: a recording with
 ///   its first fault. No further block is read.
 /// - [`CliFault::Wave`] with [`pr_wire::WaveFault::Order`]: a trace text in which time goes back, with the
-///   index of the first edge that stands before the one in front of it, unless a bad line stands before it.
+///   index of the first edge that is earlier than the one before it, unless a bad line comes before
+///   that.
 /// - [`CliFault::TooLarge`]: only if the input has more than [`PRINT_LIMIT`] bytes.
 /// - [`CliFault::ReadFailed`] exactly if the input has failed, [`CliFault::WriteFailed`] exactly if the
 ///   output has.
@@ -71,12 +72,15 @@ pub fn reprint_over<R: Read, W: Write>(
     write_pages(alloc, output, printed, format)
 }
 
-/// Prints a recording of at most `limit` bytes, block by block.
+/// Prints a recording of at most `limit` bytes, block by block: gives the papers that
+/// [`reprint_over`] writes, and the fault of the recording after which nothing more is printed, if
+/// it has one.
 ///
 /// # Errors
 ///
-/// Those of [`reprint_over`] but a failed write, with `limit` in place of [`PRINT_LIMIT`]. A fault of the recording is
-/// no error here: the answer has the pages of what is settled before it, and the fault.
+/// Those of [`reprint_over`] but a failed write, with `limit` in place of [`PRINT_LIMIT`]. A fault
+/// of the recording is no error here: the answer has the pages of what is settled before it, and
+/// the fault.
 pub fn print_input<R: Read>(
     alloc: Global,
     input: &mut Watched<R>,

@@ -79,7 +79,7 @@ impl Model for PrinterPair {
 }
 
 impl PrinterPair {
-    /// Both printers, with empty papers; neither listens. It takes no memory.
+    /// Makes both printers, with empty papers; neither listens. It takes no memory.
     pub fn new(alloc: Global) -> PrinterPair
         ensures taken { HasReprinted [] result }
         ensures count { number_taken result ≡ 0 }
@@ -94,8 +94,8 @@ impl PrinterPair {
     }
 
     /// Takes the next reading of a recording: each printer hears it, if it is a byte that was
-    /// acknowledged, and prints what it then has for it. A printer takes at most 2^32 inputs;
-    /// [`PrinterPair::taken`] tells how many there are.
+    /// acknowledged, and prints what it then has for it. A printer takes at most 2^32 inputs: fewer
+    /// than that were taken before ([`PrinterPair::taken`]), and this call adds at most one.
     ///
     /// # Errors
     ///
@@ -122,7 +122,8 @@ impl PrinterPair {
         answer
     }
 
-    /// The number of inputs that the printers have taken, of the printer that has taken more.
+    /// Returns the number of inputs that the printers have taken, of the printer that has taken
+    /// more.
     pub fn taken(&self) -> u64
         ensures value { result ≡ number_taken self.now }
         ensures inputs { (readings : List Reading) → HasReprinted readings self.now →
@@ -133,8 +134,8 @@ impl PrinterPair {
         four.max(five)
     }
 
-    /// The papers: the pages of what the printers hear of all readings taken, and which of them heard a
-    /// byte. It takes no memory.
+    /// Ends the recording and returns the papers: the pages of what the printers hear of all
+    /// readings taken, and which of them heard a byte. It takes no memory.
     pub fn finish(self) -> PrintedPages
         ensures { (readings : List Reading) → HasReprinted readings self → ArePapers readings result }
     {

@@ -160,12 +160,13 @@ fn push_picture(
     text.extend_from_slice(b"</svg>\n")
 }
 
-/// The picture of an outcome as an SVG document: the sheets of the printers that are present and have
-/// printed, side by side, with their names above, and below them the stop and the first statuses that
-/// are not 0. If no printer has printed, the sheets of all that are present are drawn.
+/// Draws an outcome as an SVG document: the sheets of the printers that are present and have
+/// printed, side by side, with their names above, and below them the stop and the first statuses
+/// that are not 0. If no printer has printed, the sheets of all that are present are drawn.
 ///
 /// Each dot is a disc at its place. The shapes of characters are this project's own drawing; their
-/// letters can be searched and copied. Marks that are held are drawn pale, below a line that says so.
+/// letters can be searched and copied. Marks that are held are drawn pale, below a line that says
+/// so.
 ///
 /// # Errors
 ///

@@ -2,9 +2,9 @@
 
 ghost use Rattle.pr_render.specs.Laws.{DiscsAreTheDots, LinesShowEachCell, NamesTellMarks};
 
-/// A law: what a picture draws of a paper's rows is a disc at each dot of the paper, and no other. An element
-/// draws what is defined under its name, moved to the element's place; a mark that stands in the definitions
-/// is defined there once.
+/// A law: what a picture draws of a paper's rows is a disc at each dot of the paper, and no other.
+/// An element draws what is defined under its name, moved to the element's place; each mark in the
+/// definitions is defined there once.
 pub fn discs_are_the_dots()
     ensures { DiscsAreTheDots }
 {}

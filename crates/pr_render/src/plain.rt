@@ -110,8 +110,9 @@ fn push_stop(text: &mut Vec<u8>, stop: Option<(usize, Stop)>) -> Result<(), Allo
     text.extend_from_slice(b".\n")
 }
 
-/// The pages of the printers that are there as UTF-8 lines of at most 80 columns, a row a line
-/// and empty paper in lines, the marks held below a line that says so, and then the statuses, the screen's bytes and the stop as sentences.
+/// Writes the pages of the printers that are present as UTF-8 lines of at most 80 columns: a line
+/// for each row and for each line of empty paper, the marks held below a line that says so, and
+/// then the statuses, the screen's bytes and the stop as sentences.
 ///
 /// # Errors
 ///

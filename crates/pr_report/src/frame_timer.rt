@@ -26,7 +26,7 @@ pub struct FrameTimer {
 }
 
 impl FrameTimer {
-    /// A timer that has taken no edge. It takes no memory.
+    /// Makes a timer that has taken no edge. It takes no memory.
     pub fn new() -> FrameTimer
         ensures told { HasTold [] [] result }
         ensures count { number_taken result ≡ 0 }
@@ -59,14 +59,15 @@ impl FrameTimer {
         }
     }
 
-    /// Takes the next edge of a trace, `0 111` included, and gives the frame that it ends, with its
-    /// moments: with the edge that acknowledges a frame that frame, and with every other edge none
-    /// (profile: the table of lawful traces). It takes no memory.
+    /// Takes the next edge of a trace, `0 111` included, whoever made it, and gives the frame that
+    /// it ends, with its moments: with the edge that acknowledges a frame that frame, and with
+    /// every other edge none (profile: the table of lawful traces). It takes no memory.
     ///
     /// # Errors
     ///
-    /// The first fault, where the edges taken and this one are not allowed; never
-    /// [`WaveFault::NoMemory`]. The timer is then as it was, and no edge after this one adds a frame.
+    /// The first fault, where the edges taken and this one are not allowed: that of all lists of
+    /// edges that begin with these; never [`WaveFault::NoMemory`]. The timer is then as it was, and
+    /// neither this edge nor a later one ends a further frame.
     #[inline(always)]
     pub fn take(&mut self, edge: Edge) -> Result<Option<TimedFrame>, WaveFault>
         requires room { number_taken self.old + 1 < 2 ^ 64 }
@@ -92,13 +93,13 @@ impl FrameTimer {
         }
     }
 
-    /// Whether the edges taken are a lawful trace. The frames given are then all of theirs, and also
-    /// if they are not. It takes no memory.
+    /// Checks whether the edges taken are a lawful trace. Whether they are or not, the frames given
+    /// are all that they end. It takes no memory.
     ///
     /// # Errors
     ///
-    /// [`WaveFault::Start`] where no edge was taken, and [`WaveFault::Truncated`] with the number of
-    /// edges where a trace may not end after them.
+    /// [`WaveFault::Start`] where no edge was taken, and [`WaveFault::Truncated`] with the number
+    /// of edges where a trace may not end after them; never [`WaveFault::NoMemory`].
     pub fn finish(&self) -> Result<(), WaveFault>
         ensures told { (edges : List Edge) (given : List TimedFrame) → HasTold edges given self.now → timed_frames edges ≡ given }
         ensures fault { (edges : List Edge) (given : List TimedFrame) → HasTold edges given self.now → result_err result ≡ fault_of edges }

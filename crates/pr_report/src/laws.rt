@@ -15,17 +15,18 @@ pub fn frames_are_told()
     allowed_traces();
 }
 
-/// A law: more edges only add frames behind those that there were.
+/// A law: more edges only add frames after those that there were.
 pub fn stories_add_up()
     ensures more { MoreEdgesAddFrames }
 {}
 
-/// A law: with one reading more, its lines stand behind those of the others, by what stands behind these.
+/// A law: one reading more adds its lines after those of the others; which lines they are depends
+/// on what comes before the reading.
 pub fn lines_add_up()
     ensures { LinesAddUp }
 {}
 
-/// A law: of all numbers, the middle of lengths is the least that at least half of them do not exceed.
+/// A law: the middle of some lengths is the least number that at least half of them do not exceed.
 pub fn middles_are_least()
     ensures { MiddlesAreLeast }
 {}
@@ -37,10 +38,11 @@ pub fn lawful_traces_are_within()
     traces_are_read();
 }
 
-/// A law: in a lawful trace each byte has its line of the story, and no other line stands there. Readings do
-/// not tell where ATN is released, so the line `attention` may stand elsewhere, but not where commands are
-/// as computers send them: where each attention begins with LISTEN, UNLISTEN or another command below the
-/// secondary addresses, and has a second one from these on or none, the lines are the story's.
+/// A law: of a lawful trace each byte has its line of the story, and there is no other line.
+/// Readings do not say where ATN is released, so the line `attention` may be in other places. It is
+/// in the same places, so that the lines are the story's, where commands are as computers send
+/// them: where each attention begins with LISTEN, UNLISTEN or another command below the secondary
+/// addresses, and has a second one from these on or none.
 pub fn lawful_traces_are_told()
     ensures told { LawfulTracesAreTold }
     ensures usual { UsualTracesAreStories }

@@ -26,7 +26,8 @@ pub enum Preceding {
 }
 
 impl Preceding {
-    /// What comes before the next reading. A byte that is not acknowledged changes nothing.
+    /// Takes a reading, and returns what comes before the next one: a byte that is not acknowledged
+    /// changes nothing.
     pub fn after(self, reading: &Reading) -> Preceding
         ensures { result ≡ after_reading self reading.now }
     {
@@ -237,11 +238,12 @@ fn push_all_outside(
     Ok(())
 }
 
-/// Adds the lines of a reading. An acknowledged byte has the line that it has in a story: the moments of its
-/// look and of its acknowledgement in microseconds, the byte in hexadecimal and what it says. An
-/// unacknowledged byte and an incomplete one have lines of their own, with the look, and what ended them and
-/// when. A line follows for each interval that lies outside the profile's bounds, with its length and these
-/// bounds. `behind` is what comes before; [`Preceding::after`] gives it for the next reading.
+/// Adds the lines of a reading to a text. An acknowledged byte has the line that it has in a story:
+/// the moments of its look and of its acknowledgement in microseconds, the byte in hexadecimal and
+/// what it says. An unacknowledged byte and an incomplete one have lines of their own, with the
+/// look, and what ended them and when. A line follows for each interval that lies outside the
+/// profile's bounds, with its length and these bounds. `behind` is what comes before;
+/// [`Preceding::after`] gives it for the next reading.
 ///
 /// # Errors
 ///

@@ -31,8 +31,8 @@ fn push_if_some(
 }
 
 /// Adds the story of edges to a text: a line for each frame that they end, in order, and `lawful`
-/// where they are a lawful trace. Where they are not, it returns their first fault; the frames before
-/// it have their lines all the same.
+/// where they are a lawful trace. Where they are not, it returns their first fault; the frames
+/// before it have their lines all the same.
 ///
 /// # Errors
 ///

@@ -94,7 +94,7 @@ fn heading(behind_data: bool, sending: ByteRole) -> &'static [u8]
     }
 }
 
-/// Whether a frame is a data byte.
+/// Returns whether a frame is a data byte. It takes no memory.
 pub fn is_data(sending: ByteRole) -> bool
     ensures { result ≡ is_data sending }
 {
@@ -117,10 +117,10 @@ fn push_frame(text: &mut Vec<u8>, frame: TimedFrame) -> Result<(), NoMemory>
     text.extend_from_slice(line_end(frame.eoi))
 }
 
-/// Adds a frame's line of the story: the moments of its look and of its acknowledgement in
-/// microseconds, its byte in hexadecimal, what it says, and end-or-identify. `behind_data` is
-/// whether the frame before it is a data byte. A line `attention` comes before each attention, and a
-/// line `data` before a data byte that follows no data byte.
+/// Adds a frame's line of the story to a text: the moments of its look and of its acknowledgement
+/// in microseconds, its byte in hexadecimal, what it says, and end-or-identify. `behind_data` is
+/// whether the frame before it is a data byte. A line `attention` comes before each attention, and
+/// a line `data` before a data byte that follows no data byte.
 ///
 /// # Errors
 ///

@@ -37,7 +37,8 @@ pub struct Survey {
 }
 
 impl Survey {
-    /// A survey that has taken no reading.
+    /// Makes a survey that has taken no reading. It takes all the memory that a survey ever needs,
+    /// 1.3 megabytes.
     ///
     /// # Errors
     ///
@@ -62,7 +63,7 @@ impl Survey {
         })
     }
 
-    /// Takes one reading more. It takes no memory.
+    /// Takes one more reading. It takes no memory. The number of readings stays below 2^64.
     pub fn take(&mut self, reading: &Reading)
         requires room { number_taken self.old + 1 < 2 ^ 64 }
         ensures taken { (readings : List Reading) → HasSurveyed readings self.old → HasSurveyed (readings ++ reading.now ∷ []) self.new }
@@ -100,10 +101,11 @@ impl Survey {
         Ok(())
     }
 
-    /// Adds the summary of the readings taken: a line for each count, and one for each interval with how
-    /// many readings have it, its least, middle and greatest length in microseconds, and how many lie
-    /// outside the profile's bounds. The middle is the least length that at least half of them do not
-    /// exceed; from 16384 microseconds on it is written as `over 16383`.
+    /// Adds the summary of the readings taken to a text: a line for each count, and one for each
+    /// interval with how many readings have it, its least, middle and greatest length in
+    /// microseconds, and how many lie outside the profile's bounds. The middle is the least length
+    /// that at least half of them do not exceed; from 16384 microseconds on it is written as
+    /// `over 16383`.
     ///
     /// # Errors
     ///

@@ -20,7 +20,7 @@ pub struct TimedFrame {
 }
 
 impl TimedFrame {
-    /// The frame without its moments.
+    /// Returns the frame without its moments. It takes no memory.
     pub fn frame(self) -> Frame
         ensures { result ≡ frame_told self }
     {

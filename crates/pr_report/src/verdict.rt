@@ -15,9 +15,9 @@ fn push_flaw(text: &mut Vec<u8>, edge: usize, reason: &[u8]) -> Result<(), NoMem
     Ok(())
 }
 
-/// Adds the line that says whether edges are a lawful trace, by their first fault if they have one:
-/// `lawful`, or `not lawful: edge 3: too early`, where edges count from 0 and the words are those of
-/// [`WaveFault`].
+/// Adds the line that says whether edges are a lawful trace to a text. It is `lawful` where they
+/// have no fault, or else `not lawful` with their first fault, as `not lawful: edge 3: too early`,
+/// where edges count from 0 and the words are those of [`WaveFault`].
 ///
 /// # Errors
 ///

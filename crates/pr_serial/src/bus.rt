@@ -11,8 +11,9 @@ use pr_page::Input;
 /// Nothing here speaks of levels, of time or of delays, so what is proved of a run over any such
 /// bus holds with wires and without.
 pub trait Bus: Serial {
-    /// What a device heard since the last [`Serial::forget`] (before the first: of all items), in
-    /// order: the empty list if the device is absent. After a refusal it answers as before.
+    /// Returns what a device heard of the items since the last [`Serial::forget`] (before the
+    /// first: of all items), in order: the empty list if the device is absent. After a refusal it
+    /// answers as before.
     fn heard(&self, device: u8) -> &[Input]
         ensures { IsHeardSinceMark (Self.printers self.now) (Self.marked self.now) (Self.sent self.now) device result.now };
 }

@@ -40,7 +40,8 @@ impl Model for Direct {
 impl Direct {
     ghost use Rattle.pr_serial.specs.HeardSinceMark.{IsHeardSinceMark};
 
-    /// A bus with these printers, on which nothing was sent and nobody listens. It takes no memory.
+    /// Makes a bus with these printers, on which nothing was sent and nobody listens. It takes no
+    /// memory.
     pub fn new(alloc: Global, present: Present) -> Direct
         ensures present { result.present ≡ present }
         ensures items { result.items ≡ [] }
@@ -57,8 +58,9 @@ impl Direct {
         }
     }
 
-    /// What a device heard since the last [`Serial::forget`] (before the first: of all items), in
-    /// order: the empty list if the device is absent. After a refusal it answers as before.
+    /// Returns what a device heard of the items since the last [`Serial::forget`] (before the
+    /// first: of all items), in order: the empty list if the device is absent. After a refusal it
+    /// answers as before. It takes no memory.
     pub fn heard(&self, device: u8) -> &[Input]
         ensures { IsHeardSinceMark self.now.present self.now.mark self.now.items device result.now }
     {

@@ -41,8 +41,9 @@ pub trait Serial {
     ///
     /// # Errors
     ///
-    /// [`NoMemory`] where memory was refused, in this call or in an earlier one. What was sent is
-    /// then as before, and each later call of `attention` and [`Serial::send`] answers the same.
+    /// [`NoMemory`] where memory was refused, in this call or in an earlier one. Nothing was sent
+    /// by this call, and printers, delays, items and mark are as before. The bus has failed for
+    /// good: each later call of `attention` and [`Serial::send`] answers the same.
     fn attention(&mut self, first: u8, second: Option<u8>) -> Result<bool, NoMemory>
         // the caller's part
         requires may_send { MaySend first second }
@@ -79,7 +80,7 @@ pub trait Serial {
         ensures err { OnErr result ((sent self.new ≡ sent self.old) × (has_failed self.new ≡ true)) };
 
     /// Marks the items so far, so that the bus shows only what came of later ones. The items
-    /// themselves stay. It takes no memory and never fails.
+    /// themselves stay, and nothing else changes. It takes no memory and never fails.
     fn forget(&mut self)
         ensures printers { printers self.new ≡ printers self.old }
         ensures delays { delays self.new ≡ delays self.old }
@@ -87,16 +88,17 @@ pub trait Serial {
         ensures failed { has_failed self.new ≡ has_failed self.old }
         ensures mark { marked self.new ≡ Some (length (sent self.old)) };
 
-    /// The number of items at the last [`Serial::forget`], or none before the first.
+    /// Returns how many items there were at the last [`Serial::forget`], or none before the first.
+    /// It takes no memory.
     fn mark(&self) -> Option<u64>
         ensures { result ≡ marked self.now };
 
-    /// The number of items sent.
+    /// Returns the number of items sent. It takes no memory.
     fn items(&self) -> u64
         ensures { result ≡ length (sent self.now) };
 
-    /// Whether the bus has failed. Each later [`Serial::attention`] and [`Serial::send`] is then
-    /// refused.
+    /// Returns whether the bus has failed. Each later [`Serial::attention`] and [`Serial::send`] is
+    /// then refused. It takes no memory.
     fn failed(&self) -> bool
         ensures { result ≡ has_failed self.now };
 }

@@ -81,7 +81,11 @@ fn place_of_reading(place: Option<ReadingPlace>) -> usize
 }
 
 /// Puts why a script is refused at the front of the page's buffer, and answers the line of its
-/// first fault; no text and 0, where it is not refused.
+/// first fault: the text and the place of [`pr_explain::explain_script`]. 0, and no text, exactly
+/// where it is not refused.
+///
+/// It is refused where memory was refused, and where the text has more bytes than the buffer has
+/// room for. The buffer is then as it was.
 #[unsafe(no_mangle)]
 pub extern "C" fn print1525_explain_script(
     alloc: Global,
@@ -99,9 +103,13 @@ pub extern "C" fn print1525_explain_script(
 }
 
 /// Puts which error stopped the run of a script, in BASIC's words, at the front of the page's
-/// buffer, and answers the line: the number of the error, and the statement, from 1, as
-/// `print1525_pages` answers them; the printers that were present, and whether the status was kept
-/// (0 for no). No text and 0, where the script has no such statement.
+/// buffer, and answers the line of its place: the text and the place of
+/// [`pr_explain::explain_stop`]. 0, and no text, exactly where the script has no such statement.
+///
+/// The error is passed by its number, and the statement, from 1, as `print1525_pages` answers them;
+/// `four` and `five` are the printers that were present, `kept` is whether the status was kept (0
+/// for no). It is refused where the number is no BASIC error's, where memory was refused, and where
+/// the text has more bytes than the buffer has room for. The buffer is then as it was.
 #[unsafe(no_mangle)]
 pub extern "C" fn print1525_explain_stop(
     alloc: Global,
@@ -134,8 +142,12 @@ pub extern "C" fn print1525_explain_stop(
 
 /// Puts why a trace is refused, by `print1525 check`, at the front of the page's buffer, and
 /// answers the line that cannot be read, or else the index of the edge with which it stops being
-/// lawful; no text and 0, where it is not refused. The trace is passed as to
-/// [`crate::print1525_readings`].
+/// lawful: the text and the place of [`pr_explain::explain_trace`]. 0, and no text, where it is not
+/// refused.
+///
+/// The trace is passed as to [`crate::print1525_readings`]. It is refused where a number stands for
+/// no format of a recording, where memory was refused, and where the text has more bytes than the
+/// buffer has room for. The buffer is then as it was.
 #[unsafe(no_mangle)]
 pub extern "C" fn print1525_explain_trace(
     alloc: Global,
@@ -164,8 +176,11 @@ pub extern "C" fn print1525_explain_trace(
 }
 
 /// Puts why a recording cannot be read to its end at the front of the page's buffer, and answers
-/// the index of the edge with which time goes back, or else the line that cannot be read; no text
-/// and 0, where it can. The recording is passed as to [`crate::print1525_readings`].
+/// the index of the edge with which time goes back, or else the line that cannot be read: the text
+/// and the place of [`pr_explain::explain_reading`]. 0, and no text, exactly where it can be read.
+///
+/// The recording is passed as to [`crate::print1525_readings`], with the refusals of
+/// [`print1525_explain_trace`].
 #[unsafe(no_mangle)]
 pub extern "C" fn print1525_explain_reading(
     alloc: Global,

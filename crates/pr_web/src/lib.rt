@@ -1,7 +1,9 @@
 //! The calls of the page in a browser beside those of `pr_c`: what a recording says, and why a script, a
 //! trace or a recording is refused. Memory in, memory out, no pointer kept.
 //!
-//! The page owns every buffer. Each slice is a pointer and then a length.
+//! The page owns every buffer. Each slice is a pointer and then a length. A call puts its text at
+//! the buffer's front where it has room, with the rest of the buffer as it was, and writes the
+//! whole answer; where it gives no text, the buffer stays as it was.
 //!
 //! - `recordings` and `explanations` have the calls, made as those of pr_c: a slice as the reader, a `Vec`
 //!   as the writer, and the text copied to the front of the buffer (`answer`). A recording that cannot be

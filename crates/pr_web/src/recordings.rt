@@ -41,11 +41,18 @@ fn reprint(
     give(made, &output.into_inner(), out)
 }
 
-/// Reads a recording, and puts what it says, as `print1525 decode` writes it, at the front of the page's
-/// buffer: 0 a trace text, 1 a Value Change Dump, 2 a table; the names of its signals; whether its levels
-/// are inverted (0 for no); and the microsecond at which it starts.
+/// Reads a recording, and puts what it says, as `print1525 decode` writes it, at the front of the
+/// page's buffer.
 ///
-/// Of a recording that can not be read to its end that is what stands before the fault, beside code 2.
+/// `source` is 0 for a trace text, 1 for a Value Change Dump, 2 for a table. `atn`, `clock` and
+/// `line` are the names of the signals, `inverted` is whether their levels are inverted (0 for no),
+/// and `start` is the microsecond at which the recording starts.
+///
+/// It is refused with the faults of [`pr_recording::decode_over`] but for reads and writes, for a
+/// number that stands for no format, and where the text has more bytes than the buffer has room
+/// for, with their number. Of a recording that cannot be read to its end, the text of what comes
+/// before the fault is in the buffer, with code 2. With every other refusal the buffer is as it
+/// was.
 #[unsafe(no_mangle)]
 pub extern "C" fn print1525_readings(
     alloc: Global,
@@ -70,8 +77,10 @@ pub extern "C" fn print1525_readings(
     *answer = numbered(readings(alloc, bytes, input, out));
 }
 
-/// Reads a recording, and puts the pages that printers 4 and 5 print of it at the front of the page's
-/// buffer, as lines (0) or as an SVG document. The recording is passed as to [`print1525_readings`].
+/// Reads a recording, and puts the pages that printers 4 and 5 print of it at the front of the
+/// page's buffer, as lines (0) or as an SVG document. The recording is passed as to
+/// [`print1525_readings`], with its refusals: of a recording that cannot be read to its end, the
+/// pages of what comes before the fault are in the buffer.
 #[unsafe(no_mangle)]
 pub extern "C" fn print1525_reprint(
     alloc: Global,

@@ -10,9 +10,9 @@ use crate::follower::TraceFollower;
 use crate::{Edge, Frame, WaveFault};
 use std::alloc::Global;
 
-/// The frames that a lawful trace spells, in order (profile: intervals and shapes as
-/// `specs/Pieces.antt` and `specs/Table.antt` say, after the Programmer's Reference Guide's serial
-/// bus timing).
+/// Checks whether a list of edges is a lawful trace, and gives the frames that it spells, in order
+/// (profile: intervals and shapes as `specs/Pieces.antt` and `specs/Table.antt` say, after the
+/// Programmer's Reference Guide's serial bus timing).
 ///
 /// # Errors
 ///
@@ -44,16 +44,17 @@ fn keep(frames: &mut Vec<Frame>, frame: Option<Frame>) -> Result<(), WaveFault>
     Ok(())
 }
 
-/// Laws, with nothing to run: the lawful traces, cut into whole pieces, are the lists without a
-/// fault in the table; and each spells one list of frames, however it is cut.
+/// Laws, with nothing to run: the lawful traces, which are cut into whole pieces, are exactly the
+/// lists without a fault by the table; and each spells one list of frames, however it is cut.
 pub fn lawful_traces()
     ensures faultless { LawfulIsFaultless }
     ensures once { SpellsOnce }
 {}
 
-/// Laws, with nothing to run: the places that a list of edges reaches. A list is allowed exactly
-/// if it leads somewhere, it is lawful exactly if it may end there, it then spells the frames come
-/// by, and otherwise its fault is the first on the way; one edge more goes one step on.
+/// Laws, with nothing to run: a list of edges is allowed exactly if it leads to a place of the
+/// table, and lawful exactly if a trace may end at that place. It then spells the frames that its
+/// edges end on the way. Otherwise its fault is the first on the way. One edge more goes one step
+/// on.
 pub fn allowed_traces()
     ensures allowed { AllowedIsReached }
     ensures lawful { LawfulIsAllowedToEnd }

@@ -25,7 +25,7 @@ pub enum ByteRole {
 }
 
 impl ByteRole {
-    /// ATN's level while the byte is sent.
+    /// Returns ATN's level while the byte is sent.
     pub fn atn(self) -> bool
         ensures { result ≡ atn_of self }
     {
@@ -469,7 +469,8 @@ fn after_freed(since: u64, unlisten: bool, released: bool, edge: Edge) -> Result
 }
 
 impl BusState {
-    /// What an edge comes to here, after the edge before it, by the table of lawful traces.
+    /// Returns what an edge comes to here, after the edge before it, by the table of lawful traces:
+    /// the place and the frame that it ends. It takes no memory.
     ///
     /// # Errors
     ///
@@ -484,8 +485,9 @@ impl BusState {
         }
     }
 
-    /// Goes on to the place that an edge reaches here, after the edge before it, and gives the frame
-    /// that the edge ends: [`BusState::after`] in place, and faster, since most edges are those of bits.
+    /// Goes on to the place that an edge reaches here, after the edge before it, and gives the
+    /// frame that the edge ends: [`BusState::after`] in place, and faster, since most edges are
+    /// those of bits. It takes no memory.
     ///
     /// # Errors
     ///
@@ -579,8 +581,8 @@ impl BusState {
         }
     }
 
-    /// Whether a trace may end here: idle, after an attention whose last command was not UNLISTEN,
-    /// or after a data byte.
+    /// Returns whether a trace may end here: idle, after an attention whose last command was not
+    /// UNLISTEN, or after a data byte.
     pub fn may_end(&self) -> bool
         ensures { result ≡ may_end self.now }
     {
@@ -593,7 +595,7 @@ impl BusState {
 }
 
 impl EdgeError {
-    /// The fault of the edge at an index that has this flaw.
+    /// Makes the fault of a list of edges: the edge at this index, from 0, has this error.
     pub fn at(self, index: usize) -> WaveFault
         ensures { result ≡ fault_at self index }
     {

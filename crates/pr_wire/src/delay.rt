@@ -41,7 +41,8 @@ pub enum Kind {
     Dr,
 }
 
-/// The least, the typical and the greatest delay of a kind, in microseconds.
+/// Returns the least, the typical and the greatest delay of a kind, in microseconds. It takes no
+/// memory.
 pub fn bounds(kind: Kind) -> (u16, u16, u16)
     ensures { result ≡ bounds_of kind }
 {
@@ -96,7 +97,7 @@ impl Model for Choices {
 }
 
 impl Choices {
-    /// A list of which no number has been taken. It takes no memory.
+    /// Makes a list of these numbers, of which none has been taken. It takes no memory.
     pub fn new(numbers: Vec<u16>) -> Choices
         ensures all { result.numbers ≡ numbers.items }
         ensures left { left result ≡ numbers.items }
@@ -104,7 +105,7 @@ impl Choices {
         Choices { numbers, taken: 0 }
     }
 
-    /// How many numbers have been taken.
+    /// Returns how many numbers have been taken. It takes no memory.
     pub fn taken(&self) -> usize
         ensures count { result ≡ self.now.taken }
         ensures within { result ≤ length self.now.numbers }
@@ -112,9 +113,9 @@ impl Choices {
         self.taken
     }
 
-    /// The delay of this kind that the next number makes, in microseconds: the least one plus the
-    /// number's rest by the count of delays allowed. Past the list's end it is the typical one. It
-    /// takes no memory.
+    /// Takes the next number and returns the delay of this kind that it makes, in microseconds: the
+    /// least one plus the number's remainder by the count of delays allowed. Past the list's end it
+    /// is the typical one. It takes no memory.
     pub fn next(&mut self, kind: Kind) -> u16
         ensures delay { result ≡ delay_at kind (left self.old) 0 }
         ensures left { left self.new ≡ drop 1 (left self.old) }

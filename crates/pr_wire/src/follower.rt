@@ -26,7 +26,8 @@ pub enum Refusal {
 }
 
 impl Refusal {
-    /// The fault of the edge at an index that is refused so.
+    /// Makes the fault of a list of edges: the edge at this index, from 0, is refused for this
+    /// reason.
     pub fn at(self, index: usize) -> WaveFault
         ensures value { result ≡ refusal_at self index }
         ensures memory { result ≢ NoMemory }
@@ -64,7 +65,7 @@ fn differ(edge: Edge, other: Edge) -> bool
 }
 
 impl TraceFollower {
-    /// A follower to which no edge has come. It takes no memory.
+    /// Makes a follower to which no edge has come. It takes no memory.
     pub fn new() -> TraceFollower
         ensures accepted { HasAccepted [] [] result }
         ensures count { result.taken ≡ 0 }
@@ -173,9 +174,9 @@ impl TraceFollower {
 
     /// Takes the next edges at once, where they are those of a whole frame, or, after the pull of
     /// CLOCK that brings a first bit, the frame's bits and its acknowledgement: as
-    /// [`TraceFollower::take`] would take them one by one, and faster. Gives the frame that the last
-    /// of them ends, and how many they are; the others end none. It may take none and stay as it is;
-    /// that it takes the edges of a whole frame is tested. It takes no memory.
+    /// [`TraceFollower::take`] would take them one by one, and faster. Gives the frame that the
+    /// last of them ends, and how many they are; the others end none. It may take none and stay as
+    /// it is; that it takes the edges of a whole frame is tested. It takes no memory.
     #[inline(always)]
     pub fn pass_frame(&mut self, edges: &[Edge]) -> Option<WholeFrame>
         requires room { self.old.taken + length edges.now < 2 ^ 64 }
@@ -188,9 +189,9 @@ impl TraceFollower {
     }
 
     /// Takes the next edges at once in this follower and in another, as many in both, each as
-    /// [`TraceFollower::pass_frame`] does, and with one test of the edges for both. It may take none,
-    /// and both stay as they are; that it takes the edges of a frame that both are to find next is
-    /// tested. It takes no memory.
+    /// [`TraceFollower::pass_frame`] does, and with one test of the edges for both. It may take
+    /// none, and both stay as they are; that it takes the edges of a frame that may come next in
+    /// both is tested. It takes no memory.
     #[inline(always)]
     pub fn pass_frame_with(
         &mut self,
@@ -219,7 +220,8 @@ impl TraceFollower {
         Some(whole)
     }
 
-    /// The first fault of the edges given, if they have one whatever follows.
+    /// Returns the first fault of the edges given, if they have one whatever follows. It takes no
+    /// memory.
     pub fn fault(&self) -> Option<WaveFault>
         ensures value { result ≡ kept_fault self.now }
         ensures memory { IfSome result (λ fault. fault ≢ NoMemory) }
@@ -228,14 +230,14 @@ impl TraceFollower {
         Some(refusal.at(self.taken))
     }
 
-    /// Whether the edges given are a lawful trace; it then spells the frames given. It takes no
-    /// memory.
+    /// Checks whether the edges given are a lawful trace, which then spells the frames given. It
+    /// takes no memory.
     ///
     /// # Errors
     ///
-    /// The fault with which `take` refused, if it did. Otherwise [`WaveFault::Start`] where no edge
-    /// was given, and [`WaveFault::Truncated`] with the number of edges where a trace may not end
-    /// after them; never [`WaveFault::NoMemory`].
+    /// The fault with which [`TraceFollower::take`] refused, if it did. Otherwise
+    /// [`WaveFault::Start`] where no edge was given, and [`WaveFault::Truncated`] with the number
+    /// of edges where a trace may not end after them; never [`WaveFault::NoMemory`].
     pub fn finish(&self) -> Result<(), WaveFault>
         ensures fault { (edges : List Edge) (frames : List Frame) → HasFollowed edges frames self.now → result_err result ≡ fault_of edges }
         ensures spells { OnOk result ((edges : List Edge) (frames : List Frame) → HasFollowed edges frames self.now → Spells edges frames) }

@@ -20,7 +20,7 @@ pub struct TraceReader {
 }
 
 impl TraceReader {
-    /// Nothing of a text has come. It takes no memory.
+    /// Makes a reader that has taken no byte of a text. It takes no memory.
     pub fn new() -> TraceReader
         ensures read { HasReadTrace [] [] result }
         ensures count { edge_count result ≡ 0 }
@@ -51,15 +51,16 @@ impl TraceReader {
         Ok(edge)
     }
 
-    /// Takes bytes from the front of a block: a whole line, where one stands there that spells an
-    /// edge, or else one byte. Gives how many, at least one, and the edge of the line that they end.
+    /// Takes bytes from the front of a block: a whole line, where the block begins with one that
+    /// spells an edge, or else one byte. Gives how many, at least one, and the edge of the line
+    /// that they end. However the text is cut into blocks, the edges given are those that it says.
     /// It takes no memory.
     ///
     /// # Errors
     ///
-    /// [`TraceFault::BadLine`] with the number of the line that these bytes end, counted from 1, where
-    /// it spells no edge: it is the first such line of the text. Nothing is promised of the reader
-    /// afterwards. It is never [`TraceFault::NoMemory`].
+    /// [`TraceFault::BadLine`] with the number of the line that these bytes end, counted from 1,
+    /// where it spells no edge: it is the first such line of the text. Nothing is promised of the
+    /// reader afterwards. It is never [`TraceFault::NoMemory`].
     #[inline(always)]
     pub fn take_front(&mut self, block: &[u8]) -> Result<(usize, Option<Edge>), TraceFault>
         requires few { edge_count self.old + 1 < 2 ^ 64 }
@@ -107,8 +108,8 @@ impl TraceReader {
     }
 }
 
-/// A law, with nothing to run: whatever follows the bytes that a reader has taken, the edges that it has
-/// given are the first that the text says.
+/// A law, with nothing to run: whatever follows the bytes that a reader has taken, the edges that
+/// it has given are the first that the text says.
 pub fn given_edges_come_first()
     ensures { GivenEdgesComeFirst }
 {}

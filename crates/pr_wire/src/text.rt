@@ -33,15 +33,16 @@ impl<T: Drop> From<AllocFailed<T>> for TraceFault {
     }
 }
 
-/// The edges that a text spells, one a line: the time in decimal (leading zeros are allowed), a
-/// space, three digits for ATN, CLOCK and DATA (1 released), and byte 10. A byte 13 may stand
-/// directly before byte 10, and the last line may lack byte 10, with or without a byte 13 at its
+/// Reads the edges that a text spells, one a line: the time in decimal (leading zeros are allowed),
+/// a space, three digits for ATN, CLOCK and DATA (1 released), and byte 10. A byte 13 directly
+/// before byte 10 is allowed, and the last line may lack byte 10, with or without a byte 13 at its
 /// end. The empty text has no edges. The order of times is not looked at.
 ///
 /// # Errors
 ///
 /// [`TraceFault::BadLine`] with the number of the first line of another form, a blank one too, or
-/// with a time of 2^64 or more. [`TraceFault::NoMemory`] where a growth of the list was refused.
+/// with a time of 2^64 or more: then the text spells no edges. [`TraceFault::NoMemory`] where a
+/// growth of the list was refused.
 pub fn read_trace(alloc: Global, text: &[u8]) -> Result<Vec<Edge>, TraceFault>
     ensures ok { IfOk result (λ edges. IsTraceText text.now edges.items) }
     ensures err { IfErr result (λ fault. IsTraceFault text.now fault) }
@@ -59,8 +60,8 @@ pub fn read_trace(alloc: Global, text: &[u8]) -> Result<Vec<Edge>, TraceFault>
     Ok(edges)
 }
 
-/// The text of a list of edges, one line each: the time in decimal without leading zeros, a space,
-/// three digits for ATN, CLOCK and DATA (1 released), and byte 10.
+/// Writes a list of edges as text, one line each: the time in decimal without leading zeros, a
+/// space, three digits for ATN, CLOCK and DATA (1 released), and byte 10.
 ///
 /// # Errors
 ///

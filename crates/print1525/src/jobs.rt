@@ -29,7 +29,8 @@ use std::io::{Read, Write};
 /// Those of the job's call: [`pr_cli::pages_as_over`], [`pr_cli::bus_as_over`],
 /// [`pr_cli::check_over`] for the frames of a trace text and else [`pr_cli::check_as_over`],
 /// [`pr_recording::decode_over`] for a list and else [`pr_recording::reprint_over`],
-/// [`pr_cli::raw_over`].
+/// [`pr_cli::raw_over`]. They leave what they leave there. A read failed exactly if the input has
+/// failed, and a write exactly if the output has.
 pub fn do_job<R: Read, W: Write>(
     alloc: Global,
     input: &mut Watched<R>,

@@ -20,7 +20,7 @@ pub const REFUSED: u8 = 2;
 /// Memory was refused, or a read or a write failed.
 const FAILED: u8 = 3;
 
-/// The exit status of a job that ended so.
+/// Returns the exit status of a job that ended so. It takes no memory.
 pub fn ending_status(ending: Ending) -> u8
     ensures { result ≡ ending_status ending }
 {
@@ -30,7 +30,7 @@ pub fn ending_status(ending: Ending) -> u8
     }
 }
 
-/// The exit status of a job that failed so.
+/// Returns the exit status of a job that failed so. It takes no memory.
 pub fn fault_status(fault: CliFault) -> u8
     ensures { result ≡ fault_status fault }
 {
@@ -44,7 +44,7 @@ pub fn fault_status(fault: CliFault) -> u8
     }
 }
 
-/// The exit status where a listing has no text of a script.
+/// Returns the exit status where a listing has no text of a script. It takes no memory.
 pub fn text_status(fault: TextFault) -> u8
     ensures { result ≡ text_status fault }
 {
@@ -54,7 +54,8 @@ pub fn text_status(fault: TextFault) -> u8
     }
 }
 
-/// The exit status where words ask for no job. A request for help or for the version is answered.
+/// Returns the exit status where words ask for no job. A request for help or for the version is
+/// answered. It takes no memory.
 pub fn refusal_status(fault: &JobFault) -> u8
     ensures { result ≡ refusal_status fault.now }
 {

@@ -21,9 +21,10 @@ impl Start {
 }
 
 impl BusState {
-    /// Goes over the edges of a whole frame at once from two states, after the same edge, where it
-    /// begins in both in the same way: as [`BusState::pass_edges`] from each of them, with one test of
-    /// the edges. Otherwise both states stay as they are. It may go over none.
+    /// Goes over the edges of a whole frame at once from two places, after the same edge, where it
+    /// begins in both in the same way: each comes to the place and the frame as by
+    /// [`BusState::pass_frame`], with one test of the edges. Otherwise both places stay as they
+    /// are. It may go over none. It takes no memory.
     #[inline(always)]
     pub fn pass_frame_with(
         &mut self,

@@ -1,0 +1,132 @@
+-- Dots of rows that are apart, by their pixels.
+use Rattle.std.proofs.Common.{◌≡◌, ℕ, zero, suc, ◌+◌, ◌-◌, ◌*◌, ◌/◌, ◌%◌, ◌^◌, ◌<◌, ◌≤◌, Bool, true, false, List, [], ◌∷◌, ◌++◌, ◌⊎◌, inl, inr, refl, sym, ◌∙◌, arith}
+use Rattle.std.specs.Prelude.{◌==◌, ◌&&◌, ◌||◌, flat_map, if◌then◌else◌}
+use Rattle.std.specs.List.{list_any, range_with_len}
+use Rattle.std.proofs.lemmas.Bool.{cases_Bool, false_from_ne_true, false≢true}
+use Rattle.std.proofs.lemmas.Bool.Decides.{nat_tests}
+use Rattle.std.proofs.lemmas.List.Folds.{list_any-append}
+use Rattle.pr_page.specs.declared.paper.Paper.{Paper}
+use Rattle.pr_page.specs.declared.paper.Placed.{Placed}
+use Rattle.pr_page.specs.declared.paper.Row.{Row}
+use Rattle.pr_dots.specs.Dots.{Dot, bit_dots, column_dots, columns_dots, columns_of, dots_of, has_dot, is_at, row_dots}
+use Rattle.pr_png.specs.Laws.{AreApart, PixelsTellDots}
+use Rattle.pr_png.specs.Pixels.{is_dark}
+
+-- one of two lists has it
+in-part : (test : Dot → Bool) (ds es : List Dot) → list_any test (ds ++ es) ≡ true → (list_any test ds ≡ true) ⊎ (list_any test es ≡ true)
+in-part test ds es is = either (list_any test ds) (list_any test es) (sym (list_any-append test ds es) ∙ is)
+  where
+    either : (a b : Bool) → (a || b) ≡ true → (a ≡ true) ⊎ (b ≡ true)
+    either true b is = inl refl
+    either false b is = inr is
+
+-- where the dots of a row are
+record IsOfRow (top y : ℕ) : Type 0 where
+  bit : ℕ
+  low : bit < 7
+  at : y ≡ top + 2 * bit
+
+bit-at : (set : Bool) (x y column z : ℕ) → list_any (is_at x y) (if set then record { x = column; y = z } ∷ [] else []) ≡ true → y ≡ z
+bit-at true x y column z is = tested x y column z is
+  where
+    tested : (x y column z : ℕ) → ((column == x && z == y) || false) ≡ true → y ≡ z
+    tested x y column z is = grind (arith, nat_tests)
+bit-at false x y column z is = absurd (false≢true is)
+
+bits-at : (x y column top value a n : ℕ) → a + n ≤ 7
+    → list_any (is_at x y) (flat_map (bit_dots column top value) (range_with_len a n)) ≡ true → IsOfRow top y
+bits-at x y column top value a zero few is = absurd (false≢true is)
+bits-at x y column top value a (suc n) few is =
+    let fewer : a + 1 + n ≤ 7 = omega arith in
+    let low : a < 7 = omega arith in
+    elim (in-part (is_at x y) (bit_dots column top value a) (flat_map (bit_dots column top value) (range_with_len (a + 1) n)) is) [
+      | inl here ↦ record { bit = a; low = low; at = bit-at (value / 2 ^ a % 2 == 1) x y column (top + 2 * a) here }
+      | inr there ↦ bits-at x y column top value (a + 1) n fewer there
+    ]
+
+column-at : (x y column top value : ℕ) → list_any (is_at x y) (column_dots column top value) ≡ true → IsOfRow top y
+column-at x y column top value is =
+    let seven : 0 + 7 ≤ 7 = omega arith in
+    bits-at x y column top value 0 7 seven is
+
+columns-at : (x y column top : ℕ) (values : List ℕ) → list_any (is_at x y) (columns_dots column top values) ≡ true → IsOfRow top y
+columns-at x y column top [] is = absurd (false≢true is)
+columns-at x y column top (v ∷ values) is =
+    elim (in-part (is_at x y) (column_dots column top v) (columns_dots (column + 1) top values) is) [
+      | inl here ↦ column-at x y column top v here
+      | inr there ↦ columns-at x y (column + 1) top values there
+    ]
+
+marks-at : (x y top : ℕ) (marks : List Placed)
+    → list_any (is_at x y) (flat_map (λ p. columns_dots p.x top (columns_of p.mark)) marks) ≡ true → IsOfRow top y
+marks-at x y top [] is = absurd (false≢true is)
+marks-at x y top (p ∷ marks) is =
+    elim (in-part (is_at x y) (columns_dots p.x top (columns_of p.mark)) (flat_map (λ p. columns_dots p.x top (columns_of p.mark)) marks) is) [
+      | inl here ↦ columns-at x y p.x top (columns_of p.mark) here
+      | inr there ↦ marks-at x y top marks there
+    ]
+
+row-at : (x y : ℕ) (r : Row) → list_any (is_at x y) (row_dots r) ≡ true → IsOfRow r.y y
+row-at x y r is = marks-at x y r.y r.marks is
+
+-- no dot is above the rows
+rows-low : (from x y : ℕ) (rows : List Row) → AreApart from rows → list_any (is_at x y) (flat_map row_dots rows) ≡ true → from ≤ y
+rows-low from x y [] apart is = absurd (false≢true is)
+rows-low from x y (r ∷ rows) apart is =
+    elim (in-part (is_at x y) (row_dots r) (flat_map row_dots rows) is) [
+      | inl here ↦ let dot = row-at x y r here in let low = apart.0 in omega (arith, dot.at, low)
+      | inr there ↦ let low = apart.0 in let lower = rows-low (r.y + 14) x y rows apart.1 there in omega (arith, low, lower)
+    ]
+
+-- no dot is right below another
+apart-dots : (from x y : ℕ) (rows : List Row) → AreApart from rows → list_any (is_at x y) (flat_map row_dots rows) ≡ true
+    → list_any (is_at x (suc y)) (flat_map row_dots rows) ≡ true → ⊥
+apart-dots from x y [] apart upper lower = false≢true upper
+apart-dots from x y (r ∷ rows) apart upper lower =
+    elim (in-part (is_at x y) (row_dots r) (flat_map row_dots rows) upper) [
+      | inl u ↦ elim (in-part (is_at x (suc y)) (row_dots r) (flat_map row_dots rows) lower) [
+        | inl l ↦ let a = row-at x y r u in let b = row-at x (suc y) r l in omega (arith, a.at, b.at)
+        | inr l ↦ let a = row-at x y r u in let b = rows-low (r.y + 14) x (suc y) rows apart.1 l in omega (arith, a.at, a.low, b)
+      ]
+      | inr u ↦ elim (in-part (is_at x (suc y)) (row_dots r) (flat_map row_dots rows) lower) [
+        | inl l ↦ let a = rows-low (r.y + 14) x y rows apart.1 u in let b = row-at x (suc y) r l in omega (arith, a, b.at, b.low)
+        | inr l ↦ apart-dots (r.y + 14) x y rows apart.1 u l
+      ]
+    ]
+
+-- so a paper has no dot right below another
+no-touch : (p : Paper) (x y : ℕ) → AreApart 0 p.rows → has_dot p x y ≡ true → has_dot p x (suc y) ≡ false
+unfolding has_dot dots_of
+no-touch p x y apart upper = false_from_ne_true (has_dot p x (suc y)) (λ lower. apart-dots 0 x y p.rows apart upper lower)
+
+-- a pixel by the dots of its column
+dark-first : (p : Paper) (x : ℕ) → is_dark p (2 * x) 0 ≡ has_dot p x 0
+unfolding is_dark
+dark-first p x =
+    let half : 2 * x / 2 ≡ x = omega arith in
+    rw half (same (has_dot p x 0))
+  where
+    same : (b : Bool) → (b || b) ≡ b
+    same true = refl
+    same false = refl
+
+dark-next : (p : Paper) (x y : ℕ) → is_dark p (2 * x) (suc y) ≡ (has_dot p x (suc y) || has_dot p x y)
+unfolding is_dark
+dark-next p x y =
+    let half : 2 * x / 2 ≡ x = omega arith in
+    let above : suc y - 1 ≡ y = omega arith in
+    rw (half, above) refl
+
+pub tell-dots : PixelsTellDots
+tell-dots p q apart-p apart-q same x zero = sym (dark-first p x) ∙ same (2 * x) 0 ∙ dark-first q x
+tell-dots p q apart-p apart-q same x (suc y) =
+    let upper : has_dot p x y ≡ has_dot q x y = tell-dots p q apart-p apart-q same x y in
+    elim (cases_Bool (has_dot p x y)) [
+      | inl is ↦ no-touch p x y apart-p is ∙ sym (no-touch q x y apart-q (sym upper ∙ is))
+      | inr is ↦ sym (alone (has_dot p x (suc y)) (has_dot p x y) is) ∙ sym (dark-next p x y) ∙ same (2 * x) (suc y)
+          ∙ dark-next q x y ∙ alone (has_dot q x (suc y)) (has_dot q x y) (sym upper ∙ is)
+    ]
+  where
+    alone : (a b : Bool) → b ≡ false → (a || b) ≡ a
+    alone true b is = refl
+    alone false b is = is

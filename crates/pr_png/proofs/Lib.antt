@@ -1,0 +1,5 @@
+pub mod Checking
+pub mod OnSheet
+pub mod Packed
+pub mod Streaming
+pub mod Apart

@@ -1,0 +1,16 @@
+-- Laws: what the pixels of a paper tell. src/laws.rt proves it.
+use Rattle.std.specs.Prelude.{◌≡◌, ⊤, ℕ, ◌+◌, ◌≤◌, List, [], ◌∷◌}
+use Rattle.pr_page.specs.declared.paper.Row.{Row}
+use Rattle.pr_page.specs.declared.paper.Paper.{Paper}
+use Rattle.pr_dots.specs.Dots.{has_dot}
+use Rattle.pr_png.specs.Pixels.{is_dark}
+
+-- rows from a distance on, each at least 14/126 inch below the one before it, as a printer's are
+abbrev pub AreApart : ℕ → List Row → Type 0
+AreApart from [] = ⊤
+AreApart from (r ∷ rows) = (from ≤ r.y) × AreApart (r.y + 14) rows
+
+-- papers with the same pixels have the same dots
+abbrev pub PixelsTellDots : Type 0
+PixelsTellDots = (p q : Paper) → AreApart 0 p.rows → AreApart 0 q.rows
+    → ((x y : ℕ) → is_dark p x y ≡ is_dark q x y) → (x y : ℕ) → has_dot p x y ≡ has_dot q x y

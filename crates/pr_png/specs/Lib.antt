@@ -1,0 +1,6 @@
+pub mod Checksums
+pub mod Pixels
+pub mod Png
+pub mod Marking
+pub mod Packing
+pub mod Laws

@@ -1,0 +1,17 @@
+//! A sheet of a paper as a PNG file.
+//!
+//! - `checksums` has CRC-32 and Adler-32.
+//! - `marking` puts the dots of a paper on a sheet, `packing` makes lines of pixels of it.
+//! - `file` puts them into a file.
+//! - `laws` says that the pixels tell the dots.
+#![tactic(auto)]
+
+mod checksums;
+mod file;
+mod laws;
+mod marking;
+mod packing;
+
+pub use file::png;
+pub use laws::pixels_tell_dots;
+pub use marking::SHEET_LINES;
