@@ -195,8 +195,9 @@ pub fn pages_kids() -> &'static [u8]
     b" /Kids [ "
 }
 
-/// What a sheet draws: 1/35 point a unit (a little more across and a little less up, so that a viewer that rounds down to whole pixels
-/// does not lose one), from 3/4 inch from the left and 8 points below the lower edge.
+/// What a sheet draws: 1/35 point a unit (a little more across and a little less up, so that a viewer
+/// that rounds down to whole pixels does not lose one), from 3/4 inch from the left and 8 points
+/// below the lower edge.
 #[tactic(auto, unfolding(crate::specs::Parts::sheet_begin))]
 pub fn sheet_begin() -> &'static [u8]
     ensures { result.now ≡ sheet_begin }
