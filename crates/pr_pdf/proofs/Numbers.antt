@@ -111,7 +111,7 @@ procs_more used first place =
     ap (flat_map (proc_pdf used)) (used_append used first place 1)
     ∙ flat_map-append (proc_pdf used) (used_among used first place) (used_among used (first + place) 1)
 
--- the next glyph's object behind one that is used
+-- the next glyph's object after one that is used
 pub object_more : (used : List Bool) (n object : ℕ) → object ≡ glyph_object used n → slice_index_or used n false ≡ true
     → object + 1 ≡ glyph_object used (n + 1)
 object_more used n object at is =

@@ -13,7 +13,7 @@ use Rattle.pr_pdf.specs.Pdf.{file_of, front_pdf, glyph_body, object_pdf, objects
 use Rattle.pr_pdf.specs.Words.{numbers_from}
 use Rattle.pr_pdf.proofs.Numbers.{map_more, map_none, unused_one, used_more, used_none, used_one}
 
--- objects behind objects
+-- objects after objects
 objects_append : (n : ℕ) (xs ys : List (List ℕ)) → objects_from n (xs ++ ys) ≡ objects_from n xs ++ objects_from (n + length xs) ys
 objects_append n [] ys = grind (arith, common_steps)
 objects_append n (x ∷ xs) ys = grind (arith, common_steps, objects_append (n + 1) xs ys)
@@ -27,7 +27,7 @@ places_length : (place : ℕ) (xs : List (List ℕ)) → length (places_from pla
 places_length place [] = refl
 places_length place (x ∷ xs) = grind (arith, common_steps, places_length (place + length x) xs)
 
--- the places of texts behind texts
+-- the places of texts after texts
 places_append : (place : ℕ) (xs ys : List (List ℕ)) → places_from place (xs ++ ys) ≡ places_from place xs ++ places_from (place + length (concat xs)) ys
 places_append place [] ys = grind (arith, common_steps)
 places_append place (x ∷ xs) ys = grind (arith, common_steps, places_append (place + length x) xs ys)
@@ -71,7 +71,7 @@ none_adds document = record {
   };
 }
 
--- objects behind objects
+-- objects after objects
 pub then_adds : {xs ys : List (List ℕ)} {a b c : Document} → Adds xs a b → Adds ys b c → Adds (xs ++ ys) a c
 then_adds {xs} {ys} {a} {b} {c} first second = record {
   has = λ bodies has.
@@ -80,7 +80,7 @@ then_adds {xs} {ys} {a} {b} {c} first second = record {
       rw all at both;
 }
 
--- objects behind one
+-- objects after one
 pub cons_adds : {x : List ℕ} {ys : List (List ℕ)} {a b c : Document} → Adds (x ∷ []) a b → Adds ys b c → Adds (x ∷ ys) a c
 cons_adds {x} {ys} {a} {b} {c} first second = then_adds {xs = x ∷ []} {ys = ys} {a = a} {b = b} {c = c} first second
 

@@ -12,7 +12,7 @@ use Rattle.pr_pdf.specs.Words.{numbers_from}
 use Rattle.pr_pdf.proofs.Numbers.{map_more, map_none, numbers_length}
 use Rattle.pr_pdf.proofs.Objects.{none_adds, then_adds}
 
--- sheets behind sheets
+-- sheets after sheets
 bodies_append : (pages number : ℕ) (xs ys : List (List ℕ))
     → sheet_bodies pages number (xs ++ ys) ≡ sheet_bodies pages number xs ++ sheet_bodies pages (number + 2 * length xs) ys
 bodies_append pages number [] ys = grind (arith, common_steps)
@@ -41,7 +41,7 @@ sheet_adds pages first number f sheet at before now =
 pub sheet_adds_none : (pages first : ℕ) (f : ℕ → List ℕ) (document : Document) → Adds (sheet_bodies pages first (map f (numbers_from 0 0))) document document
 sheet_adds_none pages first f document = rw (map_none f) (none_adds document)
 
--- sheets behind sheets
+-- sheets after sheets
 pub sheets_add : (pages first second : ℕ) (xs ys : List (List ℕ)) {a b c : Document} → second ≡ first + 2 * length xs
     → Adds (sheet_bodies pages first xs) a b → Adds (sheet_bodies pages second ys) b c → Adds (sheet_bodies pages first (xs ++ ys)) a c
 sheets_add pages first second xs ys at before now = rw (bodies_append pages first xs ys, ← at) (then_adds before now)

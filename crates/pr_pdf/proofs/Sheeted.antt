@@ -39,7 +39,7 @@ ascend_drop zero rows ascends = ascends
 ascend_drop (suc count) [] ascends = refl
 ascend_drop (suc count) (row ∷ rows) ascends = grind (arith, common_steps, ascends, ascend_lower row.y 0 rows, ascend_drop count rows)
 
--- a row that is after a sheet, and all behind it
+-- a row that is after a sheet, and all after it
 pub none_left : (sheet i : ℕ) (rows : List Row) (row : Row) → i < length rows → row ≡ slice_index_or rows i row
     → ascend 0 rows ≡ true → sheet < first_sheet row → filter (is_on sheet) (drop i rows) ≡ []
 none_left sheet i rows row within at ascends past =

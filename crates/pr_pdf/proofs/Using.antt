@@ -18,7 +18,7 @@ pub none_used : replicate 2304 false ≡ used_of []
 unfolding used_of
 none_used = none 0 2304
 
--- tests that differ for a number alone are the same behind it
+-- tests that differ for a number alone are the same after it
 same_map : (f g : ℕ → Bool) (m first count : ℕ) → ((n : ℕ) → g n ≡ (f n || m == n)) → m < first
     → map f (numbers_from first count) ≡ map g (numbers_from first count)
 unfolding numbers_from

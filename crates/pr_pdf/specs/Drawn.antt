@@ -11,7 +11,7 @@ use Rattle.pr_pdf.specs.Sheets.{Run, height_on, is_on, runs_of}
 abbrev pub moved : (across up : ℕ) → Disc → Disc
 moved across up disc = record { across = across + disc.across; up = up + disc.up }
 
--- what a string of a font draws from a place on: each glyph, and the next one behind it
+-- what a string of a font draws from a place on: each glyph, and the next one after it
 abbrev pub string_discs : (across up font : ℕ) → List ℕ → List Disc
 string_discs across up font [] = []
 string_discs across up font (code ∷ codes) =

@@ -18,7 +18,7 @@ HasSeen marks old new = (before : List Mark) → old ≡ used_of before → new 
 abbrev pub close_pdf : ℕ → List ℕ
 close_pdf font = if nat_lt font 9 then run_end else []
 
--- what is left of the runs of marks, behind the run of a font that has begun and ends at a dot column
+-- what is left of the runs of marks, after the run of a font that has begun and ends at a dot column
 abbrev pub rest_pdf : (height font end : ℕ) → List Placed → List ℕ
 rest_pdf height font end [] = close_pdf font
 rest_pdf height font end (placed ∷ marks) =

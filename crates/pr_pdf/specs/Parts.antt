@@ -5,7 +5,7 @@ use Rattle.std.specs.Prelude.{ℕ, List, codes}
 unfoldable pub header : List ℕ
 header = codes "%PDF-1.4\n"
 
--- behind an object's number
+-- after an object's number
 unfoldable pub object_begin : List ℕ
 object_begin = codes " 0 obj\n"
 
@@ -13,7 +13,7 @@ object_begin = codes " 0 obj\n"
 unfoldable pub object_end : List ℕ
 object_end = codes "\nendobj\n"
 
--- behind the number of an object that is named
+-- after the number of an object that is named
 unfoldable pub reference : List ℕ
 reference = codes " 0 R "
 
@@ -37,7 +37,7 @@ stream_begin = codes "<< /Length "
 unfoldable pub stream_bytes : List ℕ
 stream_bytes = codes " >>\nstream\n"
 
--- and behind them
+-- and after them
 unfoldable pub stream_end : List ℕ
 stream_end = codes "\nendstream"
 
@@ -61,7 +61,7 @@ characters_begin =
     ++ codes "/CMapName /Adobe-Identity-UCS def\n/CMapType 2 def\n"
     ++ codes "1 begincodespacerange\n<00> <ff>\nendcodespacerange\n1 beginbfrange\n<00> <ff> ["
 
--- behind the last character
+-- after the last character
 unfoldable pub characters_end : List ℕ
 characters_end = codes "]\nendbfrange\nendcmap\nCMapName currentdict /CMap defineresource pop\nend\nend"
 
@@ -79,7 +79,7 @@ font_characters = codes " 0 R /ToUnicode "
 unfoldable pub font_glyphs : List ℕ
 font_glyphs = codes " 0 R /CharProcs << "
 
--- behind a glyph's width: the box that holds its discs, up to its right edge
+-- after a glyph's width: the box that holds its discs, up to its right edge
 unfoldable pub glyph_box : List ℕ
 glyph_box = codes " 0 -1 -22 "
 
@@ -112,7 +112,7 @@ sheet_begin = codes ".0285714286 0 0 .0285714285 54 -8 cm\nBT\n"
 unfoldable pub sheet_end : List ℕ
 sheet_end = codes "ET\n"
 
--- behind a font's name: a run's place
+-- after a font's name: a run's place
 unfoldable pub run_place : List ℕ
 run_place = codes " 1 Tf 1 0 0 1 "
 
@@ -120,7 +120,7 @@ run_place = codes " 1 Tf 1 0 0 1 "
 unfoldable pub run_codes : List ℕ
 run_codes = codes " Tm <"
 
--- behind them
+-- after them
 unfoldable pub run_end : List ℕ
 run_end = codes "> Tj\n"
 
@@ -140,7 +140,7 @@ table_begin = codes "xref\n0 "
 unfoldable pub table_free : List ℕ
 table_free = codes "\n0000000000 65535 f \n"
 
--- behind a place
+-- after a place
 unfoldable pub place_end : List ℕ
 place_end = codes " 00000 n \n"
 

@@ -24,7 +24,7 @@ objects_from number (body ∷ bodies) = object_pdf number body ∷ objects_from 
 unfoldable pub front_pdf : List (List ℕ) → List ℕ
 front_pdf bodies = header ++ concat (objects_from 1 bodies)
 
--- where texts begin, one behind the other, from a place on
+-- where texts begin, one after the other, from a place on
 abbrev pub places_from : ℕ → List (List ℕ) → List ℕ
 places_from place [] = []
 places_from place (text ∷ texts) = place ∷ places_from (place + length text) texts

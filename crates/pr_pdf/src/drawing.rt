@@ -23,7 +23,7 @@ use pr_page::{Paper, Row};
 use pr_serial::Present;
 use std::alloc::{AllocError, Global};
 
-/// The most bytes of a document: those places that ten digits can say.
+/// The most bytes of a document, whose table has ten digits for each place.
 pub const LIMIT: u64 = 9_999_999_999;
 
 /// The number of the first glyph's object.
@@ -323,14 +323,16 @@ fn rows_if(drawn: bool, paper: &Paper) -> &[Row]
     if drawn { paper.rows.as_slice() } else { &[] }
 }
 
-/// The papers of the printers that are drawn as a PDF document of sheets of 9.5 by 11 inches, the first printer's
-/// and then the second one's; an empty sheet if nothing was printed. Each dot is a disc at its place; a row that
-/// straddles a fold is on both sheets. Characters are found and copied as text. Marks that are held are left out.
-/// Equal papers make equal documents.
+/// The papers of the printers that are drawn, as a PDF document. Printer 4's sheets come first, then
+/// printer 5's; if neither printed, there is one empty sheet.
+///
+/// A sheet is 9.5 by 11 inches, with the 480 dot columns in the middle. Each dot is a disc at its
+/// place, and a row that straddles a fold is on both sheets. Characters can be found and copied as
+/// text. Marks that are held are left out. Equal papers make equal documents (ISO 32000-1).
 ///
 /// # Errors
 ///
-/// - [`PdfFault::TooLarge`]: the document has more than [`crate::LIMIT`] bytes.
+/// - [`PdfFault::TooLarge`]: the document has more than [`LIMIT`] bytes.
 /// - [`PdfFault::NoMemory`]: memory was refused.
 #[tactic(auto, unfolding(crate::specs::Pdf::pdf_of))]
 pub fn pdf(

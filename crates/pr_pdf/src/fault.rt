@@ -8,7 +8,7 @@ use thiserror::Error;
 /// Why no document is made.
 #[derive(Clone, Copy, Debug, Error, PartialEq, Eq)]
 pub enum PdfFault {
-    /// The document has more bytes than [`crate::LIMIT`], which a table of ten digits a place does not reach.
+    /// The document has more bytes than [`crate::LIMIT`].
     #[error("document too large")]
     TooLarge,
     /// Memory was refused.

@@ -2,8 +2,8 @@
 
 ghost use Rattle.pr_pdf.specs.Laws.{DrawsDots, DrawsPaper};
 
-/// A law: a sheet draws a disc for each dot of the rows that are on it, and no other disc; the glyphs of a string
-/// are side by side.
+/// A law: a sheet draws a disc for each dot of the rows that are on it, and no other disc. The glyphs
+/// of a string are side by side.
 pub fn sheets_draw_dots()
     ensures { DrawsDots }
 {}

@@ -1,9 +1,10 @@
-//! Papers as PDF documents (ISO 32000-1): sheets of 9.5 by 11 inches with each dot where a needle strikes.
+//! Papers as PDF documents (ISO 32000-1): each dot is a disc where a needle strikes.
 //!
-//! - `adding` adds to a text. `marks` says which font and code a mark has, and `used` which glyphs marks use.
+//! - `adding` adds to a text. `marks` says which font and code a mark has.
+//! - `used` says which glyphs marks use.
 //! - `fonts` makes the objects that all documents have, `glyphs` the fonts and their glyphs.
 //! - `runs` makes the strings of a row, and `sheets` what is on a sheet.
-//! - `document` numbers the objects and knows where each begins; `drawing` makes the document of them.
+//! - `document` numbers the objects and keeps where each begins, `drawing` makes the document.
 //! - `laws` says what the document draws. `parts` has the fixed texts.
 #![tactic(auto)]
 

@@ -11,7 +11,7 @@ pub fn header() -> &'static [u8]
     b"%PDF-1.4\n"
 }
 
-/// Behind an object's number.
+/// After an object's number.
 #[tactic(auto, unfolding(crate::specs::Parts::object_begin))]
 pub fn object_begin() -> &'static [u8]
     ensures { result.now ≡ object_begin }
@@ -27,7 +27,7 @@ pub fn object_end() -> &'static [u8]
     b"\nendobj\n"
 }
 
-/// Behind the number of an object that is named.
+/// After the number of an object that is named.
 #[tactic(auto, unfolding(crate::specs::Parts::reference))]
 pub fn reference() -> &'static [u8]
     ensures { result.now ≡ reference }
@@ -75,7 +75,7 @@ pub fn stream_bytes() -> &'static [u8]
     b" >>\nstream\n"
 }
 
-/// And behind them.
+/// And after them.
 #[tactic(auto, unfolding(crate::specs::Parts::stream_end))]
 pub fn stream_end() -> &'static [u8]
     ensures { result.now ≡ stream_end }
@@ -115,7 +115,7 @@ pub fn characters_begin() -> &'static [u8]
     b"/CIDInit /ProcSet findresource begin\n12 dict begin\nbegincmap\n/CIDSystemInfo << /Registry (Adobe) /Ordering (UCS) /Supplement 0 >> def\n/CMapName /Adobe-Identity-UCS def\n/CMapType 2 def\n1 begincodespacerange\n<00> <ff>\nendcodespacerange\n1 beginbfrange\n<00> <ff> ["
 }
 
-/// Behind the last character.
+/// After the last character.
 #[tactic(auto, unfolding(crate::specs::Parts::characters_end))]
 pub fn characters_end() -> &'static [u8]
     ensures { result.now ≡ characters_end }
@@ -147,7 +147,7 @@ pub fn font_glyphs() -> &'static [u8]
     b" 0 R /CharProcs << "
 }
 
-/// Behind a glyph's width: the box that holds its discs, up to its right edge.
+/// After a glyph's width: the box that holds its discs, up to its right edge.
 #[tactic(auto, unfolding(crate::specs::Parts::glyph_box))]
 pub fn glyph_box() -> &'static [u8]
     ensures { result.now ≡ glyph_box }
@@ -195,8 +195,9 @@ pub fn pages_kids() -> &'static [u8]
     b" /Kids [ "
 }
 
-/// What a sheet draws: 1/35 point a unit (a little more across and a little less up, so that a viewer that rounds down to whole pixels
-/// does not lose one), from 3/4 inch from the left and 8 points below the lower edge.
+/// What a sheet draws: 1/35 point a unit (a little more across and a little less up, so that a viewer
+/// that rounds down to whole pixels does not lose one), from 3/4 inch from the left and 8 points
+/// below the lower edge.
 #[tactic(auto, unfolding(crate::specs::Parts::sheet_begin))]
 pub fn sheet_begin() -> &'static [u8]
     ensures { result.now ≡ sheet_begin }
@@ -212,7 +213,7 @@ pub fn sheet_end() -> &'static [u8]
     b"ET\n"
 }
 
-/// Behind a font's name: a run's place.
+/// After a font's name: a run's place.
 #[tactic(auto, unfolding(crate::specs::Parts::run_place))]
 pub fn run_place() -> &'static [u8]
     ensures { result.now ≡ run_place }
@@ -228,7 +229,7 @@ pub fn run_codes() -> &'static [u8]
     b" Tm <"
 }
 
-/// Behind them.
+/// After them.
 #[tactic(auto, unfolding(crate::specs::Parts::run_end))]
 pub fn run_end() -> &'static [u8]
     ensures { result.now ≡ run_end }
@@ -268,7 +269,7 @@ pub fn table_free() -> &'static [u8]
     b"\n0000000000 65535 f \n"
 }
 
-/// Behind a place.
+/// After a place.
 #[tactic(auto, unfolding(crate::specs::Parts::place_end))]
 pub fn place_end() -> &'static [u8]
     ensures { result.now ≡ place_end }

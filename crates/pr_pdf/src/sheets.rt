@@ -88,7 +88,7 @@ fn is_past(ascending: bool, sheet: u64, row: &Row) -> bool
     ascending && sheet < first_sheet(row)
 }
 
-/// Adds the rows that are on a sheet. Where the rows ascend, those after the sheet are not looked at.
+/// Adds the rows that are on a sheet. If the rows ascend, those after the sheet are not looked at.
 fn push_rows(
     text: &mut Vec<u8>,
     sheet: u64,

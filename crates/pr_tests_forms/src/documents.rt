@@ -21,7 +21,7 @@ const BOTH: Present = Present {
     five: true,
 };
 
-/// A `T` at dot column 6, and the `T` of the other set right behind it.
+/// A `T` at dot column 6, and the `T` of the other set right after it.
 const LETTER: Placed = Placed {
     x: 6,
     mark: Mark::Cell {
@@ -42,7 +42,7 @@ const SMALL: Placed = Placed {
     },
 };
 
-/// A column of dots right behind them, and another one behind an empty dot column.
+/// A column of dots right after them, and another one after an empty dot column.
 const COLUMN: Placed = Placed {
     x: 18,
     mark: Mark::Dots(5),
@@ -65,7 +65,7 @@ const FONTS: &str =
 const SHEET: &str =
     "\n19 0 obj\n<< /Length 263 >>\nstream\n252 0 -1 -22 253 262 d1\n44 w 1 J\n21 240 m 21 240 l S\n63 240 m 63 240 l S\n105 240 m 105 240 l S\n105 200 m 105 200 l S\n105 160 m 105 160 l S\n105 120 m 105 120 l S\n105 80 m 105 80 l S\n105 40 m 105 40 l S\n105 0 m 105 0 l S\n147 240 m 147 240 l S\n189 240 m 189 240 l S\n\nendstream\nendobj\n20 0 obj\n<< /Type /Page /Parent 22 0 R /Contents 21 0 R >>\nendobj\n21 0 obj\n<< /Length 80 >>\nstream\n.0285714286 0 0 .0285714285 54 -8 cm\nBT\n/U 1 Tf 1 0 0 1 252 27320 Tm <54> Tj\nET\n\nendstream\nendobj\n22 0 obj\n<< /Type /Pages /MediaBox [0 0 684 792] /Resources 2 0 R /Count 1 /Kids [ 20 0 R ] >>\nendobj\nxref\n0 23\n0000000000 65535 f \n0000000009 00000 n \n";
 
-/// Two sheets: a row over the fold, which a string for each font and each place makes.
+/// A row over the fold, as a string for each font and each place: on the first sheet and on the second.
 const FOLD: &str =
     "BT\n/U 1 Tf 1 0 0 1 252 140 Tm <54> Tj\n/L 1 Tf 1 0 0 1 504 140 Tm <54> Tj\n/D 1 Tf 1 0 0 1 756 140 Tm <05> Tj\n/D 1 Tf 1 0 0 1 840 140 Tm <7f> Tj\nET\n";
 
