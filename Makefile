@@ -9,7 +9,7 @@
 #                   librsvg2-bin and netpbm); and the calls for C watched by valgrind and by cc's sanitizer of addresses
 # make lib          proves and builds libprint1525.a, the library for C programs (docs/C.md)
 # make web          makes web/print1525.html, the page in a browser, with its WebAssembly module of proved crates (web/README.md says
-#                   how), and tells whether the committed file is another one
+#                   how; it wants wasm-opt, Debian's package binaryen), and tells whether the committed file is another one
 # make web-test     tests that page in Debian's chromium beside the built program
 # make install      copies the built program, the library for C with its header and what pkg-config wants, and the manual page to
 #                   $(DESTDIR)$(PREFIX), where PREFIX is /usr/local unless it is given

@@ -75,7 +75,20 @@ enum print1525_fault {
     PRINT1525_NO_EAR = 26,
     PRINT1525_NO_DECODER = 27,
     /* of a number that stands for no input of a printer; `place` is its index, from 0 */
-    PRINT1525_NO_SUCH_INPUT = 28
+    PRINT1525_NO_SUCH_INPUT = 28,
+    /* of a sheet that the pages do not have; `place` is how many they have */
+    PRINT1525_NO_SUCH_SHEET = 50,
+    /* of a document that is longer than its format allows; `place` is 0 */
+    PRINT1525_DOCUMENT_TOO_LARGE = 51,
+    /* of a number that stands for no form of a listing; `place` is 0 */
+    PRINT1525_NO_SUCH_FORM = 60,
+    /* of a listing: it has no load address (`place` is 0); it ends within a line; in a string of petcat's text
+     * a brace has no name that petcat writes, or a byte is none that it writes. `place` is the line, from 1, and
+     * of the last two `length` the column, from 1 */
+    PRINT1525_NOT_SAVED = 61,
+    PRINT1525_CUT_OFF = 62,
+    PRINT1525_UNKNOWN_NAME = 63,
+    PRINT1525_BAD_CHARACTER = 64
 };
 
 /* The BASIC error that stopped a run: `fault` beside PRINT1525_STOPPED; `place` is the statement at
@@ -94,7 +107,7 @@ typedef struct {
     size_t fault;  /* with code 1 one of enum print1525_stop, with code 2 of enum print1525_fault, else 0 */
     size_t place;  /* with codes 1 and 2 the statement, line, edge or input as those say, else 0 */
     size_t length; /* with codes 0, 1 and 4 the bytes of the text (of print1525_hear the inputs, of a
-                    * decoder the readings, 0 or 1), else 0 */
+                    * decoder the readings, 0 or 1), with the faults 63 and 64 the column, else 0 */
 } print1525_answer;
 
 /* What a code says. */
@@ -109,8 +122,8 @@ static inline const char *print1525_code_text(size_t code) {
     }
 }
 
-/* What a fault says, in the program's words: it tells `line 3: unknown word` of the faults 1 to 8,
- * and `edge 5: too early` of 11 to 16. */
+/* What a fault says, in the program's words: it tells `line 3: unknown word` of the faults 1 to 8 and 62,
+ * `edge 5: too early` of 11 to 16, and `line 3, column 9: unknown name` of 63 and 64. */
 static inline const char *print1525_fault_text(size_t fault) {
     switch (fault) {
     case PRINT1525_UNKNOWN_WORD: return "unknown word";
@@ -136,6 +149,13 @@ static inline const char *print1525_fault_text(size_t fault) {
     case PRINT1525_NO_EAR: return "no ear";
     case PRINT1525_NO_DECODER: return "no decoder";
     case PRINT1525_NO_SUCH_INPUT: return "no such input";
+    case PRINT1525_NO_SUCH_SHEET: return "no such sheet";
+    case PRINT1525_DOCUMENT_TOO_LARGE: return "document too large";
+    case PRINT1525_NO_SUCH_FORM: return "no such form";
+    case PRINT1525_NOT_SAVED: return "not a saved program";
+    case PRINT1525_CUT_OFF: return "cut off";
+    case PRINT1525_UNKNOWN_NAME: return "unknown name";
+    case PRINT1525_BAD_CHARACTER: return "bad byte";
     default: return "no fault";
     }
 }
@@ -164,6 +184,19 @@ enum { PRINT1525_TRACE = 0, PRINT1525_VCD = 1 };
 enum { PRINT1525_UPPER = 0, PRINT1525_LOWER = 1 };
 /* An input of a printer that is no byte: the selection of the one or of the other. */
 enum { PRINT1525_SELECT_UPPER = 256, PRINT1525_SELECT_LOWER = 257 };
+
+/* `form` of a listing: the text of a script, a saved program (a `.prg` file), or petcat's text of one. */
+enum { PRINT1525_SCRIPT = 0, PRINT1525_PROGRAM = 1, PRINT1525_PETCAT = 2 };
+
+/* Gives the text of the script that a listing says, for the calls that run scripts.
+ *
+ * Asks: a listing of any length, and its form.
+ * Gives: the text that `print1525 pages --from prg` and `--from petcat` run: a line for each line of the
+ * listing, of the same number. A listing that is the text of a script is itself.
+ * Refuses, with the buffer as it was: form (60); then a listing that has no text, by its first fault (61 to
+ * 64). Whether the text is a script the calls that run it tell: its faults are those of the listing's lines. */
+void print1525_listing(const uint8_t *bytes, size_t bytes_length, uint8_t form,
+                       uint8_t *buffer, size_t capacity, print1525_answer *answer);
 
 /* Runs a script and gives its pages.
  *

@@ -14,6 +14,7 @@ function readLists() {
 
 function showChoices() {
   const form = $('options');
+  form.elements.form.value = state.form;
   form.elements.printers.value = state.printers;
   form.elements.status.value = state.status;
   form.elements.delays.value = state.delays;
@@ -27,7 +28,7 @@ $('options').addEventListener('submit', event => event.preventDefault());
 $('options').addEventListener('input', () => {
   const form = $('options').elements;
   Object.assign(state, {
-    printers: Number(form.printers.value), status: Number(form.status.value), delays: form.delays.value,
+    form: form.form.value, printers: Number(form.printers.value), status: Number(form.status.value), delays: form.delays.value,
     lists: [form.computer.value, form.four.value, form.five.value],
   });
   showChoices();
@@ -35,6 +36,13 @@ $('options').addEventListener('input', () => {
   leaveSource();
   listingChanged();
 });
+
+/** Reads the listing in another form. */
+function chooseForm(form) {
+  state.form = form;
+  showChoices();
+  listingChanged();
+}
 
 // tabs, bars, downloads
 
@@ -128,7 +136,7 @@ for (const made of document.querySelectorAll('[data-save]')) {
     }
   };
 }
-$('save').onclick = () => download(encode(editor.text), 'listing.bas', 'text/plain');
+$('save').onclick = () => download(encode(editor.text), state.form === 'petcat' ? 'listing.petcat' : 'listing.bas', 'text/plain');
 
 // the rest of the hands
 
@@ -154,10 +162,10 @@ $('about').onclick = () => $('about-box').showModal();
 $('about-box').addEventListener('click', event => { if (event.target === $('about-box')) $('about-box').close(); });
 $('menu').onchange = () => { const { value } = $('menu'); $('menu').selectedIndex = 0; openFromMenu(value); };
 $('open').onclick = () => $('file').click();
-$('file').onchange = async () => {
+$('file').onchange = () => {
   const file = $('file').files[0];
   $('file').value = '';
-  if (file) take(new Uint8Array(await file.arrayBuffer()), file.name);
+  if (file) takeFile(file);
 };
 $('link').onclick = async () => {
   const plain = await save(), link = location.href;
@@ -179,13 +187,13 @@ addEventListener('dragleave', event => {
   $('drop').hidden = dragged === 0;
 });
 addEventListener('dragover', event => { if (event.dataTransfer?.types.includes('Files')) event.preventDefault(); });
-addEventListener('drop', async event => {
+addEventListener('drop', event => {
   dragged = 0;
   $('drop').hidden = true;
   const file = event.dataTransfer?.files[0];
   if (!file) return;
   event.preventDefault();
-  take(new Uint8Array(await file.arrayBuffer()), file.name);
+  takeFile(file);
 });
 addEventListener('pagehide', () => { if (saving) save(); });
 document.addEventListener('visibilitychange', () => { if (document.hidden && saving) save(); });
@@ -197,8 +205,8 @@ addEventListener('hashchange', async () => {
 });
 
 /** Puts a listing and its choices in. */
-function put({ text, printers, status, delays, lists }) {
-  Object.assign(state, { printers, status, delays, lists });
+function put({ text, form = 'text', printers, status, delays, lists }) {
+  Object.assign(state, { form, printers, status, delays, lists });
   leaveSource();
   showChoices();
   editor.replace(text);
@@ -214,18 +222,18 @@ async function begin() {
   const view = store.get('view');
   showTab('pages', view?.tabs?.pages || 'sheets');
   showTab('wire', view?.tabs?.wire || 'wave');
-  if (linked && kept && kept.text !== linked.text) keepEarlier(kept.text);
+  if (linked && kept && kept.text !== linked.text) keepEarlier(kept.text, kept.form || 'text');
   put({ ...first, ...(linked || kept || { text: (examples.find(example => example.name === 'banner') || examples[0]).text }) });
   fillMenu();
-  if (!has64BitMemory()) {
-    notice('memory', 'This browser has no 64-bit memory for WebAssembly (memory64), and the proved code needs it. Chrome, Edge and ' +
-      'other Chromium browsers have it from version 133, Firefox from 134. What you type here is kept all the same.');
+  if (!hasWebAssembly()) {
+    notice('memory', 'This browser has no WebAssembly or cannot inflate it, and the proved code needs both. Chrome and Edge have them from ' +
+      'version 103, Firefox from 113, Safari from 16.4. What you type here is kept all the same.');
     $('told').textContent = 'Nothing can be printed in this browser.';
     cover('Nothing can be printed in this browser.');
     return;
   }
   try {
-    await ask('open', { bytes: fromBase64($('module').textContent.trim()) });
+    await ask('open', { bytes: await through(new DecompressionStream('deflate-raw'), fromBase64($('module').textContent.trim())) });
   } catch (error) {
     notice('memory', `The module cannot run in this browser: ${error.message}`);
     return;

@@ -1,6 +1,6 @@
-// Files that are dropped or opened: listings, traces, recordings and a printer's bytes.
+// Files that are dropped or opened: listings in each form, traces, recordings and a printer's bytes.
 
-const KINDS = { script: 'a listing', text: 'a trace', vcd: 'a Value Change Dump', csv: 'a table of samples', raw: 'a printer\'s bytes' };
+const KINDS = { script: 'a listing', petcat: 'petcat\'s text', prg: 'a saved program', text: 'a trace', vcd: 'a Value Change Dump', csv: 'a table of samples', raw: 'a printer\'s bytes' };
 
 /** What a file seems to be, by what stands in it. */
 function kindOf(bytes, name) {
@@ -8,16 +8,54 @@ function kindOf(bytes, name) {
   if (/\.vcd$/i.test(name) || /\$(timescale|var|enddefinitions)\b/.test(head)) return 'vcd';
   if (lines.length && /^\d+ [01]{3}$/.test(lines[0])) return 'text';
   if (/\.csv$/i.test(name) || /^[^\n]*,\s*"?(atn|clock|clk|data)"?\s*(,|$)/im.test(head)) return 'csv';
+  if (((bytes[0] === 1 && bytes[1] === 8) || /\.prg$/i.test(name)) && !isTextual(bytes)) return 'prg';
+  if (/\.petcat$/i.test(name) || (isTextual(bytes) && looksPetcat(decode(bytes)))) return 'petcat';
   const isText = !/[\x00-\x08\x0e-\x1f\x7f-\x9f]/.test(head);
   if (/\.bas$/i.test(name) || (isText && /^[ \t]*\d*[ \t]*(open|cmd|print|close|rem)\b/im.test(head))) return 'script';
   return bytes.some(byte => byte < 9 || (byte > 13 && byte < 32) || byte > 126) ? 'raw' : 'script';
 }
 
-/** Shows a file as what it is, or as what it is said to be. */
-function take(bytes, name, kind = kindOf(bytes, name)) {
-  if (kind === 'script') {
+let taking = 0;     // files that are read and not yet shown
+
+/** Shows a file as what it seems to be. */
+async function takeFile(file) {
+  taking++;
+  try {
+    const bytes = new Uint8Array(await file.arrayBuffer()), why = refusalOf(bytes, file.name);
+    tellOnce('file', why);
+    if (!why) await take(bytes, file.name, kindOf(bytes, file.name));
+  } catch (error) {
+    tellOnce('file', `${file.name} cannot be read: ${error.message}`);
+  } finally {
+    taking--;
+  }
+}
+
+/** Shows a saved program as petcat writes it; as the script that the module makes of it, where that would be another program. */
+async function takeProgram(bytes, name) {
+  if (!ready) return tellOnce('file', `${name} cannot be read before the page is ready.`);
+  const listing = petcatOf(bytes);
+  let answer;
+  try { answer = await ask('isSame', { program: bytes, listing: encode(listing ?? ''), form: 'petcat' }); } catch (error) { return tellFailed(error); }
+  if (answer.code) return tellOnce('file', `${name} cannot be read as a saved program: ${answer.words || 'out of memory'}.`);
+  leaveSource();
+  keepEarlier();
+  state.form = answer.isSame ? 'petcat' : 'text';
+  showChoices();
+  editor.replace(answer.isSame ? listing : answer.script);
+  tellOnce('file', answer.isSame ? `${name} is a saved program: here as petcat writes it, with names for codes and shifted characters.`
+    : `${name} is a saved program: here as a script, since it has something that petcat's text does not tell apart.`);
+  return listingChanged();
+}
+
+/** Shows a file as what it is said to be. */
+function take(bytes, name, kind) {
+  if (kind === 'prg') return takeProgram(bytes, name);
+  if (kind === 'script' || kind === 'petcat') {
     leaveSource();
     keepEarlier();
+    state.form = kind === 'petcat' ? 'petcat' : 'text';
+    showChoices();
     let text, words = '';
     try {
       text = new TextDecoder('utf-8', { fatal: true }).decode(bytes);

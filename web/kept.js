@@ -29,7 +29,7 @@ const own = {
 function save() {
   clearTimeout(saving);
   saving = 0;
-  const { printers, status, delays, lists } = state, listing = { text: editor.text, printers, status, delays, lists };
+  const { form, printers, status, delays, lists } = state, listing = { text: editor.text, form, printers, status, delays, lists };
   const kept = store.set('listing', listing);
   own.set(listing);
   notice('kept', kept ? '' : 'This listing is too long to be kept by the browser: save it as a file.');
@@ -64,7 +64,8 @@ async function through(stream, bytes) {
 /** The state as the part of an address behind `#`: the choices by their letters, and the listing, deflated, in base64url; empty for a long one. */
 async function address() {
   if (editor.text.length > 10 * LINK_LIMIT) return '';
-  const { printers, status, delays, lists } = state, parts = [`p=${['none', '4', '5', 'both'][printers]}`];
+  const { form, printers, status, delays, lists } = state, parts = [`p=${['none', '4', '5', 'both'][printers]}`];
+  if (form !== 'text') parts.push(`f=${form}`);
   if (status) parts.push('s=kept');
   if (delays !== 'typical') parts.push(`d=${delays === 'lists' ? lists.map(list => list.replace(/\s/g, '')).join('/') : delays}`);
   const bytes = await through(new CompressionStream('deflate-raw'), encode(editor.text));
@@ -83,7 +84,7 @@ async function readAddress(hash) {
     const printers = ['none', '4', '5', 'both'].indexOf(parts.get('p')), delays = decodeURIComponent(parts.get('d') || 'typical');
     const isWord = ['typical', 'least', 'greatest'].includes(delays);
     return {
-      text, printers: printers < 0 ? 3 : printers, status: parts.get('s') === 'kept' ? 1 : 0,
+      text, form: parts.get('f') === 'petcat' ? 'petcat' : 'text', printers: printers < 0 ? 3 : printers, status: parts.get('s') === 'kept' ? 1 : 0,
       delays: isWord ? delays : 'lists', lists: isWord ? ['', '', ''] : [...delays.split('/'), '', ''].slice(0, 3),
     };
   } catch {
@@ -93,10 +94,10 @@ async function readAddress(hash) {
 }
 
 /** Keeps the listing that another one is about to replace, unless it is an example as it came. */
-function keepEarlier(text = editor.text) {
+function keepEarlier(text = editor.text, form = state.form) {
   if (!text.trim() || examples.some(example => example.text === text)) return;
   const earlier = (store.get('earlier') || []).filter(kept => kept.text !== text);
-  earlier.unshift({ text, when: Date.now() });
+  earlier.unshift({ text, form, when: Date.now() });
   while (earlier.length > EARLIER_LIMIT || (earlier.length > 1 && !store.set('earlier', earlier))) earlier.pop();
   store.set('earlier', earlier);
   fillMenu();
@@ -129,9 +130,11 @@ function openFromMenu(value) {
   if (!what) return;
   const example = what === 'example' ? examples[index] : null;
   if (example?.bytes) return take(fromBase64(example.bytes), example.name, example.kind);
-  const text = example ? example.text : what === 'earlier' ? store.get('earlier')[index].text : '';
+  const { text, form = 'text' } = example || (what === 'earlier' ? store.get('earlier')[index] : { text: '' });
   leaveSource();
   keepEarlier();
+  state.form = form;
+  showChoices();
   editor.replace(text);
   wave.moved = false;
   listingChanged();

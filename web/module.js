@@ -9,6 +9,7 @@
 //     fault       with code 1 the number of the BASIC error, with code 2 that of the fault, else 0
 //     statement   with code 1 the statement that stopped, from 1, else 0
 //     line        with code 2 the line of the fault, from 1, or 0
+//     column      with code 2 the column of what petcat does not write, from 1, or 0
 //     edge        with code 2 the index of the edge of the fault, from 0, or -1
 //     text        what the program `print1525` writes on standard output; of a method whose name begins with
 //                 `explain` what its option --explain tells on standard error
@@ -19,8 +20,6 @@
 const loadPrint1525 = (() => {
   'use strict';
 
-  // A module of nothing but a memory with 64-bit addresses.
-  const MEMORY64 = new Uint8Array([0, 97, 115, 109, 1, 0, 0, 0, 5, 3, 1, 4, 1]);
   const PAGE = 65536;
   // An instance whose memory has grown beyond this many bytes is not kept for the next call.
   const KEPT = 2 ** 28;
@@ -41,17 +40,14 @@ const loadPrint1525 = (() => {
       return c;
     };
 
-    // Whether the memory has grown by so many pages. A Node before 23 wants a number, and all else a BigInt.
+    // Whether the memory has grown by so many pages.
     function grow(pages) {
-      for (const count of [BigInt(pages), pages]) {
-        try {
-          memory.grow(count);
-          return true;
-        } catch (error) {
-          if (!(error instanceof TypeError)) return false;
-        }
+      try {
+        memory.grow(pages);
+        return true;
+      } catch {
+        return false;
       }
-      return false;
     }
 
     // The address of a new block of so many bytes, a multiple of 16, or 0 where the browser gives no more.
@@ -140,18 +136,22 @@ const loadPrint1525 = (() => {
     25: 'no such character set', 28: 'no such input', 29: 'no such source', 30: 'no such stop', 31: 'no signal ATN', 32: 'no signal CLOCK',
     33: 'no signal DATA', 34: 'no level of ATN', 35: 'no level of CLOCK', 36: 'no level of DATA', 41: 'bad word', 42: 'no $end',
     43: 'no $enddefinitions', 44: 'no timescale', 45: 'bad time', 46: 'time goes back', 47: 'level x', 48: 'level z',
-    49: 'bad level',
+    49: 'bad level', 50: 'no such sheet', 51: 'document too large', 60: 'no such form', 61: 'not a saved program', 62: 'cut off',
+    63: 'unknown name', 64: 'bad byte', 70: 'bad timescale', 71: 'no time', 72: 'UTF-16 text', 73: 'zip archive',
+    75: 'another signal ATN', 76: 'another signal CLOCK', 77: 'another signal DATA',
   };
   const STOPS = { 1: 'TOO MANY FILES', 2: 'FILE OPEN', 3: 'FILE NOT OPEN', 5: 'DEVICE NOT PRESENT', 6: 'NOT INPUT FILE' };
 
   const isEdge = fault => fault >= 11 && fault <= 16;
-  const isLine = fault => (fault >= 1 && fault <= 8) || fault >= 31;
+  const isLine = fault => (fault >= 1 && fault <= 8) || (fault >= 31 && fault <= 49) || fault >= 62;
+  const isOfListing = fault => fault >= 60 && fault <= 64;
 
-  function words({ code, fault, line, edge }) {
+  function words({ code, fault, line, column, edge }) {
     if (code === 1) return `?${STOPS[fault]}  ERROR`;
     if (code === 3) return 'out of memory';
     if (code !== 2) return '';
     if (isEdge(fault)) return `edge ${edge}: ${FAULTS[fault]}`;
+    if (column) return `line ${line}, column ${column}: ${FAULTS[fault]}`;
     return isLine(fault) ? `line ${line}: ${FAULTS[fault]}` : FAULTS[fault];
   }
 
@@ -178,9 +178,8 @@ const loadPrint1525 = (() => {
   }
 
   return async function loadPrint1525(bytes) {
-    if (typeof WebAssembly !== 'object' || !WebAssembly.validate(MEMORY64)) {
-      throw new Error('This browser cannot run print1525: it has no WebAssembly with 64-bit memory ("memory64"). ' +
-        'Recent versions of Chrome, Edge and Firefox have it.');
+    if (typeof WebAssembly !== 'object' || typeof BigUint64Array !== 'function') {
+      throw new Error('This browser cannot run print1525: it has no WebAssembly.');
     }
     const compiled = await WebAssembly.compile(bytes);
     let instance = makeInstance(compiled);
@@ -197,13 +196,17 @@ const loadPrint1525 = (() => {
         instance = null;
         throw error;
       }
-      const { code, fault, place, length, text = new Uint8Array(0) } = told;
+      const { code, fault, place, length } = told;
+      // Beside a listing's fault the length is its column.
+      const isColumn = code === 2 && isOfListing(fault);
+      const text = isColumn || !told.text ? new Uint8Array(0) : told.text;
       rooms[name] = Math.min(length * 1.25, KEPT / 4) | 0;
       return {
         code,
         fault,
         statement: code === 1 ? place : 0,
         line: code === 2 && isLine(fault) ? place : 0,
+        column: isColumn ? length : 0,
         edge: code === 2 && isEdge(fault) ? place : -1,
         text,
       };
@@ -215,6 +218,8 @@ const loadPrint1525 = (() => {
       // statement (1) or not (0); the numbers of the delays of the computer, of printer 4 and of printer 5.
       pages: asked => call('print1525_pages', [...scriptWords(asked), pageFormat(asked.format || 'list')]),
       bus: asked => call('print1525_bus', [...scriptWords(asked), numberOf(asked.format || 'text', ['text', 'vcd'], 'format')]),
+      // The text of the script that a listing says: 'text' (the listing itself), 'prg' (a saved program) or 'petcat' (petcat's text).
+      listing: ({ bytes, form = 'text' }) => call('print1525_listing', [bytesOf(bytes), numberOf(form, ['text', 'prg', 'petcat'], 'form')]),
       // The bytes that a printer gets, and the character set before them: 0 graphic/upper case, 1 lower/upper case.
       raw: ({ bytes, set = 0, format = 'list' }) => call('print1525_raw', [bytesOf(bytes), set, pageFormat(format)]),
       // What a printer hears: 0 to 255 a byte, 256 and 257 the selection of the graphic/upper case or the lower/upper case set.

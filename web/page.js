@@ -7,7 +7,7 @@ const EARLIER_LIMIT = 20;
 const LISTING_LIMIT = 16777216;    // bytes of a script, as the program has it
 
 /** The choices beside the listing, and what the paper and the wire show: the listing, or a file (`source`). */
-const state = { printers: 3, status: 0, delays: 'typical', lists: ['', '', ''], source: null, tabs: { pages: 'sheets', wire: 'wave' } };
+const state = { form: 'text', printers: 3, status: 0, delays: 'typical', lists: ['', '', ''], source: null, tabs: { pages: 'sheets', wire: 'wave' } };
 
 // the worker
 
@@ -40,8 +40,8 @@ worker.onerror = event => {
   answers.clear();
 };
 
-/** Whether the browser has 64-bit memories, by a module that is nothing but one. */
-const has64BitMemory = () => WebAssembly.validate(Uint8Array.of(0, 97, 115, 109, 1, 0, 0, 0, 5, 3, 1, 4, 1));
+/** Whether the browser can run the module. */
+const hasWebAssembly = () => typeof WebAssembly === 'object' && typeof DecompressionStream === 'function';
 
 // the parts of the page
 
@@ -112,7 +112,7 @@ async function printNow(version) {
   const { source } = state;
   if (!source) {
     const script = encode(editor.text);
-    const answer = await ask('print', { script, printers: state.printers, status: state.status });
+    const answer = await ask('print', { script, form: state.form, printers: state.printers, status: state.status });
     if (version !== wanted && performance.now() - lastShown < 400) return;
     lastShown = performance.now();
     showRun(answer, version);
@@ -193,19 +193,25 @@ function showScript(answer) {
   showScreen(answer.code <= 1 ? answer.screen : new Uint8Array(0));
 }
 
+/** How many characters of a text so many bytes are. */
+const charactersOf = (text, bytes) => decode(encode(text).subarray(0, bytes)).length;
+
 /** A script that cannot be read: its first fault, at its place. */
-function tellRefusal({ words: why, line, told }, words) {
+function tellRefusal({ words: why, line, column, told, place }, words) {
   const said = told.split('\n'), where = said.map(text => /^ {2}line (\d+), column (\d+)[^:]*: (.*)$/.exec(text)).find(Boolean);
-  const name = why.replace(/^line \d+: /, ''), signs = [], titles = [];
+  const name = why.replace(/^line \d+(, column \d+)?: /, ''), signs = [], titles = [];
   if (!where) {
-    words('first', line ? `Line ${line}: ${name}` : name[0].toUpperCase() + name.slice(1));
+    const upper = name[0].toUpperCase() + name.slice(1);
+    words('first', column ? `${upper} in line ${line}, column ${column}` : line ? `Line ${line}: ${name}` : upper);
     if (line) signs[line - 1] = 'refused';
-    return editor.tell(signs, titles, null);
+    if (!column) return editor.tell(signs, titles, null);
+    const text = editor.line(line - 1), from = charactersOf(text, column - 1), brace = text[from] === '{' ? text.indexOf('}', from) : -1;
+    return editor.tell(signs, titles, { line: line - 1, from, to: Math.max(brace, from) + 1, words: name, kind: 'refused' });
   }
-  const number = Number(where[1]) - 1, text = editor.line(number), from = decode(encode(text).subarray(0, Number(where[2]) - 1)).length;
+  const number = Number(where[1]) - 1, text = editor.line(number), from = place ? place.from : charactersOf(text, Number(where[2]) - 1);
   const word = /^"(.*)": /.exec(where[3]), length = word && text.startsWith(word[1], from) ? word[1].length : 1;
   const expected = where[3].replace(/^".*": /, ''), hints = said.slice(said.indexOf(where[0]) + 1).filter(text => text.trim());
-  const first = words('first', `${name[0].toUpperCase()}${name.slice(1)} in line ${where[1]}, column ${where[2]}`);
+  const first = words('first', `${name[0].toUpperCase()}${name.slice(1)} in line ${where[1]}, column ${place ? from + 1 : where[2]}`);
   first.append(' ', button('go there', () => editor.goTo(number, from)));
   words('', where[3]);
   hints.forEach(hint => words('', hint.trim()));
@@ -216,7 +222,7 @@ function tellRefusal({ words: why, line, told }, words) {
 
 /** A run's statuses and its stop. */
 function tellStatuses(answer, words) {
-  const { statuses, code, statement, told } = answer, lines = linesOfStatements(editor.text);
+  const { statuses, code, statement, told } = answer, lines = linesOfStatements(answer.script ?? editor.text);
   const known = code === 1 ? lines.length >= statement : lines.length === statuses.length;
   const signs = [], titles = [], rank = ['', 'fine', 'unreached', 'unanswered', 'stopped'];
   const sign = (line, name, title) => {
@@ -245,7 +251,15 @@ function tellStatuses(answer, words) {
   const places = unanswered.slice(0, 4).map(index => known ? `${index + 1} (line ${lines[index] + 1})` : index + 1).join(', ');
   const others = unanswered.length > 4 ? ` and ${spaced(unanswered.length - 4)} more` : '';
   if (unanswered.length) words('', `Status 128, no device answered: statement ${places}${others}`);
+  tellTyped(words);
   editor.tell(signs, titles, note);
+}
+
+/** Where strings of a script have small letters or names in braces: what they print, and the reading that has them as typed. */
+function tellTyped(words) {
+  if (state.form !== 'text' || !hasTyped(editor.text)) return;
+  const hint = 'Small letters print the printer\'s own code, and a name in braces prints its letters.';
+  words('', hint).append(' ', button('Read it as petcat\'s text', () => chooseForm('petcat')));
 }
 
 /** The bytes on the screen: letters as they are, a return as a line's end, any other byte as its number. */

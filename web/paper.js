@@ -25,9 +25,6 @@ class Paper {
       event.preventDefault();
       this.zoom(Math.exp(-event.deltaY / 300), event.clientX, event.clientY);
     }, { passive: false });
-    // what a printer of today gets is the whole picture
-    addEventListener('beforeprint', () => { if (this.part) this.put(this.text); });
-    addEventListener('afterprint', () => this.lay());
     this.room.addEventListener('click', event => {
       if (!this.picture || String(getSelection())) return;
       const place = this.placeAt(event.clientX, event.clientY);

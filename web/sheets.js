@@ -4,7 +4,8 @@
 const DOT = 21;            // a dot column
 const STEP = 10;           // 1/126 inch down
 const MARKS_LEFT = 1260;   // from a sheet's left edge to its marks
-const MARKS_TOP = 1680;    // from the picture's top to them
+const SHEET_TOP = 1050;    // from the picture's top to the sheets
+const MARKS_TOP = 1680;    // from the picture's top to the marks
 const LETTER_HEIGHT = 140; // seven dots
 
 /**

@@ -27,7 +27,7 @@ async function trace(version) {
   }
   try {
     const answer = await ask('trace', {
-      script: encode(editor.text), printers, status, delays: delays === 'lists' ? lists : [[], [], []].map(() => new Uint16Array(0)),
+      script: encode(editor.text), form: state.form, printers, status, delays: delays === 'lists' ? lists : [[], [], []].map(() => new Uint16Array(0)),
       extreme: delays === 'least' || delays === 'greatest' ? delays : null,
     });
     if (version !== wanted || state.source) return;

@@ -109,7 +109,7 @@ function edgesOfDump(text, ask) {
     const said = words.slice(from + 1, i++);
     const scale = words[from] === '$timescale' && /^(10{0,2})(s|ms|us|ns|ps|fs)$/.exec(said.join(''));
     if (scale) unit = Number(scale[1]) * UNITS[scale[2]];
-    if (words[from] === '$var' && said[1] === '1') { codes.push(said[2]); names.push(said[3]); }
+    if (words[from] === '$var' && said[1] === '1') { codes.push(said[2]); names.push(said[3] ?? ''); }
   }
   const wires = signalsIn(names, ask.names);
   if (wires.includes(-1) || !unit) return gathering.edges();

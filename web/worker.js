@@ -14,6 +14,27 @@ const answerOf = answer => {
   return { code, fault, line, statement, words: print1525.words(answer) };
 };
 
+/** The script that a listing says: itself, or what the module makes of petcat's text; or the answer that refuses it. */
+async function scriptOf({ script, form = 'text' }) {
+  if (form === 'text') return { script };
+  const answer = await print1525.listing({ bytes: script, form });
+  return answer.code ? { refused: { ...answerOf(answer), column: answer.column, told: '' } } : { script: answer.text };
+}
+
+/** Where the place that an explanation tells of a script stands in petcat's text: its line, and how many characters of that are in front of it. */
+async function placeInPetcat(told, listing) {
+  const [, line, column] = (/^ {2}line (\d+), column (\d+)/m.exec(told) || []).map(Number);
+  if (!line) return null;
+  const row = text(listing).split('\n')[line - 1] || '', encoder = new TextEncoder();
+  const lengthOf = async end => {
+    const front = row.slice(0, end).replace(/\{[^}]*$/, '');
+    return (await print1525.listing({ bytes: encoder.encode(front), form: 'petcat' })).text.length;
+  };
+  // (the text of a front ends with a line's end)
+  const last = await least(row.length, async end => await lengthOf(end + 1) > column);
+  return { line, from: row[last] === '}' ? row.lastIndexOf('{', last) : last };
+}
+
 /** What stands behind the papers in the lines of a run: each statement's status (1 where no device answered) and the screen's bytes. */
 function endOf(lines) {
   const numbers = name => {
@@ -69,15 +90,31 @@ const jobs = {
 
   /** The sheets of a script's run as a picture, or why there are none. */
   async print(ask) {
-    const began = performance.now();
-    const run = { script: ask.script, printers: ask.printers, status: ask.status, delays: lasting() };
+    const began = performance.now(), { script, refused } = await scriptOf(ask);
+    if (refused) return { ...refused, milliseconds: performance.now() - began };
+    const run = { script, printers: ask.printers, status: ask.status, delays: lasting() };
     const pages = await print1525.pages({ ...run, format: 'svg' });
     const answer = answerOf(pages);
     if (pages.code <= 1) answer.svg = picture('script', run, pages);
     answer.milliseconds = performance.now() - began;
     if (pages.code === 1) answer.told = text((await print1525.explainStop({ ...run, stop: pages.fault, statement: pages.statement })).text);
-    if (pages.code === 2) answer.told = text((await print1525.explainScript({ script: ask.script })).text);
+    if (pages.code === 2) answer.told = text((await print1525.explainScript({ script })).text);
+    if (ask.form === 'petcat') {
+      answer.script = text(script);
+      if (pages.code === 2) answer.place = await placeInPetcat(answer.told, ask.script);
+    }
     return answer;
+  },
+
+  /** Whether a saved program and a listing of it in another form run to the same pages, or are refused by the same fault; or why it is no program. */
+  async isSame({ program, listing, form }) {
+    const saved = await print1525.listing({ bytes: program, form: 'prg' });
+    if (saved.code) return answerOf(saved);
+    const other = await print1525.listing({ bytes: listing, form });
+    const [one, two] = await Promise.all([saved, other].map(({ text }) => print1525.pages({ script: text, delays: lasting() })));
+    const texts = [one, two].map(answer => text(answer.text));
+    const isSame = !other.code && one.code === two.code && one.fault === two.fault && one.line === two.line && texts[0] === texts[1];
+    return { code: 0, isSame, script: text(saved.text) };
   },
 
   /** What stands behind the sheets of the script that is shown: each statement's status and the screen's bytes. */
@@ -87,7 +124,9 @@ const jobs = {
   },
 
   /** The trace of a script's run at some delays, and what it says. */
-  async trace({ script, printers, status, delays, extreme }) {
+  async trace({ printers, status, delays, extreme, ...listing }) {
+    const { script, refused } = await scriptOf(listing);
+    if (refused) return refused;
     const run = { script, printers, status, delays: extreme ? lasting() : delays, format: 'text' };
     const decode = async bytes => (await print1525.decode({ bytes, input: 'text', output: 'readings' })).text;
     let bus = await print1525.bus(run);

@@ -9,7 +9,7 @@ listen = 32
 abbrev pub unlisten : ℕ
 unlisten = 63
 
--- a secondary address, plus its number of 0 to 15; number 7 selects a VIC-1525's lower/upper case set (VIC-1525 User's Manual)
+-- a secondary address, plus its number of 0 to 15; 7 selects a VIC-1525's lower/upper case set (VIC-1525 User's Manual)
 abbrev pub secondary : ℕ
 secondary = 96
 

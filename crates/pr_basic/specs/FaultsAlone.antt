@@ -1,5 +1,5 @@
--- Linking words: the table of faults without their places. A law says that it is the table with them, so that a reader needs only one of
--- the two.
+-- Linking words: the table of faults without their places. A law says that places change no fault,
+-- so that a reader needs only one of the two tables; nothing else needs this one.
 use Rattle.std.specs.Prelude.{◌≡◌, ℕ, ◌+◌, ◌-◌, ◌≤◌, ◌<◌, ◌⊎◌, true, false, List, [], ◌∷◌, ◌++◌, length}
 use Rattle.std.specs.List.{list_all}
 use Rattle.pr_basic.specs.Limits.{byte_limit, line_number_limit, statement_limit}

@@ -1,5 +1,5 @@
 -- Trusted: the grammar of scripts: which bytes are a script of which statements. It says nothing of
--- faults, and nothing of how a script is read.
+-- faults, nor of how a script is read.
 use Rattle.std.specs.Prelude.{◌≡◌, ⊤, ◌≢◌, IsTrue, ℕ, ◌+◌, ◌≤◌, ◌<◌, ◌⊎◌, ◌&&◌, ◌==◌, Bool, true, false, List, [], ◌∷◌, ◌++◌, length, Some, None, nat_le, if◌then◌else◌}
 use Rattle.std.specs.List.{list_all}
 use Rattle.pr_base.specs.Digits.{number_of}
@@ -16,7 +16,7 @@ use Rattle.pr_basic.specs.declared.statement.Statement.TheVariants.{OpenFile, Cl
 abbrev pub IsNumber : ℕ → ℕ → ℕ → List ℕ → Type 0
 IsNumber low high n digits = (number_of digits ≡ n) × (low ≤ n) × (n ≤ high)
 
--- a byte that may stand in a string
+-- a byte that a string can have
 abbrev pub is_printable : ℕ → Bool
 is_printable b = nat_le 32 b && nat_le b 126
 
@@ -54,20 +54,19 @@ IsItem Semi = ⊤
 IsItem (Quote s) = IsTrue (list_all is_printable s)
 IsItem (Code ds) = number_of ds ≤ 255
 
--- all are items
+-- each is an item as above
 abbrev pub AreItems : List Item → Type 0
 AreItems [] = ⊤
 AreItems (i ∷ is) = IsItem i × AreItems is
 
--- whether the line ends after a list: its last item is not a semicolon; where there is no item, as
--- before
+-- whether the line ends after a list: exactly if the last item is no semicolon; for no items it is the first argument
 abbrev pub ends_after : Bool → List Item → Bool
 ends_after ends [] = ends
 ends_after ends (Semi ∷ is) = ends_after false is
 ends_after ends (Quote s ∷ is) = ends_after true is
 ends_after ends (Code ds ∷ is) = ends_after true is
 
--- the lexemes are a list's: those of its items; its bytes are theirs
+-- the lexemes of a list are those of its items, and its bytes are theirs
 pub record IsList (lexemes : List Lexeme) (line : Text) : Type 0 where
   pub items : List Item
   pub spelled : lexemes ≡ items_lexemes items
@@ -83,7 +82,7 @@ IsPrinting k file line lexemes = (f : List ℕ) × IsNumber 0 255 file f
     ⊎ ((list : List Lexeme) × (lexemes ≡ Word k ∷ Digits f ∷ Comma ∷ list) × (0 < length list)
     × IsList list line))
 
--- the lexemes are a statement's
+-- the lexemes of a statement
 abbrev pub IsStatement : Statement → List Lexeme → Type 0
 IsStatement (OpenFile file device None) lexemes = (f : List ℕ) × (d : List ℕ)
     × (lexemes ≡ Word word.Open ∷ Digits f ∷ Comma ∷ Digits d ∷ [])
@@ -113,19 +112,18 @@ parts [] = []
 parts (Colon ∷ ls) = [] ∷ parts ls
 parts (l ∷ ls) = onto_first l (parts ls)
 
--- what follows a line's number: a number stands first and is at most 63999, or no digits stand
--- first
+-- what follows a line number of at most 63999 at the front, or the whole line where no digits are at the front
 abbrev pub HasNumber : List Lexeme → List Lexeme → Type 0
 HasNumber lexemes rest =
     ((lexemes ≡ rest) × ((ds : List ℕ) (more : List Lexeme) → lexemes ≢ Digits ds ∷ more))
     ⊎ ((ds : List ℕ) × (lexemes ≡ Digits ds ∷ rest) × (number_of ds ≤ line_number_limit))
 
--- a line without its end: perhaps a number, then statements parted by colons
+-- a line without its end: perhaps a number, then statements separated by colons
 abbrev pub IsLine : List ℕ → List Statement → Type 0
 IsLine line ss = (lexemes : List Lexeme) × (rest : List Lexeme)
     × AreLexemes line lexemes × HasNumber lexemes rest × AreParts (parts rest) ss
 
--- a line without the byte 13 that stands last in it, which belongs to the line's end
+-- a line without a last byte 13, which belongs to the line's end
 abbrev pub without_return : List ℕ → List ℕ
 without_return [] = []
 without_return (b ∷ []) = if b == 13 then [] else b ∷ []
@@ -137,6 +135,6 @@ AreLines [] ss = ss ≡ []
 AreLines (l ∷ ls) ss = (first : List Statement) × (more : List Statement)
     × IsLine (without_return l) first × (ss ≡ first ++ more) × AreLines ls more
 
--- the bytes are a script of these statements: those of its lines, as many as the limit at most
+-- the bytes are a script of these statements: those of its lines, no more than the limit
 abbrev pub IsScript : List ℕ → List Statement → Type 0
 IsScript bytes ss = AreLines (lines_of bytes) ss × (length ss ≤ statement_limit)

@@ -7,7 +7,8 @@ use Rattle.pr_basic.specs.declared.lexemes.Keyword.{Keyword}
 use Rattle.pr_basic.specs.declared.lexemes.Keyword.TheVariants.{Open, Close, Cmd, PrintTo, Print, Chr}
 
 -- a lexeme: a keyword, a REM with the rest of its line, the digits of a number, the bytes of a
--- string, a sign, or a byte that begins none of these
+-- string, a sign, or a byte that begins none of these (`Stray`), so that a line has its lexemes
+-- whether or not it is a script
 pub data Lexeme : Type 0 where
   Word : Keyword → Lexeme
   Remark : Lexeme
@@ -41,23 +42,24 @@ letters_of Chr = codes "chr$"
 abbrev pub IsWord : List ℕ → List ℕ → Type 0
 IsWord letters bytes = map to_ascii_lowercase bytes ≡ letters
 
--- no digit stands at the front
+-- the first byte is no digit
 abbrev pub NoDigit : List ℕ → Type 0
 NoDigit [] = ⊤
 NoDigit (b ∷ bs) = is_digit b ≡ false
 
--- no `#` stands at the front
+-- the first byte is no `#`
 abbrev pub NoHash : List ℕ → Type 0
 NoHash [] = ⊤
 NoHash (b ∷ bs) = b ≢ 35
 
--- no space stands at the front
+-- the first byte is no space
 abbrev pub NoSpace : List ℕ → Type 0
 NoSpace [] = ⊤
 NoSpace (b ∷ bs) = is_space b ≡ false
 
--- bytes spell a lexeme, with the line's bytes after them: PRINT has no `#` behind it, digits go on
--- as far as they can, a string ends with its quote or with the line, a remark with the line
+-- `bytes` spell a lexeme, and `after` are the line's bytes after them: no `#` follows PRINT, no
+-- digit follows a number's digits, a string ends with its quote or with the line, a remark with the
+-- line
 abbrev pub Spells : Lexeme → List ℕ → List ℕ → Type 0
 Spells (Word Print) bytes after = IsWord (letters_of Print) bytes × NoHash after
 Spells (Word k) bytes after = IsWord (letters_of k) bytes
@@ -74,16 +76,16 @@ Spells OpenParen bytes after = bytes ≡ 40 ∷ []
 Spells CloseParen bytes after = bytes ≡ 41 ∷ []
 Spells Stray bytes after = ⊥
 
--- one byte that is no space, and at which no lexeme is spelled
+-- one byte that is no space, and where no lexeme is spelled
 abbrev pub IsStray : List ℕ → List ℕ → Type 0
 IsStray bytes after = (b : ℕ) × (bytes ≡ b ∷ []) × (is_space b ≡ false)
     × ((l : Lexeme) (front rest : List ℕ) → front ++ rest ≡ b ∷ after → ¬ Spells l front rest)
 
--- bytes are a lexeme's: they spell it, or they are a stray byte
+-- bytes are a lexeme: they spell it, or they are a stray byte
 abbrev pub IsLexeme : Lexeme → List ℕ → List ℕ → Type 0
 IsLexeme l bytes after = Spells l bytes after ⊎ ((l ≡ Stray) × IsStray bytes after)
 
--- a line's bytes are these lexemes, with spaces around them
+-- a line's bytes are these lexemes, with or without spaces around them
 abbrev pub AreLexemes : List ℕ → List Lexeme → Type 0
 AreLexemes line [] = IsTrue (list_all is_space line)
 AreLexemes line (l ∷ ls) = (spaces : List ℕ) × (bytes : List ℕ) × (after : List ℕ)

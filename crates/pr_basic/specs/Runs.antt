@@ -11,21 +11,20 @@ use Rattle.pr_basic.specs.declared.session.StatusMode.{StatusMode}
 use Rattle.pr_basic.specs.declared.session.StatusMode.TheVariants.{Each, Kept}
 use Rattle.pr_basic.specs.Statements.{Setting, Effect, at_first, effect_of, status_of}
 
--- what a run gives: all its elements, a status for each statement performed, the stop with its
--- place, and the screen's bytes
+-- a run: all its elements, a status for each statement performed, the stop with its statement's
+-- number, and the screen's bytes
 pub record Run : Type 0 where
   pub elements : List Element
   pub statuses : List ℕ
   pub stop : Option (ℕ × Stop)
   pub screen : List ℕ
 
--- the status that a statement of a run finds: 0, or in the kept mode 128 if an item before it is
--- not answered
+-- the status before a statement: 0, or in the kept mode 128 if an item before it was not answered
 abbrev pub found_of : StatusMode → Present → List Element → ℕ
 found_of Each present before = 0
 found_of Kept present before = if is_lacking present 0 (items_of before) then 128 else 0
 
--- a run that begins with a statement's effect and its status, and goes on unless that is a stop
+-- a run that begins with a statement's effect and its status, and goes on with `rest` unless the effect is a stop
 abbrev pub run_after : ℕ → List Element → ℕ → Effect → Option Stop → Run → Run
 run_after place before status e None rest =
     record rest { statuses = status ∷ rest.statuses; screen = e.screen ++ rest.screen }
@@ -33,7 +32,7 @@ run_after place before status e (Some stop) rest =
     let all = before ++ e.elements in
     record { elements = all; statuses = status ∷ []; stop = Some (place, stop); screen = e.screen }
 
--- statements from one place on, after these elements
+-- the run of statements from this place on, after these elements
 abbrev pub run_from : StatusMode → Present → ℕ → List Element → Setting → List Statement → Run
 run_from mode present place before at [] =
     record { elements = before; statuses = []; stop = None; screen = [] }

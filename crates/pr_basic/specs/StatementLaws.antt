@@ -46,7 +46,9 @@ command_stop mode present before None = Some FileNotOpen
 command_stop mode present before (Some file) =
     if is_missing mode present before file then Some DeviceNotPresent else None
 
--- the stop of a statement: of OPEN by the file table, of CMD and PRINT# by the file and its device, and no other statement stops
+-- the stop of a statement: of OPEN by the file table, of CMD and PRINT# by the file and its device;
+-- no other statement stops. It is said for both modes and of each statement, so that "exactly
+-- where" needs no law for the other direction
 abbrev pub stop_in : StatusMode → Present → List Element → Setting → Statement → Option Stop
 stop_in mode present before at (OpenFile file device second) = open_stop at.files file
 stop_in mode present before at (Cmd file line) = command_stop mode present before (file_at at.files file)

@@ -1,4 +1,4 @@
--- Trusted: what one statement gives.
+-- Trusted: what one statement sends, prints on the screen and changes, and where it stops.
 use Rattle.std.specs.Prelude.{ℕ, ◌==◌, nat_lt, nat_le, Option, Some, None, is_some, List, [], ◌∷◌, ◌++◌, length, map, if◌then◌else◌}
 use Rattle.pr_serial.specs.declared.Present.{Present}
 use Rattle.pr_serial.specs.Elements.{Element, Byte}
@@ -13,13 +13,13 @@ use Rattle.pr_basic.specs.Text.{Text}
 use Rattle.pr_basic.specs.declared.statement.Statement.{Statement}
 use Rattle.pr_basic.specs.declared.statement.Statement.TheVariants.{OpenFile, Cmd, PrintTo, Print, CloseFile, Rem}
 
--- what a line prints under a channel number: its bytes, a return if it ends, and after it a line
--- feed from channel 128 on
+-- what a line prints under a channel number: its bytes; if it ends, a return; and from channel 128
+-- on a line feed after the return
 abbrev pub printed_bytes : Text → ℕ → List ℕ
 printed_bytes line channel =
     line.bytes ++ (if line.ends then 13 ∷ (if nat_le 128 channel then 10 ∷ [] else []) else [])
 
--- what stands before a statement: the open files, the channel number and the output device
+-- what a statement finds: the open files, the channel number and the output device
 pub record Setting : Type 0 where
   pub files : Files
   pub channel : ℕ
@@ -30,29 +30,28 @@ pub record Setting : Type 0 where
 abbrev pub at_first : Setting
 at_first = record { files = []; channel = 0; output = 3 }
 
--- the channel number is 0 and the screen is the output device; the open files stay
+-- the channel number is 0 and the screen is the output device; the open files stay open
 abbrev pub reset : Setting → Setting
 reset at = record at { channel = 0; output = 3 }
 
--- what a statement gives: its elements, its screen bytes, its stop if it stops, and what stands
--- after it
+-- the effect of a statement: its elements, its screen bytes, its stop if it stops, and what the next statement finds
 pub record Effect : Type 0 where
   pub elements : List Element
   pub screen : List ℕ
   pub stop : Option Stop
   pub after : Setting
 
--- the status where these elements become those: 128 if an item that is then sent is not answered,
--- else the one that was found
+-- the status once the elements `before` have become `all`: 128 if one of the new items is not
+-- answered, else the status found
 abbrev pub status_of : Present → ℕ → List Element → List Element → ℕ
 status_of present found before all =
     if is_lacking present (length (items_of before)) (items_of all) then 128 else found
 
--- no stop: these elements, these screen bytes, and what stands after them
+-- no stop: these elements, these screen bytes, and what the next statement finds
 abbrev pub going_on : List Element → List ℕ → Setting → Effect
 going_on es screen after = record { elements = es; screen = screen; stop = None; after = after }
 
--- a stop: after what was put on the bus comes UNLISTEN, where the output device is on the bus
+-- a stop: after these elements comes UNLISTEN, if the output device is on the bus
 abbrev pub stopping : Stop → List Element → Setting → Effect
 stopping stop es at =
     let last = if nat_lt 3 at.output then unlisten ∷ [] else [] in
@@ -67,8 +66,7 @@ commanding present found before at number line (Some file) =
     else going_on (listen_to file ∷ map Byte (printed_bytes line number)) []
     (record at { channel = number; output = file.device })
 
--- UNLISTEN after an effect, unless that is a stop; then the channel number is 0 and the screen is
--- the output device
+-- UNLISTEN after an effect that is no stop; then the channel number is 0 and the screen is the output device
 abbrev pub unlistening : Effect → Effect
 unlistening e =
     if is_some e.stop then e
@@ -79,7 +77,7 @@ abbrev pub opening : Option Stop → File → Setting → Effect
 opening None file at = going_on [] [] (record at { files = at.files ++ file ∷ [] })
 opening (Some stop) file at = stopping stop [] at
 
--- what a statement gives, with the status found and the elements before it
+-- the effect of a statement, with the status found and the elements before it
 abbrev pub effect_of : Present → ℕ → List Element → Setting → Statement → Effect
 effect_of present found before at (OpenFile file device second) =
     let opened : File = record { number = file; device = device; second = second } in

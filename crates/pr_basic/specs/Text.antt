@@ -1,7 +1,7 @@
 -- Trusted: what a contract sees of a line.
 use Rattle.std.specs.Prelude.{ℕ, Bool, List}
 
--- its bytes, and whether the line ends after them
+-- a line's bytes, and whether the line ends after them
 pub record Text : Type 0 where
   pub bytes : List ℕ
   pub ends : Bool

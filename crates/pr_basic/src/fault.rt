@@ -48,7 +48,9 @@ pub struct FaultAt {
     pub place: usize,
 }
 
-/// The first fault of a line.
+/// The first fault of a line, without the line's number, which the line's reader does not know:
+/// [`LineFault::at`] adds it. The names are written twice, since callers match [`ScriptFault`]'s
+/// variants with their numbers.
 #[derive(Clone, Copy, Debug, PartialEq, Eq)]
 pub enum LineFault {
     UnknownWord,

@@ -59,8 +59,8 @@ fn printable_count(string: &[u8]) -> usize
     string.len()
 }
 
-/// Adds the bytes of a string, which stands at the front of `item`, unless one may not stand in it
-/// or would be the 256th.
+/// Adds the bytes of a string at the front of `item`, in one piece, unless a string cannot have one
+/// of them or one would be the 256th.
 #[tactic(auto, unfolding(crate::specs::Reading::string_added))]
 fn add_string<'a>(bytes: &mut Vec<u8>, item: &'a [u8], string: &[u8]) -> Result<(), Flaw<'a>>
     requires { length bytes.old.items ≤ byte_limit }

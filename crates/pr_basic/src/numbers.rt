@@ -9,7 +9,8 @@ ghost use Rattle.pr_basic.specs.Reads.{Passes, Reads, ReadsOn};
 use crate::fault::{Flaw, LineFault};
 use crate::lexemes::{Lexeme, next_in_part};
 
-/// Larger numbers count as this one, which is above every bound.
+/// Larger numbers count as this one, which is above every bound, so any number of digits is read
+/// without overflow.
 const LARGEST: u32 = 100_000;
 
 /// The number that digits spell, at most `LARGEST`.

@@ -30,7 +30,8 @@ fn begin<S: Serial>(channels: &mut Channels<S>, mode: StatusMode)
     ensures status { channels.new ≡ record channels.old { status = found_by mode channels.old.status } }
     ensures in_step { channels.old.failed ≡ false → channels.old.sent ≡ items_of channels.old.elements }
 {
-    // For the prover alone: the items are those of the elements.
+    // For the prover alone: the items are those of the elements in both modes, so that `perform`
+    // asks its caller only for room.
     let _bus = channels.serial();
     match mode {
         StatusMode::Each => channels.clear_status(),

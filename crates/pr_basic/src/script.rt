@@ -32,7 +32,7 @@ pub const LINE_NUMBER_LIMIT: u32 = 63_999;
 /// # Errors
 ///
 /// The first fault from the left with its line's number from 1, as [`ScriptFault`] says; or
-/// [`ScriptFault::NoMemory`], if memory was refused.
+/// [`ScriptFault::NoMemory`], if memory was refused. The statements read so far are dropped.
 pub fn read_script(alloc: Global, bytes: &[u8]) -> Result<Vec<Statement>, ScriptFault>
     ensures read { IfOk result (λ statements. IsScript bytes.now statements.items) }
     ensures few { IfOk result (λ statements. length statements.items ≤ statement_limit) }
@@ -224,7 +224,7 @@ fn after_number(bytes: &[u8]) -> Result<&[u8], Flaw<'_>>
     }
 }
 
-/// The first line, and what follows its end.
+/// The first line of some bytes, without the byte 10 that ends it, and the bytes after that.
 pub fn cut_line(bytes: &[u8]) -> (&[u8], &[u8])
     requires { 0 < length bytes.now }
     ensures lines { lines_of bytes.now ≡ result.0.now ∷ lines_of result.1.now }
@@ -241,7 +241,7 @@ pub fn cut_line(bytes: &[u8]) -> (&[u8], &[u8])
 }
 
 /// A line without a byte 13 at its end.
-fn without_return(line: &[u8]) -> &[u8]
+pub fn without_return(line: &[u8]) -> &[u8]
     ensures { result.now ≡ without_return line.now }
 {
     let n = line.len();

@@ -12,7 +12,8 @@ pub enum StatusMode {
     Kept,
 }
 
-/// What a run of statements keeps beside the channels.
+/// What a run of statements keeps beside the channels. Its fields are public, since every channel
+/// number is allowed.
 #[derive(Clone, Copy, Debug, PartialEq, Eq)]
 pub struct Session {
     /// The current channel number: the file number of the last CMD, or 0.

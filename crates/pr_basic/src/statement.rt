@@ -8,7 +8,8 @@ use std::marker::Model;
 
 /// What a printing statement prints: at most 255 bytes, and whether the line ends after them.
 ///
-/// Contracts see a line as its list of bytes and `ends`, not as a place in memory.
+/// Contracts see a line as its list of bytes and `ends`, not as a place in memory. The bound of 255
+/// bytes is the model's invariant, so whoever makes a line from its fields proves it.
 #[derive(Debug, Drop)]
 pub struct Line {
     /// The bytes of the list, in the order in which they are sent, at most 255.
@@ -31,7 +32,8 @@ impl Model for Line {
 }
 
 impl Line {
-    /// Makes the same line once more.
+    /// Makes the same line once more. It is no `Clone`, whose contract could compare the result
+    /// only with the `Vec` itself.
     ///
     /// # Errors
     ///
@@ -67,7 +69,8 @@ impl Model for Device {
 
 impl Device {
     /// Makes the device with this number; None exactly outside 4 to 30 (profile: devices 0 to 3 are
-    /// no devices of the bus).
+    /// no devices of the bus). The reader judges the device of an OPEN by bounds of its own first,
+    /// so that the fault is a bad device.
     pub fn new(number: u8) -> Option<Self>
         ensures some { IfSome result (λ device. (device ≡ number) × (4 ≤ number) × (number ≤ 30)) }
         ensures none { IfNone result ((number < 4) ⊎ (30 < number)) }

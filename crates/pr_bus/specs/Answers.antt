@@ -1,4 +1,4 @@
--- Trusted: the frames of what is answered.
+-- Trusted: the frames of the items that are answered.
 use Rattle.std.specs.Prelude.{true, false, cond, List, [], ◌∷◌, Some, None}
 use Rattle.std.specs.List.{flat_map}
 use Rattle.pr_serial.specs.declared.Present.{Present}
@@ -8,7 +8,7 @@ use Rattle.pr_page.specs.Before.{with_before}
 use Rattle.pr_serial.specs.Answers.{is_answered}
 use Rattle.pr_wire.specs.declared.Frame.{Frame}
 
--- the frames of an item that is answered
+-- the frames of one item
 abbrev pub item_frames : Item → List Frame
 item_frames (Attention b None) = record { attention = true; byte = b; eoi = false } ∷ []
 item_frames (Attention b (Some c)) =
@@ -16,7 +16,7 @@ item_frames (Attention b (Some c)) =
     ∷ record { attention = true; byte = c; eoi = false } ∷ []
 item_frames (Sent b eoi) = record { attention = false; byte = b; eoi = eoi } ∷ []
 
--- the frames of the items that are answered, after those before them
+-- the frames of those items that are answered, where other items came before
 abbrev pub frames_after : Present → List Item → List Item → List Frame
 frames_after present before items =
     flat_map (λ p. cond (is_answered present p.0 p.1) (item_frames p.1) [])

@@ -1,5 +1,5 @@
--- Trusted: the trace of items under a presence and three lists of delay numbers: each act in its
--- time, by sums, least and greatest.
+-- Trusted: the trace of items, with the printers present and three lists of delay numbers: the
+-- moment of each act, as sums, least and greatest of delays.
 use Rattle.std.specs.Prelude.{ℕ, zero, suc, ◌+◌, ◌/◌, ◌%◌, min, max, Bool, true, false, cond, eqb, List, [], ◌∷◌, ◌++◌, map, drop, Option, Some, None}
 use Rattle.pr_base.specs.Bytes as command
 use Rattle.pr_serial.specs.declared.Present.{Present}
@@ -20,23 +20,23 @@ pub record TimedPrinter : Type 0 where
   pub device : ℕ
   pub numbers : List ℕ
 
--- what stands on CLOCK and DATA between two items: both are released; both are pulled; CLOCK is
--- pulled, and DATA will be released at a moment
+-- CLOCK and DATA between two items: both released; both pulled; CLOCK pulled, with DATA's release due at a moment
 pub data Lines : Type 0 where
   Free : Lines
   Pulled : Lines
   Due : ℕ → Lines
 
--- how long a listener of a frame waits: before it releases DATA, before its EOI answer, for how long
--- that lasts, before it acknowledges
+-- how long a listener of a frame waits before it releases DATA (`hold`), before its EOI answer
+-- (`wait`), for how long it answers (`answer`), and how long it waits before it acknowledges
+-- (`accept`)
 pub record ListenerTiming : Type 0 where
   pub hold : ℕ
   pub wait : ℕ
   pub answer : ℕ
   pub accept : ℕ
 
--- the wires between two items: the items before, the end of the last one, the lines, and who takes
--- numbers
+-- the bus between two items: the items before, the end of the last one, the lines, the computer's
+-- numbers not yet taken, and the printers
 pub record TimedBus : Type 0 where
   pub before : List Item
   pub now : ℕ
@@ -60,7 +60,7 @@ abbrev pub bits_of : ℕ → ℕ → List Bool
 bits_of zero b = []
 bits_of (suc n) b = eqb (b % 2) 1 ∷ bits_of n (b / 2)
 
--- the moments of bits after a pull of CLOCK, by the computer's numbers
+-- the moments of bits after a pull of CLOCK, with the computer's numbers
 abbrev pub bit_times : ℕ → List ℕ → List Bool → List BitTimes
 bit_times c numbers [] = []
 bit_times c numbers (b ∷ bs) =
@@ -68,7 +68,7 @@ bit_times c numbers (b ∷ bs) =
     let down = up + delay_at V numbers 1 in
     record { level = b; up = up; down = down } ∷ bit_times down (drop 2 numbers) bs
 
--- the moments of a frame after the look, by the computer's numbers and the hearers' delays
+-- the moments of a frame after the look, with the computer's numbers and the hearers' delays
 abbrev pub frame_times : ℕ → Bool → ℕ → List ℕ → List ListenerTiming → FrameTimes
 frame_times look eoi byte numbers hearers =
     let free = look + greatest (map (λ (h : ListenerTiming). h.hold) hearers) in
@@ -84,7 +84,7 @@ frame_times look eoi byte numbers hearers =
       ack = last_pull pull bits + least (map (λ (h : ListenerTiming). h.accept) hearers);
     }
 
--- each present printer hears a command; its numbers for it begin at an index
+-- the delays of a command's hearers: each present printer, with its numbers from index i on
 abbrev pub command_hearers : ℕ → List TimedPrinter → List ListenerTiming
 command_hearers i printers =
     map (λ (p : TimedPrinter). record {
@@ -99,7 +99,7 @@ abbrev pub listening : List Item → List TimedPrinter → List TimedPrinter
 listening before [] = []
 listening before (p ∷ ps) = cond (is_listener p.device before) (p ∷ []) [] ++ listening before ps
 
--- the printers that listen hear a data byte
+-- the delays of a data byte's hearers, the printers that listen
 abbrev pub data_hearers : Bool → List TimedPrinter → List ListenerTiming
 data_hearers eoi printers =
     map (λ (p : TimedPrinter). record {
@@ -109,23 +109,22 @@ data_hearers eoi printers =
       accept = delay_at F p.numbers (cond eoi 3 2);
     }) printers
 
--- a printer has taken some of its numbers
+-- a printer after it has taken n of its numbers
 abbrev pub taking : ℕ → TimedPrinter → TimedPrinter
 taking n p = record p { numbers = drop n p.numbers }
 
--- what stands before a piece
+-- the lines before a piece, in the words of lawful traces
 abbrev pub between : Lines → Between
 between Free = Resting 0
 between Pulled = Held 0
 between (Due d) = Loose 0
 
--- an item on the wires: its piece, if it makes an edge, and the wires after it
+-- what an item does: its piece, if it makes an edge, and the bus after it
 pub record Done : Type 0 where
   pub piece : Option Piece
   pub wires : TimedBus
 
--- the wires after an item that nobody hears: both lines are released, and the computer has taken
--- some numbers
+-- the bus after an item that nobody hears: both lines are released, and the computer has taken n numbers
 abbrev pub after_unheard : TimedBus → Item → ℕ → ℕ → TimedBus
 after_unheard w x look n =
     record w { before = w.before ++ x ∷ []; now = look; lines = Free; computer = drop n w.computer }
@@ -137,7 +136,7 @@ unanswered w x =
     let look = a + delay_at Aw w.computer 1 in
     record { piece = Some (Unanswered a look); wires = after_unheard w x look 2 }
 
--- DATA is pulled in answer to ATN at the least AT, unless it is pulled
+-- the moment when the first printer pulls DATA in answer to ATN; none if DATA is pulled already
 abbrev pub answer_at : Lines → ℕ → List TimedPrinter → Option ℕ
 answer_at Pulled a printers = None
 answer_at _ a printers =
@@ -151,8 +150,8 @@ second_frame k (Some byte) numbers printers =
     let sent = frame_times look false byte (drop 1 numbers) (command_hearers 3 printers) in
     Some (record { look = look; sent = sent })
 
--- how many numbers the commands of an attention take of the computer, after the first two, and of a
--- printer, after the first
+-- the count of numbers that the commands of an attention take: of the computer, after its first
+-- two, and of a printer, after its first
 abbrev pub commands_take : Option ℕ → ℕ
 commands_take None = 17
 commands_take (Some byte) = 35
@@ -194,7 +193,7 @@ answered w byte second =
       };
     }
 
--- a byte that a present printer hears
+-- a byte that at least one present printer hears
 abbrev pub heard_byte : TimedBus → ℕ → Bool → List TimedPrinter → Done
 heard_byte w byte eoi hearers =
     let look = w.now + delay_at Bb w.computer 0 in
@@ -230,7 +229,7 @@ done w (Sent byte eoi) =
     elim (listening w.before w.printers)
     [ [] ↦ dropped_byte w (Sent byte eoi) | p ∷ ps ↦ heard_byte w byte eoi (p ∷ ps) ]
 
--- DATA's release that is still due
+-- the release of DATA that is still due
 abbrev pub due_edges : Lines → List Edge
 due_edges Free = []
 due_edges Pulled = []
@@ -240,7 +239,7 @@ abbrev pub edges_done : Lines → Option Piece → List Edge
 edges_done l None = []
 edges_done l (Some p) = piece_edges (between l) p
 
--- the edges of an item: what was due before it, and its own
+-- the edges of an item: the release due before it, and its own
 abbrev pub item_edges : TimedBus → Item → List Edge
 item_edges w x = due_edges w.lines ++ edges_done w.lines (done w x).piece
 
@@ -255,7 +254,7 @@ present_printers present four five =
     cond present.four (record { device = 4; numbers = four } ∷ []) []
     ++ cond present.five (record { device = 5; numbers = five } ∷ []) []
 
--- the wires before the first item
+-- the bus before the first item
 abbrev pub wires : Present → List ℕ → List ℕ → List ℕ → TimedBus
 wires present computer four five =
     let printers = present_printers present four five in
@@ -266,6 +265,6 @@ abbrev pub timed_trace : Present → List ℕ → List ℕ → List ℕ → List
 timed_trace present computer four five items =
     start ∷ timed_edges (wires present computer four five) items
 
--- the same, by the delay numbers of a bus
+-- the same, with the delay numbers of a bus
 abbrev pub trace_from : Present → DelayNumbers → List Item → List Edge
 trace_from present delays items = timed_trace present delays.computer delays.four delays.five items

@@ -47,7 +47,8 @@ impl Log {
         })
     }
 
-    /// Makes room for an item and its inputs, and adds its edges.
+    /// Makes room for an item and its inputs, and adds its edges. All room is made before anything
+    /// is added, so a refusal leaves items and inputs as they were.
     pub fn grow(&mut self, edges: &[Edge]) -> Result<(), NoMemory>
         // what never changes
         ensures items { self.new.items.items ≡ self.old.items.items }

@@ -19,19 +19,22 @@ use Rattle.pr_capture.specs.declared.format.TraceFormat.{TraceFormat}
 use Rattle.pr_cli.specs.Bus.{bus_text}
 use Rattle.pr_cli.specs.Check.{IsBadText, IsFaultyText, IsLawfulText, trace_limit}
 use Rattle.pr_cli.specs.FrameText.{frame_lines}
-use Rattle.pr_cli.specs.Pages.{Start, IsTextOf, script_limit}
-use Rattle.pr_cli.specs.Raw.{IsRawText, raw_limit}
+use Rattle.pr_cli.specs.Pages.{Start, IsTextOf, IsUnshown, script_limit}
+use Rattle.pr_cli.specs.Raw.{IsRawText, IsRawUnshown, raw_limit}
 use Rattle.pr_cli.specs.declared.fault.CliFault.{CliFault}
-use Rattle.pr_cli.specs.declared.fault.CliFault.TheVariants.{Script, Trace, Wave, Capture, TooLarge, NoMemory, ReadFailed, WriteFailed}
+use Rattle.pr_cli.specs.declared.fault.CliFault.TheVariants.{Script, Trace, Wave, Capture, Picture, TooLarge, NoMemory, ReadFailed, WriteFailed}
+use Rattle.pr_cli.specs.declared.fault.PictureFault.{PictureFault}
+use Rattle.pr_cli.specs.declared.fault.PictureFault.TheVariants as picture
 use Rattle.pr_c.specs.declared.told.Answer.{Answer}
 use Rattle.pr_c.specs.declared.told.Told.{Told}
 use Rattle.pr_c.specs.declared.told.Told.TheVariants.{Written, TooSmall, Refused, NoInput}
 
--- a BASIC error that stopped a run, with the number of its statement, from 1; none where no error did
+-- a BASIC error that stopped a run, with the number of its statement from 1; none where the run was not stopped
 abbrev pub Stopping : Type 0
 Stopping = Option (ℕ × Stop)
 
--- what is told is right, by the buffer before and after: the text in front, the rest as it was; or the text has no room; or there is none
+-- the outcome of a call, by the buffer before and after: the text in front and the rest as it was;
+-- or too little room for the text; or a refusal
 abbrev pub Tells : (Stopping → List ℕ → Type 0) → (CliFault → Type 0) → List ℕ → List ℕ → Told → Type 0
 Tells IsText IsFault old new (Written stop n) =
     (text : List ℕ) × IsText stop text × (n ≡ length text) × (n ≤ length old) × (new ≡ text ++ drop n old)
@@ -70,13 +73,19 @@ IsScriptRefusal script TooLarge = script_limit < length script
 IsScriptRefusal script NoMemory = Unit {0}
 IsScriptRefusal script _ = ⊥
 
--- why a printer's bytes give none
-abbrev pub IsPaperRefusal : List ℕ → CliFault → Type 0
-IsPaperRefusal bytes TooLarge = raw_limit < length bytes
-IsPaperRefusal bytes NoMemory = Unit {0}
-IsPaperRefusal bytes _ = ⊥
+-- why its pages give none: the script does not, or this format has no such picture of them
+abbrev pub IsPagesRefusal : Start → Format → List ℕ → CliFault → Type 0
+IsPagesRefusal start format script (Picture fault) = (length script ≤ script_limit) × IsUnshown start format script fault
+IsPagesRefusal start format script fault = IsScriptRefusal script fault
 
--- why a trace text gives none
+-- why a printer's bytes give none
+abbrev pub IsPaperRefusal : Bool → Format → List ℕ → CliFault → Type 0
+IsPaperRefusal lower format bytes TooLarge = raw_limit < length bytes
+IsPaperRefusal lower format bytes (Picture fault) = (length bytes ≤ raw_limit) × IsRawUnshown lower format bytes fault
+IsPaperRefusal lower format bytes NoMemory = Unit {0}
+IsPaperRefusal lower format bytes _ = ⊥
+
+-- why a trace text gives no text
 abbrev pub IsTraceRefusal : List ℕ → CliFault → Type 0
 IsTraceRefusal text (Trace fault) = (length text ≤ trace_limit) × IsBadText text fault
 IsTraceRefusal text (Wave fault) = (length text ≤ trace_limit) × IsFaultyText text fault
@@ -84,7 +93,7 @@ IsTraceRefusal text TooLarge = trace_limit < length text
 IsTraceRefusal text NoMemory = Unit {0}
 IsTraceRefusal text _ = ⊥
 
--- a fault by its number and the line or the index of the edge at which it stands
+-- a fault as its number, and its line or the index of its edge
 abbrev pub script_numbers : ScriptFault → ℕ × ℕ
 script_numbers (script.UnknownWord line) = (1, line)
 script_numbers (script.BadNumber line) = (2, line)
@@ -108,6 +117,11 @@ wave_numbers (wave.Shape at) = (15, at)
 wave_numbers (wave.Truncated at) = (16, at)
 wave_numbers wave.NoMemory = (0, 0)
 
+-- a picture that there is not, by its number, and how many sheets there are or 0
+abbrev pub picture_numbers : PictureFault → ℕ × ℕ
+picture_numbers (picture.NoSuchSheet sheets) = (50, sheets)
+picture_numbers picture.TooLarge = (51, 0)
+
 -- a refusal with its fault's numbers
 abbrev pub refusal : ℕ × ℕ → Answer
 refusal numbers = record { code = 2; fault = numbers.0; place = numbers.1; length = 0 }
@@ -116,11 +130,11 @@ refusal numbers = record { code = 2; fault = numbers.0; place = numbers.1; lengt
 abbrev pub plain : ℕ → ℕ → Answer
 plain code length = record { code = code; fault = 0; place = 0; length = length }
 
--- an answer with the error that stopped a run and its statement
+-- an answer with the error that stopped a run, and its statement
 abbrev pub stopped : ℕ → Stop → ℕ → Answer
 stopped statement stop length = record { code = 1; fault = stop_number stop; place = statement; length = length }
 
--- what is told, as numbers
+-- an outcome as numbers
 abbrev pub answer_of : Told → Answer
 answer_of (Written None n) = plain 0 n
 answer_of (Written (Some (statement, stop)) n) = stopped statement stop n
@@ -130,6 +144,7 @@ answer_of (Refused (Script fault)) = refusal (script_numbers fault)
 answer_of (Refused (Trace fault)) = refusal (trace_numbers fault)
 answer_of (Refused (Wave fault)) = refusal (wave_numbers fault)
 answer_of (Refused (Capture fault)) = refusal (0, 0)
+answer_of (Refused (Picture fault)) = refusal (picture_numbers fault)
 answer_of (Refused TooLarge) = refusal (9, 0)
 answer_of (Refused NoMemory) = plain 3 0
 answer_of (Refused ReadFailed) = plain 3 0

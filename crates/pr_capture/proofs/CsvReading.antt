@@ -6,8 +6,10 @@ use Rattle.std.specs.List.{list_all, prefix_len}
 use Rattle.std.proofs.lemmas.Grind.{common_steps}
 use Rattle.pr_wire.specs.declared.Edge.{Edge}
 use Rattle.pr_base.specs.Lines.{lines_of, onto_first}
-use Rattle.pr_capture.specs.declared.csv.RowPlace.TheVariants.{Names, Rows}
-use Rattle.pr_capture.specs.declared.csv.Columns.{Columns}
+use Rattle.pr_capture.specs.declared.csv.RowPlace.TheVariants.{First, Names, Rows}
+use Rattle.pr_capture.specs.declared.csv.Layout.{Layout}
+use Rattle.pr_capture.specs.declared.csv.Moment.{Moment}
+use Rattle.pr_capture.specs.declared.remarks.Remarks.{Remarks}
 use Rattle.pr_capture.specs.declared.csv.CsvReader.{CsvReader}
 use Rattle.pr_capture.specs.declared.fault.CaptureFault.{CaptureFault}
 use Rattle.pr_capture.specs.declared.fault.CaptureFault.TheVariants.{NoSignal}
@@ -57,7 +59,7 @@ end-refused r (Ok x) f h p = absurd h
 end-refused r (Err x) f h p = rw h p
 
 -- nothing was taken
-pub read-none : (s : Signals) (r : CsvReader) → r.signals ≡ s → r.number ≡ 1 → r.place ≡ Names → r.line.items ≡ [] → HasReadTable s [] [] r
+pub read-none : (s : Signals) (r : CsvReader) → r.signals ≡ s → r.number ≡ 1 → r.place ≡ First → r.line.items ≡ [] → HasReadTable s [] [] r
 unfolding csv_contents
 read-none s r a b c d = record { signals = a; inner = rw d refl; told = λ more. rw (a, b, c, d) refl }
 
@@ -163,15 +165,20 @@ faulty-front old mid block len f e some holds faults = λ s text samples h more.
     ∙ faults s (text ++ front) samples (holds s text samples h) (rest ++ more)
 
 -- the text ends with a whole line
-pub ended-names : (r : CsvReader) → r.line.items ≡ [] → r.place ≡ Names
+pub ended-first : (r : CsvReader) → r.line.items ≡ [] → r.place ≡ First
     → (s : Signals) (text : List ℕ) (samples : List Edge) → HasReadTable s text samples r → csv_contents s text ≡ with_samples samples (refused (NoSignal r.number Atn))
 unfolding lines_of
-ended-names r e p = λ s text samples h. ap (csv_contents s) (sym (append-nil text)) ∙ (h.told [] ∙ rw (e, p) refl)
+ended-first r e p = λ s text samples h. ap (csv_contents s) (sym (append-nil text)) ∙ (h.told [] ∙ rw (e, p) refl)
 
-pub ended-rows : (r : CsvReader) (c : Columns) (before : ℕ) → r.line.items ≡ [] → r.place ≡ Rows c before
+pub ended-names : (r : CsvReader) (m : Remarks) → r.line.items ≡ [] → r.place ≡ Names m
+    → (s : Signals) (text : List ℕ) (samples : List Edge) → HasReadTable s text samples r → csv_contents s text ≡ with_samples samples (refused (NoSignal r.number Atn))
+unfolding lines_of
+ended-names r m e p = λ s text samples h. ap (csv_contents s) (sym (append-nil text)) ∙ (h.told [] ∙ rw (e, p) refl)
+
+pub ended-rows : (r : CsvReader) (y : Layout) (m : Moment) → r.line.items ≡ [] → r.place ≡ Rows y m
     → (s : Signals) (text : List ℕ) (samples : List Edge) → HasReadTable s text samples r → csv_contents s text ≡ with_samples samples ended
 unfolding lines_of
-ended-rows r c before e p = λ s text samples h. ap (csv_contents s) (sym (append-nil text)) ∙ (h.told [] ∙ rw (e, p) refl)
+ended-rows r y m e p = λ s text samples h. ap (csv_contents s) (sym (append-nil text)) ∙ (h.told [] ∙ rw (e, p) refl)
 
 -- an end of the last line tells nothing
 same-end : (s : Signals) (r : CsvReader) (text : List ℕ) (samples : List Edge) → HasReadTable s text samples r → 0 < length r.line.items

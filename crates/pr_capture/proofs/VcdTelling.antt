@@ -54,7 +54,7 @@ letters-end n (b ∷ bs) more h =
 
 -- nothing was taken
 pub read-none : (s : Signals) (r : VcdReader) → r.signals ≡ s → r.number ≡ 1 → r.letters.items ≡ [] → begun_of r.progress ≡ Nothing
-    → place_of r.progress.known ≡ Header None no_codes → HasReadDump s [] [] r
+    → place_of r.progress.known ≡ Header None [] no_codes → HasReadDump s [] [] r
 unfolding vcd_contents
 read-none s r a b c d e = record { signals = a; told = λ more. rw (a, b, c, d, e) refl }
 

@@ -1,6 +1,6 @@
--- Trusted: how a reader of comma separated values goes on. `HasReadTable` holds of a new reader
--- with no text, each call says what it holds of next, and the answers are those of every text and
--- all samples of which it holds.
+-- Trusted: what each call of a reader of comma separated values does. `HasReadTable` holds of a new
+-- reader with no text; each call says for which text and samples it holds next; and the answers are
+-- right for each text and all samples for which it holds.
 use Rattle.std.specs.Prelude.{◌≡◌, ◌⊎◌, ℕ, List, ◌++◌, Option, Result, Ok, Err}
 use Rattle.pr_wire.specs.declared.Edge.{Edge}
 use Rattle.pr_capture.specs.declared.csv.CsvReader.{CsvReader}
@@ -12,20 +12,19 @@ use Rattle.pr_capture.specs.CsvSteps.{HasReadTable}
 use Rattle.pr_capture.specs.Recording.{ended, refused, with_samples}
 use Rattle.pr_capture.specs.Samples.{listed}
 
--- the reader has taken these bytes too, behind whatever it had taken, and has given this sample, if
--- it gives one
+-- the reader has taken these bytes after those before, and has given this sample, if there is one
 abbrev pub ReadsMore : (bytes : List ℕ) → Option Edge → (old new : CsvReader) → Type 0
 ReadsMore bytes sample old new =
     (s : Signals) (text : List ℕ) (samples : List Edge) → HasReadTable s text samples old
     → HasReadTable s (text ++ bytes) (samples ++ listed sample) new
 
--- a fault is that of every text that goes on so
+-- the fault of every text that begins with the bytes taken before and these
 abbrev pub FaultsIn : (bytes : List ℕ) → (old : CsvReader) → CaptureFault → Type 0
 FaultsIn bytes old f =
     (s : Signals) (text : List ℕ) (samples : List Edge) → HasReadTable s text samples old
     → (more : List ℕ) → csv_contents s ((text ++ bytes) ++ more) ≡ with_samples samples (refused f)
 
--- it may also be want of memory
+-- such a fault, or want of memory
 abbrev pub RefusesTable : (bytes : List ℕ) → (old : CsvReader) → CaptureFault → Type 0
 RefusesTable bytes old f = (f ≡ NoMemory) ⊎ FaultsIn bytes old f
 

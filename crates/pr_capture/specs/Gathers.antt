@@ -1,12 +1,12 @@
--- Trusted: how an edge detector goes on. `HasGathered` holds of a new detector with no sample, each
--- call says what it holds of next, and at the end the edges are those of all samples of which it
--- holds.
+-- Trusted: what each call of an edge detector does. `HasGathered` holds of a new detector with no
+-- sample; each call says for which samples it holds next; and at the end the edges are those of all
+-- samples for which it holds.
 use Rattle.std.specs.Prelude.{ℕ, List, ◌++◌}
 use Rattle.pr_wire.specs.declared.Edge.{Edge}
 use Rattle.pr_capture.specs.declared.edge_detector.EdgeDetector.{EdgeDetector}
 use Rattle.pr_capture.specs.Gathering.{HasGathered}
 
--- the gatherer has taken these samples too, behind whatever it had taken, and has given these edges
+-- the detector has taken these samples after those before, and has given these edges
 abbrev pub GathersMore : (samples edges : List Edge) (old new : EdgeDetector) → Type 0
 GathersMore samples edges old new =
     (start : ℕ) (before given : List Edge) → HasGathered start before given old

@@ -7,62 +7,72 @@ use Rattle.pr_capture.specs.declared.fault.CaptureFault.{CaptureFault}
 use Rattle.pr_capture.specs.declared.fault.CaptureFault.TheVariants.{BadLevel, Floating, Unknown}
 use Rattle.pr_capture.specs.declared.signals.Signals.{Signals}
 
--- what a recording says: its samples, and why it says no more, if it has a fault
+-- what a recording says: its samples up to its fault, if it has one, so that clauses also say what comes before a fault
 pub record CaptureContents : Type 0 where
   pub samples : List Edge
   pub fault : Option CaptureFault
 
--- it ends
+-- it ends here
 abbrev pub ended : CaptureContents
 ended = record { samples = []; fault = None }
 
--- it has a fault
+-- it has a fault here
 abbrev pub refused : CaptureFault → CaptureContents
 refused f = record { samples = []; fault = Some f }
 
--- samples, and what is told behind them
+-- samples, and what comes after them
 abbrev pub with_samples : List Edge → CaptureContents → CaptureContents
 with_samples ss t = record { samples = ss ++ t.samples; fault = t.fault }
 
--- what follows where there is no fault
+-- the next step where there is no fault; else the fault
 infixl 10 ◌>>=◌
 abbrev pub ◌>>=◌ : {A B : Type 0} → Result A CaptureFault → (A → Result B CaptureFault) → Result B CaptureFault
 (Ok x) >>= f = f x
 (Err e) >>= f = Err e
 
--- white space (a space, and the bytes from tab to carriage return) and quotation marks, which say nothing around a field
+-- white space (a space, and the bytes from tab to carriage return) and quotation marks, which mean
+-- nothing around a field
 abbrev pub is_framing : ℕ → Bool
 is_framing b = b == 32 || b == 34 || (nat_le 9 b && nat_le b 13)
 
--- without them in front
+-- a field without these bytes in front
 abbrev pub without_front : List ℕ → List ℕ
 without_front [] = []
 without_front (b ∷ bs) = if is_framing b then without_front bs else b ∷ bs
 
--- a name's letters, whichever of them are capitals, and nothing behind them
-abbrev pub has_name : (name letters : List ℕ) → Bool
-has_name [] ls = list_all is_framing ls
-has_name (n ∷ ns) [] = false
-has_name (n ∷ ns) (l ∷ ls) = eq_ignore_ascii_case n l && has_name ns ls
+-- what stands behind a letter, if that stands here, a capital or not
+abbrev pub behind_letter : ℕ → List ℕ → Option (List ℕ)
+behind_letter n [] = None
+behind_letter n (l ∷ ls) = if eq_ignore_ascii_case n l then Some ls else None
 
--- a field is a signal's name
+-- the same of a letter of a name, in which white space and quotation marks do not count
+abbrev pub behind_sign : ℕ → List ℕ → Option (List ℕ)
+behind_sign n ls = if is_framing n then Some ls else behind_letter n (without_front ls)
+
+-- what stands behind a sign is a name, or nothing stands there
+abbrev pub name_behind : Option (List ℕ) → (List ℕ → Bool) → Bool
+name_behind None rest = false
+name_behind (Some ls) rest = rest ls
+
+-- a field is a signal's name: its letters, whichever of them are capitals. White space and quotation marks do not count
 abbrev pub is_named : (name field : List ℕ) → Bool
-is_named name field = has_name name (without_front field)
+is_named [] ls = list_all is_framing ls
+is_named (n ∷ ns) ls = name_behind (behind_sign n ls) (λ rest. is_named ns rest)
 
--- the name that counts for CLOCK where no signal has the first: CLK, if that is CLOCK
+-- CLOCK's other name, for a recording without its first: CLK, if the first is CLOCK
 abbrev pub second_name : Signals → List ℕ
-second_name s = if has_name (codes "clock") s.clock.now then codes "clk" else s.clock.now
+second_name s = if is_named (codes "clock") s.clock.now then codes "clk" else s.clock.now
 
--- the first of two that there is
+-- the first of two, if there is one, or else the second
 abbrev pub first_some : {A : Type 0} → (first second : Option A) → Option A
 first_some None second = second
 first_some (Some x) second = Some x
 
--- a level, on a line: 1 is released, unless the probes stand behind inverters
+-- a level, on a line: 1 and H are released, 0 and L pulled, unless the probes stand behind inverters
 abbrev pub level_in : (number : ℕ) → (inverted : Bool) → ℕ → Result Bool CaptureFault
 level_in number inverted b =
-    if b == 48 then Ok inverted
-    else (if b == 49 then Ok (not inverted)
+    if b == 48 || b == 76 || b == 108 then Ok inverted
+    else (if b == 49 || b == 72 || b == 104 then Ok (not inverted)
     else (if b == 120 || b == 88 then Err (Unknown number)
     else (if b == 122 || b == 90 then Err (Floating number)
     else Err (BadLevel number))))

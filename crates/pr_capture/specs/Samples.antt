@@ -1,30 +1,30 @@
--- Trusted: the edges that samples make. A sample says the levels from a moment on, as an edge does; but several may stand at
--- one moment, and one may say what was said before.
+-- Trusted: the edges that samples make. A sample says the levels from a moment on, as an edge does;
+-- but several samples may have one moment, and a sample may repeat the levels before it.
 use Rattle.std.specs.Prelude.{ℕ, ◌-◌, ◌==◌, Bool, true, false, List, [], ◌∷◌, map, Option, Some, None, if◌then◌else◌}
 use Rattle.pr_wire.specs.declared.Levels.{Levels}
 use Rattle.pr_wire.specs.declared.Edge.{Edge}
 use Rattle.pr_wire.specs.Table.{differ}
 
--- a sample, its moment counted from a start; what stands before the start counts as standing there
+-- a sample, with its moment counted from a start; what is earlier than the start counts as at the start
 abbrev pub counted_from : (start : ℕ) → Edge → Edge
 counted_from start s = record { time = s.time - start; levels = s.levels }
 
--- the first of samples stands at this moment
+-- the first of some samples has this moment
 abbrev pub begin_at : ℕ → List Edge → Bool
 begin_at time [] = false
 begin_at time (s ∷ ss) = time == s.time
 
--- of each succession of samples at one moment the last
+-- the last sample of each moment
 abbrev pub last_at_each : List Edge → List Edge
 last_at_each [] = []
 last_at_each (s ∷ ss) = if begin_at s.time ss then last_at_each ss else s ∷ last_at_each ss
 
--- levels differ from those told last, if any were
+-- levels that differ from the last ones, or there are no last ones
 abbrev pub is_new : (told : Option Levels) → Levels → Bool
 is_new None l = true
 is_new (Some b) l = differ b l
 
--- of samples those whose levels are others than those before, if any
+-- the samples with other levels than the sample before
 abbrev pub changes_after : (told : Option Levels) → List Edge → List Edge
 changes_after told [] = []
 changes_after told (s ∷ ss) =
@@ -34,7 +34,7 @@ changes_after told (s ∷ ss) =
 unfoldable pub edges_of : (start : ℕ) → (samples : List Edge) → List Edge
 edges_of start samples = changes_after None (last_at_each (map (counted_from start) samples))
 
--- a list of the edge that there is, if any
+-- an edge as a list of one, or no edge as the empty list
 abbrev pub listed : Option Edge → List Edge
 listed None = []
 listed (Some e) = e ∷ []

@@ -4,7 +4,8 @@ use Rattle.pr_wire.specs.declared.Levels.{Levels}
 use Rattle.pr_wire.specs.declared.Edge.{Edge}
 use Rattle.pr_wire.specs.TraceText.{level_digit}
 
--- what stands before the changes: times in microseconds, and the three wires of the bus, which the changes call A, C and D
+-- what comes before the changes: the unit of time, microseconds, and the three wires of the bus,
+-- which the changes call A, C and D
 unfoldable pub head : List ℕ
 head =
     codes "$timescale 1 us $end\n$scope module bus $end\n$var wire 1 A ATN $end\n$var wire 1 C CLOCK $end\n$var wire 1 D DATA $end\n$upscope $end\n$enddefinitions $end\n"
@@ -13,11 +14,11 @@ head =
 unfoldable pub stamp : ℕ → List ℕ
 stamp time = codes "#" ++ decimal time ++ codes "\n"
 
--- a wire has a level from here on: 1 is released
+-- the line that gives a wire a level: 1 is released
 unfoldable pub change : ℕ → Bool → List ℕ
 change wire level = level_digit level ∷ wire ∷ 10 ∷ []
 
--- the same, where the level was another before
+-- the same line, only where the level was another before
 abbrev pub change_if : ℕ → (before level : Bool) → List ℕ
 change_if wire true true = []
 change_if wire false false = []
@@ -30,11 +31,11 @@ levels_changes None l = change 65 l.atn ++ change 67 l.clock ++ change 68 l.line
 levels_changes (Some b) l =
     change_if 65 b.levels.atn l.atn ++ change_if 67 b.levels.clock l.clock ++ change_if 68 b.levels.line l.line
 
--- an edge behind the edge before, if any
+-- an edge, with the edge before it if there is one
 unfoldable pub edge_changes : (before : Option Edge) → Edge → List ℕ
 edge_changes before e = stamp e.time ++ levels_changes before e.levels
 
--- edges behind the edge before, if any
+-- edges, with the edge before them if there is one
 abbrev pub vcd_changes : (before : Option Edge) → List Edge → List ℕ
 vcd_changes before [] = []
 vcd_changes before (e ∷ es) = edge_changes before e ++ vcd_changes (Some e) es
@@ -44,7 +45,7 @@ abbrev pub last_edge : (before : Option Edge) → List Edge → Option Edge
 last_edge before [] = before
 last_edge before (e ∷ es) = last_edge (Some e) es
 
--- a time stamp a millisecond behind the last edge, so that viewers show the last levels
+-- a time stamp a millisecond after the last edge, so that viewers show the last levels
 abbrev pub vcd_end : (last : Option Edge) → List ℕ
 vcd_end None = []
 vcd_end (Some e) = stamp (e.time + 1000)

@@ -1,6 +1,6 @@
--- Trusted: how a reader of Value Change Dumps goes on. `HasReadDump` holds of a new reader with no
--- text, each call says what it holds of next, and the answers are those of every text and all
--- samples of which it holds.
+-- Trusted: what each call of a reader of Value Change Dumps does. `HasReadDump` holds of a new
+-- reader with no text; each call says for which text and samples it holds next; and the answers are
+-- right for each text and all samples for which it holds.
 use Rattle.std.specs.Prelude.{◌≡◌, ◌⊎◌, ℕ, List, ◌++◌, Option, Result, Ok, Err}
 use Rattle.pr_wire.specs.declared.Edge.{Edge}
 use Rattle.pr_capture.specs.declared.vcd_reader.VcdReader.{VcdReader}
@@ -12,14 +12,13 @@ use Rattle.pr_capture.specs.Samples.{listed}
 use Rattle.pr_capture.specs.VcdReading.{vcd_contents}
 use Rattle.pr_capture.specs.VcdSteps.{HasReadDump}
 
--- the reader has taken these bytes too, behind whatever it had taken, and has given this sample, if
--- it gives one
+-- the reader has taken these bytes after those before, and has given this sample, if there is one
 abbrev pub ReadsMore : (bytes : List ℕ) → Option Edge → (old new : VcdReader) → Type 0
 ReadsMore bytes sample old new =
     (s : Signals) (text : List ℕ) (samples : List Edge) → HasReadDump s text samples old
     → HasReadDump s (text ++ bytes) (samples ++ listed sample) new
 
--- a fault is that of every text that goes on so, or want of memory
+-- the fault of every text that begins with the bytes taken before and these, or want of memory
 abbrev pub RefusesDump : (bytes : List ℕ) → (old : VcdReader) → CaptureFault → Type 0
 RefusesDump bytes old f =
     (f ≡ NoMemory)

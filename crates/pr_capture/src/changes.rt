@@ -3,10 +3,10 @@
 ghost use Rattle.std.specs.Prelude.{◌≡◌, if◌then◌else◌, None};
 ghost use Rattle.std.specs.List.{list_all};
 ghost use Rattle.pr_base.specs.Digits.{is_digit};
-ghost use Rattle.pr_capture.specs.VcdReading.{all_known, is_blank, is_number, level_behind, level_if, sample_in, time_at, whole_micros, without_level};
+ghost use Rattle.pr_capture.specs.VcdReading.{all_known, is_blank, is_number, level_behind, sample_in, time_at, whole_micros, without_level};
 
-use crate::csv::number_from;
 use crate::fault::{CaptureFault, Wire};
+use crate::numbers::number_from;
 use crate::signals::level_in;
 use pr_base::is_digit;
 use pr_wire::{Edge, Levels};
@@ -75,13 +75,6 @@ pub fn level_behind(
     }
     let level = level_in(line, is_inverted, level)?;
     Ok(Some(level))
-}
-
-/// What is known of a wire's level behind a change.
-pub fn level_if(changes: bool, level: Option<bool>, before: Option<bool>) -> Option<bool>
-    ensures { result ≡ level_if changes level before }
-{
-    if changes { level } else { before }
 }
 
 impl Seen {

@@ -1,4 +1,4 @@
--- Trusted: what is put on the bus for a file.
+-- Trusted: the commands on the bus for a file.
 use Rattle.std.specs.Prelude.{ℕ, ◌+◌, Option, Some, None, is_some, List, [], ◌∷◌, if◌then◌else◌}
 use Rattle.pr_base.specs.Bytes as command
 use Rattle.pr_serial.specs.Elements.{Element, Attention}
@@ -18,7 +18,7 @@ listen_to file =
 abbrev pub unlisten : Element
 unlisten = Attention command.unlisten None
 
--- what CLOSE sends for a file: its device is told, if the file has a secondary address
+-- what CLOSE sends for a file: where the file has a secondary address, LISTEN and CLOSE for its device, then UNLISTEN
 abbrev pub closing : Option File → List Element
 closing None = []
 closing (Some file) =

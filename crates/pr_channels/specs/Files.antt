@@ -1,4 +1,4 @@
--- Trusted: the open files, and what stands against opening one.
+-- Trusted: the open files, and which stop refuses an OPEN.
 use Rattle.std.specs.Prelude.{ℕ, not, ◌==◌, Option, Some, None, List, length, if◌then◌else◌, find, filter, is_some}
 use Rattle.pr_channels.specs.declared.file.File.{File}
 use Rattle.pr_channels.specs.declared.faults.Stop.{Stop}
@@ -16,7 +16,7 @@ file_at files number = find (λ file. file.number == number) files
 abbrev pub without_file : ℕ → Files → Files
 without_file number files = filter (λ file. not (file.number == number)) files
 
--- what stands against opening a file: its number is 0, else it is open, else ten are open
+-- the stop of an OPEN, if any: the file's number is 0, or else the file is open, or else ten files are open
 abbrev pub open_stop : Files → ℕ → Option Stop
 open_stop files number =
     if number == 0 then Some NotInputFile

@@ -29,8 +29,10 @@ const SCREEN: u8 = 3;
 /// name `IsInStep` of `specs/Seen.antt`.
 ///
 /// A call that reaches the bus asks for room for 3 items: that `items()` of the bus and 3 are at
-/// most 2^32. Once the bus has refused a call for want of memory, each later call that reaches it
-/// answers [`NoMemory`], and nothing else is said of the state.
+/// most 2^32. These are `chkout` of an open file, `chrout` and `clrchn` to a device of the bus, and
+/// `close_file` of a file with a secondary address. Once the bus has refused a call for want of
+/// memory, each later call that reaches it answers [`NoMemory`], and nothing else is said of the
+/// state.
 #[derive(Drop)]
 pub struct Channels<S: Serial> {
     sender: Sender<S>,
@@ -112,7 +114,7 @@ impl<S: Serial> Channels<S> {
     /// # Errors
     ///
     /// - [`Stop::FileNotOpen`] exactly where the file is not open: nothing is sent and nothing
-    ///   changed.
+    ///   changed. The bus is not reached, so this comes also after it has failed.
     /// - [`Stop::DeviceNotPresent`] exactly where the status is 128 after the LISTEN, also if it
     ///   was before: the output device is as before (profile).
     /// - [`Fault::NoMemory`] where the bus refused, in this call or an earlier one; it has then
@@ -154,8 +156,8 @@ impl<S: Serial> Channels<S> {
     /// # Errors
     ///
     /// [`NoMemory`]: on the screen where the growth of its list was refused, which changes nothing;
-    /// for a serial device where the bus refused, in this call or an earlier one, and it has then
-    /// failed for good.
+    /// for a serial device where the bus refused, in this call or an earlier one: it has then
+    /// failed for good, so that no byte is held back that cannot go out.
     pub fn chrout(&mut self, byte: u8) -> Result<(), NoMemory>
         // the caller's part
         requires room { 3 < self.old.output → length self.old.sent + 3 ≤ 2 ^ 32 }

@@ -15,7 +15,8 @@ const FILES: usize = 10;
 
 /// A finite map from file numbers to a device and an optional secondary address, with at most ten
 /// keys. Contracts see it as the list of its files in the order of opening, with each number once.
-/// It never takes memory.
+/// It never takes memory: its ten places are in the value, and an unused place holds the default
+/// `File`, which no call shows.
 #[derive(Drop)]
 pub struct FileTable {
     files: ArrayVec<File, FILES>,

@@ -2,12 +2,12 @@
 use Rattle.std.specs.Prelude.{ℕ, Bool, true, false, List, ◌++◌, codes, decimal, flat_map}
 use Rattle.pr_wire.specs.declared.Frame.{Frame}
 
--- what a frame is: a command, or a data byte
+-- a frame's kind: a command, or a data byte
 abbrev pub kind_word : Bool → List ℕ
 kind_word true = codes "command "
 kind_word false = codes "data "
 
--- the end of a frame's line, which tells end-or-identify
+-- the end of a frame's line, with `eoi` for end-or-identify
 abbrev pub line_end : Bool → List ℕ
 line_end true = codes " eoi\n"
 line_end false = codes "\n"

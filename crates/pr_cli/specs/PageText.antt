@@ -1,4 +1,5 @@
--- Trusted: the page text of an outcome: a line for each printer, row and mark, then the statuses, the screen's bytes and the stop.
+-- Trusted: the page text of an outcome: a line for each printer, row and mark, then the statuses,
+-- the screen's bytes and the stop.
 use Rattle.std.specs.Prelude.{ℕ, Bool, List, [], ◌∷◌, ◌++◌, codes, decimal, flat_map, if◌then◌else◌, Option, Some, None}
 use Rattle.pr_page.specs.declared.paper.Placed.{Placed}
 use Rattle.pr_page.specs.declared.paper.Row.{Row}
@@ -9,11 +10,11 @@ use Rattle.pr_channels.specs.Stops.{stop_number}
 use Rattle.pr_channels.specs.declared.faults.Stop.{Stop}
 use Rattle.pr_system.specs.declared.outcome.Outcome.{Outcome}
 
--- a word where it holds
+-- a word, only where a condition holds
 abbrev pub word_if : Bool → List ℕ → List ℕ
 word_if holds word = if holds then word else []
 
--- the words on a mark, after its dot column
+-- the words of a mark, after its dot column
 abbrev pub mark_words : Mark → List ℕ
 mark_words (Cell code lower reverse wide) =
     codes " cell " ++ decimal code ++ word_if lower (codes " lower") ++ word_if reverse (codes " reverse")
@@ -33,7 +34,7 @@ unfoldable pub held_text : List Placed → List ℕ
 held_text [] = []
 held_text (m ∷ ms) = codes "held\n" ++ flat_map mark_text (m ∷ ms)
 
--- a printer's part
+-- the lines of a printer
 unfoldable pub paper_text : ℕ → Paper → List ℕ
 paper_text device p = codes "printer " ++ decimal device ++ codes "\n" ++ flat_map row_text p.rows ++ held_text p.held
 
@@ -46,7 +47,7 @@ unfoldable pub stop_text : Option (ℕ × Stop) → List ℕ
 stop_text None = []
 stop_text (Some stop) = codes "stop " ++ decimal (stop_number stop.1) ++ codes " at " ++ decimal stop.0 ++ codes "\n"
 
--- what stands behind the printers
+-- the lines after the printers
 unfoldable pub end_text : List ℕ → List ℕ → Option (ℕ × Stop) → List ℕ
 end_text statuses screen stop =
     numbers_text (codes "status") statuses ++ numbers_text (codes "screen") screen ++ stop_text stop

@@ -9,7 +9,7 @@ use Rattle.pr_page.specs.declared.paper.Paper.{Paper}
 use Rattle.pr_page.specs.declared.state.PrinterState.{PrinterState}
 use Rattle.pr_cli.specs.Raw.{raw_inputs}
 use Rattle.pr_cli.specs.declared.fault.CliFault.{CliFault}
-use Rattle.pr_cli.specs.declared.fault.CliFault.TheVariants.{Script, Trace, Wave, Capture, TooLarge, NoMemory, ReadFailed, WriteFailed}
+use Rattle.pr_cli.specs.declared.fault.CliFault.TheVariants.{Script, Trace, Wave, Capture, Picture, TooLarge, NoMemory, ReadFailed, WriteFailed}
 
 -- the page of at most so many bytes, or why there is none
 abbrev pub GivesPaper : ℕ → Bool → Result Paper CliFault → List ℕ → Type 0
@@ -22,6 +22,7 @@ GivesPaper limit lower (Err (Script fault)) bytes = ⊥
 GivesPaper limit lower (Err (Trace fault)) bytes = ⊥
 GivesPaper limit lower (Err (Wave fault)) bytes = ⊥
 GivesPaper limit lower (Err (Capture fault)) bytes = ⊥
+GivesPaper limit lower (Err (Picture fault)) bytes = ⊥
 
 -- with the paper its end was read
 abbrev pub HasReadAll : Option (List ℕ) → Result Paper CliFault → Type 0

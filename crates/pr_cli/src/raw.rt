@@ -88,7 +88,8 @@ fn outcome_with(alloc: Global, paper: Paper) -> Outcome
 }
 
 /// Reads at most `limit` bytes to their end, block by block, and gives the paper on which they are
-/// printed after the selection.
+/// printed after the selection. It is public with the limit as an argument, since no test can try
+/// the program's own limit.
 ///
 /// # Errors
 ///

@@ -3,8 +3,8 @@
 ghost use Rattle.std.specs.Prelude.{◌≡◌, ◌+◌, ◌^◌, ◌<◌, ◌≤◌, ◌↔◌, length, false, true, None, Some, IfErr, IfOk, IfSome, IsErrOf, OnErr, OnOk};
 ghost use Rattle.pr_report.specs.declared.report.Report.{Report};
 ghost use Rattle.pr_cli.specs.Check.{trace_limit};
-ghost use Rattle.pr_cli.specs.Report.{AnswersReport, IsReportFault, ReadsAll, WritesNoReport};
-ghost use Rattle.pr_cli.specs.Inputs.{IsNoReading, edges_read, lines_ahead};
+ghost use Rattle.pr_cli.specs.Report.{AnswersReport, IsReportFault, ReadsAll, WritesNoReport, IsNoReading};
+ghost use Rattle.pr_cli.specs.Inputs.{edges_read, lines_ahead};
 ghost use Rattle.pr_cli.specs.Reported.{EndsReported, GivesReport, HasReadAll, IsRefused, WritesText, edges_taken};
 ghost use Rattle.pr_input.specs.Watched.{has_failed, is_flushed, wrapped};
 
@@ -97,8 +97,10 @@ fn write_report<W: Write>(output: &mut Watched<W>, text: ReportText) -> Result<(
     }
 }
 
-/// Reads an input of at most `limit` bytes to its end or to its fault, block by block, and makes the
-/// report on it.
+/// Reads an input of at most `limit` bytes to its end or to its fault, block by block, and makes
+/// the report on it. Of a recording with a fault the samples before it make edges too, the last
+/// included. It is public with the limit as an argument, since no test can try the program's own
+/// limit.
 ///
 /// # Errors
 ///

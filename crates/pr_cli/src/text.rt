@@ -2,6 +2,9 @@
 //!
 //! A text that stands in one piece has to be moved, or to have room for twice its bytes, as it
 //! grows. A block stays where it is, and takes the place of what was let go before.
+//!
+//! Only the page text, the default and the longest, is made in blocks; lines and picture are one
+//! piece.
 
 ghost use Rattle.std.specs.Prelude.{◌≡◌, ◌≤◌, ◌++◌, ◌↔◌, [], decimal, false, length, take, true, IfOk, IsErr, OnErr, OnOk};
 ghost use Rattle.std.specs.Io.KnownBytes.{Appends};

@@ -1,6 +1,9 @@
--- Trusted: what counts of the stretches of a recording. Of each: when it begins, and whether ATN's pull begins it; where CLOCK is
--- released also DATA's level then (a bit), and when an edge first came too late for a bit. Besides, of each that is not among the bits
--- of a byte: the opening that it is, with the acknowledgement behind eight bits. DATA counts nowhere else.
+-- Trusted: what counts of the stretches of a recording. For each stretch: when it begins, and
+-- whether a pull of ATN begins it; where CLOCK is released also DATA's level then (a bit), and the
+-- first edge that was too late for a bit. For each stretch outside the bits of a byte also its
+-- opening, if it is one, with the acknowledgement after eight bits. DATA counts nowhere else. (This
+-- is a little more than readings need: the stretch after eight bits where a byte has fewer, and
+-- DATA's level and the first late edge where CLOCK is released for no bit.)
 use Rattle.std.specs.Prelude.{ℕ, zero, suc, Bool, List, [], ◌∷◌, Option, Some, None, if◌then◌else◌}
 use Rattle.pr_decode.specs.declared.reading.Opening.{Opening}
 use Rattle.pr_decode.specs.declared.reading.Reading.{Reading}
@@ -25,23 +28,23 @@ outline s = record {
       then Some (record { level = s.first.levels.line; late = first_late s.first.time s.rest }) else None;
 }
 
--- the acknowledgement in the stretch behind so many
+-- the acknowledgement in the stretch after n others
 abbrev pub acknowledged_behind : ℕ → List ClockPhase → Option ℕ
 acknowledged_behind n [] = None
 acknowledged_behind zero (s ∷ ss) = acknowledgement (turns_of s)
 acknowledged_behind (suc n) (s ∷ ss) = acknowledged_behind n ss
 
--- an opening with the acknowledgement behind eight bits, each of two stretches
+-- an opening, with the acknowledgement after eight bits, each of two stretches
 abbrev pub with_acknowledgement : Option Opening → List ClockPhase → Option (Opening × Option ℕ)
 with_acknowledgement None ss = None
 with_acknowledgement (Some o) ss = Some (o, acknowledged_behind 16 ss)
 
--- how many stretches are bits of what begins
+-- the number of stretches that are bits of a reading
 abbrev pub taken_by : Option (Reading × ℕ) → ℕ
 taken_by None = 0
 taken_by (Some r) = r.1
 
--- the openings among stretches, behind so many that belong to a byte
+-- the openings among stretches, after those that belong to a byte
 abbrev pub openings : (taken : ℕ) → List ClockPhase → List (Option (Opening × Option ℕ))
 openings n [] = []
 openings (suc n) (s ∷ ss) = openings n ss

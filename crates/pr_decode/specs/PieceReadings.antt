@@ -9,7 +9,7 @@ use Rattle.pr_decode.specs.declared.reading.Reading.{Reading}
 use Rattle.pr_decode.specs.declared.reading.Reading.TheVariants as read
 use Rattle.pr_decode.specs.Readings.{halves}
 
--- how long CLOCK is pulled in each bit, from its first pull on, and released
+-- for how long CLOCK is pulled in each bit, from its first pull on, and for how long it is released
 abbrev pub low_times : (pull : ℕ) → List BitTimes → List ℕ
 low_times c [] = []
 low_times c (b ∷ bs) = (b.up - c) ∷ low_times b.down bs
@@ -22,7 +22,7 @@ abbrev pub pulse_read : Option EoiAnswer → Option Pulse
 pulse_read None = None
 pulse_read (Some p) = Some (record { pulled = p.pulled; released = p.released })
 
--- a frame of a piece, by ATN's level and the release of CLOCK before it
+-- a frame of a piece, with ATN's level and the release of CLOCK before it
 abbrev pub frame_read : (atn : Bool) → (look : ℕ) → FrameTimes → Reading
 frame_read atn look f = read.Frame (record {
   opening = record { command = not atn; ready_to_send = look; ready_for_data = f.free; pulse = pulse_read f.pulse };
@@ -49,12 +49,12 @@ abbrev pub pieces_read : List Piece → List Reading
 pieces_read [] = []
 pieces_read (p ∷ ps) = piece_read p ++ pieces_read ps
 
--- end-or-identify, by a pulse
+-- end-or-identify was answered by a pulse
 abbrev pub is_answered : Option Pulse → Bool
 is_answered None = false
 is_answered (Some p) = true
 
--- the frames that readings tell, without their moments
+-- the frames of readings, without their moments
 abbrev pub frames_in : List Reading → List Frame
 frames_in [] = []
 frames_in (read.Frame t end ∷ rs) =

@@ -172,7 +172,8 @@ impl Decoder {
 
     /// Takes the next edge of a recording, and gives the reading that it settles, if it settles
     /// one: a frame with its acknowledgement, or with what ends the waiting for it; a glitch with
-    /// what ends it. It takes no memory.
+    /// what ends it. What waits for its end is given by [`Decoder::finish`], so that no reading
+    /// that was given ever changes. It takes no memory.
     ///
     /// # Errors
     ///

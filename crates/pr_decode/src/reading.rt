@@ -28,7 +28,8 @@ pub struct Opening {
     pub pulse: Option<Pulse>,
 }
 
-/// The shortest and the longest of the same halves of a byte's bits. Both are 0 where it has no bit.
+/// The shortest and the longest of the same halves of a byte's bits, which are what a profile
+/// bounds. Both are 0 where it has no bit.
 #[derive(Clone, Copy, Debug, PartialEq, Eq)]
 pub struct Halves {
     pub shortest: u64,
@@ -41,7 +42,8 @@ pub struct Transfer {
     pub opening: Opening,
     /// CLOCK's first pull: the bits begin.
     pub pull: u64,
-    /// How many bits came whole, at most eight.
+    /// How many bits came whole, at most eight. A bit that CLOCK was released for and that did not
+    /// end is not counted.
     pub bits: u8,
     /// The number of these bits, the lowest first.
     pub byte: u8,

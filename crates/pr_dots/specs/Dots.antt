@@ -13,7 +13,7 @@ pub record Dot : Type 0 where
   pub x : ℕ
   pub y : ℕ
 
--- a column of a character in its cell: inverted if the cell is reversed, and twice if it is wide
+-- what a column of a character prints in its cell: inverted if the cell is reversed, and twice if it is wide
 abbrev pub printed_columns : (reverse wide : Bool) → ℕ → List ℕ
 printed_columns reverse wide column =
     replicate (if wide then 2 else 1) (if reverse then 127 - column else column)
@@ -23,7 +23,7 @@ abbrev pub columns_of : Mark → List ℕ
 columns_of (Cell code lower reverse wide) = flat_map (printed_columns reverse wide) (shape lower code)
 columns_of (Dots value) = value ∷ []
 
--- the dot of a column's bit, if it has one: the column is at x, its top at y, and bit b is 2b lower
+-- the dot of bit b of a column, if the bit is 1: the column is at x, its top at y, and the dot is 2b below the top
 abbrev pub bit_dots : (x y value b : ℕ) → List Dot
 bit_dots x y value b = if value / 2 ^ b % 2 == 1 then record { x = x; y = y + 2 * b } ∷ [] else []
 
@@ -40,7 +40,7 @@ columns_dots x y (value ∷ values) = column_dots x y value ++ columns_dots (x +
 abbrev pub row_dots : Row → List Dot
 row_dots r = flat_map (λ p. columns_dots p.x r.y (columns_of p.mark)) r.marks
 
--- the dots of a paper, row by row and mark by mark; marks that are held have no place yet
+-- the dots of a paper, row by row and mark by mark; held marks have no place yet
 unfoldable pub dots_of : Paper → List Dot
 dots_of paper = flat_map row_dots paper.rows
 

@@ -1,6 +1,6 @@
--- Trusted: how a decoder goes on. `HasDecoded` holds of a decoder that was begun with no edge, each
--- edge says what it holds of next, and the answers are those of all edges and readings of which it
--- holds.
+-- Trusted: what each call of a decoder does. `HasDecoded` holds of a decoder that was begun, with
+-- no edge; each call says for which edges and readings it holds next; and the answers are right for
+-- all edges and readings for which it holds.
 use Rattle.std.specs.Prelude.{◌≡◌, List, [], ◌∷◌, ◌++◌}
 use Rattle.std.specs.Option.{option_to_list}
 use Rattle.pr_decode.specs.declared.reading.Reading.{Reading}
@@ -10,7 +10,7 @@ use Rattle.pr_ear.specs.declared.decoding.DecoderTold.{DecoderTold}
 use Rattle.pr_ear.specs.declared.decoding.DecoderTold.TheVariants.{Done, GoesBack, NoDecoder}
 use Rattle.pr_ear.specs.DecoderTaken.{HasDecoded}
 
--- what an edge leaves: it was taken, or the decoder is as it was
+-- after an edge: it was taken, or the decoder is as it was
 abbrev pub LeavesOf :
     List WireEdge → (given : List Reading) → WireEdge → DecoderTold → (old new : WireDecoder)
     → Type 0

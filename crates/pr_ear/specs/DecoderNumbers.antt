@@ -1,7 +1,8 @@
--- Trusted: which numbers are those of a decoder, what a decoder keeps of the edges that it has taken: of the stretch that is not ended yet
--- (edges over which CLOCK stays as it is) the first edge, the last, and those at which DATA has turned, four at most; and the byte that has
--- begun, as far as it came. (That edges leave such numbers is proved. Not every such numbers have edges that leave them: moments and ATN's
--- levels that no edges have together are not told from others.)
+-- Trusted: which numbers are those of a decoder. A decoder keeps of the edges that it has taken: of
+-- the stretch that has not ended (edges over which CLOCK keeps its level) the first edge, the last,
+-- and at most four at which DATA has turned; and the byte that has begun, as far as it came. (It is
+-- proved that edges leave such numbers. Some such numbers come from no edges: they have moments and
+-- levels of ATN that no edges have together.)
 use Rattle.std.specs.Prelude.{◌≡◌, ℕ, ◌<◌, ◌≤◌, ◌^◌, Bool, not}
 use Rattle.pr_ear.specs.declared.WireEdge.{WireEdge}
 use Rattle.pr_ear.specs.declared.decoder_numbers.WireByte.{WireByte}
@@ -9,7 +10,7 @@ use Rattle.pr_ear.specs.declared.decoder_numbers.WireDecoder.{WireDecoder}
 use Rattle.pr_ear.specs.Decoding.{no_byte}
 use Rattle.pr_ear.specs.Hearing.{is_released}
 
--- the numbers of no edge, and of one
+-- the numbers of no edge, and those of an edge
 abbrev pub no_edge : WireEdge
 no_edge = record { time = 0; atn = 0; clock = 0; «data» = 0 }
 
@@ -18,12 +19,14 @@ pub record IsEdge (e : WireEdge) : Type 0 where
   pub clock : e.clock ≤ 1
   pub line : e.data ≤ 1
 
--- of so many edges at which DATA has turned this is the one of this number, where DATA turned to this level; there is none behind them
+-- the edge of this number among the edges at which DATA has turned; DATA turned to this level
+-- there; beyond their count there is no edge
 pub record IsTurn (turns number : ℕ) (level : Bool) (e : WireEdge) : Type 0 where
   pub kept : number ≤ turns → IsEdge e × (is_released e.data ≡ level)
   pub none : turns < number → e ≡ no_edge
 
--- DATA turns to CLOCK's other level first, and then to and fro; at the first edge of the stretch already, if it stands so there
+-- DATA turns first to the level that CLOCK does not have, and then to and fro; the first edge of
+-- the stretch counts as a turn if DATA has that level there
 pub record HasTurns (w : WireDecoder) : Type 0 where
   pub few : w.turns ≤ 4
   pub turn1 : IsTurn w.turns 1 (not (is_released w.first.clock)) w.turn1
@@ -43,8 +46,8 @@ pub record IsByte (b : WireByte) : Type 0 where
   pub high : b.shortest_high ≤ b.longest_high
   pub none : b.bits ≡ 0 → (b.longest_low ≡ 0) × (b.longest_high ≡ 0) × (b.last_pull ≡ b.pull)
 
--- the byte goes on in the stretch: where CLOCK is pulled its pull was the last one; where the byte is whole CLOCK is pulled, and DATA has
--- not been pulled again for an acknowledgement
+-- the byte goes on in the stretch: where CLOCK is pulled, that pull is the last one; where the byte
+-- is whole, CLOCK is pulled, and DATA has not been pulled again for an acknowledgement
 pub record IsGoingOn (w : WireDecoder) : Type 0 where
   pub uncalled : w.called ≡ 0
   pub pulled : w.first.clock ≡ 0 → w.byte.last_pull ≡ w.first.time

@@ -1,4 +1,4 @@
--- Trusted: what a decoder tells of the edges of a recording that it was given, one by one, and the numbers in which it tells it.
+-- Trusted: what a decoder answers for the edges of a recording, one by one, and the numbers of its answers.
 use Rattle.std.specs.Prelude.{◌≡◌, ℕ, ◌<◌, List, [], ◌∷◌, ◌++◌, map, Option, Some, None}
 use Rattle.std.specs.Option.{option_to_list}
 use Rattle.pr_decode.specs.declared.reading.FrameEnd.TheVariants as frame
@@ -22,19 +22,19 @@ last_moment [] = None
 last_moment (e ∷ []) = Some e.time
 last_moment (e ∷ f ∷ es) = last_moment (f ∷ es)
 
--- a moment stands before another, if there is one
+-- a moment is before the last one, if there is a last one
 abbrev pub StandsBefore : ℕ → Option ℕ → Type 0
 StandsBefore time None = ⊥
 StandsBefore time (Some last) = time < last
 
--- what all edges say, and what they say whatever may follow
+-- what all edges say, and what they say whatever edges follow
 abbrev pub said_by : List WireEdge → List Reading
 said_by edges = readings_of (map edge_of edges)
 
 abbrev pub settled_by : List WireEdge → List Reading
 settled_by edges = settled_of (map edge_of edges)
 
--- what is told of one edge more is right: the reading that it settles; or that it stands before the last
+-- the answer to one more edge: the reading that it settles, if any; or that time goes back
 abbrev pub TellsNext : List WireEdge → WireEdge → DecoderTold → Type 0
 TellsNext edges edge (Done reading) =
     (settled_by (edges ++ edge ∷ []) ≡ settled_by edges ++ option_to_list reading)
@@ -42,8 +42,8 @@ TellsNext edges edge (Done reading) =
 TellsNext edges edge GoesBack = StandsBefore edge.time (last_moment edges)
 TellsNext edges edge NoDecoder = ⊥
 
--- what is told of an end behind these edges is right, where these readings were told: they are all that is settled, and the end cuts
--- one more, or none
+-- the answer at the end of these edges, after these readings: they are all that is settled, and the
+-- end cuts one more byte, or none
 abbrev pub TellsCut : List WireEdge → (given : List Reading) → DecoderTold → Type 0
 TellsCut edges given (Done reading) = (settled_by edges ≡ given) × (said_by edges ≡ given ++ option_to_list reading)
 TellsCut edges given GoesBack = ⊥
@@ -112,7 +112,7 @@ reading_numbers (Some (IncompleteByte t (glitch.ClockTimeout time))) =
     record { byte = byte_numbers t; end = time; kind = 5 }
 reading_numbers (Some (IncompleteByte t glitch.Cut)) = record { byte = byte_numbers t; end = 0; kind = 6 }
 
--- what is told, as numbers: the reading, and the answer
+-- an answer as numbers: the reading, and the codes
 abbrev pub reading_of : DecoderTold → WireReading
 reading_of (Done reading) = reading_numbers reading
 reading_of GoesBack = reading_numbers None

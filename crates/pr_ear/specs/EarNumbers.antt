@@ -1,6 +1,8 @@
--- Trusted: which numbers are those of an ear, what an ear keeps of the edges that it was given: those of a place of the table of lawful
--- traces that its last edge can lead to, and of a device. (That edges leave such numbers is proved. Not every such numbers have edges that
--- leave them: so many edges, this moment of the last one, this byte and these bits, and a device that listens or not, may never meet.)
+-- Trusted: which numbers are those of an ear. An ear keeps, of the edges that it was given, a place
+-- of the table of lawful traces to which its last edge can lead, and its device. (It is proved that
+-- edges leave such numbers. Some such numbers come from no edges: this number of edges, this moment
+-- of the last one, this byte and these bits, and a device that listens or not, may never occur
+-- together.)
 use Rattle.std.specs.Prelude.{◌≡◌, ◌≢◌, ℕ, ◌+◌, ◌<◌, ◌≤◌, Bool, true, false, List, length}
 use Rattle.pr_wire.specs.declared.Edge.{Edge}
 use Rattle.pr_wire.specs.declared.bus_state.BusState.{BusState}
@@ -14,13 +16,13 @@ use Rattle.pr_ear.specs.declared.numbers.Ear.{Ear}
 use Rattle.pr_ear.specs.declared.numbers.PlaceNumbers.{PlaceNumbers}
 use Rattle.pr_ear.specs.Hearing.{bit_of, edge_of, IsDevice}
 
--- which byte is sent, as a number
+-- the role of the byte that is sent, as a number
 abbrev pub sending_number : ByteRole → ℕ
 sending_number First = 0
 sending_number Second = 1
 sending_number Data = 2
 
--- the numbers of a place that has no others
+-- the numbers of a place that needs only its number and its moment
 abbrev pub plain_place : (place since : ℕ) → PlaceNumbers
 plain_place place since =
     record {
@@ -66,15 +68,15 @@ pub record HasLevels (e : Edge) (atn clock line : Bool) : Type 0 where
   pub clock_is : e.levels.clock ≡ clock
   pub line_is : e.levels.line ≡ line
 
--- an edge stands at a moment, and has these levels
+-- an edge has this moment and these levels
 abbrev pub StandsAt : Edge → ℕ → (atn clock line : Bool) → Type 0
 StandsAt e since atn clock line = (since ≡ e.time) × HasLevels e atn clock line
 
--- end-or-identify is answered before a data byte alone
+-- only a data byte can have end-or-identify
 abbrev pub IsMarked : Bool → ByteRole → Type 0
 IsMarked eoi sending = eoi ≡ true → sending ≡ Data
 
--- an edge can lead to a place: its levels and its moment are those that the table's rows to this place have
+-- an edge can lead to a place: it has the levels and the moment of the table's rows to this place
 abbrev pub CanLead : Edge → BusState → Type 0
 CanLead e (Idle since) = StandsAt e since true true true
 CanLead e (Call since false) = StandsAt e since false false true
@@ -100,7 +102,7 @@ pub record IsPlace (last : WireEdge) (n : PlaceNumbers) : Type 0 where
   pub numbers : n ≡ stored_place place
   pub leads : CanLead (edge_of last) place
 
--- the numbers of an ear that has accepted no edge; at most it has refused one as no first edge (11)
+-- an ear that has accepted no edge; it may have refused one that is not the first edge of a trace (11)
 pub record HasNone (ear : Ear) : Type 0 where
   pub taken : ear.taken ≡ 0
   pub last : ear.last ≡ record { time = 0; atn = 0; clock = 0; «data» = 0 }
@@ -108,8 +110,8 @@ pub record HasNone (ear : Ear) : Type 0 where
   pub listens : ear.listens ≡ 0
   pub refused : ear.refused ≢ 0 → ear.refused ≡ 11
 
--- the numbers of an ear that has accepted some: the first stands at 0, the second at 100 or later, and each other one later than the one
--- before it; and it may have refused one behind them (12 to 15)
+-- an ear that has accepted edges: the first is at 0, the second at 100 or later, and each further
+-- one is later than the one before; it may have refused one after them (12 to 15)
 pub record HasSome (ear : Ear) : Type 0 where
   pub some : 0 < ear.taken
   pub first : ear.taken ≡ 1 → (ear.last.time ≡ 0) × (ear.place.place ≡ 0)
@@ -120,7 +122,7 @@ pub record HasSome (ear : Ear) : Type 0 where
   pub place : IsPlace ear.last ear.place
   pub refused : ear.refused ≢ 0 → (12 ≤ ear.refused) × (ear.refused ≤ 15)
 
--- the numbers are those of an ear; a device that the last frame called listens
+-- the numbers of an ear; a device that the last frame called listens
 pub record IsEar (ear : Ear) : Type 0 where
   pub device : IsDevice ear.device
   pub listens : ear.listens ≤ 1

@@ -1,4 +1,4 @@
--- Trusted: what a caller's edges mean, what a device hears of them, and what the caller's buffer and answer then hold.
+-- Trusted: what a caller's edges mean, what a device hears of them, and what the caller's buffer and answer hold then.
 use Rattle.std.specs.Prelude.{◌≡◌, ℕ, ◌<◌, ◌≤◌, Bool, true, false, not, ◌==◌, List, ◌++◌, length, map, drop, Some}
 use Rattle.pr_page.specs.declared.input.Input.{Input}
 use Rattle.pr_page.specs.declared.input.Input.TheVariants.{Select, Byte}
@@ -18,7 +18,7 @@ use Rattle.pr_ear.specs.declared.Told.TheVariants.{Heard, Unlawful, TooSmall, No
 abbrev pub is_released : ℕ → Bool
 is_released level = not (level == 0)
 
--- an edge of the caller's
+-- an edge that the caller passes
 abbrev pub edge_of : WireEdge → Edge
 edge_of e = record {
   time = e.time;
@@ -41,13 +41,13 @@ pub record IsDevice (device : ℕ) : Type 0 where
   pub least : 4 ≤ device
   pub greatest : device ≤ 30
 
--- the edges are a lawful trace, and these are the numbers of what a device hears of the frames that it spells
+-- the edges are a lawful trace, and these numbers are what a device hears of the frames that it spells
 abbrev pub AreHeard : ℕ → List WireEdge → List ℕ → Type 0
 AreHeard device edges numbers =
     (frames : List Frame) × IsDevice device × Spells (map edge_of edges) frames
     × (numbers ≡ map number_of (heard_of device frames))
 
--- what is told is right, by the buffer before and after
+-- the outcome, by the buffer before and after
 abbrev pub Tells : ℕ → List WireEdge → List ℕ → List ℕ → Told → Type 0
 Tells device edges old new (Heard n) =
     (numbers : List ℕ) × AreHeard device edges numbers × (n ≡ length numbers) × (n ≤ length old)
@@ -68,7 +68,7 @@ fault_code (Shape at) = 15
 fault_code (Truncated at) = 16
 fault_code NoMemory = 0
 
--- the index of the edge at fault
+-- the index of the edge with the fault
 abbrev pub fault_index : WaveFault → ℕ
 fault_index (Start at) = at
 fault_index (Order at) = at
@@ -78,7 +78,7 @@ fault_index (Shape at) = at
 fault_index (Truncated at) = at
 fault_index NoMemory = 0
 
--- what is told, as numbers
+-- an outcome as numbers
 abbrev pub answer_of : Told → Answer
 answer_of (Heard n) = record { code = 0; fault = 0; place = 0; length = n }
 answer_of (Unlawful fault) = record { code = 2; fault = fault_code fault; place = fault_index fault; length = 0 }

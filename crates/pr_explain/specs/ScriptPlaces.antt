@@ -12,7 +12,7 @@ abbrev pub IsLabel : (line : List ℕ) → Option ℕ → Type 0
 IsLabel line label =
     MatchOption label ((n : ℕ) → HasBasicNumber line n → ⊥) (λ n. HasBasicNumber line n)
 
--- this is the place of a text's first fault
+-- the place of a text's first fault
 pub record IsFaultPlace (text : List ℕ) (p : ScriptPlace) : Type 0 where
   pub fault : ScriptFault
   pub place : ℕ
@@ -23,7 +23,7 @@ pub record IsFaultPlace (text : List ℕ) (p : ScriptPlace) : Type 0 where
   pub column : p.column ≡ place - start + 1
   pub labelled : IsLabel line p.basic_line
 
--- a script has no fault; any other text has one at its place
+-- a script has no fault; every other text has one at its place
 abbrev pub IsScriptPlace : (text : List ℕ) → Option ScriptPlace → Type 0
 IsScriptPlace text None = (statements : List Statement) × IsScript text statements
 IsScriptPlace text (Some p) = IsFaultPlace text p

@@ -1,5 +1,5 @@
--- Trusted: the place that the explanation of a BASIC error has: the statement at which it stopped a
--- run, with its line, its device and what the error comes from.
+-- Trusted: the place that the explanation of a BASIC error has: the statement at which the error
+-- stopped a run, with its line, its device and the cause of the error.
 use Rattle.std.specs.Prelude.{◌≡◌, ℕ, suc, ◌+◌, ◌<◌, ◌≤◌, ◌==◌, ◌||◌, Bool, true, false, not, if◌then◌else◌, List, [], ◌∷◌, ◌++◌, length, Option, Some, None}
 use Rattle.pr_base.specs.Lines.{lines_of}
 use Rattle.pr_basic.specs.declared.statement.Statement.{Statement}
@@ -13,8 +13,8 @@ use Rattle.pr_explain.specs.declared.stops.StopCause.{StopCause}
 use Rattle.pr_explain.specs.declared.stops.StopCause.TheVariants.{Files, NoPrinter, Unheard}
 use Rattle.pr_explain.specs.declared.stops.StopPlace.{StopPlace}
 
--- a statement of a script, counted from 1, is in this line, whose number is counted from 1: there
--- are fewer statements in the lines before it, and no fewer in those and the line itself
+-- the line of a statement of a script, both counted from 1: there are fewer statements in the lines
+-- before it, and at least as many in those lines and the line itself
 pub record IsStatementLine (script : List ℕ) (statement : ℕ) (line : List ℕ) (number : ℕ)
     : Type 0 where
   pub before : List (List ℕ)
@@ -28,37 +28,37 @@ pub record IsStatementLine (script : List ℕ) (statement : ℕ) (line : List �
   pub from : length earlier < statement
   pub to : statement ≤ length earlier + length own
 
--- the device of a statement that opens a file, or else another
+-- the device of a statement if it opens the file, or else the device before
 abbrev pub opened_by : Statement → (file : ℕ) → Option ℕ → Option ℕ
 opened_by (OpenFile f device second) file before = if f == file then Some device else before
 opened_by _ file before = before
 
--- the device of the last OPEN of a file, or else another
+-- the device of the last OPEN of a file, or else the device before
 abbrev pub opened : (file : ℕ) → List Statement → Option ℕ → Option ℕ
 opened file [] before = before
 opened file (s ∷ ss) before = opened file ss (opened_by s file before)
 
--- the device of a statement after others: that of an OPEN, or of the last OPEN of the file of a CMD
--- or a PRINT#
+-- the device of a statement, after other statements: that of an OPEN, or of the last OPEN of the
+-- file that CMD or PRINT# names
 abbrev pub device_of : List Statement → Statement → Option ℕ
 device_of before (OpenFile file device second) = Some device
 device_of before (Cmd file line) = opened file before None
 device_of before (PrintTo file line) = opened file before None
 device_of before _ = None
 
--- a device is a printer that is not there
+-- a device is a printer that is not present
 abbrev pub is_absent : Present → Option ℕ → Bool
 is_absent present None = false
 is_absent present (Some device) =
     if device == 4 then not present.four else (if device == 5 then not present.five else true)
 
--- what an error at a statement with this device comes from
+-- the cause of an error at a statement with this device
 abbrev pub cause_of : Stop → Present → Option ℕ → StopCause
 cause_of DeviceNotPresent present device =
     if present.four || present.five then Unheard (is_absent present device) else NoPrinter
 cause_of _ present device = Files
 
--- this is the place of an error at a statement of a script
+-- the place of an error at a statement of a script
 pub record IsErrorPlace (script : List ℕ) (stop : Stop) (statement : ℕ) (present : Present)
     (p : StopPlace) : Type 0 where
   pub before : List Statement
@@ -73,7 +73,7 @@ pub record IsErrorPlace (script : List ℕ) (stop : Stop) (statement : ℕ) (pre
   pub device : p.device ≡ device_of before at
   pub cause : p.cause ≡ cause_of stop present p.device
 
--- an error at a statement has its place; a text that has no such statement has none
+-- an error at a statement has its place; where the script has no such statement there is none
 abbrev pub IsStopPlace :
     (script : List ℕ) → Stop → (statement : ℕ) → Present → Option StopPlace → Type 0
 IsStopPlace script stop statement present None =

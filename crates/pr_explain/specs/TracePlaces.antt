@@ -1,7 +1,7 @@
 -- Trusted: the places that the explanations of traces and of recordings have: the line that cannot
--- be read, and where the edges stop being lawful, or go back in time.
+-- be read, and the edge at which the trace is no longer lawful, or time goes back.
 use Rattle.std.specs.Prelude.{◌≡◌, ◌↔◌, IsTrue, ℕ, ◌+◌, ◌-◌, ◌<◌, ◌≤◌, ◌^◌, nat_lt, Bool, true, false, if◌then◌else◌, List, [], ◌∷◌, ◌++◌, length, take, Option, Some, None}
-use Rattle.std.specs.List.{list_any}
+use Rattle.std.specs.List.{list_all, list_any}
 use Rattle.pr_wire.specs.declared.Edge.{Edge}
 use Rattle.pr_wire.specs.declared.Levels.{Levels}
 use Rattle.pr_wire.specs.declared.text.TraceFault.TheVariants as trace
@@ -12,7 +12,7 @@ use Rattle.pr_capture.specs.declared.format.TraceInput.{TraceInput}
 use Rattle.pr_cli.specs.Report.{Says}
 use Rattle.pr_cli.specs.declared.fault.CliFault.{CliFault}
 use Rattle.pr_cli.specs.declared.fault.CliFault.TheVariants.{Trace, Capture}
-use Rattle.pr_explain.specs.Rows.{takes}
+use Rattle.pr_explain.specs.Rows.{all_lead_apart, has_moment, takes}
 use Rattle.pr_explain.specs.declared.edges.EdgePlace.{EdgePlace}
 use Rattle.pr_explain.specs.declared.rows.Miss.{Miss}
 use Rattle.pr_explain.specs.declared.rows.Miss.TheVariants.{Early, Late}
@@ -23,8 +23,7 @@ use Rattle.pr_explain.specs.declared.traces.TracePlace.{TracePlace}
 
 -- Edges.
 
--- these rows are the edges that may follow others: an edge is allowed after them exactly if one of
--- the rows takes it
+-- the rows of the edges that may follow others: an edge is allowed after them exactly if one of the rows takes it
 abbrev pub AreRowsAfter : List (Option Row) → List Edge → Type 0
 AreRowsAfter rows before =
     (e : Edge) → e.time < 2 ^ 64
@@ -36,7 +35,7 @@ row_to l [] = None
 row_to l (None ∷ rows) = row_to l rows
 row_to l (Some r ∷ rows) = if differ r.levels l then row_to l rows else Some r
 
--- by how much a moment misses the interval of a row, if it does
+-- by how much a moment is outside the interval of a row, if it is
 abbrev pub missed_late : Option ℕ → (time : ℕ) → Option Miss
 missed_late None time = None
 missed_late (Some latest) time = if nat_lt latest time then Some (Late (time - latest)) else None
@@ -46,19 +45,18 @@ missed_by None time = None
 missed_by (Some r) time =
     if nat_lt time r.earliest then Some (Early (r.earliest - time)) else missed_late r.latest time
 
--- of the edges that are not allowed after others the first, by how much it misses the row to its
--- levels
+-- by how much the first edge after the allowed ones is outside the interval of the row to its levels
 abbrev pub missed_first : List (Option Row) → List Edge → Option Miss
 missed_first rows [] = None
 missed_first rows (e ∷ es) = missed_by (row_to e.levels rows) e.time
 
--- edges stop after these: the next one is not allowed; or there is none, and none is to come
+-- where edges stop being lawful: the next edge is not allowed, or there is no next edge and none will come
 abbrev pub StopAfter : (whole : Bool) → (before after : List Edge) → Type 0
 StopAfter whole before [] = IsTrue whole
 StopAfter whole before (e ∷ es) = IsAllowed (before ++ e ∷ []) → ⊥
 
--- edges stop being lawful here: how many are allowed, their first fault, the edges that may follow,
--- and by how much the next misses these
+-- where edges stop being lawful: how many are allowed, their first fault, the edges that may follow,
+-- in rows that each have a moment and lead to other levels, and by how much the next misses these
 pub record AreStopped (whole : Bool) (edges : List Edge) (p : EdgePlace) : Type 0 where
   pub before : List Edge
   pub after : List Edge
@@ -68,9 +66,11 @@ pub record AreStopped (whole : Bool) (edges : List Edge) (p : EdgePlace) : Type 
   pub stop : StopAfter whole before after
   pub fault : fault_of edges ≡ Some p.fault
   pub expected : AreRowsAfter p.expected before
+  pub moments : list_all has_moment p.expected ≡ true
+  pub levels : all_lead_apart p.expected ≡ true
   pub missed : p.missed ≡ missed_first p.expected after
 
--- edges, of which all are known or more may follow, stop here, or are lawful as far as they go
+-- edges stop being lawful here, or are lawful; if they are not whole, more edges may follow
 abbrev pub StopsAt : (whole : Bool) → List Edge → Option EdgePlace → Type 0
 StopsAt whole edges (Some p) = AreStopped whole edges p
 StopsAt true edges None = fault_of edges ≡ None
@@ -84,7 +84,9 @@ capture_line (capture.NoSignal n wire) = Some n
 capture_line (capture.BadWord n) = Some n
 capture_line (capture.NoEnd n) = Some n
 capture_line (capture.NoDefinitions n) = Some n
+capture_line (capture.TwoSignals n wire) = Some n
 capture_line (capture.NoTimescale n) = Some n
+capture_line (capture.BadTimescale n) = Some n
 capture_line (capture.BadTime n) = Some n
 capture_line (capture.GoesBack n) = Some n
 capture_line (capture.NoLevel n wire) = Some n
@@ -101,8 +103,8 @@ fault_line _ = None
 
 -- Traces.
 
--- the place of what an input says: the line of its fault, and where the edges before that, or all
--- of them, stop
+-- the place of an input's faults: the line of its own fault, if it has one, and where the edges
+-- before that line, or all edges, stop being lawful
 abbrev pub IsPlaceOf : List Edge → (own : Option CliFault) → TracePlace → Type 0
 IsPlaceOf edges None p = (p.line ≡ None) × StopsAt true edges p.edge
 IsPlaceOf edges (Some fault) p =
@@ -120,7 +122,7 @@ nowhere = record { line = None; edge = None }
 
 -- Recordings.
 
--- no edge of these, which come after one at this moment, is earlier than the one before it
+-- edges after this moment, none of them earlier than the one before it
 abbrev pub AreInOrderBehind : (last : ℕ) → List Edge → Type 0
 AreInOrderBehind last [] = Unit {0}
 AreInOrderBehind last (e ∷ es) = (last ≤ e.time) × AreInOrderBehind e.time es
@@ -130,12 +132,12 @@ AreInOrder [] = Unit {0}
 AreInOrder (e ∷ es) = AreInOrderBehind e.time es
 
 -- the edge of this index is the first that is earlier than the one before it: the edges before it
--- are in order, and with it they are not
+-- are in order, and together with it they are not
 abbrev pub GoesBackAt : List Edge → (index : ℕ) → Type 0
 GoesBackAt edges index = AreInOrder (take index edges) × (AreInOrder (take (index + 1) edges) → ⊥)
 
--- the place of what a recording says: the first edge with which time goes back; or the line of its
--- fault, if it has one
+-- the place of a recording's fault: the first edge with which time goes back, or else the line of
+-- the recording's own fault, if it has one
 abbrev pub IsPlaceRead : List Edge → (own : Option CliFault) → Option ReadingPlace → Type 0
 IsPlaceRead edges own None = AreInOrder edges × (own ≡ None)
 IsPlaceRead edges own (Some (read.Edge index)) = GoesBackAt edges index

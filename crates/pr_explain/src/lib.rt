@@ -43,7 +43,8 @@ pub use scripts::{ScriptPlace, explain_script};
 pub use stops::{StopCause, StopPlace, explain_stop};
 pub use traces::{ReadingPlace, TracePlace, explain_reading, explain_trace};
 
-/// What there is to say of a refusal, or of an error.
+/// What there is to say of a refusal, or of an error. Where nothing is refused the place is none
+/// and the text empty, in place of an `Option` around both.
 #[derive(Debug, Drop)]
 pub struct Explanation<P> {
     /// Where it is.

@@ -3,7 +3,7 @@
 ghost use Rattle.std.specs.Prelude.{◌≡◌, List, [], None, IfOk, IfSome, MatchOption};
 ghost use Rattle.std.specs.String.{string_bytes};
 ghost use Rattle.pr_wire.specs.declared.Edge.{Edge};
-ghost use Rattle.pr_cli.specs.Sources.{IsOwnFault};
+ghost use Rattle.pr_cli.specs.Report.{IsOwnFault};
 ghost use Rattle.pr_explain.specs.Followed.{Follows, back_from, stands_before};
 ghost use Rattle.pr_explain.specs.TracePlaces.{AreInOrder, GoesBackAt, IsPlaceOf, IsPlaceRead, IsReadingPlace, IsTracePlace, nowhere};
 
@@ -18,7 +18,9 @@ use pr_cli::CliFault;
 use pr_wire::{Edge, NoMemory};
 use std::alloc::Global;
 
-/// Where a trace is refused.
+/// Where a trace is refused. It has two parts, since an input can have a bad line and, before it,
+/// an edge that is not lawful; that the edges before such a line end too soon is no fault of
+/// theirs.
 #[derive(Clone, Copy, Debug, PartialEq, Eq)]
 pub struct TracePlace {
     /// The line that cannot be read, from 1, if there is one.
@@ -27,7 +29,8 @@ pub struct TracePlace {
     pub edge: Option<EdgePlace>,
 }
 
-/// Where a recording cannot be read on.
+/// Where a recording cannot be read on. It is one or the other: `decode` stops at the first edge
+/// with which time goes back.
 #[derive(Clone, Copy, Debug, PartialEq, Eq)]
 pub enum ReadingPlace {
     /// The edge of this index, from 0, is earlier than the one before it.

@@ -14,7 +14,8 @@ use std::io::{ErrorKind, Read, Write};
 /// It has failed for good exactly when a read, a write or a flush through it fails, or when a write
 /// of some bytes answers 0. So a caller can tell a failed read or write from every other refusal.
 /// Reads, writes and flushes do what those of the reader or writer inside do, and fail as they do.
-/// A call that a signal interrupts is made again, and has not failed (tested).
+/// A call that a signal interrupts is made again, and has not failed (tested); at most 2^64 - 1
+/// times, since a loop has to end.
 #[derive(Drop)]
 pub struct Watched<T> {
     inner: T,
@@ -51,7 +52,8 @@ impl<T> Watched<T> {
         self.failed
     }
 
-    /// Returns whether a flush has succeeded since the last write, if there was one.
+    /// Returns whether a flush has succeeded since the last write, if there was one. What the flush
+    /// did to the bytes no clause can say, since std's `Write` has no word for it.
     pub fn is_flushed(&self) -> bool
         ensures { result ≡ is_flushed self.now }
     {

@@ -1,4 +1,4 @@
--- Trusted: the text of a saved program's lines, as a script's reader reads it.
+-- Trusted: the script text of a saved program's lines.
 use Rattle.std.specs.Prelude.{◌≡◌, ℕ, ◌&&◌, ◌||◌, ◌==◌, not, Bool, List, [], ◌∷◌, ◌++◌, codes, decimal, nat_le, if◌then◌else◌}
 use Rattle.pr_basic.specs.Grammar.{is_printable}
 use Rattle.pr_listing.specs.Keywords.{is_token, keyword_of}
@@ -10,11 +10,11 @@ use Rattle.pr_listing.specs.declared.line.Mode.TheVariants.{Plain, Quoted, Remar
 abbrev pub is_letter : ℕ → Bool
 is_letter b = (nat_le 65 b && nat_le b 90) || (nat_le 97 b && nat_le b 122)
 
--- a byte that a text holds, or else `?`
+-- a byte that a script can have, or else `?`
 abbrev pub or_question : ℕ → List ℕ
 or_question b = if is_printable b then b ∷ [] else 63 ∷ []
 
--- a byte outside strings and remarks: a token is its keyword; a space follows it and letters
+-- a byte outside strings and remarks: a token is its keyword; a space follows a token and a letter
 abbrev pub plain_text : ℕ → List ℕ
 plain_text b =
     if is_token b then keyword_of b ++ 32 ∷ []
@@ -24,7 +24,7 @@ plain_text b =
 abbrev pub is_held : ℕ → Bool
 is_held b = is_printable b && not (b == 34)
 
--- a byte of a string: what a script's string cannot hold is said by CHR$
+-- a byte of a string: CHR$ stands for a byte that a script's string cannot hold
 abbrev pub string_text : ℕ → List ℕ
 string_text b = if is_held b then b ∷ [] else codes "\"CHR$(" ++ decimal b ++ codes ")\""
 
@@ -32,19 +32,19 @@ string_text b = if is_held b then b ∷ [] else codes "\"CHR$(" ++ decimal b ++ 
 abbrev pub quoted_text : ℕ → List ℕ
 quoted_text b = if b == 34 then b ∷ [] else string_text b
 
--- a byte of a line, by where it stands
+-- a byte of a line, in its mode: outside strings and remarks, in a string, or in a remark
 abbrev pub byte_text : Mode → ℕ → List ℕ
 byte_text Plain b = plain_text b
 byte_text Quoted b = quoted_text b
 byte_text Remark b = or_question b
 
--- where the next byte stands: a quote begins a string and ends it, token 143 begins a remark
+-- the mode of the next byte: a quote begins and ends a string, token 143 begins a remark
 abbrev pub mode_after : Mode → ℕ → Mode
 mode_after Plain b = if b == 34 then Quoted else (if b == 143 then Remark else Plain)
 mode_after Quoted b = if b == 34 then Plain else Quoted
 mode_after Remark b = Remark
 
--- the bytes of a line from one on that stands there
+-- the bytes of a line from here on, in this mode
 abbrev pub bytes_text : Mode → List ℕ → List ℕ
 bytes_text mode [] = []
 bytes_text mode (b ∷ bs) = byte_text mode b ++ bytes_text (mode_after mode b) bs
@@ -58,6 +58,6 @@ abbrev pub lines_text : List Line → List ℕ
 lines_text [] = []
 lines_text (l ∷ ls) = line_text l ++ lines_text ls
 
--- a file is a saved program whose lines have this text
+-- a file is a saved program whose lines have this script text
 abbrev pub IsProgramText : List ℕ → List ℕ → Type 0
 IsProgramText file text = (lines : List Line) × IsProgram lines file × (text ≡ lines_text lines)

@@ -15,7 +15,7 @@ byte_at place = if nat_lt place 32 then place else (if nat_lt place 128 then pla
 abbrev pub is_hex : ℕ → Bool
 is_hex b = is_digit b || (nat_le 97 b && nat_le b 102) || (nat_le 65 b && nat_le b 70)
 
--- what a hexadecimal digit stands for
+-- the value of a hexadecimal digit
 abbrev pub hex_value : ℕ → ℕ
 hex_value b = if is_digit b then b - 48 else (if nat_le b 70 then b - 55 else b - 87)
 
@@ -26,21 +26,21 @@ hex_byte (sign ∷ high ∷ low ∷ []) =
     then Some (16 * hex_value high + hex_value low) else None
 hex_byte name = None
 
--- a name is this one of the table, in either case
+-- a name is this one of the table, in upper or lower case
 abbrev pub is_name : List ℕ → List ℕ → Bool
 is_name name known = bytes_eq (map to_ascii_lowercase known) (map to_ascii_lowercase name)
 
--- one of these, and else the other
+-- the first if there is one, or else the other
 abbrev pub or_else : Option ℕ → Option ℕ → Option ℕ
 or_else None other = other
 or_else (Some b) other = Some b
 
--- the byte of a place, where there is one
+-- the byte of a place in the table, if there is one
 abbrev pub at_place : Option ℕ → Option ℕ
 at_place None = None
 at_place (Some place) = Some (byte_at place)
 
--- the place of a name in the table, which has one in each line
+-- the place of a name in the table, which has one name in each line
 unfoldable pub place_of : List ℕ → Option ℕ
 place_of name = position_from (is_name name) 0 (lines_of NAMES.now)
 
@@ -48,7 +48,7 @@ place_of name = position_from (is_name name) 0 (lines_of NAMES.now)
 unfoldable pub byte_named : List ℕ → Option ℕ
 byte_named name = or_else (hex_byte name) (at_place (place_of name))
 
--- so many times the byte of a name, where it has one
+-- this many times the byte of a name, if it has one
 abbrev pub times : ℕ → Option ℕ → Option (ℕ × ℕ)
 times count None = None
 times count (Some b) = Some (count, b)
@@ -60,7 +60,7 @@ counted count (space ∷ name) =
     then times count (byte_named name) else None
 counted count [] = None
 
--- how many times a name says a byte, and the byte: once, or as a count in front of it says
+-- how many times a name stands for a byte, and the byte: once, or by a count in front of the name
 unfoldable pub named : List ℕ → Option (ℕ × ℕ)
 named name =
     let digits = prefix_len is_digit name in

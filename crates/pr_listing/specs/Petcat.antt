@@ -1,4 +1,4 @@
--- Trusted: petcat's text of a program, and the script's text that it says.
+-- Trusted: petcat's text of a program, and the script text that it stands for.
 use Rattle.std.specs.Prelude.{◌≡◌, ◌≢◌, IsTrue, ℕ, zero, suc, ◌+◌, ◌-◌, ◌⊎◌, ◌&&◌, ◌==◌, not, Bool, true, false, List, [], ◌∷◌, ◌++◌, Option, None, Some, length, map, take, drop, codes, nat_le, if◌then◌else◌}
 use Rattle.std.specs.Char.{to_ascii_lowercase}
 use Rattle.std.specs.List.{list_all}
@@ -17,7 +17,7 @@ pub data Piece : Type 0 where
   Character : ℕ → Piece
   Name : List ℕ → Piece
 
--- its bytes in petcat's text, and those that follow it
+-- a piece's bytes in petcat's text, and the bytes after it
 abbrev pub spelled : Piece → List ℕ → List ℕ
 spelled (Character c) after = c ∷ after
 spelled (Name name) after = 123 ∷ name ++ 125 ∷ after
@@ -26,20 +26,20 @@ spelled (Name name) after = 123 ∷ name ++ 125 ∷ after
 abbrev pub is_in_braces : ℕ → Bool
 is_in_braces b = not (b == 125)
 
--- the byte of the computer that a character of a string is: letters change their case
+-- the computer's byte of a character of a string: letters change their case
 abbrev pub byte_of : ℕ → Option ℕ
 byte_of c =
     if nat_le 97 c && nat_le c 122 then Some (c - 32)
     else (if nat_le 65 c && nat_le c 90 then Some (c + 128)
     else (if nat_le 32 c && nat_le c 95 then Some c else None))
 
--- a text so many times
+-- a text repeated n times
 abbrev pub repeated : ℕ → List ℕ → List ℕ
 repeated zero text = []
 repeated (suc n) text = repeated n text ++ text
 
--- a piece has this text: outside strings it stands as it is, and there a name is none; in a string
--- it is a byte, or as many as the name says
+-- a piece's script text: outside strings the character itself, and a name is not allowed; in a
+-- string a byte, or as many bytes as the name says
 abbrev pub HasText : Bool → Piece → List ℕ → Type 0
 HasText false (Character c) text = text ≡ c ∷ []
 HasText false (Name name) text = ⊥
@@ -47,12 +47,12 @@ HasText true (Character c) text = (b : ℕ) × (byte_of c ≡ Some b) × (text �
 HasText true (Name name) text = (count : ℕ) × (b : ℕ) × (named name ≡ Some (count, b))
     × IsTrue (list_all is_in_braces name) × (text ≡ repeated count (string_text b))
 
--- whether the next piece stands in a string
+-- whether the next piece is in a string
 abbrev pub quoted_after : Bool → Piece → Bool
 quoted_after quoted (Character c) = if c == 34 then not quoted else quoted
 quoted_after quoted (Name name) = quoted
 
--- pieces, one after another, have this text; the rest of the bytes follows them, in a string or not
+-- pieces, one after another, have this script text; `rest` are the bytes after them, in a string or not
 abbrev pub HaveText : Bool → List Piece → List ℕ → List ℕ → Bool → List ℕ → Type 0
 HaveText quoted [] bytes text in_string rest = (text ≡ []) × (in_string ≡ quoted) × (bytes ≡ rest)
 HaveText quoted (p ∷ ps) bytes text in_string rest =
@@ -60,11 +60,11 @@ HaveText quoted (p ∷ ps) bytes text in_string rest =
     × (bytes ≡ spelled p after) × HasText quoted p first × (text ≡ first ++ more)
     × HaveText (quoted_after quoted p) ps after more in_string rest
 
--- a remark begins there
+-- a remark begins here
 abbrev pub begins_remark : List ℕ → Bool
 begins_remark bytes = bytes_eq (map to_ascii_lowercase (take 3 bytes)) (codes "rem")
 
--- how many bytes of a line are before its remark, the first one outside strings
+-- the number of a line's bytes before its remark, the first one outside strings
 unfoldable pub before_remark : Bool → List ℕ → ℕ
 before_remark quoted [] = 0
 before_remark quoted (b ∷ bs) =
@@ -78,28 +78,28 @@ front_of line = take (before_remark false line) line
 abbrev pub remark_of : List ℕ → List ℕ
 remark_of line = drop (before_remark false line) line
 
--- petcat's heading, which is no line of the program
+-- petcat's heading, which is not a line of the program
 abbrev pub IsHeading : List ℕ → Type 0
 IsHeading line = (more : List ℕ) × (line ≡ 59 ∷ more)
 
--- a line has this text: that of its pieces, and its remark as it is; a heading has none
+-- the script text of a line: that of its pieces, and its remark unchanged; a heading has none
 abbrev pub HasLineText : List ℕ → List ℕ → Type 0
 HasLineText line text = (IsHeading line × (text ≡ []))
     ⊎ (¬ IsHeading line × ((pieces : List Piece) × (said : List ℕ) × (in_string : Bool)
     × HaveText false pieces (front_of line) said in_string [] × (text ≡ said ++ remark_of line)))
 
--- lines, one after another, each with byte 10 behind it
+-- the script text of lines, one after another, with byte 10 after each
 abbrev pub HaveLinesText : List (List ℕ) → List ℕ → Type 0
 HaveLinesText [] text = text ≡ []
 HaveLinesText (l ∷ ls) text = (first : List ℕ) × (more : List ℕ)
     × HasLineText (without_return l) first × (text ≡ first ++ 10 ∷ more) × HaveLinesText ls more
 
--- petcat's text says this text of a script
+-- petcat's text stands for this script text
 abbrev pub IsPetcatText : List ℕ → List ℕ → Type 0
 IsPetcatText file text = HaveLinesText (lines_of file) text
 
--- no piece of a string is at the front of the bytes: no name of the table is in the braces there,
--- or the brace is not closed; or there is a byte that petcat does not write
+-- no piece of a string is at the front of the bytes: the name in braces is not in the table, or the
+-- brace is not closed; or petcat does not write this byte
 abbrev pub IsPieceFault : PieceFault → List ℕ → Type 0
 IsPieceFault piece.UnknownName bytes = (after : List ℕ) × (bytes ≡ 123 ∷ after)
     × ((name rest : List ℕ) → after ≡ name ++ 125 ∷ rest → IsTrue (list_all is_in_braces name)
@@ -108,8 +108,8 @@ IsPieceFault piece.BadByte bytes = (c : ℕ) × (after : List ℕ) × (bytes ≡
     × (byte_of c ≡ None)
 IsPieceFault piece.NoMemory bytes = ⊥
 
--- the first fault of a line: pieces, and after them in a string no piece; so many bytes of the line
--- are before it
+-- the first fault of a line: pieces, and after them, in a string, no piece; `column` is the number
+-- of the line's bytes before it
 pub record IsLineFault (f : PieceFault) (column : ℕ) (line : List ℕ) : Type 0 where
   pub pieces : List Piece
   pub said : List ℕ
@@ -119,7 +119,7 @@ pub record IsLineFault (f : PieceFault) (column : ℕ) (line : List ℕ) : Type 
   pub fault : IsPieceFault f rest
   pub at : column + length rest ≡ length (front_of line)
 
--- lines that have a text, and then a line with a fault, with its number from 1
+-- lines that have a script text, and then a line with a fault, with its number from 1
 pub record AreLinesFault (f : PieceFault) (number column : ℕ) (lines : List (List ℕ)) : Type 0 where
   pub before : List (List ℕ)
   pub line : List ℕ

@@ -1,4 +1,4 @@
--- Trusted: a saved program: the lines that its bytes hold, and where it is cut off.
+-- Trusted: a saved program: the lines in its bytes, and where it is cut off.
 use Rattle.std.specs.Prelude.{◌≡◌, IsTrue, ℕ, suc, ◌+◌, ◌*◌, ◌<◌, ◌⊎◌, ◌==◌, not, Bool, List, [], ◌∷◌, ◌++◌, length}
 use Rattle.std.specs.List.{list_all}
 use Rattle.pr_listing.specs.declared.fault.ListingFault.{ListingFault}
@@ -13,8 +13,8 @@ pub record Line : Type 0 where
 abbrev pub is_not_zero : ℕ → Bool
 is_not_zero b = not (b == 0)
 
--- bytes begin with a line, and the rest follows: two bytes of a link, which are not both 0, two of
--- its number, the low one first, its own bytes, of which none is 0, and a 0
+-- bytes begin with a line, and the rest follows: two bytes of a link that are not both 0, two bytes
+-- of the line's number, the low one first, the line's own bytes, none of them 0, and a 0
 pub record BeginsWith (line : Line) (bytes rest : List ℕ) : Type 0 where
   pub link_low : ℕ
   pub link_high : ℕ
@@ -36,11 +36,11 @@ abbrev pub Holds : List Line → List ℕ → List ℕ → Type 0
 Holds lines file rest = (low : ℕ) × (high : ℕ) × (bytes : List ℕ)
     × (file ≡ low ∷ high ∷ bytes) × BeginsWithLines lines bytes rest
 
--- a file is a saved program of these lines: a link of 0 follows them, and after it anything
+-- a file is a saved program of these lines: after them comes a link of 0, and then any bytes
 abbrev pub IsProgram : List Line → List ℕ → Type 0
 IsProgram lines file = (more : List ℕ) × Holds lines file (0 ∷ 0 ∷ more)
 
--- bytes end before a line does, or the link of 0
+-- bytes end before the end of a line, or before the link of 0
 abbrev pub IsCutOff : List ℕ → Type 0
 IsCutOff bytes = (length bytes < 2)
     ⊎ ((link_low : ℕ) × (link_high : ℕ) × (rest : List ℕ) × (bytes ≡ link_low ∷ link_high ∷ rest)

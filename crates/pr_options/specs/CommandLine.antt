@@ -6,7 +6,7 @@ use Rattle.clap.specs.declared.builder.action.ArgAction.TheVariants.{SetTrue}
 use Rattle.pr_options.specs.OptionNames.{ValueOption}
 use Rattle.pr_options.specs.OptionNames as option
 
--- an option with a value, and the value where it is not given
+-- an option with a value, and its default
 abbrev pub value_rule : ValueOption → Rule
 value_rule o =
     record (new_rule o.name) { long = Some o.name; value_names = 1; defaults = o.default ∷ [] }
@@ -37,7 +37,7 @@ abbrev pub raw_shape : Shape
 raw_shape =
     subcommand (codes "raw") (value_rule option.set ∷ value_rule option.page_as ∷ flag_rule option.explain ∷ [])
 
--- the program: it has a version, and wants one of its subcommands
+-- the program: it has a version, and needs one of its subcommands
 abbrev pub print1525 : App
 print1525 = record {
   top = record (new_shape (codes "print1525")) {

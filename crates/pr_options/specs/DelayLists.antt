@@ -6,17 +6,17 @@ use Rattle.pr_serial.specs.Bus.{DelayNumbers}
 use Rattle.pr_wire.specs.Choices.{left}
 use Rattle.pr_bus.specs.declared.wires.Delays.{Delays}
 
--- one to five digits, which spell at most 65535
+-- one to five digits that spell at most 65535
 abbrev pub is_raw_number : List ℕ → Bool
 is_raw_number text =
     nat_le 1 (length text) && (nat_le (length text) 5 && (list_all is_digit text && nat_le (number_of text) 65535))
 
--- the words of a list: an empty list has none, else they are parted by commas
+-- the words of a list, separated by commas; an empty list has none
 abbrev pub words_of : List ℕ → List (List ℕ)
 words_of [] = []
 words_of (b ∷ bs) = slice_split (λ x. x == 44) (b ∷ bs)
 
--- a list: each of its words is a number
+-- a list of which each word is a number
 abbrev pub is_number_list : List ℕ → Bool
 is_number_list text = list_all is_raw_number (words_of text)
 
@@ -24,7 +24,7 @@ is_number_list text = list_all is_raw_number (words_of text)
 abbrev pub numbers_in : List ℕ → List ℕ
 numbers_in text = map number_of (words_of text)
 
--- the numbers of three lists, if each of them is one
+-- the numbers of three lists, if all are lists of numbers
 abbrev pub three_lists : List ℕ → List ℕ → List ℕ → Option DelayNumbers
 three_lists computer four five =
     if is_number_list computer && (is_number_list four && is_number_list five)
@@ -38,7 +38,7 @@ up_to_three (computer ∷ four ∷ []) = three_lists computer four []
 up_to_three (computer ∷ four ∷ five ∷ []) = three_lists computer four five
 up_to_three _ = None
 
--- the numbers of a value of --delays: its lists are parted by slashes
+-- the numbers of a value of --delays, with slashes between its lists
 abbrev pub delays_of : List ℕ → Option DelayNumbers
 delays_of text = up_to_three (slice_split (λ x. x == 47) text)
 

@@ -17,7 +17,7 @@ is_of_words None = false
 is_of_words (Some DefaultValue) = false
 is_of_words (Some CommandLine) = true
 
--- words give the option or the flag of this name
+-- the words have the option or the flag of this name
 abbrev pub is_given : Text → List Row → Bool
 is_given name rows =
     option_map_or (λ row. is_of_words row.source) (find (λ row. bytes_eq row.id name) rows) false

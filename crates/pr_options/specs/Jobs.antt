@@ -78,7 +78,7 @@ abbrev pub ◌>>=◌ : {A B : Type 0} → Result A JobFault → (A → Result B 
 Ok value >>= next = next value
 Err f >>= next = Err f
 
--- the value of an option by its meaning, or the fault of a value that has none
+-- what an option's value means, or the fault of a value without a meaning
 abbrev pub read : {A : Type 0} → ValueOption → (Text → Option A) → JobFault → List Row
     → Result A JobFault
 read option meaning bad rows = ok_or (meaning (value_in option rows)) bad
@@ -91,12 +91,12 @@ wanted_run rows =
     read option.status mode_of fault.BadStatus rows >>= λ mode.
     Ok (record { present = present; delays = delays; mode = mode })
 
--- what goes with a recording alone is given
+-- an option is given that only a recording can have
 abbrev pub wants_recording : List Row → Bool
 wants_recording rows = is_given option.invert rows
     || (is_given option.names.name rows || is_given option.from_time.name rows)
 
--- what is given goes with the source: with a text nothing of a recording
+-- the options fit the source: with a trace text, none of a recording
 abbrev pub fits : Source → List Row → Bool
 fits source.Text rows = not (wants_recording rows)
 fits _ rows = true
@@ -116,7 +116,7 @@ wanted_input rows =
     })
     else Err fault.NoRecording
 
--- the jobs of the subcommands, each of which has a meaning of --as of its own
+-- the jobs of the subcommands; each has its own values of --as
 abbrev pub wanted_check : List Row → Result JobView JobFault
 wanted_check rows =
     wanted_input rows >>= λ input.
@@ -145,8 +145,8 @@ wanted_pages run rows =
     read option.page_as format_of fault.BadPageAs rows >>= λ format.
     Ok (Pages form run format)
 
--- the job of a subcommand with these rows of options, or its first bad value: those of a run and
--- --set are read whichever subcommand it is, and the last one is `pages`
+-- the job of a subcommand with these rows of options, or the first bad value: the options of a run
+-- and --set are read for every subcommand, and the last subcommand is `pages`
 abbrev pub wanted : Text → List Row → Result JobView JobFault
 wanted name rows =
     wanted_run rows >>= λ run.
@@ -161,8 +161,8 @@ wanted name rows =
 abbrev pub asked : List Text → Option (Result JobView JobFault)
 asked words = option_map (λ met. wanted met.0 met.1) (subcommand_of print1525 words)
 
--- why words ask for nothing: clap refuses them, for one of its reasons against them and never for
--- want of memory; or memory was refused; or clap takes them, and this is their first bad value
+-- why words ask for no job: clap refuses them, for one of the reasons that it has and not for want
+-- of memory; or memory was refused; or clap takes them, and this is their first bad value
 abbrev pub IsRefused : List Text → JobFault → Type 0
 IsRefused words (fault.Line e) = (kind_of e ≢ OutOfMemory)
     × (IsAmong (kind_of e) (fault_of print1525 words) × (takes print1525 words ≡ false))

@@ -19,7 +19,7 @@ listing_from = record { name = codes "from"; default = codes "text" }
 abbrev pub delays : ValueOption
 delays = record { name = codes "delays"; default = [] }
 
--- how the status goes from statement to statement
+-- whether the status is kept from statement to statement
 abbrev pub status : ValueOption
 status = record { name = codes "status"; default = codes "each" }
 
@@ -35,11 +35,11 @@ page_as = record { name = codes "as"; default = codes "list" }
 abbrev pub trace_as : ValueOption
 trace_as = record { name = codes "as"; default = codes "text" }
 
--- what is written of a trace that is checked
+-- what `check` writes
 abbrev pub report_as : ValueOption
 report_as = record { name = codes "as"; default = codes "frames" }
 
--- what is written of a recording that is decoded
+-- what `decode` writes
 abbrev pub reading_as : ValueOption
 reading_as = record { name = codes "as"; default = codes "list" }
 
@@ -55,10 +55,10 @@ names = record { name = codes "names"; default = codes "ATN,CLOCK,DATA" }
 abbrev pub from_time : ValueOption
 from_time = record { name = codes "from-time"; default = codes "0" }
 
--- the probes invert; it has no value
+-- the probes invert; a flag without a value
 abbrev pub invert : Text
 invert = codes "invert"
 
--- more is said about a fault or a BASIC error; it has no value
+-- an explanation of a fault or of a BASIC error; a flag without a value
 abbrev pub explain : Text
 explain = codes "explain"

@@ -11,6 +11,7 @@ use Rattle.pr_listing.specs.declared.form.ListingForm.{ListingForm}
 use Rattle.pr_listing.specs.declared.form.ListingForm.TheVariants as form
 use Rattle.pr_render.specs.declared.format.Format.{Format}
 use Rattle.pr_render.specs.declared.format.Format.TheVariants as format
+use Rattle.pr_render.specs.Showing.{whole}
 use Rattle.pr_capture.specs.declared.format.TraceFormat.{TraceFormat}
 use Rattle.pr_capture.specs.declared.format.TraceFormat.TheVariants as trace
 use Rattle.pr_capture.specs.declared.format.Source.{Source}
@@ -18,7 +19,7 @@ use Rattle.pr_capture.specs.declared.format.Source.TheVariants as source
 use Rattle.pr_report.specs.declared.report.Report.{Report}
 use Rattle.pr_report.specs.declared.report.Report.TheVariants as report
 
--- what a word means by a table
+-- the meaning of a word in a table
 abbrev pub meaning_of : {A : Type 0} → List (Text × A) → Text → Option A
 meaning_of table text = option_map (λ row. row.1) (find (λ row. bytes_eq text row.0) table)
 
@@ -34,7 +35,7 @@ abbrev pub form_of : Text → Option ListingForm
 form_of = meaning_of (
     (codes "text", form.Text) ∷ (codes "prg", form.Program) ∷ (codes "petcat", form.Petcat) ∷ [])
 
--- how the status goes from statement to statement: each or kept
+-- whether the status is kept from statement to statement: each (cleared) or kept
 abbrev pub mode_of : Text → Option StatusMode
 mode_of = meaning_of ((codes "each", Each) ∷ (codes "kept", Kept) ∷ [])
 
@@ -45,7 +46,7 @@ set_of = meaning_of ((codes "upper", false) ∷ (codes "lower", true) ∷ [])
 -- the format of the page: list, text or svg
 abbrev pub format_of : Text → Option Format
 format_of = meaning_of (
-    (codes "list", format.List) ∷ (codes "text", format.Lines) ∷ (codes "svg", format.Picture) ∷ [])
+    (codes "list", format.List) ∷ (codes "text", format.Lines) ∷ (codes "svg", format.Svg whole) ∷ [])
 
 -- the format of a run's trace: text or vcd
 abbrev pub trace_format_of : Text → Option TraceFormat

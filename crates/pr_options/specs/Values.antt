@@ -4,7 +4,7 @@ use Rattle.pr_options.specs.declared.options.TheConstants.{DELAYS_HELP, FROM_HEL
 use Rattle.pr_options.specs.declared.command_line.JobFault.{JobFault}
 use Rattle.pr_options.specs.declared.command_line.JobFault.TheVariants as fault
 
--- the values of the option of which one is bad; no other fault has any
+-- the values of the option that has a bad value; for any other fault none
 abbrev pub values_of : JobFault → Option (List ℕ)
 values_of fault.BadPresent = Some PRESENT_HELP.now
 values_of fault.BadDelays = Some DELAYS_HELP.now

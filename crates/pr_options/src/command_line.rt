@@ -173,8 +173,9 @@ pub fn read_job<'a>(alloc: Global, words: &'a [&'a str]) -> Result<Job<'a>, JobF
     }
 }
 
-/// Returns whether a word is `--explain`, which asks for more on a refusal or an error. No value of
-/// an option is that word in a command line that clap takes. It takes no memory.
+/// Returns whether a word is `--explain`, which asks for more on a refusal or an error; also on a
+/// bad value, where there is no job. No value of an option is that word in a command line that clap
+/// takes. It takes no memory.
 pub fn explains(words: &[&str]) -> bool
     ensures { result ≡ list_any (λ word. bytes_eq word.now (codes "--explain")) words.now }
 {

@@ -6,7 +6,8 @@
 pub struct HelpText {
     /// What it does, in a line.
     pub about: &'static str,
-    /// How it is called. A command line that clap refuses shows this too.
+    /// How it is called. A command line that clap refuses shows this too, also where clap refuses a
+    /// file name: so it ends with what standard input is, as `< SCRIPT`.
     pub usage: &'static str,
     /// What follows the options.
     pub more: &'static str,

@@ -8,7 +8,7 @@ use crate::parts::{all_digits, cut};
 use pr_basic::StatusMode;
 use pr_capture::{Signals, Source, TraceFormat};
 use pr_listing::ListingForm;
-use pr_render::Format;
+use pr_render::{Format, Part};
 use pr_report::Report;
 use pr_serial::Present;
 
@@ -70,7 +70,7 @@ pub fn read_format(text: &str) -> Option<Format>
     match text {
         "list" => Some(Format::List),
         "text" => Some(Format::Lines),
-        "svg" => Some(Format::Picture),
+        "svg" => Some(Format::Svg(Part::whole())),
         _ => None,
     }
 }

@@ -1,5 +1,8 @@
 //! The program's options: their names, their defaults, and what help says about them. Help has at
 //! most 80 columns, and its lines are broken here.
+//!
+//! `specs/OptionNames.antt` says names and defaults once more, since the kit hands no constant that
+//! is a struct to a specification; so a changed default is refused.
 
 /// An option with a value.
 #[derive(Clone, Copy)]

@@ -72,7 +72,8 @@ fn marks_a_cell(b: u8) -> bool
 
 impl Sheet {
     /// Ends the line. The row gets a copy of its marks, so that the room of `held` serves the next
-    /// line and a row keeps no room that it does not need.
+    /// line and a row keeps no room that it does not need: memory grows with the marks alone, and a
+    /// full line is filled without a growth.
     #[inline(never)]
     fn end_line(&mut self, alloc: Global, graphic: bool) -> Result<(), AllocError>
         requires { self.old.y < 2 ^ 60 }

@@ -10,7 +10,8 @@ use Rattle.pr_page.specs.declared.paper.Row.{Row}
 use Rattle.pr_dots.specs.Dots.{Dot, bit_dots, column_dots, columns_dots, columns_of, row_dots}
 use Rattle.pr_pdf.specs.Drawn.{disc_on, moved, row_discs, run_discs, sheet_discs, string_discs}
 use Rattle.pr_pdf.specs.Fonts.{Disc, code_of, font_columns, font_of, glyph_disc, glyph_discs, mark_of}
-use Rattle.pr_pdf.specs.Sheets.{Run, codes_taken, end_of, first_sheet, goes_on, height_on, is_on, joined, last_sheet, runs_left, runs_of}
+use Rattle.pr_dots.specs.Sheets.{first_sheet, is_on, last_sheet}
+use Rattle.pr_pdf.specs.Sheets.{Run, codes_taken, end_of, goes_on, height_on, joined, runs_left, runs_of}
 
 -- a disc
 abbrev disc_at : ℕ → ℕ → Disc

@@ -11,7 +11,7 @@ use Rattle.pr_page.specs.declared.paper.Row.{Row}
 use Rattle.pr_dots.specs.Dots.{Dot, bit_dots, column_dots, columns_dots, columns_of, dots_of, has_dot, is_at, row_dots}
 use Rattle.pr_pdf.specs.Drawn.{disc_on, has_disc, is_disc, sheet_discs}
 use Rattle.pr_pdf.specs.Fonts.{Disc}
-use Rattle.pr_pdf.specs.Sheets.{first_sheet, is_on, last_sheet}
+use Rattle.pr_dots.specs.Sheets.{first_sheet, is_on, last_sheet}
 use Rattle.pr_pdf.proofs.DiscByDisc.{sheets_draw}
 
 -- a dot is on a sheet

@@ -7,7 +7,8 @@ use Rattle.pr_page.specs.declared.paper.Row.{Row}
 use Rattle.pr_pdf.specs.declared.document.Document.{Document}
 use Rattle.pr_pdf.specs.Linked.{Adds, IsSkipped}
 use Rattle.pr_pdf.specs.Pdf.{or_empty, sheet_bodies}
-use Rattle.pr_pdf.specs.Sheets.{sheet_count, sheet_pdf, sheets_of}
+use Rattle.pr_dots.specs.Sheets.{sheet_count}
+use Rattle.pr_pdf.specs.Sheets.{sheet_pdf, sheet_texts}
 use Rattle.pr_pdf.specs.Words.{numbers_from}
 use Rattle.pr_pdf.proofs.Numbers.{map_more, map_none, numbers_length}
 use Rattle.pr_pdf.proofs.Objects.{none_adds, then_adds}
@@ -19,7 +20,7 @@ bodies_append pages number [] ys = grind (arith, common_steps)
 bodies_append pages number (x ∷ xs) ys = grind (arith, common_steps, bodies_append pages (number + 2) xs ys)
 
 -- as many sheets as are counted
-pub sheets_length : (rows : List Row) → length (sheets_of rows) ≡ sheet_count rows
+pub sheets_length : (rows : List Row) → length (sheet_texts rows) ≡ sheet_count rows
 sheets_length rows = grind (arith, common_steps, numbers_length 0 (sheet_count rows))
 
 -- rows that are on no sheet from one on can be left out
@@ -56,8 +57,8 @@ or_empty_some [] some = absurd (omega (arith, some))
 or_empty_some (sheet ∷ sheets) some = refl
 
 -- how many sheets both printers' rows take
-pub both_length : (rows4 rows5 : List Row) → length (sheets_of rows4 ++ sheets_of rows5) ≡ sheet_count rows4 + sheet_count rows5
-both_length rows4 rows5 = length-append (sheets_of rows4) (sheets_of rows5) ∙ both (length (sheets_of rows4)) (length (sheets_of rows5)) (sheet_count rows4) (sheet_count rows5) (sheets_length rows4) (sheets_length rows5)
+pub both_length : (rows4 rows5 : List Row) → length (sheet_texts rows4 ++ sheet_texts rows5) ≡ sheet_count rows4 + sheet_count rows5
+both_length rows4 rows5 = length-append (sheet_texts rows4) (sheet_texts rows5) ∙ both (length (sheet_texts rows4)) (length (sheet_texts rows5)) (sheet_count rows4) (sheet_count rows5) (sheets_length rows4) (sheets_length rows5)
   where
     both : (a b c d : ℕ) → a ≡ c → b ≡ d → a + b ≡ c + d
     both a b c d p q = omega (arith, p, q)
@@ -65,40 +66,40 @@ both_length rows4 rows5 = length-append (sheets_of rows4) (sheets_of rows5) ∙ 
 -- the sheets of both printers' rows, or an empty one
 pub some_add : (pages first second : ℕ) (rows4 rows5 : List Row) {a b c : Document} → second ≡ first + 2 * sheet_count rows4
     → 0 < sheet_count rows4 + sheet_count rows5
-    → Adds (sheet_bodies pages first (sheets_of rows4)) a b → Adds (sheet_bodies pages second (sheets_of rows5)) b c
-    → Adds (sheet_bodies pages first (or_empty (sheets_of rows4 ++ sheets_of rows5))) a c
+    → Adds (sheet_bodies pages first (sheet_texts rows4)) a b → Adds (sheet_bodies pages second (sheet_texts rows5)) b c
+    → Adds (sheet_bodies pages first (or_empty (sheet_texts rows4 ++ sheet_texts rows5))) a c
 some_add pages first second rows4 rows5 at some before now =
-    let long : second ≡ first + 2 * length (sheets_of rows4) = rw (sheets_length rows4) at in
-    let some_sheets : 0 < length (sheets_of rows4 ++ sheets_of rows5) = rw (both_length rows4 rows5) some in
-    rw (or_empty_some (sheets_of rows4 ++ sheets_of rows5) some_sheets)
-    (sheets_add pages first second (sheets_of rows4) (sheets_of rows5) long before now)
+    let long : second ≡ first + 2 * length (sheet_texts rows4) = rw (sheets_length rows4) at in
+    let some_sheets : 0 < length (sheet_texts rows4 ++ sheet_texts rows5) = rw (both_length rows4 rows5) some in
+    rw (or_empty_some (sheet_texts rows4 ++ sheet_texts rows5) some_sheets)
+    (sheets_add pages first second (sheet_texts rows4) (sheet_texts rows5) long before now)
 
 pub empty_adds : (pages first second : ℕ) (rows4 rows5 : List Row) {a b c d : Document} → second ≡ first + 2 * sheet_count rows4
     → sheet_count rows4 + sheet_count rows5 ≡ 0
-    → Adds (sheet_bodies pages first (sheets_of rows4)) a b → Adds (sheet_bodies pages second (sheets_of rows5)) b c
+    → Adds (sheet_bodies pages first (sheet_texts rows4)) a b → Adds (sheet_bodies pages second (sheet_texts rows5)) b c
     → Adds (sheet_bodies pages first (sheet_pdf [] 0 ∷ [])) c d
-    → Adds (sheet_bodies pages first (or_empty (sheets_of rows4 ++ sheets_of rows5))) a d
+    → Adds (sheet_bodies pages first (or_empty (sheet_texts rows4 ++ sheet_texts rows5))) a d
 empty_adds pages first second rows4 rows5 {a} {b} {c} {d} at none before now empty =
     let no4 : sheet_count rows4 ≡ 0 = omega (arith, none) in
     let no5 : sheet_count rows5 ≡ 0 = omega (arith, none) in
-    let none4 : sheets_of rows4 ≡ [] = rw no4 (map_none (sheet_pdf rows4)) in
-    let none5 : sheets_of rows5 ≡ [] = rw no5 (map_none (sheet_pdf rows5)) in
-    let no_sheets : length (sheets_of rows4 ++ sheets_of rows5) ≡ 0 = both_length rows4 rows5 ∙ none in
+    let none4 : sheet_texts rows4 ≡ [] = rw no4 (map_none (sheet_pdf rows4)) in
+    let none5 : sheet_texts rows5 ≡ [] = rw no5 (map_none (sheet_pdf rows5)) in
+    let no_sheets : length (sheet_texts rows4 ++ sheet_texts rows5) ≡ 0 = both_length rows4 rows5 ∙ none in
     let from : Adds [] a b = rw none4 at before in
     let to : Adds [] b c = rw none5 at now in
-    rw (or_empty_none (sheets_of rows4 ++ sheets_of rows5) no_sheets) (then_adds from (then_adds to empty))
+    rw (or_empty_none (sheet_texts rows4 ++ sheet_texts rows5) no_sheets) (then_adds from (then_adds to empty))
 
 -- how many sheets that makes
-pub count_none : (rows4 rows5 : List Row) → sheet_count rows4 + sheet_count rows5 ≡ 0 → 1 ≡ length (or_empty (sheets_of rows4 ++ sheets_of rows5))
+pub count_none : (rows4 rows5 : List Row) → sheet_count rows4 + sheet_count rows5 ≡ 0 → 1 ≡ length (or_empty (sheet_texts rows4 ++ sheet_texts rows5))
 count_none rows4 rows5 none =
-    let no_sheets : length (sheets_of rows4 ++ sheets_of rows5) ≡ 0 = both_length rows4 rows5 ∙ none in
-    rw (or_empty_none (sheets_of rows4 ++ sheets_of rows5) no_sheets) refl
+    let no_sheets : length (sheet_texts rows4 ++ sheet_texts rows5) ≡ 0 = both_length rows4 rows5 ∙ none in
+    rw (or_empty_none (sheet_texts rows4 ++ sheet_texts rows5) no_sheets) refl
 
 pub count_some : (rows4 rows5 : List Row) → 0 < sheet_count rows4 + sheet_count rows5
-    → sheet_count rows4 + sheet_count rows5 ≡ length (or_empty (sheets_of rows4 ++ sheets_of rows5))
+    → sheet_count rows4 + sheet_count rows5 ≡ length (or_empty (sheet_texts rows4 ++ sheet_texts rows5))
 count_some rows4 rows5 some =
-    let some_sheets : 0 < length (sheets_of rows4 ++ sheets_of rows5) = rw (both_length rows4 rows5) some in
-    rw (or_empty_some (sheets_of rows4 ++ sheets_of rows5) some_sheets) (sym (both_length rows4 rows5))
+    let some_sheets : 0 < length (sheet_texts rows4 ++ sheet_texts rows5) = rw (both_length rows4 rows5) some in
+    rw (or_empty_some (sheet_texts rows4 ++ sheet_texts rows5) some_sheets) (sym (both_length rows4 rows5))
 
 -- a sheet of the rows that are left
 pub sheet_now : (pages number sheet k : ℕ) (rows rest : List Row) {a b : Document} → rest ≡ drop k rows → IsSkipped sheet k rows

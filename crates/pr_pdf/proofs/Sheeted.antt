@@ -7,7 +7,7 @@ use Rattle.std.proofs.lemmas.Grind.{common_steps}
 use Rattle.std.proofs.lemmas.List.{append-nil}
 use Rattle.pr_page.specs.declared.paper.Row.{Row}
 use Rattle.pr_pdf.specs.Linked.{IsSkipped, ascend}
-use Rattle.pr_pdf.specs.Sheets.{first_sheet, is_on, last_sheet}
+use Rattle.pr_dots.specs.Sheets.{first_sheet, is_on, last_sheet}
 
 -- a sheet's number, from a distance and 13 more
 pub last_is : (y : ℕ) → y / 1386 + (y % 1386 + 13) / 1386 ≡ (y + 13) / 1386

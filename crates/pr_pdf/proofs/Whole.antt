@@ -6,7 +6,7 @@ use Rattle.pr_pdf.specs.declared.document.Document.{Document}
 use Rattle.pr_pdf.specs.Fonts.{font_pdf, used_among, used_before, used_of}
 use Rattle.pr_pdf.specs.Linked.{Adds, HasBodies, bodies_before}
 use Rattle.pr_pdf.specs.Pdf.{bodies_from, file_of, first_bodies, glyph_body, marks_of, or_empty, pages_pdf, rows_pdf, sheet_bodies, table_pdf, trailer_pdf}
-use Rattle.pr_pdf.specs.Sheets.{sheets_of}
+use Rattle.pr_pdf.specs.Sheets.{sheet_texts}
 use Rattle.pr_pdf.specs.Words.{numbers_from}
 use Rattle.pr_pdf.proofs.Objects.{file_is}
 
@@ -34,11 +34,11 @@ drawn first pages count used sheets a b c pages_is count_is before now last =
 -- the file of rows
 pub rows_drawn : (rows4 rows5 : List Row) (first pages count : ℕ) (used : List Bool) (a b c : Document)
     → used ≡ used_of (marks_of rows4 ++ marks_of rows5) → first ≡ 19 + used_before used 2304
-    → pages ≡ first + 2 * count → count ≡ length (or_empty (sheets_of rows4 ++ sheets_of rows5))
-    → HasBodies (bodies_before pages used) a → Adds (sheet_bodies pages first (or_empty (sheets_of rows4 ++ sheets_of rows5))) a b
+    → pages ≡ first + 2 * count → count ≡ length (or_empty (sheet_texts rows4 ++ sheet_texts rows5))
+    → HasBodies (bodies_before pages used) a → Adds (sheet_bodies pages first (or_empty (sheet_texts rows4 ++ sheet_texts rows5))) a b
     → Adds (pages_pdf first count ∷ []) b c
     → c.text.items ++ table_pdf c.places.items ++ trailer_pdf (length c.places.items) (length c.text.items) ≡ rows_pdf rows4 rows5
 rows_drawn rows4 rows5 first pages count used a b c used_is first_is pages_is count_is before now last =
-    drawn first pages count used (or_empty (sheets_of rows4 ++ sheets_of rows5)) a b c pages_is count_is before now last
-    ∙ ap (λ n. file_of (bodies_from n used (or_empty (sheets_of rows4 ++ sheets_of rows5)))) first_is
-    ∙ ap (λ (u : List Bool). file_of (bodies_from (19 + used_before u 2304) u (or_empty (sheets_of rows4 ++ sheets_of rows5)))) used_is
+    drawn first pages count used (or_empty (sheet_texts rows4 ++ sheet_texts rows5)) a b c pages_is count_is before now last
+    ∙ ap (λ n. file_of (bodies_from n used (or_empty (sheet_texts rows4 ++ sheet_texts rows5)))) first_is
+    ∙ ap (λ (u : List Bool). file_of (bodies_from (19 + used_before u 2304) u (or_empty (sheet_texts rows4 ++ sheet_texts rows5)))) used_is

@@ -5,7 +5,8 @@ use Rattle.std.specs.List.{list_any}
 use Rattle.pr_page.specs.declared.paper.Row.{Row}
 use Rattle.pr_dots.specs.Dots.{Dot}
 use Rattle.pr_pdf.specs.Fonts.{Disc, font_columns, glyph_discs, mark_of}
-use Rattle.pr_pdf.specs.Sheets.{Run, height_on, is_on, runs_of}
+use Rattle.pr_dots.specs.Sheets.{is_on}
+use Rattle.pr_pdf.specs.Sheets.{Run, height_on, runs_of}
 
 -- a disc so far to the right and so far up
 abbrev pub moved : (across up : ℕ) → Disc → Disc

@@ -4,7 +4,7 @@ use Rattle.pr_page.specs.declared.paper.Paper.{Paper}
 use Rattle.pr_page.specs.declared.paper.Row.{Row}
 use Rattle.pr_dots.specs.Dots.{has_dot, row_dots}
 use Rattle.pr_pdf.specs.Drawn.{disc_on, has_disc, sheet_discs}
-use Rattle.pr_pdf.specs.Sheets.{is_on}
+use Rattle.pr_dots.specs.Sheets.{is_on}
 
 -- a sheet draws a disc for each dot of the rows that are on it, and no other disc
 abbrev pub DrawsDots : Type 0

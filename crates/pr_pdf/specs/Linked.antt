@@ -7,7 +7,8 @@ use Rattle.pr_pdf.specs.declared.document.Document.{Document}
 use Rattle.pr_pdf.specs.Fonts.{code_of, font_of, font_pdf, used_among, used_of}
 use Rattle.pr_pdf.specs.Parts.{run_end}
 use Rattle.pr_pdf.specs.Pdf.{first_bodies, front_pdf, glyph_body, places_of}
-use Rattle.pr_pdf.specs.Sheets.{end_of, is_on, run_begin}
+use Rattle.pr_dots.specs.Sheets.{is_on}
+use Rattle.pr_pdf.specs.Sheets.{end_of, run_begin}
 use Rattle.pr_pdf.specs.Words.{hex_2, numbers_from}
 
 -- if a table said what some marks use, the new one says what they and more marks use

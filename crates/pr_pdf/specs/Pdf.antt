@@ -8,7 +8,7 @@ use Rattle.pr_page.specs.declared.paper.Mark.{Mark}
 use Rattle.pr_serial.specs.declared.Present.{Present}
 use Rattle.pr_pdf.specs.Fonts.{characters_pdf, encoding_pdf, font_pdf, glyph_pdf, resources_pdf, used_among, used_before, used_of, widths_pdf}
 use Rattle.pr_pdf.specs.Parts.{catalog_begin, header, list_end, object_begin, object_end, page_begin, page_content, pages_begin, pages_kids, place_end, reference, reference_end, stream_begin, stream_bytes, stream_end, table_begin, table_free, trailer_begin, trailer_end, trailer_root}
-use Rattle.pr_pdf.specs.Sheets.{sheet_pdf, sheets_of}
+use Rattle.pr_pdf.specs.Sheets.{sheet_pdf, sheet_texts}
 use Rattle.pr_pdf.specs.Words.{numbers_from}
 
 -- an object with its number
@@ -117,7 +117,7 @@ rows_pdf rows4 rows5 = rows_with (used_of (marks_of rows4 ++ marks_of rows5))
   where
     rows_with : List Bool → List ℕ
     rows_with used =
-        file_of (bodies_from (19 + used_before used 2304) used (or_empty (sheets_of rows4 ++ sheets_of rows5)))
+        file_of (bodies_from (19 + used_before used 2304) used (or_empty (sheet_texts rows4 ++ sheet_texts rows5)))
 
 -- papers as a document of sheets. Marks that are held have no place yet, and are left out
 unfoldable pub pdf_of : (paper4 paper5 : Paper) → Present → List ℕ

@@ -2,6 +2,7 @@
 use Rattle.std.specs.Prelude.{ℕ, ◌+◌, ◌-◌, ◌*◌, ◌/◌, Bool, List, [], ◌∷◌, ◌++◌, ◌==◌, ◌&&◌, ◌||◌, codes, decimal, filter, flat_map, map, max, if◌then◌else◌}
 use Rattle.pr_page.specs.declared.paper.Placed.{Placed}
 use Rattle.pr_page.specs.declared.paper.Row.{Row}
+use Rattle.pr_dots.specs.Sheets.{is_on, sheet_count}
 use Rattle.pr_pdf.specs.Fonts.{code_of, font_columns, font_name, font_of}
 use Rattle.pr_pdf.specs.Parts.{run_codes, run_end, run_place, sheet_begin, sheet_end}
 use Rattle.pr_pdf.specs.Words.{hex_2, numbers_from}
@@ -59,26 +60,10 @@ height_on sheet y = 20 * (1386 * (sheet + 1) + 1 - y)
 abbrev pub row_pdf : ℕ → Row → List ℕ
 row_pdf sheet row = flat_map (run_pdf (height_on sheet row.y)) (runs_of row.marks)
 
--- the sheets on which a row begins and ends: its discs reach 14/126 inch down
-abbrev pub first_sheet : Row → ℕ
-first_sheet row = row.y / 1386
-
-abbrev pub last_sheet : Row → ℕ
-last_sheet row = (row.y + 13) / 1386
-
--- a row is on a sheet: one that straddles a fold is on both
-abbrev pub is_on : ℕ → Row → Bool
-is_on sheet row = first_sheet row == sheet || last_sheet row == sheet
-
 -- what a sheet draws
 unfoldable pub sheet_pdf : List Row → ℕ → List ℕ
 sheet_pdf rows sheet = sheet_begin ++ flat_map (row_pdf sheet) (filter (is_on sheet) rows) ++ sheet_end
 
--- how many sheets rows take
-abbrev pub sheet_count : List Row → ℕ
-sheet_count [] = 0
-sheet_count (row ∷ rows) = max (last_sheet row + 1) (sheet_count rows)
-
 -- what each of the sheets draws that rows take
-abbrev pub sheets_of : List Row → List (List ℕ)
-sheets_of rows = map (sheet_pdf rows) (numbers_from 0 (sheet_count rows))
+abbrev pub sheet_texts : List Row → List (List ℕ)
+sheet_texts rows = map (sheet_pdf rows) (numbers_from 0 (sheet_count rows))

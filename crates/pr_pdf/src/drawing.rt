@@ -2,7 +2,8 @@
 
 ghost use Rattle.std.specs.Prelude.{◌≡◌, ◌+◌, ◌*◌, ◌^◌, ◌≤◌, ◌<◌, true, ◌∷◌, ◌++◌, [], flat_map, length, map, IfErr, IfOk, OnOk};
 ghost use Rattle.pr_pdf.specs.Fonts.{encoding_pdf, font_pdf, glyph_object, resources_pdf, used_among, used_of, widths_pdf, characters_pdf};
-ghost use Rattle.pr_pdf.specs.Sheets.{sheet_count, sheet_pdf, sheets_of};
+ghost use Rattle.pr_dots.specs.Sheets.{sheet_count};
+ghost use Rattle.pr_pdf.specs.Sheets.{sheet_pdf, sheet_texts};
 ghost use Rattle.pr_pdf.specs.Pdf.{catalog_pdf, file_limit, first_bodies, glyph_body, kid_pdf, marks_of, or_empty, page_pdf, pages_pdf, pdf_of, rows_if, rows_pdf, sheet_bodies, stream_pdf};
 ghost use Rattle.pr_pdf.specs.Words.{numbers_from};
 ghost use Rattle.pr_pdf.specs.Linked.{Adds, HasBodies, ascend, bodies_before};
@@ -202,7 +203,7 @@ fn add_sheets(
     rows: &[Row],
 ) -> Result<u64, AllocError>
     requires { first < 2 ^ 60 }
-    ensures sheets { OnOk result (Adds (sheet_bodies pages first (sheets_of rows.now)) document.old document.new) }
+    ensures sheets { OnOk result (Adds (sheet_bodies pages first (sheet_texts rows.now)) document.old document.new) }
     ensures next { IfOk result (λ next. next ≡ first + 2 * sheet_count rows.now) }
     ensures within { IfOk result (λ next. next ≤ first + 2 ^ 55) }
 {
@@ -280,7 +281,7 @@ fn add_all_sheets(
     rows5: &[Row],
 ) -> Result<(), AllocError>
     requires { first < 2 ^ 50 }
-    ensures { OnOk result (Adds (sheet_bodies pages first (or_empty (sheets_of rows4.now ++ sheets_of rows5.now))) document.old document.new) }
+    ensures { OnOk result (Adds (sheet_bodies pages first (or_empty (sheet_texts rows4.now ++ sheet_texts rows5.now))) document.old document.new) }
 {
     let second = add_sheets(document, alloc, pages, first, rows4)?;
     let end = add_sheets(document, alloc, pages, second, rows5)?;
@@ -293,7 +294,7 @@ fn add_all_sheets(
 /// How many sheets the rows of both printers take, or 1 for an empty one.
 #[tactic(auto, using(crate::proofs::SheetBySheet::count_none, crate::proofs::SheetBySheet::count_some))]
 fn all_sheet_count(rows4: &[Row], rows5: &[Row]) -> u64
-    ensures count { result ≡ length (or_empty (sheets_of rows4.now ++ sheets_of rows5.now)) }
+    ensures count { result ≡ length (or_empty (sheet_texts rows4.now ++ sheet_texts rows5.now)) }
     ensures within { result ≤ 2 ^ 55 }
 {
     let drawn = sheet_count(rows4) + sheet_count(rows5);

@@ -1,7 +1,8 @@
 //! What is on a sheet.
 
 ghost use Rattle.std.specs.Prelude.{◌≡◌, ◌<◌, ◌≤◌, ◌∷◌, ◌++◌, [], ◌&&◌, drop, filter, flat_map, length, nat_lt, true, OnOk};
-ghost use Rattle.pr_pdf.specs.Sheets.{first_sheet, height_on, is_on, last_sheet, row_pdf, sheet_count, sheet_pdf};
+ghost use Rattle.pr_dots.specs.Sheets.{first_sheet, is_on, last_sheet, sheet_count};
+ghost use Rattle.pr_pdf.specs.Sheets.{height_on, row_pdf, sheet_pdf};
 ghost use Rattle.pr_pdf.specs.Linked.{IsSkipped, ascend};
 
 use crate::parts::{sheet_begin, sheet_end};

@@ -28,8 +28,9 @@ is_listening device before = list_any (is_listen device) (after_last is_unlisten
 abbrev pub is_called : ℕ → List Frame → Bool
 is_called device before = list_any (is_listen device) (option_to_list (last_or None before))
 
--- what a frame gives a device behind the frames before it: a LISTEN to it selects the graphic/upper case set, and secondary address 7
--- directly behind that the lower/upper case set; a data byte comes if the device listens
+-- what a frame gives a device, after the frames before it: a LISTEN to the device selects the
+-- graphic/upper case set, and secondary address 7 directly after it the lower/upper case set; a
+-- data byte comes if the device listens
 abbrev pub input_of : ℕ → List Frame → Frame → Option Input
 input_of device before frame =
     if is_listen device frame then Some (Select false)

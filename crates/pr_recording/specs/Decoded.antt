@@ -15,11 +15,11 @@ use Rattle.pr_capture.specs.declared.format.TraceInput.{TraceInput}
 use Rattle.pr_input.specs.PartlyWritten.{AppendsFront}
 use Rattle.pr_cli.specs.Report.{Says}
 use Rattle.pr_cli.specs.declared.fault.CliFault.{CliFault}
-use Rattle.pr_cli.specs.declared.fault.CliFault.TheVariants.{Script, Trace, Wave, Capture, TooLarge, NoMemory, ReadFailed, WriteFailed}
+use Rattle.pr_cli.specs.declared.fault.CliFault.TheVariants.{Script, Trace, Wave, Capture, Picture, TooLarge, NoMemory, ReadFailed, WriteFailed}
 
 -- Where a recording stops.
 
--- the index of the first edge that stands before the one in front of it, if there is one
+-- the index of the first edge that is earlier than the edge before it, if there is one
 abbrev pub back_behind : (index last : ℕ) → List Edge → Option ℕ
 back_behind i last [] = None
 back_behind i last (e ∷ es) = if nat_lt e.time last then Some i else back_behind (i + 1) e.time es
@@ -28,26 +28,26 @@ abbrev pub back_in : List Edge → Option ℕ
 back_in [] = None
 back_in (e ∷ es) = back_behind 1 e.time es
 
--- the edges in front of an index, or all
+-- the edges before an index, or all
 abbrev pub in_front : Option ℕ → List Edge → List Edge
 in_front None edges = edges
 in_front (Some n) edges = take n edges
 
--- why no more is told of a recording: time goes back at an edge, or else it has this fault
+-- why a recording is read no further: time goes back at an edge, or else it has this fault
 abbrev pub stop_at : (back : Option ℕ) → (own : Option CliFault) → Option CliFault
 stop_at None own = own
 stop_at (Some n) own = Some (Wave (wave.Order n))
 
 -- What is written.
 
--- of a whole recording the lines of its readings, their summary, and whether it is lawful; of another one the lines of what its edges
--- settle, up to there
+-- for a whole recording the lines of its readings, their summary, and whether it is lawful; for any
+-- other the lines of what its edges settle up to where it stops
 abbrev pub told_of : (stop : Option CliFault) → List Edge → List ℕ
 told_of None edges =
     all_lines Nothing (readings_of edges) ++ (summary (readings_of edges) ++ verdict_text (fault_of edges))
 told_of (Some fault) edges = all_lines Nothing (settled_of (in_front (back_in edges) edges))
 
--- what is left in the writer with each answer, by how long the input may be and is, why it stops, and what is to be told of it
+-- what the writer holds with each answer, by the limit and the length of the input, why it stops, and the text for it
 abbrev pub Leaves :
     (limit len : ℕ) → (stop : Option CliFault) → (told : List ℕ) → Option (List ℕ) → Option (List ℕ)
     → Result (Unit {0}) CliFault
@@ -57,12 +57,13 @@ Leaves limit len stop told old new (Err (Script fault)) = ⊥
 Leaves limit len stop told old new (Err (Trace fault)) = (stop ≡ Some (Trace fault)) × Appends old new told
 Leaves limit len stop told old new (Err (Wave fault)) = (stop ≡ Some (Wave fault)) × Appends old new told
 Leaves limit len stop told old new (Err (Capture fault)) = (stop ≡ Some (Capture fault)) × Appends old new told
+Leaves limit len stop told old new (Err (Picture fault)) = ⊥
 Leaves limit len stop told old new (Err TooLarge) = (limit < len) × AppendsFront old new told
 Leaves limit len stop told old new (Err NoMemory) = AppendsFront old new told
 Leaves limit len stop told old new (Err ReadFailed) = AppendsFront old new told
 Leaves limit len stop told old new (Err WriteFailed) = AppendsFront old new told
 
--- the answer, by the text read and what the writer held before and after
+-- the answer, by the text and by what the writer held before and after
 pub record AnswersDecode (limit : ℕ) (input : TraceInput) (text : List ℕ) (old new : Option (List ℕ))
     (result : Result (Unit {0}) CliFault) : Type 0 where
   pub edges : List Edge
@@ -71,14 +72,15 @@ pub record AnswersDecode (limit : ℕ) (input : TraceInput) (text : List ℕ) (o
   pub leaves : Leaves limit (length text) (stop_at (back_in edges) own)
       (told_of (stop_at (back_in edges) own) edges) old new result
 
--- the input has been read to its end where it is told whole
+-- the input has been read to its end where all of it is answered
 abbrev pub ReadsAll : Option (List ℕ) → Result (Unit {0}) CliFault → Type 0
 ReadsAll left (Ok _) = IsAtEnd left
 ReadsAll left (Err fault) = Unit {0}
 
--- a fault of a recording: of its edges only that time goes back, and want of memory always as itself
+-- a fault of a recording: of its edges only that time goes back; want of memory is always `NoMemory` itself
 abbrev pub IsDecodeFault : CliFault → Type 0
 IsDecodeFault (Script fault) = ⊥
+IsDecodeFault (Picture fault) = ⊥
 IsDecodeFault (Trace trace.NoMemory) = ⊥
 IsDecodeFault (Wave (wave.Order n)) = Unit {0}
 IsDecodeFault (Wave fault) = ⊥

@@ -12,8 +12,8 @@ use Rattle.pr_report.specs.declared.reading_line.Preceding.TheVariants.{Nothing}
 use Rattle.pr_report.specs.ReadingText.{all_lines, behind_all}
 use Rattle.pr_report.specs.Taking as survey
 use Rattle.pr_input.specs.PartlyWritten.{AppendsFront}
-use Rattle.pr_cli.specs.Inputs.{EndsReading}
-use Rattle.pr_cli.specs.Sources.{IsOwnFault}
+use Rattle.pr_cli.specs.EdgesTaken.{EndsReading}
+use Rattle.pr_cli.specs.Report.{IsOwnFault}
 use Rattle.pr_cli.specs.declared.fault.CliFault.{CliFault}
 use Rattle.pr_cli.specs.declared.fault.CliFault.TheVariants.{Wave, WriteFailed}
 use Rattle.pr_cli.specs.declared.input_reader.InputReader.{InputReader}

@@ -1,4 +1,4 @@
--- Trusted: what `decode` answers for a recording whose pages are asked for, and what it leaves in the writer.
+-- Trusted: what `decode` answers for a recording when its pages are wanted, and what it leaves in the writer.
 use Rattle.std.specs.Prelude.{◌≡◌, ℕ, ◌<◌, ◌≤◌, List, [], length, Option, Some, None, Result, Ok, Err}
 use Rattle.std.specs.Io.KnownBytes.{Appends, Keeps}
 use Rattle.pr_wire.specs.declared.Edge.{Edge}
@@ -13,10 +13,12 @@ use Rattle.pr_cli.specs.Formats.{text_in}
 use Rattle.pr_input.specs.PartlyWritten.{AppendsFront}
 use Rattle.pr_cli.specs.Report.{Says}
 use Rattle.pr_cli.specs.declared.fault.CliFault.{CliFault}
-use Rattle.pr_cli.specs.declared.fault.CliFault.TheVariants.{Script, Trace, Wave, Capture, TooLarge, NoMemory, ReadFailed, WriteFailed}
-use Rattle.pr_recording.specs.Decoded.{back_in, in_front, stop_at}
+use Rattle.pr_cli.specs.declared.fault.PictureFault.{PictureFault}
+use Rattle.pr_cli.specs.declared.fault.CliFault.TheVariants.{Script, Trace, Wave, Capture, Picture, TooLarge, NoMemory, ReadFailed, WriteFailed}
+use Rattle.pr_recording.specs.Decoded.{IsDecodeFault, back_in, in_front, stop_at}
 
--- the most bytes of a recording that is printed: a printer takes at most 2 ^ 32 inputs, and no byte of a recording makes more than one
+-- the most bytes of a recording that is printed: a printer takes at most 2 ^ 32 inputs, and no byte
+-- of a recording makes more than one
 abbrev pub print_limit : ℕ
 print_limit = 4000000000
 
@@ -25,7 +27,7 @@ abbrev pub readings_up_to : (stop : Option CliFault) → List Edge → List Read
 readings_up_to None edges = readings_of edges
 readings_up_to (Some fault) edges = settled_of (in_front (back_in edges) edges)
 
--- an outcome that is these papers and nothing else
+-- an outcome with these papers and nothing else
 abbrev pub papers_alone : PrintedPages → Outcome
 papers_alone r = record { paper4 = r.paper4; paper5 = r.paper5; statuses = []; stop = None; screen = []; trace = [] }
 
@@ -33,9 +35,15 @@ papers_alone r = record { paper4 = r.paper4; paper5 = r.paper5; statuses = []; s
 pub record IsPagesOf (format : Format) (readings : List Reading) (text : List ℕ) : Type 0 where
   pub reprinted : PrintedPages
   pub are_papers : ArePapers readings reprinted
-  pub is_text : text ≡ text_in format reprinted.present (papers_alone reprinted)
+  pub is_text : text_in format reprinted.present (papers_alone reprinted) ≡ Ok text
 
--- they were written, or a beginning of them
+-- the pages that readings make can not be shown in this format
+pub record AreUnshown (format : Format) (readings : List Reading) (fault : PictureFault) : Type 0 where
+  pub reprinted : PrintedPages
+  pub are_papers : ArePapers readings reprinted
+  pub is_unshown : text_in format reprinted.present (papers_alone reprinted) ≡ Err fault
+
+-- these pages were written, or a beginning of them
 abbrev pub WritesPages : Format → List Reading → Option (List ℕ) → Option (List ℕ) → Type 0
 WritesPages format readings old new = (text : List ℕ) × IsPagesOf format readings text × Appends old new text
 
@@ -43,7 +51,7 @@ abbrev pub WritesFrontOfPages : Format → List Reading → Option (List ℕ) �
 WritesFrontOfPages format readings old new =
     (text : List ℕ) × IsPagesOf format readings text × AppendsFront old new text
 
--- what is left in the writer with each answer, by how long the input is, why it stops, and what is printed
+-- what the writer holds with each answer, by the length of the input, why it stops, and the readings that are printed
 abbrev pub LeavesPages :
     (len : ℕ) → (stop : Option CliFault) → Format → List Reading → Option (List ℕ) → Option (List ℕ)
     → Result (Unit {0}) CliFault → Type 0
@@ -53,12 +61,13 @@ LeavesPages len stop format rs old new (Err (Trace fault)) = (stop ≡ Some (Tra
 LeavesPages len stop format rs old new (Err (Wave fault)) = (stop ≡ Some (Wave fault)) × WritesPages format rs old new
 LeavesPages len stop format rs old new (Err (Capture fault)) =
     (stop ≡ Some (Capture fault)) × WritesPages format rs old new
+LeavesPages len stop format rs old new (Err (Picture fault)) = AreUnshown format rs fault × Keeps old new
 LeavesPages len stop format rs old new (Err TooLarge) = (print_limit < len) × Keeps old new
 LeavesPages len stop format rs old new (Err NoMemory) = Keeps old new
 LeavesPages len stop format rs old new (Err ReadFailed) = Keeps old new
 LeavesPages len stop format rs old new (Err WriteFailed) = WritesFrontOfPages format rs old new
 
--- the answer, by the text read and what the writer held before and after
+-- the answer, by the text and by what the writer held before and after
 pub record AnswersPages (input : TraceInput) (format : Format) (text : List ℕ) (old new : Option (List ℕ))
     (result : Result (Unit {0}) CliFault) : Type 0 where
   pub edges : List Edge
@@ -67,3 +76,8 @@ pub record AnswersPages (input : TraceInput) (format : Format) (text : List ℕ)
   pub leaves :
       let stop = stop_at (back_in edges) own in
       LeavesPages (length text) stop format (readings_up_to stop edges) old new result
+
+-- a fault of pages that are asked for: one of the recording or of their picture
+abbrev pub IsReprintFault : CliFault → Type 0
+IsReprintFault (Picture fault) = Unit {0}
+IsReprintFault fault = IsDecodeFault fault

@@ -1,4 +1,5 @@
--- Trusted: what printers 4 and 5 print of what a recording of the bus says: the pages of what they hear of its acknowledged bytes.
+-- Trusted: what printers 4 and 5 print of a recording of the bus: the pages of what they hear of
+-- its acknowledged bytes.
 use Rattle.std.specs.Prelude.{◌≡◌, ℕ, Bool, true, false, List, Option, Some, None}
 use Rattle.std.specs.List.{filter_map, list_any}
 use Rattle.pr_page.specs.declared.input.Input.{Input}
@@ -12,7 +13,7 @@ use Rattle.pr_decode.specs.declared.reading.Reading.TheVariants as read
 use Rattle.pr_decode.specs.PieceReadings.{is_answered}
 use Rattle.pr_recording.specs.declared.printer_pair.PrintedPages.{PrintedPages}
 
--- the frame that a reading says, where it is a whole byte that was acknowledged; any other was not taken over by a listener
+-- the frame of a reading that is a whole byte, acknowledged; no listener has taken any other
 abbrev pub acknowledged_frame : Reading → Option Frame
 acknowledged_frame (read.Frame t (Acknowledged time)) =
     Some (record { attention = t.opening.command; byte = t.byte; eoi = is_answered t.opening.pulse })
@@ -20,7 +21,7 @@ acknowledged_frame (read.Frame t (Unacknowledged time)) = None
 acknowledged_frame (read.Frame t Cut) = None
 acknowledged_frame (read.IncompleteByte t end) = None
 
--- the frames that readings say, in order
+-- the frames of readings, in order
 abbrev pub acknowledged_frames : List Reading → List Frame
 acknowledged_frames readings = filter_map acknowledged_frame readings
 
@@ -28,7 +29,7 @@ acknowledged_frames readings = filter_map acknowledged_frame readings
 abbrev pub heard_in : ℕ → List Reading → List Input
 heard_in device readings = heard_of device (acknowledged_frames readings)
 
--- it hears a byte; a call alone is none, since a printer that is not there is called too
+-- a byte; a selection does not count, since the computer also calls a printer that is not present
 abbrev pub is_byte : Input → Bool
 is_byte (Byte byte) = true
 is_byte (Select lower) = false
@@ -36,7 +37,7 @@ is_byte (Select lower) = false
 abbrev pub hears_bytes : ℕ → List Reading → Bool
 hears_bytes device readings = list_any is_byte (heard_in device readings)
 
--- these are the papers of both printers, and those of them are there that hear a byte
+-- the papers of both printers; those that hear a byte count as present
 pub record ArePapers (readings : List Reading) (reprinted : PrintedPages) : Type 0 where
   pub paper4 : IsPage (heard_in 4 readings) reprinted.paper4
   pub paper5 : IsPage (heard_in 5 readings) reprinted.paper5

@@ -64,7 +64,8 @@ pub fn decode_over<R: Read, W: Write>(
 }
 
 /// Reads a recording of at most `limit` bytes and writes what it says, block by block, as
-/// [`decode_over`] does.
+/// [`decode_over`] does. It is public with the limit as an argument, since no test can try the
+/// program's own limit.
 ///
 /// # Errors
 ///

@@ -5,15 +5,15 @@ use Rattle.std.specs.Prelude.{ℕ, List, codes}
 unfoldable pub document_begin : List ℕ
 document_begin = codes "<svg xmlns=\"http://www.w3.org/2000/svg\" version=\"1.1\" width=\""
 
--- between the document's width and height
+-- what is between the document's width and its height
 unfoldable pub height_begin : List ℕ
 height_begin = codes "pc\" height=\""
 
--- between its size in picas and its size in units
+-- what is between its size in picas and its size in units
 unfoldable pub units_begin : List ℕ
 units_begin = codes "pc\" viewBox=\"0 0 "
 
--- between its width and height in units
+-- what is between its width and its height in units
 unfoldable pub units_between : List ℕ
 units_between = codes " "
 
@@ -22,7 +22,8 @@ unfoldable pub document_about : List ℕ
 document_about =
     codes "\">\n<desc>Pages of VIC-1525 printers. Each dot is where a needle strikes; the shapes of characters are this project's own.</desc>\n"
 
--- half an inch of continuous paper, with a hole in each edge and the lines at which the edges tear off; and the fold at the end of 11 inches
+-- half an inch of continuous paper, with a hole at each edge and the lines at which the edges tear
+-- off; and the fold at the end of 11 inches
 unfoldable pub paper_piece : List ℕ
 paper_piece = codes "<pattern id=\"paper\" width=\"12600\" height=\"630\" patternUnits=\"userSpaceOnUse\"><rect width=\"12600\" height=\"630\" fill=\"#fff\"/><g fill=\"#e9e6df\" stroke=\"#b4afa2\" stroke-width=\"10\"><circle cx=\"315\" cy=\"315\" r=\"100\"/><circle cx=\"12285\" cy=\"315\" r=\"100\"/><path stroke-dasharray=\"35\" d=\"M630 0v630M11970 0v630\"/></g></pattern>\n<pattern id=\"folds\" y=\"7560\" width=\"12600\" height=\"13860\" patternUnits=\"userSpaceOnUse\"><path stroke=\"#b4afa2\" stroke-width=\"10\" stroke-dasharray=\"70\" d=\"M0 6930h12600\"/></pattern>\n"
 
@@ -70,7 +71,7 @@ held_begin = codes "<g opacity=\".4\" transform=\"translate(0 "
 unfoldable pub use_begin : List ℕ
 use_begin = codes "<use href=\"#"
 
--- between its name and its place
+-- what is between its name and its place
 unfoldable pub use_place : List ℕ
 use_place = codes "\" x=\""
 
@@ -78,7 +79,7 @@ use_place = codes "\" x=\""
 unfoldable pub use_end : List ℕ
 use_end = codes "\"/>\n"
 
--- between a definition's name and its path
+-- what is between a definition's name and its path
 unfoldable pub mark_path : List ℕ
 mark_path = codes "\" d=\""
 
@@ -86,15 +87,15 @@ mark_path = codes "\" d=\""
 unfoldable pub mark_begin : List ℕ
 mark_begin = codes "<path stroke=\"#222\" id=\""
 
--- between the place of a strip and its width: its base line is seven dots down
+-- what is between the place of a strip and its width: its base line is seven dots down
 unfoldable pub letters_width : List ℕ
 letters_width = codes "\" y=\"140\" textLength=\""
 
--- behind the width of a strip, to which the characters of any font are drawn out, and blanks stay
+-- what follows the width of a strip: the characters of any font are stretched to that width, and blanks are kept
 unfoldable pub letters_fitted : List ℕ
 letters_fitted = codes "\" lengthAdjust=\"spacingAndGlyphs\" xml:space=\"preserve\">"
 
--- behind the distance of the marks held: a dashed rule, and a line that says what they are
+-- what follows the distance of the held marks: a dashed rule, and a line that says what they are
 unfoldable pub held_note : List ℕ
 held_note = codes ")\">\n<path stroke=\"#a33\" stroke-width=\"20\" stroke-dasharray=\"126\" d=\"M0 60h10080\"/>\n<text font-size=\"120\" fill=\"#a33\" x=\"7350\" y=\"200\">held by the printer, not yet printed</text>\n</g>\n"
 
@@ -117,3 +118,23 @@ status_begin = codes "<tspan x=\"0\" dy=\"210\">Status "
 -- the end of a text
 unfoldable pub text_end : List ℕ
 text_end = codes "</text>\n"
+
+-- one sheet: its document's first tag, 10 inches by 11, up to where the sheet begins
+unfoldable pub single_begin : List ℕ
+single_begin = codes "<svg xmlns=\"http://www.w3.org/2000/svg\" version=\"1.1\" width=\"60pc\" height=\"66pc\" viewBox=\"0 "
+
+-- the sheet's size in units
+unfoldable pub single_size : List ℕ
+single_size = codes " 12600 13860"
+
+-- the sheet's paper, up to where it begins
+unfoldable pub single_paper : List ℕ
+single_paper = codes "<rect y=\""
+
+-- the rest of the paper, and the group of the sheet's marks
+unfoldable pub single_marks : List ℕ
+single_marks = codes "\" width=\"12600\" height=\"13860\" fill=\"url(#paper)\"/>\n<g transform=\"translate(1260 630)\">\n"
+
+-- the end of the document
+unfoldable pub single_end : List ℕ
+single_end = codes "</svg>\n"

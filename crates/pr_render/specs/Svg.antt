@@ -1,5 +1,5 @@
--- Trusted: the picture of an outcome as an SVG document.
--- A unit of the document is 1/1260 inch: a dot column is 21 units wide, 1/126 inch is 10 units, and 1/6 inch 210 units (a pica, `pc`).
+-- Trusted: the picture of an outcome as an SVG document. A unit of the document is 1/1260 inch: a
+-- dot column is 21 units wide, 1/126 inch is 10 units, and 1/6 inch 210 units (a pica, `pc`).
 use Rattle.std.specs.Prelude.{ℕ, ◌+◌, ◌-◌, ◌*◌, ◌/◌, Bool, true, false, not, List, [], ◌∷◌, ◌++◌, ◌==◌, ◌||◌, ◌&&◌, nat_le, nat_lt, max, codes, decimal, flat_map, length, map, if◌then◌else◌, Option, Some, None}
 use Rattle.std.specs.List.{filter, list_all}
 use Rattle.pr_page.specs.declared.paper.Placed.{Placed}
@@ -28,14 +28,14 @@ disc_of dot = record { across = 21 * dot.x + 10; down = 10 * dot.y + 10 }
 unfoldable pub disc_svg : Disc → List ℕ
 disc_svg disc = codes "M" ++ decimal disc.across ++ codes " " ++ decimal disc.down ++ codes "h0"
 
--- a mark's name: `d` and the value of a column of dots; of a cell `u` (graphic/upper case) or `l` (lower/upper case), `r` if it is
--- reversed, `w` if it is wide, and its code
+-- a mark's name: `d` and the value of a column of dots; for a cell `u` (graphic/upper case) or `l`
+-- (lower/upper case), `r` if it is reversed, `w` if it is wide, and its code
 unfoldable pub name_svg : Mark → List ℕ
 name_svg (Cell code lower reverse wide) =
     either_text lower (codes "l") (codes "u") ++ text_if reverse (codes "r") ++ text_if wide (codes "w") ++ decimal code
 name_svg (Dots value) = codes "d" ++ decimal value
 
--- the discs of a mark, as they are defined once
+-- the discs of a mark, as its definition has them
 abbrev pub mark_discs : Mark → List Disc
 mark_discs mark = map disc_of (columns_dots 0 0 (columns_of mark))
 
@@ -50,7 +50,7 @@ number_of (Cell code lower reverse wide) =
     9 * code + (if lower then 1 else 0) + (if reverse then 2 else 0) + (if wide then 4 else 0)
 number_of (Dots value) = 9 * value + 8
 
--- the marks are not the same
+-- two marks are different
 abbrev pub differ : Mark → Mark → Bool
 differ this other = not (number_of this == number_of other)
 
@@ -59,7 +59,7 @@ abbrev pub each_once : List Mark → List Mark
 each_once [] = []
 each_once (m ∷ ms) = m ∷ filter (differ m) (each_once ms)
 
--- the marks of a paper, those that are held at the end
+-- the marks of a paper, with the held marks at the end
 abbrev pub marks_of : Paper → List Mark
 marks_of paper = map (λ p. p.mark) (flat_map (λ r. r.marks) paper.rows ++ paper.held)
 
@@ -67,7 +67,7 @@ marks_of paper = map (λ p. p.mark) (flat_map (λ r. r.marks) paper.rows ++ pape
 unfoldable pub use_svg : Placed → List ℕ
 use_svg placed = use_begin ++ name_svg placed.mark ++ use_place ++ decimal (21 * placed.x) ++ use_end
 
--- a character that stands for itself in an SVG: ASCII from the space on, but no quote, ampersand, apostrophe, less or greater
+-- a character that SVG has as itself: ASCII from the space on, except quote, ampersand, apostrophe, less and greater
 abbrev pub stands_for_itself : ℕ → Bool
 stands_for_itself u =
     if (u == 34 || u == 38 || u == 39 || u == 60 || u == 62) then false
@@ -81,7 +81,7 @@ escaped u = if stands_for_itself u then u ∷ [] else codes "&#" ++ decimal u ++
 abbrev pub character_text : ℕ → List ℕ
 character_text u = if is_blank u then 32 ∷ [] else escaped u
 
--- how wide so many cells are, in dots
+-- the width of a number of cells, in dots
 abbrev pub cells_width : Bool → ℕ → ℕ
 cells_width wide count = if wide then 12 * count else 6 * count
 
@@ -91,20 +91,20 @@ pub record Strip : Type 0 where
   pub wide : Bool
   pub characters : List ℕ
 
--- no cells
+-- a strip without cells
 abbrev pub no_strip : Strip
 no_strip = record { x = 0; wide = false; characters = [] }
 
--- the strip of one cell, or of none where a mark is a column of dots
+-- the strip of one cell; a column of dots has none
 abbrev pub strip_of : ℕ → Mark → Strip
 strip_of x (Cell code lower reverse wide) = record { x = x; wide = wide; characters = character lower code ∷ [] }
 strip_of x (Dots value) = no_strip
 
--- a strip and one more behind it
+-- a strip with another one after it
 abbrev pub lengthened : Strip → Strip → Strip
 lengthened strip next = record { x = strip.x; wide = strip.wide; characters = strip.characters ++ next.characters }
 
--- both or none
+-- both are true, or both are false
 abbrev pub same : Bool → Bool → Bool
 same this other = if this then other else not other
 
@@ -113,13 +113,13 @@ abbrev pub has_cells : List ℕ → Bool
 has_cells [] = false
 has_cells (u ∷ us) = true
 
--- a strip joins another: it stands where the other ends, and is as wide
+-- a strip joins another: it begins where the other ends, and is as wide
 abbrev pub joins : Strip → Strip → Bool
 joins next strip =
     has_cells next.characters && has_cells strip.characters && same strip.wide next.wide
     && next.x == strip.x + cells_width strip.wide (length strip.characters)
 
--- a character among these is no blank
+-- one of these characters is no blank
 abbrev pub shows : List ℕ → Bool
 shows [] = false
 shows (u ∷ us) = not (is_blank u) || shows us
@@ -130,18 +130,18 @@ characters_svg strip =
     codes "<text x=\"" ++ decimal (21 * strip.x) ++ letters_width ++ decimal (21 * cells_width strip.wide (length strip.characters))
     ++ letters_fitted ++ flat_map character_text strip.characters ++ text_end
 
--- the same, if they are not all blank
+-- the same, unless all characters are blank
 abbrev pub strip_svg : Strip → List ℕ
 strip_svg strip = text_if (shows strip.characters) (characters_svg strip)
 
--- the strips of marks in their order, behind one that has begun
+-- the strips of marks in order, after one that has begun
 abbrev pub strips_svg : Strip → List Placed → List ℕ
 strips_svg strip [] = strip_svg strip
 strips_svg strip (p ∷ ps) =
     if joins (strip_of p.x p.mark) strip then strips_svg (lengthened strip (strip_of p.x p.mark)) ps
     else strip_svg strip ++ strips_svg (strip_of p.x p.mark) ps
 
--- the marks of a line: each by its name, and over them the letters, which are not seen, to be searched and copied
+-- the marks of a line: each by its name, and over them its letters, invisible, for search and copying
 unfoldable pub line_svg : List Placed → List ℕ
 line_svg marks = flat_map use_svg marks ++ strips_svg no_strip marks
 
@@ -149,17 +149,17 @@ line_svg marks = flat_map use_svg marks ++ strips_svg no_strip marks
 unfoldable pub row_svg : Row → List ℕ
 row_svg r = row_begin ++ decimal (10 * r.y) ++ codes ")\">\n" ++ line_svg r.marks ++ codes "</g>\n"
 
--- where rows end, in 1/126 inch: 1/6 inch below the top of the last of them
+-- where rows end, in 1/126 inch: 1/6 inch below the top of the last one
 abbrev pub rows_end : ℕ → List Row → ℕ
 rows_end y [] = y
 rows_end y (r ∷ rs) = rows_end (r.y + 21) rs
 
--- the marks held, pale, at a distance
+-- the held marks, pale, at a distance
 unfoldable pub held_svg : ℕ → List Placed → List ℕ
 held_svg y [] = []
 held_svg y (m ∷ ms) = held_begin ++ decimal (10 * y) ++ codes ")\">\n" ++ line_svg (m ∷ ms) ++ codes "</g>\n"
 
--- above the marks held: a rule, and a line that says so
+-- above the held marks: a rule, and a line that says what they are
 unfoldable pub held_line : ℕ → List Placed → List ℕ
 held_line y [] = []
 held_line y (m ∷ ms) = row_begin ++ decimal (10 * y) ++ held_note
@@ -180,11 +180,11 @@ sheet_picas outcome = 3 * ((max (paper_end outcome.paper4) (paper_end outcome.pa
 unfoldable pub name_line : ℕ → ℕ → List ℕ
 name_line device x = codes "<g transform=\"translate(" ++ decimal x ++ sheet_name ++ decimal device
 
--- paper of so many picas, with its folds at each 11 inches from the first line on
+-- paper of this length in picas, with folds every 11 inches from the first line on
 unfoldable pub paper_svg : ℕ → List ℕ
 paper_svg picas = sheet_paper ++ decimal (210 * picas) ++ paper_folds ++ decimal (210 * (picas - 6)) ++ sheet_marks
 
--- the marks of a paper: the rows, and 1/6 inch below them the marks held
+-- the marks of a paper: the rows, and 1/6 inch below them the held marks
 unfoldable pub ink_svg : Paper → List ℕ
 ink_svg p = ink_begin ++ flat_map row_svg p.rows ++ held_svg (rows_end 0 p.rows + 21) p.held ++ codes "</g>\n"
 
@@ -198,16 +198,16 @@ unfoldable pub stop_svg : Option (ℕ × Stop) → List ℕ
 stop_svg None = []
 stop_svg (Some stop) = stop_begin ++ stop_name stop.1 ++ codes " in statement " ++ decimal stop.0 ++ codes "</tspan>\n"
 
--- how many picas a stop takes
+-- the length of a stop in picas
 abbrev pub stop_picas : Option (ℕ × Stop) → ℕ
 stop_picas None = 0
 stop_picas (Some stop) = 1
 
--- a status of a statement, behind a comma or not
+-- the status of a statement, after a comma or not
 unfoldable pub place_text : Bool → ℕ → ℕ → List ℕ
 place_text comma status place = text_if comma (codes ", ") ++ decimal status ++ codes " in statement " ++ decimal place
 
--- statuses of statements from a place on: those that are not 0, but at most so many of them
+-- the statuses that are not 0, of statements from a place on; `left` is the most of them
 abbrev pub places_text : (left place : ℕ) → List ℕ → List ℕ
 places_text left place [] = []
 places_text left place (n ∷ ns) =

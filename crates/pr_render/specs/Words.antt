@@ -11,11 +11,11 @@ text_if holds text = if holds then text else []
 abbrev pub either_text : Bool → List ℕ → List ℕ → List ℕ
 either_text holds this other = if holds then this else other
 
--- a blank, as a space or as a space that does not part words
+-- a blank: a space, or a no-break space
 abbrev pub is_blank : ℕ → Bool
 is_blank u = u == 32 || u == 160
 
--- numbers, counted from a number, each behind a space: each 18th begins a line, by this text
+-- numbers, each after a space; every 18th begins a new line with this text; `count` is the number of the first
 abbrev pub numbers_text : List ℕ → ℕ → List ℕ → List ℕ
 numbers_text line count [] = []
 numbers_text line count (n ∷ ns) =

@@ -1,5 +1,11 @@
 //! The Unicode characters of a printer's codes, after Unicode's mapping of the Commodore 64's sets
 //! (Symbols for Legacy Computing).
+//!
+//! Where entries look wrong beside this project's shapes: 192 and 221 are the strokes of 219, while
+//! the PET's 195 and 194 are a dot higher and further left. On the PET 165, 180 and 181 are 1, 2
+//! and 3 dots wide. 166, 168 and 220 are its checker of single dots, of which Unicode has halves
+//! for 168 and 220. In the lower/upper case set 222 begins the checker with a white square, and 223
+//! and 169 are stripes.
 
 ghost use Rattle.std.specs.Prelude.{◌≡◌};
 ghost use Rattle.pr_render.specs.Characters.{character};

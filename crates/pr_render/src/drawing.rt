@@ -38,7 +38,7 @@ fn has_printed(paper: &Paper) -> bool
 }
 
 /// The printers that are drawn: those present that have printed, or else all that are present (profile).
-fn drawn_of(outcome: &Outcome, present: Present) -> Present
+pub fn drawn_of(outcome: &Outcome, present: Present) -> Present
     ensures { result ≡ drawn_of outcome.now present }
 {
     let four = present.four && has_printed(&outcome.paper4);

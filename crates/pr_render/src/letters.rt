@@ -1,4 +1,8 @@
 //! The letters of a line, which a viewer finds and copies: strips of cells side by side, each in one element.
+//!
+//! `fill-opacity` hides the letters where `fill=none` would keep a mouse from selecting them.
+//! `textLength` with `lengthAdjust` makes them as wide as their cells in any font. `xml:space` is
+//! on each element, since Chromium takes neither it nor `white-space` from a group.
 
 ghost use Rattle.std.specs.Prelude.{◌≡◌, true, ◌+◌, ◌*◌, ◌≤◌, ◌++◌, flat_map, length, OnOk};
 ghost use Rattle.pr_render.specs.Strips.{HasTakenMark};

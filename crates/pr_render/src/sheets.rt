@@ -50,7 +50,7 @@ fn push_line(text: &mut Vec<u8>, alloc: Global, marks: &[Placed]) -> Result<(), 
 
 /// Adds a printed line.
 #[tactic(auto, unfolding(crate::specs::Svg::row_svg))]
-fn push_row(text: &mut Vec<u8>, alloc: Global, row: &Row) -> Result<(), AllocError>
+pub fn push_row(text: &mut Vec<u8>, alloc: Global, row: &Row) -> Result<(), AllocError>
     ensures { OnOk result (text.new.items ≡ text.old.items ++ row_svg row.now) }
 {
     text.extend_from_slice(row_begin())?;
@@ -123,7 +123,8 @@ fn push_name_line(text: &mut Vec<u8>, device: u64, x: u64) -> Result<(), AllocEr
     push_small(text, device)
 }
 
-/// Adds a sheet's paper.
+/// Adds a sheet's paper. The fold above the first line is not drawn, since it would touch the
+/// letters.
 #[tactic(auto, unfolding(crate::specs::Svg::paper_svg))]
 fn push_paper(text: &mut Vec<u8>, picas: u128) -> Result<(), AllocError>
     requires { picas ≤ 18446744073709551678 }

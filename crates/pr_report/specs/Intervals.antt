@@ -20,7 +20,7 @@ intervals =
     Ready ∷ FirstPull ∷ Answer ∷ AnswerLength ∷ PullAfterAnswer
     ∷ ShortestLow ∷ LongestLow ∷ ShortestHigh ∷ LongestHigh ∷ Acknowledgement ∷ []
 
--- its name, and the delay of the profile that bounds it
+-- an interval's name, and the delay of the profile that bounds it
 abbrev pub row_of : Interval → List ℕ × Kind
 row_of Ready = (codes "ready", H)
 row_of FirstPull = (codes "first pull", Ne)
@@ -39,13 +39,13 @@ name_of i = (row_of i).0
 abbrev pub kind_of : Interval → Kind
 kind_of i = (row_of i).1
 
--- how long DATA is pulled at most in answer to end-or-identify: a reading does not say how many listeners
--- answer, and the pulls of two join, of which one begins as early and the other ends as late as the
--- profile has it
+-- the longest time for which DATA is pulled in answer to end-or-identify: a reading does not say
+-- how many listeners answer, and two pulls join into one, of which the first begins as early and
+-- the second ends as late as the profile allows
 abbrev pub longest_answer : ℕ
 longest_answer = (bounds_of Ye).2 + (bounds_of Ei).2 - (bounds_of Ye).0
 
--- its least and its greatest length by the profile
+-- an interval's least and greatest length in the profile
 abbrev pub lowest_of : Interval → ℕ
 lowest_of i = (bounds_of (kind_of i)).0
 
@@ -53,11 +53,11 @@ abbrev pub highest_of : Interval → ℕ
 highest_of AnswerLength = longest_answer
 highest_of i = (bounds_of (kind_of i)).2
 
--- a length lies outside these
+-- a length is outside these bounds
 abbrev pub is_outside : Interval → ℕ → Bool
 is_outside i n = nat_lt n (lowest_of i) || nat_lt (highest_of i) n
 
--- a word, and after it these bounds
+-- a word, and then these bounds
 abbrev pub bounds_after : List ℕ → Interval → List ℕ
 bounds_after word i = numbered word (lowest_of i) ++ numbered (codes " to ") (highest_of i)
 
@@ -66,20 +66,20 @@ abbrev pub transfer_of : Reading → Transfer
 transfer_of (Frame t end) = t
 transfer_of (IncompleteByte t end) = t
 
--- CLOCK's last pull to the acknowledgement, where there is one
+-- the time from CLOCK's last pull to the acknowledgement, if there is one
 abbrev pub acknowledgement_in : Reading → Option ℕ
 acknowledgement_in (Frame t (Acknowledged k)) = Some (k - t.last_pull)
 acknowledgement_in r = None
 
--- without end-or-identify
+-- a length, only without end-or-identify
 abbrev pub unless_answered : Option Pulse → ℕ → Option ℕ
 unless_answered answer n = if is_some answer then None else Some n
 
--- once a bit has come
+-- a length, only if a bit has come
 abbrev pub if_bits : (bits : ℕ) → ℕ → Option ℕ
 if_bits bits n = if bits == 0 then None else Some n
 
--- how long an interval of a byte is, where the byte has it
+-- the length of an interval of a byte, if the byte has it
 abbrev pub length_in : Interval → Transfer → (acknowledgement : Option ℕ) → Option ℕ
 length_in Ready t a = Some (t.opening.ready_for_data - t.opening.ready_to_send)
 length_in FirstPull t a = unless_answered t.opening.pulse (t.pull - t.opening.ready_for_data)
@@ -92,6 +92,6 @@ length_in ShortestHigh t a = if_bits t.bits t.high.shortest
 length_in LongestHigh t a = if_bits t.bits t.high.longest
 length_in Acknowledgement t a = a
 
--- how long an interval is in a reading, where the reading has it
+-- the length of an interval in a reading, if the reading has it
 abbrev pub length_of : Interval → Reading → Option ℕ
 length_of i r = length_in i (transfer_of r) (acknowledgement_in r)

@@ -1,11 +1,11 @@
 -- Trusted: numbers in a text.
 use Rattle.std.specs.Prelude.{ℕ, ◌+◌, ◌/◌, ◌%◌, nat_lt, drop, length, List, ◌∷◌, ◌++◌, codes, decimal, if◌then◌else◌}
 
--- a word, and after it a number in decimal
+-- a word, and then a number in decimal
 abbrev pub numbered : List ℕ → ℕ → List ℕ
 numbered word n = word ++ decimal n
 
--- the blanks before a number in a column of 12, by its digits; before a longer one there are none
+-- the blanks before a number in a column of 12, for its number of digits; a longer number has none
 abbrev pub blanks : (digits : ℕ) → List ℕ
 blanks digits = drop digits (codes "            ")
 

@@ -6,7 +6,7 @@ use Rattle.pr_wire.specs.Pieces.{FrameTimes, Piece, SecondFrame, byte_sent, has_
 use Rattle.pr_wire.specs.Pieces.Piece.{Attention, DataByte}
 use Rattle.pr_report.specs.declared.timed_frame.TimedFrame.{TimedFrame}
 
--- a frame of a piece, sent from a release of CLOCK on
+-- a frame of a piece, with the release of CLOCK before it
 abbrev pub frame_timed : ByteRole → (look : ℕ) → FrameTimes → TimedFrame
 frame_timed s look f =
     record { look = look; acknowledged = f.ack; sending = s; byte = byte_sent f; eoi = has_pulse f.pulse }

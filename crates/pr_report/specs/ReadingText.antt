@@ -1,5 +1,4 @@
--- Trusted: what readings say as text: a line for each, and below it a line for each interval outside the
--- profile's bounds.
+-- Trusted: the text of readings: a line for each, and below it a line for each interval outside the profile's bounds.
 use Rattle.std.specs.Prelude.{ℕ, ◌==◌, nat_lt, Bool, true, false, List, [], ◌∷◌, ◌++◌, Option, Some, None, is_some, codes, if◌then◌else◌}
 use Rattle.pr_base.specs.Bytes as command
 use Rattle.pr_wire.specs.declared.bus_state.ByteRole.{ByteRole}
@@ -19,15 +18,15 @@ use Rattle.pr_report.specs.declared.reading_line.Preceding.TheVariants as behind
 use Rattle.pr_report.specs.Intervals.{bounds_after, intervals, is_outside, length_of, name_of}
 use Rattle.pr_report.specs.Numbers.{numbered}
 
--- which byte of the bus a frame is: after a command that began an attention a secondary address, or
--- another command above it, is this attention's second; every other command, as LISTEN or UNLISTEN,
--- begins one
+-- which byte of the bus a frame is: after a command that began an attention, a secondary address or
+-- a command above the secondary addresses is the second of this attention; every other command, for
+-- example LISTEN or UNLISTEN, begins an attention
 abbrev pub sending_of : Preceding → (command : Bool) → (byte : ℕ) → ByteRole
 sending_of b false byte = Data
 sending_of behind.Command true byte = if nat_lt byte command.secondary then First else Second
 sending_of b true byte = First
 
--- a data byte comes before
+-- a data byte came before
 abbrev pub is_behind_data : Preceding → Bool
 is_behind_data behind.Data = true
 is_behind_data b = false
@@ -44,7 +43,7 @@ story_frame b t k =
       eoi = is_some t.opening.pulse;
     }
 
--- a byte that is not acknowledged: what it is, and its look
+-- the words for a byte that is not acknowledged: what it is, and its look
 abbrev pub byte_word : (is_command : Bool) → List ℕ
 byte_word is_command = if is_command then codes "command " else codes "byte "
 
@@ -53,11 +52,11 @@ byte_place t =
     numbered (byte_word t.opening.command) t.byte ++ numbered (codes " at ") t.opening.ready_to_send
     ++ codes " us"
 
--- an incomplete byte: its look, and how many bits came
+-- the words for an incomplete byte: its look, and the number of its bits
 abbrev pub incomplete_place : Transfer → List ℕ
 incomplete_place t = numbered (codes "glitch at ") t.opening.ready_to_send ++ numbered (codes " us, bits ") t.bits
 
--- the end of a line with a moment, and that of a line that the end of the recording cuts
+-- the end of a line with a moment, and the end of a line that the recording's end cuts
 abbrev pub moment_end : List ℕ → (time : ℕ) → List ℕ
 moment_end word time = numbered word time ++ codes " us\n"
 
@@ -82,7 +81,7 @@ abbrev pub line_of : Preceding → Reading → List ℕ
 line_of b (Frame t end) = frame_text b t end
 line_of b (IncompleteByte t end) = incomplete_place t ++ incomplete_end end
 
--- the line of an interval, where it lies outside the profile's bounds
+-- the line of an interval, if it is outside the profile's bounds
 abbrev pub outside_text : Interval → ℕ → List ℕ
 outside_text i n =
     codes "    " ++ name_of i ++ numbered (codes " ") n
@@ -100,14 +99,14 @@ outside_lines (i ∷ is) r = outside_line i (length_of i r) ++ outside_lines is 
 unfoldable pub reading_lines : Preceding → Reading → List ℕ
 reading_lines b r = line_of b r ++ outside_lines intervals r
 
--- what comes before the byte after an acknowledged one: an attention has two commands at most, and
--- UNLISTEN is its last
+-- what comes before the byte after an acknowledged one: an attention has at most two commands, and
+-- UNLISTEN is always its last
 abbrev pub after_frame : ByteRole → (byte : ℕ) → Preceding
 after_frame First byte = if byte == command.unlisten then behind.Nothing else behind.Command
 after_frame Second byte = behind.Nothing
 after_frame Data byte = behind.Data
 
--- what comes before the reading after another: only acknowledged bytes count
+-- what comes before the reading after this one: only acknowledged bytes count
 abbrev pub after_reading : Preceding → Reading → Preceding
 after_reading b (Frame t (frame.Acknowledged k)) =
     after_frame (sending_of b t.opening.command t.byte) t.byte
@@ -118,7 +117,7 @@ abbrev pub all_lines : Preceding → List Reading → List ℕ
 all_lines b [] = []
 all_lines b (r ∷ rs) = reading_lines b r ++ all_lines (after_reading b r) rs
 
--- what comes before the reading after others
+-- what comes before the reading after these
 abbrev pub behind_all : Preceding → List Reading → Preceding
 behind_all b [] = b
 behind_all b (r ∷ rs) = behind_all (after_reading b r) rs

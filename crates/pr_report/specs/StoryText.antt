@@ -1,5 +1,5 @@
--- Trusted: the story of edges as text: a line for each frame that they end, and `lawful` where they are a
--- lawful trace.
+-- Trusted: the text of the story of edges: a line for each frame that they end, and `lawful` if
+-- they are a lawful trace.
 use Rattle.std.specs.Prelude.{ℕ, ◌/◌, ◌%◌, ◌==◌, ◌&&◌, Bool, true, false, nat_lt, List, [], ◌∷◌, ◌++◌, Option, Some, None, codes, if◌then◌else◌}
 use Rattle.pr_base.specs.Bytes as command
 use Rattle.pr_wire.specs.declared.Edge.{Edge}
@@ -11,7 +11,7 @@ use Rattle.pr_report.specs.declared.timed_frame.TimedFrame.{TimedFrame}
 use Rattle.pr_report.specs.Moments.{timed_frames}
 use Rattle.pr_report.specs.Numbers.{hex_column, moment, numbered}
 
--- what a command says
+-- the text of a command
 abbrev pub command_text : ℕ → List ℕ
 command_text byte =
     if byte == command.unlisten then codes "UNLISTEN"
@@ -20,7 +20,7 @@ command_text byte =
     else (if byte / 16 == 14 then numbered (codes "CLOSE ") (byte % 16)
     else numbered (codes "command ") byte)))
 
--- the name of one of the printer's control codes; other bytes have none
+-- the name of a control code of the printer; other bytes have none
 abbrev pub control_name : ℕ → List ℕ
 control_name byte =
     if byte == 8 then codes "graphic mode"
@@ -37,19 +37,19 @@ control_name byte =
     else (if byte == 146 then codes "reverse off"
     else [])))))))))))
 
--- a byte by its name, or by its number where it has none
+-- a byte by its name, or by its number if it has no name
 abbrev pub name_or_number : List ℕ → ℕ → List ℕ
 name_or_number [] byte = numbered (codes "byte ") byte
 name_or_number (c ∷ cs) byte = c ∷ cs
 
--- what a data byte says: a character of ASCII in apostrophes, and an apostrophe in quotation marks
+-- the text of a data byte: a character of ASCII in apostrophes, and an apostrophe in quotation marks
 abbrev pub data_text : ℕ → List ℕ
 data_text byte =
     if byte == 39 then codes "\"'\""
     else (if (nat_lt 31 byte && nat_lt byte 127) then 39 ∷ byte ∷ 39 ∷ []
     else name_or_number (control_name byte) byte)
 
--- what a frame says
+-- the text of a frame's byte
 abbrev pub saying : ByteRole → ℕ → List ℕ
 saying First byte = command_text byte
 saying Second byte = command_text byte
@@ -66,14 +66,14 @@ frame_line f =
     moment f.look ++ codes " " ++ moment f.acknowledged ++ hex_column f.byte ++ saying f.sending f.byte
     ++ line_end f.eoi
 
--- what sets attentions apart: a word before each, and one before data bytes that follow no data byte
+-- the headings: a line before each attention, and one before data bytes that follow no data byte
 abbrev pub heading : (behind_data : Bool) → ByteRole → List ℕ
 heading behind_data First = codes "attention\n"
 heading behind_data Second = []
 heading true Data = []
 heading false Data = codes "data\n"
 
--- a frame's lines, by whether it follows a data byte
+-- a frame's lines, with or without a data byte before it
 unfoldable pub story_line : (behind_data : Bool) → TimedFrame → List ℕ
 story_line behind_data f = heading behind_data f.sending ++ frame_line f
 
@@ -88,7 +88,7 @@ abbrev pub story_lines : (behind_data : Bool) → List TimedFrame → List ℕ
 story_lines behind_data [] = []
 story_lines behind_data (f ∷ fs) = story_line behind_data f ++ story_lines (is_data f.sending) fs
 
--- the last line, by the fault of the edges: only where they have none
+-- the last line: only edges without a fault have one
 abbrev pub last_line : Option WaveFault → List ℕ
 last_line None = codes "lawful\n"
 last_line (Some fault) = []

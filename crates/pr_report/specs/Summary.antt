@@ -1,5 +1,5 @@
--- Trusted: the summary of readings: how many there are, and of each interval how many, the least, the
--- middle, the greatest, and how many lie outside the profile's bounds.
+-- Trusted: the summary of readings: how many there are, and for each interval how many, the least,
+-- the middle, the greatest, and how many are outside the profile's bounds.
 use Rattle.std.specs.Prelude.{ℕ, ◌*◌, nat_le, nat_lt, not, ◌&&◌, Bool, true, false, List, [], ◌∷◌, ◌++◌, length, Option, Some, None, codes, if◌then◌else◌}
 use Rattle.std.specs.List.{count_by, filter}
 use Rattle.std.specs.Option.{option_to_list}
@@ -33,7 +33,7 @@ is_incomplete r = not (is_frame r)
 abbrev pub is_cut : Reading → Bool
 is_cut r = not (is_settled r)
 
--- how long an interval is in each reading that has it
+-- the lengths of an interval in the readings that have it
 abbrev pub lengths : Interval → List Reading → List ℕ
 lengths i [] = []
 lengths i (r ∷ rs) = option_to_list (length_of i r) ++ lengths i rs
@@ -66,11 +66,11 @@ abbrev pub middle_text : Option ℕ → List ℕ
 middle_text (Some n) = numbered (codes ", middle ") n
 middle_text None = codes ", middle over 16383"
 
--- how many of some lengths lie outside the profile's bounds
+-- how many lengths are outside the profile's bounds
 abbrev pub outside_count : Interval → (outside : ℕ) → List ℕ
 outside_count i outside = bounds_after (codes ", outside ") i ++ numbered (codes ": ") outside
 
--- the figures of lengths: how many they are, the least, the middle, the greatest, how many lie outside
+-- the figures of lengths: how many there are, the least, the middle, the greatest, how many are outside
 abbrev pub figures_text : Interval → (count low : ℕ) → (mid : Option ℕ) → (high outside : ℕ) → List ℕ
 figures_text i count low mid high outside =
     numbered (codes ": ") count ++ numbered (codes ", least ") low ++ middle_text mid

@@ -1,11 +1,11 @@
--- Trusted: the last line of the report on a recording: whether it is lawful by the profile, and if not
--- why. Edges count from 0.
+-- Trusted: the last line of the report on a recording: whether it is lawful in this profile, and if
+-- not, why. Edges count from 0.
 use Rattle.std.specs.Prelude.{ℕ, List, ◌++◌, Option, Some, None, codes}
 use Rattle.pr_wire.specs.declared.WaveFault.{WaveFault}
 use Rattle.pr_wire.specs.declared.WaveFault.TheVariants as fault
 use Rattle.pr_report.specs.Numbers.{numbered}
 
--- the line of an edge, and of what is wrong with it
+-- the line that names an edge and what is wrong with it
 abbrev pub flaw_line : (edge : ℕ) → (reason : List ℕ) → List ℕ
 flaw_line n reason = numbered (codes "not lawful: edge ") n ++ reason
 

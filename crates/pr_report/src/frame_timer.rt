@@ -67,7 +67,8 @@ impl FrameTimer {
     ///
     /// The first fault, where the edges taken and this one are not allowed: that of all lists of
     /// edges that begin with these; never [`WaveFault::NoMemory`]. The timer is then as it was, and
-    /// neither this edge nor a later one ends a further frame.
+    /// neither this edge nor a later one ends a further frame. The fault has the edge's index,
+    /// since the table has no error for a first edge that is not `0 111`.
     #[inline(always)]
     pub fn take(&mut self, edge: Edge) -> Result<Option<TimedFrame>, WaveFault>
         requires room { number_taken self.old + 1 < 2 ^ 64 }

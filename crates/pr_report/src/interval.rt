@@ -9,7 +9,8 @@ use crate::numbers::push_numbered;
 use pr_decode::{FrameEnd, Reading, Transfer};
 use pr_wire::{Kind, NoMemory, bounds};
 
-/// An interval of a byte on the bus.
+/// An interval of a byte on the bus. Its name, its delay and its length are three functions, since
+/// the rows of one table would be too wide to read.
 #[derive(Clone, Copy, Debug)]
 pub enum Interval {
     /// The look to all listeners ready: CLOCK released to DATA released.

@@ -15,7 +15,8 @@ pub(crate) fn push_numbered(text: &mut Vec<u8>, word: &[u8], number: u64) -> Res
     text.extend_from_slice(buffer.format(number).as_bytes())
 }
 
-/// The blanks before a number in a column of 12, by its digits.
+/// The blanks before a number in a column of 12, by its digits. The longest run of the program
+/// lasts less than 10^12 microseconds.
 fn blanks(digits: usize) -> &'static [u8]
     ensures { result.now ≡ blanks digits }
 {

@@ -1,5 +1,8 @@
 //! The lines of a reading. Their form is this project's own choice (profile); an acknowledged byte has the
 //! line that it has in a story.
+//!
+//! Times outside the story's lines have their unit. A byte that is not acknowledged changes nothing
+//! of what comes before the next one: for the listeners it did not come.
 
 ghost use Rattle.std.specs.Prelude.{◌≡◌, ◌++◌, OnOk};
 ghost use Rattle.pr_report.specs.Intervals.{length_of};

@@ -1,4 +1,7 @@
 //! The story of a whole list of edges.
+//!
+//! A story goes by the table, edge by edge, so that edges that are no lawful trace have a story
+//! too: a fault of the edges is a value, and no error.
 
 ghost use Rattle.std.specs.Prelude.{◌≡◌, ◌++◌, OnOk, IfOk};
 ghost use Rattle.pr_wire.specs.Table.{fault_of};

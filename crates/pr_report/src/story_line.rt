@@ -1,4 +1,6 @@
-//! The lines of a story. All of their form is this project's own choice (profile).
+//! The lines of a story. All of their form is this project's own choice (profile): `attention` and
+//! `data` have lines of their own, so that each frame has one line, all of one form; an apostrophe
+//! is between quotation marks, so that each text is that of one byte alone.
 
 ghost use Rattle.std.specs.Prelude.{◌≡◌, ◌++◌, OnOk};
 ghost use Rattle.pr_report.specs.StoryText.{command_text, control_name, data_text, frame_line, heading, is_data, line_end, saying, story_line};

@@ -17,8 +17,7 @@ abbrev pub is_listen : ℕ → Item → Bool
 is_listen device (Attention first second) = first == command.listen + device
 is_listen device (Sent b eoi) = false
 
--- the device is among the listeners after these items: after the last UNLISTEN there is a LISTEN to
--- it
+-- the device listens after these items: after the last UNLISTEN there is a LISTEN to it
 abbrev pub is_listener : ℕ → List Item → Bool
 is_listener device before = list_any (is_listen device) (after_last is_unlisten before)
 

@@ -1,4 +1,4 @@
--- Trusted: the delays that a bus draws on.
+-- Trusted: the delay numbers of a bus.
 use Rattle.std.specs.Prelude.{ℕ, List}
 
 -- the raw delay numbers of the computer and of the two printers

@@ -14,8 +14,9 @@ use Rattle.pr_serial.specs.Answers.{is_listener}
 abbrev pub is_present : Present → ℕ → Bool
 is_present present device = (present.four && device == 4) || (present.five && device == 5)
 
--- what an item gives a device: a LISTEN to it selects the graphic/upper case set, and secondary
--- address 7 (a second command) then the lower/upper case set; a byte comes if the device listens
+-- what an item gives a device: a LISTEN to it selects the graphic/upper case set, and then
+-- secondary address 7, as its second command, the lower/upper case set; a byte comes if the device
+-- listens
 abbrev pub inputs_at : ℕ → List Item → Item → List Input
 inputs_at device before (Attention first second) =
     if first == command.listen + device then Select false ∷ select_lower second else []
@@ -25,7 +26,7 @@ inputs_at device before (Attention first second) =
     select_lower (Some s) = if s == command.secondary + 7 then Select true ∷ [] else []
 inputs_at device before (Sent b eoi) = if is_listener device before then Byte b ∷ [] else []
 
--- what a device hears of the items, in order: nothing if it is absent
+-- what a device hears of the items, in order; an absent device hears nothing
 abbrev pub heard_by : Present → ℕ → List Item → List Input
 heard_by present device items =
     if is_present present device

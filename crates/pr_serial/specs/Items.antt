@@ -1,13 +1,13 @@
--- Trusted: which of the elements are sent, and which byte is marked as the last one. The definition
--- looks ahead; a talker has to wait.
+-- Trusted: which elements are sent, and which byte is marked as the last one. The definition looks
+-- ahead; a talker has to wait.
 use Rattle.std.specs.Prelude.{true, false, List, [], ◌∷◌, ◌++◌}
 use Rattle.pr_serial.specs.declared.Item.{Item}
 use Rattle.pr_serial.specs.declared.Item.TheVariants.{Attention, Sent}
 use Rattle.pr_serial.specs.Elements as element
 use Rattle.pr_serial.specs.Elements.{Element}
 
--- an attention is sent as it stands; a byte is sent if an element follows it, with end-or-identify
--- exactly if that is an attention
+-- an attention is sent unchanged; a byte is sent if an element follows it, with end-or-identify
+-- exactly if that element is an attention
 abbrev pub item_before : Element → List Element → List Item
 item_before (element.Attention first second) rest = Attention first second ∷ []
 item_before (element.Byte b) [] = []

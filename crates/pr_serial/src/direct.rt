@@ -74,6 +74,9 @@ impl Direct {
 
 /// Makes room for one item, and for what each present printer hears of it, unless the bus has
 /// failed.
+///
+/// All room is made before anything changes, so a refusal leaves items and inputs as they were. An
+/// absent printer gets no room, since a growth that nobody needs could fail a run.
 fn make_room(
     failed: bool,
     items: &mut Vec<Item>,

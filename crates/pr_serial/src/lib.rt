@@ -21,6 +21,7 @@ mod serial;
 pub use bus::Bus;
 pub use direct::Direct;
 pub use port::INPUTS_OF_AN_ITEM;
+// `Input` and `NoMemory` are offered again, so that a crate above needs no line for pr_page.
 pub use pr_page::{Input, NoMemory};
 pub use serial::Serial;
 

@@ -13,9 +13,12 @@ use crate::NoMemory;
 /// A serial bus with a computer that talks and printers 4 and 5 that listen, by what was sent on it.
 ///
 /// Its content, in the clauses: the printers that are present and the raw delay numbers of each
-/// party, neither of which changes; the items sent, in order (whether one was answered follows from
-/// those before it); how many of them there were at the last [`Serial::forget`]; and whether the
-/// bus has failed. Once it has failed it has failed for good.
+/// party, neither of which changes; the items sent, in order; how many of them there were at the
+/// last [`Serial::forget`]; and whether the bus has failed. Once it has failed it has failed for
+/// good.
+///
+/// Whether an item was answered is not stored: it follows from the items before it, and each call's
+/// clauses say that its answer is that.
 pub trait Serial {
     /// Which printers are present.
     ghost printers: { Self → Present };

@@ -10,8 +10,8 @@ use Rattle.pr_basic.specs.declared.statement.Statement.{Statement}
 use Rattle.pr_basic.specs.declared.session.StatusMode.{StatusMode}
 use Rattle.pr_basic.specs.Runs.{items_sent}
 
--- the trace is exactly the timed trace of the items sent, by these delay numbers; it is lawful, and
--- spells exactly the frames of the items that are answered
+-- the trace is exactly the timed trace of the items sent, with these delay numbers; it is lawful,
+-- and spells exactly the frames of the items that are answered
 pub record IsTrueTrace (mode : StatusMode) (present : Present) (delays : DelayNumbers)
     (statements : List Statement) (trace : List Edge) : Type 0 where
   pub exact : trace ≡ trace_from present delays (items_sent mode present statements)

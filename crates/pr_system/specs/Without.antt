@@ -1,4 +1,4 @@
--- Trusted: a list of statements without one device, and what that leaves as it is.
+-- Trusted: a list of statements without one device, and what is the same without it.
 use Rattle.std.specs.Prelude.{◌≡◌, ◌≢◌, ⊤, ℕ, Bool, false, ◌==◌, Option, Some, None, List, [], ◌∷◌, ◌++◌, if◌then◌else◌}
 use Rattle.pr_serial.specs.declared.Present.{Present}
 use Rattle.pr_serial.specs.Bus.{DelayNumbers}
@@ -13,7 +13,7 @@ use Rattle.pr_system.specs.declared.outcome.Outcome.{Outcome}
 use Rattle.pr_system.specs.Headline.{heard_in, IsOutcome}
 use Rattle.pr_system.specs.TrueTrace.{IsTrueTrace}
 
--- the files after an OPEN, which opens nothing if something stands against it
+-- the files after an OPEN; one that a stop refuses opens nothing
 abbrev pub files_opened : Option Stop → Files → File → Files
 files_opened None files file = files ++ file ∷ []
 files_opened (Some stop) files file = files
@@ -31,8 +31,7 @@ abbrev pub is_on : ℕ → Option File → Bool
 is_on device None = false
 is_on device (Some file) = file.device == device
 
--- a statement is left out with the device: it opens a file on it, or names one that is on it at
--- that point
+-- a statement is left out with the device: it opens a file on the device, or names a file that is on it at that point
 abbrev pub is_left_out : ℕ → Files → Statement → Bool
 is_left_out device files (OpenFile file on second) = on == device
 is_left_out device files (Cmd file line) = is_on device (file_at files file)
@@ -66,19 +65,19 @@ AreAddressed (statement ∷ statements) = IsAddressed statement × AreAddressed 
 abbrev pub GoesOn : StatusMode → Present → List Statement → Type 0
 GoesOn mode present statements = (run_of mode present statements).stop ≡ None
 
--- the other list has no stop either, and every device but the one that is left out hears the same
+-- the other list has no stop either, and every device except the one left out hears the same
 pub record IsSpared (mode : StatusMode) (present : Present) (left_out : ℕ)
     (statements rest : List Statement) : Type 0 where
   pub goes_on : GoesOn mode present rest
   pub same : (device : ℕ) → device ≢ left_out →
       heard_in mode present rest device ≡ heard_in mode present statements device
 
--- the paper of each printer but the one that is left out is the same
+-- the paper of each printer except the one left out is the same
 abbrev pub KeepsPapers : ℕ → Outcome → Outcome → Type 0
 KeepsPapers left_out all rest =
     (4 ≢ left_out → rest.paper4 ≡ all.paper4) × (5 ≢ left_out → rest.paper5 ≡ all.paper5)
 
--- what a run with these delay numbers gives: the headline and the true trace
+-- a run with these delay numbers: the headline and the true trace
 pub record IsGiven (mode : StatusMode) (present : Present) (delays : DelayNumbers)
     (statements : List Statement) (outcome : Outcome) : Type 0 where
   pub headline : IsOutcome mode present statements outcome

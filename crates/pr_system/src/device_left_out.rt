@@ -55,7 +55,8 @@ fn follow(files: &mut FileTable, statement: &Statement)
 
 /// Copies a list of statements without those of one device: it leaves out each OPEN on that device,
 /// and each PRINT#, CMD and CLOSE of a file that is on that device at that point. An OPEN that the
-/// file table refuses opens nothing. The copy is no longer than the list.
+/// file table refuses opens nothing. The copy is no longer than the list. Any number may be the
+/// device.
 ///
 /// Where no statement is a CMD or a PRINT and none stops, none of the result stops either, and
 /// every other device hears the same.

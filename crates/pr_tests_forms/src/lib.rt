@@ -1,4 +1,4 @@
-//! Tests of forms: dots, pages as pictures and as documents, recordings in the formats of other tools, what recordings say, and stories.
+//! Tests of forms: dots, pages as pictures, their sheets, documents, recordings in the formats of other tools, what recordings say, and stories.
 #![tactic(auto)]
 
 #[cfg(test)]
@@ -19,6 +19,8 @@ mod readings;
 mod refusals;
 #[cfg(test)]
 mod samples;
+#[cfg(test)]
+mod sheets;
 #[cfg(test)]
 mod story;
 #[cfg(test)]

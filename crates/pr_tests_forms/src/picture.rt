@@ -35,7 +35,7 @@ const ABOUT: &str =
     ">\n<desc>Pages of VIC-1525 printers. Each dot is where a needle strikes; the shapes of characters are this project's own.</desc>\n<pattern id=\"paper\" width=\"12600\" height=\"630\" patternUnits=\"userSpaceOnUse\"><rect width=\"12600\" height=\"630\" fill=\"#fff\"/><g fill=\"#e9e6df\" stroke=\"#b4afa2\" stroke-width=\"10\"><circle cx=\"315\" cy=\"315\" r=\"100\"/><circle cx=\"12285\" cy=\"315\" r=\"100\"/><path stroke-dasharray=\"35\" d=\"M630 0v630M11970 0v630\"/></g></pattern>\n<pattern id=\"folds\" y=\"7560\" width=\"12600\" height=\"13860\" patternUnits=\"userSpaceOnUse\"><path stroke=\"#b4afa2\" stroke-width=\"10\" stroke-dasharray=\"70\" d=\"M0 6930h12600\"/></pattern>\n<rect width=\"100%\" height=\"100%\" fill=\"#e9e6df\"/>\n<defs>\n";
 
 /// The definition of `A`.
-const DEFINED_A: &str =
+pub const DEFINED_A: &str =
     "<path stroke=\"#222\" id=\"u65\" d=\"M10 30h0M10 50h0M10 70h0M10 90h0M10 110h0M10 130h0M31 10h0M31 70h0M52 10h0M52 70h0M73 10h0M73 70h0M94 30h0M94 50h0M94 70h0M94 90h0M94 110h0M94 130h0\"/>\n";
 
 /// The definition of `a`.
@@ -78,9 +78,9 @@ const BELOW: &str =
     "<text font-size=\"210\" fill=\"#555\" transform=\"translate(630 3150)\">\n</text>\n</svg>\n";
 
 /// An `A` as it is drawn, and as it is searched for.
-const A: &str = "<use href=\"#u65\" x=\"0\"/>\n";
+pub const A: &str = "<use href=\"#u65\" x=\"0\"/>\n";
 
-const LETTER_A: &str =
+pub const LETTER_A: &str =
     "<text x=\"0\" y=\"140\" textLength=\"126\" lengthAdjust=\"spacingAndGlyphs\" xml:space=\"preserve\">A</text>\n";
 
 /// A reversed `W` over the edge of the paper, likewise.
@@ -102,7 +102,7 @@ const GROWN: &str =
     "<text x=\"0\" y=\"140\" textLength=\"252\" lengthAdjust=\"spacingAndGlyphs\" xml:space=\"preserve\">AB</text>\n</g>\n</g>\n<g transform=\"translate(0 0)\">\n<path stroke=\"#a33\" stroke-width=\"20\" stroke-dasharray=\"126\" d=\"M0 60h10080\"/>\n<text font-size=\"120\" fill=\"#a33\" x=\"7350\" y=\"200\">held by the printer, not yet printed</text>\n</g>\n</g>\n</g>\n<text font-size=\"210\" fill=\"#555\" transform=\"translate(630 3150)\">\n</text>\n</svg>\n";
 
 /// A cell, neither reversed nor wide.
-const fn cell(x: u16, code: u8, lower: bool) -> Placed {
+pub const fn cell(x: u16, code: u8, lower: bool) -> Placed {
     Placed {
         x,
         mark: Mark::Cell {

@@ -66,7 +66,7 @@ const OWN: Signals<'static> = Signals {
 
 /// Whose signals, a table, and its samples: other columns, lines without a word, quoted names, spaces, both
 /// ends of lines, CLK beside CLOCK, and whole microseconds of seconds.
-const TABLES: [(Signals<'static>, &str, &str); 10] = [
+const TABLES: [(Signals<'static>, &str, &str); 22] = [
     (
         NAMES,
         "Time [s],ATN,CLOCK,DATA\n0.000000000,1,1,1\n0.000100000,0,0,1\n0.000200000,0,0,0\n",
@@ -96,6 +96,66 @@ const TABLES: [(Signals<'static>, &str, &str); 10] = [
         NAMES,
         "t,ATN,CLOCK,DATA\n18446744073709.551615,1,1,1\n",
         "18446744073709551615 111\n",
+    ),
+    (
+        NAMES,
+        "Time (ms),ATN,CLOCK,DATA\n0,1,1,1\n1.5,1,1,0\n20e-1,1,1,1\n",
+        "0 111\n1500 110\n2000 111\n",
+    ),
+    (
+        NAMES,
+        "t/ns;ATN;CLOCK;DATA\n999;1;1;1\n1000;1;1;0\n",
+        "0 111\n1 110\n",
+    ),
+    (
+        NAMES,
+        "\u{feff}Time[\u{b5}s]\tATN\tCLOCK\tDATA\n+7\t1.0\tL\tH\n",
+        "7 101\n",
+    ),
+    (
+        NAMES,
+        "picoseconds,ATN,CLOCK,DATA\n1999999,1,1,1\n2e6,0.0,1.0,1\n",
+        "1 111\n2 011\n",
+    ),
+    (
+        NAMES,
+        "Time [s],ATN,CLOCK,DATA\n-0.0005,1,1,1\n-0.0004999,0,1,1\n0.000001,1,1,1\n",
+        "0 111\n0 011\n501 111\n",
+    ),
+    (
+        NAMES,
+        "Time [s],ATN,CLOCK,DATA\n5e-05,1,1,1\n1.5E+1,0,1,1\n",
+        "50 111\n15000000 011\n",
+    ),
+    (
+        NAMES,
+        "; Samplerate: 4 MHz\nATN,CLOCK,DATA\n1,1,1\n1,1,0\n\n1,1,1\n1,1,1\n0,1,1\n",
+        "0 111\n0 110\n0 111\n0 111\n1 011\n",
+    ),
+    (
+        NAMES,
+        "META samplerate: 500000\nDATA,CLOCK,ATN\n1,1,1\n1,1,0\n",
+        "0 111\n2 011\n",
+    ),
+    (
+        NAMES,
+        "; Sample rate: 1.5 kHz\nSample,ATN,CLOCK,DATA\n0,1,1,1\n1,1,1,0\n2,1,1,1\n3,1,0,1\n",
+        "0 111\n666 110\n1333 111\n2000 101\n",
+    ),
+    (
+        NAMES,
+        "; Samplerate: 4 MHz\nTime,ATN,CLOCK,DATA\n250,1,1,1\n25250,0,1,1\n",
+        "0 111\n25 011\n",
+    ),
+    (
+        NAMES,
+        "; Sample rate: 24 MHz\nTime(s), ATN, CLOCK, DATA\n0.000000125, 1, 1, 1\n0.00002, 0, 1, 1\n",
+        "0 111\n20 011\n",
+    ),
+    (
+        NAMES,
+        "nanoseconds,ATN,CLOCK,DATA\n 1e4 ,1,1,1\n",
+        "10 111\n",
     ),
 ];
 

@@ -1,4 +1,4 @@
--- Trusted: what came of a call, as numbers.
+-- Trusted: the answer of a call, as numbers.
 use Rattle.std.specs.Prelude.{ℕ, ◌+◌, Some, None}
 use Rattle.std.specs.Option.{option_map_or, unwrap_or}
 use Rattle.pr_wire.specs.declared.WaveFault.TheVariants as wave
@@ -22,7 +22,7 @@ signal_number wire.Atn = 1
 signal_number wire.Clock = 2
 signal_number wire.Data = 3
 
--- a fault of a recording by its number, and its line
+-- a fault of a recording as its number and its line
 abbrev pub capture_numbers : CaptureFault → ℕ × ℕ
 capture_numbers (capture.NoSignal line wire) = (30 + signal_number wire, line)
 capture_numbers (capture.NoLevel line wire) = (33 + signal_number wire, line)
@@ -35,16 +35,21 @@ capture_numbers (capture.GoesBack line) = (46, line)
 capture_numbers (capture.Unknown line) = (47, line)
 capture_numbers (capture.Floating line) = (48, line)
 capture_numbers (capture.BadLevel line) = (49, line)
+capture_numbers (capture.BadTimescale line) = (70, line)
+capture_numbers (capture.NoTime line) = (71, line)
+capture_numbers capture.WideText = (72, 1)
+capture_numbers capture.Archive = (73, 1)
+capture_numbers (capture.TwoSignals line wire) = (74 + signal_number wire, line)
 capture_numbers capture.NoMemory = (0, 0)
 
--- a fault of an input by its number, and its line or the index of its edge
+-- a fault of an input as its number, and its line or the index of its edge
 abbrev pub fault_numbers : CliFault → ℕ × ℕ
 fault_numbers (Trace (trace.BadLine line)) = (8, line)
 fault_numbers (Wave (wave.Order edge)) = (12, edge)
 fault_numbers (Capture fault) = capture_numbers fault
 fault_numbers _ = (0, 0)
 
--- a refusal with its fault's numbers, and with the bytes of what stands before the fault
+-- a refusal with its fault's numbers, and the length of the text up to the fault
 abbrev pub refusal : ℕ × ℕ → ℕ → Answer
 refusal numbers length = record { code = 2; fault = numbers.0; place = numbers.1; length = length }
 
@@ -52,7 +57,7 @@ refusal numbers length = record { code = 2; fault = numbers.0; place = numbers.1
 abbrev pub plain : ℕ → ℕ → Answer
 plain code length = record { code = code; fault = 0; place = 0; length = length }
 
--- what is told, as numbers
+-- an outcome as numbers
 abbrev pub answer_of : Told → Answer
 answer_of (Written None n) = plain 0 n
 answer_of (Written (Some fault) n) = refusal (fault_numbers fault) n

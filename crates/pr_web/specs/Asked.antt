@@ -1,5 +1,5 @@
--- Trusted: what a call of the page answers for the settings and the bytes that it is passed, and
--- what it leaves in the buffer.
+-- Trusted: what a call of the page answers for the settings and the bytes that it passes, and what
+-- it leaves in the buffer.
 use Rattle.std.specs.Prelude.{◌≡◌, ◌⊎◌, ℕ, List, [], Option, Some, None}
 use Rattle.std.specs.Option.{option_map_or}
 use Rattle.pr_channels.specs.declared.faults.Stop.{Stop}
@@ -19,7 +19,7 @@ use Rattle.pr_web.specs.declared.answer.Told.{Told}
 abbrev pub Refuses : ℕ → (old new : List ℕ) → Answer → Type 0
 Refuses fault old new answer = (answer ≡ refusal (fault, 0) 0) × (new ≡ old)
 
--- what a recording says
+-- the lines of a recording
 abbrev pub TellsReadings : Option Source → (atn clock line : List ℕ) → (inverted start : ℕ) → List ℕ
     → (old new : List ℕ) → Answer → Type 0
 TellsReadings None atn clock line inverted start bytes old new answer = Refuses 29 old new answer
@@ -27,7 +27,7 @@ TellsReadings (Some source) atn clock line inverted start bytes old new answer =
     (input : TraceInput) × IsInput source atn clock line (is_yes inverted) start input
     × (told : Told) × GivesReadings input bytes old new told × (answer ≡ answer_of told)
 
--- the pages that printers print of it
+-- the pages that printers print of a recording
 abbrev pub TellsReprint :
     Option Source → (atn clock line : List ℕ) → (inverted start picture : ℕ) → List ℕ → (old new : List ℕ) → Answer
     → Type 0
@@ -36,8 +36,8 @@ TellsReprint (Some source) atn clock line inverted start picture bytes old new a
     (input : TraceInput) × IsInput source atn clock line (is_yes inverted) start input
     × (told : Told) × GivesPages input (page_format_of (is_yes picture)) bytes old new told × (answer ≡ answer_of told)
 
--- the explanation of a place is handed over with the place's number, or memory for it was refused;
--- where there is no place there is no text
+-- the text of an explanation is in the buffer, and the answer has its place's number; or memory for
+-- it was refused. Where there is no place there is no text
 abbrev pub Explains :
     {P : Type 0} → (IsPlace : P → Type 0) → (number : P → ℕ) → (nowhere : P) → (old new : List ℕ)
     → Answer → Type 0
@@ -51,7 +51,7 @@ abbrev pub ExplainsScript : (script : List ℕ) → (old new : List ℕ) → Ans
 ExplainsScript script old new answer =
     Explains (IsScriptPlace script) (λ o. option_map_or (λ p. p.line) o 0) None old new answer
 
--- the error that stopped the run of a script at a statement of it
+-- the error that stopped the run of a script at one of its statements
 abbrev pub ExplainsStop :
     Option Stop → (statement : ℕ) → Present → (script old new : List ℕ) → Answer → Type 0
 ExplainsStop None statement present script old new answer = Refuses 30 old new answer

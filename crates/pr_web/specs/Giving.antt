@@ -1,4 +1,4 @@
--- Trusted: what the page's buffer holds after a call, by the text that was made.
+-- Trusted: what the page's buffer holds after a call, for the text that was made.
 use Rattle.std.specs.Prelude.{◌≡◌, ℕ, ◌<◌, ◌≤◌, Bool, true, false, List, [], ◌++◌, length, drop, Option, Some, None, Result, Ok, Err}
 use Rattle.pr_cli.specs.Check.{trace_limit}
 use Rattle.pr_cli.specs.declared.fault.CliFault.{CliFault}
@@ -12,11 +12,11 @@ use Rattle.pr_web.specs.declared.answer.Answer.{Answer}
 use Rattle.pr_web.specs.declared.answer.Told.{Told}
 use Rattle.pr_web.specs.declared.answer.Told.TheVariants.{Written, TooSmall, Refused}
 
--- what was made of an input: all that it says, or why not
+-- what was made of an input: the text of the whole input, or the fault that prevents it
 abbrev pub Made : Type 0
 Made = Result (Unit {0}) CliFault
 
--- a fault of what the input says, before which it is told
+-- a fault of the input's content: there is a text up to it
 abbrev pub is_of_input : CliFault → Bool
 is_of_input (Trace fault) = true
 is_of_input (Wave fault) = true
@@ -28,13 +28,12 @@ abbrev pub HasText : Made → Option CliFault → Type 0
 HasText made None = made ≡ Ok tt
 HasText made (Some fault) = (made ≡ Err fault) × (is_of_input fault ≡ true)
 
--- there is one, or none for this reason
+-- there is a text, or none for this reason
 abbrev pub FindsText : Made → Result (Option CliFault) CliFault → Type 0
 FindsText made (Ok stop) = HasText made stop
 FindsText made (Err fault) = (made ≡ Err fault) × (is_of_input fault ≡ false)
 
--- the text is handed over: it stands at the front of the buffer, and the rest is as it was; or it
--- has no room; or there is none
+-- the text is at the front of the buffer, and the rest is as it was; or the buffer is too small; or there is no text
 abbrev pub Gives : Made → List ℕ → (old new : List ℕ) → Told → Type 0
 Gives made text old new (Written stop n) =
     HasText made stop × (n ≡ length text) × (n ≤ length old) × (new ≡ text ++ drop n old)
@@ -42,19 +41,19 @@ Gives made text old new (TooSmall n) =
     (stop : Option CliFault) × HasText made stop × (n ≡ length text) × (length old < n) × (new ≡ old)
 Gives made text old new (Refused fault) = (made ≡ Err fault) × (is_of_input fault ≡ false) × (new ≡ old)
 
--- what a recording says is handed over
+-- the buffer gets the lines of a recording
 abbrev pub GivesReadings : TraceInput → List ℕ → (old new : List ℕ) → Told → Type 0
 GivesReadings input bytes old new told =
     (made : Made) × (text : List ℕ) × AnswersDecode trace_limit input bytes (Some []) (Some text) made
     × Gives made text old new told
 
--- the pages that printers print of it are
+-- the buffer gets the pages that printers print of a recording
 abbrev pub GivesPages : TraceInput → Format → List ℕ → (old new : List ℕ) → Told → Type 0
 GivesPages input format bytes old new told =
     (made : Made) × (text : List ℕ) × AnswersPages input format bytes (Some []) (Some text) made
     × Gives made text old new told
 
--- an explanation is handed over, and its place answered
+-- the buffer gets an explanation, and the answer has its place
 abbrev pub Hands : (place : ℕ) → (text : List ℕ) → (old new : List ℕ) → Answer → Type 0
 Hands place text old new answer =
     (told : Told) × Gives (Ok tt) text old new told

@@ -1,4 +1,4 @@
--- Trusted: what the numbers and bytes that the page passes stand for.
+-- Trusted: what the numbers and bytes that the page passes mean.
 use Rattle.std.specs.Prelude.{◌≡◌, ℕ, ◌==◌, Bool, true, false, List, if◌then◌else◌, not, Option, Some, None}
 use Rattle.pr_basic.specs.declared.session.StatusMode.{StatusMode}
 use Rattle.pr_basic.specs.declared.session.StatusMode.TheVariants as mode
@@ -6,6 +6,7 @@ use Rattle.pr_channels.specs.declared.faults.Stop.{Stop}
 use Rattle.pr_channels.specs.declared.faults.Stop.TheVariants as stop
 use Rattle.pr_render.specs.declared.format.Format.{Format}
 use Rattle.pr_render.specs.declared.format.Format.TheVariants as format
+use Rattle.pr_render.specs.Showing.{whole}
 use Rattle.pr_capture.specs.declared.format.Source.{Source}
 use Rattle.pr_capture.specs.declared.format.Source.TheVariants as source
 use Rattle.pr_capture.specs.declared.format.TraceInput.{TraceInput}
@@ -25,7 +26,7 @@ stop_of number =
     else (if number == 3 then Some stop.FileNotOpen
     else (if number == 5 then Some stop.DeviceNotPresent else (if number == 6 then Some stop.NotInputFile else None))))
 
--- whether a number stands for yes
+-- whether a number means yes
 abbrev pub is_yes : ℕ → Bool
 is_yes number = not (number == 0)
 
@@ -33,7 +34,7 @@ is_yes number = not (number == 0)
 abbrev pub presence : (four five : ℕ) → Present
 presence four five = record { four = is_yes four; five = is_yes five }
 
--- how the status goes on: cleared before each statement, or kept
+-- the status: cleared before each statement, or kept
 abbrev pub mode_of : (is_kept : Bool) → StatusMode
 mode_of false = mode.Each
 mode_of true = mode.Kept
@@ -41,10 +42,9 @@ mode_of true = mode.Kept
 -- the format of pages: lines of 80 columns, or an SVG document
 abbrev pub page_format_of : (is_picture : Bool) → Format
 page_format_of false = format.Lines
-page_format_of true = format.Picture
+page_format_of true = format.Svg whole
 
--- a recording with these names of its signals, of levels as they stand or inverted, which starts at
--- this microsecond
+-- a recording with these names of its signals, with levels as they are or inverted, which starts at this microsecond
 pub record IsInput (source : Source) (atn clock line : List ℕ) (is_inverted : Bool) (start : ℕ)
     (input : TraceInput) : Type 0 where
   pub of_source : input.source ≡ source

@@ -141,6 +141,11 @@ fn numbers_of_capture(fault: CaptureFault) -> (usize, usize)
         CaptureFault::Unknown(line) => (47, line),
         CaptureFault::Floating(line) => (48, line),
         CaptureFault::BadLevel(line) => (49, line),
+        CaptureFault::BadTimescale(line) => (70, line),
+        CaptureFault::NoTime(line) => (71, line),
+        CaptureFault::WideText => (72, 1),
+        CaptureFault::Archive => (73, 1),
+        CaptureFault::TwoSignals(line, wire) => (74 + number_of_wire(wire), line),
         CaptureFault::NoMemory => (0, 0),
     }
 }

@@ -11,6 +11,11 @@
 //! - `settings` gives the numbers their meaning.
 //!
 //! `web/module` puts this crate and pr_c into one WebAssembly module: web/README.md.
+//!
+//! It is a crate of its own, since C programs decode edge by edge (`pr_ear`), and explanations are
+//! words for people. The calls for explanations answer the place beside the text, so their
+//! contracts say the place without a word on the text. The tests are in this crate, since no crate
+//! can be built on a static library.
 #![tactic(auto)]
 
 mod answer;

@@ -6,7 +6,7 @@ ghost use Rattle.pr_web.specs.Settings.{IsInput, mode_of, page_format_of, source
 use pr_basic::StatusMode;
 use pr_capture::{Signals, Source, TraceInput};
 use pr_channels::Stop;
-use pr_render::Format;
+use pr_render::{Format, Part};
 
 /// The format of a recording: 0 a trace text, 1 a Value Change Dump, 2 a table of comma separated values.
 pub fn source_for(number: u8) -> Option<Source>
@@ -50,7 +50,7 @@ pub fn page_format_for(is_picture: bool) -> Format
     ensures { result ≡ page_format_of is_picture }
 {
     if is_picture {
-        Format::Picture
+        Format::Svg(Part::whole())
     } else {
         Format::Lines
     }

@@ -24,6 +24,6 @@ bounds_of Dr = (1, 20, 60)
 abbrev pub delay_of : Kind → ℕ → ℕ
 delay_of k r = (bounds_of k).0 + r % ((bounds_of k).2 - (bounds_of k).0 + 1)
 
--- the delay of a kind for a number of a list, by its index, and the typical one past the list's end
+-- the delay of a kind for the number at an index of a list; beyond the list's end the typical delay
 abbrev pub delay_at : Kind → List ℕ → ℕ → ℕ
 delay_at k numbers i = elim (slice_get numbers i) [ None ↦ (bounds_of k).1 | Some r ↦ delay_of k r ]

@@ -2,7 +2,7 @@
 use Rattle.std.specs.Prelude.{ℕ, ◌+◌, ◌*◌, Bool, true, if◌then◌else◌, List, [], ◌∷◌}
 use Rattle.pr_wire.specs.declared.Edge.{Edge}
 
--- the edge at a moment, by the levels of ATN, CLOCK and DATA after it
+-- the edge at a moment, with the levels of ATN, CLOCK and DATA after it
 abbrev pub edge_at : ℕ → Bool → Bool → Bool → Edge
 edge_at t atn clock line = record { time = t; levels = record { atn = atn; clock = clock; line = line } }
 

@@ -1,11 +1,11 @@
--- Trusted: lawful traces: the start, followed by whole pieces end to end.
+-- Trusted: lawful traces: the start, and then whole pieces end to end.
 use Rattle.std.specs.Prelude.{◌≡◌, ℕ, ◌+◌, ◌≤◌, Bool, true, false, not, ◌==◌, if◌then◌else◌, List, [], ◌∷◌, ◌++◌, length, Option, Some, None}
 use Rattle.pr_base.specs.Bytes as command
 use Rattle.pr_wire.specs.declared.Edge.{Edge}
 use Rattle.pr_wire.specs.declared.Frame.{Frame}
 use Rattle.pr_wire.specs.Levels.{edge_at, start, byte_of}
 
--- a moment lies in an interval, both ends included
+-- a moment is in an interval, both ends included
 pub record IsWithin (t low high : ℕ) : Type 0 where
   pub from : low ≤ t
   pub to : t ≤ high
@@ -21,7 +21,7 @@ pub record EoiAnswer : Type 0 where
   pub pulled : ℕ
   pub released : ℕ
 
--- a frame by its moments: DATA released, perhaps an EOI answer, CLOCK pulled, eight bits, the acknowledgement
+-- the moments of a frame: DATA released, perhaps an EOI answer, CLOCK pulled, eight bits, the acknowledgement
 pub record FrameTimes : Type 0 where
   pub free : ℕ
   pub pulse : Option EoiAnswer
@@ -40,7 +40,7 @@ pub record SecondFrame : Type 0 where
   pub look : ℕ
   pub sent : FrameTimes
 
--- what stands between two pieces
+-- the lines between two pieces
 pub data Between : Type 0 where
   -- all lines are released since then
   Resting : ℕ → Between
@@ -66,13 +66,13 @@ abbrev pub last_pull : ℕ → List BitTimes → ℕ
 last_pull c [] = c
 last_pull c (b ∷ bs) = last_pull b.down bs
 
--- each bit's moments follow the pull of CLOCK that brings it
+-- each bit's moments follow the pull of CLOCK before it
 abbrev pub AreClocked : ℕ → List BitTimes → Type 0
 AreClocked c [] = Unit {0}
 AreClocked c (b ∷ bs) =
     IsWithin b.up (c + 20) (c + 200) × IsWithin b.down (b.up + 20) (b.up + 200) × AreClocked b.down bs
 
--- CLOCK is pulled after DATA's release, in a data byte perhaps with an EOI answer between
+-- CLOCK is pulled after DATA's release; in a data byte an EOI answer may come between
 abbrev pub IsOpened : Bool → ℕ → Option EoiAnswer → ℕ → Type 0
 IsOpened x free None pull = IsWithin pull (free + 1) (free + 199)
 IsOpened x free (Some p) pull =
@@ -104,7 +104,7 @@ has_pulse (Some p) = true
 abbrev pub frame_sent : Bool → FrameTimes → Frame
 frame_sent x f = record { attention = not x; byte = byte_sent f; eoi = has_pulse f.pulse }
 
--- an attention's pull of ATN comes in time
+-- ATN is pulled for an attention in time
 abbrev pub IsCalled : Between → ℕ → Type 0
 IsCalled (Resting i) a = i + 100 ≤ a
 IsCalled (Held k) a = IsWithin a (k + 100) (k + 1000)
@@ -136,7 +136,7 @@ abbrev pub last_byte : ℕ → Option SecondFrame → ℕ
 last_byte byte None = byte
 last_byte byte (Some m) = byte_sent m.sent
 
--- the lines are released after an attention, by whether its last command is UNLISTEN
+-- the lines are released after an attention; the Bool says whether its last command is UNLISTEN
 abbrev pub AreReleased : Bool → ℕ → Option ℕ → Option ℕ → Type 0
 AreReleased true r (Some d) (Some c) = IsWithin d (r + 1) (r + 60) × IsWithin c (r + 100) (r + 200)
 AreReleased true r _ _ = ⊥
@@ -144,7 +144,7 @@ AreReleased false r None None = Unit {0}
 AreReleased false r (Some d) None = IsWithin d (r + 1) (r + 60)
 AreReleased false r _ (Some c) = ⊥
 
--- an attention ends after its last acknowledgement, by its last command
+-- the end of an attention, after its last acknowledgement, with its last command
 pub record IsEnded (byte k : ℕ) (e : Ending) : Type 0 where
   pub atn : IsWithin e.atn (k + 100) (k + 200)
   pub lines : AreReleased (byte == command.unlisten) e.atn e.line e.clock
@@ -154,12 +154,12 @@ abbrev pub IsLooked : Between → ℕ → Type 0
 IsLooked (Held k) l = IsWithin l (k + 100) (k + 1000)
 IsLooked _ l = ⊥
 
--- CLOCK is released for a byte that nobody takes
+-- CLOCK is released for a byte that nobody hears
 abbrev pub IsDropped : Between → ℕ → Type 0
 IsDropped (Loose r) l = IsWithin l (r + 100) (r + 1000)
 IsDropped _ l = ⊥
 
--- a piece is lawful after what stands before it
+-- a piece is lawful after these lines
 abbrev pub IsPiece : Between → Piece → Type 0
 IsPiece b (Unanswered a release) = IsReleased b × IsCalled b a × IsWithin release (a + 1000) (a + 2000)
 IsPiece b (Attention a answer look first second end) =
@@ -168,17 +168,17 @@ IsPiece b (Attention a answer look first second end) =
 IsPiece b (DataByte look sent) = IsLooked b look × IsFrame true look sent
 IsPiece b (Dropped look) = IsDropped b look
 
--- what stands after the releases of ATN, DATA and CLOCK
+-- the lines after the releases of ATN, DATA and CLOCK
 abbrev pub after_lines : ℕ → Option ℕ → Option ℕ → Between
 after_lines r d (Some c) = Resting c
 after_lines r (Some d) None = Loose r
 after_lines r None None = Held r
 
--- what stands after an attention
+-- the lines after an attention
 abbrev pub after_ending : Ending → Between
 after_ending e = after_lines e.atn e.line e.clock
 
--- what stands after a piece
+-- the lines after a piece
 abbrev pub after_piece : Piece → Between
 after_piece (Unanswered a release) = Resting release
 after_piece (Attention a answer look first second end) = after_ending end
@@ -190,7 +190,8 @@ abbrev pub AreLawful : Between → List Piece → Type 0
 AreLawful b [] = Unit {0}
 AreLawful b (p ∷ ps) = IsPiece b p × AreLawful (after_piece p) ps
 
--- the edges of the pulls of CLOCK and of its releases, the first pull at c; DATA brings the next bit, and is released at the last
+-- the edges of CLOCK's pulls and releases, the first pull at c; at each pull DATA takes the next
+-- bit, and is released at the last one
 abbrev pub bit_edges : Bool → ℕ → List BitTimes → List Edge
 bit_edges x c [] = edge_at c x false true ∷ []
 bit_edges x c (b ∷ bs) = edge_at c x false b.level ∷ edge_at b.up x true b.level ∷ bit_edges x b.down bs
@@ -231,7 +232,7 @@ clock_edges (Some c) = edge_at c true true true ∷ []
 abbrev pub ending_edges : Ending → List Edge
 ending_edges e = edge_at e.atn true false false ∷ line_edges e.line ++ clock_edges e.clock
 
--- the edges of a piece, after what stands before it
+-- the edges of a piece, after these lines
 abbrev pub piece_edges : Between → Piece → List Edge
 piece_edges b (Unanswered a release) = call_edge b a ∷ edge_at release true true true ∷ []
 piece_edges b (Attention a answer look first second end) =
@@ -262,7 +263,7 @@ pub record IsCut (edges : List Edge) (pieces : List Piece) : Type 0 where
   pub lawful : AreLawful (Resting 0) pieces
   pub edges_are : edges ≡ start ∷ edges_of (Resting 0) pieces
 
--- a lawful trace is the start, followed by whole pieces
+-- a lawful trace is the start, and then whole pieces
 abbrev pub IsLawful : List Edge → Type 0
 IsLawful edges = (pieces : List Piece) × IsCut edges pieces
 

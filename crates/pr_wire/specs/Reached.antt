@@ -1,4 +1,5 @@
--- Linking words: how far a list of edges comes in the table, edge by edge, for crates above. The laws on `allowed_traces` tie them to
+-- Linking words: how far a list of edges comes in the table, edge by edge, for crates above: with
+-- these a receiver needs none of this crate's proofs. The laws on `allowed_traces` tie them to
 -- lawful traces, frames and faults. No reader needs to believe them.
 use Rattle.std.specs.Prelude.{◌≡◌, ℕ, ◌+◌, Bool, false, List, [], ◌∷◌, Option, Some, None, Result, Ok, Err, if◌then◌else◌}
 use Rattle.pr_wire.specs.declared.Edge.{Edge}

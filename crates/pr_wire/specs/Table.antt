@@ -1,5 +1,8 @@
--- Trusted: the table of lawful traces: which edge may follow in each place, when, and the place that it reaches; and the first fault of a
--- list of edges by it.
+-- Trusted: the table of lawful traces: which edge may follow at each place, when, and the place
+-- that it reaches; and the first fault of a list of edges. `Pieces` says what lawful means; the
+-- table only decides which fault is first. Both have the intervals as numbers, since each is read
+-- against the profile. The code has each as the bounds of its kind of delay, except that DATA may
+-- answer in the microsecond of the look, and the end of a pulse (450).
 use Rattle.std.specs.Prelude.{ℕ, ◌+◌, Bool, true, false, not, ◌&&◌, ◌==◌, nat_lt, if◌then◌else◌, List, [], ◌∷◌, ◌++◌, length, Option, Some, None, Result, Ok, Err}
 use Rattle.pr_base.specs.Bytes as command
 use Rattle.pr_wire.specs.declared.Levels.{Levels}
@@ -16,7 +19,7 @@ use Rattle.pr_wire.specs.declared.bus_state.BusState.{BusState}
 use Rattle.pr_wire.specs.declared.bus_state.BusState.TheVariants.{Idle, Call, Ready, Free, Pulse, After, Bit, High, Last, Ack, Freed}
 use Rattle.pr_wire.specs.Levels.{byte_of}
 
--- a row of the table at an edge: the first and the last moment allowed, the place reached, and the frame that the edge ends
+-- a row of the table: the first and the last moment allowed, the place reached, and the frame that the edge ends
 pub record Row : Type 0 where
   pub earliest : ℕ
   pub latest : Option ℕ
@@ -40,7 +43,7 @@ abbrev pub same : Bool → Bool → Bool
 same true b = b
 same false b = not b
 
--- the row, where a test holds
+-- the row, only if a test holds
 abbrev pub where_true : Bool → Option Row → Option Row
 where_true true r = r
 where_true false r = None
@@ -49,7 +52,7 @@ where_true false r = None
 abbrev pub frame_of : ByteRole → Bool → List Bool → Frame
 frame_of s eoi bits = record { attention = not (atn_of s); byte = byte_of bits; eoi = eoi }
 
--- the row of the table for an edge, by its moment and its levels of ATN, CLOCK and DATA
+-- the row of the table for an edge, with its moment and its levels of ATN, CLOCK and DATA
 abbrev pub row : BusState → ℕ → Bool → Bool → Bool → Option Row
 row (Idle i) t false false true = from (i + 100) (Call t false)
 row (Idle i) t _ _ _ = None
@@ -100,7 +103,8 @@ row (Freed r false true) t true true true = within (r + 100) (r + 1000) (Idle t)
 row (Freed r false true) t false false true = within (r + 100) (r + 1000) (Call t false)
 row (Freed r unlisten line) t _ _ _ = None
 
--- a trace may end in Idle, after an attention whose last command was not UNLISTEN, and after a data byte
+-- the places at which a trace may end: Idle, after an attention whose last command was not
+-- UNLISTEN, and after a data byte
 abbrev pub may_end : BusState → Bool
 may_end (Idle i) = true
 may_end (Ack k Data byte) = true
@@ -111,23 +115,24 @@ may_end _ = false
 abbrev pub differ : Levels → Levels → Bool
 differ a b = not (same a.clock b.clock && same a.line b.line && same a.atn b.atn)
 
--- a moment lies above the last one allowed
+-- a moment is later than the last one allowed
 abbrev pub is_late : ℕ → Option ℕ → Bool
 is_late t None = false
 is_late t (Some high) = nat_lt high t
 
--- what an edge at a moment comes to by its row: the place reached and the frame that it ends, or what is wrong with it
+-- the result of an edge at a moment, for its row: the place reached and the frame that it ends, or
+-- what is wrong with it
 abbrev pub timed : ℕ → Option Row → Result Step EdgeError
 timed t None = Err Shape
 timed t (Some r) =
     if nat_lt t r.earliest then Err TooEarly
     else (if is_late t r.latest then Err TooLate else Ok (record { place = r.place; frame = r.frame }))
 
--- what an edge comes to in a place by its row
+-- the result of an edge at a place, for its row
 abbrev pub by_row : BusState → Edge → Result Step EdgeError
 by_row p e = timed e.time (row p e.time e.levels.atn e.levels.clock e.levels.line)
 
--- what an edge comes to in a place, after the edge before it
+-- the result of an edge at a place, after the edge before it
 abbrev pub verdict : Edge → BusState → Edge → Result Step EdgeError
 verdict last p e =
     if (nat_lt last.time e.time && differ last.levels e.levels) then by_row p e else Err Order
@@ -144,7 +149,7 @@ abbrev pub fault_or : Result Step EdgeError → ℕ → (Step → Option WaveFau
 fault_or (Err flaw) n next = Some (fault_at flaw n)
 fault_or (Ok step) n next = next step
 
--- the first fault of edges from a place on, after the edge before them, by the index of the first of them
+-- the first fault of edges from a place on, after the edge `last`; n is the index of the first of them
 abbrev pub fault_from : ℕ → Edge → BusState → List Edge → Option WaveFault
 fault_from n last p [] = if may_end p then None else Some (fault.Truncated n)
 fault_from n last p (e ∷ es) = fault_or (verdict last p e) n (λ step. fault_from (n + 1) e step.place es)
@@ -153,18 +158,18 @@ fault_from n last p (e ∷ es) = fault_or (verdict last p e) n (λ step. fault_f
 abbrev pub is_start : Edge → Bool
 is_start e = e.time == 0 && (e.levels.atn && (e.levels.clock && e.levels.line))
 
--- the first fault of a list of edges by the table, if it has one
+-- the first fault of a list of edges, by the table, if it has one
 abbrev pub fault_of : List Edge → Option WaveFault
 fault_of [] = Some (fault.Start 0)
 fault_of (e ∷ es) = if is_start e then fault_from 1 e (Idle 0) es else Some (fault.Start 0)
 
--- a fault that no edge of the list has, or none at all: the list only ends too soon, or not even that
+-- no fault, or only that the list ends too soon: no edge of it has a fault
 abbrev pub IsOfNoEdge : Option WaveFault → Type 0
 IsOfNoEdge None = Unit {0}
 IsOfNoEdge (Some (fault.Truncated n)) = Unit {0}
 IsOfNoEdge (Some _) = ⊥
 
--- a list of edges is allowed if none of its edges has a fault; the empty list is
+-- no edge of a list has a fault; the empty list is allowed
 abbrev pub IsAllowed : List Edge → Type 0
 IsAllowed [] = Unit {0}
 IsAllowed (e ∷ es) = IsOfNoEdge (fault_of (e ∷ es))

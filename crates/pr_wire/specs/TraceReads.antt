@@ -1,6 +1,6 @@
--- Trusted: how a reader of trace texts goes on. `HasReadTrace` holds of a new reader with no text,
--- each call says what it holds of next, and the answers are those of every text and all edges of
--- which it holds.
+-- Trusted: what each call of a reader of trace texts does. `HasReadTrace` holds of a new reader
+-- with no text; each call says for which text and edges it holds next; and the answers are right
+-- for each text and all edges for which it holds.
 use Rattle.std.specs.Prelude.{ℕ, List, ◌++◌, Option, Some, None, Result, Ok, Err}
 use Rattle.std.specs.Option.{option_to_list}
 use Rattle.pr_wire.specs.declared.Edge.{Edge}
@@ -10,13 +10,12 @@ use Rattle.pr_wire.specs.declared.text.TraceFault.TheVariants.{BadLine, NoMemory
 use Rattle.pr_wire.specs.TraceReading.{HasReadTrace}
 use Rattle.pr_wire.specs.TraceText.{SaysEdges}
 
--- the reader has taken these bytes too, behind whatever it had taken, and has given this edge, if
--- it gives one
+-- the reader has taken these bytes after those before, and has given this edge, if there is one
 abbrev pub ReadsMore : (bytes : List ℕ) → Option Edge → (old new : TraceReader) → Type 0
 ReadsMore bytes edge old new = (text : List ℕ) (edges : List Edge) → HasReadTrace text edges old
     → HasReadTrace (text ++ bytes) (edges ++ option_to_list edge) new
 
--- a fault is that of every text that goes on so
+-- the fault of every text that begins with the bytes taken before and these
 abbrev pub FaultsIn : (bytes : List ℕ) → (old : TraceReader) → TraceFault → Type 0
 FaultsIn bytes old (BadLine n) = (text : List ℕ) (edges : List Edge) → HasReadTrace text edges old
     → (more : List ℕ) → SaysEdges ((text ++ bytes) ++ more) edges (Some n)

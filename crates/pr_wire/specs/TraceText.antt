@@ -1,4 +1,5 @@
--- Trusted: traces as text: which texts spell which edges, which line is the first bad one, and the text that is written.
+-- Trusted: traces as text: which texts spell which edges, which line is the first bad one, and the
+-- text that is written.
 use Rattle.std.specs.Prelude.{◌≡◌, ℕ, ◌+◌, ◌^◌, ◌<◌, Bool, true, false, List, [], ◌∷◌, ◌++◌, length, flat_map, decimal, Option, Some, None}
 use Rattle.std.specs.List.{list_all}
 use Rattle.pr_base.specs.Digits.{is_digit, number_after}
@@ -14,7 +15,7 @@ level_digit false = 48
 abbrev pub levels_text : Edge → List ℕ
 levels_text e = 32 ∷ level_digit e.levels.atn ∷ level_digit e.levels.clock ∷ level_digit e.levels.line ∷ []
 
--- an edge's line as it is written: the time in decimal, the levels, the line's end
+-- an edge's line, as it is written: the time in decimal, the levels, the line's end
 unfoldable pub edge_text : Edge → List ℕ
 edge_text e = decimal e.time ++ (levels_text e ++ 10 ∷ [])
 
@@ -22,7 +23,7 @@ edge_text e = decimal e.time ++ (levels_text e ++ 10 ∷ [])
 abbrev pub trace_text : List Edge → List ℕ
 trace_text edges = flat_map edge_text edges
 
--- a byte 13 may stand at a line's end
+-- a line may end with a byte 13
 pub data Return : Type 0 where
   WithReturn : Return
   Without : Return
@@ -31,7 +32,7 @@ abbrev pub return_text : Return → List ℕ
 return_text WithReturn = 13 ∷ []
 return_text Without = []
 
--- a line spells an edge: one digit or more that make its time, below 2 ^ 64, its levels, and perhaps a byte 13
+-- a line spells an edge: one or more digits that spell its time, below 2 ^ 64, its levels, and perhaps a byte 13
 pub record IsEdgeLine (line : List ℕ) (e : Edge) : Type 0 where
   pub digits : List ℕ
   pub some : 0 < length digits
@@ -41,7 +42,7 @@ pub record IsEdgeLine (line : List ℕ) (e : Edge) : Type 0 where
   pub end : Return
   pub spelled : line ≡ digits ++ (levels_text e ++ return_text end)
 
--- lines spell edges, each one
+-- each line spells an edge
 abbrev pub AreEdgeLines : List (List ℕ) → List Edge → Type 0
 AreEdgeLines [] [] = Unit {0}
 AreEdgeLines (l ∷ ls) (e ∷ es) = IsEdgeLine l e × AreEdgeLines ls es
@@ -62,7 +63,7 @@ pub record IsFirstBad (n : ℕ) (text : List ℕ) : Type 0 where
   pub is_bad : (e : Edge) → IsEdgeLine bad e → ⊥
   pub number : n ≡ length good + 1
 
--- a text says these edges: those that it spells, or where a line is bad those of the lines before the first such line
+-- the edges of a text: those that it spells, or those of the lines before its first bad line
 abbrev pub SaysEdges : (text : List ℕ) → (edges : List Edge) → (bad : Option ℕ) → Type 0
 SaysEdges text edges None = IsTraceText text edges
 SaysEdges text edges (Some n) = (first : IsFirstBad n text) × (first.edges ≡ edges)

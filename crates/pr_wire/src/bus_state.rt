@@ -36,7 +36,7 @@ impl ByteRole {
     }
 }
 
-/// What is wrong with an edge.
+/// What is wrong with an edge, without the edge's index, which [`EdgeError::at`] adds.
 #[derive(Clone, Copy, Debug, PartialEq, Eq)]
 pub enum EdgeError {
     /// It is not later than the edge before it, or has the same levels.
@@ -49,8 +49,9 @@ pub enum EdgeError {
     Shape,
 }
 
-/// A place of the table of lawful traces. The first number is the moment from which the next
-/// edge's interval counts, in microseconds.
+/// A place of the table of lawful traces. The first number is the moment from which the next edge's
+/// interval counts, in microseconds. Places are public, since a receiver goes from place to place
+/// with each edge.
 #[derive(Drop)]
 pub enum BusState {
     /// All lines are released.
@@ -289,7 +290,8 @@ fn after_answer(since: u64, edge: Edge) -> Result<Step, EdgeError>
     }
 }
 
-/// Whether CLOCK's release fits a bit that stands: DATA keeps it, and the moment is right.
+/// Whether CLOCK's release fits a bit: DATA keeps it, and the moment is right. `rises` and `falls`
+/// are the only places that have the conditions of the rows of bits.
 fn rises(since: u64, sending: ByteRole, bit: bool, edge: Edge) -> Result<(), EdgeError>
     ensures { (eoi : Bool) (seen : List Bool) →
         FindsAs result (BusState.High edge.time sending eoi seen bit) (by_row (BusState.Bit since sending eoi seen bit) edge) }
@@ -486,8 +488,8 @@ impl BusState {
     }
 
     /// Goes on to the place that an edge reaches here, after the edge before it, and gives the
-    /// frame that the edge ends: [`BusState::after`] in place, and faster, since most edges are
-    /// those of bits. It takes no memory.
+    /// frame that the edge ends: [`BusState::after`] in place. It is faster, since it makes no
+    /// [`Step`] for the rows of bits, which 16 of the 22 edges of a byte take. It takes no memory.
     ///
     /// # Errors
     ///

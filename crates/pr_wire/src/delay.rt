@@ -77,8 +77,9 @@ pub(crate) fn answer_bounds() -> (u64, u64)
     (earliest, latest)
 }
 
-/// A party's list of raw numbers, each of which makes one delay. Contracts see all the numbers
-/// and how many have been taken; `left` is the list of the others, the next one first.
+/// A party's list of raw numbers, each of which makes one delay. Contracts see all the numbers,
+/// which never change, and how many have been taken; `left` is the list of the others, the next one
+/// first.
 #[derive(Drop)]
 pub struct Choices {
     numbers: Vec<u16>,

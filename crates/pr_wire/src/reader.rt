@@ -1,4 +1,5 @@
-//! Reading trace texts that come in blocks, edge by edge.
+//! Reading trace texts that come in blocks, edge by edge: whole lines at once, the rest byte by
+//! byte, as `checker` does.
 
 ghost use Rattle.std.specs.Prelude.{◌≡◌, ◌≢◌, ◌+◌, ◌^◌, ◌<◌, ◌≤◌, ◌∷◌, [], true, length, take, Some, IfErr, IfOk, OnOk};
 ghost use Rattle.pr_wire.specs.LineParts.{is_nothing};

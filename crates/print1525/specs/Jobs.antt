@@ -1,6 +1,6 @@
 -- Trusted: what the program answers for each job, and what it leaves in the reader and in the
--- writer. A job's own presence, delays, mode, input, character set and format are those of the
--- answer.
+-- writer. The answer uses the printers present, the delays, the mode, the input, the character set
+-- and the format of the job.
 use Rattle.std.specs.Prelude.{ℕ, List, Option, Result, Ok, Err}
 use Rattle.pr_capture.specs.declared.format.Source.{Source}
 use Rattle.pr_capture.specs.declared.format.Source.TheVariants as source
@@ -14,7 +14,7 @@ use Rattle.pr_options.specs.declared.command_line.Job.TheVariants.{Pages, Bus, C
 use Rattle.pr_cli.specs.declared.fault.CliFault.{CliFault}
 use Rattle.pr_cli.specs.declared.pages.Ending.{Ending}
 use Rattle.pr_cli.specs.declared.pages.Ending.TheVariants.{Done, Stopped}
-use Rattle.pr_cli.specs.Pages.{AnswersPages, IsRunFault, ReadsToEnd, WritesNothing, start_of}
+use Rattle.pr_cli.specs.Pages.{AnswersPages, IsPagesFault, IsRunFault, ReadsToEnd, WritesNothing, start_of}
 use Rattle.pr_cli.specs.Bus.{AnswersBus, WritesNoEdge}
 use Rattle.pr_cli.specs.Check.{AnswersCheck, trace_limit}
 use Rattle.pr_cli.specs.Report.{AnswersReport, IsReportFault, WritesNoReport}
@@ -31,7 +31,7 @@ abbrev pub AnswersTrace :
 AnswersTrace input source.Text report.Frames text old new result = AnswersCheck text old new result
 AnswersTrace input _ r text old new result = AnswersReport input r text old new result
 
--- what `decode` answers: what a recording says, byte by byte, or the pages that printers print of
+-- what `decode` answers: the lines of a recording, byte by byte, or the pages that printers print of it
 -- it
 abbrev pub AnswersRecording :
     TraceInput → Format → List ℕ → Option (List ℕ) → Option (List ℕ) → Result (Unit {0}) CliFault
@@ -40,7 +40,7 @@ AnswersRecording input format.List text old new result =
     AnswersDecode trace_limit input text old new result
 AnswersRecording input f text old new result = reprint.AnswersPages input f text old new result
 
--- a job that no BASIC error can stop is done where it is answered
+-- a job that no BASIC error can stop: it is done, or has a fault
 abbrev pub IsDone : (Result (Unit {0}) CliFault → Type 0) → Result Ending CliFault → Type 0
 IsDone answers (Ok Done) = answers (Ok tt)
 IsDone answers (Ok Stopped) = ⊥
@@ -60,17 +60,22 @@ AnswersJob (Decode input f) text old new result =
     IsDone (AnswersRecording input f text old new) result
 AnswersJob (Raw lower f) text old new result = IsDone (AnswersRaw lower f text old new) result
 
--- Whatever the reader tells.
+-- Whatever the reader gives.
+
+-- a fault of a recording, and of its pages where they are asked for
+abbrev pub IsRecordingFault : Format → CliFault → Type 0
+IsRecordingFault format.List fault = IsDecodeFault fault
+IsRecordingFault f fault = reprint.IsReprintFault fault
 
 -- a fault of the job: want of memory always as itself
 abbrev pub IsJobFault : Job → CliFault → Type 0
-IsJobFault (Pages form present delays mode f) fault = IsRunFault fault
+IsJobFault (Pages form present delays mode f) fault = IsPagesFault fault
 IsJobFault (Bus form present delays mode f) fault = IsRunFault fault
 IsJobFault (Check input r) fault = IsReportFault fault
-IsJobFault (Decode input f) fault = IsDecodeFault fault
+IsJobFault (Decode input f) fault = IsRecordingFault f fault
 IsJobFault (Raw lower f) fault = IsRawFault fault
 
--- the input has been read to its end, but where the job's subcommand ends earlier
+-- the input has been read to its end, unless the job's subcommand ends earlier
 abbrev pub ReadsInput : Job → Option (List ℕ) → Result Ending CliFault → Type 0
 ReadsInput (Pages form present delays mode f) left result = ReadsToEnd left result
 ReadsInput (Bus form present delays mode f) left result = ReadsToEnd left result
@@ -78,8 +83,7 @@ ReadsInput (Check input r) left result = IsDone (check.ReadsAll r left) result
 ReadsInput (Decode input f) left result = IsDone (decode.ReadsAll left) result
 ReadsInput (Raw lower f) left result = ReadsToEnd left result
 
--- a refusal leaves the writer's bytes as they were, but where the job's subcommand writes as it
--- reads
+-- a refusal leaves the writer's bytes as they were, unless the job's subcommand writes while it reads
 abbrev pub KeepsOutput : Job → Option (List ℕ) → Option (List ℕ) → Result Ending CliFault → Type 0
 KeepsOutput (Pages form present delays mode f) old new result = WritesNothing old new result
 KeepsOutput (Bus form present delays mode f) old new result = WritesNoEdge old new result

@@ -8,39 +8,40 @@ use Rattle.pr_listing.specs.declared.input.TextFault.TheVariants as listing
 use Rattle.pr_options.specs.declared.command_line.JobFault.{JobFault}
 use Rattle.pr_options.specs.declared.command_line.JobFault.TheVariants as job
 use Rattle.pr_cli.specs.declared.fault.CliFault.{CliFault}
-use Rattle.pr_cli.specs.declared.fault.CliFault.TheVariants.{Script, Trace, Wave, Capture, TooLarge, NoMemory, ReadFailed, WriteFailed}
+use Rattle.pr_cli.specs.declared.fault.CliFault.TheVariants.{Script, Trace, Wave, Capture, Picture, TooLarge, NoMemory, ReadFailed, WriteFailed}
 use Rattle.pr_cli.specs.declared.pages.Ending.{Ending}
 use Rattle.pr_cli.specs.declared.pages.Ending.TheVariants.{Done, Stopped}
 
--- 0 where a job is done, 1 where a BASIC error stopped the run
+-- 0 when a job is done, 1 when a BASIC error stopped the run
 abbrev pub ending_status : Ending → ℕ
 ending_status Done = 0
 ending_status Stopped = 1
 
--- 2 where the input is refused, 3 where memory was refused, or a read or a write failed
+-- 2 when the input is refused, 3 when memory was refused, or a read or a write failed
 abbrev pub fault_status : CliFault → ℕ
 fault_status (Script fault) = 2
 fault_status (Trace fault) = 2
 fault_status (Wave fault) = 2
 fault_status (Capture fault) = 2
+fault_status (Picture fault) = 2
 fault_status TooLarge = 2
 fault_status NoMemory = 3
 fault_status ReadFailed = 3
 fault_status WriteFailed = 3
 
--- 0 where the words ask for help or for the version, 2 where clap refuses them
+-- 0 when the words ask for help or for the version, 2 when clap refuses them
 abbrev pub line_status : ErrorKind → ℕ
 line_status DisplayHelp = 0
 line_status DisplayVersion = 0
 line_status _ = 2
 
--- and 2 where a value is bad, 3 where memory was refused
+-- 2 also when a value is bad, 3 when memory was refused
 abbrev pub refusal_status : JobFault → ℕ
 refusal_status (job.Line e) = line_status (kind_of e)
 refusal_status job.NoMemory = 3
 refusal_status _ = 2
 
--- 2 where a listing is refused, 3 where memory was refused, or a read failed
+-- 2 when a listing is refused, 3 when memory was refused, or a read failed
 abbrev pub text_status : TextFault → ℕ
 text_status (listing.Listing fault) = 2
 text_status listing.TooLarge = 2

@@ -39,6 +39,7 @@ pub fn fault_status(fault: CliFault) -> u8
         | CliFault::Trace(_)
         | CliFault::Wave(_)
         | CliFault::Capture(_)
+        | CliFault::Picture(_)
         | CliFault::TooLarge => REFUSED,
         CliFault::NoMemory | CliFault::ReadFailed | CliFault::WriteFailed => FAILED,
     }

@@ -8,4 +8,4 @@ decreases-loop-left l = l.left
 
 -- passing one leaves the field that is looked for
 abbrev pub invariant-loop-left : goal.invariant-loop-left
-invariant-loop-left l = field_at l.left (fields_of false l.rest) ≡ field_at l.place (fields_of false l.line)
+invariant-loop-left l = field_at l.left (fields_of l.separator false l.rest) ≡ field_at l.place (fields_of l.separator false l.line)

@@ -4,7 +4,8 @@ use Rattle.std.proofs.lemmas.Bool.{and_parts}
 use Rattle.std.proofs.lemmas.Bool.Decides.{nat_tests}
 use Rattle.std.proofs.lemmas.Grind.{common_steps}
 use Rattle.pr_page.specs.declared.paper.Row.{Row}
-use Rattle.pr_pdf.specs.Sheets.{first_sheet, is_on, row_pdf}
+use Rattle.pr_dots.specs.Sheets.{first_sheet, is_on}
+use Rattle.pr_pdf.specs.Sheets.{row_pdf}
 use Rattle.pr_pdf.proofs.Sheeted.{none_left, row_more}
 use Rattle.pr_pdf.proofs.sheets.push_rows.Goals as goal
 

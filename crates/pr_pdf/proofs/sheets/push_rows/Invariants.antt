@@ -1,6 +1,7 @@
 use Rattle.std.proofs.Common.{◌≡◌, ◌++◌, drop}
 use Rattle.std.specs.Prelude.{filter, flat_map}
-use Rattle.pr_pdf.specs.Sheets.{is_on, row_pdf}
+use Rattle.pr_dots.specs.Sheets.{is_on}
+use Rattle.pr_pdf.specs.Sheets.{row_pdf}
 use Rattle.pr_pdf.proofs.sheets.push_rows.Given as goal
 
 -- the text so far and that of what is left make the whole

@@ -1,5 +1,5 @@
 use Rattle.std.proofs.Common.{◌≡◌, ◌≤◌, drop, max}
-use Rattle.pr_pdf.specs.Sheets.{sheet_count}
+use Rattle.pr_dots.specs.Sheets.{sheet_count}
 use Rattle.pr_pdf.proofs.sheets.sheet_count.Given as goal
 
 abbrev pub invariant-loop-row : goal.invariant-loop-row

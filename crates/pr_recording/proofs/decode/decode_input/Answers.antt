@@ -1,5 +1,6 @@
 use Rattle.std.proofs.Common.{◌≡◌, ap, arith, false, length, refl, rules, true}
-use Rattle.pr_cli.specs.Inputs.{StopsWell, edges_read}
+use Rattle.pr_cli.specs.Inputs.{edges_read}
+use Rattle.pr_cli.specs.InputReads.{StopsWell}
 use Rattle.pr_recording.specs.Narrated.{NarratesMore}
 use Rattle.pr_recording.proofs.Answering.{at_first, at_last, last_stop, no_write, partly, refused, told_all, told_before, told_none, told_written, unwritten}
 use Rattle.pr_recording.proofs.Coming.{Laws}
