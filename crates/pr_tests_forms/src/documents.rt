@@ -69,15 +69,21 @@ const SHEET: &str =
 const FOLD: &str =
     "BT\n/U 1 Tf 1 0 0 1 252 140 Tm <54> Tj\n/L 1 Tf 1 0 0 1 504 140 Tm <54> Tj\n/D 1 Tf 1 0 0 1 756 140 Tm <05> Tj\n/D 1 Tf 1 0 0 1 840 140 Tm <7f> Tj\nET\n";
 
-const BEHIND_FOLD: &str =
+const AFTER_FOLD: &str =
     "BT\n/U 1 Tf 1 0 0 1 252 27860 Tm <54> Tj\n/L 1 Tf 1 0 0 1 504 27860 Tm <54> Tj\n/D 1 Tf 1 0 0 1 756 27860 Tm <05> Tj\n/D 1 Tf 1 0 0 1 840 27860 Tm <7f> Tj\nET\n";
 
 /// An empty sheet.
 const EMPTY: &str = "cm\nBT\nET\n\nendstream\n";
 
 /// The document has these parts.
-fn has_parts(rt: &(impl Abort + AllocGlobal), papers: [&Paper; 2], drawn: Present, parts: &[&str]) {
-    let document = pdf(rt.alloc(), papers[0], papers[1], drawn).expect(rt, "memory");
+fn has_parts(
+    rt: &(impl Abort + AllocGlobal),
+    four: &Paper,
+    five: &Paper,
+    drawn: Present,
+    parts: &[&str],
+) {
+    let document = pdf(rt.alloc(), four, five, drawn).expect(rt, "memory");
     let text = str::from_utf8(document.as_slice()).expect(rt, "text");
     for part in parts {
         assert!(rt; text.contains(*part), "{part}");
@@ -89,9 +95,9 @@ fn has_parts(rt: &(impl Abort + AllocGlobal), papers: [&Paper; 2], drawn: Presen
 fn document_of_a_letter(rt: HostRuntime) {
     let printed = paper(&rt, &[(21, &[LETTER])]);
     let empty = paper(&rt, &[]);
-    has_parts(&rt, [&printed, &empty], BOTH, &[BEGIN, FONTS, SHEET]);
-    has_parts(&rt, [&empty, &printed], FIVE, &[BEGIN, FONTS, SHEET]);
-    has_parts(&rt, [&empty, &printed], FOUR, &[EMPTY, "/Count 1 "]);
+    has_parts(&rt, &printed, &empty, BOTH, &[BEGIN, FONTS, SHEET]);
+    has_parts(&rt, &empty, &printed, FIVE, &[BEGIN, FONTS, SHEET]);
+    has_parts(&rt, &empty, &printed, FOUR, &[EMPTY, "/Count 1 "]);
     sheets_draw_dots();
     sheets_draw_papers();
 }
@@ -101,8 +107,8 @@ fn document_of_a_letter(rt: HostRuntime) {
 fn document_of_a_row_over_a_fold(rt: HostRuntime) {
     let four = paper(&rt, &[(1380, &[LETTER, SMALL, COLUMN, NEXT_COLUMN])]);
     let five = paper(&rt, &[(21, &[LETTER])]);
-    let parts = [FOLD, BEHIND_FOLD, "252 27320 Tm <54> Tj\n", "/Count 3 "];
-    has_parts(&rt, [&four, &five], BOTH, &parts);
+    let parts = [FOLD, AFTER_FOLD, "252 27320 Tm <54> Tj\n", "/Count 3 "];
+    has_parts(&rt, &four, &five, BOTH, &parts);
 }
 
 /// What refuses a document.
