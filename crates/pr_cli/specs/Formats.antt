@@ -1,5 +1,5 @@
 -- Trusted: the text of an outcome in each format, and of each part of its pages.
-use Rattle.std.specs.Prelude.{ℕ, ◌-◌, true, false, List, ◌&&◌, nat_le, if◌then◌else◌, Option, Some, None, Result, Ok, Err}
+use Rattle.std.specs.Prelude.{ℕ, ◌-◌, true, false, List, ◌&&◌, length, nat_le, if◌then◌else◌, Option, Some, None, Result, Ok, Err}
 use Rattle.pr_page.specs.declared.paper.Paper.{Paper}
 use Rattle.pr_dots.specs.Sheets.{sheets_of}
 use Rattle.pr_serial.specs.declared.Present.{Present}
@@ -8,6 +8,7 @@ use Rattle.pr_system.specs.declared.outcome.Outcome.{Outcome}
 use Rattle.pr_render.specs.Plain.{text_of}
 use Rattle.pr_render.specs.SheetSvg.{sheet_svg_of}
 use Rattle.pr_render.specs.Svg.{drawn_of, svg_of}
+use Rattle.pr_pdf.specs.Pdf.{file_limit, pdf_of}
 use Rattle.pr_png.specs.Png.{png_of}
 use Rattle.pr_cli.specs.PageText.{page_text}
 use Rattle.pr_render.specs.declared.format.Device.{Device}
@@ -15,7 +16,7 @@ use Rattle.pr_render.specs.declared.format.Device.TheVariants.{Four, Five}
 use Rattle.pr_render.specs.declared.format.Format.{Format}
 use Rattle.pr_render.specs.declared.format.Format.TheVariants as format
 use Rattle.pr_cli.specs.declared.fault.PictureFault.{PictureFault}
-use Rattle.pr_cli.specs.declared.fault.PictureFault.TheVariants.{NoSuchSheet}
+use Rattle.pr_cli.specs.declared.fault.PictureFault.TheVariants.{NoSuchSheet, TooLarge}
 
 -- the printers whose pages are shown: the one that is named, or else all that are present
 abbrev pub shown_of : Option Device → Present → Present
@@ -61,9 +62,18 @@ svg_part (Some sheet) present outcome = sheet_of sheet_svg_of sheet (first_paper
 abbrev pub png_part : Option ℕ → Present → Outcome → Result (List ℕ) PictureFault
 png_part sheet present outcome = sheet_of png_of (or_first sheet) (first_paper outcome (drawn_of outcome present))
 
+-- a document, if it is not too long
+abbrev pub if_short : List ℕ → Result (List ℕ) PictureFault
+if_short file = if nat_le (length file) file_limit then Ok file else Err TooLarge
+
+-- the sheets of the printers that the picture draws, as one document
+abbrev pub pdf_part : Present → Outcome → Result (List ℕ) PictureFault
+pdf_part present outcome = if_short (pdf_of outcome.paper4 outcome.paper5 (drawn_of outcome present))
+
 -- the page text, lines of 80 columns, or a picture: all but the first show the sheets of the printers that are present
 abbrev pub text_in : Format → Present → Outcome → Result (List ℕ) PictureFault
 text_in format.List present outcome = Ok (page_text outcome)
 text_in format.Lines present outcome = Ok (text_of outcome present)
 text_in (format.Svg part) present outcome = svg_part part.sheet (shown_of part.device present) (left_to part.device outcome)
 text_in (format.Png part) present outcome = png_part part.sheet (shown_of part.device present) (left_to part.device outcome)
+text_in (format.Pdf device) present outcome = pdf_part (shown_of device present) (left_to device outcome)

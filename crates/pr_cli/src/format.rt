@@ -1,7 +1,7 @@
 //! The text of a page in each format, and of each part of its pages.
 
 ghost use Rattle.std.specs.Prelude.{◌≡◌};
-ghost use Rattle.pr_cli.specs.Formats.{first_paper, left_to, or_first, png_part, sheet_at, shown_of, svg_part, text_in};
+ghost use Rattle.pr_cli.specs.Formats.{first_paper, left_to, or_first, pdf_part, png_part, sheet_at, shown_of, svg_part, text_in};
 ghost use Rattle.pr_cli.specs.Shown.{GivesShown};
 ghost use Rattle.pr_system.specs.Headline.{empty_paper};
 
@@ -10,6 +10,7 @@ use crate::page_text::text_from;
 use crate::text::Text;
 use pr_dots::sheets_of;
 use pr_page::{Paper, Sequence};
+use pr_pdf::{PdfFault, pdf};
 use pr_png::png;
 use pr_render::{Device, Format, drawn_of, sheet_svg, svg};
 use pr_serial::Present;
@@ -116,6 +117,18 @@ fn png_part(
     Ok(Text::from_vec(alloc, file))
 }
 
+/// The sheets of the printers that the picture draws, as one document.
+fn pdf_part(alloc: Global, present: Present, outcome: &Outcome) -> Result<Text, CliFault>
+    ensures { GivesShown (pdf_part present outcome.now) result }
+{
+    let drawn = drawn_of(outcome, present);
+    match pdf(alloc, &outcome.paper4, &outcome.paper5, drawn) {
+        Ok(file) => Ok(Text::from_vec(alloc, file)),
+        Err(PdfFault::TooLarge) => Err(CliFault::Picture(PictureFault::TooLarge)),
+        Err(PdfFault::NoMemory) => Err(CliFault::NoMemory),
+    }
+}
+
 /// The number of the sheet that is shown.
 fn or_first(sheet: Option<u64>) -> u64
     ensures { result ≡ or_first sheet }
@@ -155,6 +168,10 @@ pub fn text_in_format(
         Format::Png(part) => {
             let shown = left_to(alloc, part.device, outcome);
             png_part(alloc, part.sheet, shown_of(part.device, present), &shown)
+        }
+        Format::Pdf(device) => {
+            let shown = left_to(alloc, device, outcome);
+            pdf_part(alloc, shown_of(device, present), &shown)
         }
     }
 }

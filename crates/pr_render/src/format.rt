@@ -32,6 +32,8 @@ pub enum Format {
     Svg(Part),
     /// One sheet as a bitmap: sheet 1 where none is named.
     Png(Part),
+    /// The sheets of all printers, or of one, as a PDF document.
+    Pdf(Option<Device>),
 }
 
 impl Part {
@@ -48,7 +50,7 @@ impl Part {
 
 impl Format {
     /// The same format of this part of the pages, or `None` where the format has no such part: the list and the lines show
-    /// all pages.
+    /// all pages, and a PDF document has no single sheet.
     pub fn showing(self, part: Part) -> Option<Format>
         ensures { result ≡ showing self part }
     {
@@ -57,6 +59,7 @@ impl Format {
             (Format::Lines, None, None) => Some(Format::Lines),
             (Format::Svg(_), _, _) => Some(Format::Svg(part)),
             (Format::Png(_), _, _) => Some(Format::Png(part)),
+            (Format::Pdf(_), device, None) => Some(Format::Pdf(device)),
             _ => None,
         }
     }

@@ -125,7 +125,7 @@ fn decode_recording<R: Read, W: Write>(
 {
     match format {
         Format::List => decode_over(alloc, input, output, trace),
-        Format::Lines | Format::Svg(_) | Format::Png(_) => reprint_over(
+        Format::Lines | Format::Svg(_) | Format::Png(_) | Format::Pdf(_) => reprint_over(
             alloc, input, output, trace, format,
         ),
     }
