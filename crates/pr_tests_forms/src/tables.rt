@@ -2,10 +2,11 @@
 
 ghost use Rattle.std.specs.Prelude.{◌≤◌, length};
 
-use pr_capture::{CaptureFault, CsvReader, Signals};
-use pr_wire::write_trace;
+use pr_capture::{CaptureFault, CsvReader, Signals, csv_is_read_back};
+use pr_wire::{Edge, NoMemory, read_trace, write_trace};
 use std::alloc::Global;
 use std::process::Abort;
+use std::test::Fail;
 
 /// The names that are looked for where none are given.
 pub const NAMES: Signals<'static> = Signals {
@@ -164,4 +165,43 @@ fn tables_say_samples(rt: HostRuntime) {
     for &(signals, text, wanted) in &TABLES {
         says(&rt, signals, text, wanted);
     }
+}
+
+/// Adds the row of an edge: its seconds, with six decimals, and its levels.
+fn push_row(table: &mut String, edge: Edge) -> Result<(), NoMemory> {
+    let seconds = edge.time / 1_000_000;
+    let micros = edge.time % 1_000_000;
+    let atn = u8::from(edge.levels.atn);
+    let clock = u8::from(edge.levels.clock);
+    let line = u8::from(edge.levels.line);
+    write!(table, "{seconds:014}.{micros:06},{atn},{clock},{line}\n")
+}
+
+/// The edges of a trace as a table with a row for each.
+fn written(alloc: Global, edges: &[Edge]) -> Result<String, NoMemory> {
+    let mut table = String::new(alloc);
+    write!(table, "Time [s],ATN,CLOCK,DATA\n")?;
+    for edge in edges {
+        push_row(&mut table, *edge)?;
+    }
+    Ok(table)
+}
+
+/// Traces with edges at the same second, over a second, and at the last moment.
+const TRACES: [&str; 3] = [
+    "0 111\n100 001\n200 000\n",
+    "0 111\n999999 011\n1000000 001\n60000000 101\n",
+    "18446744073709551614 000\n18446744073709551615 010\n",
+];
+
+/// A law that is proved of every trace, played with a writer of tables: the table's samples are the trace's edges.
+#[test]
+fn tables_of_traces_are_read_back(rt: HostRuntime) -> Result<(), Fail> {
+    csv_is_read_back();
+    for &trace in &TRACES {
+        let edges = read_trace(rt.alloc(), trace.as_bytes())?;
+        let table = written(rt.alloc(), edges.as_slice())?;
+        says(&rt, NAMES, table.as_str(), trace);
+    }
+    Ok(())
 }
