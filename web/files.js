@@ -137,7 +137,8 @@ function showSource(answer) {
   const why = answer.code === 2 ? `It cannot be read to its end: ${answer.words}.` : answer.code > 2 ? 'There was no memory for it.' : '';
   const told = (answer.told || '').split('\n').map(line => line.trim()).filter(line => line && !/^[\^~]+$/.test(line));
   const verdict = !answer.verdict ? '' : answer.verdict === 'lawful' ? 'It is lawful.' : `${answer.verdict[0].toUpperCase()}${answer.verdict.slice(1)}.`;
-  sourceNotice(why || verdict);
+  const wave = answer.isDrawn === false ? ' Its wave is not drawn here: only decode reads all of its form.' : '';
+  sourceNotice(`${why || verdict}${wave}`);
   if (told.length) {
     const [more, name, text] = ['details', 'summary', 'pre'].map(kind => document.createElement(kind));
     name.textContent = 'Why';

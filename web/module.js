@@ -143,7 +143,7 @@ const loadPrint1525 = (() => {
   const STOPS = { 1: 'TOO MANY FILES', 2: 'FILE OPEN', 3: 'FILE NOT OPEN', 5: 'DEVICE NOT PRESENT', 6: 'NOT INPUT FILE' };
 
   const isEdge = fault => fault >= 11 && fault <= 16;
-  const isLine = fault => (fault >= 1 && fault <= 8) || (fault >= 31 && fault <= 49) || fault >= 62;
+  const isLine = fault => (fault >= 1 && fault <= 8) || (fault >= 31 && fault <= 49) || (fault >= 62 && ![72, 73].includes(fault));
   const isOfListing = fault => fault >= 60 && fault <= 64;
 
   function words({ code, fault, line, column, edge }) {

@@ -152,6 +152,7 @@ async function frameChosen(index) {
   let marks;
   try { marks = await ask('marks', { frame: index }); } catch (error) { return tellFailed(error); }
   if (turn !== asked) return;
+  if (!marks) return tellChosen(index);
   paper.find(marks);
   tellChosen(index, marks.length ? `, ${counted(marks.length, 'mark')}` : ', no mark that shows');
 }

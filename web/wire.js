@@ -66,41 +66,68 @@ class Gathering {
   edges() { return { times: Float64Array.from(this.times), levels: Uint8Array.from(this.levels) }; }
 }
 
-/** Which of some names is which of the signals looked for: their indices, -1 for one that is not there. CLK is CLOCK too. */
-function signalsIn(names, wanted) {
-  const plain = name => name.trim().replace(/^"(.*)"$/, '$1').trim().toUpperCase(), there = names.map(plain);
-  return wanted.map(name => {
-    const index = there.indexOf(plain(name));
-    return index < 0 && plain(name) === 'CLOCK' ? there.indexOf('CLK') : index;
+/** A name without white space and quotation marks, whose letters' case does not matter. */
+const plainName = name => name.replace(/["\s]/g, '').toUpperCase();
+
+/** Which of some signals have the names looked for: their indices, -1 for one that is not there. CLK is CLOCK too. */
+function signalsIn(names, wanted, has = (path, name) => path === name) {
+  const paths = names.map(plainName), indexOf = name => paths.findIndex(path => has(path, name));
+  return wanted.map(plainName).map(name => {
+    const index = indexOf(name);
+    return index < 0 && name === 'CLOCK' ? indexOf('CLK') : index;
   });
 }
 
-/** The edges of a table of samples, as far as it can be read, for the drawing alone. */
+/** The decimals of a second that a column of times counts, by its name, or null for another column. */
+function decimalsOf(name) {
+  const unit = /^(?:timestamp|time|t|)[^a-zµμ]*(s|sec|seconds?|ms|milliseconds?|us|µs|μs|microseconds?|ns|nanoseconds?|ps|picoseconds?|)[^a-z]*$/i.exec(name.replace(/["\s]/g, ''));
+  if (!unit || (!unit[1] && !/^["\s]*t/i.test(name))) return null;
+  return { m: unit[1].length === 2 || /^mil/i.test(unit[1]) ? 3 : 6, u: 6, 'µ': 6, 'μ': 6, n: 9, p: 12 }[unit[1][0]?.toLowerCase()] ?? 0;
+}
+
+/** The whole microseconds of a time with so many decimals of a second, rounded to the earlier one; null where it is none. */
+function microsOf(text, decimals) {
+  const found = /^([+-]?)(\d+)(?:\.(\d*))?(?:e([+-]?\d{1,3}))?$/i.exec(text);
+  if (!found) return null;
+  const [, sign, whole, part = '', exponent = '0'] = found, places = 6 - decimals - part.length + Number(exponent);
+  const digits = BigInt(whole + part), scale = 10n ** BigInt(Math.abs(places));
+  if (places >= 0) return Number(digits * scale) * (sign === '-' ? -1 : 1);
+  return sign === '-' ? -Number((digits + scale - 1n) / scale) : Number(digits / scale);
+}
+
+const unquoted = field => field.trim().replace(/^"(.*)"$/, '$1').trim();
+
+/** The edges of a table of samples, as far as it can be read here, for the drawing alone. */
 function edgesOfTable(text, ask) {
   const gathering = new Gathering(ask);
-  let columns = null;
+  let columns = null, separator = ',', decimals = null, rate = 0, count = 0, first = null;
   for (const line of text.split('\n')) {
-    if (!line.trim() || /^[;#]/.test(line)) continue;
-    const fields = line.replace(/\r$/, '').split(',').map(field => field.trim().replace(/^"(.*)"$/, '$1'));
+    const told = /samplerate:?\s*([\d.]+)\s*([kMG]?)(?:Hz)?\s*$/i.exec(line);
+    if (!columns && told) rate = Number(told[1]) * { '': 1, k: 1e3, m: 1e6, g: 1e9 }[told[2].toLowerCase()];
+    if (!line.trim() || /^\s*[;#]/.test(line) || /^META/.test(line)) continue;
+    if (!columns) separator = /[,;\t]/.exec(line)?.[0] ?? ',';
+    const fields = line.replace(/\r$/, '').split(separator).map(unquoted);
     if (!columns) {
-      columns = signalsIn(fields, ask.names);
-      if (columns.includes(-1)) break;
+      decimals = decimalsOf(fields[0]);
+      columns = signalsIn(decimals === null ? fields : ['', ...fields.slice(1)], ask.names);
+      if (columns.includes(-1) || (decimals === null && !rate)) break;
       continue;
     }
-    const moment = /^(\d+)(?:\.(\d*))?$/.exec(fields[0]);
-    const bits = columns.map(column => fields[column]);
-    if (!moment || bits.some(bit => bit !== '0' && bit !== '1')) break;
-    gathering.add(Number(moment[1]) * 1e6 + Number(((moment[2] || '') + '000000').slice(0, 6)), bits);
+    const moment = decimals === null ? Math.floor(count++ * 1e6 / rate) : microsOf(fields[0], decimals);
+    const bits = columns.map(column => /^[01lh](?:\.0*)?$/i.test(fields[column] ?? '') ? { l: '0', h: '1' }[fields[column][0].toLowerCase()] ?? fields[column][0] : null);
+    if (moment === null || bits.includes(null)) break;
+    first ??= Math.min(moment, 0);
+    gathering.add(moment - first, bits);
   }
   return gathering.edges();
 }
 
 const UNITS = { s: 1e15, ms: 1e12, us: 1e9, ns: 1e6, ps: 1e3, fs: 1 };
 
-/** The edges of a Value Change Dump, as far as it can be read, for the drawing alone. */
+/** The edges of a Value Change Dump, as far as it can be read here, for the drawing alone. */
 function edgesOfDump(text, ask) {
   const gathering = new Gathering(ask), words = text.split(/\s+/).filter(Boolean);
-  const names = [], codes = [];
+  const names = [], codes = [], scopes = [];
   let unit = 0, time = 0, i = 0;
   while (i < words.length && words[i] !== '$enddefinitions') {
     const from = i++;
@@ -109,25 +136,30 @@ function edgesOfDump(text, ask) {
     const said = words.slice(from + 1, i++);
     const scale = words[from] === '$timescale' && /^(10{0,2})(s|ms|us|ns|ps|fs)$/.exec(said.join(''));
     if (scale) unit = Number(scale[1]) * UNITS[scale[2]];
-    if (words[from] === '$var' && said[1] === '1') { codes.push(said[2]); names.push(said[3] ?? ''); }
+    if (words[from] === '$scope') scopes.push(said[1] ?? '');
+    if (words[from] === '$upscope') scopes.pop();
+    if (words[from] === '$var' && said[1] === '1') { codes.push(said[2]); names.push([...scopes, said.slice(3).join('')].join('.')); }
   }
-  const wires = signalsIn(names, ask.names);
+  const wires = signalsIn(names, ask.names, (path, name) => path === name || path.endsWith(`.${name}`));
   if (wires.includes(-1) || !unit) return gathering.edges();
   const levels = [null, null, null];
   const change = (code, level) => {
-    wires.forEach((wire, line) => { if (codes[wire] === code) levels[line] = level; });
+    wires.forEach((wire, line) => { if (codes[wire] === code) levels[line] = { l: '0', h: '1' }[level.toLowerCase()] ?? level; });
     if (levels.every(known => known === '0' || known === '1')) gathering.add(time, levels);
   };
   for (; i < words.length; i++) {
     const word = words[i];
     if (word[0] === '#') time = Math.floor(Number(word.slice(1)) * unit / 1e9);
-    else if (/^[01xz]./i.test(word)) change(word.slice(1), word[0]);
+    else if (/^[01xzhl]./i.test(word)) change(word.slice(1), word[0]);
     else if (/^b/i.test(word)) change(words[++i], word.slice(1));
     else if (/^[rs]/i.test(word)) i++;
-    else if (word[0] === '$' && !/^\$(dumpvars|dumpall|dumpon|dumpoff|end)$/.test(word)) while (i < words.length && words[i] !== '$end') i++;
+    else if (word[0] === '$' && !/^\$(dumpvars|dumpall|dumpon|end)$/.test(word)) while (i < words.length && words[i] !== '$end') i++;
   }
   return gathering.edges();
 }
+
+/** Whether edges are those of frames: at the end of each frame is an edge. */
+const haveFrames = ({ times }, frames) => frames.every(({ end }) => !Number.isFinite(end) || times[edgeAt(times, end)] === end);
 
 /** The edges of a recording in one of the formats of `decode`. */
 function edgesOf(ask) {

@@ -70,10 +70,11 @@ async function least(count, isSo) {
 }
 
 /** Keeps a recording, and gives its edges and what is said of it. */
-function keepWire(bytes, input, edges, readings) {
-  const { frames, counts, intervals, verdict } = readingsOf(text(readings));
+function keepWire(bytes, input, read, readings) {
+  const { frames, counts, intervals, verdict } = readingsOf(text(readings)), isDrawn = haveFrames(read, frames);
+  const edges = isDrawn ? read : { times: new Float64Array(0), levels: new Uint8Array(0) };
   Object.assign(wire, { bytes, input, edges, frames, readings });
-  return { times: edges.times.slice(), levels: edges.levels.slice(), frames, counts, intervals, verdict };
+  return { times: edges.times.slice(), levels: edges.levels.slice(), frames, counts, intervals, verdict, isDrawn };
 }
 
 const jobs = {
@@ -174,6 +175,7 @@ const jobs = {
 
   /** The marks that a frame's byte makes: those that the pages have with its last edge and not without it. */
   async marks({ frame }) {
+    if (!wire.edges.times.length) return null;
     const edge = edgeAt(wire.edges.times, wire.frames[frame].end);
     return marksMore(await pagesBefore(edge), await pagesBefore(edge + 1));
   },
@@ -187,6 +189,7 @@ const jobs = {
       const raw = async end => text((await print1525.raw({ bytes: bytes.subarray(0, end), set, format: 'svg' })).text);
       return { byte: await least(bytes.length, async end => count(await raw(end)) >= often) - 1 };
     }
+    if (!wire.edges.times.length) return { frame: -1 };
     const heard = wire.frames.flatMap((frame, index) => frame.fault ? [] : [index]);
     const found = await least(heard.length, async n => count(await pagesBefore(edgeAt(wire.edges.times, wire.frames[heard[n]].end) + 1)) >= often);
     return { frame: heard[found] ?? -1 };
