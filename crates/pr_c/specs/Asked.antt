@@ -9,7 +9,7 @@ use Rattle.pr_c.specs.Answers.{IsBusText, IsFramesText, IsPagesRefusal, IsPagesT
 use Rattle.pr_listing.specs.declared.form.ListingForm.{ListingForm}
 use Rattle.pr_c.specs.Listings.{TellsText, answer_for}
 use Rattle.pr_c.specs.Printing.{TellsInputs}
-use Rattle.pr_c.specs.declared.listing.Listed.{Listed}
+use Rattle.pr_c.specs.declared.listings.Listed.{Listed}
 use Rattle.pr_c.specs.declared.told.Answer.{Answer}
 use Rattle.pr_c.specs.declared.told.Told.{Told}
 

@@ -4,8 +4,8 @@ use Rattle.pr_listing.specs.Forms.{HasNoText, HasText}
 use Rattle.pr_listing.specs.declared.fault.ListingFault.TheVariants.{NoAddress, CutOff, UnknownName, BadByte, NoMemory}
 use Rattle.pr_listing.specs.declared.form.ListingForm.{ListingForm}
 use Rattle.pr_c.specs.Answers.{plain, refusal}
-use Rattle.pr_c.specs.declared.listing.Listed.{Listed}
-use Rattle.pr_c.specs.declared.listing.Listed.TheVariants.{Written, TooSmall, Refused}
+use Rattle.pr_c.specs.declared.listings.Listed.{Listed}
+use Rattle.pr_c.specs.declared.listings.Listed.TheVariants.{Written, TooSmall, Refused}
 use Rattle.pr_c.specs.declared.told.Answer.{Answer}
 
 -- what is told of a listing in this form: its text is in front of the buffer, and the rest as it was; or it has no room there; or there is

@@ -7,7 +7,7 @@ ghost use Rattle.pr_c.specs.Settings.{form_of, format_of, lower_of, mode_of, pre
 ghost use Rattle.pr_wire.specs.Choices.{left};
 
 use crate::calls::{bus, check, pages, raw};
-use crate::listing::{answer_for, listing};
+use crate::listings::{answer_for, listing};
 use crate::printing::print;
 use crate::settings::{form_for, format_for, lower_for, mode_for, present_for, trace_format_for};
 use crate::told::{Answer, Told, numbered, refused};

@@ -68,3 +68,12 @@ cleared old new s b y l = λ given written h. record {
 pub accounts_end : (a : ReadingLog) (given : List Reading) (written text more : List ℕ) → HasAccounted given written a → text ≡ a.lines.items ++ more → written ++ text ≡ all_lines Nothing given ++ more
 accounts_end a given written text more h is =
     ap (λ t. written ++ t) is ∙ (sym (append_assoc written a.lines.items more) ∙ ap (λ t. t ++ more) h.lines)
+
+-- the summary, the verdict and what is odd follow the lines
+pub accounts_finish : (a : ReadingLog) (given : List Reading) (written one two three s v o : List ℕ) → HasAccounted given written a
+    → one ≡ a.lines.items ++ s → two ≡ one ++ v → three ≡ two ++ o → written ++ three ≡ all_lines Nothing given ++ (s ++ (v ++ o))
+accounts_finish a given written one two three s v o h first second third =
+    accounts_end a given written three (s ++ (v ++ o)) h
+    (third
+    ∙ (ap (λ t. t ++ o) second
+    ∙ (ap (λ t. (t ++ v) ++ o) first ∙ (append_assoc (a.lines.items ++ s) v o ∙ append_assoc a.lines.items s (v ++ o)))))

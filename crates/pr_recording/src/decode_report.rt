@@ -4,6 +4,7 @@ ghost use Rattle.std.specs.Prelude.{◌≡◌, ◌+◌, ◌*◌, ◌^◌, ◌<�
 ghost use Rattle.pr_wire.specs.declared.Edge.{Edge};
 ghost use Rattle.pr_wire.specs.declared.Frame.{Frame};
 ghost use Rattle.pr_wire.specs.Following.{HasFollowed};
+ghost use Rattle.pr_report.specs.Taking.{HasSeen};
 ghost use Rattle.pr_recording.specs.Decoded.{stop_at};
 ghost use Rattle.pr_recording.specs.Narrated.{EndsEdges, GivesUp, HasNarrated, IsFollowed, NarratesMore, lines_in, load};
 
@@ -64,7 +65,7 @@ impl DecodeReport {
         match self.decoder.take(edge) {
             Ok(reading) => {
                 follow(&mut self.follower, edge);
-                self.seen.take(edge);
+                see(&mut self.seen, edge);
                 self.taken += 1;
                 self.log.push_if(reading)
             }
@@ -103,7 +104,7 @@ impl DecodeReport {
     }
 
     /// Ends the edges of an input with this fault, if it has one. Where nothing stops them, what the end
-    /// cuts, the summary and the verdict are told.
+    /// cuts, the summary, the verdict and what is odd are told.
     pub fn finish(mut self, own: Option<CliFault>) -> Result<Ended, AllocError>
         requires room { load self + 3 < 2 ^ 64 }
         ensures { IfOk result (λ ended. (edges : List Edge) (written : List ℕ) → HasNarrated edges written self →
@@ -134,6 +135,13 @@ fn follow(follower: &mut TraceFollower, edge: Edge)
         Ok(_) => {}
         Err(_) => {}
     }
+}
+
+/// Looks at the next edge.
+fn see(seen: &mut LinesSeen, edge: Edge)
+    ensures { (edges : List Edge) → HasSeen edges seen.old → HasSeen (edges ++ edge ∷ []) seen.new }
+{
+    seen.take(edge);
 }
 
 /// Why no more is told of edges: time goes back at one of them, or else their input has a fault.

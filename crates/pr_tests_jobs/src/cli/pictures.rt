@@ -127,7 +127,7 @@ fn parts_of_pages(rt: HostRuntime) {
         (Format::Png(part(four, None)), &blank),
     ] {
         let (answer, written) = shown(alloc, format);
-        assert!(&rt; answer == Ok(Ending::Done) && &written == wanted);
+        assert!(&rt; answer == Ok(Ending::Done) && written.as_slice() == wanted.as_slice());
     }
 }
 
