@@ -9,10 +9,13 @@
 #                   librsvg2-bin and netpbm); and the calls for C watched by valgrind and by cc's sanitizer of addresses
 # make lib          proves and builds libprint1525.a, the library for C programs (docs/C.md)
 # make web          makes web/print1525.html, the page in a browser, with its WebAssembly module of proved crates (web/README.md says
-#                   how), and tells whether the committed file is another one
-# make web-test     tests that page in Debian's chromium beside the built program
-# make install      copies the built program, the library for C with its header and what pkg-config wants, and the manual page to
-#                   $(DESTDIR)$(PREFIX), where PREFIX is /usr/local unless it is given
+#                   how; it wants wasm-opt, Debian's package binaryen), and tells whether the committed file is another one
+# make web-test     tests that page in Chromium, Firefox and WebKitGTK beside the built program, and print1525.mjs in Node
+# make install      copies the built program, the library for C with its header and what pkg-config wants, the manual page and the
+#                   completions of bash, zsh and fish to $(DESTDIR)$(PREFIX), where PREFIX is /usr/local unless it is given
+# make manual       makes the manual page and the completions anew from the program's help; make test says if they differ from it
+# make dist         packs all that make install copies, the page in the browser, examples, cases and documents as
+#                   out/print1525-VERSION-x86_64-linux.tar.gz with its SHA-256: of one commit always the same bytes
 
 SHELL := /bin/bash
 export PYTHONDONTWRITEBYTECODE := 1
@@ -29,7 +32,7 @@ TESTS := $(foreach crate,$(TEST_CRATES),crates/$(crate)/out/$(crate)_tests)
 # What the program and the tests are built from.
 SOURCES := crates.txt $(shell find crates -path '*/out' -prune -o \( -name '*.rt' -o -name '*.antt' \) -print)
 
-.PHONY: run try build test outside cases edits bench peer lib web web-test install
+.PHONY: run try build test outside cases edits bench peer lib web web-test install manual dist
 
 run: build
 	@$(PROGRAM) pages < examples/hello.bas
@@ -56,9 +59,8 @@ test:
 # The tests outside the prover: the built program, and the tests of crates that go on after a refusal.
 outside: build lib $(TESTS)
 	@tests/run $(PROGRAM)
-	@tests/cases/run $(PROGRAM)
+	@cases/run $(PROGRAM) cases tests/cases
 	@tests/documents $(PROGRAM)
-	@cases/run $(PROGRAM)
 	@tests/listings.py $(PROGRAM)
 	@cases/made --check
 	@cases/reach --check
@@ -93,6 +95,7 @@ peer: build lib
 	@tests/watched $(LIBRARY)
 	@tests/peer $(PROGRAM)
 	@tests/pictures $(PROGRAM)
+	@tests/printed $(PROGRAM)
 
 # Not a part of the gate, which knows no WebAssembly. The module is made anew where a crate changed.
 web: $(MODULE)
@@ -104,15 +107,30 @@ $(MODULE): $(SOURCES) tools/crates.py web/module
 	@mkdir -p $(@D)
 	web/module $@
 
-# Wants chromium; the pictures of the page are left in out/web, to be looked at.
+# Wants chromium, firefox-esr, webkit2gtk-driver, xvfb, nodejs and node-typescript (Debian's packages); the pictures of the page are
+# left in out/web, to be looked at.
 web-test: build
+	@web/commands --check
+	@tsc -p web
 	@web/test --program $(PROGRAM)
+	@web/compare-node $(PROGRAM)
 
 install: build lib
 	install -d $(DESTDIR)$(PREFIX)/bin $(DESTDIR)$(PREFIX)/include $(DESTDIR)$(PREFIX)/lib/pkgconfig $(DESTDIR)$(PREFIX)/share/man/man1
+	install -d $(DESTDIR)$(PREFIX)/share/bash-completion/completions $(DESTDIR)$(PREFIX)/share/zsh/site-functions
+	install -d $(DESTDIR)$(PREFIX)/share/fish/vendor_completions.d
 	install $(PROGRAM) $(DESTDIR)$(PREFIX)/bin/print1525
 	install -m 644 include/print1525.h $(DESTDIR)$(PREFIX)/include/print1525.h
 	install -m 644 $(LIBRARY) $(DESTDIR)$(PREFIX)/lib/libprint1525.a
 	install -m 644 docs/print1525.1 $(DESTDIR)$(PREFIX)/share/man/man1/print1525.1
+	install -m 644 completions/print1525.bash $(DESTDIR)$(PREFIX)/share/bash-completion/completions/print1525
+	install -m 644 completions/_print1525 $(DESTDIR)$(PREFIX)/share/zsh/site-functions/_print1525
+	install -m 644 completions/print1525.fish $(DESTDIR)$(PREFIX)/share/fish/vendor_completions.d/print1525.fish
 	sed -e 's|@PREFIX@|$(PREFIX)|' -e 's|@VERSION@|$(VERSION)|' include/print1525.pc.in > $(DESTDIR)$(PREFIX)/lib/pkgconfig/print1525.pc
 	chmod 644 $(DESTDIR)$(PREFIX)/lib/pkgconfig/print1525.pc
+
+manual:
+	@tools/manual
+
+dist: build lib
+	@tools/dist $(VERSION) out

@@ -1,7 +1,7 @@
 /* libprint1525: what a Commodore 64 prints on VIC-1525 printers, for C and C++ programs.
  *
  * The calls are proved: each gives exactly what its definition says (docs/C.md says where the
- * definitions stand), reads nothing but what it is passed, writes nothing but the caller's buffer,
+ * definitions are), reads nothing but what it is passed, writes nothing but the caller's buffer,
  * ear, decoder, reading and answer, and returns. The proofs hold where the caller keeps these rules:
  *
  * - No pointer is NULL, also where its length is 0 (any other pointer of its type will do). A
@@ -16,12 +16,12 @@
  * Who owns what. The caller owns all memory that it passes; no pointer is kept after a call, and no
  * call hands out memory. What a call takes by malloc it gives back before it returns.
  *
- * Threads. There is no state between calls and none behind them: each call stands alone, and several
+ * Threads. No call keeps any state: each is by itself, and several
  * threads may make calls at once.
  *
- * Sizes. A text stands at the front of the buffer, without a zero byte behind it; the rest of the
+ * Sizes. A text is at the front of the buffer, without a zero byte after it; the rest of the
  * buffer is as it was. A call never writes beyond `capacity`. Where the text has no room, nothing is
- * written and `length` tells how many bytes it has: call with a capacity of 0 first, and then with a
+ * written and `length` says how many bytes it has: call with a capacity of 0 first, and then with a
  * buffer of that length. A refusal leaves the whole buffer as it was, too. */
 #ifndef PRINT1525_H
 #define PRINT1525_H
@@ -35,7 +35,7 @@ extern "C" {
 
 /* How a call ended: `code` of an answer. 0 to 3 are the exit statuses of the program print1525. */
 enum print1525_code {
-    PRINT1525_DONE = 0,      /* what the call gives is there: of a text, it stands in the buffer */
+    PRINT1525_DONE = 0,      /* what the call gives is there: a text is in the buffer */
     PRINT1525_STOPPED = 1,   /* the same, and a BASIC error stopped the run: `fault` is its number */
     PRINT1525_REFUSED = 2,   /* what was passed is refused: `fault` says why, and `place` where */
     PRINT1525_NO_MEMORY = 3, /* malloc or realloc gave none */
@@ -64,7 +64,7 @@ enum print1525_fault {
     PRINT1525_TOO_LATE = 14,
     PRINT1525_SHAPE = 15,
     PRINT1525_TRUNCATED = 16,
-    /* of a number that stands for no setting; `place` is 0 */
+    /* of a number that means no setting; `place` is 0 */
     PRINT1525_NO_SUCH_DEVICE = 21,
     PRINT1525_NO_SUCH_PRINTERS = 22,
     PRINT1525_NO_SUCH_STATUS = 23,
@@ -74,8 +74,21 @@ enum print1525_fault {
      * ear, but it is a decoder just begun */
     PRINT1525_NO_EAR = 26,
     PRINT1525_NO_DECODER = 27,
-    /* of a number that stands for no input of a printer; `place` is its index, from 0 */
-    PRINT1525_NO_SUCH_INPUT = 28
+    /* of a number that means no input of a printer; `place` is its index, from 0 */
+    PRINT1525_NO_SUCH_INPUT = 28,
+    /* of a sheet that the pages do not have; `place` is how many they have */
+    PRINT1525_NO_SUCH_SHEET = 50,
+    /* of a document that is longer than its format allows; `place` is 0 */
+    PRINT1525_DOCUMENT_TOO_LARGE = 51,
+    /* of a number that means no form of a listing; `place` is 0 */
+    PRINT1525_NO_SUCH_FORM = 60,
+    /* of a listing: it has no load address (`place` is 0); it ends within a line; in a string of petcat's text
+     * a brace has no name that petcat writes, or a byte is none that it writes. `place` is the line, from 1, and
+     * of the last two `length` the column, from 1 */
+    PRINT1525_NOT_SAVED = 61,
+    PRINT1525_CUT_OFF = 62,
+    PRINT1525_UNKNOWN_NAME = 63,
+    PRINT1525_BAD_CHARACTER = 64
 };
 
 /* The BASIC error that stopped a run: `fault` beside PRINT1525_STOPPED; `place` is the statement at
@@ -88,13 +101,13 @@ enum print1525_stop {
     PRINT1525_NOT_INPUT_FILE = 6
 };
 
-/* What a call tells. Each call writes all of it; nothing in it is read. */
+/* What a call answers. Each call writes all of it; nothing in it is read. */
 typedef struct {
     size_t code;   /* one of enum print1525_code */
     size_t fault;  /* with code 1 one of enum print1525_stop, with code 2 of enum print1525_fault, else 0 */
     size_t place;  /* with codes 1 and 2 the statement, line, edge or input as those say, else 0 */
     size_t length; /* with codes 0, 1 and 4 the bytes of the text (of print1525_hear the inputs, of a
-                    * decoder the readings, 0 or 1), else 0 */
+                    * decoder the readings, 0 or 1), with the faults 63 and 64 the column, else 0 */
 } print1525_answer;
 
 /* What a code says. */
@@ -109,8 +122,8 @@ static inline const char *print1525_code_text(size_t code) {
     }
 }
 
-/* What a fault says, in the program's words: it tells `line 3: unknown word` of the faults 1 to 8,
- * and `edge 5: too early` of 11 to 16. */
+/* What a fault says, in the program's words: it writes `line 3: unknown word` of the faults 1 to 8 and 62,
+ * `edge 5: too early` of 11 to 16, and `line 3, column 9: unknown name` of 63 and 64. */
 static inline const char *print1525_fault_text(size_t fault) {
     switch (fault) {
     case PRINT1525_UNKNOWN_WORD: return "unknown word";
@@ -136,11 +149,18 @@ static inline const char *print1525_fault_text(size_t fault) {
     case PRINT1525_NO_EAR: return "no ear";
     case PRINT1525_NO_DECODER: return "no decoder";
     case PRINT1525_NO_SUCH_INPUT: return "no such input";
+    case PRINT1525_NO_SUCH_SHEET: return "no such sheet";
+    case PRINT1525_DOCUMENT_TOO_LARGE: return "document too large";
+    case PRINT1525_NO_SUCH_FORM: return "no such form";
+    case PRINT1525_NOT_SAVED: return "not a saved program";
+    case PRINT1525_CUT_OFF: return "cut off";
+    case PRINT1525_UNKNOWN_NAME: return "unknown name";
+    case PRINT1525_BAD_CHARACTER: return "bad byte";
     default: return "no fault";
     }
 }
 
-/* The BASIC error with a number, as the computer tells it behind a question mark. */
+/* The BASIC error with a number, as the computer shows it after a question mark. */
 static inline const char *print1525_stop_text(size_t stop) {
     switch (stop) {
     case PRINT1525_TOO_MANY_FILES: return "TOO MANY FILES";
@@ -156,8 +176,9 @@ static inline const char *print1525_stop_text(size_t stop) {
 enum { PRINT1525_NO_PRINTER = 0, PRINT1525_FOUR = 1, PRINT1525_FIVE = 2, PRINT1525_BOTH = 3 };
 /* `status`: cleared before each statement, or kept. */
 enum { PRINT1525_EACH = 0, PRINT1525_KEPT = 1 };
-/* `format` of a page: a line for each row and mark, lines of 80 columns, or an SVG document. */
-enum { PRINT1525_LIST = 0, PRINT1525_TEXT = 1, PRINT1525_SVG = 2 };
+/* `format` of a page: a line for each row and mark, lines of 80 columns, an SVG document, a sheet of eleven
+ * inches as a PNG file (the first of the first printer that printed), or a PDF document of all sheets. */
+enum { PRINT1525_LIST = 0, PRINT1525_TEXT = 1, PRINT1525_SVG = 2, PRINT1525_PNG = 3, PRINT1525_PDF = 4 };
 /* `format` of a trace: a line for each edge, or a Value Change Dump. */
 enum { PRINT1525_TRACE = 0, PRINT1525_VCD = 1 };
 /* `set`: the graphic/upper case or the lower/upper case characters. */
@@ -165,12 +186,25 @@ enum { PRINT1525_UPPER = 0, PRINT1525_LOWER = 1 };
 /* An input of a printer that is no byte: the selection of the one or of the other. */
 enum { PRINT1525_SELECT_UPPER = 256, PRINT1525_SELECT_LOWER = 257 };
 
+/* `form` of a listing: the text of a script, a saved program (a `.prg` file), or petcat's text of one. */
+enum { PRINT1525_SCRIPT = 0, PRINT1525_PROGRAM = 1, PRINT1525_PETCAT = 2 };
+
+/* Gives the text of the script that a listing says, for the calls that run scripts.
+ *
+ * Asks: a listing of any length, and its form.
+ * Gives: the text that `print1525 pages --from prg` and `--from petcat` run: a line for each line of the
+ * listing, of the same number. A listing that is the text of a script is itself.
+ * Refuses, with the buffer as it was: form (60); then a listing that has no text, by its first fault (61 to
+ * 64). The calls that run the text say whether it is a script: its faults are those of the listing's lines. */
+void print1525_listing(const uint8_t *bytes, size_t bytes_length, uint8_t form,
+                       uint8_t *buffer, size_t capacity, print1525_answer *answer);
+
 /* Runs a script and gives its pages.
  *
  * Asks: a script of at most 16,777,216 bytes; printers, status and format of the enums above; and the
  * numbers of the delays of the computer, of printer 4 and of printer 5, as of the option --delays
  * (past a list's end, and so with lengths of 0, each delay is the typical one; they change no page).
- * Gives: the text that `print1525 pages` writes. Code 1 tells the BASIC error that stopped the run;
+ * Gives: the text that `print1525 pages` writes. Code 1 comes with the BASIC error that stopped the run;
  * what was printed until then is in the text.
  * Refuses, with the buffer as it was: printers (22), status (23) and format (24), in this order; then
  * a script above the limit (9), or by its first fault (1 to 7) with its line. */
@@ -183,8 +217,8 @@ void print1525_pages(const uint8_t *script, size_t script_length, uint8_t printe
 /* Runs a script and gives the trace of its run on the serial bus.
  *
  * Asks: what print1525_pages asks, with a format of a trace.
- * Gives: the text that `print1525 bus` writes, a trace text or a Value Change Dump. Code 1 tells the
- * BASIC error that stopped the run.
+ * Gives: the text that `print1525 bus` writes, a trace text or a Value Change Dump. Code 1 comes with
+ * the BASIC error that stopped the run.
  * Refuses: as print1525_pages. */
 void print1525_bus(const uint8_t *script, size_t script_length, uint8_t printers, uint8_t status,
                    const uint16_t *computer, size_t computer_length,
@@ -207,7 +241,7 @@ void print1525_raw(const uint8_t *bytes, size_t bytes_length, uint8_t set, uint8
  * Asks: at most 4,294,967,296 inputs, each a number as print1525_hear and an ear give it: 0 to 255 a byte,
  * 256 the selection of the graphic/upper case set, 257 that of the lower/upper case set; and a format of a
  * page. Before the first selection the graphic/upper case set is selected.
- * Gives: the text of the page, as that of printer 4. Of a selection and bytes behind it this is what
+ * Gives: the text of the page, as that of printer 4. Of a selection and bytes after it this is what
  * print1525_raw gives for that set and these bytes.
  * Refuses, with the buffer as it was: format (24); inputs above the limit (9); then the first number above
  * 257 (28) with its index, before any memory is taken. */
@@ -224,7 +258,7 @@ void print1525_print(const uint16_t *inputs, size_t inputs_length, uint8_t forma
 void print1525_check(const uint8_t *text, size_t text_length,
                      uint8_t *buffer, size_t capacity, print1525_answer *answer);
 
-/* An edge of the serial bus: from this microsecond on the lines stand at these levels, each 0 for
+/* An edge of the serial bus: from this microsecond on the lines have these levels, each 0 for
  * pulled and any other number for released. */
 typedef struct {
     uint64_t time;
@@ -250,19 +284,19 @@ typedef struct {
     uint8_t sending;    /* which byte is sent: 0 the first of an attention, 1 its second, 2 a data byte */
     uint8_t eoi;        /* 1: end-or-identify was answered */
     uint8_t count;      /* how many bits of the byte have come, at most eight */
-    uint8_t byte;       /* their number, the lowest bit first; behind its acknowledgement the byte */
-    uint8_t bit;        /* the bit that stands; in a call 1: DATA is pulled, behind an attention 1: it is released */
+    uint8_t byte;       /* their number, the lowest bit first; after its acknowledgement the byte */
+    uint8_t bit;        /* the bit that is set; in a call 1: DATA is pulled, after an attention 1: it is released */
     uint8_t unlistened; /* 1: the last command was UNLISTEN */
 } print1525_ear_place;
 
 /* What is kept of a device between two edges: an ear on the wire. The numbers are the library's; the
  * caller only keeps them, and may copy them. Before a call uses them it tests each: a device of 4 to 30;
- * `called` only with `listens`; before the first edge nothing else but the fault 11; behind it levels of 0 or
+ * `called` only with `listens`; before the first edge nothing else but the fault 11; after it levels of 0 or
  * 1, a place to which the last edge can lead by the table with the numbers of this place and no others, the
  * fault 0 or 12 to 15, and `taken` + 98 at most the last moment (with one edge: at 0). Other numbers are
  * refused (26). Not tested is whether a trace has just these moments, this count, this
  * byte and a device that listens: with numbers that pass and that no edges left the call goes on from there.
- * Nothing is promised of what it tells then, but that it returns, writes nothing else, and leaves numbers
+ * Nothing is promised of what it answers then, but that it returns, writes nothing else, and leaves numbers
  * that pass. */
 typedef struct {
     size_t taken;              /* how many edges were accepted */
@@ -271,11 +305,11 @@ typedef struct {
     uint8_t begun;             /* 1: an edge was accepted */
     uint8_t refused;           /* 0, or the fault with which an edge was refused (11 if none was accepted) */
     uint8_t device;
-    uint8_t listens;           /* 1: it was called, and no UNLISTEN has come behind that */
+    uint8_t listens;           /* 1: it was called, and no UNLISTEN has come since */
     uint8_t called;            /* 1: the last frame called it */
 } print1525_ear;
 
-/* What an ear tells. Each call writes all of it. */
+/* What an ear answers. Each call writes all of it. */
 typedef struct {
     size_t code;  /* PRINT1525_DONE or PRINT1525_REFUSED */
     size_t fault; /* with code 2 one of enum print1525_fault, else 0 */
@@ -289,17 +323,17 @@ typedef struct {
  * Refuses, with the ear as it was: the device (21). */
 void print1525_ear_begin(print1525_ear *ear, uint8_t device, print1525_ear_answer *answer);
 
-/* Gives an ear the next edge, and tells the input that comes with it. Takes no memory, and no more time
+/* Gives an ear the next edge, and answers with the input that comes with it. Takes no memory, and no more time
  * for a later edge than for an earlier one.
  *
  * Asks: an ear that was begun, and edges in order, the first of them at 0 with all lines released.
  * Gives: with edge after edge the inputs that print1525_hear gives for all of them.
  * Refuses: numbers that are no ear (26), with the ear as it was; and an edge that no lawful trace has
- * there (11 to 15) with its index. That fault is told again with each edge behind it; begin the ear anew
+ * there (11 to 15) with its index. Each later edge is refused with the same fault; begin the ear anew
  * to go on. */
 void print1525_ear_edge(print1525_ear *ear, const print1525_edge *edge, print1525_ear_answer *answer);
 
-/* Tells whether the edges that an ear was given are a whole lawful trace. The ear may be given more.
+/* Says whether the edges that an ear was given are a whole lawful trace. The ear may be given more.
  *
  * Refuses: numbers that are no ear (26), and edges that are none by their first fault (11 to 16). */
 void print1525_ear_end(const print1525_ear *ear, print1525_ear_answer *answer);
@@ -319,12 +353,12 @@ typedef struct {
     uint8_t byte;                           /* their number, the lowest bit first */
 } print1525_byte;
 
-/* `kind` of a reading: of a whole byte how it ends, and of one begun and not ended what ended it. */
+/* `kind` of a reading: of a whole byte how it ends, and of an incomplete one what ended it. */
 enum print1525_kind {
     PRINT1525_NOTHING = 0,
     PRINT1525_ACKNOWLEDGED = 1,     /* a whole byte, at whose end DATA is pulled */
     PRINT1525_UNACKNOWLEDGED = 2,   /* a whole byte, at whose end CLOCK is released or ATN pulled */
-    PRINT1525_CUT = 3,              /* a whole byte, behind which the recording ends */
+    PRINT1525_CUT = 3,              /* a whole byte, after which the recording ends */
     PRINT1525_ATTENTION = 4,        /* ATN is pulled within the byte */
     PRINT1525_SILENCE = 5,          /* CLOCK is released for more than 1000 microseconds within it */
     PRINT1525_CUT_WITHIN = 6        /* the recording ends within it */
@@ -339,14 +373,14 @@ typedef struct {
 
 /* What is kept of a recording between two edges: a decoder. The numbers are the library's; the caller only
  * keeps them, and may copy them. Before a call uses them it tests each: before the first edge they are 0;
- * behind it there are two edges, and those at which DATA has turned, to and fro from the level that CLOCK has
- * not; a byte that has begun has at most eight bits and no greater number than so many make, its halves in
+ * after it there are two edges, and those at which DATA has turned, to and fro from the level that CLOCK has
+ * not; a byte that has begun has at most eight bits and no greater number than these make, its halves in
  * order, and where CLOCK is pulled, it was pulled last with the first edge. Other numbers are refused (27).
  * Not tested is whether a recording has just these moments and ATN's levels: with numbers that pass and that
- * no edges left the call goes on from there. Nothing is promised of what it tells then, but that it returns
+ * no edges left the call goes on from there. Nothing is promised of what it answers then, but that it returns
  * and writes nothing else. */
 typedef struct {
-    print1525_edge first;                      /* since when CLOCK stands as it does; each level 0 or 1 */
+    print1525_edge first;                      /* since when CLOCK has its level; each level 0 or 1 */
     print1525_edge last;                       /* the edge taken last */
     print1525_edge turn1, turn2, turn3, turn4; /* the edges from `first` on at which DATA has turned */
     print1525_byte byte;                       /* the byte that has begun */
@@ -359,17 +393,17 @@ typedef struct {
 /* Begins a decoder of a recording, from whatever bus and however it begins. Takes no memory. */
 void print1525_decode_begin(print1525_decoder *decoder);
 
-/* Gives a decoder the next edge, and tells the reading that it settles. Takes no memory, and no more time
+/* Gives a decoder the next edge, and answers with the reading that it settles. Takes no memory, and no more time
  * for a later edge than for an earlier one.
  *
- * Asks: a decoder that was begun, and edges whose times do not go back; several may stand at one time.
+ * Asks: a decoder that was begun, and edges whose times do not go back; several may have one time.
  * Gives: `length` 1 and the reading, or 0 and one that is PRINT1525_NOTHING.
  * Refuses, with the decoder as it was and PRINT1525_NOTHING: numbers that are no decoder (27), and an edge
- * that stands before the one taken last (12; `place` is 0, since a decoder counts no edges). */
+ * that is before the one taken last (12; `place` is 0, since a decoder counts no edges). */
 void print1525_decode_edge(print1525_decoder *decoder, const print1525_edge *edge,
                            print1525_reading *reading, print1525_answer *answer);
 
-/* Tells the reading that the end of a recording cuts, if it cuts one. The decoder may be given more edges.
+/* Answers with the reading that the end of a recording cuts, if it cuts one. The decoder may be given more edges.
  *
  * Refuses: numbers that are no decoder (27). */
 void print1525_decode_end(const print1525_decoder *decoder, print1525_reading *reading,

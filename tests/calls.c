@@ -1,10 +1,11 @@
 /* The calls of include/print1525.h over standard input, as a test of them: calls CALL SETTING..
  *
  *     calls pages PRINTERS STATUS FORMAT DELAYS       (the header's names by their index: no printer, 4, 5, both; each, kept;
- *                                                      list, text, svg; DELAYS as of --delays)
+ *                                                      list, text, svg, png, pdf; DELAYS as of --delays)
  *     calls bus PRINTERS STATUS FORMAT DELAYS
  *     calls raw SET FORMAT
  *     calls print FORMAT                              (inputs, a number each line)
+ *     calls listing FORM                              (the text of a listing: 0 a script, 1 a saved program, 2 petcat's text)
  *     calls check
  *     calls hear DEVICE                               (a trace text; the inputs that the device hears, a number each line)
  *     calls settings                                  (numbers that stand for no setting; no input)
@@ -147,6 +148,8 @@ static print1525_answer call(const job *j, uint8_t *buffer, size_t capacity) {
                       j->delays[2], j->counts[2], j->format, buffer, capacity, &answer);
     else if (strcmp(j->name, "raw") == 0)
         print1525_raw(j->input, j->length, j->first, j->format, buffer, capacity, &answer);
+    else if (strcmp(j->name, "listing") == 0)
+        print1525_listing(j->input, j->length, j->first, buffer, capacity, &answer);
     else if (strcmp(j->name, "print") == 0)
         print1525_print(j->numbers, j->count, j->format, buffer, capacity, &answer);
     else
@@ -164,6 +167,11 @@ static int is_untouched(const uint8_t *bytes, size_t count) {
 
 static int is_answer(print1525_answer answer, size_t code, size_t fault, size_t place, size_t length) {
     return answer.code == code && answer.fault == fault && answer.place == place && answer.length == length;
+}
+
+/* What `length` is beside a refusal: the column of what petcat does not write, else 0. */
+static size_t column_of(print1525_answer answer) {
+    return answer.fault == PRINT1525_UNKNOWN_NAME || answer.fault == PRINT1525_BAD_CHARACTER ? answer.length : 0;
 }
 
 /* The answer to a call with this capacity is the same text, or that it has no room, or the same refusal. */
@@ -184,7 +192,7 @@ static void try_size(const job *j, guarded buffer, size_t capacity, print1525_an
     if (!is_untouched(front, capacity)) is_wrong("the buffer is written, size", capacity);
     if (true_answer.code <= PRINT1525_STOPPED
             ? !is_answer(answer, PRINT1525_TOO_SMALL, 0, 0, true_answer.length)
-            : !is_answer(answer, true_answer.code, true_answer.fault, true_answer.place, 0))
+            : !is_answer(answer, true_answer.code, true_answer.fault, true_answer.place, column_of(true_answer)))
         is_wrong("another answer to a buffer of size", capacity);
 }
 
@@ -550,6 +558,8 @@ static void tell(print1525_answer answer) {
     if (answer.fault <= PRINT1525_BAD_LINE) fprintf(stderr, "line %lu: ", place);
     else if (answer.fault >= PRINT1525_START && answer.fault <= PRINT1525_TRUNCATED) fprintf(stderr, "edge %lu: ", place);
     else if (answer.fault == PRINT1525_NO_SUCH_INPUT) fprintf(stderr, "input %lu: ", place);
+    else if (answer.fault == PRINT1525_CUT_OFF) fprintf(stderr, "line %lu: ", place);
+    else if (column_of(answer) > 0) fprintf(stderr, "line %lu, column %lu: ", place, (unsigned long)answer.length);
     fprintf(stderr, "%s\n", print1525_fault_text(answer.fault));
 }
 
@@ -562,13 +572,14 @@ static void try_settings(void) {
     } rows[] = {
         {"pages", 4, 0, 0, PRINT1525_NO_SUCH_PRINTERS}, {"pages", 255, 2, 3, PRINT1525_NO_SUCH_PRINTERS},
         {"pages", 3, 2, 0, PRINT1525_NO_SUCH_STATUS},   {"pages", 3, 255, 3, PRINT1525_NO_SUCH_STATUS},
-        {"pages", 3, 1, 3, PRINT1525_NO_SUCH_FORMAT},   {"pages", 0, 0, 255, PRINT1525_NO_SUCH_FORMAT},
+        {"pages", 3, 1, 4, PRINT1525_NO_SUCH_FORMAT},   {"pages", 0, 0, 255, PRINT1525_NO_SUCH_FORMAT},
         {"bus", 4, 0, 0, PRINT1525_NO_SUCH_PRINTERS},   {"bus", 255, 2, 2, PRINT1525_NO_SUCH_PRINTERS},
         {"bus", 3, 2, 0, PRINT1525_NO_SUCH_STATUS},     {"bus", 3, 255, 2, PRINT1525_NO_SUCH_STATUS},
         {"bus", 3, 1, 2, PRINT1525_NO_SUCH_FORMAT},     {"bus", 0, 0, 255, PRINT1525_NO_SUCH_FORMAT},
         {"raw", 2, 0, 0, PRINT1525_NO_SUCH_SET},        {"raw", 255, 0, 3, PRINT1525_NO_SUCH_SET},
-        {"raw", 1, 0, 3, PRINT1525_NO_SUCH_FORMAT},     {"raw", 0, 0, 255, PRINT1525_NO_SUCH_FORMAT},
-        {"print", 0, 0, 3, PRINT1525_NO_SUCH_FORMAT},   {"print", 0, 0, 255, PRINT1525_NO_SUCH_FORMAT},
+        {"raw", 1, 0, 4, PRINT1525_NO_SUCH_FORMAT},     {"raw", 0, 0, 255, PRINT1525_NO_SUCH_FORMAT},
+        {"print", 0, 0, 4, PRINT1525_NO_SUCH_FORMAT},   {"print", 0, 0, 255, PRINT1525_NO_SUCH_FORMAT},
+        {"listing", 3, 0, 0, PRINT1525_NO_SUCH_FORM},   {"listing", 255, 0, 0, PRINT1525_NO_SUCH_FORM},
     };
     static const uint16_t no_input[1] = {65535};
     static job j;
@@ -769,8 +780,11 @@ static uint8_t named(const uint8_t *names, size_t count, int index) {
 static void set(job *j, int words, char **word) {
     static const uint8_t printers[] = {PRINT1525_NO_PRINTER, PRINT1525_FOUR, PRINT1525_FIVE, PRINT1525_BOTH};
     static const uint8_t statuses[] = {PRINT1525_EACH, PRINT1525_KEPT}, sets[] = {PRINT1525_UPPER, PRINT1525_LOWER};
-    static const uint8_t pages[] = {PRINT1525_LIST, PRINT1525_TEXT, PRINT1525_SVG}, traces[] = {PRINT1525_TRACE, PRINT1525_VCD};
-    if (strcmp(j->name, "print") == 0 && words > 2) {
+    static const uint8_t pages[] = {PRINT1525_LIST, PRINT1525_TEXT, PRINT1525_SVG, PRINT1525_PNG, PRINT1525_PDF}, traces[] = {PRINT1525_TRACE, PRINT1525_VCD};
+    static const uint8_t forms[] = {PRINT1525_SCRIPT, PRINT1525_PROGRAM, PRINT1525_PETCAT};
+    if (strcmp(j->name, "listing") == 0 && words > 2) {
+        j->first = named(forms, sizeof forms, atoi(word[2]));
+    } else if (strcmp(j->name, "print") == 0 && words > 2) {
         j->format = named(pages, sizeof pages, atoi(word[2]));
     } else if (strcmp(j->name, "raw") == 0 && words > 3) {
         j->first = named(sets, sizeof sets, atoi(word[2]));

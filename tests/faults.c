@@ -1,8 +1,14 @@
 /* Faults of the outside, for tests: loaded before the C library by LD_PRELOAD.
  *
  * FAULT_ALLOC=N  the Nth allocation is refused
- * FAULT_READ=N   the Nth read of standard input fails
- * FAULT_WRITE=N  the Nth write to standard output fails
+ * FAULT_READ=N   the Nth read fails
+ * FAULT_WRITE=N  the Nth write fails, but of writes to standard error
+ * FAULT_FULL=N   the same, and every write after it, with the error of a full disk
+ * FAULT_OPEN=N   the Nth file cannot be opened
+ * FAULT_MODE=N   the Nth change of a file's mode fails
+ * FAULT_LINK=N   the Nth link cannot be read
+ * FAULT_SYNC=N   the Nth sync fails
+ * FAULT_RENAME=N the Nth file cannot be renamed
  * FAULT_SLOW=1   each read and write moves one byte
  * FAULT_SIGNAL=1 a signal interrupts each read and write, and each moves bytes when it is made again
  * FAULT_MARK=F   the file F is made when a fault happens
@@ -10,7 +16,10 @@
 #define _GNU_SOURCE
 #include <errno.h>
 #include <fcntl.h>
+#include <stdarg.h>
+#include <stdio.h>
 #include <stdlib.h>
+#include <sys/stat.h>
 #include <sys/syscall.h>
 #include <unistd.h>
 
@@ -37,7 +46,7 @@ static int fails(const char *name, long *count)
     return 1;
 }
 
-static long allocations, reads, writes;
+static long allocations, reads, writes, fulls, opens, modes, links, syncs, renames;
 
 static int refused(void)
 {
@@ -93,28 +102,82 @@ static int read_interrupted, write_interrupted;
 
 ssize_t read(int file, void *place, size_t size)
 {
-    if (file == 0) {
-        if (interrupted(&read_interrupted))
-            return -1;
-        if (fails("FAULT_READ", &reads)) {
-            errno = EIO;
-            return -1;
-        }
-        size = moved(size);
+    if (interrupted(&read_interrupted))
+        return -1;
+    if (fails("FAULT_READ", &reads)) {
+        errno = EIO;
+        return -1;
     }
+    size = moved(size);
     return syscall(SYS_read, file, place, size);
 }
 
 ssize_t write(int file, const void *bytes, size_t size)
 {
-    if (file == 1) {
+    if (file != 2) {
         if (interrupted(&write_interrupted))
             return -1;
         if (fails("FAULT_WRITE", &writes)) {
             errno = EIO;
             return -1;
         }
+        if (fails("FAULT_FULL", &fulls) || (number("FAULT_FULL") && fulls > number("FAULT_FULL"))) {
+            errno = ENOSPC;
+            return -1;
+        }
         size = moved(size);
     }
     return syscall(SYS_write, file, bytes, size);
+}
+
+int open(const char *name, int flags, ...)
+{
+    mode_t mode = 0;
+    if (flags & O_CREAT) {
+        va_list rest;
+        va_start(rest, flags);
+        mode = va_arg(rest, mode_t);
+        va_end(rest);
+    }
+    if (fails("FAULT_OPEN", &opens)) {
+        errno = EACCES;
+        return -1;
+    }
+    return syscall(SYS_openat, AT_FDCWD, name, flags, mode);
+}
+
+int fchmod(int file, mode_t mode)
+{
+    if (fails("FAULT_MODE", &modes)) {
+        errno = EPERM;
+        return -1;
+    }
+    return syscall(SYS_fchmod, file, mode);
+}
+
+ssize_t readlink(const char *restrict name, char *restrict place, size_t size)
+{
+    if (fails("FAULT_LINK", &links)) {
+        errno = EIO;
+        return -1;
+    }
+    return syscall(SYS_readlinkat, AT_FDCWD, name, place, size);
+}
+
+int fsync(int file)
+{
+    if (fails("FAULT_SYNC", &syncs)) {
+        errno = EIO;
+        return -1;
+    }
+    return syscall(SYS_fsync, file);
+}
+
+int rename(const char *from, const char *to)
+{
+    if (fails("FAULT_RENAME", &renames)) {
+        errno = EXDEV;
+        return -1;
+    }
+    return syscall(SYS_renameat2, AT_FDCWD, from, AT_FDCWD, to, 0);
 }

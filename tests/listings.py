@@ -6,6 +6,7 @@ of a script, as a saved program and as petcat's text; PROGRAM prints all three, 
 each byte in a string, as the two forms that can hold it, and cuts saved programs off at each place: the exit status
 is 2, a line is on standard error, and nothing on standard output. It prints what differs and ends with 1 then.
 
+    tests/listings.py --make SEED text|prg|petcat       writes one such listing in one form
     tests/listings.py --prg < PETCAT > PROGRAM.prg      saves petcat's text as a program, as LOAD address $0801 wants it
 
 The forms are made here from what the Commodore 64's manuals say of tokens and lines, and from petcat's names."""
@@ -216,6 +217,12 @@ def run(program, words, data):
 def main():
     if sys.argv[1:] == ["--prg"]:
         sys.stdout.buffer.write(save(sys.stdin.read()))
+        return
+    if sys.argv[1:2] == ["--make"]:
+        rng = random.Random(int(sys.argv[2]))
+        lines = listing(rng)
+        sys.stdout.buffer.write({"text": lambda: as_text(lines), "prg": lambda: as_program(lines, rng),
+            "petcat": lambda: as_petcat(lines, rng)}[sys.argv[3]]())
         return
     program, count = sys.argv[1], int(sys.argv[2]) if len(sys.argv) > 2 else 200
     rng = random.Random(1525)

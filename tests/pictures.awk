@@ -1,5 +1,6 @@
 # A page text drawn once more, apart from the proved code, with the characters of examples/characters.txt.
-# usage: awk -v as=svg|text|dots -v present=both|4|5|none -v characters=FILE -f pictures.awk PAGE-TEXT
+# usage: awk -v as=svg|text|dots -v present=both|4|5|none -v characters=FILE [-v only=4|5 -v number=N] -f pictures.awk PAGE-TEXT
+# only and number: one sheet of a printer as svg
 # dots: a line `PRINTER X Y` for each dot
 # a character in UTF-8, also where awk writes it so by itself (gawk in a UTF-8 locale)
 function utf8(u) {
@@ -156,6 +157,19 @@ function picture(   four, five, lines, width, height, text, noted) {
     return text "</text>\n</svg>\n"
 }
 
+# a sheet of a printer, from 1: the rows that reach it
+function one_sheet(device, number,   i, k, begin, ink, text) {
+    begin = 13860 * (number - 1) + 630
+    text = "<svg xmlns=\"http://www.w3.org/2000/svg\" version=\"1.1\" width=\"60pc\" height=\"66pc\" viewBox=\"0 " begin " 12600 13860\">\n<desc>Pages of VIC-1525 printers. Each dot is where a needle strikes; the shapes of characters are this project's own.</desc>\n<pattern id=\"paper\" width=\"12600\" height=\"630\" patternUnits=\"userSpaceOnUse\"><rect width=\"12600\" height=\"630\" fill=\"#fff\"/><g fill=\"#e9e6df\" stroke=\"#b4afa2\" stroke-width=\"10\"><circle cx=\"315\" cy=\"315\" r=\"100\"/><circle cx=\"12285\" cy=\"315\" r=\"100\"/><path stroke-dasharray=\"35\" d=\"M630 0v630M11970 0v630\"/></g></pattern>\n<pattern id=\"folds\" y=\"7560\" width=\"12600\" height=\"13860\" patternUnits=\"userSpaceOnUse\"><path stroke=\"#b4afa2\" stroke-width=\"10\" stroke-dasharray=\"70\" d=\"M0 6930h12600\"/></pattern>\n<defs>\n"
+    for (i = 1; i <= rows[device]; i++) {
+        if (int(top[device, i] / 1386) != number - 1 && int((top[device, i] + 13) / 1386) != number - 1) continue
+        for (k = first[device, i]; k <= last[device, i]; k++) if (!(name_of(k) in defined)) { defined[name_of(k)] = 1; text = text definition(k) }
+        ink = ink "<g transform=\"translate(0 " 10 * top[device, i] ")\">\n" uses(first[device, i], last[device, i]) letters(first[device, i], last[device, i]) "</g>\n"
+    }
+    text = text "</defs>\n<rect y=\"" begin "\" width=\"12600\" height=\"13860\" fill=\"url(#paper)\"/>\n<g transform=\"translate(1260 630)\">\n<g stroke-width=\"22\" stroke-linecap=\"round\" fill-opacity=\"0\" font-size=\"140\">\n"
+    return text ink "</g>\n</g>\n</svg>\n"
+}
+
 # each dot of the rows, once
 function dots(   device, i, k, c, b, count, column, spot, seen) {
     for (device = 4; device <= 5; device++) for (i = 1; i <= rows[device]; i++) for (k = first[device, i]; k <= last[device, i]; k++) {
@@ -200,4 +214,4 @@ $1 == "stop" { stop = name[$2] " in statement " $4; next }
     style[marks] = (/ lower/ ? "lower " : "") (/ reverse/ ? "reverse " : "") (/ wide/ ? "wide" : "")
     printer[marks] = device
 }
-END { if (as == "dots") dots(); else printf "%s", as == "svg" ? picture() : text_lines() }
+END { if (as == "dots") dots(); else if (only) printf "%s", one_sheet(only, number); else printf "%s", as == "svg" ? picture() : text_lines() }

@@ -1,8 +1,8 @@
 #!/usr/bin/env python3
-"""tests/readings.py [--frames|--fields] [--sigrok RULE..] < TRACE: what a recording says, by the definitions and not by the program's code.
+"""tests/readings.py [--frames|--fields|--odd] [--sigrok RULE..] < TRACE: what a recording says, by the definitions and not by the program's code.
 
 It goes through whole stretches (crates/pr_decode/specs/Readings.antt) and writes the lines of `print1525 decode`
-(crates/pr_report/specs) but for the last, the verdict. With --frames it writes of each whole byte when it was ready, CLOCK's last
+(crates/pr_report/specs) up to the verdict, or with --odd those behind it, on what is odd about the recording. With --frames it writes of each whole byte when it was ready, CLOCK's last
 pull, and the byte. The times of the trace do not go back.
 
 With --fields it writes of each reading how it ends and when, and all of its moments and bits, as `tests/calls.c` does.
@@ -182,9 +182,9 @@ def readings_of(edges, rules):
 
 
 def command_words(byte):
-    if byte == 63:
-        return "UNLISTEN"
-    for word, first, last in (("LISTEN", 32, 62), ("SECOND", 96, 111), ("CLOSE", 224, 239)):
+    if byte in (63, 95):
+        return "UNLISTEN" if byte == 63 else "UNTALK"
+    for word, first, last in (("LISTEN", 32, 62), ("TALK", 64, 94), ("SECOND", 96, 111), ("CLOSE", 224, 239), ("OPEN", 240, 255)):
         if first <= byte <= last:
             return f"{word} {byte - first}"
     return f"command {byte}"
@@ -246,6 +246,20 @@ def tell(readings):
         )
 
 
+def tell_oddities(edges, readings):
+    """Writes what is odd about a recording, and what to try."""
+    odd = []
+    if not any(reading.end == "acknowledged" for reading in readings):
+        odd.append("no byte is acknowledged")
+    if all(edge.atn for edge in edges):
+        odd.append("attention never comes: ATN is not pulled")
+    for name, line in (("ATN", "atn"), ("CLOCK", "clock"), ("DATA", "data")):
+        if edges and not getattr(edges[0], line) and not getattr(edges[-1], line):
+            odd.append(name + " rests at 0")
+    if odd:
+        print(*odd, "try --invert for probes behind inverters, or other signals with --names", sep="\n")
+
+
 def fields_of(reading):
     """How a reading ends and when, and its byte's moments, halves, kind, end-or-identify, bits and number."""
     if reading.is_whole():
@@ -264,7 +278,11 @@ def main():
     rules = ()
     if "--sigrok" in words:
         rules = tuple(words[words.index("--sigrok") + 1 :]) or SIGROK
-    readings = readings_of([Edge(line) for line in sys.stdin], rules)
+    edges = [Edge(line) for line in sys.stdin]
+    readings = readings_of(edges, rules)
+    if words[:1] == ["--odd"]:
+        tell_oddities(edges, readings)
+        return
     if words[:1] == ["--fields"]:
         for reading in readings:
             print(*fields_of(reading))

@@ -19,8 +19,10 @@ def name():
     return os.environ.get("CHROMIUM") or shutil.which("chromium") or shutil.which("chromium-browser") or shutil.which("google-chrome")
 
 
-class Browser:
+class Chromium:
     """A browser with a profile of its own, which goes with it."""
+
+    name = "chromium"
 
     def __init__(self):
         self.folder = tempfile.mkdtemp(prefix="print1525-web-")
@@ -53,6 +55,9 @@ class Browser:
         self.process.wait(20)
         shutil.rmtree(self.folder, ignore_errors=True)
 
+    def page(self, before="", width=1400, height=900):
+        return Page(self, width, height, before)
+
     def send(self, method, session=None, **what):
         """Sends a command and gives its answer; what happens meanwhile is kept in `events`."""
         self.number += 1
@@ -82,7 +87,25 @@ class Browser:
         return json.loads(message)
 
 
-class Page:
+class Waiting:
+    """What each browser's page has."""
+
+    def until(self, script, seconds=120):
+        """Waits until a script's value is true, and gives how long that took."""
+        began = time.time()
+        while True:
+            try:
+                if self.run(script):
+                    return time.time() - began
+            except Failed as failed:
+                if not any(words in str(failed) for words in ("Cannot find context", "not defined", "Can't find variable", "before initialization", "uninitialized")):
+                    raise
+            if time.time() - began > seconds:
+                raise Failed(f"not within {seconds} s: {script}")
+            time.sleep(0.02)
+
+
+class Page(Waiting):
     """A page of the browser."""
 
     def __init__(self, browser, width=1400, height=900, before=""):
@@ -102,6 +125,12 @@ class Page:
     def close(self):
         self.browser.send("Target.closeTarget", targetId=self.target)
 
+    def reload(self):
+        """Loads the page again, and waits until another one is there."""
+        self.run("window.isOld = true")
+        self.send("Page.reload")
+        self.until("!window.isOld && document.readyState === 'complete'")
+
     def size(self, width, height, scale=1):
         self.send("Emulation.setDeviceMetricsOverride", width=width, height=height, deviceScaleFactor=scale, mobile=False)
 
@@ -119,20 +148,6 @@ class Page:
             details = answer["exceptionDetails"]
             raise Failed(details.get("exception", {}).get("description") or details["text"])
         return answer["result"].get("value")
-
-    def until(self, script, seconds=120):
-        """Waits until a script's value is true, and gives how long that took."""
-        began = time.time()
-        while True:
-            try:
-                if self.run(script):
-                    return time.time() - began
-            except Failed as failed:
-                if "Cannot find context" not in str(failed) and "not defined" not in str(failed):
-                    raise
-            if time.time() - began > seconds:
-                raise Failed(f"not within {seconds} s: {script}")
-            time.sleep(0.02)
 
     def picture(self, path):
         with open(path, "wb") as file:

@@ -1,7 +1,13 @@
 // The choices, the tabs, the bars and the buttons; and how the page begins.
 
+import { CODES } from './reading.js';
+import { $, all, ask, button, decode, editor, encode, fillReader, fromBase64, hasWebAssembly, notice, paper, print, readers, state, tellFailed, tellOnce, wave } from './page.js';
+import { cover } from './telling.js';
+import { keptSource, leaveSource, showFile, takeFile } from './files.js';
+import { fillMenu, FIRST, isNewAddress, keepEarlier, listingChanged, openFromMenu, own, readAddress, save, saving, store, through } from './kept.js';
+
 /** The lists of delays as numbers, or null where one is none; says so beside them. */
-function readLists() {
+export function readLists() {
   if (state.delays !== 'lists') return [];
   const names = ['the computer', 'printer 4', 'printer 5'], lists = state.lists.map(list => {
     const parts = list.trim() ? list.split(',').map(part => part.trim()) : [];
@@ -12,8 +18,9 @@ function readLists() {
   return bad < 0 ? lists : null;
 }
 
-function showChoices() {
+export function showChoices() {
   const form = $('options');
+  form.elements.form.value = state.form;
   form.elements.printers.value = state.printers;
   form.elements.status.value = state.status;
   form.elements.delays.value = state.delays;
@@ -27,18 +34,27 @@ $('options').addEventListener('submit', event => event.preventDefault());
 $('options').addEventListener('input', () => {
   const form = $('options').elements;
   Object.assign(state, {
-    printers: Number(form.printers.value), status: Number(form.status.value), delays: form.delays.value,
+    form: form.form.value, printers: Number(form.printers.value), status: Number(form.status.value), delays: form.delays.value,
     lists: [form.computer.value, form.four.value, form.five.value],
   });
   showChoices();
+  editor.draw();
   readLists();
   leaveSource();
   listingChanged();
 });
 
+/** Reads the listing in another form. */
+export function chooseForm(form) {
+  state.form = form;
+  showChoices();
+  editor.draw();
+  listingChanged();
+}
+
 // tabs, bars, downloads
 
-function showTab(section, tab) {
+export function showTab(section, tab) {
   state.tabs[section] = tab;
   for (const made of $(section).querySelectorAll('[role=tab]')) {
     const chosen = made.dataset.tab === tab;
@@ -78,6 +94,11 @@ function bar(id, variable, least, most, shareAt) {
   };
   let share = store.get('view')?.[variable];
   share = share ? set(share) : null;
+  // A separator's value is there before it is moved.
+  new ResizeObserver(() => {
+    const box = $('bench').getBoundingClientRect(), now = across ? $('listing').offsetWidth / box.width : $('wire').offsetHeight / box.height;
+    element.setAttribute('aria-valuenow', String(Math.round(now * 100)));
+  }).observe($(across ? 'listing' : 'wire'));
   element.setAttribute('aria-valuemin', String(least * 100));
   element.setAttribute('aria-valuemax', String(most * 100));
   element.addEventListener('pointerdown', event => {
@@ -110,6 +131,8 @@ function download(bytes, name, type) {
 
 const FILES = {
   svg: ['svg', 'image/svg+xml'],
+  png: ['png', 'image/png'],
+  pdf: ['pdf', 'application/pdf'],
   text: ['txt', 'text/plain'],
   list: ['page', 'text/plain'],
   trace: ['trace', 'text/plain'],
@@ -117,18 +140,61 @@ const FILES = {
   readings: ['frames', 'text/plain'],
 };
 
-for (const made of document.querySelectorAll('[data-save]')) {
+for (const made of all('[data-save]')) {
   made.onclick = async () => {
     const what = made.dataset.save, [ending, type] = FILES[what];
     try {
       const bytes = await ask('text', { what, delays: state.taken || [[], [], []].map(() => new Uint16Array(0)) });
-      download(bytes, `${(state.source?.name || 'listing').replace(/\.[^.]*$/, '')}.${ending}`, type);
+      if (bytes) download(bytes, `${(state.source?.name || 'listing').replace(/\.[^.]*$/, '')}.${ending}`, type);
     } catch (error) {
       tellFailed(error);
     }
   };
 }
-$('save').onclick = () => download(encode(editor.text), 'listing.bas', 'text/plain');
+/** What a pane's Copy gives: the text of the tab that is seen, where it is a text, or else of its lines. */
+const COPIES = {
+  listing: async () => editor.text,
+  pages: async () => decode(await ask('text', { what: state.tabs.pages === 'list' ? 'list' : 'text' }) ?? new Uint8Array(0)),
+  wire: async () => decode(await ask('text', { what: state.tabs.wire === 'edges' ? 'trace' : 'readings' }) ?? new Uint8Array(0)),
+};
+
+for (const made of all('[data-copy]')) {
+  made.onclick = async () => {
+    try {
+      await copyText(await COPIES[made.dataset.copy](), made);
+    } catch (error) {
+      tellFailed(error);
+    }
+  };
+}
+
+/** Copies a text, and says so on its button for a moment. */
+async function copyText(text, made) {
+  made.dataset.words ??= made.textContent;
+  try {
+    await navigator.clipboard.writeText(text);
+  } catch {
+    tellOnce('link', 'The browser does not let this page copy: use Save.');
+    return;
+  }
+  made.textContent = 'Copied';
+  setTimeout(() => { made.textContent = made.dataset.words; }, 1600);
+}
+
+// A menu closes when something of it is chosen, by Escape, and by a click elsewhere.
+for (const menu of all('.menu')) {
+  menu.addEventListener('click', event => { if (event.target.closest('button')) menu.open = false; });
+  menu.addEventListener('keydown', event => {
+    if (event.key !== 'Escape' || !menu.open) return;
+    menu.open = false;
+    menu.querySelector('summary').focus();
+  });
+}
+addEventListener('pointerdown', event => {
+  for (const menu of all('.menu[open]')) if (!menu.contains(event.target)) menu.open = false;
+});
+
+$('save').onclick = () => download(encode(editor.text), state.form === 'petcat' ? 'listing.petcat' : 'listing.bas', 'text/plain');
 
 // the rest of the hands
 
@@ -143,6 +209,8 @@ $('sheets').addEventListener('keydown', event => {
     '-': () => paper.zoom(1 / 1.25),
     0: () => paper.fit(),
     Escape: () => wave.choose(-1),
+    n: () => wave.key(event),
+    p: () => wave.key(event),
   };
   const act = keys[event.key];
   if (act) { event.preventDefault(); act(); }
@@ -150,16 +218,28 @@ $('sheets').addEventListener('keydown', event => {
 $('wave-smaller').onclick = () => wave.zoom(1 / 1.6);
 $('wave-larger').onclick = () => wave.zoom(1.6);
 $('wave-fit').onclick = () => wave.all();
-$('about').onclick = () => $('about-box').showModal();
-$('about-box').addEventListener('click', event => { if (event.target === $('about-box')) $('about-box').close(); });
+$('codes-box').querySelector('tbody').append(...CODES.map(([bytes, words]) => {
+  const row = document.createElement('tr'), name = document.createElement('th');
+  name.scope = 'row';
+  name.textContent = bytes;
+  row.append(name);
+  row.insertCell().textContent = words;
+  return row;
+}));
+for (const name of ['about', 'codes']) {
+  const box = $(`${name}-box`);
+  $(name).onclick = () => box.showModal();
+  box.addEventListener('click', event => { if (event.target === box) box.close(); });
+}
 $('menu').onchange = () => { const { value } = $('menu'); $('menu').selectedIndex = 0; openFromMenu(value); };
 $('open').onclick = () => $('file').click();
-$('file').onchange = async () => {
+$('file').onchange = () => {
   const file = $('file').files[0];
   $('file').value = '';
-  if (file) take(new Uint8Array(await file.arrayBuffer()), file.name);
+  if (file) takeFile(file);
 };
 $('link').onclick = async () => {
+  if (state.source) return tellOnce('link', `A link carries a listing and its choices, not a file: send ${state.source.name} itself beside this page.`);
   const plain = await save(), link = location.href;
   if (!plain) return notice('link', 'This listing is too long for an address: save it as a file.', [button('Close', () => notice('link', ''))]);
   try {
@@ -179,53 +259,58 @@ addEventListener('dragleave', event => {
   $('drop').hidden = dragged === 0;
 });
 addEventListener('dragover', event => { if (event.dataTransfer?.types.includes('Files')) event.preventDefault(); });
-addEventListener('drop', async event => {
+addEventListener('drop', event => {
   dragged = 0;
   $('drop').hidden = true;
   const file = event.dataTransfer?.files[0];
   if (!file) return;
   event.preventDefault();
-  take(new Uint8Array(await file.arrayBuffer()), file.name);
+  takeFile(file);
 });
 addEventListener('pagehide', () => { if (saving) save(); });
 document.addEventListener('visibilitychange', () => { if (document.hidden && saving) save(); });
 addEventListener('hashchange', async () => {
-  if (location.hash === lastHash) return;
-  lastHash = location.hash;
+  if (!isNewAddress()) return;
   const linked = await readAddress(location.hash);
   if (linked) { keepEarlier(); put(linked); listingChanged(); }
 });
 
+document.body.dataset.shows = 'script';
+
 /** Puts a listing and its choices in. */
-function put({ text, printers, status, delays, lists }) {
-  Object.assign(state, { printers, status, delays, lists });
+function put({ text, form = 'text', printers, status, delays, lists }) {
+  Object.assign(state, { form, printers, status, delays, lists });
   leaveSource();
   showChoices();
   editor.replace(text);
 }
 
-let ready = false;
+export let ready = false;
+
+/** Whether this tab shows the page again, and was not sent to it by a link. */
+const isLoadedAgain = () => performance.getEntriesByType('navigation').some(entry => /** @type {PerformanceNavigationTiming} */ (entry).type !== 'navigate');
 
 /** Begins with the listing of the address, or with the one that was kept, or with an example; then makes the module ready. */
 async function begin() {
   const mine = own.get(), isMine = mine?.hash === location.hash;
-  const linked = isMine ? mine : await readAddress(location.hash), kept = store.get('listing');
+  const linked = isMine ? mine : await readAddress(location.hash), kept = store.get('listing'), source = isMine || isLoadedAgain() ? keptSource() : null;
   const first = { printers: 3, status: 0, delays: 'typical', lists: ['', '', ''] };
   const view = store.get('view');
   showTab('pages', view?.tabs?.pages || 'sheets');
   showTab('wire', view?.tabs?.wire || 'wave');
-  if (linked && kept && kept.text !== linked.text) keepEarlier(kept.text);
-  put({ ...first, ...(linked || kept || { text: (examples.find(example => example.name === 'banner') || examples[0]).text }) });
+  if (linked && kept && kept.text !== linked.text) keepEarlier(kept.text, kept.form || 'text');
+  put({ ...first, ...(linked || kept || { text: FIRST }) });
   fillMenu();
-  if (!has64BitMemory()) {
-    notice('memory', 'This browser has no 64-bit memory for WebAssembly (memory64), and the proved code needs it. Chrome, Edge and ' +
-      'other Chromium browsers have it from version 133, Firefox from 134. What you type here is kept all the same.');
+  if (source) showFile(source);
+  if (!hasWebAssembly()) {
+    notice('memory', 'This browser has no WebAssembly or cannot inflate it, and the proved code needs both. Chrome and Edge have them from ' +
+      'version 103, Firefox from 113, Safari from 16.4. What you type here is kept all the same.');
     $('told').textContent = 'Nothing can be printed in this browser.';
     cover('Nothing can be printed in this browser.');
     return;
   }
   try {
-    await ask('open', { bytes: fromBase64($('module').textContent.trim()) });
+    await ask('open', { bytes: await through(new DecompressionStream('deflate-raw'), fromBase64($('module').textContent.trim())) });
   } catch (error) {
     notice('memory', `The module cannot run in this browser: ${error.message}`);
     return;

@@ -1,8 +1,17 @@
 // The listing: a text area with the numbers of its lines, a sign beside each for its statements' status, and notes at
 // the place of a refusal or a stop. Only the lines that can be seen are drawn.
 
-class Editor {
-  constructor(element, onInput) {
+const COLOURED = 2000;         // characters: a longer line has no colours
+
+export class Editor {
+  /**
+   * `reading` gives the parts of a line with their kinds, and what the part at a column says; `onLine` gets the line
+   * whose number is clicked, or on which the cursor is when Ctrl and Enter are pressed.
+   */
+  constructor(element, onInput, reading, onLine) {
+    this.reading = reading;
+    this.chosen = -1;
+    this.colours = element.querySelector('.colours');
     this.area = element.querySelector('textarea');
     this.numbers = element.querySelector('.numbers');
     this.notes = element.querySelector('.notes');
@@ -12,6 +21,17 @@ class Editor {
     this.note = null;      // { line, from, to, words, kind }
     this.area.addEventListener('input', () => { this.measure(); this.draw(); onInput(); });
     this.area.addEventListener('scroll', () => this.draw(), { passive: true });
+    this.numbers.addEventListener('click', event => {
+      const number = event.target.closest('.number');
+      if (number) onLine(Number(number.textContent) - 1);
+    });
+    this.area.addEventListener('keydown', event => {
+      if (event.key !== 'Enter' || !(event.ctrlKey || event.metaKey)) return;
+      event.preventDefault();
+      const at = this.area.selectionStart, line = this.starts.findIndex(start => start > at);
+      onLine((line < 0 ? this.starts.length : line) - 1);
+    });
+    this.area.addEventListener('pointermove', event => this.tellUnder(event));
     new ResizeObserver(() => this.draw()).observe(this.area);
     this.measure();
   }
@@ -24,7 +44,7 @@ class Editor {
     if (plain === this.text) return;
     // (a browser takes seconds to insert a long text so that it can be undone)
     if (plain.length < 4000 && this.text.length < 4000) {
-      const focused = document.activeElement;
+      const focused = /** @type {HTMLElement} */ (document.activeElement);
       this.area.focus({ preventScroll: true });
       this.area.select();
       document.execCommand(plain ? 'insertText' : 'delete', false, plain);
@@ -51,7 +71,16 @@ class Editor {
 
   /** Shows signs beside the lines, with their words, and a note in a line. */
   tell(signs, titles, note) {
-    Object.assign(this, { signs, titles, note });
+    Object.assign(this, { signs, titles, note, chosen: -1 });
+    this.draw();
+  }
+
+  /** Marks a line's number, and brings the line into view. */
+  choose(line) {
+    if (line === this.chosen) return;
+    this.chosen = line;
+    const height = parseFloat(getComputedStyle(this.area).lineHeight), top = line * height, { scrollTop, clientHeight } = this.area;
+    if (line >= 0 && (top < scrollTop || top + 2 * height > scrollTop + clientHeight)) this.area.scrollTop = top - clientHeight / 3;
     this.draw();
   }
 
@@ -71,13 +100,42 @@ class Editor {
     const rows = [];
     for (let number = from; number < to; number++) {
       const row = document.createElement('div');
-      row.className = `number ${this.signs[number] || ''}`;
-      row.textContent = number + 1;
+      row.className = `number ${this.signs[number] || ''} ${number === this.chosen ? 'chosen' : ''}`;
+      row.textContent = String(number + 1);
       if (this.titles[number]) row.title = this.titles[number];
       rows.push(row);
     }
     this.numbers.replaceChildren(...rows);
+    this.drawColours(from, to, height, top);
     this.drawNote(height, top);
+  }
+
+  /** Draws the lines that can be seen in their colours, below the text area, whose own letters are transparent then. */
+  drawColours(from, to, height, top) {
+    const lines = [];
+    for (let number = from; number < to; number++) lines.push(this.line(number));
+    const isColoured = lines.every(line => line.length < COLOURED);
+    this.area.classList.toggle('coloured', isColoured);
+    this.colours.style.transform = `translate(${-this.area.scrollLeft}px, ${from * height - top}px)`;
+    this.colours.replaceChildren(...(isColoured ? lines : []).map(line => {
+      const row = document.createElement('div');
+      for (const { text, kind } of this.reading.parts(line)) {
+        const span = document.createElement('span');
+        span.className = kind;
+        span.textContent = text;
+        row.append(span);
+      }
+      return row;
+    }));
+  }
+
+  /** Says what the code under the pointer does. */
+  tellUnder({ offsetX, offsetY }) {
+    const style = getComputedStyle(this.area), number = Math.floor((offsetY + this.area.scrollTop - parseFloat(style.paddingTop)) / parseFloat(style.lineHeight));
+    const line = number >= 0 && number < this.starts.length ? this.line(number) : '', row = this.colours.children[number - Math.max(Math.floor(this.area.scrollTop / parseFloat(style.lineHeight)) - 2, 0)];
+    const width = row && line.length ? row.getBoundingClientRect().width / line.length : 0;
+    const column = width ? Math.floor((offsetX + this.area.scrollLeft - parseFloat(style.paddingLeft)) / width) : -1;
+    this.area.title = column >= 0 && !line.includes('\t') ? this.reading.words(line, column) : '';
   }
 
   drawNote(height, top) {
@@ -105,7 +163,7 @@ class Editor {
  * The lines on which the statements of a script stand, in order: the grammar's parts between colons that are not empty,
  * behind the line's number. Only for a script that was read; whether their number is right the statuses tell.
  */
-function linesOfStatements(text) {
+export function linesOfStatements(text) {
   const lines = [];
   text.split('\n').forEach((line, number) => {
     let rest = line.replace(/^[ \t]*\d*/, '');

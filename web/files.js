@@ -1,6 +1,12 @@
-// Files that are dropped or opened: listings, traces, recordings and a printer's bytes.
+// Files that are dropped or opened: listings in each form, traces, recordings and a printer's bytes.
 
-const KINDS = { script: 'a listing', text: 'a trace', vcd: 'a Value Change Dump', csv: 'a table of samples', raw: 'a printer\'s bytes' };
+import { isTextual, looksPetcat, petcatOf, refusalOf } from './listing.js';
+import { $, ask, button, clearPaper, decode, editor, encode, FILE_LIMIT, fromBase64, notice, print, showPaper, state, tellFailed, tellOnce, toBase64, wave } from './page.js';
+import { cover, showWire } from './telling.js';
+import { file, keepEarlier, listingChanged } from './kept.js';
+import { ready, showChoices, showTab } from './controls.js';
+
+const KINDS = { script: 'a listing', petcat: 'petcat\'s text', prg: 'a saved program', text: 'a trace', vcd: 'a Value Change Dump', csv: 'a table of samples', raw: 'a printer\'s bytes' };
 
 /** What a file seems to be, by what stands in it. */
 function kindOf(bytes, name) {
@@ -8,16 +14,54 @@ function kindOf(bytes, name) {
   if (/\.vcd$/i.test(name) || /\$(timescale|var|enddefinitions)\b/.test(head)) return 'vcd';
   if (lines.length && /^\d+ [01]{3}$/.test(lines[0])) return 'text';
   if (/\.csv$/i.test(name) || /^[^\n]*,\s*"?(atn|clock|clk|data)"?\s*(,|$)/im.test(head)) return 'csv';
+  if (((bytes[0] === 1 && bytes[1] === 8) || /\.prg$/i.test(name)) && !isTextual(bytes)) return 'prg';
+  if (/\.petcat$/i.test(name) || (isTextual(bytes) && looksPetcat(decode(bytes)))) return 'petcat';
   const isText = !/[\x00-\x08\x0e-\x1f\x7f-\x9f]/.test(head);
   if (/\.bas$/i.test(name) || (isText && /^[ \t]*\d*[ \t]*(open|cmd|print|close|rem)\b/im.test(head))) return 'script';
   return bytes.some(byte => byte < 9 || (byte > 13 && byte < 32) || byte > 126) ? 'raw' : 'script';
 }
 
-/** Shows a file as what it is, or as what it is said to be. */
-function take(bytes, name, kind = kindOf(bytes, name)) {
-  if (kind === 'script') {
+export let taking = 0;     // files that are read and not yet shown (the tests wait for them)
+
+/** Shows a file as what it seems to be. */
+export async function takeFile(file) {
+  taking++;
+  try {
+    const bytes = new Uint8Array(await file.arrayBuffer()), why = refusalOf(bytes, file.name);
+    tellOnce('file', why);
+    if (!why) await take(bytes, file.name, kindOf(bytes, file.name));
+  } catch (error) {
+    tellOnce('file', `${file.name} cannot be read: ${error.message}`);
+  } finally {
+    taking--;
+  }
+}
+
+/** Shows a saved program as petcat writes it; as the script that the module makes of it, where that would be another program. */
+async function takeProgram(bytes, name) {
+  if (!ready) return tellOnce('file', `${name} cannot be read before the page is ready.`);
+  const listing = petcatOf(bytes);
+  let answer;
+  try { answer = await ask('isSame', { program: bytes, listing: encode(listing ?? ''), form: 'petcat' }); } catch (error) { return tellFailed(error); }
+  if (answer.code) return tellOnce('file', `${name} cannot be read as a saved program: ${answer.words || 'out of memory'}.`);
+  leaveSource();
+  keepEarlier();
+  state.form = answer.isSame ? 'petcat' : 'text';
+  showChoices();
+  editor.replace(answer.isSame ? listing : answer.script);
+  tellOnce('file', answer.isSame ? `${name} is a saved program: here as petcat writes it, with names for codes and shifted characters.`
+    : `${name} is a saved program: here as a script, since it has something that petcat's text does not tell apart.`);
+  return listingChanged();
+}
+
+/** Shows a file as what it is said to be. */
+export function take(bytes, name, kind) {
+  if (kind === 'prg') return takeProgram(bytes, name);
+  if (kind === 'script' || kind === 'petcat') {
     leaveSource();
     keepEarlier();
+    state.form = kind === 'petcat' ? 'petcat' : 'text';
+    showChoices();
     let text, words = '';
     try {
       text = new TextDecoder('utf-8', { fatal: true }).decode(bytes);
@@ -30,19 +74,24 @@ function take(bytes, name, kind = kindOf(bytes, name)) {
     tellOnce('lines', words);
     return listingChanged();
   }
-  state.source = { bytes, name, kind, set: 0, names: ['ATN', 'CLOCK', 'DATA'], inverted: false, start: 0 };
+  showFile({ bytes, name, kind, set: 0, names: ['ATN', 'CLOCK', 'DATA'], inverted: false, start: 0 });
+}
+
+/** Shows a file in the place of the listing, which is kept. */
+export function showFile(source) {
+  state.source = source;
   wave.moved = false;
   notice('lines', '');
-  sourceNotice();
+  tellSource();
   print();
 }
 
 /** What the module is asked of a recording. */
-const recordingOf = ({ bytes, kind, names, inverted, start }) => ({ bytes, input: kind, ...(kind === 'text' ? {} : { names, inverted, start }) });
+export const recordingOf = ({ bytes, kind, names, inverted, start }) => ({ bytes, input: kind, ...(kind === 'text' ? {} : { names, inverted, start }) });
 
 /** The signals of a dump or a table: their names, whether their levels are inverted, and where the recording begins. */
 function signalFields(source) {
-  const fields = document.createElement('span'), again = () => print();
+  const fields = document.createElement('div'), again = () => { keepSource(); print(); };
   fields.className = 'signals';
   const field = (words, value, act, type = 'text') => {
     const label = document.createElement('label'), input = document.createElement('input');
@@ -61,55 +110,81 @@ function signalFields(source) {
   return fields;
 }
 
-function sourceNotice(words = '') {
-  const { source } = state;
-  document.body.dataset.shows = !source ? 'script' : source.kind === 'raw' ? 'raw' : 'recording';
-  if (!source) return notice('source', '');
-  if (source.kind !== 'raw' && state.tabs.pages === 'list') showTab('pages', 'sheets');
-  const pick = (label, values, value, act) => {
-    const select = document.createElement('select');
-    select.setAttribute('aria-label', label);
-    for (const [key, text] of Object.entries(values)) select.add(new Option(text, key, false, key === String(value)));
-    select.onchange = () => act(select.value);
-    return select;
-  };
-  const actions = [pick('Read the file as', KINDS, source.kind, kind => take(source.bytes, source.name, kind))];
-  if (source.kind === 'raw') {
-    const sets = { 0: 'graphic/upper case', 1: 'lower/upper case' };
-    actions.push(pick('Character set', sets, source.set, set => { source.set = Number(set); print(); }));
-  }
-  if (source.kind === 'vcd' || source.kind === 'csv') actions.push(signalFields(source));
-  actions.push(button('Back to the listing', () => { leaveSource(); print(); }));
-  notice('source', `The paper ${source.kind === 'raw' ? 'shows' : 'and the wire show'} ${source.name}.${words ? ` ${words}` : ''}`, actions);
+/** A choice among some values, by a label. */
+function choiceOf(words, values, value, act) {
+  const label = document.createElement('label'), select = document.createElement('select');
+  for (const [key, text] of Object.entries(values)) select.add(new Option(text, key, false, key === String(value)));
+  select.onchange = () => act(select.value);
+  label.append(words, select);
+  return label;
 }
 
-function leaveSource() {
+/** Shows which file is on paper and on the wire, how it is read, and what came of it; the listing is one click away. */
+function tellSource(words = '', why = '') {
+  const { source } = state, box = $('recording'), kind = !source ? 'script' : source.kind === 'raw' ? 'raw' : 'recording';
+  document.body.dataset.shows = kind;
+  keepSource();
+  $('listing-name').textContent = { script: 'Listing', raw: 'Printer\'s bytes', recording: 'Recording' }[kind];
+  $('pages-facts').textContent = source ? source.name : '';
+  box.replaceChildren();
+  if (!source) return editor.draw();
+  if (kind === 'recording' && state.tabs.pages === 'list') showTab('pages', 'sheets');
+  const name = document.createElement('h3'), text = document.createElement('p');
+  name.textContent = source.name;
+  text.textContent = words;
+  text.setAttribute('role', 'status');
+  /** @type {HTMLElement[]} */
+  const fields = [choiceOf('Read as ', KINDS, source.kind, as => take(source.bytes, source.name, as))];
+  if (kind === 'raw') {
+    const sets = { 0: 'graphic/upper case', 1: 'lower/upper case' };
+    fields.push(choiceOf('Character set ', sets, source.set, set => { source.set = Number(set); keepSource(); print(); }));
+  }
+  if (source.kind === 'vcd' || source.kind === 'csv') fields.push(signalFields(source));
+  box.append(name, text);
+  if (why) {
+    const [more, about, lines] = ['details', 'summary', 'pre'].map(kind => document.createElement(kind));
+    about.textContent = 'Why';
+    lines.textContent = why;
+    more.append(about, lines);
+    box.append(more);
+  }
+  box.append(...fields, button('Back to the listing', () => { leaveSource(); print(); }));
+}
+
+/** Keeps the file that is shown for a reload of this tab. */
+function keepSource() {
+  const { source } = state;
+  if (!source) { file.remove(); return notice('kept-file', ''); }
+  const isKept = source.bytes.length <= FILE_LIMIT && file.set({ ...source, bytes: toBase64(source.bytes) });
+  notice('kept-file', isKept ? '' : `${source.name} is too large to be here after a reload.`);
+}
+
+/** The file that was shown in this tab before it was loaded again, or null. */
+export function keptSource() {
+  const kept = file.get();
+  return kept && { ...kept, bytes: fromBase64(kept.bytes) };
+}
+
+export function leaveSource() {
   notice('byte', '');
   notice('lines', '');
   if (!state.source) return;
   state.source = null;
   wave.moved = false;
-  sourceNotice();
+  tellSource();
 }
 
 /** Shows what a file gives. */
-function showSource(answer) {
+export function showSource(answer) {
   const { source } = state;
   document.body.classList.remove('stale');
   const why = answer.code === 2 ? `It cannot be read to its end: ${answer.words}.` : answer.code > 2 ? 'There was no memory for it.' : '';
   const told = (answer.told || '').split('\n').map(line => line.trim()).filter(line => line && !/^[\^~]+$/.test(line));
   const verdict = !answer.verdict ? '' : answer.verdict === 'lawful' ? 'It is lawful.' : `${answer.verdict[0].toUpperCase()}${answer.verdict.slice(1)}.`;
-  sourceNotice(why || verdict);
-  if (told.length) {
-    const [more, name, text] = ['details', 'summary', 'pre'].map(kind => document.createElement(kind));
-    name.textContent = 'Why';
-    text.textContent = answer.told.replace(/\n$/, '');
-    more.append(name, text);
-    document.querySelector('[data-notice="source"]').append(more);
-  }
-  if (answer.svg) showPaper(decode(answer.svg)); else { ofSource = true; paper.show(''); $('no-sheet').hidden = true; }
+  const wave = answer.isDrawn === false ? ' Its wave is not drawn here: only decode reads all of its form.' : '';
+  tellSource(`${why || verdict}${wave}`, told.length ? answer.told.replace(/\n$/, '') : '');
+  if (answer.svg) showPaper(decode(answer.svg)); else clearPaper();
   if (source.kind === 'raw') { showWire(null); cover('A printer\'s bytes alone: nothing is known of the wire.'); return; }
   cover('');
   showWire(answer);
 }
-

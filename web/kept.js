@@ -1,16 +1,30 @@
 // What is kept: the listing in this browser and in the address, and the listings before it; and the menu that brings them back.
 
-let saving = 0, saves = 0;
+import { $, decode, EARLIER_LIMIT, editor, encode, fromBase64, LINK_LIMIT, LISTING_LIMIT, notice, print, state, tellOnce, toBase64, wave } from './page.js';
+import { leaveSource, take } from './files.js';
+import { showChoices } from './controls.js';
+
+export let saving = 0, saves = 0;
+
+/** The listing of somebody who is here for the first time; it is no wider than a phone. */
+export const FIRST = `10 REM TYPE: THE PAPER FOLLOWS
+20 OPEN 4,4
+30 PRINT#4,CHR$(14);"PRINT1525"
+40 PRINT#4,CHR$(15);
+50 PRINT#4,"WHAT A COMMODORE 64 PRINTS"
+60 PRINT#4,CHR$(18);" DOT BY DOT "
+70 CLOSE 4
+`;
 
 /** The listing changed: it is kept, and printed. */
-function listingChanged() {
+export function listingChanged() {
   clearTimeout(saving);
   saving = setTimeout(save, 300);
   notice('drag', '');
   print();
 }
 
-const store = {
+export const store = {
   get(name) { try { return JSON.parse(localStorage.getItem(`print1525.${name}`)); } catch { return null; } },
   set(name, value) {
     try { localStorage.setItem(`print1525.${name}`, JSON.stringify(value)); return true; } catch { return false; }
@@ -18,18 +32,25 @@ const store = {
 };
 
 /** The listing of this tab alone, with the address beside which it was kept: a reload takes it before that address and other tabs' listings. */
-const own = {
+export const own = {
   get() { try { return JSON.parse(sessionStorage.getItem('print1525.listing')); } catch { return null; } },
   set(listing) {
     try { sessionStorage.setItem('print1525.listing', JSON.stringify({ ...listing, hash: location.hash })); } catch { sessionStorage.removeItem('print1525.listing'); }
   },
 };
 
+/** The file that this tab shows, in base64. */
+export const file = {
+  get() { try { return JSON.parse(sessionStorage.getItem('print1525.file')); } catch { return null; } },
+  set(source) { try { sessionStorage.setItem('print1525.file', JSON.stringify(source)); return true; } catch { this.remove(); return false; } },
+  remove() { try { sessionStorage.removeItem('print1525.file'); } catch { /* nothing is kept here */ } },
+};
+
 /** Keeps the listing and the choices in this browser, and puts them into the address. */
-function save() {
+export function save() {
   clearTimeout(saving);
   saving = 0;
-  const { printers, status, delays, lists } = state, listing = { text: editor.text, printers, status, delays, lists };
+  const { form, printers, status, delays, lists } = state, listing = { text: editor.text, form, printers, status, delays, lists };
   const kept = store.set('listing', listing);
   own.set(listing);
   notice('kept', kept ? '' : 'This listing is too long to be kept by the browser: save it as a file.');
@@ -46,8 +67,15 @@ function save() {
 
 let lastHash = location.hash;
 
+/** Whether the address is another one than the page itself has put there. */
+export function isNewAddress() {
+  const isNew = location.hash !== lastHash;
+  lastHash = location.hash;
+  return isNew;
+}
+
 /** What a stream makes of bytes; it throws where that is longer than a listing may be. */
-async function through(stream, bytes) {
+export async function through(stream, bytes) {
   const parts = [], reader = new Blob([bytes]).stream().pipeThrough(stream).getReader();
   let length = 0;
   for (let part = await reader.read(); !part.done; part = await reader.read()) {
@@ -64,18 +92,17 @@ async function through(stream, bytes) {
 /** The state as the part of an address behind `#`: the choices by their letters, and the listing, deflated, in base64url; empty for a long one. */
 async function address() {
   if (editor.text.length > 10 * LINK_LIMIT) return '';
-  const { printers, status, delays, lists } = state, parts = [`p=${['none', '4', '5', 'both'][printers]}`];
+  const { form, printers, status, delays, lists } = state, parts = [`p=${['none', '4', '5', 'both'][printers]}`];
+  if (form !== 'text') parts.push(`f=${form}`);
   if (status) parts.push('s=kept');
   if (delays !== 'typical') parts.push(`d=${delays === 'lists' ? lists.map(list => list.replace(/\s/g, '')).join('/') : delays}`);
   const bytes = await through(new CompressionStream('deflate-raw'), encode(editor.text));
-  let text = '';
-  for (let at = 0; at < bytes.length; at += 8192) text += String.fromCharCode(...bytes.subarray(at, at + 8192));
-  parts.push(`t=${btoa(text).replace(/\+/g, '-').replace(/\//g, '_').replace(/=+$/, '')}`);
+  parts.push(`t=${toBase64(bytes).replace(/\+/g, '-').replace(/\//g, '_').replace(/=+$/, '')}`);
   return parts.join('&');
 }
 
 /** Reads an address; null where it has no listing, and where it has one that cannot be read, which is told. */
-async function readAddress(hash) {
+export async function readAddress(hash) {
   const parts = new Map(hash.replace(/^#/, '').split('&').map(part => [part[0], part.slice(2)]));
   if (!parts.has('t')) return null;
   try {
@@ -83,7 +110,7 @@ async function readAddress(hash) {
     const printers = ['none', '4', '5', 'both'].indexOf(parts.get('p')), delays = decodeURIComponent(parts.get('d') || 'typical');
     const isWord = ['typical', 'least', 'greatest'].includes(delays);
     return {
-      text, printers: printers < 0 ? 3 : printers, status: parts.get('s') === 'kept' ? 1 : 0,
+      text, form: parts.get('f') === 'petcat' ? 'petcat' : 'text', printers: printers < 0 ? 3 : printers, status: parts.get('s') === 'kept' ? 1 : 0,
       delays: isWord ? delays : 'lists', lists: isWord ? ['', '', ''] : [...delays.split('/'), '', ''].slice(0, 3),
     };
   } catch {
@@ -93,10 +120,10 @@ async function readAddress(hash) {
 }
 
 /** Keeps the listing that another one is about to replace, unless it is an example as it came. */
-function keepEarlier(text = editor.text) {
-  if (!text.trim() || examples.some(example => example.text === text)) return;
+export function keepEarlier(text = editor.text, form = state.form) {
+  if (!text.trim() || text === FIRST || examples.some(example => example.text === text)) return;
   const earlier = (store.get('earlier') || []).filter(kept => kept.text !== text);
-  earlier.unshift({ text, when: Date.now() });
+  earlier.unshift({ text, form, when: Date.now() });
   while (earlier.length > EARLIER_LIMIT || (earlier.length > 1 && !store.set('earlier', earlier))) earlier.pop();
   store.set('earlier', earlier);
   fillMenu();
@@ -106,7 +133,7 @@ function keepEarlier(text = editor.text) {
 
 const examples = JSON.parse($('examples').textContent);
 
-function fillMenu() {
+export function fillMenu() {
   const menu = $('menu'), groups = new Map();
   menu.replaceChildren(new Option('an example …', '', true, true));
   const add = (group, words, value) => {
@@ -124,14 +151,17 @@ function fillMenu() {
   }
 }
 
-function openFromMenu(value) {
+export function openFromMenu(value) {
   const [what, index] = value.split(' ');
   if (!what) return;
   const example = what === 'example' ? examples[index] : null;
+  notice('file', '');
   if (example?.bytes) return take(fromBase64(example.bytes), example.name, example.kind);
-  const text = example ? example.text : what === 'earlier' ? store.get('earlier')[index].text : '';
+  const { text, form = 'text' } = example || (what === 'earlier' ? store.get('earlier')[index] : { text: '' });
   leaveSource();
   keepEarlier();
+  state.form = form;
+  showChoices();
   editor.replace(text);
   wave.moved = false;
   listingChanged();

@@ -1,25 +1,46 @@
 // The page: what is typed goes to the worker, and what comes back goes on paper and on the wire.
 
-const $ = id => document.getElementById(id);
-const AUTOMATIC = 64 * 1024;       // a longer listing's trace is made only when it is asked for
-const LINK_LIMIT = 30000;          // characters of an address
-const EARLIER_LIMIT = 20;
-const LISTING_LIMIT = 16777216;    // bytes of a script, as the program has it
+import { Reader } from './reader.js';
+import { hasTyped } from './listing.js';
+import { partsOf, wordsAt } from './reading.js';
+import { Editor, linesOfStatements } from './editor.js';
+import { Paper } from './paper.js';
+import { spaced, Wave } from './wave.js';
+import { cover, frameChosen, lineChosen, markClicked, showWire, tellUnder, traceSoon } from './telling.js';
+import { leaveSource, recordingOf, showSource } from './files.js';
+import { listingChanged } from './kept.js';
+import { chooseForm, ready } from './controls.js';
+
+/** @type {(id: string) => any} */
+export const $ = id => document.getElementById(id);
+
+/** @type {(selector: string, root?: ParentNode) => any[]} */
+export const all = (selector, root = document) => [...root.querySelectorAll(selector)];
+
+export const AUTOMATIC = 64 * 1024;       // a longer listing's trace is made only when it is asked for
+export const LINK_LIMIT = 30000;          // characters of an address
+export const LINES_LIMIT = 16 * 1024;     // characters of a listing whose lines are found for frames and marks
+export const EARLIER_LIMIT = 20;
+export const FILE_LIMIT = 2 ** 21;        // bytes of a file that is here after a reload
+export const LISTING_LIMIT = 16777216;    // bytes of a script, as the program has it
 
 /** The choices beside the listing, and what the paper and the wire show: the listing, or a file (`source`). */
-const state = { printers: 3, status: 0, delays: 'typical', lists: ['', '', ''], source: null, tabs: { pages: 'sheets', wire: 'wave' } };
+export const state = { form: 'text', printers: 3, status: 0, delays: 'typical', lists: ['', '', ''], source: null, tabs: { pages: 'sheets', wire: 'wave' } };
 
 // the worker
 
 const worker = new Worker(URL.createObjectURL(new Blob([$('worker').textContent], { type: 'text/javascript' })));
 const answers = new Map();
-let jobs = 0;
+let jobs = 0, onPaper = 0;         // `onPaper`: the number of the print whose sheets are shown
 
-/** Gives the worker a job, and answers with its answer. */
-function ask(job, what) {
+/**
+ * Gives the worker a job, and answers with its answer. `run` says of which run the answer is to be, by the number of its
+ * print; the answer is null where the worker has another one by then.
+ */
+export function ask(job, what, run = onPaper) {
   return new Promise((resolve, reject) => {
     answers.set(++jobs, { resolve, reject });
-    worker.postMessage({ number: jobs, job, ask: what });
+    worker.postMessage({ number: jobs, job, ask: what, run });
   });
 }
 
@@ -29,9 +50,15 @@ worker.onmessage = ({ data: { number, answer, error } }) => {
   if (error === undefined) resolve(answer); else reject(new Error(error));
 };
 
-const decode = bytes => new TextDecoder().decode(bytes);
-const encode = text => new TextEncoder().encode(text);
-const fromBase64 = text => Uint8Array.from(atob(text), sign => sign.charCodeAt(0));
+export const decode = bytes => new TextDecoder().decode(bytes);
+export const encode = text => new TextEncoder().encode(text);
+export const fromBase64 = text => Uint8Array.from(atob(text), sign => sign.charCodeAt(0));
+
+export function toBase64(bytes) {
+  let text = '';
+  for (let at = 0; at < bytes.length; at += 8192) text += String.fromCharCode(...bytes.subarray(at, at + 8192));
+  return btoa(text);
+}
 
 // A worker that cannot go on answers nothing more: what it was asked fails.
 worker.onerror = event => {
@@ -40,15 +67,18 @@ worker.onerror = event => {
   answers.clear();
 };
 
-/** Whether the browser has 64-bit memories, by a module that is nothing but one. */
-const has64BitMemory = () => WebAssembly.validate(Uint8Array.of(0, 97, 115, 109, 1, 0, 0, 0, 5, 3, 1, 4, 1));
+/** Whether the browser can run the module. */
+export const hasWebAssembly = () => typeof WebAssembly === 'object' && typeof DecompressionStream === 'function';
 
 // the parts of the page
 
-const editor = new Editor(document.querySelector('.editor'), () => { leaveSource(); listingChanged(); });
-const paper = new Paper($('sheets'), mark => markClicked(mark));
-const wave = new Wave($('wave').querySelector('canvas'), under => tellUnder(under), frame => frameChosen(frame));
-const readers = {
+export const editor = new Editor(document.querySelector('.editor'), () => { leaveSource(); listingChanged(); }, {
+  parts: line => partsOf(line, state.form),
+  words: (line, column) => wordsAt(line, column, state.form),
+}, line => lineChosen(line));
+export const paper = new Paper($('sheets'), mark => markClicked(mark), (printers, chosen) => showPrinters(printers, chosen));
+export const wave = new Wave($('wave').querySelector('canvas'), under => tellUnder(under), frame => frameChosen(frame));
+export const readers = {
   lines: new Reader($('lines')),
   list: new Reader($('list')),
   frames: new Reader($('frames'), line => {
@@ -59,7 +89,7 @@ const readers = {
 };
 
 /** A notice at the top, with buttons; a later one of the same name takes its place. */
-function notice(name, words, actions = []) {
+export function notice(name, words, actions = []) {
   document.querySelector(`[data-notice="${name}"]`)?.remove();
   if (!words) return;
   const box = document.createElement('div'), text = document.createElement('p');
@@ -71,12 +101,12 @@ function notice(name, words, actions = []) {
 }
 
 /** A notice that goes when it is closed. */
-const tellOnce = (name, words) => notice(name, words, [button('Close', () => notice(name, ''))]);
+export const tellOnce = (name, words) => notice(name, words, [button('Close', () => notice(name, ''))]);
 
 /** Tells that a call of the module failed. */
-const tellFailed = error => tellOnce('failed', `The module failed: ${error.message}`);
+export const tellFailed = error => tellOnce('failed', `The module failed: ${error.message}`);
 
-function button(words, act) {
+export function button(words, act) {
   const made = document.createElement('button');
   made.type = 'button';
   made.textContent = words;
@@ -86,10 +116,11 @@ function button(words, act) {
 
 // printing
 
-let wanted = 0, printed = 0, printing = false, traced = 0, waitingTrace = 0;
+export let wanted = 0;
+let printed = 0, printing = false;
 
 /** Prints what is there now. While the worker prints, only the latest of what comes meanwhile is printed then. */
-async function print() {
+export async function print() {
   wanted++;
   if (printing || !ready) return;
   printing = true;
@@ -101,6 +132,10 @@ async function print() {
       printed = version;
     }
   } catch (error) {
+    printed = wanted;
+    clearPaper();
+    showWire(null);
+    cover('');
     tellFailed(error);
   }
   clearTimeout(slow);
@@ -112,28 +147,41 @@ async function printNow(version) {
   const { source } = state;
   if (!source) {
     const script = encode(editor.text);
-    const answer = await ask('print', { script, printers: state.printers, status: state.status });
+    const answer = await ask('print', { script, form: state.form, printers: state.printers, status: state.status }, version);
     if (version !== wanted && performance.now() - lastShown < 400) return;
     lastShown = performance.now();
     showRun(answer, version);
-    if (answer.code <= 1) Object.assign(answer, await ask('end'));
-    if (version !== wanted) return;
+    const end = answer.code <= 1 ? await ask('end', {}, version) : {};
+    if (version !== wanted || !end) return;
+    Object.assign(answer, end);
     showScript(answer);
     if (answer.code <= 1) traceSoon(version, script.length);
     return;
   }
-  const answer = source.kind === 'raw' ? await ask('raw', { bytes: source.bytes, set: source.set }) : await ask('recording', recordingOf(source));
+  const { bytes, set } = source, isRaw = source.kind === 'raw';
+  const answer = isRaw ? await ask('raw', { bytes, set }, version) : await ask('recording', recordingOf(source), version);
   if (version !== wanted || state.source !== source) return;
+  onPaper = version;
   showSource(answer);
 }
 
-let lastShown = 0, onPaper = 0, ofSource = false;     // `ofSource`: a file is on paper
+export let firstPaper = 0;               // when there was paper first, in milliseconds from the page's start (the tests show it)
+let lastShown = 0, ofSource = false;     // `ofSource`: a file is on paper
+
+/** Takes the sheets away. */
+export function clearPaper() {
+  ofSource = Boolean(state.source);
+  paper.show('');
+  $('no-sheet').hidden = true;
+  for (const what of ['lines', 'list']) {
+    readers[what].stale = 0;
+    readers[what].show('');
+  }
+}
 
 /** Takes a file's sheets and wire away where the listing gives none. */
 function leavePaper() {
-  ofSource = false;
-  paper.show('');
-  $('no-sheet').hidden = true;
+  clearPaper();
   showWire(null);
   cover('There is no trace of this listing.');
 }
@@ -145,34 +193,66 @@ function showRun(answer, version) {
     if (ofSource) leavePaper();
     return;
   }
-  showPaper(decode(answer.svg));
   onPaper = version;
+  showPaper(decode(answer.svg));
+  firstPaper ||= performance.now();
+}
+
+/** Offers the printers of which one is shown. */
+function showPrinters(printers, chosen) {
+  const box = $('printers'), key = [...printers, chosen].join();
+  if (box.dataset.key === key) return;
+  box.dataset.key = key;
+  box.hidden = !printers.length;
+  box.replaceChildren(...printers.map(printer => {
+    const made = button(`Printer ${printer}`, () => paper.turnTo(printer));
+    made.setAttribute('aria-pressed', String(printer === chosen));
+    return made;
+  }));
+}
+
+/** What an empty desk says. */
+function emptyWords() {
+  if (state.source) return 'No printer hears a byte of this.';
+  return editor.text.trim() ? 'No printer is on the bus: no sheet.' : 'Type a listing, open an example, or drop a file: what it prints is here.';
 }
 
 let texts = 0;     // how often a text of the tabs became another one
 
-function showPaper(svg) {
+export const nextText = () => ++texts;
+
+export function showPaper(svg) {
   ofSource = Boolean(state.source);
   paper.show(svg);
-  $('no-sheet').hidden = !paper.picture || paper.picture.sheets.length > 0;
-  $('no-sheet').textContent = state.source ? 'No printer hears a byte of this.' : 'No printer is on the bus: no sheet.';
-  for (const what of ['lines', 'list']) readers[what].stale = ++texts;
+  const isNew = !state.source && !editor.text.trim();
+  if (isNew) paper.show('');
+  $('no-sheet').hidden = !isNew && (!paper.picture || paper.picture.sheets.length > 0);
+  $('no-sheet').textContent = emptyWords();
+  for (const what of ['lines', 'list']) readers[what].stale = nextText();
   fillReader(state.tabs.pages);
 }
 
 /** Fills the text of a tab, if it is the one that is seen. */
-async function fillReader(tab) {
+export async function fillReader(tab) {
   const what = { lines: 'text', list: 'list', edges: 'trace', frames: 'readings' }[tab], reader = readers[tab], version = reader?.stale;
   if (!what || !version || !ready) return;
   let bytes;
   try { bytes = await ask('text', { what }); } catch (error) { return tellFailed(error); }
-  if (reader.stale !== version) return;
+  if (reader.stale !== version || !bytes) return;
   reader.stale = 0;
-  reader.show(decode(bytes || new Uint8Array(0)));
+  reader.show(decode(bytes));
   if (tab === 'frames' && wave.frames[wave.chosen]) reader.mark(wave.frames[wave.chosen].line);
 }
 
-const counted = (number, one, many = `${one}s`) => `${spaced(number)} ${number === 1 ? one : many}`;
+export const counted = (number, one, many = `${one}s`) => `${spaced(number)} ${number === 1 ? one : many}`;
+
+let speaking = 0;
+
+/** What a reader of screens hears of a listing: once nothing more is typed for a while. */
+function speakSoon() {
+  clearTimeout(speaking);
+  speaking = setTimeout(() => { $('spoken').textContent = $('told').innerText; }, 900);
+}
 
 /** Tells of a script how it went: beside its lines, and below them. */
 function showScript(answer) {
@@ -191,21 +271,28 @@ function showScript(answer) {
   else if (answer.code > 2) words('first', 'There was no memory for this.');
   else tellStatuses(answer, words);
   showScreen(answer.code <= 1 ? answer.screen : new Uint8Array(0));
+  speakSoon();
 }
 
+/** How many characters of a text so many bytes are. */
+const charactersOf = (text, bytes) => decode(encode(text).subarray(0, bytes)).length;
+
 /** A script that cannot be read: its first fault, at its place. */
-function tellRefusal({ words: why, line, told }, words) {
+function tellRefusal({ words: why, line, column, told, place }, words) {
   const said = told.split('\n'), where = said.map(text => /^ {2}line (\d+), column (\d+)[^:]*: (.*)$/.exec(text)).find(Boolean);
-  const name = why.replace(/^line \d+: /, ''), signs = [], titles = [];
+  const name = why.replace(/^line \d+(, column \d+)?: /, ''), signs = [], titles = [];
   if (!where) {
-    words('first', line ? `Line ${line}: ${name}` : name[0].toUpperCase() + name.slice(1));
+    const upper = name[0].toUpperCase() + name.slice(1);
+    words('first', column ? `${upper} in line ${line}, column ${column}` : line ? `Line ${line}: ${name}` : upper);
     if (line) signs[line - 1] = 'refused';
-    return editor.tell(signs, titles, null);
+    if (!column) return editor.tell(signs, titles, null);
+    const text = editor.line(line - 1), from = charactersOf(text, column - 1), brace = text[from] === '{' ? text.indexOf('}', from) : -1;
+    return editor.tell(signs, titles, { line: line - 1, from, to: Math.max(brace, from) + 1, words: name, kind: 'refused' });
   }
-  const number = Number(where[1]) - 1, text = editor.line(number), from = decode(encode(text).subarray(0, Number(where[2]) - 1)).length;
+  const number = Number(where[1]) - 1, text = editor.line(number), from = place ? place.from : charactersOf(text, Number(where[2]) - 1);
   const word = /^"(.*)": /.exec(where[3]), length = word && text.startsWith(word[1], from) ? word[1].length : 1;
   const expected = where[3].replace(/^".*": /, ''), hints = said.slice(said.indexOf(where[0]) + 1).filter(text => text.trim());
-  const first = words('first', `${name[0].toUpperCase()}${name.slice(1)} in line ${where[1]}, column ${where[2]}`);
+  const first = words('first', `${name[0].toUpperCase()}${name.slice(1)} in line ${where[1]}, column ${place ? from + 1 : where[2]}`);
   first.append(' ', button('go there', () => editor.goTo(number, from)));
   words('', where[3]);
   hints.forEach(hint => words('', hint.trim()));
@@ -216,7 +303,7 @@ function tellRefusal({ words: why, line, told }, words) {
 
 /** A run's statuses and its stop. */
 function tellStatuses(answer, words) {
-  const { statuses, code, statement, told } = answer, lines = linesOfStatements(editor.text);
+  const { statuses, code, statement, told } = answer, lines = linesOfStatements(answer.script ?? editor.text);
   const known = code === 1 ? lines.length >= statement : lines.length === statuses.length;
   const signs = [], titles = [], rank = ['', 'fine', 'unreached', 'unanswered', 'stopped'];
   const sign = (line, name, title) => {
@@ -245,7 +332,15 @@ function tellStatuses(answer, words) {
   const places = unanswered.slice(0, 4).map(index => known ? `${index + 1} (line ${lines[index] + 1})` : index + 1).join(', ');
   const others = unanswered.length > 4 ? ` and ${spaced(unanswered.length - 4)} more` : '';
   if (unanswered.length) words('', `Status 128, no device answered: statement ${places}${others}`);
+  tellTyped(words);
   editor.tell(signs, titles, note);
+}
+
+/** Where strings of a script have small letters or names in braces: what they print, and the reading that has them as typed. */
+function tellTyped(words) {
+  if (state.form !== 'text' || !hasTyped(editor.text)) return;
+  const hint = 'Small letters print the printer\'s own code, and a name in braces prints its letters.';
+  words('', hint).append(' ', button('Read it as petcat\'s text', () => chooseForm('petcat')));
 }
 
 /** The bytes on the screen: letters as they are, a return as a line's end, any other byte as its number. */

@@ -1,15 +1,24 @@
 // The sheets: the picture that the module gives, as it is. A long one stands in the page by those of its rows that can
 // be seen; they are cut from its text, and nothing is drawn anew.
 
+import { DOT, LETTER_HEIGHT, markAt, MARKS_LEFT, MARKS_TOP, sheetsOf, STEP } from './sheets.js';
+import { HIGHEST } from './reader.js';
+
 const PICA = 210;              // units of the picture
 const SHEET_AND_MARGINS = 13860;
 const WHOLE = 60000;           // a picture of so many characters stands in the page as a whole
+const LEAST = 6 / 126;         // pixels of a unit: a character is never less than six pixels wide
 const SHADED = 30000;          // sheets of so many units have a shadow: on long ones it takes a browser too long
 
-class Paper {
-  /** `onMark` is told the mark that is clicked, or null where there is none. */
-  constructor(element, onMark) {
+export class Paper {
+  /**
+   * `onMark` is told the mark that is clicked, or null where there is none; `onTabs` the printers among which one is shown
+   * where there is no room for both, and that one.
+   */
+  constructor(element, onMark, onTabs) {
     this.element = element;
+    this.onTabs = onTabs;
+    this.printer = 0;          // the printer that is shown where there is room for one
     this.room = document.createElement('div');
     this.room.className = 'room';
     element.append(this.room);
@@ -25,9 +34,6 @@ class Paper {
       event.preventDefault();
       this.zoom(Math.exp(-event.deltaY / 300), event.clientX, event.clientY);
     }, { passive: false });
-    // what a printer of today gets is the whole picture
-    addEventListener('beforeprint', () => { if (this.part) this.put(this.text); });
-    addEventListener('afterprint', () => this.lay());
     this.room.addEventListener('click', event => {
       if (!this.picture || String(getSelection())) return;
       const place = this.placeAt(event.clientX, event.clientY);
@@ -40,24 +46,56 @@ class Paper {
     this.text = text;
     this.found = [];
     this.picture = text ? sheetsOf(text) : null;
-    this.svg = null;
-    if (!text) { this.room.replaceChildren(); this.room.removeAttribute('style'); return; }
+    if (!text) {
+      this.svg = null;
+      this.room.replaceChildren();
+      this.room.removeAttribute('style');
+      return this.onTabs([], 0);
+    }
     if (text.length <= WHOLE) {
-      this.put(text);
-      if (this.picture.height <= SHADED) this.svg.classList.add('shaded');
       this.part = null;
+      this.put(0, this.picture.height);
+      this.svg.classList.toggle('shaded', this.picture.height <= SHADED);
     } else this.part = { from: 0, to: 0 };
     this.lay();
     this.focus();
   }
 
-  /** Puts a picture into the page. */
-  put(text) {
-    this.svg = document.importNode(new DOMParser().parseFromString(text, 'image/svg+xml').documentElement, true);
-    this.svg.setAttribute('role', 'img');
-    this.svg.setAttribute('aria-label', this.picture.sheets.map(sheet => `Printer ${sheet.printer}`).join(' and ') || 'No printer');
-    this.room.replaceChildren(this.svg);
+  /** Puts what lies between two heights into the page. What is there already stays, so that a key draws one row. */
+  put(from, to) {
+    const { frame, rows } = this.cut(from, to), defs = /<defs>\n([^]*?)<\/defs>/.exec(frame), shapes = defs ? defs[1].split('\n').filter(Boolean) : [];
+    const plain = defs ? frame.replace(defs[0], '<defs></defs>') : frame;
+    if (!this.svg || plain !== this.frame) {
+      this.frame = plain;
+      this.svg = document.importNode(new DOMParser().parseFromString(plain, 'image/svg+xml').documentElement, true);
+      // What is printed stands in the picture as text, which a reader of screens reads.
+      this.svg.setAttribute('role', 'group');
+      this.svg.setAttribute('aria-label', this.picture.sheets.map(sheet => `Printer ${sheet.printer}`).join(' and ') || 'No printer');
+      this.shapes = { elements: new Map(), places: [this.svg.querySelector('defs')] };
+      this.rows = { elements: new Map(), places: [...this.svg.querySelectorAll(':scope > g > g > g')].slice(0, this.picture.sheets.length) };
+      this.room.replaceChildren(this.svg);
+    }
+    this.putParts(this.shapes, shapes.map(text => ({ place: 0, name: text, text })));
+    this.putParts(this.rows, rows);
     this.drawFound();
+  }
+
+  /** Puts parts into their places, by their names; those that are there and not among them go. */
+  putParts({ elements, places }, parts) {
+    const missing = parts.filter(part => !elements.has(part.name)), wanted = new Set(parts.map(part => part.name));
+    for (const [name, element] of elements) {
+      if (wanted.has(name)) continue;
+      element.remove();
+      elements.delete(name);
+    }
+    if (!missing.length) return;
+    const made = new DOMParser().parseFromString(`<svg xmlns="http://www.w3.org/2000/svg">${missing.map(part => part.text).join('')}</svg>`, 'image/svg+xml');
+    [...made.documentElement.children].forEach((element, index) => elements.set(missing[index].name, document.importNode(element, true)));
+    const next = places.map(place => place.firstChild);
+    for (const { place, name } of parts) {
+      const element = elements.get(name);
+      if (element === next[place]) next[place] = element.nextSibling; else places[place].insertBefore(element, next[place]);
+    }
   }
 
   /** The sheets to show where there is room for one: those that are not empty, or all. */
@@ -66,10 +104,29 @@ class Paper {
     return printed.length === 1 ? printed : this.picture.sheets;
   }
 
+  /** The sheet that is shown alone, since there is no room for those in focus; or null. */
+  alone() {
+    const sheets = this.inFocus();
+    if (sheets.length < 2 || this.element.clientWidth >= this.picture.width * LEAST) return null;
+    return sheets.find(sheet => sheet.printer === this.printer) || sheets[0];
+  }
+
+  /** The part of the picture that is shown, from left to right. */
+  across() {
+    const sheet = this.alone();
+    return sheet ? { left: sheet.x - 570, width: SHEET_AND_MARGINS - 120 } : { left: 0, width: this.picture.width };
+  }
+
   scale() {
-    const width = this.inFocus().length > 1 ? this.picture.width : SHEET_AND_MARGINS;
-    const wanted = this.size ? this.size / PICA : Math.min(this.element.clientWidth / width, 20 / PICA);
+    const width = this.inFocus().length > 1 ? this.across().width : SHEET_AND_MARGINS;
+    const wanted = this.size ? this.size / PICA : Math.min(Math.max(this.element.clientWidth / width, LEAST), 20 / PICA);
     return Math.min(wanted, HIGHEST / this.picture.height);
+  }
+
+  /** Shows a printer's sheet where there is no room for both. */
+  turnTo(printer) {
+    this.printer = printer;
+    this.lay();
   }
 
   /** Scrolls to the sheet that has something on it, when that is another one than before. */
@@ -83,11 +140,13 @@ class Paper {
   /** Gives the picture its size. */
   lay() {
     if (!this.picture || !this.element.clientWidth) return;
-    const scale = this.scale(), { width, height } = this.picture;
+    const scale = this.scale(), { height } = this.picture, { left, width } = this.across(), sheet = this.alone();
     this.room.style.width = `${width * scale}px`;
     this.room.style.height = `${height * scale}px`;
-    if (this.part) { this.part.to = 0; this.drawPart(); }
-    else { this.svg.style.width = `${width * scale}px`; this.svg.style.height = `${height * scale}px`; }
+    this.onTabs(sheet ? this.inFocus().map(({ printer }) => printer) : [], sheet?.printer);
+    if (this.part) { this.part.to = 0; this.drawPart(); return; }
+    this.svg.setAttribute('viewBox', `${left} 0 ${width} ${height}`);
+    Object.assign(this.svg.style, { width: `${width * scale}px`, height: `${height * scale}px` });
   }
 
   zoom(factor, x = null, y = null) {
@@ -110,7 +169,7 @@ class Paper {
   /** Where a place of the window lies in the picture. */
   placeAt(x, y) {
     const box = this.room.getBoundingClientRect(), scale = this.scale();
-    return { x: (x - box.left) / scale, y: (y - box.top) / scale };
+    return { x: this.across().left + (x - box.left) / scale, y: (y - box.top) / scale };
   }
 
   /** Draws the part of a long picture around what can be seen. */
@@ -118,20 +177,20 @@ class Paper {
     if (!this.part || !this.picture) return;
     const scale = this.scale(), seen = this.element.clientHeight / scale, top = this.element.scrollTop / scale;
     if (top >= this.part.from && top + seen <= this.part.to) return;
-    const from = Math.max(top - seen, 0), to = Math.min(top + 2 * seen, this.picture.height);
+    const from = Math.max(top - seen / 2, 0), to = Math.min(top + 1.5 * seen, this.picture.height), { left, width } = this.across();
     this.part = { from, to };
-    this.put(this.cut(from, to));
-    this.svg.setAttribute('viewBox', `0 ${from} ${this.picture.width} ${to - from}`);
+    this.put(from, to);
+    this.svg.setAttribute('viewBox', `${left} ${from} ${width} ${to - from}`);
     Object.assign(this.svg.style, {
-      position: 'absolute', top: `${from * scale}px`, width: `${this.picture.width * scale}px`, height: `${(to - from) * scale}px`,
+      position: 'absolute', top: `${from * scale}px`, width: `${width * scale}px`, height: `${(to - from) * scale}px`,
     });
   }
 
-  /** The picture with those of its rows alone that lie between two heights. */
+  /** The picture without its rows, and those of its rows that lie between two heights: `{ place, name, text }`, a place for each sheet. */
   cut(from, to) {
-    const { sheets, notes } = this.picture, parts = [];
+    const { sheets, notes } = this.picture, parts = [], rows = [];
     let at = 0;
-    for (const sheet of sheets) {
+    sheets.forEach((sheet, number) => {
       parts.push(this.text.slice(at, sheet.from));
       let low = 0, high = sheet.rows.length;
       while (low < high) {
@@ -141,32 +200,36 @@ class Paper {
       for (; low < sheet.rows.length && MARKS_TOP + sheet.rows[low].y * STEP < to + LETTER_HEIGHT; low++) {
         const row = sheet.rows[low];
         if (row.held) break;
-        parts.push(`<g transform="translate(0 ${row.y * STEP})">\n`, this.text.slice(row.from, row.to), '</g>\n');
+        const text = `<g transform="translate(0 ${row.y * STEP})">\n${this.text.slice(row.from, row.to)}</g>`;
+        rows.push({ place: number, name: `${number} ${low} ${text}`, text });
       }
       const last = sheet.rows.findLast(row => !row.held);
       parts.push(this.text.slice(last ? last.to + 5 : sheet.from, sheet.to));
       at = sheet.to;
-    }
-    if (!notes) return parts.join('') + this.text.slice(at);
+    });
+    if (!notes) return { frame: parts.join('') + this.text.slice(at), rows };
     parts.push(this.text.slice(at, notes.from));
     this.noteLines ??= null;
     if (this.noteLines?.text !== this.text) this.noteLines = { text: this.text, lines: this.text.slice(notes.from, notes.to).split('\n') };
     const lines = this.noteLines.lines, first = Math.max(Math.floor((from - notes.y) / PICA) - 2, 0);
     const some = lines.slice(first, Math.max(Math.ceil((to - notes.y) / PICA) + 2, first));
     if (some.length && first) some[0] = some[0].replace('dy="210"', `dy="${210 * (first + 1)}"`);
-    return parts.join('') + some.join('\n') + this.text.slice(notes.to);
+    return { frame: parts.join('') + some.join('\n') + this.text.slice(notes.to), rows };
   }
 
   /** Shows where marks are, and brings the first of them into view. */
   find(marks) {
+    const sheet = this.picture && this.alone(), isSeen = !sheet || marks.some(mark => mark.printer === sheet.printer);
+    if (!isSeen && marks.length) this.turnTo(marks[0].printer);
     this.found = marks.flatMap(({ printer, row, x, width }) => {
       const sheet = this.picture?.sheets.find(sheet => sheet.printer === printer), line = sheet?.rows[row];
-      return line ? [{ x: sheet.x + MARKS_LEFT + x * DOT, y: MARKS_TOP + line.y * STEP, width: width * DOT }] : [];
+      return line ? [{ printer, x: sheet.x + MARKS_LEFT + x * DOT, y: MARKS_TOP + line.y * STEP, width: width * DOT }] : [];
     });
     this.drawFound();
     if (!this.found.length) return;
-    const scale = this.scale(), { x, y, width } = this.found[0], view = this.element;
-    const left = x * scale, top = y * scale;
+    const only = this.alone(), first = this.found.find(mark => !only || mark.printer === only.printer);
+    if (!first) return;
+    const scale = this.scale(), { x, y, width } = first, view = this.element, left = (x - this.across().left) * scale, top = y * scale;
     if (left < view.scrollLeft || left + width * scale > view.scrollLeft + view.clientWidth) view.scrollLeft = left - view.clientWidth / 2;
     if (top < view.scrollTop || top + LETTER_HEIGHT * scale > view.scrollTop + view.clientHeight) view.scrollTop = top - view.clientHeight / 3;
   }

@@ -1,9 +1,9 @@
 // A long text by its lines, of which only those that can be seen are in the page.
 
-const HIGHEST = 15e6;         // pixels: the highest element that browsers lay out
+export const HIGHEST = 15e6;         // pixels: the highest element that browsers lay out
 
-class Reader {
-  /** Shows texts in an element that scrolls. `onLine` is told the index of a line that is clicked or chosen with Enter. */
+export class Reader {
+  /** Shows texts in an element that scrolls. `onLine` gets the index of a line that is clicked or chosen with Enter. */
   constructor(element, onLine = null) {
     this.element = element;
     this.onLine = onLine;
@@ -18,7 +18,7 @@ class Reader {
     new ResizeObserver(() => this.draw()).observe(element);
     if (onLine) {
       this.block.addEventListener('click', event => {
-        const line = event.target.closest('[data-line]');
+        const line = /** @type {any} */ (event.target).closest('[data-line]');
         if (line && !String(getSelection())) onLine(Number(line.dataset.line));
       });
     }
@@ -61,7 +61,7 @@ class Reader {
     this.block.style.transform = `translateY(${scrollTop - (first - from) * height}px)`;
     this.block.replaceChildren(...this.lines.slice(from, to).map((line, index) => {
       const span = document.createElement('span');
-      span.dataset.line = from + index;
+      span.dataset.line = String(from + index);
       span.textContent = line + '\n';
       if (from + index === this.marked) span.className = 'marked';
       return span;

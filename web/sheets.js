@@ -1,11 +1,12 @@
 // What stands in a picture of pages as `--as svg` writes it: its sheets, their rows, and the marks in a row.
 // Nothing here draws: it finds the places in the text, in the picture's units of 1/1260 inch.
 
-const DOT = 21;            // a dot column
-const STEP = 10;           // 1/126 inch down
-const MARKS_LEFT = 1260;   // from a sheet's left edge to its marks
-const MARKS_TOP = 1680;    // from the picture's top to them
-const LETTER_HEIGHT = 140; // seven dots
+export const DOT = 21;            // a dot column
+export const STEP = 10;           // 1/126 inch down
+export const MARKS_LEFT = 1260;   // from a sheet's left edge to its marks
+export const SHEET_TOP = 1050;    // from the picture's top to the sheets
+export const MARKS_TOP = 1680;    // from the picture's top to the marks
+export const LETTER_HEIGHT = 140; // seven dots
 
 /**
  * The sheets of a picture: `{ width, height, sheets, notes }`. A sheet is `{ printer, x, from, to, rows }`: its
@@ -13,7 +14,7 @@ const LETTER_HEIGHT = 140; // seven dots
  * distance from the top in 1/126 inch, and where the text of its marks begins and ends. `notes` is `{ y, from, to }`
  * for the lines below the sheets, or null.
  */
-function sheetsOf(svg) {
+export function sheetsOf(svg) {
   const size = /viewBox="0 0 (\d+) (\d+)"/.exec(svg.slice(0, 400));
   const picture = { width: Number(size[1]), height: Number(size[2]), sheets: [], notes: null };
   const sheetStart = /<g transform="translate\((\d+) 1050\)">\n<text [^>]*>Printer (\d)<\/text>\n<rect [^>]*>\n<rect [^>]*>\n<g [^>]*>\n<g [^>]*>\n/g;
@@ -55,7 +56,7 @@ function marksIn(text) {
 }
 
 /** How often each mark stands in a picture, by a name of the mark: its printer, its row, its place and what it shows. */
-function marksOf(svg, among = null) {
+export function marksOf(svg, among = null) {
   const counts = new Map();
   for (const sheet of sheetsOf(svg).sheets) {
     sheet.rows.forEach((row, number) => {
@@ -70,7 +71,7 @@ function marksOf(svg, among = null) {
 }
 
 /** The marks of a picture that another one has not (or not as often): `{ printer, row, x, width }`. */
-function marksMore(before, behind) {
+export function marksMore(before, behind) {
   const had = marksOf(before), more = [];
   for (const [name, count] of marksOf(behind)) {
     if (count <= (had.get(name) || 0)) continue;
@@ -81,7 +82,7 @@ function marksMore(before, behind) {
 }
 
 /** The mark at a place of a picture, in its units: `{ printer, row, name }`, or null. */
-function markAt(svg, picture, x, y) {
+export function markAt(svg, picture, x, y) {
   for (const sheet of picture.sheets) {
     const dots = (x - sheet.x - MARKS_LEFT) / DOT;
     if (dots < -1 || dots > 481) continue;

@@ -1,14 +1,22 @@
 // What a recording or a run's trace says, beside the wave: the facts, the intervals, and what is chosen.
 
-function cover(words, actions = []) {
+import { intervalsIn } from './wire.js';
+import { hexadecimal, spaced } from './wave.js';
+import { $, all, ask, AUTOMATIC, button, counted, editor, encode, fillReader, LINES_LIMIT, nextText, paper, readers, state, tellFailed, tellOnce, wanted, wave } from './page.js';
+import { readLists } from './controls.js';
+
+export function cover(words, actions = []) {
   const box = $('wire-cover'), text = document.createElement('p');
   box.hidden = !words;
   text.textContent = words || '';
   box.replaceChildren(text, ...actions);
 }
 
+let waitingTrace = 0;
+export let traced = 0;     // the number of the print whose trace is shown (the tests wait for it)
+
 /** Makes the trace once nothing more is typed; a long one only when it is asked for. */
-function traceSoon(version, length) {
+export function traceSoon(version, length) {
   clearTimeout(waitingTrace);
   offerWire(false);
   if (length > AUTOMATIC) {
@@ -20,6 +28,7 @@ function traceSoon(version, length) {
 }
 
 async function trace(version) {
+  if (version !== wanted || state.source) return;
   const { printers, status, delays } = state, lists = readLists();
   if (!lists) {
     showWire(null);
@@ -27,10 +36,10 @@ async function trace(version) {
   }
   try {
     const answer = await ask('trace', {
-      script: encode(editor.text), printers, status, delays: delays === 'lists' ? lists : [[], [], []].map(() => new Uint16Array(0)),
+      script: encode(editor.text), form: state.form, printers, status, delays: delays === 'lists' ? lists : [[], [], []].map(() => new Uint16Array(0)),
       extreme: delays === 'least' || delays === 'greatest' ? delays : null,
-    });
-    if (version !== wanted || state.source) return;
+    }, version);
+    if (version !== wanted || state.source || !answer) return;
     traced = version;
     state.taken = answer.delays;
     cover('');
@@ -43,24 +52,26 @@ async function trace(version) {
 
 /** Offers the texts of the wire, or not: before a run's own trace is made those of an earlier one stand there. */
 function offerWire(isThere) {
-  for (const what of ['trace', 'vcd', 'readings']) document.querySelector(`[data-save=${what}]`).disabled = !isThere;
+  for (const what of ['trace', 'vcd', 'readings']) all(`[data-save=${what}]`)[0].disabled = !isThere;
 }
 
 /** Shows a trace with what is said of it, or none. */
-function showWire(answer) {
+export function showWire(answer) {
   offerWire(Boolean(answer));
   const { times, levels, frames, verdict } = answer || { times: new Float64Array(0), levels: new Uint8Array(0), frames: [], verdict: '' };
   wave.show({ times, levels }, frames);
   $('wire-facts').textContent = !answer ? '' : [
-    counted(frames.filter(frame => frame.kind !== 'glitch').length, 'byte'), counted(times.length, 'edge'),
-    times.length ? `${spaced(Math.round(times[times.length - 1] / 100) / 10)} ms` : '', verdict.split(':')[0],
+    state.source?.name, counted(frames.filter(frame => frame.kind !== 'glitch').length, 'byte'), counted(times.length, 'edge'),
+    times.length ? `${spaced(Math.round(times[times.length - 1] / 100) / 10)} ms` : '',
   ].filter(Boolean).join(' · ');
-  $('wire-facts').title = verdict;
+  $('verdict').textContent = verdict.split(':')[0];
+  $('verdict').title = verdict;
+  $('verdict').classList.toggle('unlawful', verdict !== 'lawful');
   tellUnder(null);
   tellChosen(-1);
   showIntervals(answer);
   for (const tab of ['frames', 'edges']) {
-    readers[tab].stale = answer ? ++texts : 0;
+    readers[tab].stale = answer ? nextText() : 0;
     if (!answer) readers[tab].show('');
   }
   fillReader(state.tabs.wire);
@@ -99,7 +110,7 @@ const boundsWords = bounds => bounds ? ` (${bounds[0]} to ${bounds[1]})` : '';
 const named = ({ name, bit }) => bit ? `${name} of bit ${bit - 1}` : name;
 
 /** Tells what is under the pointer on the wave. */
-function tellUnder(under) {
+export function tellUnder(under) {
   const line = $('under');
   line.className = '';
   if (!under) { line.textContent = wave.frames.length ? 'Point at the wave for its intervals; click a frame for its marks.' : ''; return; }
@@ -141,31 +152,64 @@ function tellChosen(index, more = '') {
 
 let asked = 0;
 
-/** A frame is chosen: its marks are shown on the sheets. */
-async function frameChosen(index) {
+/** Whether the lines of the listing that is shown can be found: each answer runs parts of it. */
+const knowsLines = () => !state.source && wave.frames.length > 0 && editor.text.length <= LINES_LIMIT;
+
+/** A line of the listing is chosen: its frames and its marks are shown. */
+export async function lineChosen(line) {
+  const turn = ++asked;
+  if (!knowsLines()) return;
+  let answer;
+  try { answer = await ask('line', { line }); } catch (error) { return tellFailed(error); }
+  if (turn !== asked || !answer) return;
+  const { from, to, marks } = answer, first = wave.frames[from], last = wave.frames[to - 1];
+  wave.choose(-1, false);
+  readers.frames.mark(to > from ? first.line : -1);
+  wave.showSpan(to > from ? [first.look, last.end] : null);
+  paper.find(marks);
+  editor.choose(line);
+  const words = document.createElement('strong');
+  words.textContent = `Line ${line + 1}`;
+  $('chosen').replaceChildren(words, `  ${to > from ? `${counted(to - from, 'byte')} on the wire, ${counted(marks.length, 'mark')}` : 'sends nothing'}`);
+}
+
+/** Shows the line of a frame beside the listing. */
+async function showLineOf(index, turn) {
+  if (!knowsLines()) return;
+  let answer;
+  try { answer = await ask('lineOf', { frame: index }); } catch (error) { return tellFailed(error); }
+  if (turn === asked && answer) editor.choose(answer.line);
+}
+
+/** A frame is chosen: its marks are shown on the sheets, and its line. */
+export async function frameChosen(index) {
   const turn = ++asked, frame = wave.frames[index];
   readers.frames.mark(frame ? frame.line : -1);
   tellChosen(index);
   paper.find([]);
+  editor.choose(-1);
+  if (frame && Number.isFinite(frame.end)) showLineOf(index, turn);
   if (!frame || frame.fault || (frame.kind === 'command')) return;
   tellChosen(index, ', looking on the paper …');
   let marks;
   try { marks = await ask('marks', { frame: index }); } catch (error) { return tellFailed(error); }
   if (turn !== asked) return;
+  if (!marks) return tellChosen(index);
   paper.find(marks);
   tellChosen(index, marks.length ? `, ${counted(marks.length, 'mark')}` : ', no mark that shows');
 }
 
 /** A mark is clicked: the frame of its byte is shown on the wave. */
-async function markClicked(mark) {
+export async function markClicked(mark) {
   const turn = ++asked;
   if (!mark) { wave.choose(-1); return; }
   const { source } = state, isRaw = source?.kind === 'raw';
   if (!isRaw && !wave.frames.length) return;
   document.body.classList.add('searching');
   try {
-    const { byte, frame } = await ask('byte', { mark });
-    if (turn !== asked) return;
+    const found = await ask('byte', { mark });
+    if (turn !== asked || !found) return;
+    const { byte, frame } = found;
     if (isRaw) tellOnce('byte', `This mark comes with byte ${byte + 1} of the file, ${source.bytes[byte]}.`);
     else if (frame >= 0) wave.choose(frame);
   } catch (error) {

@@ -2,16 +2,22 @@
 // strip below. What is drawn takes as long for a million edges as for a hundred: a column of pixels in which a line
 // turns more than once is one stroke.
 
+import { ATN, CLOCK, DATA, edgeAt, frameAt, intervalsBetween, intervalsIn } from './wire.js';
+
 const WIRES = [{ name: 'ATN', bit: ATN }, { name: 'CLOCK', bit: CLOCK }, { name: 'DATA', bit: DATA }];
 const NAMES_WIDTH = 58, RIGHT = 10;
 
 /** A number with thin spaces between its thousands. */
-const spaced = number => String(number).replace(/\B(?=(\d{3})+$)/g, '\u2009');
+export const spaced = number => String(number).replace(/\B(?=(\d{3})+$)/g, '\u2009');
 
 /** A byte in two hexadecimal digits. */
-const hexadecimal = byte => byte.toString(16).toUpperCase().padStart(2, '0');
+export const hexadecimal = byte => byte.toString(16).toUpperCase().padStart(2, '0');
 
-class Wave {
+export class Wave {
+  /** @type {HTMLCanvasElement} */ canvas;
+  /** @type {(under: any) => void} */ onUnder;
+  /** @type {(index: number) => void} */ onChoose;
+
   /** `onUnder` is told what is under the pointer, `onChoose` the index of the frame that is chosen, or -1. */
   constructor(canvas, onUnder, onChoose) {
     Object.assign(this, { canvas, onUnder, onChoose, frames: [], edges: null, turns: [] });
@@ -28,6 +34,7 @@ class Wave {
     this.edges = edges;
     this.frames = frames;
     this.chosen = -1;
+    this.span = null;
     this.intervals = null;
     this.turns = WIRES.map(({ bit }) => {
       const times = [];
@@ -47,9 +54,10 @@ class Wave {
 
   /** The beginning of a long wave, or all of a short one. */
   front() {
-    const some = this.frames[Math.min(9, this.frames.length - 1)];
+    // (a frame's name wants some 70 pixels)
+    const room = Math.min(Math.max(Math.floor(this.width / 70), 3), 14), some = this.frames[Math.min(room - 2, 9, this.frames.length - 1)];
     this.moved = false;
-    this.see(this.begin, this.frames.length > 14 ? Math.min(some.end + 400, this.end) : this.end, false);
+    this.see(this.begin, this.frames.length > room ? Math.min(some.end + 400, this.end) : this.end, false);
   }
 
   all() { this.see(this.begin, this.end); }
@@ -72,6 +80,7 @@ class Wave {
   /** Chooses a frame, shows it, and tells. */
   choose(index, tell = true) {
     this.chosen = index;
+    this.span = null;
     const frame = this.frames[index];
     if (frame) {
       const end = Number.isFinite(frame.end) ? frame.end : frame.look + 1000, long = end - frame.look;
@@ -80,6 +89,13 @@ class Wave {
     }
     this.draw();
     if (tell) this.onChoose(index);
+  }
+
+  /** Shows a time as that of a line of the listing, or none. */
+  showSpan(span) {
+    this.span = span;
+    if (span && (span[0] < this.from || span[1] > this.to)) this.see(span[0] - (span[1] - span[0]) * .1, span[1] + (span[1] - span[0]) * .1);
+    this.draw();
   }
 
   // places
@@ -368,6 +384,13 @@ class Wave {
   }
 
   drawChosen({ band, bottom }) {
+    if (this.span) {
+      const [x, end] = this.span.map(moment => this.xOf(Math.min(moment, this.end)));
+      this.pen.fillStyle = this.ink('found');
+      this.pen.globalAlpha = .22;
+      this.pen.fillRect(x, 2, Math.max(end - x, 2), bottom);
+      this.pen.globalAlpha = 1;
+    }
     const frame = this.frames[this.chosen];
     if (!frame) return;
     const x = this.xOf(frame.look), end = this.xOf(Math.min(frame.end, this.end));

@@ -1,7 +1,7 @@
 // Traces of the bus and what is said of them: reads trace texts, recordings and the lines of `decode` into arrays.
 // What a recording says, and whether it is lawful, is `decode`'s; here stands only what the drawing needs.
 
-const ATN = 4, CLOCK = 2, DATA = 1;
+export const ATN = 4, CLOCK = 2, DATA = 1;
 
 /** The profile's bounds of the intervals of a byte, in microseconds, by their names in the lines of `decode`. */
 const BOUNDS = {
@@ -19,7 +19,7 @@ const DELAYS = {
  * The edges of a trace text up to its first bad line: `{ times, levels, starts }`. Times are microseconds, a level has
  * 4 for ATN, 2 for CLOCK and 1 for DATA where they are released, and `starts` says where the line of each edge begins.
  */
-function edgesOfText(bytes) {
+export function edgesOfText(bytes) {
   let count = 1;
   for (let i = 0; i < bytes.length; i++) if (bytes[i] === 10) count++;
   const times = new Float64Array(count), levels = new Uint8Array(count), starts = new Uint32Array(count + 1);
@@ -43,7 +43,7 @@ function edgesOfText(bytes) {
 }
 
 /** A trace text of the edges in front of an index. */
-function textOfEdges({ times, levels }, end) {
+export function textOfEdges({ times, levels }, end) {
   const lines = [];
   for (let i = 0; i < end; i++) lines.push(`${times[i]} ${levels[i] >> 2}${levels[i] >> 1 & 1}${levels[i] & 1}\n`);
   return new TextEncoder().encode(lines.join(''));
@@ -54,6 +54,10 @@ function textOfEdges({ times, levels }, end) {
  * that change a level.
  */
 class Gathering {
+  /** @type {number[]} */ times;
+  /** @type {number[]} */ levels;
+  inverted = false;
+  start = 0;
   constructor({ inverted = false, start = 0 }) { Object.assign(this, { times: [], levels: [], inverted, start }); }
   add(moment, bits) {
     const time = Math.max(moment - this.start, 0), level = parseInt(bits.join(''), 2) ^ (this.inverted ? 7 : 0);
@@ -66,41 +70,68 @@ class Gathering {
   edges() { return { times: Float64Array.from(this.times), levels: Uint8Array.from(this.levels) }; }
 }
 
-/** Which of some names is which of the signals looked for: their indices, -1 for one that is not there. CLK is CLOCK too. */
-function signalsIn(names, wanted) {
-  const plain = name => name.trim().replace(/^"(.*)"$/, '$1').trim().toUpperCase(), there = names.map(plain);
-  return wanted.map(name => {
-    const index = there.indexOf(plain(name));
-    return index < 0 && plain(name) === 'CLOCK' ? there.indexOf('CLK') : index;
+/** A name without white space and quotation marks, whose letters' case does not matter. */
+const plainName = name => name.replace(/["\s]/g, '').toUpperCase();
+
+/** Which of some signals have the names looked for: their indices, -1 for one that is not there. CLK is CLOCK too. */
+function signalsIn(names, wanted, has = (path, name) => path === name) {
+  const paths = names.map(plainName), indexOf = name => paths.findIndex(path => has(path, name));
+  return wanted.map(plainName).map(name => {
+    const index = indexOf(name);
+    return index < 0 && name === 'CLOCK' ? indexOf('CLK') : index;
   });
 }
 
-/** The edges of a table of samples, as far as it can be read, for the drawing alone. */
+/** The decimals of a second that a column of times counts, by its name, or null for another column. */
+function decimalsOf(name) {
+  const unit = /^(?:timestamp|time|t|)[^a-zµμ]*(s|sec|seconds?|ms|milliseconds?|us|µs|μs|microseconds?|ns|nanoseconds?|ps|picoseconds?|)[^a-z]*$/i.exec(name.replace(/["\s]/g, ''));
+  if (!unit || (!unit[1] && !/^["\s]*t/i.test(name))) return null;
+  return { m: unit[1].length === 2 || /^mil/i.test(unit[1]) ? 3 : 6, u: 6, 'µ': 6, 'μ': 6, n: 9, p: 12 }[unit[1][0]?.toLowerCase()] ?? 0;
+}
+
+/** The whole microseconds of a time with so many decimals of a second, rounded to the earlier one; null where it is none. */
+function microsOf(text, decimals) {
+  const found = /^([+-]?)(\d+)(?:\.(\d*))?(?:e([+-]?\d{1,3}))?$/i.exec(text);
+  if (!found) return null;
+  const [, sign, whole, part = '', exponent = '0'] = found, places = 6 - decimals - part.length + Number(exponent);
+  const digits = BigInt(whole + part), scale = 10n ** BigInt(Math.abs(places));
+  if (places >= 0) return Number(digits * scale) * (sign === '-' ? -1 : 1);
+  return sign === '-' ? -Number((digits + scale - 1n) / scale) : Number(digits / scale);
+}
+
+const unquoted = field => field.trim().replace(/^"(.*)"$/, '$1').trim();
+
+/** The edges of a table of samples, as far as it can be read here, for the drawing alone. */
 function edgesOfTable(text, ask) {
   const gathering = new Gathering(ask);
-  let columns = null;
+  let columns = null, separator = ',', decimals = null, rate = 0, count = 0, first = null;
   for (const line of text.split('\n')) {
-    if (!line.trim() || /^[;#]/.test(line)) continue;
-    const fields = line.replace(/\r$/, '').split(',').map(field => field.trim().replace(/^"(.*)"$/, '$1'));
+    const told = /samplerate:?\s*([\d.]+)\s*([kMG]?)(?:Hz)?\s*$/i.exec(line);
+    if (!columns && told) rate = Number(told[1]) * { '': 1, k: 1e3, m: 1e6, g: 1e9 }[told[2].toLowerCase()];
+    if (!line.trim() || /^\s*[;#]/.test(line) || /^META/.test(line)) continue;
+    if (!columns) separator = /[,;\t]/.exec(line)?.[0] ?? ',';
+    const fields = line.replace(/\r$/, '').split(separator).map(unquoted);
     if (!columns) {
-      columns = signalsIn(fields, ask.names);
-      if (columns.includes(-1)) break;
+      decimals = decimalsOf(fields[0]);
+      columns = signalsIn(decimals === null ? fields : ['', ...fields.slice(1)], ask.names);
+      if (columns.includes(-1) || (decimals === null && !rate)) break;
       continue;
     }
-    const moment = /^(\d+)(?:\.(\d*))?$/.exec(fields[0]);
-    const bits = columns.map(column => fields[column]);
-    if (!moment || bits.some(bit => bit !== '0' && bit !== '1')) break;
-    gathering.add(Number(moment[1]) * 1e6 + Number(((moment[2] || '') + '000000').slice(0, 6)), bits);
+    const moment = decimals === null ? Math.floor(count++ * 1e6 / rate) : microsOf(fields[0], decimals);
+    const bits = columns.map(column => /^[01lh](?:\.0*)?$/i.test(fields[column] ?? '') ? { l: '0', h: '1' }[fields[column][0].toLowerCase()] ?? fields[column][0] : null);
+    if (moment === null || bits.includes(null)) break;
+    first ??= Math.min(moment, 0);
+    gathering.add(moment - first, bits);
   }
   return gathering.edges();
 }
 
 const UNITS = { s: 1e15, ms: 1e12, us: 1e9, ns: 1e6, ps: 1e3, fs: 1 };
 
-/** The edges of a Value Change Dump, as far as it can be read, for the drawing alone. */
+/** The edges of a Value Change Dump, as far as it can be read here, for the drawing alone. */
 function edgesOfDump(text, ask) {
   const gathering = new Gathering(ask), words = text.split(/\s+/).filter(Boolean);
-  const names = [], codes = [];
+  const names = [], codes = [], scopes = [];
   let unit = 0, time = 0, i = 0;
   while (i < words.length && words[i] !== '$enddefinitions') {
     const from = i++;
@@ -109,28 +140,33 @@ function edgesOfDump(text, ask) {
     const said = words.slice(from + 1, i++);
     const scale = words[from] === '$timescale' && /^(10{0,2})(s|ms|us|ns|ps|fs)$/.exec(said.join(''));
     if (scale) unit = Number(scale[1]) * UNITS[scale[2]];
-    if (words[from] === '$var' && said[1] === '1') { codes.push(said[2]); names.push(said[3]); }
+    if (words[from] === '$scope') scopes.push(said[1] ?? '');
+    if (words[from] === '$upscope') scopes.pop();
+    if (words[from] === '$var' && said[1] === '1') { codes.push(said[2]); names.push([...scopes, said.slice(3).join('')].join('.')); }
   }
-  const wires = signalsIn(names, ask.names);
+  const wires = signalsIn(names, ask.names, (path, name) => path === name || path.endsWith(`.${name}`));
   if (wires.includes(-1) || !unit) return gathering.edges();
   const levels = [null, null, null];
   const change = (code, level) => {
-    wires.forEach((wire, line) => { if (codes[wire] === code) levels[line] = level; });
+    wires.forEach((wire, line) => { if (codes[wire] === code) levels[line] = { l: '0', h: '1' }[level.toLowerCase()] ?? level; });
     if (levels.every(known => known === '0' || known === '1')) gathering.add(time, levels);
   };
   for (; i < words.length; i++) {
     const word = words[i];
     if (word[0] === '#') time = Math.floor(Number(word.slice(1)) * unit / 1e9);
-    else if (/^[01xz]./i.test(word)) change(word.slice(1), word[0]);
+    else if (/^[01xzhl]./i.test(word)) change(word.slice(1), word[0]);
     else if (/^b/i.test(word)) change(words[++i], word.slice(1));
     else if (/^[rs]/i.test(word)) i++;
-    else if (word[0] === '$' && !/^\$(dumpvars|dumpall|dumpon|dumpoff|end)$/.test(word)) while (i < words.length && words[i] !== '$end') i++;
+    else if (word[0] === '$' && !/^\$(dumpvars|dumpall|dumpon|end)$/.test(word)) while (i < words.length && words[i] !== '$end') i++;
   }
   return gathering.edges();
 }
 
+/** Whether edges are those of frames: at the end of each frame is an edge. */
+export const haveFrames = ({ times }, frames) => frames.every(({ end }) => !Number.isFinite(end) || times[edgeAt(times, end)] === end);
+
 /** The edges of a recording in one of the formats of `decode`. */
-function edgesOf(ask) {
+export function edgesOf(ask) {
   if (ask.input === 'text') return edgesOfText(ask.bytes);
   const text = new TextDecoder('latin1').decode(ask.bytes);
   return ask.input === 'vcd' ? edgesOfDump(text, ask) : edgesOfTable(text, ask);
@@ -146,7 +182,7 @@ const INTERVAL = /^([a-z ]+): (?:none|(\d+), least (\d+), middle (over )?(\d+), 
  * fault, line }`: its moments in microseconds (`end` is Infinity where the recording ends before), `command`, `data` or
  * `glitch`, what it says, and the index of its line.
  */
-function readingsOf(text) {
+export function readingsOf(text) {
   const readings = { frames: [], counts: [], intervals: [], verdict: '' };
   let kind = 'command', found;
   text.split('\n').forEach((line, index) => {
@@ -180,7 +216,7 @@ function readingsOf(text) {
 }
 
 /** The index of the last edge at or in front of a moment, or -1. */
-function edgeAt(times, moment) {
+export function edgeAt(times, moment) {
   let low = 0, high = times.length;
   while (low < high) {
     const middle = (low + high) >> 1;
@@ -190,7 +226,7 @@ function edgeAt(times, moment) {
 }
 
 /** The index of the last frame that begins at or in front of a moment, or -1. */
-function frameAt(frames, moment) {
+export function frameAt(frames, moment) {
   let low = 0, high = frames.length;
   while (low < high) {
     const middle = (low + high) >> 1;
@@ -200,7 +236,7 @@ function frameAt(frames, moment) {
 }
 
 /** The intervals of a frame in order, as far as it comes: `{ name, from, to, line, bounds, bit }`, moments in microseconds. */
-function intervalsIn(frame, { times, levels }) {
+export function intervalsIn(frame, { times, levels }) {
   const parts = [];
   const part = (name, from, to, line, bit = 0) => parts.push({ name, from, to, line, bounds: BOUNDS[name], bit });
   let ready = null, pulse = null, pulseEnd = null, pull = null, release = null, bits = 0;
@@ -230,7 +266,7 @@ function intervalsIn(frame, { times, levels }) {
 }
 
 /** The named intervals between a frame's end and the next one's look, where a lawful trace has them. */
-function intervalsBetween(before, behind, { times, levels }) {
+export function intervalsBetween(before, behind, { times, levels }) {
   const parts = [];
   const part = (name, from, to, line, kind) => { if (to > from) parts.push({ name, from, to, line, bounds: DELAYS[kind] || null, bit: 0 }); };
   const from = before ? before.end : 0, to = behind ? behind.look : Infinity;
@@ -273,7 +309,7 @@ function intervalsBetween(before, behind, { times, levels }) {
  * and 5, from the trace of the same run at typical delays: in which order each party takes its numbers stands in
  * docs/DEFINITIONS.md.
  */
-function delayNumbers(greatest, present, frames, { times, levels }) {
+export function delayNumbers(greatest, present, frames, { times, levels }) {
   const kinds = [[], [], []], listens = [false, false];
   const printers = [0, 1].filter(p => present >> p & 1);
   const bits = Array(8).fill(['S', 'V']).flat();

@@ -1,9 +1,14 @@
 // Runs the module beside the page, so that nothing it does holds up typing. Each message is a job with what it is
 // asked; the answer goes back under the job's number. What was printed last is kept for the texts and the clicks.
 
+import { loadPrint1525 } from './module.mjs';
+import { marksMore, marksOf } from './sheets.js';
+import { delayNumbers, edgeAt, edgesOf, edgesOfText, haveFrames, readingsOf, textOfEdges } from './wire.js';
+
 let print1525 = null;
-const shown = { kind: '', ask: null, svg: '', lines: null };   // what is on paper
-const wire = { bytes: null, input: 'text', edges: null, frames: [], readings: null };
+const shown = { run: 0, kind: '', ask: null, svg: '', lines: null };   // what is on paper; `run` is the number of its print
+const wire = { run: 0, ask: null, bytes: null, input: 'text', edges: null, frames: [], readings: null };
+let running = 0;                                                       // the run of the job under way
 
 const text = bytes => new TextDecoder().decode(bytes);
 const lasting = () => [new Uint16Array(0), new Uint16Array(0), new Uint16Array(0)];
@@ -14,17 +19,39 @@ const answerOf = answer => {
   return { code, fault, line, statement, words: print1525.words(answer) };
 };
 
+/** The script that a listing says: itself, or what the module makes of petcat's text; or the answer that refuses it. */
+async function scriptOf({ script, form = 'text' }) {
+  if (form === 'text') return { script };
+  const answer = await print1525.listing({ bytes: script, form });
+  return answer.code ? { refused: { ...answerOf(answer), column: answer.column, told: '' } } : { script: answer.text };
+}
+
+/** Where the place that an explanation tells of a script stands in petcat's text: its line, and how many characters of that are in front of it. */
+async function placeInPetcat(told, listing) {
+  const [, line, column] = (/^ {2}line (\d+), column (\d+)/m.exec(told) || []).map(Number);
+  if (!line) return null;
+  const row = text(listing).split('\n')[line - 1] || '', encoder = new TextEncoder();
+  const lengthOf = async end => {
+    const front = row.slice(0, end).replace(/\{[^}]*$/, '');
+    return (await print1525.listing({ bytes: encoder.encode(front), form: 'petcat' })).text.length;
+  };
+  // (the text of a front ends with a line's end)
+  const last = await least(row.length, async end => await lengthOf(end + 1) > column);
+  return { line, from: row[last] === '}' ? row.lastIndexOf('{', last) : last };
+}
+
 /** What stands behind the papers in the lines of a run: each statement's status (1 where no device answered) and the screen's bytes. */
 function endOf(lines) {
   const numbers = name => {
     const from = `\n${lines}`.lastIndexOf(`\n${name}: `);        // a printed line has a sign in front
     return from < 0 ? [] : lines.slice(from + name.length + 2, lines.indexOf('.', from)).split(/\s+/);
   };
-  return { statuses: Uint8Array.from(numbers('Statuses'), status => status === '0' ? 0 : 1), screen: Uint8Array.from(numbers('Screen'), Number) };
+  return { statuses: Uint8Array.from(numbers('Statuses').map(status => status === '0' ? 0 : 1)), screen: Uint8Array.from(numbers('Screen').map(Number)) };
 }
 
 /** Prints on paper by one of the module's calls, as a picture, and keeps it. */
 function picture(kind, ask, answer) {
+  shown.run = running;
   shown.kind = kind;
   shown.ask = ask;
   shown.svg = text(answer.text);
@@ -48,11 +75,35 @@ async function least(count, isSo) {
   return low;
 }
 
+/** The edges of a recording for the drawing; none where it is not read here. */
+function edgesOrNone(ask) {
+  try { return edgesOf(ask); } catch { return { times: new Float64Array(0), levels: new Uint8Array(0) }; }
+}
+
 /** Keeps a recording, and gives its edges and what is said of it. */
-function keepWire(bytes, input, edges, readings) {
-  const { frames, counts, intervals, verdict } = readingsOf(text(readings));
-  Object.assign(wire, { bytes, input, edges, frames, readings });
-  return { times: edges.times.slice(), levels: edges.levels.slice(), frames, counts, intervals, verdict };
+function keepWire(bytes, input, read, readings) {
+  const { frames, counts, intervals, verdict } = readingsOf(text(readings)), isDrawn = haveFrames(read, frames);
+  const edges = isDrawn ? read : { times: new Float64Array(0), levels: new Uint8Array(0) };
+  Object.assign(wire, { run: running, bytes, input, edges, frames, readings });
+  return { times: edges.times.slice(), levels: edges.levels.slice(), frames, counts, intervals, verdict, isDrawn };
+}
+
+/** The first lines of the script that the wire shows, or how many lines it has. */
+function linesInFront(count, isCounted = false) {
+  const { script } = wire.ask;
+  let at = 0, lines = 0;
+  while (lines < count && at < script.length) {
+    const end = script.indexOf(10, at);
+    at = end < 0 ? script.length : end + 1;
+    lines++;
+  }
+  return isCounted ? lines : script.subarray(0, at);
+}
+
+/** The moment of the last edge that the first lines of the script make. */
+async function momentBehind(lines) {
+  const { times } = edgesOfText((await print1525.bus({ ...wire.ask, script: linesInFront(lines) })).text);
+  return times[times.length - 1] ?? 0;
 }
 
 const jobs = {
@@ -69,15 +120,31 @@ const jobs = {
 
   /** The sheets of a script's run as a picture, or why there are none. */
   async print(ask) {
-    const began = performance.now();
-    const run = { script: ask.script, printers: ask.printers, status: ask.status, delays: lasting() };
+    const began = performance.now(), { script, refused } = await scriptOf(ask);
+    if (refused) return { ...refused, milliseconds: performance.now() - began };
+    const run = { script, printers: ask.printers, status: ask.status, delays: lasting() };
     const pages = await print1525.pages({ ...run, format: 'svg' });
     const answer = answerOf(pages);
     if (pages.code <= 1) answer.svg = picture('script', run, pages);
     answer.milliseconds = performance.now() - began;
     if (pages.code === 1) answer.told = text((await print1525.explainStop({ ...run, stop: pages.fault, statement: pages.statement })).text);
-    if (pages.code === 2) answer.told = text((await print1525.explainScript({ script: ask.script })).text);
+    if (pages.code === 2) answer.told = text((await print1525.explainScript({ script })).text);
+    if (ask.form === 'petcat') {
+      answer.script = text(script);
+      if (pages.code === 2) answer.place = await placeInPetcat(answer.told, ask.script);
+    }
     return answer;
+  },
+
+  /** Whether a saved program and a listing of it in another form run to the same pages, or are refused by the same fault; or why it is no program. */
+  async isSame({ program, listing, form }) {
+    const saved = await print1525.listing({ bytes: program, form: 'prg' });
+    if (saved.code) return answerOf(saved);
+    const other = await print1525.listing({ bytes: listing, form });
+    const [one, two] = await Promise.all([saved, other].map(({ text }) => print1525.pages({ script: text, delays: lasting() })));
+    const texts = [one, two].map(answer => text(answer.text));
+    const isSame = !other.code && one.code === two.code && one.fault === two.fault && one.line === two.line && texts[0] === texts[1];
+    return { code: 0, isSame, script: text(saved.text) };
   },
 
   /** What stands behind the sheets of the script that is shown: each statement's status and the screen's bytes. */
@@ -87,7 +154,9 @@ const jobs = {
   },
 
   /** The trace of a script's run at some delays, and what it says. */
-  async trace({ script, printers, status, delays, extreme }) {
+  async trace({ printers, status, delays, extreme, script: listing, form }) {
+    const { script, refused } = await scriptOf({ script: listing, form });
+    if (refused) return refused;
     const run = { script, printers, status, delays: extreme ? lasting() : delays, format: 'text' };
     const decode = async bytes => (await print1525.decode({ bytes, input: 'text', output: 'readings' })).text;
     let bus = await print1525.bus(run);
@@ -98,7 +167,25 @@ const jobs = {
       bus = await print1525.bus(run);
       if (bus.code > 1) return answerOf(bus);
     }
-    return { ...answerOf(bus), ...keepWire(bus.text, 'text', edgesOfText(bus.text), await decode(bus.text)), delays: run.delays };
+    const kept = keepWire(bus.text, 'text', edgesOfText(bus.text), await decode(bus.text));
+    wire.ask = run;
+    return { ...answerOf(bus), ...kept, delays: run.delays };
+  },
+
+  /** What a line of the listing sends and prints: the first of its frames and the one behind the last, and its marks. */
+  async line({ line }) {
+    const [before, behind] = [await momentBehind(line), await momentBehind(line + 1)];
+    const frameAfter = moment => wire.frames.findIndex(frame => frame.end > moment), count = wire.frames.length;
+    const [from, to] = [before, behind].map(moment => (frameAfter(moment) < 0 ? count : frameAfter(moment)));
+    const pages = async lines => text((await print1525.pages({ ...wire.ask, script: linesInFront(lines), format: 'svg' })).text);
+    return { from, to, marks: marksMore(await pages(line), await pages(line + 1)) };
+  },
+
+  /** The line of the listing that sends a frame: the first with which the trace goes as far. */
+  async lineOf({ frame }) {
+    const { end } = wire.frames[frame], lines = linesInFront(Infinity, true);
+    const line = await least(lines, async number => await momentBehind(number) >= end);
+    return { line: line - 1 };
   },
 
   /**
@@ -107,7 +194,8 @@ const jobs = {
    */
   async recording(ask) {
     const said = await print1525.decode({ ...ask, output: 'readings' });
-    const answer = { ...answerOf(said), ...keepWire(ask.bytes, ask.input, edgesOf(ask), said.text) };
+    /** @type {any} */
+    const answer = { ...answerOf(said), ...keepWire(ask.bytes, ask.input, edgesOrNone(ask), said.text) };
     const pages = await print1525.decode({ ...ask, output: 'svg' });
     if (pages.text.length) answer.svg = picture('recording', ask, pages);
     if (said.code === 2) answer.told = text((await print1525.explainReading(ask)).text);
@@ -135,6 +223,7 @@ const jobs = {
 
   /** The marks that a frame's byte makes: those that the pages have with its last edge and not without it. */
   async marks({ frame }) {
+    if (!wire.edges.times.length) return null;
     const edge = edgeAt(wire.edges.times, wire.frames[frame].end);
     return marksMore(await pagesBefore(edge), await pagesBefore(edge + 1));
   },
@@ -148,14 +237,24 @@ const jobs = {
       const raw = async end => text((await print1525.raw({ bytes: bytes.subarray(0, end), set, format: 'svg' })).text);
       return { byte: await least(bytes.length, async end => count(await raw(end)) >= often) - 1 };
     }
+    if (!wire.edges.times.length) return { frame: -1 };
     const heard = wire.frames.flatMap((frame, index) => frame.fault ? [] : [index]);
     const found = await least(heard.length, async n => count(await pagesBefore(edgeAt(wire.edges.times, wire.frames[heard[n]].end) + 1)) >= often);
     return { frame: heard[found] ?? -1 };
   },
 };
 
-onmessage = async ({ data: { number, job, ask } }) => {
+/** Whether a job asks for what another run shows by now. A run's trace belongs to its sheets; frames and marks belong to its trace. */
+function isLate(job, ask, run) {
+  if (['end', 'trace', 'byte'].includes(job)) return run !== shown.run;
+  if (['marks', 'line', 'lineOf'].includes(job) || (job === 'text' && ['trace', 'readings'].includes(ask.what))) return run !== wire.run;
+  return job === 'text' && run !== shown.run;
+}
+
+onmessage = async ({ data: { number, job, ask, run } }) => {
   try {
+    if (isLate(job, ask, run)) { postMessage({ number, answer: null }); return; }
+    running = run;
     postMessage({ number, answer: await jobs[job](ask) });
   } catch (error) {
     postMessage({ number, error: error instanceof Error ? error.message : String(error) });

@@ -32,11 +32,11 @@ far_placed part (l, ls, inr (inl h)) = inr (inl (h.0, λ rest e. h.1 (cc)))
 far_placed part (l, ls, inr (inr (inl h))) = inr (inr (inl h))
 far_placed part (l, ls, inr (inr (inr h))) = inr (inr (inr (h.0, h.1, h.2, λ rest e. h.3 (cc))))
 
--- no device stands behind a comma that is missing
+-- no device is after a comma that is missing
 no_comma : (ls : List Lexeme) → Lacks Comma ls → (rest : List Lexeme) → ls ≡ Comma ∷ rest → NoNumber 4 30 rest
 no_comma ls h rest e = absurd (h rest e)
 
--- or behind one that stands there
+-- or after one that is there
 no_device : (ls : List Lexeme) → NoNumber 4 30 ls → (rest : List Lexeme) → Comma ∷ ls ≡ Comma ∷ rest → NoNumber 4 30 rest
 no_device ls h rest e =
     let same : ls ≡ rest = cc in

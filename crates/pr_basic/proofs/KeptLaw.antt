@@ -40,7 +40,7 @@ pub status_exactly : ItemsOnlyGrow → LackingInTwoParts → (mode : StatusMode)
 status_exactly grow two_parts Each present before es = refl
 status_exactly grow two_parts Kept present before es = kept_status grow two_parts present before es
 
--- what stands after a front
+-- what is after a front
 dropped_front : (xs ys : List Item) → drop (length xs) (xs ++ ys) ≡ ys
 dropped_front [] ys = refl
 dropped_front (x ∷ xs) ys = dropped_front xs ys

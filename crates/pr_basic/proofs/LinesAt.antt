@@ -91,13 +91,13 @@ one_cut place base (x ∷ xs) (y ∷ ys) line other after behind h a b c d =
     let r = one_cut place (base + suc (length x)) xs ys line other after behind more (omega (arith, a)) (omega (arith, b)) (omega (arith, c, size)) (omega (arith, d, size)) in
     (ap (λ v. v ∷ xs) first ∙ ap (λ v. y ∷ v) r.0, r.1)
 
--- a place stands in one line
+-- a place is in one line
 pub one_line : PlacesHaveOneLine
 one_line text place start begin line other number count h k =
     let r = one_cut place 0 h.before k.before line other h.after k.after (sym h.cut ∙ k.cut) (omega (arith, h.from, h.begins)) (omega (arith, h.to, h.begins)) (omega (arith, k.from, k.begins)) (omega (arith, k.to, k.begins)) in
     (h.begins ∙ ap size_of r.0 ∙ sym k.begins, r.1, h.numbered ∙ ap (λ v. suc (length v)) r.0 ∙ sym k.numbered)
 
--- a first fault stands in the line whose number it tells
+-- a first fault is in the line whose number it tells
 pub told : FaultsTellTheirLine
 told bytes fault place (f, number, g, e) =
     let short : g.column ≤ length (without_return g.line) = column_within _ f g.column (without_return g.line) g.fault in (
@@ -117,7 +117,7 @@ told bytes fault place (f, number, g, e) =
       e ∙ ap (at_number f) (omega arith),
     )
 
--- a number that stands first
+-- a number that is first
 pub number_first : (line rest ds : List ℕ) (n : ℕ) → lexemes_of line ≡ Digits ds ∷ lexemes_of rest → n ≡ min (number_of ds) 100000 → n ≤ 63999 → HasBasicNumber line n
 number_first line rest ds n h is small =
     let same : number_of ds ≡ n = omega (arith, is, small) in
@@ -146,7 +146,7 @@ pub lexeme_here : (bytes : List ℕ) (n : ℕ) → NoSpace bytes → 0 < length 
 lexeme_here [] n none some h = absurd (omega arith)
 lexeme_here (b ∷ bs) n none some h = rw h ((front (b ∷ bs)).0, drop (front (b ∷ bs)).1 (b ∷ bs), sym (take-append-drop (front (b ∷ bs)).1 (b ∷ bs)), front_lexeme b bs none)
 
--- no space stands first where the first byte is none
+-- no space is first where the first byte is none
 pub first_no_space : (bs : List ℕ) → 0 < length bs → is_space (get_or bs 0 0) ≡ false → NoSpace bs
 first_no_space [] some h = absurd (omega arith)
 first_no_space (b ∷ bs) some h = h
@@ -164,6 +164,6 @@ not_digits the.OpenParen ls h ds rest e = cc
 not_digits the.CloseParen ls h ds rest e = cc
 not_digits the.Stray ls h ds rest e = cc
 
--- no number stands where no lexeme does
+-- no number is where no lexeme does
 pub nothing_first : (ls : List Lexeme) → ls ≡ [] → (ds : List ℕ) (rest : List Lexeme) → ls ≡ Digits ds ∷ rest → ⊥
 nothing_first ls h ds rest e = let k : [] ≡ Digits ds ∷ rest = sym h ∙ e in cc

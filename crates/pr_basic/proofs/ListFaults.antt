@@ -61,7 +61,7 @@ string_fails bytes s rest f few h = cases (nat_lt 255 (length bytes + prefix_len
         subst P same (inl (c.good, c.b, c.more, rest, ap (λ v. Quoted v ∷ rest) c.cut, c.all, c.test, omega (arith, c.size, short), ap (within (Quoted s ∷ rest)) at))
     cases false e false k = let is : string_added (Quoted s ∷ rest) bytes s ≡ Ok (bytes ++ s) = rw (e, k) refl in absurd (cc)
 
--- a fault of a list that stands already in part
+-- a fault of a list that is already in part
 at_once : (f : Placed) (n : ℕ) (ls : List Lexeme) → n ≤ 255 → IsItemFault f n ls → IsListFault f n ls
 at_once f n ls few h = record {
   items = [];
@@ -204,7 +204,7 @@ long_string at bytes good b more all fine full =
     let left : 1 + (255 - length bytes) ≡ 1 + length good = omega (arith, full) in
     rw (long, left) refl
 
--- the byte of a CHR$ where 255 stand already
+-- the byte of a CHR$ where 255 are already
 full_read : (bytes : List ℕ) (ends : Bool) (ds : List ℕ) (ls : List Lexeme) → nat_le (number_of ds) 255 ≡ true → length bytes ≡ 255 → line_in bytes ends (Word word.Chr ∷ OpenParen ∷ Digits ds ∷ CloseParen ∷ ls) ≡ Err (TooLong, start_of (Word word.Chr ∷ OpenParen ∷ Digits ds ∷ CloseParen ∷ ls))
 unfolding line_in byte_added
 full_read bytes ends ds ls small full =

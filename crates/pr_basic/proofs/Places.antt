@@ -30,7 +30,7 @@ rest_on rest more bs h k = record {
   goes_on = k.goes_on ∙ ap (λ v. k.gone ++ v) h.goes_on ∙ sym (append_assoc k.gone h.gone (here rest));
 }
 
--- a colon behind the part at the front
+-- a colon after the part at the front
 pub past_colon : (more rest bs : List ℕ) → IsRest rest bs → here rest ≡ [] → more ≡ after_first rest → more ≡ past (suc (length (here bs))) bs
 unfolding past
 past_colon more rest bs h none is =

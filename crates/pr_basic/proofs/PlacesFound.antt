@@ -63,7 +63,7 @@ begins_past line (l ∷ ls) left h =
     let one : after_first line ≡ h.2 = left_after line h.0 h.1 h.2 l h.3 h.4 h.5 in
     begins_past h.2 ls left h.6 ∙ ap (λ v. unspaced (past (length ls) v)) (sym one)
 
--- the lexemes behind spaces
+-- the lexemes after spaces
 pub lexemes_unspaced : (line : List ℕ) → lexemes_of line ≡ lexemes_of (unspaced line)
 lexemes_unspaced line = let c = spaces_cut line in ap lexemes_of c.cut ∙ spaces_read c.spaces (unspaced line) c.all
 
@@ -121,7 +121,7 @@ past_lexemes (l ∷ ls) more line h = let f = first_of line l (ls ++ more) h in 
 pub unspaced_within : (line : List ℕ) → length (unspaced line) ≤ length line
 unspaced_within line = let c = spaces_cut line in omega (arith, ap length c.cut, length-append c.spaces (unspaced line))
 
--- no more is left than there was, after so many lexemes
+-- no more is left than there was, after this many lexemes
 pub past_within : (n : ℕ) (line : List ℕ) → length (past n line) ≤ length line
 unfolding past
 past_within zero line = omega arith

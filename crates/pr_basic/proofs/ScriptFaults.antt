@@ -1,4 +1,4 @@
--- The first fault that is read is the script's first fault, and stands at its place.
+-- The first fault that is read is the script's first fault, and is at its place.
 use Rattle.std.proofs.Common.{◌≡◌, ℕ, zero, suc, ◌+◌, ◌-◌, ◌<◌, ◌≤◌, List, [], ◌∷◌, ◌++◌, length, take, refl, ap, subst, sym, ◌∙◌, arith, Bool, true, false, append_assoc, Option, Some, None, Result, Ok, Err, length-append, ◌⊎◌, inl, inr}
 use Rattle.std.specs.Prelude.{nat_le}
 use Rattle.std.proofs.lemmas.Grind.{common_steps}
@@ -66,7 +66,7 @@ in_part_err part (Err (g, spot)) f at h =
     let place = ap (λ (p : LineFault × Passed). p.1) same in
     (spot, ap (λ v. Err (v, spot)) fault, ap (λ (p : Passed). p.done) (sym place), ap (λ (p : Passed). p.inside) (sym place))
 
--- a fault that is told behind lexemes
+-- a fault that is told after lexemes
 behind_err : {A : Type 0} (front : List Lexeme) (r : Result A (LineFault × Passed)) (f : LineFault) (at : Passed) → behind front r ≡ Err (f, at)
     → (there : Passed) × (r ≡ Err (f, there)) × (at.done ≡ front ++ there.done) × (at.inside ≡ there.inside)
 behind_err front (Ok x) f at h = absurd (cc)
@@ -283,7 +283,7 @@ cut_at room f done inside ls (inr h) =
       fits = s.fits;
     }
 
--- what stands inside a string is left
+-- what is inside a string is left
 inside_left : (line : List ℕ) (next more : List Lexeme) (inside : ℕ) → lexemes_of line ≡ next ++ more → Fits (within next inside) → inside ≤ length (unspaced line)
 inside_left line next more inside h k = cases k.fits
   where
@@ -375,7 +375,7 @@ at_line_read : {A : Type 0} (n start : ℕ) (r : Result A (LineFault × ℕ)) (x
 at_line_read n start (Ok y) x h = let k : y ≡ x = cc in ap Ok k
 at_line_read n start (Err e) x h = absurd (cc)
 
--- what is put behind statements fails where it fails
+-- what is put after statements fails where it fails
 more_err : {E : Type 0} (r : Result (List Statement) E) (ss : List Statement) (e : E) → (r >>= λ more. Ok (ss ++ more)) ≡ Err e → r ≡ Err e
 more_err (Ok x) ss e h = absurd (cc)
 more_err (Err f) ss e h = let k : f ≡ e = cc in ap Err k
@@ -440,7 +440,7 @@ line_told n start room f column l ls h = told (line_statements room l) h
         → (at_line n start r >>= λ ss. lines_statements (n + 1) (start + suc (length l)) (room - length ss) ls >>= λ more. Ok (ss ++ more)) ≡ Err (record { fault = f; number = n; place = start + column })
     told r e = rw e refl
 
--- a fault behind a line is told
+-- a fault after a line is told
 later_told : (n start room : ℕ) (e : ScriptError) (l : List ℕ) (ls : List (List ℕ)) (ss : List Statement) → line_statements room l ≡ Ok ss → lines_statements (n + 1) (start + suc (length l)) (room - length ss) ls ≡ Err e → lines_statements n start room (l ∷ ls) ≡ Err e
 unfolding lines_statements
 later_told n start room e l ls ss h k = told (line_statements room l) h

@@ -79,7 +79,7 @@ pub none_more : (r : Said) → (r >>= λ ss. Ok (and_more None ss)) ≡ r
 none_more (Ok ss) = refl
 none_more (Err e) = refl
 
--- one statement more stands in front
+-- one statement more is in front
 one_more : (old : List Statement) (s : Statement) (r : Said) → with_front old (r >>= λ ss. Ok (and_more (Some s) ss)) ≡ with_front (old ++ s ∷ []) r
 one_more old s (Ok ss) = ap Ok (sym (append_assoc old (s ∷ []) ss))
 one_more old s (Err e) = refl
@@ -120,7 +120,7 @@ part_fails room bs rest f inside r h = unless_then f _ _ one h
 pub memory_fails : (f : LineFault) (P : Type 0) → f ≡ line.NoMemory → UnlessMemory f P
 memory_fails f P h = rw h tt
 
--- what fails behind statements fails
+-- what fails after statements fails
 pub front_err : {E : Type 0} (old : List Statement) (r : Result (List Statement) E) (e : E) → with_front old r ≡ Err e → r ≡ Err e
 front_err old (Ok ss) e h = absurd (cc)
 front_err old (Err f) e h = h
@@ -142,7 +142,7 @@ pub number_fails : (room : ℕ) (f : LineFault) (rest : List ℕ) (inside : ℕ)
 unfolding past
 number_fails room f rest inside line h k = unless_of f _ (record { done = []; told = rw h refl; left = k })
 
--- what is behind lexemes is behind those before them too
+-- what is after lexemes is after those before them too
 behind_on : (done d : List Lexeme) (now new : List Statement) (a b : Said) → with_front now a ≡ with_front new (behind d b) → with_front now (behind done a) ≡ with_front new (behind (done ++ d) b)
 behind_on done d now new (Ok x) (Ok y) h = h
 behind_on done d now new (Ok x) (Err e) h = absurd (cc)
@@ -216,7 +216,7 @@ script_fails whole now n start room l lines ls f column h k fails = unless_then 
         h ∙ ap (λ v. with_front now (lines_statements n start room v)) k
         ∙ told (line_statements room l) (λ ss. lines_statements (n + 1) (start + suc (length l)) (room - length ss) ls >>= λ more. Ok (ss ++ more)) j
 
--- lines behind statements
+-- lines after statements
 then_front : (old ss : List Statement) (r : Result (List Statement) ScriptError) → with_front old (r >>= λ more. Ok (ss ++ more)) ≡ with_front (old ++ ss) r
 then_front old ss (Ok more) = ap Ok (sym (append_assoc old ss more))
 then_front old ss (Err e) = refl

@@ -19,7 +19,7 @@ use Rattle.pr_basic.proofs.ListsAgree.{bind_ok}
 use Rattle.pr_basic.proofs.ScriptLaws.{no_part_counted, no_room}
 use Rattle.pr_basic.proofs.StatementsAgree.{no_statement, statement_complete, statement_sound}
 
--- where there is room, a part is read as it stands
+-- where there is room, a part is read as it is
 pub counted_more : (room : ℕ) (p : List Lexeme) → 0 < room → counted room p ≡ statement_in p
 counted_more room p h = grind (arith, common_steps)
 
@@ -28,7 +28,7 @@ pub counted_some : (room : ℕ) (p : List Lexeme) (s : Statement) → counted ro
 counted_some zero p s h = absurd (no_room p s h)
 counted_some (suc room) p s h = (sym (counted_more (suc room) p (omega arith)) ∙ h, omega arith)
 
--- where no statement is counted, nothing stands
+-- where no statement is counted, nothing is
 pub counted_none : (room : ℕ) (p : List Lexeme) → counted room p ≡ Ok None → p ≡ []
 counted_none zero p h = cases (is_begun p) refl
   where
@@ -64,7 +64,7 @@ in_part_ok : {A : Type 0} (p : List Lexeme) (r : Result A Placed) (x : A) → in
 in_part_ok p (Ok y) x h = let e : y ≡ x = grind arith in ap Ok e
 in_part_ok p (Err e) x h = absurd (cc)
 
--- what is told behind lexemes was read
+-- what is told after lexemes was read
 behind_ok : {A : Type 0} (front : List Lexeme) (r : Result A (LineFault × Passed)) (x : A) → behind front r ≡ Ok x → r ≡ Ok x
 behind_ok front (Ok y) x h = let e : y ≡ x = grind arith in ap Ok e
 behind_ok front (Err e) x h = absurd (cc)
@@ -105,7 +105,7 @@ parts_complete room (p ∷ ps) ss (inr h) few =
 ok_pair : (a b : List Lexeme × List Lexeme) (r : Result (List Lexeme × List Lexeme) (LineFault × Passed)) → r ≡ Ok a → r ≡ Ok b → a ≡ b
 ok_pair a b r h k = cc
 
--- a line number that is read stands there
+-- a line number that is read is there
 pub numbered_sound : (ls number rest : List Lexeme) → split_number ls ≡ Ok (number, rest) → HasNumber ls rest × (ls ≡ number ++ rest)
 unfolding split_number
 numbered_sound (Digits ds ∷ ls) number rest h = cases (nat_le (number_of ds) 63999) refl
@@ -132,7 +132,7 @@ numbered_sound (l ∷ ls) number rest h =
     let more : l ∷ ls ≡ rest = ap (λ (q : List Lexeme × List Lexeme). q.1) same in
     (inl (more, λ ds m k. cc), more ∙ ap (λ v. v ++ rest) front)
 
--- where no digits stand first, there is no line number
+-- where no digits are first, there is no line number
 unnumbered : (ls : List Lexeme) → ((ds : List ℕ) (more : List Lexeme) → ls ≡ Digits ds ∷ more → ⊥) → split_number ls ≡ Ok ([], ls)
 unfolding split_number
 unnumbered (Digits ds ∷ ls) h = absurd (h ds ls refl)
@@ -146,7 +146,7 @@ small_number ds rest h =
     let small : nat_le (number_of ds) 63999 ≡ true = grind (arith, common_steps) in
     rw small refl
 
--- a line number that stands there is read
+-- a line number that is there is read
 pub numbered_complete : (ls rest : List Lexeme) → HasNumber ls rest → (number : List Lexeme) × (split_number ls ≡ Ok (number, rest)) × (ls ≡ number ++ rest)
 numbered_complete ls rest (inl h) = ([], unnumbered ls h.1 ∙ ap (λ v. Ok ([], v)) h.0, h.0)
 numbered_complete ls rest (inr k) = (Digits k.0 ∷ [], ap split_number k.1 ∙ small_number k.0 rest k.2, k.1)

@@ -12,7 +12,7 @@ use Rattle.pr_base.specs.Digits.{is_digit}
 use Rattle.pr_basic.specs.Lexing.{begins, front, text_front, word_front}
 use Rattle.pr_basic.specs.declared.lexemes.Keyword.TheVariants as word
 
--- how a test for a word computes where another word's letters stand
+-- how a test for a word computes where another word's letters are
 begins_as : (bs rest w v : List ℕ) → map to_ascii_lowercase bs ≡ w → begins (bs ++ rest) v ≡ bytes_eq (take (length v) (w ++ map to_ascii_lowercase rest)) v
 begins_as bs rest w v h =
     ap (λ x. bytes_eq x v) (sym (take-map to_ascii_lowercase (length v) (bs ++ rest)) ∙ ap (take (length v)) (map-append to_ascii_lowercase bs rest ∙ ap (λ x. x ++ map to_ascii_lowercase rest) h))

@@ -13,7 +13,7 @@ pub record EndsWith (part next : List Lexeme) : Type 0 where
   pub front : List Lexeme
   pub cut : part ≡ front ++ next
 
--- bytes of the next lexeme stand before a place in a string alone
+-- bytes of the next lexeme come before a place in a string alone
 pub record Fits (spot : Spot) : Type 0 where
   pub fits : (spot.inside ≡ 0) ⊎ ((s : List ℕ) × (ls : List Lexeme) × (spot.next ≡ Quoted s ∷ ls) × (spot.inside ≤ suc (length s)))
 

@@ -15,13 +15,13 @@ use Rattle.pr_basic.specs.declared.statement.Statement.TheVariants.{OpenFile, Cl
 use Rattle.pr_basic.proofs.ListFaults.{bind_err, err_is, list_fails}
 use Rattle.pr_basic.proofs.StatementsAgree.{comma_parts, number_parts, second_parts}
 
--- a number that is read stands there
+-- a number that is read is there
 number_stands : (low high : ℕ) (m o : LineFault) (ls : List Lexeme) (p : ℕ × List Lexeme) → number_in low high m o ls ≡ Ok p → Number low high ls p.1
 number_stands low high m o ls p h =
     let k = number_parts low high m o ls p.0 p.1 h in
     (k.0, k.1, omega (arith, k.2.0, k.2.1), omega (arith, k.2.0, k.2.2))
 
--- a number that stands there is read
+-- a number that is there is read
 pub number_read : (low high : ℕ) (m o : LineFault) (ls rest : List Lexeme) (h : Number low high ls rest) → number_in low high m o ls ≡ Ok (number_of h.0, rest)
 unfolding number_in
 number_read low high m o ls rest h =
@@ -41,12 +41,12 @@ number_fault low high e f (Digits ds ∷ ls) h = cases (nat_le low (number_of ds
 number_fault low high e f [] h = err_is _ f _ refl h
 number_fault low high e f (l ∷ ls) h = err_is (e, start_of (l ∷ ls)) f (number_in low high e e (l ∷ ls)) refl h
 
--- where no number is read, none stands
+-- where no number is read, none is
 number_fails : (low high : ℕ) (e : LineFault) (f : Placed) (ls : List Lexeme) → number_in low high e e ls ≡ Err f → ((e, start_of ls) ≡ f) × NoNumber low high ls
 number_fails low high e f ls h =
     (number_fault low high e f ls h, λ rest k. let r : number_in low high e e ls ≡ Ok (number_of k.0, rest) = number_read low high e e ls rest k in cc)
 
--- where no number stands, none is read
+-- where no number is, none is read
 pub no_number_read : (low high : ℕ) (e : LineFault) (ls : List Lexeme) → NoNumber low high ls → number_in low high e e ls ≡ Err (e, start_of ls)
 unfolding number_in
 no_number_read low high e [] h = refl

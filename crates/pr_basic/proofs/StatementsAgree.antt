@@ -15,7 +15,7 @@ use Rattle.pr_basic.specs.declared.statement.Statement.{Statement}
 use Rattle.pr_basic.specs.declared.statement.Statement.TheVariants.{OpenFile, CloseFile, Cmd, PrintTo, Print, Rem}
 use Rattle.pr_basic.proofs.ListsAgree.{bind_ok, list_complete, list_sound}
 
--- a number that is read stands there
+-- a number that is read is there
 pub number_parts : (low high : ℕ) (m o : LineFault) (ls : List Lexeme) (n : ℕ) (rest : List Lexeme) → number_in low high m o ls ≡ Ok (n, rest) → (ds : List ℕ) × (ls ≡ Digits ds ∷ rest) × IsNumber low high n ds
 unfolding number_in
 number_parts low high m o (Digits ds ∷ ls) n rest h =
@@ -27,25 +27,25 @@ number_parts low high m o (Digits ds ∷ ls) n rest h =
 number_parts low high m o [] n rest h = absurd (cc)
 number_parts low high m o (l ∷ ls) n rest h = absurd (cc)
 
--- a number that stands there is read
+-- a number that is there is read
 pub number_given : (low high : ℕ) (m o : LineFault) (ds : List ℕ) (n : ℕ) (rest : List Lexeme) → IsNumber low high n ds → number_in low high m o (Digits ds ∷ rest) ≡ Ok (n, rest)
 unfolding number_in
 number_given low high m o ds n rest h = grind (arith, common_steps, h.0, h.1, h.2)
 
--- a comma that is passed stands there
+-- a comma that is passed is there
 pub comma_parts : (m : LineFault) (ls rest : List Lexeme) → comma_in m ls ≡ Ok rest → ls ≡ Comma ∷ rest
 unfolding comma_in
 comma_parts m (Comma ∷ ls) rest h = let e : ls ≡ rest = grind arith in ap (λ x. Comma ∷ x) e
 comma_parts m [] rest h = absurd (cc)
 comma_parts m (l ∷ ls) rest h = absurd (cc)
 
--- nothing more stands there
+-- nothing more is there
 pub ended_parts : (s t : Statement) (ls : List Lexeme) → ended s ls ≡ Ok t → (ls ≡ []) × (s ≡ t)
 unfolding ended
 ended_parts s t [] h = (refl, grind arith)
 ended_parts s t (l ∷ ls) h = absurd (cc)
 
--- what is read after the device: nothing, where no comma stands, or a secondary address
+-- what is read after the device: nothing, where no comma is, or a secondary address
 pub second_parts : (ls : List Lexeme) (o : Option ℕ) (rest : List Lexeme) → second_in ls ≡ Ok (o, rest)
     → ((None ≡ o) × (ls ≡ rest) × Lacks Comma ls) ⊎ ((d : List ℕ) × (n : ℕ) × (ls ≡ Comma ∷ Digits d ∷ rest) × IsNumber 0 15 n d × (Some n ≡ o))
 unfolding second_in
@@ -181,7 +181,7 @@ statement_sound (Word word.PrintTo ∷ ls) s h = print_to_sound ls s (some_of (p
 statement_sound (Word word.Print ∷ ls) s h = print_sound ls s (some_of (print_in ls) s h)
 statement_sound (l ∷ ls) s h = absurd (cc)
 
--- where no statement is read, nothing stands
+-- where no statement is read, nothing is
 pub no_statement : (ls : List Lexeme) → statement_in ls ≡ Ok None → ls ≡ []
 unfolding statement_in
 no_statement [] h = refl

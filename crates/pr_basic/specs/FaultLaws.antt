@@ -13,13 +13,13 @@ PlacesChangeNoFault = (bytes : List ℕ) (fault : ScriptFault)
     → (IsFirstFault bytes fault → IsFirstFaultAlone bytes fault)
     × (IsFirstFaultAlone bytes fault → IsFirstFault bytes fault)
 
--- the first fault of a text stands in a line, whose number it tells
+-- the first fault of a text is in a line, whose number it tells
 abbrev pub FaultsTellTheirLine : Type 0
 FaultsTellTheirLine = (bytes : List ℕ) (fault : ScriptFault) (place : ℕ) → IsFirstFaultAt bytes fault place
     → (f : LineFault) × (start : ℕ) × (line : List ℕ) × (number : ℕ) × IsLineAt bytes place start line number
     × (fault ≡ at_number f number)
 
--- a place stands in one line
+-- a place is in one line
 abbrev pub PlacesHaveOneLine : Type 0
 PlacesHaveOneLine = (text : List ℕ) (place start begin : ℕ) (line other : List ℕ) (number count : ℕ)
     → IsLineAt text place start line number → IsLineAt text place begin other count → (start ≡ begin) × (line ≡ other)

@@ -41,7 +41,7 @@ IsFaultOutsideListsAlone BadDevice part = (ls : List Lexeme) × AfterFile word.O
 IsFaultOutsideListsAlone BadSecond part = (ls : List Lexeme) × AfterDevice part (Comma ∷ ls) × NoNumber 0 15 ls
 IsFaultOutsideListsAlone f part = ⊥
 
--- the faults of a list's next item, after so many bytes of the list
+-- the faults of a list's next item, after this many bytes of the list
 abbrev pub IsItemFaultAlone : LineFault → ℕ → List Lexeme → Type 0
 -- what begins no item; a missing parenthesis
 IsItemFaultAlone UnknownWord n next =
@@ -58,7 +58,7 @@ IsItemFaultAlone BadByte n next =
     × (list_all is_printable good ≡ true) × (is_printable b ≡ false) × (n + length good ≤ byte_limit))
     ⊎ ((ds : List ℕ) × (rest : List Lexeme) × (next ≡ Word word.Chr ∷ OpenParen ∷ Digits ds ∷ rest)
     × (255 < number_of ds))
--- the 256th byte: one of a string that may stand there, or that of a whole CHR$
+-- the 256th byte: one of a string that may be there, or that of a whole CHR$
 IsItemFaultAlone TooLong n next =
     ((good : List ℕ) × (b : ℕ) × (more : List ℕ) × (rest : List Lexeme) × (next ≡ Quoted (good ++ b ∷ more) ∷ rest)
     × (list_all is_printable good ≡ true) × (is_printable b ≡ true) × (n + length good ≡ byte_limit))
@@ -66,7 +66,7 @@ IsItemFaultAlone TooLong n next =
     × (number_of ds ≤ 255) × (n ≡ byte_limit))
 IsItemFaultAlone f n next = ⊥
 
--- good items, of at most 255 bytes, and then a fault, in a list of which so many bytes stand already
+-- good items, of at most 255 bytes, and then a fault, in a list of which this many bytes are already
 pub record IsListFaultAlone (f : LineFault) (n : ℕ) (list : List Lexeme) : Type 0 where
   pub items : List Item
   pub next : List Lexeme
@@ -80,7 +80,7 @@ abbrev pub IsStatementFaultAlone : LineFault → List Lexeme → Type 0
 IsStatementFaultAlone f part =
     IsFaultOutsideListsAlone f part ⊎ ((list : List Lexeme) × HasList part list × IsListFaultAlone f 0 list)
 
--- the first fault of a part of a line, where there is room for so many more statements: where there is none, a statement's keyword is one
+-- the first fault of a part of a line, where there is room for this many more statements: where there is none, a statement's keyword is one
 abbrev pub IsPartFaultAlone : ℕ → LineFault → List Lexeme → Type 0
 IsPartFaultAlone room f part = ((f ≡ TooMany) × (room ≡ 0) × BeginsStatement part)
     ⊎ (IsStatementFaultAlone f part × (room ≡ 0 → BeginsStatement part → ⊥))

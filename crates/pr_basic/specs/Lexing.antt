@@ -87,7 +87,7 @@ unspaced (b ∷ bs) = if is_space b then unspaced bs else b ∷ bs
 abbrev pub after_first : List ℕ → List ℕ
 after_first bs = drop (front (unspaced bs)).1 (unspaced bs)
 
--- the bytes after so many lexemes
+-- the bytes after this many lexemes
 unfoldable pub past : ℕ → List ℕ → List ℕ
 past zero bs = bs
 past (suc n) bs = past n (after_first bs)

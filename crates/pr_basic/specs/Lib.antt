@@ -13,6 +13,7 @@ pub mod FaultsAlone
 pub mod LineAt
 pub mod FaultLaws
 pub mod Lexing
+pub mod LexemeLaws
 pub mod Reading
 pub mod ReadingScripts
 pub mod Reads

@@ -13,7 +13,7 @@ use Rattle.pr_basic.specs.Text.{Text}
 use Rattle.pr_basic.specs.declared.statement.Statement.{Statement}
 use Rattle.pr_basic.specs.Statements.{Setting, Effect, status_of, commanding, effect_of}
 
--- what stands before a statement, as the channels and the channel number show it
+-- what comes before a statement, as the channels and the channel number show it
 abbrev pub setting_of : Seen → ℕ → Setting
 setting_of seen channel = record { files = seen.files; channel = channel; output = seen.output }
 
@@ -67,7 +67,7 @@ pub record IsWorking (seen : Seen) : Type 0 where
 abbrev pub ChangesScreenAlone : Seen → Seen → Type 0
 ChangesScreenAlone old new = new ≡ record old { screen = new.screen }
 
--- at most so many items are sent, and the bus has the same printers, delays and mark; unless memory
+-- at most this many items are sent, and the bus has the same printers, delays and mark; unless memory
 -- was refused, it has failed only if it had before
 pub record SendsAtMost {X E : Type 0} (count : ℕ) (result : Result X E) (old new : Seen) : Type 0 where
   pub failed : OnOk result (new.failed ≡ old.failed)

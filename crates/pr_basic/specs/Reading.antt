@@ -60,7 +60,7 @@ close_in ls = do
 unfoldable pub byte_added : List Lexeme → List ℕ → ℕ → Result (List ℕ) Placed
 byte_added at bytes b = if nat_lt (length bytes) byte_limit then Ok (bytes ++ b ∷ []) else Err (TooLong, start_of at)
 
--- the bytes of a string, which is at the front of some lexemes: the first that may not stand in one comes before the list's last byte, or
+-- the bytes of a string, which is at the front of some lexemes: the first that may not be in one comes before the list's last byte, or
 -- after it, or not at all
 unfoldable pub string_added : List Lexeme → List ℕ → List ℕ → Result (List ℕ) Placed
 string_added at bytes s =

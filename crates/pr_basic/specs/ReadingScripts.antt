@@ -13,7 +13,7 @@ use Rattle.pr_basic.specs.declared.fault.LineFault.{LineFault}
 use Rattle.pr_basic.specs.declared.fault.LineFault.TheVariants.{BadNumber, TooMany}
 use Rattle.pr_basic.specs.declared.statement.Statement.{Statement}
 
--- a place in a line: the lexemes before it, and how many bytes of the next one stand before it
+-- a place in a line: the lexemes before it, and how many bytes of the next one come before it
 pub record Passed : Type 0 where
   pub done : List Lexeme
   pub inside : ℕ
@@ -25,7 +25,7 @@ split_number (Digits ds ∷ ls) =
     else Err (BadNumber, record { done = []; inside = 0 })
 split_number ls = Ok ([], ls)
 
--- the digits that stand first
+-- the digits that are first
 unfoldable pub first_digits : List Lexeme → List Lexeme
 first_digits (Digits ds ∷ ls) = Digits ds ∷ []
 first_digits ls = []
@@ -35,7 +35,7 @@ abbrev pub is_begun : List Lexeme → Bool
 is_begun [] = false
 is_begun (l ∷ ls) = begins_statement l
 
--- one part, where there is room for so many more statements
+-- one part, where there is room for this many more statements
 abbrev pub counted : ℕ → List Lexeme → Result (Option Statement) Placed
 counted room part =
     if room == 0 then (if is_begun part then Err (TooMany, start_of part) else statement_in part) else statement_in part
@@ -55,7 +55,7 @@ abbrev pub in_part : {A : Type 0} → List Lexeme → Result A Placed → Result
 in_part part (Ok x) = Ok x
 in_part part (Err (f, at)) = Err (f, record { done = take (length part - length at.next) part; inside = at.inside })
 
--- what is read behind some lexemes
+-- what is read after some lexemes
 abbrev pub behind : {A : Type 0} → List Lexeme → Result A (LineFault × Passed) → Result A (LineFault × Passed)
 behind front (Ok x) = Ok x
 behind front (Err (f, at)) = Err (f, record { done = front ++ at.done; inside = at.inside })
@@ -70,7 +70,7 @@ statements_in room (p ∷ ps) = in_part p (counted room p) >>= λ s.
 abbrev pub statements_of : ℕ → List Lexeme → Result (List Statement) (LineFault × Passed)
 statements_of room lexemes = split_number lexemes >>= λ p. behind p.0 (statements_in room (parts p.1))
 
--- how many bytes of a line stand before a place
+-- how many bytes of a line come before a place
 abbrev pub column_of : List ℕ → Passed → ℕ
 column_of line at = length line - (length (unspaced (past (length at.done) line)) - at.inside)
 
@@ -83,7 +83,7 @@ in_line line (Err (f, at)) = Err (f, column_of line at)
 abbrev pub line_statements : ℕ → List ℕ → Result (List Statement) (LineFault × ℕ)
 line_statements room line = in_line (without_return line) (statements_of room (lexemes_of (without_return line)))
 
--- a fault of a script, with its line's number and how many bytes stand before it
+-- a fault of a script, with its line's number and how many bytes come before it
 pub record ScriptError : Type 0 where
   pub fault : LineFault
   pub number : ℕ
@@ -94,7 +94,7 @@ abbrev pub at_line : {A : Type 0} → ℕ → ℕ → Result A (LineFault × ℕ
 at_line n start (Ok x) = Ok x
 at_line n start (Err (f, column)) = Err (record { fault = f; number = n; place = start + column })
 
--- the statements of the lines from line n on, which begin after so many bytes
+-- the statements of the lines from line n on, which begin after this many bytes
 unfoldable pub lines_statements : ℕ → ℕ → ℕ → List (List ℕ) → Result (List Statement) ScriptError
 lines_statements n start room [] = Ok []
 lines_statements n start room (l ∷ ls) = at_line n start (line_statements room l) >>= λ ss.

@@ -49,12 +49,12 @@ UnlessMemory TooMany said = said
 abbrev pub Fails : {Y : Type 0} → Flaw → Result Y Placed → Type 0
 Fails e said = UnlessMemory e.fault (said ≡ Err (placed e))
 
--- what was read, and what is left where a fault stands, are in the same part of the same line
+-- what was read, and what is left where a fault is, are in the same part of the same line
 abbrev pub ReadsOn : {X : Type 0} → Result (X × Bor (List ℕ)) Flaw → List ℕ → Type 0
 ReadsOn (Ok p) bytes = IsRest p.1.now bytes
 ReadsOn (Err e) bytes = IsRest e.rest.now bytes
 
--- the list that went on with a lexeme and the bytes behind it goes on with the rest
+-- the list that went on with a lexeme and the bytes after it goes on with the rest
 abbrev pub TakesItem : Text → Text → Lexeme → List ℕ → Bor (List ℕ) → Type 0
 TakesItem old new l bytes rest =
     (line_in old.bytes old.ends (l ∷ here bytes) ≡ line_in new.bytes new.ends (here rest.now))
@@ -70,7 +70,7 @@ abbrev pub ReadsStatement : {X : Type 0} → Result (X × Bor (List ℕ)) Flaw �
 ReadsStatement (Ok p) said more = (said ≡ Ok p.0) × (later p.1.now ≡ more)
 ReadsStatement (Err e) said more = Fails e said
 
--- a fault stands in a line: what is left there are the bytes after the lexemes before its place
+-- a fault is in a line: what is left there are the bytes after the lexemes before its place
 pub record StandsIn {Y : Type 0} (f : LineFault) (rest : List ℕ) (inside : ℕ) (line : List ℕ)
     (said : Result Y (LineFault × Passed)) : Type 0 where
   pub done : List Lexeme

@@ -26,7 +26,7 @@ use Rattle.pr_basic.specs.Runs.{found_of}
 abbrev pub sent_in : List Element → List Element → List Item
 sent_in before all = drop (length (items_of before)) (items_of all)
 
--- the byte directly before is not answered, if a byte stands there
+-- the byte directly before is not answered, if a byte is there
 abbrev pub is_byte_unanswered : Present → List Item → Option ℕ → Bool
 is_byte_unanswered present sent None = false
 is_byte_unanswered present sent (Some b) = not (is_answered present sent (item.Sent b true))

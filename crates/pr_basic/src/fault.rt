@@ -43,7 +43,7 @@ pub enum ScriptFault {
 pub struct FaultAt {
     /// The fault, with the number of its line.
     pub fault: ScriptFault,
-    /// How many bytes of the text stand before it; where memory was refused, before where the reading had
+    /// How many bytes of the text come before it; where memory was refused, before where the reading had
     /// come.
     pub place: usize,
 }
@@ -63,13 +63,13 @@ pub enum LineFault {
     NoMemory,
 }
 
-/// The first fault of a line, and where it stands.
+/// The first fault of a line, and where it is.
 #[derive(Clone, Copy, Debug)]
 pub struct Flaw<'a> {
     pub fault: LineFault,
     /// The bytes of the line that were left to read there, with the spaces before the place.
     pub rest: &'a [u8],
-    /// How many bytes of the next lexeme stand before the place, inside a string.
+    /// How many bytes of the next lexeme come before the place, inside a string.
     pub inside: usize,
 }
 
@@ -90,7 +90,7 @@ impl LineFault {
         }
     }
 
-    /// The fault behind so many bytes of the first lexeme of these bytes, which were left to read.
+    /// The fault after this many bytes of the first lexeme of these bytes, which were left to read.
     pub fn inside(self, rest: &[u8], inside: usize) -> Flaw<'_>
         ensures { (result.fault ≡ self) × (result.rest.now ≡ rest.now) × (result.inside ≡ inside) }
     {

@@ -2,6 +2,7 @@
 
 ghost use Rattle.pr_basic.specs.StatementLaws.{StopsExactly, StatusExactly, StatusFoundNext, SentAfterEarlier};
 ghost use Rattle.pr_basic.specs.FaultLaws.{PlacesChangeNoFault};
+ghost use Rattle.pr_basic.specs.LexemeLaws.{LexemesAreFound, LinesHaveLexemes};
 
 use pr_serial::laws::{answers_add_up, elements_send_items};
 
@@ -39,4 +40,10 @@ pub fn statements_send_their_items()
 /// without places.
 pub fn places_change_no_fault()
     ensures { PlacesChangeNoFault }
+{}
+
+/// A law: each line has one list of lexemes, which is the one that the reader finds.
+pub fn lexemes_are_found()
+    ensures all { LinesHaveLexemes }
+    ensures no_others { LexemesAreFound }
 {}

@@ -43,7 +43,7 @@ pub fn is_space(b: u8) -> bool
     b == b' ' || b == b'\t'
 }
 
-/// How many bytes stand before a quote.
+/// How many bytes come before a quote.
 fn text_count(bytes: &[u8]) -> usize
     ensures count { result ≡ prefix_len is_no_quote bytes.now }
     ensures within { result ≤ length bytes.now }

@@ -35,7 +35,8 @@ pub use fault::{FaultAt, ScriptFault};
 pub use performing::perform;
 pub use place::{LineAt, basic_number, faults_tell_their_line, lexeme_at, line_at};
 pub use script::{
-    STATEMENT_LIMIT, each_text_is_a_script_or_has_one_fault, read_script, read_script_at,
+    STATEMENT_LIMIT, cut_line, each_text_is_a_script_or_has_one_fault, read_script, read_script_at,
+    without_return,
 };
 pub use session::{Session, StatusMode};
 pub use statement::{Device, Line, Second, Statement, number_of_second};

@@ -28,7 +28,7 @@ pub fn no_line(alloc: Global) -> Line
     }
 }
 
-/// Adds one byte, which stands in the item at the front of `item`, unless it would be the 256th.
+/// Adds one byte, which is in the item at the front of `item`, unless it would be the 256th.
 #[tactic(auto, using(crate::proofs::Places::rest_same), unfolding(crate::specs::Reading::byte_added))]
 fn add_byte<'a>(bytes: &mut Vec<u8>, item: &'a [u8], b: u8) -> Result<(), Flaw<'a>>
     requires { length bytes.old.items ≤ byte_limit }
@@ -46,7 +46,7 @@ fn add_byte<'a>(bytes: &mut Vec<u8>, item: &'a [u8], b: u8) -> Result<(), Flaw<'
     }
 }
 
-/// How many bytes at the front may stand in a string.
+/// How many bytes at the front may be in a string.
 fn printable_count(string: &[u8]) -> usize
     ensures count { result ≡ prefix_len is_printable string.now }
     ensures within { result ≤ length string.now }
@@ -100,7 +100,7 @@ fn chr(bytes: &[u8]) -> Result<(u32, &[u8]), Flaw<'_>>
     Ok((n, after))
 }
 
-/// Adds the byte of a CHR$, which stands at the front of `item`, with `more` behind its keyword.
+/// Adds the byte of a CHR$, which is at the front of `item`, with `more` after its keyword.
 #[tactic(auto, using(crate::proofs::Places::rest_on, crate::proofs::Places::rest_same), unfolding(crate::specs::Reading::chr_added))]
 fn add_chr<'a>(bytes: &mut Vec<u8>, item: &'a [u8], more: &'a [u8]) -> Result<&'a [u8], Flaw<'a>>
     requires few { length bytes.old.items ≤ byte_limit }
@@ -117,8 +117,8 @@ fn add_chr<'a>(bytes: &mut Vec<u8>, item: &'a [u8], more: &'a [u8]) -> Result<&'
     Ok(rest)
 }
 
-/// Takes one item of a list, which stands at the front of `item`: its first lexeme, with `more`
-/// behind it.
+/// Takes one item of a list, which is at the front of `item`: its first lexeme, with `more`
+/// after it.
 #[tactic(auto, using(crate::proofs::Places::rest_on, crate::proofs::Places::rest_same, crate::proofs::ListLaws::chr_step), unfolding(crate::specs::Reading::line_in))]
 fn list_item<'a>(
     line: &mut Line,

@@ -11,7 +11,7 @@ use crate::script::{LINE_NUMBER_LIMIT, cut_line};
 /// A line of a text.
 #[derive(Clone, Copy, Debug)]
 pub struct LineAt<'a> {
-    /// How many bytes of the text stand before it.
+    /// How many bytes of the text come before it.
     pub start: usize,
     /// Its number, counted from 1.
     pub number: usize,

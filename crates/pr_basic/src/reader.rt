@@ -22,7 +22,7 @@ fn file_number(bytes: &[u8]) -> Result<(u8, &[u8]), Flaw<'_>>
     Ok((file as u8, rest))
 }
 
-/// The statement, if nothing more stands in its part.
+/// The statement, if nothing more is in its part.
 #[tactic(auto, using(crate::proofs::Places::rest_on, crate::proofs::Places::rest_same), unfolding(crate::specs::Reading::ended))]
 fn at_end(statement: Statement, bytes: &[u8]) -> Result<(Statement, &[u8]), Flaw<'_>>
     ensures reads { ReadsAll result (ended statement (here bytes.now)) (later bytes.now) }

@@ -84,7 +84,7 @@ pub fn read_script_at(alloc: Global, bytes: &[u8]) -> Result<Vec<Statement>, Fau
     Ok(statements)
 }
 
-/// Takes the statements of a line, or tells its first fault and how many of its bytes stand before.
+/// Takes the statements of a line, or tells its first fault and how many of its bytes come before.
 fn read_line(
     alloc: Global,
     statements: &mut Vec<Statement>,
@@ -105,8 +105,8 @@ fn read_line(
     }
 }
 
-/// How many bytes of a line stand before a fault in it: `rest` was left to read there, and the
-/// fault stands behind so many bytes of the next lexeme.
+/// How many bytes of a line come before a fault in it: `rest` was left to read there, and the
+/// fault is after this many bytes of the next lexeme.
 fn column(line: &[u8], rest: &[u8], inside: usize) -> usize
     ensures { result ≡ length line.now - (length (unspaced rest.now) - inside) }
 {
@@ -159,7 +159,7 @@ fn read_part<'a>(
     Ok(after_colon(rest))
 }
 
-/// The statement at the front, after so many others.
+/// The statement at the front, after this many others.
 #[tactic(auto, using(crate::proofs::ListLaws::fails_of, crate::proofs::Places::rest_same))]
 fn next_statement(
     alloc: Global,
@@ -224,7 +224,7 @@ fn after_number(bytes: &[u8]) -> Result<&[u8], Flaw<'_>>
     }
 }
 
-/// The first line, and what follows its end.
+/// The first line of some bytes, without the byte 10 that ends it, and the bytes after that.
 pub fn cut_line(bytes: &[u8]) -> (&[u8], &[u8])
     requires { 0 < length bytes.now }
     ensures lines { lines_of bytes.now ≡ result.0.now ∷ lines_of result.1.now }
@@ -241,7 +241,7 @@ pub fn cut_line(bytes: &[u8]) -> (&[u8], &[u8])
 }
 
 /// A line without a byte 13 at its end.
-fn without_return(line: &[u8]) -> &[u8]
+pub fn without_return(line: &[u8]) -> &[u8]
     ensures { result.now ≡ without_return line.now }
 {
     let n = line.len();

@@ -93,7 +93,7 @@ due-is before t v first second ack i =
     ∙ ap (λ (l : List all.TimedPrinter). ack + delay_at R (drop (2 + commands_take second) (left t.computer)) 0 + all.greatest (map (λ (p : all.TimedPrinter). delay_at Dr p.numbers 0) l)) i.printers
     ∙ ap (λ l. ack + delay_at R (drop (2 + commands_take second) (left t.computer)) 0 + all.greatest l) (releases-taking (printer_takes second) (printers_of t))
 
--- the talker after an attention stands where the wires do, by what each of its parts is
+-- the talker after an attention is where the wires do, by what each of its parts is
 state-is : (before : List Item) (t v u : Talker) (first : ℕ) (second : Option ℕ) (ack : ℕ)
     → u.time ≡ cond (eqb (elim second [ None ↦ first | Some b ↦ b ]) 63) (ack + delay_at R (drop (2 + commands_take second) (left t.computer)) 0 + delay_at Cr (drop (2 + commands_take second) (left t.computer)) 1) (ack + delay_at R (drop (2 + commands_take second) (left t.computer)) 0)
     → lines_of u.lines ≡ cond (eqb (elim second [ None ↦ first | Some b ↦ b ]) 63) Free (rests (Due (due_at v ack)) Pulled (listening (before ++ Attention first second ∷ []) (printers_of t)))

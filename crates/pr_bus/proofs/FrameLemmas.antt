@@ -60,7 +60,7 @@ bits-edges x pull s v numbers rest count m b old one two new e es ev er h1 h2 h3
     rw (h3, h2, h1, es, ev, er)
     (two-more old _ _ _ ∙ ap (λ l. old ++ bit_edges x pull l) (sym (bits-more pull numbers count m b e)))
 
--- the last pull of bits, from that of the bits behind the first one
+-- the last pull of bits, from that of the bits after the first one
 pub bits-last : (pull s v : ℕ) (numbers rest : List ℕ) (count m b : ℕ) (last : ℕ)
     → count ≡ suc m → s ≡ delay_at S numbers 0 → v ≡ delay_at V numbers 1 → rest ≡ drop 2 numbers
     → last ≡ last_pull (pull + s + v) (bit_times (pull + s + v) rest (bits_of m (b / 2)))

@@ -211,7 +211,7 @@ heard-one : HearingLaws → (present : Present) (d : ℕ) (items : List Item) (x
 heard-one laws present d items (Sent b eoi) i p h = byte-heard laws present d items b eoi p h (is_answered present items (Sent b eoi)) refl
 heard-one laws present d items (Attention first second) i p h = attention-heard laws present d items first second i p h
 
--- items behind others are heard as their frames
+-- items after others are heard as their frames
 heard-on : HearingLaws → (present : Present) (d : ℕ) (before xs : List Item) → AreItems xs → is_present present d ≡ true → IsHeard present d before → IsHeard present d (before ++ xs)
 heard-on laws present d before [] a p h = subst (λ l. IsHeard present d l) (sym (append-nil before)) h
 heard-on laws present d before (x ∷ xs) a p h = subst (λ l. IsHeard present d l) (append_assoc before (x ∷ []) xs) (heard-on laws present d (before ++ x ∷ []) xs a.1 p (heard-one laws present d before x a.0 p h))

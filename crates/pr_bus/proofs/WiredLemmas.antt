@@ -83,7 +83,7 @@ pub record TraceLaws : Type 0 where
 pub trace-allowed : TraceLaws → (present : Present) (d : DelayNumbers) (items : List Item) → AreItems items → IsAllowed (trace_from present d items)
 trace-allowed laws present d items a = let s = laws.spell present d.computer d.four d.five items a in laws.lawful (trace_from present d items) (s.0, s.1)
 
--- what an ear does with edges that come behind a trace
+-- what an ear does with edges that come after a trace
 abbrev pub Listens : ℕ → WiredPort → List Edge → WiredPort → Type 0
 Listens device old es new = (there : Bool) (forgotten trace : List Edge) → IsAllowed (trace ++ es) → Hears device there forgotten trace old → Hears device there forgotten (trace ++ es) new
 

@@ -14,7 +14,7 @@ abbrev pub given_list : Result (Option Input) WaveFault → List Input
 given_list (Ok o) = option_to_list o
 given_list (Err w) = []
 
--- a printer has taken just these edges, has refused none, and keeps the inputs that came behind the forgotten ones
+-- a printer has taken just these edges, has refused none, and keeps the inputs that came after the forgotten ones
 pub record IsHearing (forgotten trace : List Edge) (port : WiredPort) : Type 0 where
   pub taken : HasReceived trace port.receiver
   pub works : refusal_of port.receiver ≡ None
@@ -29,13 +29,13 @@ pub record Hears (device : ℕ) (present : Bool) (forgotten trace : List Edge) (
   pub hears : present ≡ true → IsHearing forgotten trace port
   pub nothing : present ≡ false → port.inputs.items ≡ []
 
--- a printer has heard these edges behind whatever it had heard
+-- a printer has heard these edges after whatever it had heard
 abbrev pub HearsOn : List Edge → WiredPort → WiredPort → Type 0
 HearsOn edges old new =
     (forgotten trace : List Edge) → IsAllowed (trace ++ edges) → IsHearing forgotten trace old
     → IsHearing forgotten (trace ++ edges) new
 
--- the printer with this number, if it is present, has heard these edges behind whatever it had heard; if it is not, it has heard nothing
+-- the printer with this number, if it is present, has heard these edges after whatever it had heard; if it is not, it has heard nothing
 abbrev pub ListensAs : ℕ → List Edge → WiredPort → WiredPort → Type 0
 ListensAs device edges old new =
     (present : Bool) (forgotten trace : List Edge) → IsAllowed (trace ++ edges)
@@ -58,7 +58,7 @@ pub record IsSamePort (old new : WiredPort) : Type 0 where
 abbrev pub HasRoom : WiredPort → Type 0
 HasRoom port = port.present ≡ true → vec_len port.inputs + 2 ≤ vec_capacity port.inputs
 
--- a printer that has heard a trace may hear these edges behind it: they are allowed, and there is room for all inputs behind the forgotten
+-- a printer that has heard a trace may hear these edges after it: they are allowed, and there is room for all inputs after the forgotten
 -- edges
 pub record IsReady (forgotten trace edges : List Edge) (port : WiredPort) : Type 0 where
   pub hears : IsHearing forgotten trace port
@@ -66,6 +66,6 @@ pub record IsReady (forgotten trace edges : List Edge) (port : WiredPort) : Type
   pub room : length (inputs_with (device_of port.receiver) (trace ++ edges))
       ≤ length (inputs_with (device_of port.receiver) forgotten) + vec_capacity port.inputs
 
--- the printer may hear these edges behind the trace that it has heard
+-- the printer may hear these edges after the trace that it has heard
 abbrev pub MayHear : List Edge → WiredPort → Type 0
 MayHear edges port = (forgotten : List Edge) × (trace : List Edge) × IsReady forgotten trace edges port

@@ -5,7 +5,7 @@ use Rattle.pr_bus.specs.declared.lines.Lines.TheVariants as kept
 use Rattle.pr_bus.specs.declared.timing.LineTiming.{LineTiming}
 use Rattle.pr_bus.specs.Timed.{Lines, Free, Pulled, Due, ListenerTiming, greatest, least}
 
--- what stands on the lines, by what the talker keeps of them
+-- what is on the lines, by what the talker keeps of them
 abbrev pub lines_of : talker.Lines → Lines
 lines_of kept.Free = Free
 lines_of kept.Pulled = Pulled

@@ -31,7 +31,7 @@ state_shown w = record {
   failed = w.failed;
 }
 
--- the talker stands where these items leave it
+-- the talker is where these items leave it
 pub record IsAt (w : WiresState) (t : Talker) : Type 0 where
   pub tuned : IsTuned w.items t
   pub state : state_of w.items t ≡ state_from w.present w.delays w.items

@@ -1,4 +1,4 @@
--- The inputs that numbers stand for, and those that bytes are.
+-- The inputs that numbers mean, and those that bytes are.
 use Rattle.std.proofs.Common.{◌≡◌, ℕ, ◌<◌, Bool, true, false, List, [], ◌∷◌, None, length, refl, ap, sym, subst, arith}
 use Rattle.std.proofs.lemmas.Grind.{common_steps}
 use Rattle.std.proofs.lemmas.Bool.Decides.{nat_tests}
@@ -13,11 +13,11 @@ use Rattle.pr_c.specs.Answers.{IsPaperText, Stopping}
 use Rattle.pr_c.specs.Laws.{selection_of}
 use Rattle.pr_c.specs.Printing.{IsPrintedText, input_of, is_no_input}
 
--- a byte stands for itself
+-- a byte means itself
 byte_is : (b : ℕ) → b < 256 → (input_of b ≡ Byte b) × (is_no_input b ≡ false)
 byte_is b h = (grind (arith, nat_tests), grind (arith, nat_tests))
 
--- bytes stand for themselves
+-- bytes mean themselves
 bytes_are : (bytes : List ℕ) → All (λ b. b < 256) bytes
     → (map input_of bytes ≡ map Byte bytes) × (position_or_len is_no_input bytes ≡ length bytes)
 bytes_are [] all = (refl, refl)
@@ -26,7 +26,7 @@ bytes_are (b ∷ bs) all =
     let more = bytes_are bs (All-tail (λ b. b < 256) b bs all) in
     (cc (this.0, more.0), grind (arith, common_steps, this.1, more.1))
 
--- of a selection and bytes no number stands for no input
+-- of a selection and bytes no number means no input
 none_other : (lower : Bool) (bytes : List ℕ) → All (λ b. b < 256) bytes → position is_no_input (selection_of lower ∷ bytes) ≡ None
 none_other true bytes all = rw (bytes_are bytes all).1 (grind (arith, nat_tests))
 none_other false bytes all = rw (bytes_are bytes all).1 (grind (arith, nat_tests))

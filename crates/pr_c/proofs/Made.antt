@@ -10,8 +10,8 @@ use Rattle.pr_cli.specs.Raw.{AnswersRaw, IsRawText}
 use Rattle.pr_cli.specs.declared.pages.Ending.{Ending}
 use Rattle.pr_cli.specs.declared.pages.Ending.TheVariants.{Done, Stopped}
 use Rattle.pr_cli.specs.declared.fault.CliFault.{CliFault}
-use Rattle.pr_cli.specs.declared.fault.CliFault.TheVariants.{Script, Trace, Wave, Capture, TooLarge, NoMemory, ReadFailed, WriteFailed}
-use Rattle.pr_c.specs.Answers.{IsBusText, IsFramesText, IsPagesText, IsPaperRefusal, IsPaperText, IsScriptRefusal, IsTraceRefusal, Stopping, Tells}
+use Rattle.pr_cli.specs.declared.fault.CliFault.TheVariants.{Script, Trace, Wave, Capture, Picture, TooLarge, NoMemory, ReadFailed, WriteFailed}
+use Rattle.pr_c.specs.Answers.{IsBusText, IsFramesText, IsPagesRefusal, IsPagesText, IsPaperRefusal, IsPaperText, IsScriptRefusal, IsTraceRefusal, Stopping, Tells}
 use Rattle.pr_c.specs.Giving.{Gives, GivesStop, IsFound, in_memory, without_run}
 use Rattle.pr_c.specs.declared.told.Told.{Told}
 use Rattle.pr_c.specs.declared.told.Told.TheVariants.{Written, TooSmall, Refused, NoInput}
@@ -36,63 +36,67 @@ no_stop None e = refl
 no_stop (Some s) e = cc
 
 -- what was found of a run, by the stop that it has
-found-made : (IsText : Stopping → List ℕ → Type 0) (script text : List ℕ) (stop : Stopping) (found : Result Stopping CliFault)
-    → IsFound stop found → IsText stop text → IsMade IsText (IsScriptRefusal script) text found
-found-made IsText script text stop (Ok s) is made = subst (λ j. IsText j text) (sym is) made
-found-made IsText script text stop (Err fault) is made = subst (λ f. IsScriptRefusal script (in_memory f)) (sym is) tt
+found-made : (IsText : Stopping → List ℕ → Type 0) (IsFault : CliFault → Type 0) (text : List ℕ) (stop : Stopping) (found : Result Stopping CliFault)
+    → IsFault NoMemory → IsFound stop found → IsText stop text → IsMade IsText IsFault text found
+found-made IsText IsFault text stop (Ok s) memory is made = subst (λ j. IsText j text) (sym is) made
+found-made IsText IsFault text stop (Err fault) memory is made = subst (λ f. IsFault (in_memory f)) (sym is) memory
 
 -- a refusal is handed on
-refused-made : (IsText : Stopping → List ℕ → Type 0) (script text : List ℕ) (fault : CliFault) (found : Result Stopping CliFault)
-    → found ≡ Err fault → IsScriptRefusal script (in_memory fault) → IsMade IsText (IsScriptRefusal script) text found
-refused-made IsText script text fault found is why = subst (λ f. IsMade IsText (IsScriptRefusal script) text f) (sym is) why
+refused-made : (IsText : Stopping → List ℕ → Type 0) (IsFault : CliFault → Type 0) (text : List ℕ) (fault : CliFault) (found : Result Stopping CliFault)
+    → found ≡ Err fault → IsFault (in_memory fault) → IsMade IsText IsFault text found
+refused-made IsText IsFault text fault found is why = subst (λ f. IsMade IsText IsFault text f) (sym is) why
 
 -- the pages
 pub pages-made : (start : Start) (format : Format) (script text : List ℕ) (made : Result Ending CliFault) (found : Result Stopping CliFault)
     → AnswersPages start format script (Some []) (Some text) made → GivesStop start.mode start.present script made found
-    → IsMade (IsPagesText start format script) (IsScriptRefusal script) text found
+    → IsMade (IsPagesText start format script) (IsPagesRefusal start format script) text found
 pages-made start format script text (Ok Done) found a g =
-    found-made (IsPagesText start format script) script text None found (subst (λ f. IsFound None f) (sym g) refl)
+    found-made (IsPagesText start format script) (IsPagesRefusal start format script) text None found tt (subst (λ f. IsFound None f) (sym g) refl)
     (a.0, a.2, subst (λ t. IsTextOf start format script a.0 t) (sym a.5) a.3, sym (no_stop a.0.stop a.4))
 pages-made start format script text (Ok Stopped) found a g =
-    found-made (IsPagesText start format script) script text (run_of start.mode start.present a.3.statements).stop found
+    found-made (IsPagesText start format script) (IsPagesRefusal start format script) text (run_of start.mode start.present a.3.statements).stop found tt
     (g a.3.statements a.3.is_script)
     (a.0, a.2, subst (λ t. IsTextOf start format script a.0 t) (sym a.5) a.3, sym a.3.is_outcome.stop)
-pages-made start format script text (Err (Script f)) found a g = refused-made (IsPagesText start format script) script text _ found g (a.0, a.1)
+pages-made start format script text (Err (Script f)) found a g = refused-made (IsPagesText start format script) (IsPagesRefusal start format script) text _ found g (a.0, a.1)
 pages-made start format script text (Err (Trace f)) found a g = absurd a
 pages-made start format script text (Err (Wave f)) found a g = absurd a
 pages-made start format script text (Err (Capture f)) found a g = absurd a
-pages-made start format script text (Err TooLarge) found a g = refused-made (IsPagesText start format script) script text _ found g a.0
-pages-made start format script text (Err NoMemory) found a g = refused-made (IsPagesText start format script) script text _ found g tt
-pages-made start format script text (Err ReadFailed) found a g = refused-made (IsPagesText start format script) script text _ found g tt
-pages-made start format script text (Err WriteFailed) found a g = refused-made (IsPagesText start format script) script text _ found g tt
+pages-made start format script text (Err (Picture f)) found a g =
+    refused-made (IsPagesText start format script) (IsPagesRefusal start format script) text _ found g (a.0, a.1)
+pages-made start format script text (Err TooLarge) found a g = refused-made (IsPagesText start format script) (IsPagesRefusal start format script) text _ found g a.0
+pages-made start format script text (Err NoMemory) found a g = refused-made (IsPagesText start format script) (IsPagesRefusal start format script) text _ found g tt
+pages-made start format script text (Err ReadFailed) found a g = refused-made (IsPagesText start format script) (IsPagesRefusal start format script) text _ found g tt
+pages-made start format script text (Err WriteFailed) found a g = refused-made (IsPagesText start format script) (IsPagesRefusal start format script) text _ found g tt
 
 -- the trace
 pub bus-made : (start : Start) (format : TraceFormat) (script text : List ℕ) (made : Result Ending CliFault) (found : Result Stopping CliFault)
     → AnswersBus start format script (Some []) (Some text) made → GivesStop start.mode start.present script made found
     → IsMade (IsBusText start format script) (IsScriptRefusal script) text found
 bus-made start format script text (Ok Done) found a g =
-    found-made (IsBusText start format script) script text None found (subst (λ f. IsFound None f) (sym g) refl)
+    found-made (IsBusText start format script) (IsScriptRefusal script) text None found tt (subst (λ f. IsFound None f) (sym g) refl)
     (a.0, a.1, a.2, sym (no_stop (run_of start.mode start.present a.0).stop a.3), a.4)
 bus-made start format script text (Ok Stopped) found a g =
-    found-made (IsBusText start format script) script text (run_of start.mode start.present a.0).stop found
+    found-made (IsBusText start format script) (IsScriptRefusal script) text (run_of start.mode start.present a.0).stop found tt
     (g a.0 a.2) (a.0, a.1, a.2, refl, a.4)
-bus-made start format script text (Err (Script f)) found a g = refused-made (IsBusText start format script) script text _ found g (a.0, a.1)
+bus-made start format script text (Err (Script f)) found a g = refused-made (IsBusText start format script) (IsScriptRefusal script) text _ found g (a.0, a.1)
 bus-made start format script text (Err (Trace f)) found a g = absurd a
 bus-made start format script text (Err (Wave f)) found a g = absurd a
 bus-made start format script text (Err (Capture f)) found a g = absurd a
-bus-made start format script text (Err TooLarge) found a g = refused-made (IsBusText start format script) script text _ found g a.0
-bus-made start format script text (Err NoMemory) found a g = refused-made (IsBusText start format script) script text _ found g tt
-bus-made start format script text (Err ReadFailed) found a g = refused-made (IsBusText start format script) script text _ found g tt
-bus-made start format script text (Err WriteFailed) found a g = refused-made (IsBusText start format script) script text _ found g tt
+bus-made start format script text (Err (Picture f)) found a g = absurd a
+bus-made start format script text (Err TooLarge) found a g = refused-made (IsBusText start format script) (IsScriptRefusal script) text _ found g a.0
+bus-made start format script text (Err NoMemory) found a g = refused-made (IsBusText start format script) (IsScriptRefusal script) text _ found g tt
+bus-made start format script text (Err ReadFailed) found a g = refused-made (IsBusText start format script) (IsScriptRefusal script) text _ found g tt
+bus-made start format script text (Err WriteFailed) found a g = refused-made (IsBusText start format script) (IsScriptRefusal script) text _ found g tt
 
 -- the page of bytes
 pub raw-made : (lower : Bool) (format : Format) (bytes text : List ℕ) (made : Result (Unit {0}) CliFault)
-    → AnswersRaw lower format bytes (Some []) (Some text) made → IsMade (IsPaperText lower format bytes) (IsPaperRefusal bytes) text (without_run made)
+    → AnswersRaw lower format bytes (Some []) (Some text) made → IsMade (IsPaperText lower format bytes) (IsPaperRefusal lower format bytes) text (without_run made)
 raw-made lower format bytes text (Ok u) a = (a.1, refl, subst (λ t. IsRawText lower format bytes t) (sym a.3) a.2)
 raw-made lower format bytes text (Err (Script f)) a = absurd a
 raw-made lower format bytes text (Err (Trace f)) a = absurd a
 raw-made lower format bytes text (Err (Wave f)) a = absurd a
 raw-made lower format bytes text (Err (Capture f)) a = absurd a
+raw-made lower format bytes text (Err (Picture f)) a = (a.0, a.1)
 raw-made lower format bytes text (Err TooLarge) a = a.0
 raw-made lower format bytes text (Err NoMemory) a = tt
 raw-made lower format bytes text (Err ReadFailed) a = tt
@@ -106,6 +110,7 @@ check-made trace text (Err (Script f)) a = absurd a
 check-made trace text (Err (Trace f)) a = (a.0, a.1)
 check-made trace text (Err (Wave f)) a = (a.0, a.1)
 check-made trace text (Err (Capture f)) a = absurd a
+check-made trace text (Err (Picture f)) a = absurd a
 check-made trace text (Err TooLarge) a = a.0
 check-made trace text (Err NoMemory) a = tt
 check-made trace text (Err ReadFailed) a = tt

@@ -19,10 +19,12 @@ use Rattle.pr_capture.specs.declared.format.TraceFormat.{TraceFormat}
 use Rattle.pr_cli.specs.Bus.{bus_text}
 use Rattle.pr_cli.specs.Check.{IsBadText, IsFaultyText, IsLawfulText, trace_limit}
 use Rattle.pr_cli.specs.FrameText.{frame_lines}
-use Rattle.pr_cli.specs.Pages.{Start, IsTextOf, script_limit}
-use Rattle.pr_cli.specs.Raw.{IsRawText, raw_limit}
+use Rattle.pr_cli.specs.Pages.{Start, IsTextOf, IsUnshown, script_limit}
+use Rattle.pr_cli.specs.Raw.{IsRawText, IsRawUnshown, raw_limit}
 use Rattle.pr_cli.specs.declared.fault.CliFault.{CliFault}
-use Rattle.pr_cli.specs.declared.fault.CliFault.TheVariants.{Script, Trace, Wave, Capture, TooLarge, NoMemory, ReadFailed, WriteFailed}
+use Rattle.pr_cli.specs.declared.fault.CliFault.TheVariants.{Script, Trace, Wave, Capture, Picture, TooLarge, NoMemory, ReadFailed, WriteFailed}
+use Rattle.pr_cli.specs.declared.fault.PictureFault.{PictureFault}
+use Rattle.pr_cli.specs.declared.fault.PictureFault.TheVariants as picture
 use Rattle.pr_c.specs.declared.told.Answer.{Answer}
 use Rattle.pr_c.specs.declared.told.Told.{Told}
 use Rattle.pr_c.specs.declared.told.Told.TheVariants.{Written, TooSmall, Refused, NoInput}
@@ -71,11 +73,17 @@ IsScriptRefusal script TooLarge = script_limit < length script
 IsScriptRefusal script NoMemory = Unit {0}
 IsScriptRefusal script _ = ⊥
 
--- why a printer's bytes give none
-abbrev pub IsPaperRefusal : List ℕ → CliFault → Type 0
-IsPaperRefusal bytes TooLarge = raw_limit < length bytes
-IsPaperRefusal bytes NoMemory = Unit {0}
-IsPaperRefusal bytes _ = ⊥
+-- why its pages give none: the script does not, or this format has no such picture of them
+abbrev pub IsPagesRefusal : Start → Format → List ℕ → CliFault → Type 0
+IsPagesRefusal start format script (Picture fault) = (length script ≤ script_limit) × IsUnshown start format script fault
+IsPagesRefusal start format script fault = IsScriptRefusal script fault
+
+-- why a printer's bytes give no text
+abbrev pub IsPaperRefusal : Bool → Format → List ℕ → CliFault → Type 0
+IsPaperRefusal lower format bytes TooLarge = raw_limit < length bytes
+IsPaperRefusal lower format bytes (Picture fault) = (length bytes ≤ raw_limit) × IsRawUnshown lower format bytes fault
+IsPaperRefusal lower format bytes NoMemory = Unit {0}
+IsPaperRefusal lower format bytes _ = ⊥
 
 -- why a trace text gives no text
 abbrev pub IsTraceRefusal : List ℕ → CliFault → Type 0
@@ -109,7 +117,12 @@ wave_numbers (wave.Shape at) = (15, at)
 wave_numbers (wave.Truncated at) = (16, at)
 wave_numbers wave.NoMemory = (0, 0)
 
--- a refusal with its fault's numbers
+-- a picture that there is not, by its number, and how many sheets there are or 0
+abbrev pub picture_numbers : PictureFault → ℕ × ℕ
+picture_numbers (picture.NoSuchSheet sheets) = (50, sheets)
+picture_numbers picture.TooLarge = (51, 0)
+
+-- a refusal, with its fault's numbers
 abbrev pub refusal : ℕ × ℕ → Answer
 refusal numbers = record { code = 2; fault = numbers.0; place = numbers.1; length = 0 }
 
@@ -131,6 +144,7 @@ answer_of (Refused (Script fault)) = refusal (script_numbers fault)
 answer_of (Refused (Trace fault)) = refusal (trace_numbers fault)
 answer_of (Refused (Wave fault)) = refusal (wave_numbers fault)
 answer_of (Refused (Capture fault)) = refusal (0, 0)
+answer_of (Refused (Picture fault)) = refusal (picture_numbers fault)
 answer_of (Refused TooLarge) = refusal (9, 0)
 answer_of (Refused NoMemory) = plain 3 0
 answer_of (Refused ReadFailed) = plain 3 0

@@ -5,8 +5,11 @@ use Rattle.pr_serial.specs.declared.Present.{Present}
 use Rattle.pr_basic.specs.declared.session.StatusMode.{StatusMode}
 use Rattle.pr_render.specs.declared.format.Format.{Format}
 use Rattle.pr_capture.specs.declared.format.TraceFormat.{TraceFormat}
-use Rattle.pr_c.specs.Answers.{IsBusText, IsFramesText, IsPagesText, IsPaperRefusal, IsPaperText, IsScriptRefusal, IsTraceRefusal, Tells, answer_of, refusal}
+use Rattle.pr_c.specs.Answers.{IsBusText, IsFramesText, IsPagesRefusal, IsPagesText, IsPaperRefusal, IsPaperText, IsScriptRefusal, IsTraceRefusal, Tells, answer_of, refusal}
+use Rattle.pr_listing.specs.declared.form.ListingForm.{ListingForm}
+use Rattle.pr_c.specs.Listings.{TellsText, answer_for}
 use Rattle.pr_c.specs.Printing.{TellsInputs}
+use Rattle.pr_c.specs.declared.listings.Listed.{Listed}
 use Rattle.pr_c.specs.declared.told.Answer.{Answer}
 use Rattle.pr_c.specs.declared.told.Told.{Told}
 
@@ -27,7 +30,7 @@ TellsPages (Some present) (Some mode) None delays script old new answer = Refuse
 TellsPages (Some present) (Some mode) (Some format) delays script old new answer =
     (told : Told) × (answer ≡ answer_of told)
     × Tells (IsPagesText (record { present = present; delays = delays; mode = mode }) format script)
-    (IsScriptRefusal script) old new told
+    (IsPagesRefusal (record { present = present; delays = delays; mode = mode }) format script) old new told
 
 -- the trace of a script's run
 abbrev pub TellsBus : Option Present → Option StatusMode → Option TraceFormat → DelayNumbers → List ℕ → List ℕ → List ℕ
@@ -40,13 +43,19 @@ TellsBus (Some present) (Some mode) (Some format) delays script old new answer =
     × Tells (IsBusText (record { present = present; delays = delays; mode = mode }) format script)
     (IsScriptRefusal script) old new told
 
+-- the text of a script that a listing has
+abbrev pub TellsListing : Option ListingForm → List ℕ → List ℕ → List ℕ → Answer → Type 0
+TellsListing None bytes old new answer = Refuses 60 old new answer
+TellsListing (Some form) bytes old new answer =
+    (listed : Listed) × (answer ≡ answer_for listed) × TellsText form bytes old new listed
+
 -- the page of a printer's bytes
 abbrev pub TellsRaw : Option Bool → Option Format → List ℕ → List ℕ → List ℕ → Answer → Type 0
 TellsRaw None _ bytes old new answer = Refuses 25 old new answer
 TellsRaw (Some lower) None bytes old new answer = Refuses 24 old new answer
 TellsRaw (Some lower) (Some format) bytes old new answer =
     (told : Told) × (answer ≡ answer_of told)
-    × Tells (IsPaperText lower format bytes) (IsPaperRefusal bytes) old new told
+    × Tells (IsPaperText lower format bytes) (IsPaperRefusal lower format bytes) old new told
 
 -- the page of a printer's inputs, as numbers
 abbrev pub TellsPrint : Option Format → List ℕ → List ℕ → List ℕ → Answer → Type 0

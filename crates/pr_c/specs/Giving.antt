@@ -8,7 +8,7 @@ use Rattle.pr_basic.specs.Runs.{run_of}
 use Rattle.pr_cli.specs.declared.pages.Ending.{Ending}
 use Rattle.pr_cli.specs.declared.pages.Ending.TheVariants.{Done, Stopped}
 use Rattle.pr_cli.specs.declared.fault.CliFault.{CliFault}
-use Rattle.pr_cli.specs.declared.fault.CliFault.TheVariants.{Script, Trace, Wave, Capture, TooLarge, NoMemory}
+use Rattle.pr_cli.specs.declared.fault.CliFault.TheVariants.{Script, Trace, Wave, Capture, Picture, TooLarge, NoMemory}
 use Rattle.pr_c.specs.Answers.{Stopping}
 use Rattle.pr_c.specs.declared.told.Told.{Told}
 use Rattle.pr_c.specs.declared.told.Told.TheVariants.{Written, TooSmall, Refused, NoInput}
@@ -19,6 +19,7 @@ in_memory (Script fault) = Script fault
 in_memory (Trace fault) = Trace fault
 in_memory (Wave fault) = Wave fault
 in_memory (Capture fault) = Capture fault
+in_memory (Picture fault) = Picture fault
 in_memory TooLarge = TooLarge
 in_memory _ = NoMemory
 
@@ -49,7 +50,7 @@ abbrev pub FindsStop : StatusMode → Present → List ℕ → Result Stopping C
 FindsStop mode present script found =
     (statements : List Statement) → IsScript script statements → IsFound (run_of mode present statements).stop found
 
--- in place of the ending of a run that was made stands its stop
+-- in place of the ending of a run that was made is its stop
 abbrev pub GivesStop : StatusMode → Present → List ℕ → Result Ending CliFault → Result Stopping CliFault → Type 0
 GivesStop mode present script (Ok Done) found = found ≡ Ok None
 GivesStop mode present script (Ok Stopped) found = FindsStop mode present script found

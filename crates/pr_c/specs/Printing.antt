@@ -1,5 +1,5 @@
--- Trusted: the inputs of a printer as a C caller's numbers, and what is told of them.
-use Rattle.std.specs.Prelude.{◌≡◌, ℕ, ◌<◌, ◌≤◌, Bool, ◌==◌, nat_lt, if◌then◌else◌, List, length, map, Some, None}
+-- Trusted: a printer's inputs as the numbers that a C caller passes, and what the call answers for them.
+use Rattle.std.specs.Prelude.{◌≡◌, ℕ, ◌<◌, ◌≤◌, Bool, ◌==◌, nat_lt, if◌then◌else◌, List, length, map, Some, None, Ok, Err}
 use Rattle.std.specs.List.{position}
 use Rattle.pr_page.specs.Page.{IsPage}
 use Rattle.pr_page.specs.declared.input.Input.{Input}
@@ -9,16 +9,17 @@ use Rattle.pr_render.specs.declared.format.Format.{Format}
 use Rattle.pr_cli.specs.Formats.{text_in}
 use Rattle.pr_cli.specs.Raw.{four_alone, printed_on}
 use Rattle.pr_cli.specs.declared.fault.CliFault.{CliFault}
-use Rattle.pr_cli.specs.declared.fault.CliFault.TheVariants.{TooLarge, NoMemory}
+use Rattle.pr_cli.specs.declared.fault.CliFault.TheVariants.{Picture, TooLarge, NoMemory}
+use Rattle.pr_cli.specs.declared.fault.PictureFault.{PictureFault}
 use Rattle.pr_c.specs.Answers.{Stopping, Tells}
 use Rattle.pr_c.specs.declared.told.Told.{Told}
 use Rattle.pr_c.specs.declared.told.Told.TheVariants.{NoInput}
 
--- a number above 257 stands for no input
+-- a number above 257 means no input
 abbrev pub is_no_input : ℕ → Bool
 is_no_input number = nat_lt 257 number
 
--- the input that another number stands for: 0 to 255 a byte, 256 the selection of the graphic/upper
+-- the input that another number means: 0 to 255 a byte, 256 the selection of the graphic/upper
 -- case set, 257 that of the lower/upper case set
 abbrev pub input_of : ℕ → Input
 input_of number = if nat_lt number 256 then Byte number else Select (number == 257)
@@ -31,22 +32,31 @@ inputs_limit = 4294967296
 pub record IsInputsText (format : Format) (inputs : List Input) (text : List ℕ) : Type 0 where
   pub paper : Paper
   pub is_page : IsPage inputs paper
-  pub is_text : text ≡ text_in format four_alone (printed_on paper)
+  pub is_text : text_in format four_alone (printed_on paper) ≡ Ok text
 
--- the text of the page of the inputs that these numbers stand for; each stands for one
+-- the page of these inputs can not be shown in this format
+pub record IsInputsUnshown (format : Format) (inputs : List Input) (fault : PictureFault) : Type 0 where
+  pub paper : Paper
+  pub is_page : IsPage inputs paper
+  pub is_unshown : text_in format four_alone (printed_on paper) ≡ Err fault
+
+-- the text of the page of the inputs that these numbers mean; each means one
 abbrev pub IsPrintedText : Format → List ℕ → Stopping → List ℕ → Type 0
 IsPrintedText format numbers stop text =
     (length numbers ≤ inputs_limit) × (position is_no_input numbers ≡ None) × (stop ≡ None)
     × IsInputsText format (map input_of numbers) text
 
--- why numbers give none, other than by one of them; memory can be refused where each stands for an input
-abbrev pub IsPrintRefusal : List ℕ → CliFault → Type 0
-IsPrintRefusal numbers TooLarge = inputs_limit < length numbers
-IsPrintRefusal numbers NoMemory = (length numbers ≤ inputs_limit) × (position is_no_input numbers ≡ None)
-IsPrintRefusal numbers _ = ⊥
+-- why numbers that all mean inputs, or are too many, give no text
+abbrev pub IsPrintRefusal : Format → List ℕ → CliFault → Type 0
+IsPrintRefusal format numbers TooLarge = inputs_limit < length numbers
+IsPrintRefusal format numbers (Picture fault) =
+    (length numbers ≤ inputs_limit) × (position is_no_input numbers ≡ None)
+    × IsInputsUnshown format (map input_of numbers) fault
+IsPrintRefusal format numbers NoMemory = (length numbers ≤ inputs_limit) × (position is_no_input numbers ≡ None)
+IsPrintRefusal format numbers _ = ⊥
 
--- the outcome for numbers: the index of the first that stands for no input, or that of the page
+-- the outcome for numbers: the index of the first that means no input, or that of the page
 abbrev pub TellsInputs : Format → List ℕ → List ℕ → List ℕ → Told → Type 0
 TellsInputs format numbers old new (NoInput index) =
     (length numbers ≤ inputs_limit) × (position is_no_input numbers ≡ Some index) × (new ≡ old)
-TellsInputs format numbers old new told = Tells (IsPrintedText format numbers) (IsPrintRefusal numbers) old new told
+TellsInputs format numbers old new told = Tells (IsPrintedText format numbers) (IsPrintRefusal format numbers) old new told

@@ -1,10 +1,13 @@
--- Trusted: what the numbers that a C caller passes stand for.
+-- Trusted: what the numbers that a C caller passes mean.
 use Rattle.std.specs.Prelude.{ℕ, ◌==◌, Bool, true, false, if◌then◌else◌, Option, Some, None}
 use Rattle.pr_serial.specs.declared.Present.{Present}
 use Rattle.pr_basic.specs.declared.session.StatusMode.{StatusMode}
 use Rattle.pr_basic.specs.declared.session.StatusMode.TheVariants as mode
+use Rattle.pr_listing.specs.declared.form.ListingForm.{ListingForm}
+use Rattle.pr_listing.specs.declared.form.ListingForm.TheVariants as listing
 use Rattle.pr_render.specs.declared.format.Format.{Format}
 use Rattle.pr_render.specs.declared.format.Format.TheVariants as format
+use Rattle.pr_render.specs.Showing.{whole}
 use Rattle.pr_capture.specs.declared.format.TraceFormat.{TraceFormat}
 use Rattle.pr_capture.specs.declared.format.TraceFormat.TheVariants as trace
 
@@ -20,15 +23,23 @@ present_of printers =
 abbrev pub mode_of : ℕ → Option StatusMode
 mode_of status = if status == 0 then Some mode.Each else (if status == 1 then Some mode.Kept else None)
 
--- the format: the page text, lines of 80 columns, or an SVG document
+-- the format: the page text, lines of 80 columns, an SVG document, the first sheet as a PNG file, or a PDF document
 abbrev pub format_of : ℕ → Option Format
 format_of number =
     if number == 0 then Some format.List
-    else (if number == 1 then Some format.Lines else (if number == 2 then Some format.Picture else None))
+    else (if number == 1 then Some format.Lines
+    else (if number == 2 then Some (format.Svg whole)
+    else (if number == 3 then Some (format.Png whole) else (if number == 4 then Some (format.Pdf None) else None))))
 
 -- the format of a trace: the trace text, or a Value Change Dump
 abbrev pub trace_format_of : ℕ → Option TraceFormat
 trace_format_of number = if number == 0 then Some trace.Text else (if number == 1 then Some trace.Vcd else None)
+
+-- the form of a listing: the text of a script, a saved program, petcat's text
+abbrev pub form_of : ℕ → Option ListingForm
+form_of form =
+    if form == 0 then Some listing.Text
+    else (if form == 1 then Some listing.Program else (if form == 2 then Some listing.Petcat else None))
 
 -- the character set: 0 graphic/upper case, 1 lower/upper case
 abbrev pub lower_of : ℕ → Option Bool

@@ -2,7 +2,7 @@
 //! is want of memory, since nothing else can make it fail.
 
 ghost use Rattle.std.specs.Prelude.{◌≡◌, length};
-ghost use Rattle.pr_c.specs.Answers.{IsBusText, IsFramesText, IsPagesText, IsPaperRefusal, IsPaperText, IsScriptRefusal, IsTraceRefusal, Tells};
+ghost use Rattle.pr_c.specs.Answers.{IsBusText, IsFramesText, IsPagesRefusal, IsPagesText, IsPaperRefusal, IsPaperText, IsScriptRefusal, IsTraceRefusal, Tells};
 ghost use Rattle.pr_c.specs.Giving.{without_run};
 ghost use Rattle.pr_cli.specs.Pages.{start_of};
 
@@ -33,8 +33,8 @@ pub fn pages(
     format: Format,
     out: &mut [u8],
 ) -> Told
-    ensures tells { Tells (IsPagesText (start_of present delays mode) format script.now) (IsScriptRefusal script.now)
-        out.old out.new result }
+    ensures tells { Tells (IsPagesText (start_of present delays mode) format script.now)
+        (IsPagesRefusal (start_of present delays mode) format script.now) out.old out.new result }
     ensures length { length out.new ≡ length out.old }
 {
     let mut input = Watched::new(script);
@@ -85,7 +85,7 @@ pub fn bus(
 /// that [`pr_cli::raw_over`] writes, with its faults. The rest is as with [`pages`], but nothing
 /// can stop.
 pub fn raw(alloc: Global, bytes: &[u8], lower: bool, format: Format, out: &mut [u8]) -> Told
-    ensures tells { Tells (IsPaperText lower format bytes.now) (IsPaperRefusal bytes.now) out.old out.new result }
+    ensures tells { Tells (IsPaperText lower format bytes.now) (IsPaperRefusal lower format bytes.now) out.old out.new result }
     ensures length { length out.new ≡ length out.old }
 {
     let mut input = Watched::new(bytes);

@@ -2,13 +2,14 @@
 
 ghost use Rattle.std.specs.Prelude.{◌≡◌, length, IfOk};
 ghost use Rattle.pr_bus.specs.DelaysLeft.{numbers_left};
-ghost use Rattle.pr_c.specs.Asked.{TellsBus, TellsCheck, TellsPages, TellsPrint, TellsRaw, delays_of};
-ghost use Rattle.pr_c.specs.Settings.{format_of, lower_of, mode_of, present_of, trace_format_of};
+ghost use Rattle.pr_c.specs.Asked.{TellsBus, TellsCheck, TellsListing, TellsPages, TellsPrint, TellsRaw, delays_of};
+ghost use Rattle.pr_c.specs.Settings.{form_of, format_of, lower_of, mode_of, present_of, trace_format_of};
 ghost use Rattle.pr_wire.specs.Choices.{left};
 
 use crate::calls::{bus, check, pages, raw};
+use crate::listings::{answer_for, listing};
 use crate::printing::print;
-use crate::settings::{format_for, lower_for, mode_for, present_for, trace_format_for};
+use crate::settings::{form_for, format_for, lower_for, mode_for, present_for, trace_format_for};
 use crate::told::{Answer, Told, numbered, refused};
 use pr_bus::Delays;
 use pr_cli::CliFault;
@@ -42,7 +43,7 @@ fn delays_for(
 
 /// Runs a script, and puts the text of its pages at the front of the caller's buffer.
 ///
-/// It does what [`pages`](crate::pages) does, in plain numbers. A number that stands for no setting
+/// It does what [`pages`](crate::pages) does, in plain numbers. A number that means no setting
 /// is refused: of the printers first, then of the status and the format.
 #[unsafe(no_mangle)]
 pub extern "C" fn print1525_pages(
@@ -82,7 +83,7 @@ pub extern "C" fn print1525_pages(
 
 /// Runs a script, and puts the trace of its run at the front of the caller's buffer.
 ///
-/// It does what [`bus`](crate::bus) does, in plain numbers. A number that stands for no setting is
+/// It does what [`bus`](crate::bus) does, in plain numbers. A number that means no setting is
 /// refused: of the printers first, then of the status and the format.
 #[unsafe(no_mangle)]
 pub extern "C" fn print1525_bus(
@@ -120,9 +121,31 @@ pub extern "C" fn print1525_bus(
     *answer = numbered(told);
 }
 
+/// Puts the text of a script that a listing has at the front of the caller's buffer.
+///
+/// It does what [`listing`](crate::listing) does, in plain numbers. A number that means no form is
+/// refused.
+#[unsafe(no_mangle)]
+pub extern "C" fn print1525_listing(
+    alloc: Global,
+    bytes: &[u8],
+    form: u8,
+    out: &mut [u8],
+    answer: &mut Answer,
+)
+    ensures tells { TellsListing (form_of form) bytes.now out.old out.new answer.new }
+    ensures length { length out.new ≡ length out.old }
+{
+    let Some(form) = form_for(form) else {
+        *answer = refused(60, 0);
+        return;
+    };
+    *answer = answer_for(listing(alloc, bytes, form, out));
+}
+
 /// Puts the page that a printer prints of some bytes at the front of the caller's buffer.
 ///
-/// It does what [`raw`](crate::raw) does, in plain numbers. A number that stands for no setting is
+/// It does what [`raw`](crate::raw) does, in plain numbers. A number that means no setting is
 /// refused: of the set first, then of the format.
 #[unsafe(no_mangle)]
 pub extern "C" fn print1525_raw(
@@ -149,7 +172,7 @@ pub extern "C" fn print1525_raw(
 
 /// Puts the page that a printer prints of its inputs at the front of the caller's buffer.
 ///
-/// It does what [`print`](crate::print) does, in plain numbers. A number that stands for no format
+/// It does what [`print`](crate::print) does, in plain numbers. A number that means no format
 /// is refused.
 #[unsafe(no_mangle)]
 pub extern "C" fn print1525_print(

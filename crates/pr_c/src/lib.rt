@@ -8,12 +8,14 @@
 //!   `settings` gives the numbers their meaning.
 //! - `calls` calls pr_cli with a slice as the reader and a `Vec` as the writer, and copies the text out.
 //!   `told` is what a call found, as values and as the numbers of the header.
+//! - `listings` gives a listing's text of a script, with an enum and numbers of its own.
 //! - `printing` gives a printer its inputs and takes the text of its page. `stops` runs a script that
 //!   stopped once more, and finds its error.
 #![tactic(auto)]
 
 mod calls;
 mod exports;
+mod listings;
 mod printing;
 mod settings;
 mod stops;
@@ -21,7 +23,9 @@ mod told;
 
 pub use calls::{bus, check, pages, raw};
 pub use exports::{
-    print1525_bus, print1525_check, print1525_pages, print1525_print, print1525_raw,
+    print1525_bus, print1525_check, print1525_listing, print1525_pages, print1525_print,
+    print1525_raw,
 };
+pub use listings::{Listed, listing};
 pub use printing::{bytes_are_inputs, print};
 pub use told::{Answer, Told};

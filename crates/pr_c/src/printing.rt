@@ -5,7 +5,8 @@ ghost use Rattle.std.specs.List.{position};
 ghost use Rattle.pr_cli.specs.Raw.{printed_on};
 ghost use Rattle.pr_page.specs.Page.{IsPage};
 ghost use Rattle.pr_c.specs.Laws.{BytesAreInputs};
-ghost use Rattle.pr_c.specs.Printing.{IsInputsText, TellsInputs, input_of, is_no_input, inputs_limit};
+ghost use Rattle.pr_c.specs.Printed.{GivesInputsText};
+ghost use Rattle.pr_c.specs.Printing.{TellsInputs, input_of, is_no_input, inputs_limit};
 
 use crate::told::{Told, give};
 use pr_cli::{CliFault, text_in_format};
@@ -13,12 +14,12 @@ use pr_page::{Input, NoMemory, Paper, Printer, Sequence};
 use pr_render::Format;
 use pr_serial::Present;
 use pr_system::Outcome;
-use std::alloc::{AllocError, Global};
+use std::alloc::Global;
 
 /// The most inputs of a page: a printer takes no more.
 const INPUTS_LIMIT: usize = 4_294_967_296;
 
-/// The last number that stands for an input.
+/// The last number that means an input.
 const LAST_INPUT: u16 = 257;
 
 /// The printers of a page that is printed of inputs.
@@ -27,7 +28,7 @@ const FOUR_ALONE: Present = Present {
     five: false,
 };
 
-/// The input that a number stands for: 0 to 255 a byte, 256 the selection of the graphic/upper case
+/// The input that a number means: 0 to 255 a byte, 256 the selection of the graphic/upper case
 /// set, 257 that of the lower/upper case set.
 fn input_for(number: u16) -> Input
     ensures { result ≡ input_of number }
@@ -38,7 +39,7 @@ fn input_for(number: u16) -> Input
     }
 }
 
-/// The index of the first number that stands for no input, if there is one.
+/// The index of the first number that means no input, if there is one.
 fn first_no_input(numbers: &[u16]) -> Option<usize>
     ensures { result ≡ position is_no_input numbers.now }
 {
@@ -50,7 +51,7 @@ fn first_no_input(numbers: &[u16]) -> Option<usize>
     None
 }
 
-/// The paper of a printer that has taken the inputs that numbers stand for.
+/// The paper of a printer that has taken the inputs that numbers mean.
 fn paper_of(alloc: Global, numbers: &[u16]) -> Result<Paper, NoMemory>
     requires few { length numbers.now ≤ inputs_limit }
     ensures { IfOk result (λ paper. IsPage (map input_of numbers.now) paper) }
@@ -79,14 +80,14 @@ fn outcome_with(alloc: Global, paper: Paper) -> Outcome
     }
 }
 
-/// The text of the page of the inputs that numbers stand for.
-fn text_of(alloc: Global, numbers: &[u16], format: Format) -> Result<Vec<u8>, NoMemory>
+/// The text of the page of the inputs that numbers mean.
+fn text_of(alloc: Global, numbers: &[u16], format: Format) -> Result<Vec<u8>, CliFault>
     requires few { length numbers.now ≤ inputs_limit }
-    ensures { IfOk result (λ text. IsInputsText format (map input_of numbers.now) text.items) }
+    ensures { GivesInputsText format (map input_of numbers.now) result }
 {
     let paper = paper_of(alloc, numbers)?;
     let text = text_in_format(alloc, outcome_with(alloc, paper), FOUR_ALONE, format)?;
-    text.into_vec()
+    Ok(text.into_vec()?)
 }
 
 /// Puts the text of the page that a printer prints of its inputs, as that of printer 4, at the
@@ -110,7 +111,7 @@ pub fn print(alloc: Global, inputs: &[u16], format: Format, out: &mut [u8]) -> T
     }
     match text_of(alloc, inputs, format) {
         Ok(text) => give(Ok(None), &text, out),
-        Err(AllocError) => Told::Refused(CliFault::NoMemory),
+        Err(fault) => Told::Refused(fault),
     }
 }
 

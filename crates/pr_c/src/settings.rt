@@ -1,11 +1,12 @@
-//! What the numbers that a caller passes stand for.
+//! What the numbers that a caller passes mean.
 
 ghost use Rattle.std.specs.Prelude.{◌≡◌};
-ghost use Rattle.pr_c.specs.Settings.{format_of, lower_of, mode_of, present_of, trace_format_of};
+ghost use Rattle.pr_c.specs.Settings.{form_of, format_of, lower_of, mode_of, present_of, trace_format_of};
 
 use pr_basic::StatusMode;
 use pr_capture::TraceFormat;
-use pr_render::Format;
+use pr_listing::ListingForm;
+use pr_render::{Format, Part};
 use pr_serial::Present;
 
 /// The printers present: 0 none, 1 printer 4, 2 printer 5, 3 both.
@@ -33,14 +34,16 @@ pub fn mode_for(status: u8) -> Option<StatusMode>
     }
 }
 
-/// The format: 0 the page text, 1 lines of 80 columns, 2 an SVG document.
+/// The format: 0 the page text, 1 lines of 80 columns, 2 an SVG document, 3 the first sheet as a PNG file, 4 a PDF document.
 pub fn format_for(format: u8) -> Option<Format>
     ensures { result ≡ format_of format }
 {
     match format {
         0 => Some(Format::List),
         1 => Some(Format::Lines),
-        2 => Some(Format::Picture),
+        2 => Some(Format::Svg(Part::whole())),
+        3 => Some(Format::Png(Part::whole())),
+        4 => Some(Format::Pdf(None)),
         _ => None,
     }
 }
@@ -52,6 +55,18 @@ pub fn trace_format_for(format: u8) -> Option<TraceFormat>
     match format {
         0 => Some(TraceFormat::Text),
         1 => Some(TraceFormat::Vcd),
+        _ => None,
+    }
+}
+
+/// The form of a listing: 0 the text of a script, 1 a saved program, 2 petcat's text.
+pub fn form_for(form: u8) -> Option<ListingForm>
+    ensures { result ≡ form_of form }
+{
+    match form {
+        0 => Some(ListingForm::Text),
+        1 => Some(ListingForm::Program),
+        2 => Some(ListingForm::Petcat),
         _ => None,
     }
 }

@@ -1,25 +1,25 @@
-//! What a call tells its caller.
+//! What a call answers its caller.
 
 ghost use Rattle.std.specs.Prelude.{◌≡◌, length};
-ghost use Rattle.pr_c.specs.Answers.{answer_of, plain, refusal, script_numbers, stopped, wave_numbers};
+ghost use Rattle.pr_c.specs.Answers.{answer_of, picture_numbers, plain, refusal, script_numbers, stopped, wave_numbers};
 ghost use Rattle.pr_c.specs.Giving.{Gives, in_memory};
 
 use pr_basic::ScriptFault;
 use pr_channels::Stop;
-use pr_cli::CliFault;
+use pr_cli::{CliFault, PictureFault};
 use pr_wire::{TraceFault, WaveFault};
 
 /// What came of a call.
 #[derive(Clone, Copy, Debug, PartialEq, Eq)]
 pub enum Told {
-    /// The text stands at the front of the buffer, and has this many bytes. Of a run that a BASIC
+    /// The text is at the front of the buffer, and has this many bytes. Of a run that a BASIC
     /// error stopped there is the error, with its statement, counted from 1.
     Written(Option<(usize, Stop)>, usize),
     /// The text has this many bytes, more than the buffer has room for.
     TooSmall(usize),
     /// There is no text.
     Refused(CliFault),
-    /// The number at this index stands for no input of a printer.
+    /// The number at this index means no input of a printer.
     NoInput(usize),
 }
 
@@ -31,12 +31,13 @@ pub struct Answer {
     pub code: usize,
     /// With code 1 the number of the BASIC error: 1, 2, 3, 5 or 6. With code 2 the number of the fault:
     /// 1 to 7 those of a script, 8 a bad line of a trace text, 9 too large, 11 to 16 those of a trace,
-    /// 22 to 25 a number that stands for no setting, 28 one that stands for no input. Else 0.
+    /// 22 to 25 and 60 a number that means no setting, 28 one that means no input, 50 a sheet that
+    /// there is not, 51 a document that is too large, 61 to 64 those of a listing. Else 0.
     pub fault: usize,
     /// The statement of the error, from 1, the line of the fault, from 1, or the index of its edge or of
-    /// its input, from 0; or 0.
+    /// its input, from 0; with 50 how many sheets there are; or 0.
     pub place: usize,
-    /// The number of the text's bytes, or 0.
+    /// The number of the text's bytes, with the faults 63 and 64 the column, from 1, or 0.
     pub length: usize,
 }
 
@@ -68,7 +69,7 @@ pub fn give(made: Result<Option<(usize, Stop)>, CliFault>, text: &[u8], out: &mu
 }
 
 /// An answer without a fault.
-fn unfaulted(code: usize, length: usize) -> Answer
+pub fn unfaulted(code: usize, length: usize) -> Answer
     ensures { result ≡ plain code length }
 {
     Answer {
@@ -134,7 +135,17 @@ fn of_wave(fault: WaveFault) -> Answer
     }
 }
 
-/// What is told, as numbers.
+/// A picture's fault.
+fn of_picture(fault: PictureFault) -> Answer
+    ensures { result ≡ refusal (picture_numbers fault) }
+{
+    match fault {
+        PictureFault::NoSuchSheet(sheets) => refused(50, sheets as usize),
+        PictureFault::TooLarge => refused(51, 0),
+    }
+}
+
+/// The answer, as numbers.
 pub fn numbered(told: Told) -> Answer
     ensures { result ≡ answer_of told }
 {
@@ -148,6 +159,7 @@ pub fn numbered(told: Told) -> Answer
         Told::Refused(CliFault::Trace(TraceFault::NoMemory)) => refused(0, 0),
         Told::Refused(CliFault::Wave(fault)) => of_wave(fault),
         Told::Refused(CliFault::Capture(_)) => refused(0, 0),
+        Told::Refused(CliFault::Picture(fault)) => of_picture(fault),
         Told::Refused(CliFault::TooLarge) => refused(9, 0),
         Told::Refused(CliFault::NoMemory)
         | Told::Refused(CliFault::ReadFailed)

@@ -5,44 +5,44 @@ use Rattle.pr_base.specs.Lines.{onto_first}
 use Rattle.pr_capture.specs.Csv.{field_at, fields_of}
 use Rattle.pr_capture.specs.CsvSteps.{field_len}
 
--- a comma ends the first field
-pub field-ended : (quoted : Bool) (l : List ℕ) → field_len quoted l < length l
-    → fields_of quoted l ≡ take (field_len quoted l) l ∷ fields_of false (drop (field_len quoted l + 1) l)
-field-ended quoted [] h = absurd (omega arith)
-field-ended quoted (b ∷ bs) h = step (b == 44 && not quoted) refl h (λ k. field-ended (if b == 34 then not quoted else quoted) bs k)
+-- a separator ends the first field
+pub field-ended : (sep : ℕ) (quoted : Bool) (l : List ℕ) → field_len sep quoted l < length l
+    → fields_of sep quoted l ≡ take (field_len sep quoted l) l ∷ fields_of sep false (drop (field_len sep quoted l + 1) l)
+field-ended sep quoted [] h = absurd (omega arith)
+field-ended sep quoted (b ∷ bs) h = step (b == sep && not quoted) refl h (λ k. field-ended sep (if b == 34 then not quoted else quoted) bs k)
   where
-    step : (t : Bool) → (b == 44 && not quoted) ≡ t → field_len quoted (b ∷ bs) < length (b ∷ bs)
-        → (field_len (if b == 34 then not quoted else quoted) bs < length bs
-        → fields_of (if b == 34 then not quoted else quoted) bs
-        ≡ take (field_len (if b == 34 then not quoted else quoted) bs) bs ∷ fields_of false (drop (field_len (if b == 34 then not quoted else quoted) bs + 1) bs))
-        → fields_of quoted (b ∷ bs) ≡ take (field_len quoted (b ∷ bs)) (b ∷ bs) ∷ fields_of false (drop (field_len quoted (b ∷ bs) + 1) (b ∷ bs))
+    step : (t : Bool) → (b == sep && not quoted) ≡ t → field_len sep quoted (b ∷ bs) < length (b ∷ bs)
+        → (field_len sep (if b == 34 then not quoted else quoted) bs < length bs
+        → fields_of sep (if b == 34 then not quoted else quoted) bs
+        ≡ take (field_len sep (if b == 34 then not quoted else quoted) bs) bs ∷ fields_of sep false (drop (field_len sep (if b == 34 then not quoted else quoted) bs + 1) bs))
+        → fields_of sep quoted (b ∷ bs) ≡ take (field_len sep quoted (b ∷ bs)) (b ∷ bs) ∷ fields_of sep false (drop (field_len sep quoted (b ∷ bs) + 1) (b ∷ bs))
     step true e k next = rw e refl
     step false e k next =
-        let m : ℕ = field_len (if b == 34 then not quoted else quoted) bs in
-        let n : suc m ≡ field_len quoted (b ∷ bs) = rw e (omega arith) in
+        let m : ℕ = field_len sep (if b == 34 then not quoted else quoted) bs in
+        let n : suc m ≡ field_len sep quoted (b ∷ bs) = rw e (omega arith) in
         let less : m < length bs = omega (arith, k, n) in
-        let f : fields_of quoted (b ∷ bs) ≡ onto_first b (fields_of (if b == 34 then not quoted else quoted) bs) = rw e refl in
-        let g : onto_first b (fields_of (if b == 34 then not quoted else quoted) bs) ≡ take (suc m) (b ∷ bs) ∷ fields_of false (drop (suc (m + 1)) (b ∷ bs)) =
+        let f : fields_of sep quoted (b ∷ bs) ≡ onto_first b (fields_of sep (if b == 34 then not quoted else quoted) bs) = rw e refl in
+        let g : onto_first b (fields_of sep (if b == 34 then not quoted else quoted) bs) ≡ take (suc m) (b ∷ bs) ∷ fields_of sep false (drop (suc (m + 1)) (b ∷ bs)) =
         ap (onto_first b) (next less) in
         let o : suc (m + 1) ≡ suc m + 1 = omega arith in
-        let P : ℕ → Type 0 = λ j. fields_of quoted (b ∷ bs) ≡ take (suc m) (b ∷ bs) ∷ fields_of false (drop j (b ∷ bs)) in
-        let Q : ℕ → Type 0 = λ j. fields_of quoted (b ∷ bs) ≡ take j (b ∷ bs) ∷ fields_of false (drop (j + 1) (b ∷ bs)) in
+        let P : ℕ → Type 0 = λ j. fields_of sep quoted (b ∷ bs) ≡ take (suc m) (b ∷ bs) ∷ fields_of sep false (drop j (b ∷ bs)) in
+        let Q : ℕ → Type 0 = λ j. fields_of sep quoted (b ∷ bs) ≡ take j (b ∷ bs) ∷ fields_of sep false (drop (j + 1) (b ∷ bs)) in
         subst Q n (subst P o (f ∙ g))
 
 -- a line without one is one field
-pub field-alone : (quoted : Bool) (l : List ℕ) → length l ≤ field_len quoted l → fields_of quoted l ≡ l ∷ []
-field-alone quoted [] h = refl
-field-alone quoted (b ∷ bs) h = step (b == 44 && not quoted) refl h (λ k. field-alone (if b == 34 then not quoted else quoted) bs k)
+pub field-alone : (sep : ℕ) (quoted : Bool) (l : List ℕ) → length l ≤ field_len sep quoted l → fields_of sep quoted l ≡ l ∷ []
+field-alone sep quoted [] h = refl
+field-alone sep quoted (b ∷ bs) h = step (b == sep && not quoted) refl h (λ k. field-alone sep (if b == 34 then not quoted else quoted) bs k)
   where
-    step : (t : Bool) → (b == 44 && not quoted) ≡ t → length (b ∷ bs) ≤ field_len quoted (b ∷ bs)
-        → (length bs ≤ field_len (if b == 34 then not quoted else quoted) bs → fields_of (if b == 34 then not quoted else quoted) bs ≡ bs ∷ [])
-        → fields_of quoted (b ∷ bs) ≡ (b ∷ bs) ∷ []
+    step : (t : Bool) → (b == sep && not quoted) ≡ t → length (b ∷ bs) ≤ field_len sep quoted (b ∷ bs)
+        → (length bs ≤ field_len sep (if b == 34 then not quoted else quoted) bs → fields_of sep (if b == 34 then not quoted else quoted) bs ≡ bs ∷ [])
+        → fields_of sep quoted (b ∷ bs) ≡ (b ∷ bs) ∷ []
     step true e k next = let none : length (b ∷ bs) ≤ 0 = rw e at k in absurd (omega (arith, none))
     step false e k next =
-        let less : length (b ∷ bs) ≤ 1 + field_len (if b == 34 then not quoted else quoted) bs = rw e at k in
+        let less : length (b ∷ bs) ≤ 1 + field_len sep (if b == 34 then not quoted else quoted) bs = rw e at k in
         rw e (ap (onto_first b) (next (omega (arith, less))))
 
--- the field of a place, by those behind the first
+-- the field of a place, by those after the first
 pub at-none : (place : ℕ) (fields : List (List ℕ)) (f : List ℕ) → 0 < place → fields ≡ f ∷ [] → field_at place fields ≡ None
 at-none zero fields f h e = absurd (omega arith)
 at-none (suc place) fields f h e = rw e refl
@@ -55,20 +55,20 @@ pub at-first : (place : ℕ) (fields fs : List (List ℕ)) (f : List ℕ) → pl
 at-first place fields fs f h e = rw (h, e) refl
 
 -- a line has at most one field more than bytes
-pub fields-few : (quoted : Bool) (l : List ℕ) → length (fields_of quoted l) ≤ length l + 1
-fields-few quoted [] = omega arith
-fields-few quoted (b ∷ bs) = step (b == 44 && not quoted) refl (fields-few false bs) (fields-few (if b == 34 then not quoted else quoted) bs)
+pub fields-few : (sep : ℕ) (quoted : Bool) (l : List ℕ) → length (fields_of sep quoted l) ≤ length l + 1
+fields-few sep quoted [] = omega arith
+fields-few sep quoted (b ∷ bs) = step (b == sep && not quoted) refl (fields-few sep false bs) (fields-few sep (if b == 34 then not quoted else quoted) bs)
   where
     onto : (fs : List (List ℕ)) → length fs ≤ length bs + 1 → length (onto_first b fs) ≤ length (b ∷ bs) + 1
     onto [] k = omega arith
     onto (f ∷ fs) k = omega (arith, k)
 
-    step : (t : Bool) → (b == 44 && not quoted) ≡ t → length (fields_of false bs) ≤ length bs + 1
-        → length (fields_of (if b == 34 then not quoted else quoted) bs) ≤ length bs + 1
-        → length (fields_of quoted (b ∷ bs)) ≤ length (b ∷ bs) + 1
+    step : (t : Bool) → (b == sep && not quoted) ≡ t → length (fields_of sep false bs) ≤ length bs + 1
+        → length (fields_of sep (if b == 34 then not quoted else quoted) bs) ≤ length bs + 1
+        → length (fields_of sep quoted (b ∷ bs)) ≤ length (b ∷ bs) + 1
     step true e j k = rw e (omega (arith, j))
-    step false e j k = rw e (onto (fields_of (if b == 34 then not quoted else quoted) bs) k)
+    step false e j k = rw e (onto (fields_of sep (if b == 34 then not quoted else quoted) bs) k)
 
--- and at most as many behind the first
-pub left-few : (l f : List ℕ) (fs : List (List ℕ)) → fields_of false l ≡ f ∷ fs → length fs ≤ length l
-left-few l f fs e = let few : length (f ∷ fs) ≤ length l + 1 = subst (λ v. length v ≤ length l + 1) e (fields-few false l) in omega (arith, few)
+-- and at most as many after the first
+pub left-few : (sep : ℕ) (l f : List ℕ) (fs : List (List ℕ)) → fields_of sep false l ≡ f ∷ fs → length fs ≤ length l
+left-few sep l f fs e = let few : length (f ∷ fs) ≤ length l + 1 = subst (λ v. length v ≤ length l + 1) e (fields-few sep false l) in omega (arith, few)

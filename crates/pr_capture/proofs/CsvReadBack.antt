@@ -1,32 +1,53 @@
 -- A table that holds samples is read back as these samples.
-use Rattle.std.proofs.Common.{◌≡◌, ℕ, zero, suc, ◌+◌, ◌-◌, ◌*◌, ◌/◌, ◌%◌, ◌<◌, ◌≤◌, ◌==◌, Bool, true, false, List, [], ◌∷◌, ◌++◌, length, take, drop, refl, ap, sym, subst, ◌∙◌, arith, append_assoc, append-nil, length-append, nat_lt, Option, Some, None}
-use Rattle.std.specs.Prelude.{◌&&◌, ◌||◌, not, codes, if◌then◌else◌, Result, Ok, Err}
+use Rattle.std.proofs.Common.{◌≡◌, ℕ, zero, suc, ◌+◌, ◌-◌, ◌*◌, ◌/◌, ◌%◌, ◌<◌, ◌≤◌, ◌==◌, Bool, true, false, List, [], ◌∷◌, ◌++◌, length, take, drop, refl, ap, sym, subst, ◌∙◌, arith, append_assoc, append-nil, length-append, nat_lt, Option, Some, None, inl, inr, lit<}
+use Rattle.std.proofs.Math.Seq.{take-append_seam}
+use Rattle.std.specs.Prelude.{◌⊎◌, ◌&&◌, ◌||◌, not, codes, nat_le, Ok}
 use Rattle.std.specs.List.{list_all, prefix_len}
 use Rattle.std.proofs.lemmas.Grind.{common_steps}
+use Rattle.std.proofs.lemmas.List.{take_all}
 use Rattle.std.proofs.lemmas.List.Folds.{list_all-append}
-use Rattle.pr_wire.specs.declared.Levels.{Levels}
 use Rattle.pr_wire.specs.declared.Edge.{Edge}
 use Rattle.pr_wire.specs.Levels.{edge_at}
-use Rattle.pr_wire.specs.Table.{differ}
 use Rattle.pr_base.specs.Digits.{is_digit}
 use Rattle.pr_base.specs.Lines.{lines_of, onto_first}
 use Rattle.pr_capture.specs.declared.csv.Columns.{Columns}
-use Rattle.pr_capture.specs.declared.fault.CaptureFault.{CaptureFault}
-use Rattle.pr_capture.specs.declared.fault.Wire.TheVariants.{Atn, Clock, Data}
+use Rattle.pr_capture.specs.declared.csv.Layout.{Layout}
+use Rattle.pr_capture.specs.declared.csv.Moment.{Moment}
+use Rattle.pr_capture.specs.declared.csv.Scale.TheVariants.{Timed}
+use Rattle.pr_capture.specs.declared.times.Exponent.{Exponent}
+use Rattle.pr_capture.specs.declared.times.Instant.{Instant}
 use Rattle.pr_capture.specs.declared.signals.Signals.{Signals}
-use Rattle.pr_capture.specs.Csv.{behind_decimals, behind_digits, clock_column, column_of, column_or, columns_of, contents_after_row, csv_contents, decimals_in, digits_in, fields_of, is_silent, line_contents, micros_in, millionths, number_from, row, row_contents, sample_of, time_in, time_or}
-use Rattle.pr_capture.specs.CsvLaws.{InOrder, csv_of, csv_row, csv_rows, digits_of, level_byte}
+use Rattle.pr_capture.specs.Csv.{clock_column, column_of, csv_contents, fields_of, first_contents, first_moment, is_in_front, is_silent, layout_by, layout_in, layout_of, moment_at, opened, row_contents, row_of, sample_of, separator_of}
+use Rattle.pr_capture.specs.Numbers.{behind_decimals, behind_digits, decimals_in, digits_in, number_from, number_of_first, onward, with_zeros}
+use Rattle.pr_capture.specs.TableTimes.{behind_sign_of, exponent_in, instant_by, instant_in, instant_or, is_minus, behind_plus_minus, dated_in, micros_of, no_remarks, start_of, time_unit, unsigned_in}
+use Rattle.pr_capture.specs.CsvLaws.{InOrder, csv_names, csv_of, csv_row, csv_rows, digits_of, level_byte, separator_byte, time_field, time_name, Separator, TimeUnit}
+use Rattle.pr_capture.specs.CsvLaws.Separator.{Comma, Semicolon, Tab}
+use Rattle.pr_capture.specs.CsvLaws.TimeUnit.{Seconds, Milliseconds, Microseconds, Nanoseconds, Picoseconds}
 use Rattle.pr_capture.specs.CsvSteps.{is_inner}
-use Rattle.pr_capture.specs.Recording.{◌>>=◌, CaptureContents, first_some, is_framing, second_name, with_samples, without_front}
-use Rattle.pr_capture.specs.Samples.{begin_at, changes_after, counted_from, edges_of, last_at_each}
+use Rattle.pr_capture.specs.Words.{is_space}
+use Rattle.pr_capture.specs.Recording.{◌>>=◌, first_some, is_framing, second_name, with_samples, without_front}
+use Rattle.pr_capture.specs.Samples.{changes_after, edges_of, last_at_each}
 use Rattle.pr_capture.specs.VcdReadingLaws.{IsAsWritten, RunsOn}
 use Rattle.pr_capture.proofs.CsvReading.{inner-line}
-use Rattle.pr_capture.proofs.CsvTimes.{micros-on, number-on}
 use Rattle.pr_capture.proofs.VcdReadBack.{from-zero, not-same}
 
 -- Digits.
 
--- a number with so many zeros behind it
+-- digits in two parts
+number-append : (n : ℕ) (ds es : List ℕ) → number_from n (ds ++ es) ≡ onward (number_from n ds) (λ m. number_from m es)
+number-append n [] es = refl
+number-append n (d ∷ ds) es = step (nat_lt (10 * n + (d - 48)) 18446744073709551616) refl (number-append (10 * n + (d - 48)) ds es)
+  where
+    step : (t : Bool) → nat_lt (10 * n + (d - 48)) 18446744073709551616 ≡ t
+        → number_from (10 * n + (d - 48)) (ds ++ es) ≡ onward (number_from (10 * n + (d - 48)) ds) (λ m. number_from m es)
+        → number_from n ((d ∷ ds) ++ es) ≡ onward (number_from n (d ∷ ds)) (λ m. number_from m es)
+    step true e next = rw e next
+    step false e next = rw e refl
+
+number-on : (n : ℕ) (ds es : List ℕ) (m : ℕ) → number_from n ds ≡ Some m → number_from n (ds ++ es) ≡ number_from m es
+number-on n ds es m h = number-append n ds es ∙ ap (λ o. onward o (λ k. number_from k es)) h
+
+-- a number with this many zeros after it
 abbrev scaled : ℕ → ℕ → ℕ
 scaled zero n = n
 scaled (suc k) n = 10 * scaled k n
@@ -43,7 +64,7 @@ digits-spell (suc k) v n few fits =
     number-on v (digits_of k (n / 10)) ((48 + n % 10) ∷ []) m (digits-spell k v (n / 10) less below)
     ∙ rw room (ap (λ (j : ℕ). Some j) whole)
 
--- so many digits
+-- this many digits
 digits-count : (k n : ℕ) → length (digits_of k n) ≡ k
 digits-count zero n = refl
 digits-count (suc k) n = length-append (digits_of k (n / 10)) ((48 + n % 10) ∷ []) ∙ (let c = digits-count k (n / 10) in omega (arith, c))
@@ -58,7 +79,7 @@ all-digits p h (suc k) n =
     list_all-append p (digits_of k (n / 10)) ((48 + n % 10) ∷ [])
     ∙ rw (all-digits p h k (n / 10), h (48 + n % 10) (one-digit n)) refl
 
--- digits in front, and no digit behind them
+-- digits in front, and no digit after them
 digits-run : (xs rest : List ℕ) → list_all is_digit xs ≡ true → prefix_len is_digit rest ≡ 0
     → (take (prefix_len is_digit (xs ++ rest)) (xs ++ rest) ≡ xs) × (drop (prefix_len is_digit (xs ++ rest)) (xs ++ rest) ≡ rest)
 digits-run [] rest h k = rw k (refl, refl)
@@ -86,24 +107,35 @@ digits-run (x ∷ xs) rest h k = by (is_digit x) refl h (digits-run xs rest)
 -- Fields.
 
 -- a byte that ends no field and begins no quotation
-abbrev is_plain : ℕ → Bool
-is_plain b = not (b == 44) && not (b == 34)
+abbrev is_plain : (sep : ℕ) → ℕ → Bool
+is_plain sep b = not (b == sep) && not (b == 34)
 
-digit-plain : (b : ℕ) → is_digit b ≡ true → is_plain b ≡ true
-digit-plain b h = grind (arith, common_steps)
+digit-plain : (p : Separator) (b : ℕ) → is_digit b ≡ true → is_plain (separator_byte p) b ≡ true
+digit-plain Comma b h = grind (arith, common_steps)
+digit-plain Semicolon b h = grind (arith, common_steps)
+digit-plain Tab b h = grind (arith, common_steps)
+
+point-plain : (p : Separator) → is_plain (separator_byte p) 46 ≡ true
+point-plain Comma = refl
+point-plain Semicolon = refl
+point-plain Tab = refl
 
 digit-inner : (b : ℕ) → is_digit b ≡ true → is_inner b ≡ true
 digit-inner b h = grind (arith, common_steps)
 
-field-first : (xs rest : List ℕ) → list_all is_plain xs ≡ true → fields_of false (xs ++ 44 ∷ rest) ≡ xs ∷ fields_of false rest
-field-first [] rest h = refl
-field-first (x ∷ xs) rest h = by (x == 44) (x == 34) refl refl (field-first xs rest)
+same-byte : (n : ℕ) → (n == n) ≡ true
+same-byte n = grind (arith, common_steps)
+
+field-first : (sep : ℕ) (xs rest : List ℕ) → list_all (is_plain sep) xs ≡ true
+    → fields_of sep false (xs ++ sep ∷ rest) ≡ xs ∷ fields_of sep false rest
+field-first sep [] rest h = rw (same-byte sep) refl
+field-first sep (x ∷ xs) rest h = by (x == sep) (x == 34) refl refl (field-first sep xs rest)
   where
-    by : (a b : Bool) → (x == 44) ≡ a → (x == 34) ≡ b
-        → (list_all is_plain xs ≡ true → fields_of false (xs ++ 44 ∷ rest) ≡ xs ∷ fields_of false rest)
-        → fields_of false ((x ∷ xs) ++ 44 ∷ rest) ≡ (x ∷ xs) ∷ fields_of false rest
+    by : (a b : Bool) → (x == sep) ≡ a → (x == 34) ≡ b
+        → (list_all (is_plain sep) xs ≡ true → fields_of sep false (xs ++ sep ∷ rest) ≡ xs ∷ fields_of sep false rest)
+        → fields_of sep false ((x ∷ xs) ++ sep ∷ rest) ≡ (x ∷ xs) ∷ fields_of sep false rest
     by false false d e next =
-        let all : list_all is_plain xs ≡ true = rw (d, e) at h in
+        let all : list_all (is_plain sep) xs ≡ true = rw (d, e) at h in
         rw (d, e) (ap (onto_first x) (next all))
     by true b d e next = absurd (let no : false ≡ true = rw d at h in cc)
     by false true d e next = absurd (let no : false ≡ true = rw (d, e) at h in cc)
@@ -111,165 +143,396 @@ field-first (x ∷ xs) rest h = by (x == 44) (x == 34) refl refl (field-first xs
 -- digits in front are no white space and no remark
 digit-first : (xs rest : List ℕ) → 0 < length xs → list_all is_digit xs ≡ true
     → (without_front (xs ++ rest) ≡ xs ++ rest) × (is_silent (xs ++ rest) ≡ false)
+    × (is_minus (xs ++ rest) ≡ false) × (behind_plus_minus (xs ++ rest) ≡ xs ++ rest)
 digit-first [] rest some h = absurd (omega (arith, some))
 digit-first (x ∷ xs) rest some h = by (is_digit x) refl h
   where
     by : (b : Bool) → is_digit x ≡ b → list_all is_digit (x ∷ xs) ≡ true
         → (without_front ((x ∷ xs) ++ rest) ≡ (x ∷ xs) ++ rest) × (is_silent ((x ∷ xs) ++ rest) ≡ false)
+        × (is_minus ((x ∷ xs) ++ rest) ≡ false) × (behind_plus_minus ((x ∷ xs) ++ rest) ≡ (x ∷ xs) ++ rest)
     by true e j =
         let f : is_framing x ≡ false = grind (arith, common_steps) in
+        let w : is_space x ≡ false = grind (arith, common_steps) in
         let r : (x == 59 || x == 35) ≡ false = grind (arith, common_steps) in
-        (rw f refl, rw (f, r) refl)
+        let m : (x == 45) ≡ false = grind (arith, common_steps) in
+        let p : (x == 45 || x == 43) ≡ false = grind (arith, common_steps) in
+        (rw f refl, rw (w, r) refl, m, rw p refl)
     by false e j = absurd (let no : false ≡ true = rw e at j in cc)
 
--- Rows.
-
--- the field of the time
-abbrev time_field : ℕ → List ℕ
-time_field t = digits_of 14 (t / 1000000) ++ 46 ∷ digits_of 6 (t % 1000000)
-
-abbrev level_fields : Edge → List ℕ
-level_fields e = level_byte e.levels.atn ∷ 44 ∷ level_byte e.levels.clock ∷ 44 ∷ level_byte e.levels.line ∷ []
+-- Times.
 
 is-digits : (k n : ℕ) → list_all is_digit (digits_of k n) ≡ true
 is-digits k n = all-digits is_digit (λ b h. h) k n
 
-row-split : (e : Edge) → csv_row e ≡ time_field e.time ++ 44 ∷ level_fields e
-row-split e = sym (append_assoc (digits_of 14 (e.time / 1000000)) (46 ∷ digits_of 6 (e.time % 1000000)) (44 ∷ level_fields e))
+-- this many microseconds from the start on
+abbrev behind_start : ℕ → Instant
+behind_start t = record { is_negative = false; micros = t }
 
--- whole seconds and six decimals are read
-seconds-read : (whole parts : List ℕ) (w t : ℕ) → list_all is_digit whole ≡ true → list_all is_digit parts ≡ true → 0 < length whole
-    → length parts ≡ 6 → number_from 0 whole ≡ Some w → number_from w parts ≡ Some t → time_in (without_front (whole ++ 46 ∷ parts)) ≡ Some t
-seconds-read whole parts w t all six some count seconds rest =
-    let front : without_front (whole ++ 46 ∷ parts) ≡ whole ++ 46 ∷ parts = (digit-first whole (46 ∷ parts) some all).0 in
-    let run = digits-run whole (46 ∷ parts) all refl in
+-- no exponent
+abbrev no_exponent : Exponent
+no_exponent = record { right = 0; left = 0 }
+
+-- this many decimals are taken whole
+all-taken : (k w : ℕ) (ds : List ℕ) → length ds ≡ k → number_of_first w k ds ≡ onward (number_from w ds) (λ m. Some m)
+all-taken k w ds h =
+    let whole : take k ds ≡ ds = take_all k ds (omega (arith, h)) in
+    let none : k - length ds ≡ 0 = omega (arith, h) in
+    ap (λ v. onward (number_from w v) (λ m. with_zeros (k - length ds) m)) whole
+    ∙ ap (λ i. onward (number_from w ds) (λ m. with_zeros i m)) none
+
+-- what follows the digits of a number: a point and decimals, or nothing
+pub record IsTail (parts tail : List ℕ) : Type 0 where
+  pub front : prefix_len is_digit tail ≡ 0
+  pub decimals : decimals_in tail ≡ parts
+  pub ends : exponent_in (behind_decimals tail) ≡ Some no_exponent
+  pub undated : behind_sign_of 45 tail ≡ None
+
+-- the time that digits and a tail spell is read
+digits-read : (unit : ℕ) (whole parts tail : List ℕ) (t : ℕ) → list_all is_digit whole ≡ true → 0 < length whole → IsTail parts tail
+    → instant_by unit false whole parts (Some no_exponent) ≡ Some (behind_start t)
+    → instant_in unit (without_front (whole ++ tail)) ≡ Some (behind_start t)
+digits-read unit whole parts tail t all some h by =
+    let text : List ℕ = whole ++ tail in
+    let first = digit-first whole tail some all in
+    let run = digits-run whole tail all h.front in
+    let ends : exponent_in (behind_decimals (behind_digits text)) ≡ Some no_exponent =
+    ap (λ v. exponent_in (behind_decimals v)) run.1 ∙ h.ends in
+    let decimals : decimals_in (behind_digits text) ≡ parts = ap decimals_in run.1 ∙ h.decimals in
+    let read : unsigned_in unit false text ≡ Some (behind_start t) =
+    ap (λ v. instant_by unit false v (decimals_in (behind_digits text)) (exponent_in (behind_decimals (behind_digits text)))) run.0
+    ∙ (ap (λ v. instant_by unit false whole v (exponent_in (behind_decimals (behind_digits text)))) decimals
+    ∙ (ap (instant_by unit false whole parts) ends ∙ by)) in
+    let undated : dated_in text ≡ None = undated-by text (ap (behind_sign_of 45) run.1 ∙ h.undated) in
+    let signed : unsigned_in unit (is_minus text) (behind_plus_minus text) ≡ Some (behind_start t) =
+    ap (λ v. unsigned_in unit v (behind_plus_minus text)) first.2 ∙ (ap (unsigned_in unit false) first.3 ∙ read) in
+    ap (instant_in unit) first.0 ∙ (ap (λ o. instant_or o unit text) undated ∙ signed)
+  where
+    undated-by : (l : List ℕ) → behind_sign_of 45 (behind_digits l) ≡ None → dated_in l ≡ None
+    undated-by l e = rw e refl
+
+-- a point and decimals
+tail-of-point : (parts : List ℕ) → list_all is_digit parts ≡ true → IsTail parts (46 ∷ parts)
+tail-of-point parts six =
     let own = digits-run parts [] six refl in
     let own-in : digits_in parts ≡ parts = subst (λ v. take (prefix_len is_digit v) v ≡ parts) (append-nil parts) own.0 in
     let own-behind : behind_digits parts ≡ [] = subst (λ v. drop (prefix_len is_digit v) v ≡ []) (append-nil parts) own.1 in
-    let there : (length whole == 0) ≡ false = grind (arith, common_steps) in
-    let micros : micros_in whole parts ≡ Some t =
-    micros-on whole parts w there seconds ∙ (ap (number_from w) (filling parts count) ∙ rest) in
-    ap time_in front
-    ∙ (ap (λ v. if list_all is_framing (behind_decimals v) then micros_in (digits_in (whole ++ 46 ∷ parts)) (decimals_in v) else None) run.1
-    ∙ (ap (λ v. if list_all is_framing v then micros_in (digits_in (whole ++ 46 ∷ parts)) (digits_in parts) else None) own-behind
-    ∙ (ap (λ v. micros_in v (digits_in parts)) run.0 ∙ (ap (micros_in whole) own-in ∙ micros))))
-  where
-    filling : (ds : List ℕ) → length ds ≡ 6 → millionths ds ≡ ds
-    filling (a ∷ b ∷ c ∷ d ∷ e ∷ f ∷ []) h = refl
-    filling [] h = absurd (omega (arith, h))
-    filling (a ∷ []) h = absurd (omega (arith, h))
-    filling (a ∷ b ∷ []) h = absurd (omega (arith, h))
-    filling (a ∷ b ∷ c ∷ []) h = absurd (omega (arith, h))
-    filling (a ∷ b ∷ c ∷ d ∷ []) h = absurd (omega (arith, h))
-    filling (a ∷ b ∷ c ∷ d ∷ e ∷ []) h = absurd (omega (arith, h))
-    filling (a ∷ b ∷ c ∷ d ∷ e ∷ f ∷ g ∷ more) h = absurd (omega (arith, h))
+    record { front = refl; decimals = own-in; ends = ap exponent_in own-behind; undated = refl }
 
--- the time is read
-time-read : (t : ℕ) → t < 18446744073709551616 → time_in (without_front (time_field t)) ≡ Some t
-time-read t fits =
+-- nothing
+tail-of-none : IsTail [] []
+tail-of-none = record { front = refl; decimals = refl; ends = refl; undated = refl }
+
+some-digits : (k n : ℕ) → 0 < k → 0 < length (digits_of k n)
+some-digits k n h = let c = digits-count k n in omega (arith, c, h)
+
+-- seconds and milliseconds, with their decimals
+seconds-read : (t : ℕ) → t < 18446744073709551616 → instant_in 0 (without_front (time_field Seconds t)) ≡ Some (behind_start t)
+seconds-read t fits =
+    let whole : List ℕ = digits_of 14 (t / 1000000) in
+    let parts : List ℕ = digits_of 6 (t % 1000000) in
     let few : t / 1000000 < scaled 14 1 = omega (arith, fits) in
     let none-before : scaled 14 0 + t / 1000000 ≡ t / 1000000 = omega arith in
     let low : scaled 14 0 + t / 1000000 < 18446744073709551616 = omega (arith, fits) in
-    let seconds : number_from 0 (digits_of 14 (t / 1000000)) ≡ Some (t / 1000000) =
-    digits-spell 14 0 (t / 1000000) few low ∙ ap (λ (v : ℕ). Some v) none-before in
+    let seconds : number_from 0 whole ≡ Some (t / 1000000) = digits-spell 14 0 (t / 1000000) few low ∙ ap (λ (v : ℕ). Some v) none-before in
     let back : scaled 6 (t / 1000000) + t % 1000000 ≡ t = omega arith in
-    let rest : number_from (t / 1000000) (digits_of 6 (t % 1000000)) ≡ Some t =
+    let rest : number_from (t / 1000000) parts ≡ Some t =
     digits-spell 6 (t / 1000000) (t % 1000000) (omega arith) (subst (λ v. v < 18446744073709551616) (sym back) fits) ∙ ap (λ (v : ℕ). Some v) back in
-    seconds-read (digits_of 14 (t / 1000000)) (digits_of 6 (t % 1000000)) (t / 1000000) t (is-digits 14 (t / 1000000)) (is-digits 6 (t % 1000000))
-    (let c = digits-count 14 (t / 1000000) in omega (arith, c)) (digits-count 6 (t % 1000000)) seconds rest
+    let some : 0 < length whole = some-digits 14 (t / 1000000) (lit< tt) in
+    let there : (length whole == 0) ≡ false = grind (arith, common_steps) in
+    let micros : micros_of 6 0 whole parts ≡ Some t =
+    ap (λ o. onward o (λ n. number_of_first n 6 parts)) seconds
+    ∙ (all-taken 6 (t / 1000000) parts (digits-count 6 (t % 1000000)) ∙ ap (λ o. onward o (λ m. Some m)) rest) in
+    digits-read 0 whole parts (46 ∷ parts) t (is-digits 14 (t / 1000000)) some (tail-of-point parts (is-digits 6 (t % 1000000))) (rw (there, micros) refl)
+
+millis-read : (t : ℕ) → t < 18446744073709551616 → instant_in 3 (without_front (time_field Milliseconds t)) ≡ Some (behind_start t)
+millis-read t fits =
+    let whole : List ℕ = digits_of 17 (t / 1000) in
+    let parts : List ℕ = digits_of 3 (t % 1000) in
+    let few : t / 1000 < scaled 17 1 = omega (arith, fits) in
+    let none-before : scaled 17 0 + t / 1000 ≡ t / 1000 = omega arith in
+    let low : scaled 17 0 + t / 1000 < 18446744073709551616 = omega (arith, fits) in
+    let seconds : number_from 0 whole ≡ Some (t / 1000) = digits-spell 17 0 (t / 1000) few low ∙ ap (λ (v : ℕ). Some v) none-before in
+    let back : scaled 3 (t / 1000) + t % 1000 ≡ t = omega arith in
+    let rest : number_from (t / 1000) parts ≡ Some t =
+    digits-spell 3 (t / 1000) (t % 1000) (omega arith) (subst (λ v. v < 18446744073709551616) (sym back) fits) ∙ ap (λ (v : ℕ). Some v) back in
+    let some : 0 < length whole = some-digits 17 (t / 1000) (lit< tt) in
+    let there : (length whole == 0) ≡ false = grind (arith, common_steps) in
+    let micros : micros_of 6 3 whole parts ≡ Some t =
+    ap (λ o. onward o (λ n. number_of_first n 3 parts)) seconds
+    ∙ (all-taken 3 (t / 1000) parts (digits-count 3 (t % 1000)) ∙ ap (λ o. onward o (λ m. Some m)) rest) in
+    digits-read 3 whole parts (46 ∷ parts) t (is-digits 17 (t / 1000)) some (tail-of-point parts (is-digits 3 (t % 1000))) (rw (there, micros) refl)
+
+-- whole microseconds
+micros-spelled : (t : ℕ) → t < 18446744073709551616 → number_from 0 (digits_of 20 t) ≡ Some t
+micros-spelled t fits =
+    let few : t < scaled 20 1 = omega (arith, fits) in
+    let none-before : scaled 20 0 + t ≡ t = omega arith in
+    let low : scaled 20 0 + t < 18446744073709551616 = omega (arith, fits) in
+    digits-spell 20 0 t few low ∙ ap (λ (v : ℕ). Some v) none-before
+
+micros-read : (t : ℕ) → t < 18446744073709551616 → instant_in 6 (without_front (time_field Microseconds t)) ≡ Some (behind_start t)
+micros-read t fits =
+    let whole : List ℕ = digits_of 20 t in
+    let some : 0 < length whole = some-digits 20 t (lit< tt) in
+    let there : (length whole == 0) ≡ false = grind (arith, common_steps) in
+    let micros : micros_of 6 6 whole [] ≡ Some t = ap (λ o. onward o (λ n. number_of_first n 0 [])) (micros-spelled t fits) in
+    ap (λ v. instant_in 6 (without_front v)) (sym (append-nil whole))
+    ∙ digits-read 6 whole [] [] t (is-digits 20 t) some tail-of-none (rw (there, micros) refl)
+
+-- with zeros after
+front-kept : (n : ℕ) (xs ys : List ℕ) → length ys ≡ n → take (length (xs ++ ys) - n) (xs ++ ys) ≡ xs
+front-kept n xs ys h =
+    let e : length (xs ++ ys) - n ≡ length xs = omega (arith, length-append xs ys, h) in
+    ap (λ i. take i (xs ++ ys)) e ∙ take-append_seam xs ys
+
+zeros-read : (unit n : ℕ) (zeros : List ℕ) (t : ℕ) → t < 18446744073709551616 → list_all is_digit zeros ≡ true → length zeros ≡ n
+    → nat_le unit 6 ≡ false → unit + 0 ≡ unit → unit - 6 ≡ n
+    → instant_in unit (without_front (digits_of 20 t ++ zeros)) ≡ Some (behind_start t)
+zeros-read unit n zeros t fits digits count over same more =
+    let whole : List ℕ = digits_of 20 t ++ zeros in
+    let all : list_all is_digit whole ≡ true = list_all-append is_digit (digits_of 20 t) zeros ∙ rw (is-digits 20 t, digits) refl in
+    let some : 0 < length whole =
+    (let c = digits-count 20 t in let l = length-append (digits_of 20 t) zeros in omega (arith, c, l)) in
+    let there : (length whole == 0) ≡ false = grind (arith, common_steps) in
+    let kept : take (length whole - (unit - 6)) whole ≡ digits_of 20 t =
+    ap (λ i. take (length whole - i) whole) more ∙ front-kept n (digits_of 20 t) zeros count in
+    let spelled : number_from 0 (take (length whole - (unit - 6)) whole) ≡ Some t = ap (number_from 0) kept ∙ micros-spelled t fits in
+    let micros : micros_of 6 unit whole [] ≡ Some t = rw (over, spelled) refl in
+    ap (λ v. instant_in unit (without_front v)) (sym (append-nil whole))
+    ∙ digits-read unit whole [] [] t all some tail-of-none (rw (there, same, micros) refl)
+
+-- the unit's place among the decimals of a second
+abbrev place_of_unit : TimeUnit → ℕ
+place_of_unit Seconds = 0
+place_of_unit Milliseconds = 3
+place_of_unit Microseconds = 6
+place_of_unit Nanoseconds = 9
+place_of_unit Picoseconds = 12
+
+-- the time is read
+time-read : (u : TimeUnit) (t : ℕ) → t < 18446744073709551616
+    → instant_in (place_of_unit u) (without_front (time_field u t)) ≡ Some (behind_start t)
+time-read Seconds t fits = seconds-read t fits
+time-read Milliseconds t fits = millis-read t fits
+time-read Microseconds t fits = micros-read t fits
+time-read Nanoseconds t fits = zeros-read 9 3 (codes "000") t fits refl refl refl refl refl
+time-read Picoseconds t fits = zeros-read 12 6 (codes "000000") t fits refl refl refl refl refl
+
+-- digits in front of whatever follows
+pub record HasFront (field : List ℕ) : Type 0 where
+  pub count : ℕ
+  pub number : ℕ
+  pub tail : List ℕ
+  pub some : 0 < count
+  pub is : field ≡ digits_of count number ++ tail
+
+time-front : (u : TimeUnit) (t : ℕ) → HasFront (time_field u t)
+time-front Seconds t = record { count = 14; number = t / 1000000; tail = 46 ∷ digits_of 6 (t % 1000000); some = lit< tt; is = refl }
+time-front Milliseconds t = record { count = 17; number = t / 1000; tail = 46 ∷ digits_of 3 (t % 1000); some = lit< tt; is = refl }
+time-front Microseconds t = record { count = 20; number = t; tail = []; some = lit< tt; is = sym (append-nil (digits_of 20 t)) }
+time-front Nanoseconds t = record { count = 20; number = t; tail = codes "000"; some = lit< tt; is = refl }
+time-front Picoseconds t = record { count = 20; number = t; tail = codes "000000"; some = lit< tt; is = refl }
+
+-- what is true of digits and of a point is true of the field
+time-all : (p : ℕ → Bool) → ((b : ℕ) → is_digit b ≡ true → p b ≡ true) → p 46 ≡ true → (u : TimeUnit) (t : ℕ) → list_all p (time_field u t) ≡ true
+time-all p h point Seconds t = list_all-append p (digits_of 14 (t / 1000000)) (46 ∷ digits_of 6 (t % 1000000))
+    ∙ rw (all-digits p h 14 (t / 1000000), point, all-digits p h 6 (t % 1000000)) refl
+time-all p h point Milliseconds t = list_all-append p (digits_of 17 (t / 1000)) (46 ∷ digits_of 3 (t % 1000))
+    ∙ rw (all-digits p h 17 (t / 1000), point, all-digits p h 3 (t % 1000)) refl
+time-all p h point Microseconds t = all-digits p h 20 t
+time-all p h point Nanoseconds t = list_all-append p (digits_of 20 t) (codes "000") ∙ rw (all-digits p h 20 t, h 48 refl) refl
+time-all p h point Picoseconds t = list_all-append p (digits_of 20 t) (codes "000000") ∙ rw (all-digits p h 20 t, h 48 refl) refl
+
+-- Rows.
+
+abbrev level_fields : (sep : ℕ) → Edge → List ℕ
+level_fields sep e = level_byte e.levels.atn ∷ sep ∷ level_byte e.levels.clock ∷ sep ∷ level_byte e.levels.line ∷ []
 
 -- the columns of the names that are written
 abbrev columns : Columns
 columns = record { atn = 1; clock = 2; line = 3 }
 
+-- and the layout
+abbrev layout : Separator → TimeUnit → Layout
+layout p u = record { columns = columns; separator = separator_byte p; scale = Timed (place_of_unit u) }
+
+-- a moment of a table that starts at 0: none was told yet, or one was
+abbrev moment : (start : Option ℕ) → (before : ℕ) → Moment
+moment start before = record { start = start; before = before; count = 0 }
+
+abbrev AtZero : Option ℕ → Type 0
+AtZero start = (start ≡ None) ⊎ (start ≡ Some 0)
+
 -- the levels are read
-levels-read : (n t : ℕ) (time : List ℕ) (a c l : Bool)
-    → sample_of columns false n (time ∷ fields_of false (level_byte a ∷ 44 ∷ level_byte c ∷ 44 ∷ level_byte l ∷ [])) t ≡ Ok (edge_at t a c l)
-levels-read n t time true true true = refl
-levels-read n t time true true false = refl
-levels-read n t time true false true = refl
-levels-read n t time true false false = refl
-levels-read n t time false true true = refl
-levels-read n t time false true false = refl
-levels-read n t time false false true = refl
-levels-read n t time false false false = refl
+levels-read : (p : Separator) (n t : ℕ) (time : List ℕ) (a c l : Bool)
+    → sample_of columns false n (time ∷ fields_of (separator_byte p) false (level_byte a ∷ separator_byte p ∷ level_byte c ∷ separator_byte p ∷ level_byte l ∷ [])) t
+    ≡ Ok (edge_at t a c l)
+levels-read Comma n t time true true true = refl
+levels-read Comma n t time true true false = refl
+levels-read Comma n t time true false true = refl
+levels-read Comma n t time true false false = refl
+levels-read Comma n t time false true true = refl
+levels-read Comma n t time false true false = refl
+levels-read Comma n t time false false true = refl
+levels-read Comma n t time false false false = refl
+levels-read Semicolon n t time true true true = refl
+levels-read Semicolon n t time true true false = refl
+levels-read Semicolon n t time true false true = refl
+levels-read Semicolon n t time true false false = refl
+levels-read Semicolon n t time false true true = refl
+levels-read Semicolon n t time false true false = refl
+levels-read Semicolon n t time false false true = refl
+levels-read Semicolon n t time false false false = refl
+levels-read Tab n t time true true true = refl
+levels-read Tab n t time true true false = refl
+levels-read Tab n t time true false true = refl
+levels-read Tab n t time true false false = refl
+levels-read Tab n t time false true true = refl
+levels-read Tab n t time false true false = refl
+levels-read Tab n t time false false true = refl
+levels-read Tab n t time false false false = refl
+
+-- it starts at 0 after such a time
+start-zero : (start : Option ℕ) (t : ℕ) → AtZero start → start_of start (behind_start t) ≡ 0
+start-zero start t (inl h) = rw h refl
+start-zero start t (inr h) = rw h refl
+
+-- a time is counted from there
+moment-read : (n before t : ℕ) (start : Option ℕ) → AtZero start → before ≤ t → t < 18446744073709551616
+    → moment_at n (moment start before) (Some (behind_start t)) ≡ Ok (moment (Some 0) t)
+moment-read n before t start z later fits =
+    let zero-on : 0 + t ≡ t = omega arith in
+    let room : nat_lt (0 + t) 18446744073709551616 ≡ true = rw zero-on (grind (arith, common_steps)) in
+    let on : nat_lt t before ≡ false = grind (arith, common_steps) in
+    rw (start-zero start t z, room, zero-on, on) refl
 
 -- a row is read
-row-read : (n before : ℕ) (e : Edge) → before ≤ e.time → e.time < 18446744073709551616
-    → row columns false n before (fields_of false (csv_row e)) ≡ Ok e
-row-read n before e later fits =
-    let whole : List ℕ = digits_of 14 (e.time / 1000000) in
-    let parts : List ℕ = digits_of 6 (e.time % 1000000) in
-    let plain : list_all is_plain (time_field e.time) ≡ true =
-    list_all-append is_plain whole (46 ∷ parts)
-    ∙ rw (all-digits is_plain digit-plain 14 (e.time / 1000000), all-digits is_plain digit-plain 6 (e.time % 1000000)) refl in
-    let split : fields_of false (csv_row e) ≡ time_field e.time ∷ fields_of false (level_fields e) =
-    ap (fields_of false) (row-split e) ∙ field-first (time_field e.time) (level_fields e) plain in
-    let on : nat_lt e.time before ≡ false = grind (arith, common_steps) in
-    ap (row columns false n before) split
-    ∙ (ap (λ o. time_or n before o >>= λ t. sample_of columns false n (time_field e.time ∷ fields_of false (level_fields e)) t) (time-read e.time fits)
-    ∙ rw on (levels-read n e.time (time_field e.time) e.levels.atn e.levels.clock e.levels.line))
+row-read : (p : Separator) (u : TimeUnit) (n before : ℕ) (start : Option ℕ) (e : Edge) → AtZero start → before ≤ e.time → e.time < 18446744073709551616
+    → row_of (layout p u) false n (moment start before) (fields_of (separator_byte p) false (csv_row (separator_byte p) u e))
+    ≡ Ok (record { sample = e; moment = moment (Some 0) e.time })
+row-read p u n before start e z later fits =
+    let sep : ℕ = separator_byte p in
+    let plain : list_all (is_plain sep) (time_field u e.time) ≡ true = time-all (is_plain sep) (digit-plain p) (point-plain p) u e.time in
+    let split : fields_of sep false (csv_row sep u e) ≡ time_field u e.time ∷ fields_of sep false (level_fields sep e) =
+    field-first sep (time_field u e.time) (level_fields sep e) plain in
+    let fs : List (List ℕ) = time_field u e.time ∷ fields_of sep false (level_fields sep e) in
+    let timed : moment_at n (moment start before) (instant_in (place_of_unit u) (without_front (time_field u e.time))) ≡ Ok (moment (Some 0) e.time) =
+    ap (moment_at n (moment start before)) (time-read u e.time fits) ∙ moment-read n before e.time start z later fits in
+    ap (row_of (layout p u) false n (moment start before)) split
+    ∙ (ap (λ o. o >>= λ next. sample_of columns false n fs next.before >>= λ v. Ok (record { sample = v; moment = next })) timed
+    ∙ ap (λ o. o >>= λ v. Ok (record { sample = v; moment = moment (Some 0) e.time }))
+    (levels-read p n e.time (time_field u e.time) e.levels.atn e.levels.clock e.levels.line))
 
-row-silent : (e : Edge) → is_silent (csv_row e) ≡ false
-row-silent e =
-    let some : 0 < length (digits_of 14 (e.time / 1000000)) = (let c = digits-count 14 (e.time / 1000000) in omega (arith, c)) in
-    (digit-first (digits_of 14 (e.time / 1000000)) (46 ∷ digits_of 6 (e.time % 1000000) ++ 44 ∷ level_fields e) some (is-digits 14 (e.time / 1000000))).1
+row-silent : (sep : ℕ) (u : TimeUnit) (e : Edge) → is_silent (csv_row sep u e) ≡ false
+row-silent sep u e =
+    let f = time-front u e.time in
+    let row : csv_row sep u e ≡ digits_of f.count f.number ++ (f.tail ++ sep ∷ level_fields sep e) =
+    ap (λ v. v ++ sep ∷ level_fields sep e) f.is ∙ append_assoc (digits_of f.count f.number) f.tail (sep ∷ level_fields sep e) in
+    ap is_silent row
+    ∙ (digit-first (digits_of f.count f.number) (f.tail ++ sep ∷ level_fields sep e) (some-digits f.count f.number f.some) (is-digits f.count f.number)).1
 
 -- a level ends no line
 level-inner : (b : Bool) → is_inner (level_byte b) ≡ true
 level-inner true = refl
 level-inner false = refl
 
-row-inner : (e : Edge) → list_all is_inner (csv_row e) ≡ true
-row-inner e =
-    let parts : List ℕ = digits_of 6 (e.time % 1000000) in
-    let levels : list_all is_inner (44 ∷ level_fields e) ≡ true =
-    rw (level-inner e.levels.atn, level-inner e.levels.clock, level-inner e.levels.line) refl in
-    let behind : list_all is_inner (parts ++ 44 ∷ level_fields e) ≡ true =
-    list_all-append is_inner parts (44 ∷ level_fields e) ∙ rw (all-digits is_inner digit-inner 6 (e.time % 1000000), levels) refl in
-    list_all-append is_inner (digits_of 14 (e.time / 1000000)) (46 ∷ parts ++ 44 ∷ level_fields e)
-    ∙ rw (all-digits is_inner digit-inner 14 (e.time / 1000000), behind) refl
+separator-inner : (p : Separator) → is_inner (separator_byte p) ≡ true
+separator-inner Comma = refl
+separator-inner Semicolon = refl
+separator-inner Tab = refl
+
+row-inner : (p : Separator) (u : TimeUnit) (e : Edge) → list_all is_inner (csv_row (separator_byte p) u e) ≡ true
+row-inner p u e =
+    let sep : ℕ = separator_byte p in
+    let levels : list_all is_inner (sep ∷ level_fields sep e) ≡ true =
+    rw (separator-inner p, level-inner e.levels.atn, level-inner e.levels.clock, level-inner e.levels.line) refl in
+    list_all-append is_inner (time_field u e.time) (sep ∷ level_fields sep e) ∙ rw (time-all is_inner digit-inner refl u e.time, levels) refl
 
 -- an empty text has no line
 no-lines : lines_of [] ≡ []
 unfolding lines_of
 no-lines = refl
 
--- a row that is read, and those behind it
-one-row : (n before : ℕ) (line : List ℕ) (ls : List (List ℕ)) (e : Edge) → is_silent line ≡ false
-    → row columns false n before (fields_of false line) ≡ Ok e
-    → row_contents columns false n before (line ∷ ls) ≡ with_samples (e ∷ []) (row_contents columns false (n + 1) e.time ls)
-one-row n before line ls e loud reads = rw (loud, reads) refl
+-- a row that is read, and those after it
+one-row : (y : Layout) (n before : ℕ) (start : Option ℕ) (line : List ℕ) (ls : List (List ℕ)) (e : Edge) → is_silent line ≡ false
+    → row_of y false n (moment start before) (fields_of y.separator false line) ≡ Ok (record { sample = e; moment = moment (Some 0) e.time })
+    → row_contents y false n (moment start before) (line ∷ ls)
+    ≡ with_samples (e ∷ []) (row_contents y false (n + 1) (moment (Some 0) e.time) ls)
+one-row y n before start line ls e loud reads = rw (loud, reads) refl
 
 -- all rows are read
-rows-read : (n before : ℕ) (es : List Edge) → InOrder before es
-    → row_contents columns false n before (lines_of (csv_rows es)) ≡ record { samples = es; fault = None }
-rows-read n before [] h = rw no-lines refl
-rows-read n before (e ∷ es) h =
-    ap (row_contents columns false n before) (inner-line (csv_row e) (csv_rows es) (row-inner e))
-    ∙ (one-row n before (csv_row e) (lines_of (csv_rows es)) e (row-silent e) (row-read n before e h.0 h.1)
-    ∙ ap (with_samples (e ∷ [])) (rows-read (n + 1) e.time es h.2))
+rows-read : (p : Separator) (u : TimeUnit) (n before : ℕ) (start : Option ℕ) (es : List Edge) → AtZero start → InOrder before es
+    → row_contents (layout p u) false n (moment start before) (lines_of (csv_rows (separator_byte p) u es)) ≡ record { samples = es; fault = None }
+rows-read p u n before start [] z h = rw no-lines refl
+rows-read p u n before start (e ∷ es) z h =
+    let sep : ℕ = separator_byte p in
+    ap (row_contents (layout p u) false n (moment start before)) (inner-line (csv_row sep u e) (csv_rows sep u es) (row-inner p u e))
+    ∙ (one-row (layout p u) n before start (csv_row sep u e) (lines_of (csv_rows sep u es)) e (row-silent sep u e) (row-read p u n before start e z h.0 h.1)
+    ∙ ap (with_samples (e ∷ [])) (rows-read p u (n + 1) e.time (Some 0) es (inr refl) h.2))
 
 -- The whole.
 
-abbrev names : List ℕ
-names = codes "Time [s],ATN,CLOCK,DATA"
+-- the line of the names is read
+pub record NamesAre (p : Separator) (u : TimeUnit) : Type 0 where
+  pub inner : list_all is_inner (csv_names (separator_byte p) u) ≡ true
+  pub loud : is_in_front (csv_names (separator_byte p) u) ≡ false
+  pub opens : opened (csv_names (separator_byte p) u) ≡ Ok (csv_names (separator_byte p) u)
+  pub separator : separator_of (csv_names (separator_byte p) u) ≡ separator_byte p
+  pub fields : fields_of (separator_byte p) false (csv_names (separator_byte p) u)
+      ≡ time_name u ∷ codes "ATN" ∷ codes "CLOCK" ∷ codes "DATA" ∷ []
 
-names-read : (s : Signals) → IsAsWritten s → columns_of s 1 (fields_of false names) ≡ Ok columns
-names-read s h =
+names-are : (p : Separator) (u : TimeUnit) → NamesAre p u
+names-are Comma Seconds = record { inner = refl; loud = refl; opens = refl; separator = refl; fields = refl }
+names-are Comma Milliseconds = record { inner = refl; loud = refl; opens = refl; separator = refl; fields = refl }
+names-are Comma Microseconds = record { inner = refl; loud = refl; opens = refl; separator = refl; fields = refl }
+names-are Comma Nanoseconds = record { inner = refl; loud = refl; opens = refl; separator = refl; fields = refl }
+names-are Comma Picoseconds = record { inner = refl; loud = refl; opens = refl; separator = refl; fields = refl }
+names-are Semicolon Seconds = record { inner = refl; loud = refl; opens = refl; separator = refl; fields = refl }
+names-are Semicolon Milliseconds = record { inner = refl; loud = refl; opens = refl; separator = refl; fields = refl }
+names-are Semicolon Microseconds = record { inner = refl; loud = refl; opens = refl; separator = refl; fields = refl }
+names-are Semicolon Nanoseconds = record { inner = refl; loud = refl; opens = refl; separator = refl; fields = refl }
+names-are Semicolon Picoseconds = record { inner = refl; loud = refl; opens = refl; separator = refl; fields = refl }
+names-are Tab Seconds = record { inner = refl; loud = refl; opens = refl; separator = refl; fields = refl }
+names-are Tab Milliseconds = record { inner = refl; loud = refl; opens = refl; separator = refl; fields = refl }
+names-are Tab Microseconds = record { inner = refl; loud = refl; opens = refl; separator = refl; fields = refl }
+names-are Tab Nanoseconds = record { inner = refl; loud = refl; opens = refl; separator = refl; fields = refl }
+names-are Tab Picoseconds = record { inner = refl; loud = refl; opens = refl; separator = refl; fields = refl }
+
+unit-read : (u : TimeUnit) → time_unit (Some 0) (time_name u) ≡ Some (place_of_unit u)
+unit-read Seconds = refl
+unit-read Milliseconds = refl
+unit-read Microseconds = refl
+unit-read Nanoseconds = refl
+unit-read Picoseconds = refl
+
+names-read : (p : Separator) (u : TimeUnit) (s : Signals) → IsAsWritten s
+    → layout_of s no_remarks 1 (csv_names (separator_byte p) u) ≡ Ok (layout p u)
+names-read p u s h =
+    let sep : ℕ = separator_byte p in
+    let n = names-are p u in
     let fs : List (List ℕ) = codes "ATN" ∷ codes "CLOCK" ∷ codes "DATA" ∷ [] in
     let atn : column_of s.atn.now 1 fs ≡ Some 1 = ap (λ v. column_of v 1 fs) h.atn in
-    let clock : clock_column s fs ≡ Some 2 = ap (λ v. first_some (column_of v 1 fs) (column_of (second_name s) 1 fs)) h.clock in
+    let clock : clock_column s 1 fs ≡ Some 2 = ap (λ v. first_some (column_of v 1 fs) (column_of (second_name s) 1 fs)) h.clock in
     let line : column_of s.line.now 1 fs ≡ Some 3 = ap (λ v. column_of v 1 fs) h.line in
-    ap (λ o. column_or 1 Atn o >>= λ a. column_or 1 Clock (clock_column s fs) >>= λ c. column_or 1 Data (column_of s.line.now 1 fs) >>= λ l. Ok (record { atn = a; clock = c; line = l })) atn
-    ∙ (ap (λ o. column_or 1 Clock o >>= λ c. column_or 1 Data (column_of s.line.now 1 fs) >>= λ l. Ok (record { atn = 1; clock = c; line = l })) clock
-    ∙ ap (λ o. column_or 1 Data o >>= λ l. Ok (record { atn = 1; clock = 2; line = l })) line)
+    ap (λ b. layout_in s no_remarks 1 b (fields_of b false (csv_names sep u))) n.separator
+    ∙ (ap (layout_in s no_remarks 1 sep) n.fields
+    ∙ (ap (λ o. layout_by s no_remarks 1 sep o (time_name u ∷ fs)) (unit-read u)
+    ∙ rw (atn, clock, line) refl))
 
-pub samples-back : (s : Signals) (es : List Edge) → IsAsWritten s → InOrder 0 es → csv_contents s (csv_of es) ≡ record { samples = es; fault = None }
+-- the first line names the columns
+first-line : (p : Separator) (u : TimeUnit) (s : Signals) (ls : List (List ℕ)) → IsAsWritten s
+    → first_contents s 1 (csv_names (separator_byte p) u ∷ ls) ≡ row_contents (layout p u) false 2 first_moment ls
+first-line p u s ls h =
+    let n = names-are p u in
+    rw (n.opens, n.loud, names-read p u s h, h.straight) refl
+
+pub samples-back : (p : Separator) (u : TimeUnit) (s : Signals) (es : List Edge) → IsAsWritten s → InOrder 0 es
+    → csv_contents s (csv_of p u es) ≡ record { samples = es; fault = None }
 unfolding csv_contents
-samples-back s es h k =
-    ap (line_contents s 1) (inner-line names (csv_rows es) refl)
-    ∙ rw (names-read s h, h.straight) (rows-read 2 0 es k)
+samples-back p u s es h k =
+    let sep : ℕ = separator_byte p in
+    ap (first_contents s 1) (inner-line (csv_names sep u) (csv_rows sep u es) (names-are p u).inner)
+    ∙ (first-line p u s (lines_of (csv_rows sep u es)) h ∙ rows-read p u 2 0 None es (inl refl) k)
 
 -- Edges.
 

@@ -6,8 +6,10 @@ use Rattle.std.specs.List.{list_all, prefix_len}
 use Rattle.std.proofs.lemmas.Grind.{common_steps}
 use Rattle.pr_wire.specs.declared.Edge.{Edge}
 use Rattle.pr_base.specs.Lines.{lines_of, onto_first}
-use Rattle.pr_capture.specs.declared.csv.RowPlace.TheVariants.{Names, Rows}
-use Rattle.pr_capture.specs.declared.csv.Columns.{Columns}
+use Rattle.pr_capture.specs.declared.csv.RowPlace.TheVariants.{First, Names, Rows}
+use Rattle.pr_capture.specs.declared.csv.Layout.{Layout}
+use Rattle.pr_capture.specs.declared.csv.Moment.{Moment}
+use Rattle.pr_capture.specs.declared.remarks.Remarks.{Remarks}
 use Rattle.pr_capture.specs.declared.csv.CsvReader.{CsvReader}
 use Rattle.pr_capture.specs.declared.fault.CaptureFault.{CaptureFault}
 use Rattle.pr_capture.specs.declared.fault.CaptureFault.TheVariants.{NoSignal}
@@ -19,19 +21,19 @@ use Rattle.pr_capture.specs.CsvSteps.{is_inner, contents_from, AnswersEnd, HasRe
 use Rattle.pr_capture.specs.Recording.{ended, refused, with_samples, CaptureContents}
 use Rattle.pr_capture.specs.Samples.{listed}
 
--- the first byte of inner bytes, and those behind it
+-- the first byte of inner bytes, and those after it
 first-inner : (b : ℕ) (bs : List ℕ) → list_all is_inner (b ∷ bs) ≡ true → (b == 10) ≡ false
 first-inner b bs h = grind (arith, common_steps)
 
 rest-inner : (b : ℕ) (bs : List ℕ) → list_all is_inner (b ∷ bs) ≡ true → list_all is_inner bs ≡ true
 rest-inner b bs h = grind (arith, common_steps)
 
--- inner bytes behind inner bytes
+-- inner bytes after inner bytes
 inner-append : (line bs : List ℕ) → list_all is_inner line ≡ true → list_all is_inner bs ≡ true → list_all is_inner (line ++ bs) ≡ true
 inner-append [] bs h k = k
 inner-append (b ∷ line) bs h k = rw (first-inner b line h) (inner-append line bs (rest-inner b line h) k)
 
--- inner bytes stand on one line, up to its end or the text's
+-- inner bytes are on one line, up to its end or the text's
 pub inner-line : (line more : List ℕ) → list_all is_inner line ≡ true → lines_of (line ++ 10 ∷ more) ≡ line ∷ lines_of more
 unfolding lines_of
 inner-line [] more h = refl
@@ -43,7 +45,7 @@ last-line [] some h = absurd (omega arith)
 last-line (b ∷ []) some h = rw (first-inner b [] h) refl
 last-line (b ∷ c ∷ bs) some h = rw (first-inner b (c ∷ bs) h) (ap (onto_first b) (last-line (c ∷ bs) (omega arith) (rest-inner b (c ∷ bs) h)))
 
--- samples behind samples
+-- samples after samples
 pub behind-behind : (a b : List Edge) (t : CaptureContents) → with_samples a (with_samples b t) ≡ with_samples (a ++ b) t
 behind-behind a b t = let P : List Edge → CaptureContents = λ v. record { samples = v; fault = t.fault } in ap P (sym (append_assoc a b t.samples))
 
@@ -57,7 +59,7 @@ end-refused r (Ok x) f h p = absurd h
 end-refused r (Err x) f h p = rw h p
 
 -- nothing was taken
-pub read-none : (s : Signals) (r : CsvReader) → r.signals ≡ s → r.number ≡ 1 → r.place ≡ Names → r.line.items ≡ [] → HasReadTable s [] [] r
+pub read-none : (s : Signals) (r : CsvReader) → r.signals ≡ s → r.number ≡ 1 → r.place ≡ First → r.line.items ≡ [] → HasReadTable s [] [] r
 unfolding csv_contents
 read-none s r a b c d = record { signals = a; inner = rw d refl; told = λ more. rw (a, b, c, d) refl }
 
@@ -101,7 +103,7 @@ pub faulty-line : (old : CsvReader) (f : CaptureFault) (line : List ℕ) → lin
     → ((more : List (List ℕ)) → contents_from old.signals old.place old.number (line ∷ more) ≡ refused f) → FaultsIn (10 ∷ []) old f
 faulty-line old f line e r = λ s text samples h more. line-told s old line text samples e h more ∙ ap (with_samples samples) (r (lines_of more))
 
--- what stands before the first line's end
+-- what comes before the first line's end
 pub front-inner : (block : List ℕ) → list_all is_inner (take (prefix_len is_inner block) block) ≡ true
 front-inner [] = refl
 front-inner (b ∷ bs) = step (b == 10) refl (front-inner bs)
@@ -163,15 +165,20 @@ faulty-front old mid block len f e some holds faults = λ s text samples h more.
     ∙ faults s (text ++ front) samples (holds s text samples h) (rest ++ more)
 
 -- the text ends with a whole line
-pub ended-names : (r : CsvReader) → r.line.items ≡ [] → r.place ≡ Names
+pub ended-first : (r : CsvReader) → r.line.items ≡ [] → r.place ≡ First
     → (s : Signals) (text : List ℕ) (samples : List Edge) → HasReadTable s text samples r → csv_contents s text ≡ with_samples samples (refused (NoSignal r.number Atn))
 unfolding lines_of
-ended-names r e p = λ s text samples h. ap (csv_contents s) (sym (append-nil text)) ∙ (h.told [] ∙ rw (e, p) refl)
+ended-first r e p = λ s text samples h. ap (csv_contents s) (sym (append-nil text)) ∙ (h.told [] ∙ rw (e, p) refl)
 
-pub ended-rows : (r : CsvReader) (c : Columns) (before : ℕ) → r.line.items ≡ [] → r.place ≡ Rows c before
+pub ended-names : (r : CsvReader) (m : Remarks) → r.line.items ≡ [] → r.place ≡ Names m
+    → (s : Signals) (text : List ℕ) (samples : List Edge) → HasReadTable s text samples r → csv_contents s text ≡ with_samples samples (refused (NoSignal r.number Atn))
+unfolding lines_of
+ended-names r m e p = λ s text samples h. ap (csv_contents s) (sym (append-nil text)) ∙ (h.told [] ∙ rw (e, p) refl)
+
+pub ended-rows : (r : CsvReader) (y : Layout) (m : Moment) → r.line.items ≡ [] → r.place ≡ Rows y m
     → (s : Signals) (text : List ℕ) (samples : List Edge) → HasReadTable s text samples r → csv_contents s text ≡ with_samples samples ended
 unfolding lines_of
-ended-rows r c before e p = λ s text samples h. ap (csv_contents s) (sym (append-nil text)) ∙ (h.told [] ∙ rw (e, p) refl)
+ended-rows r y m e p = λ s text samples h. ap (csv_contents s) (sym (append-nil text)) ∙ (h.told [] ∙ rw (e, p) refl)
 
 -- an end of the last line tells nothing
 same-end : (s : Signals) (r : CsvReader) (text : List ℕ) (samples : List Edge) → HasReadTable s text samples r → 0 < length r.line.items

@@ -13,7 +13,7 @@ pub gathered-none : (start : ℕ) (g : EdgeDetector) → g.start ≡ start → g
 unfolding edges_of
 gathered-none start g s h t = λ more. rw (s, h, t) refl
 
--- a sample held that stands apart from those behind it
+-- a sample held that is apart from those after it
 apart : (h : Edge) (told : Option Levels) (ss : List Edge) (b : Bool)
     → (if b then h ∷ changes_after (Some h.levels) ss else changes_after told ss)
     ≡ listed (if b then Some h else None) ++ changes_after (told_with told (if b then Some h else None)) ss

@@ -1,4 +1,4 @@
--- Edges behind edges.
+-- Edges after edges.
 use Rattle.std.proofs.Common.{◌≡◌, List, [], ◌∷◌, ◌++◌, Option, Some, refl, ap, sym, ◌∙◌, append_assoc}
 use Rattle.pr_wire.specs.declared.Edge.{Edge}
 use Rattle.pr_capture.specs.Vcd.{edge_changes, last_edge, vcd_changes}

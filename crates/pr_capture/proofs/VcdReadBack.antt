@@ -58,7 +58,7 @@ last-counts t k l more =
     ∙ (atn-dropped t k.atn l.atn k.clock k.line (q ++ (r ++ more))
     ∙ (clock-dropped t l.atn k.clock l.clock k.line (r ++ more) ∙ line-dropped t l.atn l.clock k.line l.line more))
 
--- what follows an edge stands later
+-- what follows an edge is later
 begins-later : (b : Edge) (es : List Edge) → RunsOn (Some b) es → begin_at b.time (samples_behind b es) ≡ false
 begins-later b [] h = not-same b.time (b.time + 1000) (omega arith)
 begins-later b (e ∷ es) h = not-same b.time e.time h.0

@@ -14,15 +14,15 @@ use Rattle.pr_capture.specs.declared.changes.Seen.{Seen}
 use Rattle.pr_capture.specs.declared.signals.Signals.{Signals}
 use Rattle.pr_capture.specs.Recording.{◌>>=◌, with_samples, CaptureContents}
 use Rattle.pr_capture.specs.Samples.{listed}
-use Rattle.pr_capture.specs.Csv.{number_from}
+use Rattle.pr_capture.specs.Numbers.{number_from}
 use Rattle.pr_capture.specs.Words.{end_line, is_space, words_behind, Word}
 use Rattle.pr_capture.specs.VcdPieces.{entry_of, pieces_behind, with_word, Piece}
 use Rattle.pr_capture.specs.VcdPieces.Piece.{Section}
 use Rattle.pr_capture.specs.declared.entries.Entry.TheVariants.{Opens}
 use Rattle.pr_capture.specs.declared.entries.Keyword.{Keyword}
-use Rattle.pr_capture.specs.declared.entries.Keyword.TheVariants.{Definitions, Other, Timescale, Var}
+use Rattle.pr_capture.specs.declared.entries.Keyword.TheVariants.{Definitions, Scope, Timescale, Upscope, Var}
 use Rattle.pr_capture.specs.VcdPieces.Begun.{Inside, Nothing}
-use Rattle.pr_capture.specs.VcdReading.{goes_on, no_codes, nothing_seen, piece_contents, sample_in, sample_of, stamped, step, time_at, vcd_contents, with_signal, Codes, Place}
+use Rattle.pr_capture.specs.VcdReading.{goes_on, no_codes, nothing, nothing_seen, piece_contents, sample_in, sample_of, stamped, step, time_at, vcd_contents, with_signal, Codes, Found, Place}
 use Rattle.pr_capture.specs.VcdReading.Place.{Changes, Header}
 use Rattle.pr_capture.specs.VcdSteps.{is_letter}
 use Rattle.pr_capture.specs.Vcd.{change, change_if, edge_changes, head, last_edge, levels_changes, stamp, vcd_changes, vcd_end}
@@ -32,7 +32,7 @@ use Rattle.pr_capture.proofs.VcdTelling.{letters-end, letters-words}
 
 -- Numbers.
 
--- digits spell no less than what they stand behind
+-- digits spell no less than what they are after
 no-less : (n : ℕ) (ds : List ℕ) → n ≤ number_after n ds
 no-less n [] = omega arith
 no-less n (d ∷ ds) = let more : 10 * n + (d - 48) ≤ number_after (10 * n + (d - 48)) ds = no-less (10 * n + (d - 48)) ds in omega (arith, more)
@@ -77,19 +77,23 @@ digits-letters (d ∷ ds) h =
 
 -- Places among the changes.
 
+-- a code of one sign
+abbrev pub coded : ℕ → Found
+coded code = record { code = Some (code ∷ []); bit = None; other = None }
+
 -- the codes that are written
 abbrev pub written : Codes
-written = record { atn = Some (65 ∷ []); clock = Some (67 ∷ []); second = None; line = Some (68 ∷ []) }
+written = record { atn = coded 65; clock = coded 67; second = nothing; line = coded 68 }
 
 -- what a text tells that goes on here, among the changes
 abbrev pub told_here : Signals → (n : ℕ) → Seen → (text : List ℕ) → CaptureContents
 told_here s n seen text = piece_contents s (end_line n text) (Changes 1000000000 written seen) (pieces_behind Nothing (words_behind n [] text))
 
--- a text leads from what is known to what is known behind it, and has samples
+-- a text leads from what is known to what is known after it, and has samples
 abbrev pub Reads : Signals → (text : List ℕ) → (old new : Seen) → (samples : List Edge) → Type 0
 Reads s text old new samples = (n : ℕ) (rest : List ℕ) → (m : ℕ) × (told_here s n old (text ++ rest) ≡ with_samples samples (told_here s m new rest))
 
--- texts behind texts
+-- texts after texts
 pub reads-append : (s : Signals) (a b : List ℕ) (x y z : Seen) (p q : List Edge) → Reads s a x y p → Reads s b y z q → Reads s (a ++ b) x z (p ++ q)
 reads-append s a b x y z p q h k = λ n rest.
     let f = h n (b ++ rest) in
@@ -136,7 +140,7 @@ with_line seen l = record { time = seen.time; atn = seen.atn; clock = seen.clock
 abbrev sampled : Seen → List Edge
 sampled seen = listed (sample_in seen.time seen.atn seen.clock seen.line)
 
--- what is told behind a change
+-- what is told after a change
 abbrev told_with : Signals → Seen → (n : ℕ) → (rest : List ℕ) → CaptureContents
 told_with s seen n rest = with_samples (sampled seen) (told_here s (n + 1) seen rest)
 
@@ -189,7 +193,7 @@ line-if s i t a c false false = reads-none s (at t a c false)
 line-if s i t a c true false = reads-line s i (at t a c true) false
 line-if s i t a c false true = reads-line s i (at t a c false) true
 
--- the samples of an edge behind another
+-- the samples of an edge after another
 abbrev pub samples_at : (t : ℕ) → (b l : Levels) → List Edge
 samples_at t b l =
     (edge_at t b.atn b.clock b.line ∷ [])
@@ -234,7 +238,7 @@ reads-first s i e small =
 abbrev pub last_sample : Edge → Edge
 last_sample b = edge_at (b.time + 1000) b.levels.atn b.levels.clock b.levels.line
 
--- the samples behind an edge, up to the end
+-- the samples after an edge, up to the end
 abbrev pub samples_behind : (b : Edge) → List Edge → List Edge
 samples_behind b [] = last_sample b ∷ []
 samples_behind b (e ∷ es) = samples_at e.time b.levels e.levels ++ samples_behind e es
@@ -244,7 +248,7 @@ abbrev pub last_of : (b : Edge) → List Edge → Edge
 last_of b [] = b
 last_of b (e ∷ es) = last_of e es
 
--- all changes behind an edge, and the end
+-- all changes after an edge, and the end
 pub reads-behind : (s : Signals) → s.is_inverted ≡ false → (b : Edge) (es : List Edge) → b.time + 1000 < 2 ^ 64 → RunsOn (Some b) es
     → Reads s (vcd_changes (Some b) es ++ vcd_end (last_edge (Some b) es)) (seen_at b) (seen_at (last_sample (last_of b es))) (samples_behind b es)
 reads-behind s i b [] small h = reads-stamp s (seen_at b) (b.time + 1000) small (omega arith)
@@ -288,7 +292,7 @@ section-words : (n : ℕ) (k : Keyword) (key : List ℕ) (ls : List (List ℕ)) 
     → pieces_behind Nothing (record { line = n; letters = key } ∷ on_line n ls (record { line = n; letters = codes "$end" } ∷ ws)) ≡ Section n k (kept_of k [] ls) ∷ pieces_behind Nothing ws
 section-words n k key ls ws e h = rw e (inner-words n k [] ls ws h)
 
--- words with a space behind each, and one with a line's end
+-- words with a space after each, and one with a line's end
 abbrev line_of : List (List ℕ) → (last : List ℕ) → (rest : List ℕ) → List ℕ
 line_of [] last rest = last ++ 10 ∷ rest
 line_of (l ∷ ls) last rest = l ++ 32 ∷ line_of ls last rest
@@ -344,38 +348,42 @@ section-told s n p q k key ls rest e inner whole c d =
     ∙ (ap (λ v. piece_contents s end p v) (section-words n k key ls (words_behind (n + 1) [] rest) e inner)
     ∙ (ap (λ v. goes_on v (λ next. piece_contents s end next ps)) c ∙ ap (λ v. with_samples (listed v) (piece_contents s end q ps)) d)))
 
--- the codes known behind the first wires
+-- the codes known after the first wires
 abbrev one_code : Codes
-one_code = record { atn = Some (65 ∷ []); clock = None; second = None; line = None }
+one_code = record { atn = coded 65; clock = nothing; second = nothing; line = nothing }
 
 abbrev two_codes : Codes
-two_codes = record { atn = Some (65 ∷ []); clock = Some (67 ∷ []); second = None; line = None }
+two_codes = record { atn = coded 65; clock = coded 67; second = nothing; line = nothing }
 
 -- the words of a wire's section
 abbrev wire_words : (code : ℕ) → (name : List ℕ) → List (List ℕ)
 wire_words code name = codes "wire" ∷ codes "1" ∷ (code ∷ []) ∷ name ∷ []
 
-atn-known : (s : Signals) → IsAsWritten s → with_signal s no_codes (wire_words 65 (codes "ATN")) ≡ one_code
+-- the scope that is written
+abbrev bus : List (List ℕ)
+bus = codes "bus" ∷ []
+
+atn-known : (s : Signals) → IsAsWritten s → with_signal s no_codes 3 bus (wire_words 65 (codes "ATN")) ≡ one_code
 atn-known s h = rw (h.atn, h.clock, h.line) refl
 
-clock-known : (s : Signals) → IsAsWritten s → with_signal s one_code (wire_words 67 (codes "CLOCK")) ≡ two_codes
-clock-known s h = rw (h.clock, h.line) refl
+clock-known : (s : Signals) → IsAsWritten s → with_signal s one_code 4 bus (wire_words 67 (codes "CLOCK")) ≡ two_codes
+clock-known s h = rw (h.atn, h.clock, h.line) refl
 
-line-known : (s : Signals) → IsAsWritten s → with_signal s two_codes (wire_words 68 (codes "DATA")) ≡ written
-line-known s h = rw (h.clock, h.line) refl
+line-known : (s : Signals) → IsAsWritten s → with_signal s two_codes 5 bus (wire_words 68 (codes "DATA")) ≡ written
+line-known s h = rw (h.atn, h.clock, h.line) refl
 
 -- a place in the header, by the scale that is written
 abbrev in_header : Codes → Place
-in_header c = Header (Some 1000000000) c
+in_header c = Header (Some 1000000000) bus c
 
 -- a wire's line
 wire-told : (s : Signals) (n : ℕ) (c d : Codes) (ls : List (List ℕ)) (rest : List ℕ) → list_all is_inner_word ls ≡ true → list_all is_whole ls ≡ true
-    → with_signal s c (kept_of Var [] ls) ≡ d
+    → with_signal s c n bus (kept_of Var [] ls) ≡ d
     → told_place s n (in_header c) (line_of (codes "$var" ∷ ls) (codes "$end") rest) ≡ told_place s (n + 1) (in_header d) rest
 wire-told s n c d ls rest inner whole e =
     section-told s n (in_header c) (in_header d) Var (codes "$var") ls rest refl inner whole (ap (λ (v : Codes). Ok (in_header v)) e) refl
 
-head-told : (s : Signals) → IsAsWritten s → (text : List ℕ) → told_place s 1 (Header None no_codes) (head ++ text) ≡ told_place s 8 (Changes 1000000000 written nothing_seen) text
+head-told : (s : Signals) → IsAsWritten s → (text : List ℕ) → told_place s 1 (Header None [] no_codes) (head ++ text) ≡ told_place s 8 (Changes 1000000000 written nothing_seen) text
 unfolding head
 head-told s h text =
     let f : List ℕ = line_of (codes "$enddefinitions" ∷ []) (codes "$end") text in
@@ -385,14 +393,14 @@ head-told s h text =
     let b : List ℕ = line_of (codes "$var" ∷ wire_words 65 (codes "ATN")) (codes "$end") c in
     let a : List ℕ = line_of (codes "$scope" ∷ codes "module" ∷ codes "bus" ∷ []) (codes "$end") b in
     let whole : head ++ text ≡ line_of (codes "$timescale" ∷ codes "1" ∷ codes "us" ∷ []) (codes "$end") a = refl in
-    ap (told_place s 1 (Header None no_codes)) whole
-    ∙ (section-told s 1 (Header None no_codes) (in_header no_codes) Timescale (codes "$timescale") (codes "1" ∷ codes "us" ∷ []) a refl refl refl refl refl
-    ∙ (section-told s 2 (in_header no_codes) (in_header no_codes) Other (codes "$scope") (codes "module" ∷ codes "bus" ∷ []) b refl refl refl refl refl
+    ap (told_place s 1 (Header None [] no_codes)) whole
+    ∙ (section-told s 1 (Header None [] no_codes) (Header (Some 1000000000) [] no_codes) Timescale (codes "$timescale") (codes "1" ∷ codes "us" ∷ []) a refl refl refl refl refl
+    ∙ (section-told s 2 (Header (Some 1000000000) [] no_codes) (in_header no_codes) Scope (codes "$scope") (codes "module" ∷ codes "bus" ∷ []) b refl refl refl refl refl
     ∙ (wire-told s 3 no_codes one_code (wire_words 65 (codes "ATN")) c refl refl (atn-known s h)
     ∙ (wire-told s 4 one_code two_codes (wire_words 67 (codes "CLOCK")) d refl refl (clock-known s h)
     ∙ (wire-told s 5 two_codes written (wire_words 68 (codes "DATA")) e refl refl (line-known s h)
-    ∙ (section-told s 6 (in_header written) (in_header written) Other (codes "$upscope") [] f refl refl refl refl refl
-    ∙ section-told s 7 (in_header written) (Changes 1000000000 written nothing_seen) Definitions (codes "$enddefinitions") [] text refl refl refl refl refl))))))
+    ∙ (section-told s 6 (in_header written) (Header (Some 1000000000) [] written) Upscope (codes "$upscope") [] f refl refl refl refl refl
+    ∙ section-told s 7 (Header (Some 1000000000) [] written) (Changes 1000000000 written nothing_seen) Definitions (codes "$enddefinitions") [] text refl refl refl refl refl))))))
 
 pub vcd-begins : (s : Signals) → IsAsWritten s → (text : List ℕ) → vcd_contents s (head ++ text) ≡ told_here s 8 nothing_seen text
 unfolding vcd_contents told_place

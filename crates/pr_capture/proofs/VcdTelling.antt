@@ -54,7 +54,7 @@ letters-end n (b ∷ bs) more h =
 
 -- nothing was taken
 pub read-none : (s : Signals) (r : VcdReader) → r.signals ≡ s → r.number ≡ 1 → r.letters.items ≡ [] → begun_of r.progress ≡ Nothing
-    → place_of r.progress.known ≡ Header None no_codes → HasReadDump s [] [] r
+    → place_of r.progress.known ≡ Header None [] no_codes → HasReadDump s [] [] r
 unfolding vcd_contents
 read-none s r a b c d e = record { signals = a; told = λ more. rw (a, b, c, d, e) refl }
 
@@ -108,7 +108,7 @@ faulty-space old new b f sp (inr r) = inr (λ s text samples h more.
 
 -- Blocks.
 
--- what stands before the first white space
+-- what comes before the first white space
 pub front-letters : (block : List ℕ) → list_all is_letter (take (prefix_len is_letter block) block) ≡ true
 front-letters [] = refl
 front-letters (b ∷ bs) = step (is_space b) refl (front-letters bs)
@@ -122,7 +122,7 @@ front-letters (b ∷ bs) = step (is_space b) refl (front-letters bs)
         let now : list_all is_letter (take (suc (prefix_len is_letter bs)) (b ∷ bs)) ≡ true = rw e next in
         subst P n now
 
--- the byte behind them is white space
+-- the byte after them is white space
 pub space-behind : (block : List ℕ) (len : ℕ) → len ≡ prefix_len is_letter block → len < length block → is_space (get_or block len 0) ≡ true
 space-behind block len e h = step (is_space (get_or block len 0)) refl
   where
@@ -149,7 +149,7 @@ read-front old mid new block len sample some holds reads = λ s text samples h.
     append_assoc text (take len block) (get_or block len 0 ∷ []) ∙ ap (λ v. text ++ v) (sym (take_more block len 0 some)) in
     subst P e (reads s (text ++ take len block) samples (holds s text samples h))
 
--- a fault behind a block's front
+-- a fault after a block's front
 pub faulty-front : (old mid : VcdReader) (block : List ℕ) (len : ℕ) (f : CaptureFault) → len < length block → HoldsMore (take len block) old mid
     → RefusesDump (get_or block len 0 ∷ []) mid f → RefusesDump block old f
 faulty-front old mid block len f some holds (inl m) = inl m

@@ -1,37 +1,67 @@
--- Trusted: what a table of comma separated values says of the bus: samples of its lines, up to the
--- first fault if there is one. Blank lines and remarks say nothing. The first other line names the
--- columns, and each later one is a sample, whose first field is the time in seconds.
-use Rattle.std.specs.Prelude.{ℕ, zero, suc, ◌+◌, ◌-◌, ◌*◌, ◌==◌, ◌&&◌, ◌||◌, Bool, true, false, not, List, [], ◌∷◌, ◌++◌, codes, drop, length, nat_lt, take, if◌then◌else◌, Option, Some, None, Result, Ok, Err}
-use Rattle.std.specs.List.{list_all, prefix_len}
+-- Trusted: what a table of separated values says of the bus: samples of its lines, up to the first fault if there is one.
+-- Blank lines and remarks say nothing, but for a rate. Of the others the first has the columns' names, and each later one is a sample.
+use Rattle.std.specs.Prelude.{ℕ, zero, suc, ◌+◌, ◌==◌, ◌&&◌, ◌||◌, Bool, true, false, not, List, [], ◌∷◌, codes, take, drop, if◌then◌else◌, Option, Some, None, Result, Ok, Err}
+use Rattle.std.specs.List.{list_all}
+use Rattle.std.specs.Str.{bytes_eq}
 use Rattle.pr_wire.specs.declared.Edge.{Edge}
 use Rattle.pr_wire.specs.Levels.{edge_at}
-use Rattle.pr_base.specs.Digits.{is_digit}
 use Rattle.pr_base.specs.Lines.{lines_of, onto_first}
 use Rattle.pr_capture.specs.declared.csv.Columns.{Columns}
+use Rattle.pr_capture.specs.declared.csv.Scale.{Scale}
+use Rattle.pr_capture.specs.declared.csv.Scale.TheVariants.{Counted, Timed}
+use Rattle.pr_capture.specs.declared.csv.Layout.{Layout}
+use Rattle.pr_capture.specs.declared.csv.Moment.{Moment}
+use Rattle.pr_capture.specs.declared.csv.Row.{Row}
+use Rattle.pr_capture.specs.declared.remarks.Remarks.{Remarks}
+use Rattle.pr_capture.specs.declared.times.Instant.{Instant}
 use Rattle.pr_capture.specs.declared.fault.Wire.{Wire}
 use Rattle.pr_capture.specs.declared.fault.Wire.TheVariants.{Atn, Clock, Data}
 use Rattle.pr_capture.specs.declared.fault.CaptureFault.{CaptureFault}
-use Rattle.pr_capture.specs.declared.fault.CaptureFault.TheVariants.{BadLevel, BadTime, GoesBack, NoLevel, NoSignal}
+use Rattle.pr_capture.specs.declared.fault.CaptureFault.TheVariants.{Archive, BadLevel, BadTime, NoLevel, NoSignal, NoTime, WideText}
 use Rattle.pr_capture.specs.declared.signals.Signals.{Signals}
 use Rattle.pr_capture.specs.Recording.{◌>>=◌, ended, first_some, is_framing, is_named, level_in, refused, second_name, with_samples, without_front, CaptureContents}
+use Rattle.pr_capture.specs.Words.{is_space}
+use Rattle.pr_capture.specs.Numbers.{behind_word}
+use Rattle.pr_capture.specs.TableTimes.{from_start, instant_in, is_time_alone, no_remarks, remarked, start_of, time_at_rate, time_or, time_unit}
 
 -- Lines and fields.
 
--- the rest of a line is empty, or a remark
+-- without the white space in front
+abbrev pub without_space : List ℕ → List ℕ
+without_space [] = []
+without_space (b ∷ bs) = if is_space b then without_space bs else b ∷ bs
+
+-- nothing, or a remark
 abbrev pub is_remark : (words : List ℕ) → Bool
 is_remark [] = true
 is_remark (b ∷ bs) = b == 59 || b == 35
 
--- a line says nothing: it is blank, or a remark, which begins with `;` or `#`
+-- a line says nothing of the bus: it is blank, or a remark, which begins with ; or #
 abbrev pub is_silent : (line : List ℕ) → Bool
-is_silent line = is_remark (without_front line)
+is_silent line = is_remark (without_space line)
 
--- the fields of a line, separated by commas, except for commas between quotation marks
-abbrev pub fields_of : (quoted : Bool) → (line : List ℕ) → List (List ℕ)
-fields_of quoted [] = [] ∷ []
-fields_of quoted (b ∷ bs) =
-    if b == 44 && not quoted then [] ∷ fields_of false bs
-    else onto_first b (fields_of (if b == 34 then not quoted else quoted) bs)
+-- or it is the line that sigrok-cli puts in front
+abbrev pub is_there : Option (List ℕ) → Bool
+is_there None = false
+is_there (Some rest) = true
+
+abbrev pub is_in_front : (line : List ℕ) → Bool
+is_in_front line = is_silent line || is_there (behind_word (codes "METAsamplerate") line)
+
+-- what separates fields: the first comma, semicolon or tab of the line of the names tells it
+abbrev pub is_separator : ℕ → Bool
+is_separator b = b == 44 || b == 59 || b == 9
+
+abbrev pub separator_of : (line : List ℕ) → ℕ
+separator_of [] = 44
+separator_of (b ∷ bs) = if is_separator b then b else separator_of bs
+
+-- the fields of a line: separators part them, but for those between quotation marks
+abbrev pub fields_of : (separator : ℕ) → (quoted : Bool) → (line : List ℕ) → List (List ℕ)
+fields_of sep quoted [] = [] ∷ []
+fields_of sep quoted (b ∷ bs) =
+    if b == sep && not quoted then [] ∷ fields_of sep false bs
+    else onto_first b (fields_of sep (if b == 34 then not quoted else quoted) bs)
 
 -- the field at a place, from 0
 abbrev pub field_at : (place : ℕ) → (fields : List (List ℕ)) → Option (List ℕ)
@@ -41,83 +71,73 @@ field_at (suc place) (f ∷ fs) = field_at place fs
 
 -- The columns.
 
--- the place of the first field with this name
+-- the place of the first field that is this name, the first of these fields having this place
 abbrev pub column_of : (name : List ℕ) → (place : ℕ) → (fields : List (List ℕ)) → Option ℕ
 column_of name place [] = None
 column_of name place (f ∷ fs) = if is_named name f then Some place else column_of name (place + 1) fs
 
--- the place of CLOCK's column, by its first name or else by its second
-abbrev pub clock_column : Signals → (fields : List (List ℕ)) → Option ℕ
-clock_column s fs = first_some (column_of s.clock.now 1 fs) (column_of (second_name s) 1 fs)
+-- that of CLOCK, by its first name or else by its second
+abbrev pub clock_column : Signals → (place : ℕ) → (fields : List (List ℕ)) → Option ℕ
+clock_column s place fs = first_some (column_of s.clock.now place fs) (column_of (second_name s) place fs)
 
 -- a column that a wire needs
 abbrev pub column_or : (number : ℕ) → Wire → Option ℕ → Result ℕ CaptureFault
 column_or number wire None = Err (NoSignal number wire)
 column_or number wire (Some place) = Ok place
 
--- the columns of the three lines, among the fields after that of the time
-abbrev pub columns_in : Signals → (number : ℕ) → (fields : List (List ℕ)) → Result Columns CaptureFault
-columns_in s number fs =
-    column_or number Atn (column_of s.atn.now 1 fs) >>= λ atn.
-    column_or number Clock (clock_column s fs) >>= λ clock.
-    column_or number Data (column_of s.line.now 1 fs) >>= λ line.
+-- the columns of the three lines
+abbrev pub columns_in : Signals → (number place : ℕ) → (fields : List (List ℕ)) → Result Columns CaptureFault
+columns_in s number place fs =
+    column_or number Atn (column_of s.atn.now place fs) >>= λ atn.
+    column_or number Clock (clock_column s place fs) >>= λ clock.
+    column_or number Data (column_of s.line.now place fs) >>= λ line.
     Ok (record { atn = atn; clock = clock; line = line })
 
--- the columns that a line names; the first is the time, with any name
-abbrev pub columns_of : Signals → (number : ℕ) → (fields : List (List ℕ)) → Result Columns CaptureFault
-columns_of s number [] = columns_in s number []
-columns_of s number (time ∷ fs) = columns_in s number fs
+-- the rate has to be known where no column is of times
+abbrev pub rate_or : (number : ℕ) → (rate : Option ℕ) → Result ℕ CaptureFault
+rate_or number None = Err (NoTime number)
+rate_or number (Some rate) = Ok rate
 
--- Times.
+-- the rate counts where the first column is another than one of times
+abbrev pub rate_beside : Remarks → (first : Option (List ℕ)) → Option ℕ
+rate_beside r None = r.rate
+rate_beside r (Some name) = if is_time_alone name then None else r.rate
 
--- the number that digits spell after digits that spell n, as long as it is below 2 ^ 64
-abbrev pub number_from : ℕ → (digits : List ℕ) → Option ℕ
-number_from n [] = Some n
-number_from n (d ∷ ds) =
-    if nat_lt (10 * n + (d - 48)) 18446744073709551616 then number_from (10 * n + (d - 48)) ds else None
+-- a table with times in its first column, by their unit, or a row a sample
+abbrev pub layout_by : Signals → Remarks → (number separator : ℕ) → (unit : Option ℕ) → (fields : List (List ℕ)) → Result Layout CaptureFault
+layout_by s r number sep (Some unit) fs =
+    columns_in s number 1 (drop 1 fs) >>= λ c. Ok (record { columns = c; separator = sep; scale = Timed unit })
+layout_by s r number sep None fs =
+    columns_in s number 0 fs >>= λ c.
+    rate_or number (rate_beside r (field_at 0 fs)) >>= λ rate. Ok (record { columns = c; separator = sep; scale = Counted rate })
 
--- the digits at the front, and what follows them
-abbrev pub digits_in : List ℕ → List ℕ
-digits_in l = take (prefix_len is_digit l) l
+-- the unit of the first column, if it is one of times
+abbrev pub unit_in : (bare : Option ℕ) → (first : Option (List ℕ)) → Option ℕ
+unit_in bare None = None
+unit_in bare (Some name) = time_unit bare name
 
-abbrev pub behind_digits : List ℕ → List ℕ
-behind_digits l = drop (prefix_len is_digit l) l
+abbrev pub layout_in : Signals → Remarks → (number separator : ℕ) → (fields : List (List ℕ)) → Result Layout CaptureFault
+layout_in s r number sep fs = layout_by s r number sep (unit_in r.bare (field_at 0 fs)) fs
 
--- the digits after a point at the front, if there is one, and what follows them
-abbrev pub decimals_in : List ℕ → List ℕ
-decimals_in [] = []
-decimals_in (b ∷ bs) = if b == 46 then digits_in bs else []
-
-abbrev pub behind_decimals : List ℕ → List ℕ
-behind_decimals [] = []
-behind_decimals (b ∷ bs) = if b == 46 then behind_digits bs else b ∷ bs
-
--- six decimals: further ones are dropped, and missing ones are zeros
-abbrev pub millionths : (decimals : List ℕ) → List ℕ
-millionths ds = take 6 ds ++ drop (length (take 6 ds)) (codes "000000")
-
--- the whole microseconds of seconds with or without decimals
-abbrev pub micros_in : (whole decimals : List ℕ) → Option ℕ
-micros_in whole ds = if length whole == 0 then None else number_from 0 (whole ++ millionths ds)
-
--- the microseconds that a field spells
-abbrev pub time_in : List ℕ → Option ℕ
-time_in l =
-    if list_all is_framing (behind_decimals (behind_digits l))
-    then micros_in (digits_in l) (decimals_in (behind_digits l))
-    else None
-
--- a row's time: whole microseconds, no earlier than the row before
-abbrev pub time_or : (number before : ℕ) → Option ℕ → Result ℕ CaptureFault
-time_or number before None = Err (BadTime number)
-time_or number before (Some t) = if nat_lt t before then Err (GoesBack number) else Ok t
+-- the layout that a line names
+abbrev pub layout_of : Signals → Remarks → (number : ℕ) → (line : List ℕ) → Result Layout CaptureFault
+layout_of s r number line = layout_in s r number (separator_of line) (fields_of (separator_of line) false line)
 
 -- Rows.
 
--- the level that a field spells
+-- zeros after a point say nothing
+abbrev pub without_zeros : List ℕ → List ℕ
+without_zeros [] = []
+without_zeros (b ∷ bs) = if b == 48 then without_zeros bs else b ∷ bs
+
+abbrev pub behind_point : List ℕ → List ℕ
+behind_point [] = []
+behind_point (b ∷ bs) = if b == 46 then without_zeros bs else b ∷ bs
+
+-- a level that a field spells: 0, 1.0
 abbrev pub level_of : (number : ℕ) → (inverted : Bool) → List ℕ → Result Bool CaptureFault
 level_of number inverted [] = Err (BadLevel number)
-level_of number inverted (b ∷ bs) = if list_all is_framing bs then level_in number inverted b else Err (BadLevel number)
+level_of number inverted (b ∷ bs) = if list_all is_framing (behind_point bs) then level_in number inverted b else Err (BadLevel number)
 
 -- the level in a wire's column
 abbrev pub level_or : (number : ℕ) → (inverted : Bool) → Wire → (field : Option (List ℕ)) → Result Bool CaptureFault
@@ -133,39 +153,84 @@ sample_of c inverted number fields t =
     level_or number inverted Data (field_at c.line fields) >>= λ line.
     Ok (edge_at t atn clock line)
 
--- a row's sample
-abbrev pub row : Columns → (inverted : Bool) → (number before : ℕ) → (fields : List (List ℕ)) → Result Edge CaptureFault
-row c inverted number before [] = Err (BadTime number)
-row c inverted number before (time ∷ fs) =
-    time_or number before (time_in (without_front time)) >>= λ t. sample_of c inverted number (time ∷ fs) t
+-- the moment of the first row: no start is known, no time was told, and no sample comes before it
+abbrev pub first_moment : Moment
+first_moment = record { start = None; before = 0; count = 0 }
 
--- a row's sample, and what the rest says
-abbrev pub contents_after_row : Result Edge CaptureFault → (ℕ → CaptureContents) → CaptureContents
+-- the moment of a row with this time
+abbrev pub moment_at : (number : ℕ) → Moment → Option Instant → Result Moment CaptureFault
+moment_at number m None = Err (BadTime number)
+moment_at number m (Some i) =
+    from_start number (start_of m.start i) i >>= λ t.
+    time_or number m.before (Some t) >>= λ u. Ok (record { start = Some (start_of m.start i); before = u; count = m.count })
+
+-- and of the next row at a rate
+abbrev pub moment_next : (number : ℕ) → Moment → (time : Option ℕ) → Result Moment CaptureFault
+moment_next number m t = time_or number m.before t >>= λ u. Ok (record { start = m.start; before = u; count = m.count + 1 })
+
+-- the time that a row's first field spells
+abbrev pub instant_of_row : (unit : ℕ) → (first : Option (List ℕ)) → Option Instant
+instant_of_row unit None = None
+instant_of_row unit (Some f) = instant_in unit (without_front f)
+
+abbrev pub moment_of : Scale → (number : ℕ) → Moment → (fields : List (List ℕ)) → Result Moment CaptureFault
+moment_of (Timed unit) number m fields = moment_at number m (instant_of_row unit (field_at 0 fields))
+moment_of (Counted rate) number m fields = moment_next number m (time_at_rate rate m.count)
+
+-- what a row tells: its sample, and the moment from which the next row goes on
+abbrev pub row_of : Layout → (inverted : Bool) → (number : ℕ) → Moment → (fields : List (List ℕ)) → Result Row CaptureFault
+row_of y inverted number m fields =
+    moment_of y.scale number m fields >>= λ next.
+    sample_of y.columns inverted number fields next.before >>= λ e. Ok (record { sample = e; moment = next })
+
+-- a row's sample, and what is told after it
+abbrev pub contents_after_row : Result Row CaptureFault → (Moment → CaptureContents) → CaptureContents
 contents_after_row (Err f) rest = refused f
-contents_after_row (Ok e) rest = with_samples (e ∷ []) (rest e.time)
+contents_after_row (Ok r) rest = with_samples (r.sample ∷ []) (rest r.moment)
 
--- rows, the first on the line of this number, after a row of this time
-abbrev pub row_contents : Columns → (inverted : Bool) → (number before : ℕ) → List (List ℕ) → CaptureContents
-row_contents c inverted number before [] = ended
-row_contents c inverted number before (l ∷ ls) =
-    if is_silent l then row_contents c inverted (number + 1) before ls
-    else contents_after_row (row c inverted number before (fields_of false l))
-    (λ t. row_contents c inverted (number + 1) t ls)
+-- rows, of which the first has this number, after this moment
+abbrev pub row_contents : Layout → (inverted : Bool) → (number : ℕ) → Moment → List (List ℕ) → CaptureContents
+row_contents y inverted number m [] = ended
+row_contents y inverted number m (l ∷ ls) =
+    if is_silent l then row_contents y inverted (number + 1) m ls
+    else contents_after_row (row_of y inverted number m (fields_of y.separator false l)) (λ next. row_contents y inverted (number + 1) next ls)
 
 -- The whole.
 
--- what the rows say, with the columns that the line of names gives
-abbrev pub named_contents : Result Columns CaptureFault → (Columns → CaptureContents) → CaptureContents
+-- what is told after the line of the names
+abbrev pub named_contents : Result Layout CaptureFault → (Layout → CaptureContents) → CaptureContents
 named_contents (Err f) rest = refused f
-named_contents (Ok c) rest = rest c
+named_contents (Ok y) rest = rest y
 
--- lines, of which the first has this number; the first that is not silent names the columns
-abbrev pub line_contents : Signals → (number : ℕ) → List (List ℕ) → CaptureContents
-line_contents s number [] = refused (NoSignal number Atn)
-line_contents s number (l ∷ ls) =
-    if is_silent l then line_contents s (number + 1) ls
-    else named_contents (columns_of s number (fields_of false l)) (λ c. row_contents c s.is_inverted (number + 1) 0 ls)
+-- lines, of which the first has this number, after these remarks; the first that says anything else names the columns
+abbrev pub line_contents : Signals → Remarks → (number : ℕ) → List (List ℕ) → CaptureContents
+line_contents s r number [] = refused (NoSignal number Atn)
+line_contents s r number (l ∷ ls) =
+    if is_in_front l then line_contents s (remarked r l) (number + 1) ls
+    else named_contents (layout_of s r number l) (λ y. row_contents y s.is_inverted (number + 1) first_moment ls)
+
+-- The first line begins with a byte order mark, or not. Text of 16 bits a letter and zip archives are no tables.
+abbrev pub is_wide : List ℕ → Bool
+is_wide l = bytes_eq (take 2 l) (255 ∷ 254 ∷ []) || bytes_eq (take 2 l) (254 ∷ 255 ∷ [])
+
+abbrev pub is_archive : List ℕ → Bool
+is_archive l = bytes_eq (take 4 l) (80 ∷ 75 ∷ 3 ∷ 4 ∷ [])
+
+abbrev pub without_mark : List ℕ → List ℕ
+without_mark l = if bytes_eq (take 3 l) (239 ∷ 187 ∷ 191 ∷ []) then drop 3 l else l
+
+-- the first line as it is read
+abbrev pub opened : (line : List ℕ) → Result (List ℕ) CaptureFault
+opened l = if is_wide l then Err WideText else (if is_archive l then Err Archive else Ok (without_mark l))
+
+abbrev pub opened_contents : Result (List ℕ) CaptureFault → (List ℕ → CaptureContents) → CaptureContents
+opened_contents (Err f) rest = refused f
+opened_contents (Ok l) rest = rest l
+
+abbrev pub first_contents : Signals → (number : ℕ) → List (List ℕ) → CaptureContents
+first_contents s number [] = line_contents s no_remarks number []
+first_contents s number (l ∷ ls) = opened_contents (opened l) (λ line. line_contents s no_remarks number (line ∷ ls))
 
 -- what a text says
 unfoldable pub csv_contents : Signals → List ℕ → CaptureContents
-csv_contents s text = line_contents s 1 (lines_of text)
+csv_contents s text = first_contents s 1 (lines_of text)

@@ -5,24 +5,24 @@ use Rattle.std.specs.List.{list_all}
 use Rattle.pr_wire.specs.declared.Edge.{Edge}
 use Rattle.pr_base.specs.Lines.{lines_of}
 use Rattle.pr_capture.specs.declared.csv.RowPlace.{RowPlace}
-use Rattle.pr_capture.specs.declared.csv.RowPlace.TheVariants.{Names, Rows}
+use Rattle.pr_capture.specs.declared.csv.RowPlace.TheVariants.{First, Names, Rows}
 use Rattle.pr_capture.specs.declared.csv.CsvReader.{CsvReader}
+use Rattle.pr_capture.specs.declared.remarks.Remarks.{Remarks}
 use Rattle.pr_capture.specs.declared.fault.CaptureFault.{CaptureFault}
 use Rattle.pr_capture.specs.declared.signals.Signals.{Signals}
-use Rattle.pr_capture.specs.Csv.{csv_contents, fields_of, line_contents, row_contents}
+use Rattle.pr_capture.specs.Csv.{csv_contents, fields_of, first_contents, line_contents, row_contents}
 use Rattle.pr_capture.specs.Recording.{ended, refused, with_samples, CaptureContents}
 use Rattle.pr_capture.specs.Samples.{listed}
 
 -- how many bytes the first field has
-abbrev pub field_len : (quoted : Bool) → (line : List ℕ) → ℕ
-field_len quoted [] = 0
-field_len quoted (b ∷ bs) =
-    if b == 44 && not quoted then 0 else 1 + field_len (if b == 34 then not quoted else quoted) bs
+abbrev pub field_len : (separator : ℕ) → (quoted : Bool) → (line : List ℕ) → ℕ
+field_len sep quoted [] = 0
+field_len sep quoted (b ∷ bs) = if b == sep && not quoted then 0 else 1 + field_len sep (if b == 34 then not quoted else quoted) bs
 
--- the fields of what stands behind a comma, if there was one
-abbrev pub fields_left : Option (List ℕ) → List (List ℕ)
-fields_left None = []
-fields_left (Some l) = fields_of false l
+-- the fields of what follows a separator, if there was one
+abbrev pub fields_left : (separator : ℕ) → Option (List ℕ) → List (List ℕ)
+fields_left sep None = []
+fields_left sep (Some l) = fields_of sep false l
 
 -- a byte does not end a line
 abbrev pub is_inner : ℕ → Bool
@@ -30,8 +30,24 @@ is_inner b = not (b == 10)
 
 -- what lines tell from a place on
 abbrev pub contents_from : Signals → RowPlace → (number : ℕ) → List (List ℕ) → CaptureContents
-contents_from s Names number ls = line_contents s number ls
-contents_from s (Rows c before) number ls = row_contents c s.is_inverted number before ls
+contents_from s First number ls = first_contents s number ls
+contents_from s (Names r) number ls = line_contents s r number ls
+contents_from s (Rows y m) number ls = row_contents y s.is_inverted number m ls
+
+-- a line before the names, or that of the names, leads to a place
+abbrev pub NamesLeadTo : Signals → Remarks → (number : ℕ) → (line : List ℕ) → (new : RowPlace) → Type 0
+NamesLeadTo s r number line new =
+    (more : List (List ℕ)) → line_contents s r number (line ∷ more) ≡ contents_from s new (number + 1) more
+
+-- or it has a fault
+abbrev pub NamesAreRefused : Signals → Remarks → (number : ℕ) → (line : List ℕ) → CaptureFault → Type 0
+NamesAreRefused s r number line f = (more : List (List ℕ)) → line_contents s r number (line ∷ more) ≡ refused f
+
+-- no row can come before the line of the names
+abbrev pub HasNoRows : RowPlace → Type 0
+HasNoRows First = Unit {0}
+HasNoRows (Names r) = Unit {0}
+HasNoRows (Rows y m) = ⊥
 
 -- a line leads from one place to another and gives a sample, if it gives one, or it has a fault
 abbrev pub ReadsLine :
@@ -52,7 +68,7 @@ pub record HasReadTable (s : Signals) (text : List ℕ) (samples : List Edge) (r
   pub inner : list_all is_inner r.line.items ≡ true
   pub told : (more : List ℕ) → csv_contents s (text ++ more) ≡ with_samples samples (contents_left r more)
 
--- the reader has taken these bytes too, behind whatever it had taken
+-- the reader has taken these bytes too, after whatever it had taken
 abbrev pub HoldsMore : (bytes : List ℕ) → (old new : CsvReader) → Type 0
 HoldsMore bytes old new = (s : Signals) (text : List ℕ) (samples : List Edge) → HasReadTable s text samples old
     → HasReadTable s (text ++ bytes) samples new
@@ -65,11 +81,6 @@ AnswersEnd r last (Ok sample) =
 AnswersEnd r last (Err f) =
     (last ≡ None) × ((s : Signals) (text : List ℕ) (samples : List Edge) → HasReadTable s text samples r
     → csv_contents s text ≡ with_samples samples (refused f))
-
--- what follows a number, if there is one
-abbrev pub onward : Option ℕ → (ℕ → Option ℕ) → Option ℕ
-onward None f = None
-onward (Some n) f = f n
 
 -- how many lines have ended, with the one that has begun
 abbrev pub line_number : CsvReader → ℕ

@@ -1,4 +1,4 @@
--- Linking words: which samples a gatherer has taken, and which edges it has given. The clauses of `EdgeDetector` say all that a
+-- Linking words: which samples a detector has taken, and which edges it has given. The clauses of `EdgeDetector` say all that a
 -- caller needs of them. No reader needs to believe them.
 use Rattle.std.specs.Prelude.{◌≡◌, ℕ, ◌==◌, List, ◌++◌, map, Option, Some, None, if◌then◌else◌}
 use Rattle.pr_wire.specs.declared.Levels.{Levels}
@@ -6,7 +6,7 @@ use Rattle.pr_wire.specs.declared.Edge.{Edge}
 use Rattle.pr_capture.specs.declared.edge_detector.EdgeDetector.{EdgeDetector}
 use Rattle.pr_capture.specs.Samples.{changes_after, counted_from, edges_of, is_new, last_at_each, listed}
 
--- a sample held makes an edge, if the next one stands elsewhere and its levels are new
+-- a sample held makes an edge, if the next one is elsewhere and its levels are new
 abbrev pub edge_before : (held : Option Edge) → (told : Option Levels) → (next : ℕ) → Option Edge
 edge_before None told next = None
 edge_before (Some h) told next = if h.time == next then None else (if is_new told h.levels then Some h else None)
@@ -30,7 +30,7 @@ abbrev pub HasGathered : (start : ℕ) (samples edges : List Edge) → EdgeDetec
 HasGathered start samples edges g =
     (more : List Edge) → edges_of start (samples ++ more) ≡ edges ++ still_to_come g more
 
--- whatever follows the samples that a gatherer has taken, the edges that it has given come first
+-- whatever follows the samples that a detector has taken, the edges that it has given come first
 abbrev pub GivenEdgesComeFirst : Type 0
 GivenEdgesComeFirst =
     (start : ℕ) (samples more given : List Edge) (g : EdgeDetector) → HasGathered start samples given g

@@ -5,6 +5,8 @@ pub mod Samples
 pub mod Gathering
 pub mod Gathers
 pub mod Recording
+pub mod Numbers
+pub mod TableTimes
 pub mod Csv
 pub mod CsvSteps
 pub mod CsvReads

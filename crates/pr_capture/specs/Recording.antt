@@ -40,30 +40,39 @@ abbrev pub without_front : List ℕ → List ℕ
 without_front [] = []
 without_front (b ∷ bs) = if is_framing b then without_front bs else b ∷ bs
 
--- a name's letters, whichever of them are capitals, and nothing behind them
-abbrev pub has_name : (name letters : List ℕ) → Bool
-has_name [] ls = list_all is_framing ls
-has_name (n ∷ ns) [] = false
-has_name (n ∷ ns) (l ∷ ls) = eq_ignore_ascii_case n l && has_name ns ls
+-- what follows a letter, if that is here, a capital or not
+abbrev pub behind_letter : ℕ → List ℕ → Option (List ℕ)
+behind_letter n [] = None
+behind_letter n (l ∷ ls) = if eq_ignore_ascii_case n l then Some ls else None
 
--- a field is a signal's name
+-- the same of a letter of a name, in which white space and quotation marks do not count
+abbrev pub behind_sign : ℕ → List ℕ → Option (List ℕ)
+behind_sign n ls = if is_framing n then Some ls else behind_letter n (without_front ls)
+
+-- what follows a sign is a name, or nothing is there
+abbrev pub name_behind : Option (List ℕ) → (List ℕ → Bool) → Bool
+name_behind None rest = false
+name_behind (Some ls) rest = rest ls
+
+-- a field is a signal's name: its letters, whichever of them are capitals. White space and quotation marks do not count
 abbrev pub is_named : (name field : List ℕ) → Bool
-is_named name field = has_name name (without_front field)
+is_named [] ls = list_all is_framing ls
+is_named (n ∷ ns) ls = name_behind (behind_sign n ls) (λ rest. is_named ns rest)
 
 -- CLOCK's other name, for a recording without its first: CLK, if the first is CLOCK
 abbrev pub second_name : Signals → List ℕ
-second_name s = if has_name (codes "clock") s.clock.now then codes "clk" else s.clock.now
+second_name s = if is_named (codes "clock") s.clock.now then codes "clk" else s.clock.now
 
 -- the first of two, if there is one, or else the second
 abbrev pub first_some : {A : Type 0} → (first second : Option A) → Option A
 first_some None second = second
 first_some (Some x) second = Some x
 
--- a level, on a line: 1 is released, unless the probes stand behind inverters
+-- a level, on a line: 1 and H are released, 0 and L pulled, unless the probes invert
 abbrev pub level_in : (number : ℕ) → (inverted : Bool) → ℕ → Result Bool CaptureFault
 level_in number inverted b =
-    if b == 48 then Ok inverted
-    else (if b == 49 then Ok (not inverted)
+    if b == 48 || b == 76 || b == 108 then Ok inverted
+    else (if b == 49 || b == 72 || b == 104 then Ok (not inverted)
     else (if b == 120 || b == 88 then Err (Unknown number)
     else (if b == 122 || b == 90 then Err (Floating number)
     else Err (BadLevel number))))

@@ -14,7 +14,7 @@ pub record IsAsWritten (s : Signals) : Type 0 where
   pub line : s.line.now ≡ codes "DATA"
   pub straight : s.is_inverted ≡ false
 
--- edges behind the edge before, if any: each is later and has other levels, and the time stamp behind it is below 2 ^ 64
+-- edges after the edge before, if any: each is later and has other levels, and the time stamp after it is below 2 ^ 64
 abbrev pub RunsOn : (before : Option Edge) → List Edge → Type 0
 RunsOn before [] = Unit {0}
 RunsOn None (e ∷ es) = (e.time + 1000 < 2 ^ 64) × RunsOn (Some e) es

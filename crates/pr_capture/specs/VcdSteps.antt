@@ -3,9 +3,10 @@
 use Rattle.std.specs.Prelude.{◌≡◌, ◌⊎◌, ℕ, Bool, not, List, [], ◌++◌, map, Vec, Option, Some, None, Result, Ok, Err}
 use Rattle.std.specs.Global.{Global}
 use Rattle.pr_wire.specs.declared.Edge.{Edge}
+use Rattle.pr_capture.specs.declared.header.WireCode.{WireCode}
 use Rattle.pr_capture.specs.declared.header.WireCodes.{WireCodes}
 use Rattle.pr_capture.specs.declared.known.Stage.{Stage}
-use Rattle.pr_capture.specs.declared.known.Stage.TheVariants.{InHeader, InChanges}
+use Rattle.pr_capture.specs.declared.known.Stage.TheVariants.{InHeader, InChanges, InPause}
 use Rattle.pr_capture.specs.declared.known.Known.{Known}
 use Rattle.pr_capture.specs.declared.vcd_parser.Phase.{Phase}
 use Rattle.pr_capture.specs.declared.vcd_parser.Phase.TheVariants.{Between, InSection, BehindValue}
@@ -19,8 +20,8 @@ use Rattle.pr_capture.specs.Samples.{listed}
 use Rattle.pr_capture.specs.Words.{end_line, is_space, word_of, words_behind, Word}
 use Rattle.pr_capture.specs.VcdPieces.{pieces_behind, Begun, Piece}
 use Rattle.pr_capture.specs.VcdPieces.Begun.{Nothing, Inside, Behind}
-use Rattle.pr_capture.specs.VcdReading.{piece_contents, sample_of, step, vcd_contents, Codes, Place}
-use Rattle.pr_capture.specs.VcdReading.Place.{Header, Changes}
+use Rattle.pr_capture.specs.VcdReading.{piece_contents, sample_of, step, vcd_contents, Codes, Found, Place}
+use Rattle.pr_capture.specs.VcdReading.Place.{Header, Changes, Paused}
 
 -- What is held.
 
@@ -33,26 +34,31 @@ abbrev pub code_of : Option (Vec ℕ Global) → Option (List ℕ)
 code_of None = None
 code_of (Some v) = Some v.items
 
+-- what is held of a wire's signal
+abbrev pub found_of : WireCode → Found
+found_of f = record { code = code_of f.code; bit = f.bit; other = f.other }
+
 -- the codes that are held
 abbrev pub codes_of : WireCodes → Codes
-codes_of c = record { atn = code_of c.atn; clock = code_of c.clock; second = code_of c.second; line = code_of c.line }
+codes_of c = record { atn = found_of c.atn; clock = found_of c.clock; second = found_of c.second; line = found_of c.line }
 
 -- the place at which a reader is
-abbrev pub place_at : Stage → Codes → Place
-place_at (InHeader scale) c = Header scale c
-place_at (InChanges scale seen) c = Changes scale c seen
+abbrev pub place_at : Stage → (scopes : List (List ℕ)) → Codes → Place
+place_at (InHeader scale) scopes c = Header scale scopes c
+place_at (InChanges scale seen) scopes c = Changes scale c seen
+place_at (InPause scale seen) scopes c = Paused scale c seen
 
 abbrev pub place_of : Known → Place
-place_of k = place_at k.stage (codes_of k.codes)
+place_of k = place_at k.stage (words_in k.scopes.items) (codes_of k.codes)
 
 -- what has begun
-abbrev pub begun_at : Phase → (inside : List (List ℕ)) → Begun
-begun_at Between inside = Nothing
-begun_at (InSection line k) inside = Inside line k inside
-begun_at (BehindValue line level) inside = Behind line level
+abbrev pub begun_at : Phase → (inside : List (List ℕ)) → (bits : List ℕ) → Begun
+begun_at Between inside bits = Nothing
+begun_at (InSection line k) inside bits = Inside line k inside
+begun_at (BehindValue line) inside bits = Behind line bits
 
 abbrev pub begun_of : VcdParser → Begun
-begun_of p = begun_at p.phase (words_in p.inside.items)
+begun_of p = begun_at p.phase (words_in p.inside.items) p.bits.items
 
 -- Pieces and words.
 
@@ -98,12 +104,12 @@ pub record HasReadDump (s : Signals) (text : List ℕ) (samples : List Edge) (r 
   pub signals : r.signals ≡ s
   pub told : (more : List ℕ) → vcd_contents s (text ++ more) ≡ with_samples samples (contents_left r more)
 
--- the reader has taken these bytes too, behind whatever it had taken
+-- the reader has taken these bytes too, after whatever it had taken
 abbrev pub HoldsMore : (bytes : List ℕ) → (old new : VcdReader) → Type 0
 HoldsMore bytes old new = (s : Signals) (text : List ℕ) (samples : List Edge) → HasReadDump s text samples old
     → HasReadDump s (text ++ bytes) samples new
 
--- what a reader answers if a text ends here, on a line, behind its last word
+-- what a reader answers if a text ends here, on a line, after its last word
 abbrev pub AnswersEnd : (end : ℕ) → VcdParser → Result (Option Edge) CaptureFault → Type 0
 AnswersEnd end p (Ok sample) = (sample ≡ None) × ((s : Signals) → word_contents s end p [] ≡ ended)
 AnswersEnd end p (Err f) = (s : Signals) → word_contents s end p [] ≡ refused f

@@ -3,10 +3,10 @@
 ghost use Rattle.std.specs.Prelude.{◌≡◌, if◌then◌else◌, None};
 ghost use Rattle.std.specs.List.{list_all};
 ghost use Rattle.pr_base.specs.Digits.{is_digit};
-ghost use Rattle.pr_capture.specs.VcdReading.{all_known, is_blank, is_number, level_behind, level_if, sample_in, time_at, whole_micros, without_level};
+ghost use Rattle.pr_capture.specs.VcdReading.{all_known, is_blank, is_number, level_behind, sample_in, time_at, whole_micros, without_level};
 
-use crate::csv::number_from;
 use crate::fault::{CaptureFault, Wire};
+use crate::numbers::number_from;
 use crate::signals::level_in;
 use pr_base::is_digit;
 use pr_wire::{Edge, Levels};
@@ -77,13 +77,6 @@ pub fn level_behind(
     Ok(Some(level))
 }
 
-/// What is known of a wire's level behind a change.
-pub fn level_if(changes: bool, level: Option<bool>, before: Option<bool>) -> Option<bool>
-    ensures { result ≡ level_if changes level before }
-{
-    if changes { level } else { before }
-}
-
 impl Seen {
     /// Whether all three levels are known.
     pub fn all_known(self) -> bool
@@ -93,7 +86,7 @@ impl Seen {
     }
 
     /// The first wire without a level, if a dump ends here that is not blank: in which a level was said,
-    /// or a moment behind 0.
+    /// or a moment after 0.
     pub fn missing(self) -> Option<Wire>
         ensures { result ≡ if is_blank self.time self.atn self.clock self.line then None else without_level self.atn self.clock self.line }
     {

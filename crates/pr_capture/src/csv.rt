@@ -1,25 +1,25 @@
-//! Reading tables of comma separated values, as logic analysers export them.
+//! Reading tables of separated values, as logic analysers export them.
 //!
 //! The kit's crate `csv` does not fit: its reader owns its stream, while all three formats are read
 //! from the front of a block that somebody else has read (`take_front`), so that one loop serves
 //! them; its clauses do not say on which line a row is; and its quoted fields may hold line ends.
 
-ghost use Rattle.std.specs.Prelude.{◌≡◌, ◌+◌, ◌^◌, ◌<◌, ◌≤◌, ◌∷◌, ◌++◌, [], false, true, None, IfErr, IfOk, length, option_copied, take};
+ghost use Rattle.std.specs.Prelude.{◌≡◌, ◌+◌, ◌^◌, ◌<◌, ◌≤◌, ◌∷◌, [], false, true, None, Err, IfErr, IfOk, Ok, drop, length, option_copied, take};
 ghost use Rattle.std.specs.List.{list_all, prefix_len};
-ghost use Rattle.pr_capture.specs.Csv.{clock_column, column_of, columns_in, field_at, fields_of, is_silent, level_of, level_or, micros_in, number_from, row, sample_of, time_in, time_or};
+ghost use Rattle.pr_capture.specs.Csv.{behind_point, clock_column, column_of, columns_in, field_at, fields_of, first_moment, is_archive, is_in_front, is_separator, is_silent, is_wide, layout_by, layout_of, level_of, level_or, moment_at, moment_next, moment_of, opened, rate_beside, row_of, sample_of, separator_of, without_space, without_zeros};
 ghost use Rattle.pr_capture.specs.CsvReads.{EndsText, FaultsIn, ReadsMore, RefusesTable};
-ghost use Rattle.pr_capture.specs.CsvSteps.{field_len, fields_left, is_inner, line_number, AnswersEnd, HasReadTable, HoldsMore, ReadsLine};
-ghost use Rattle.pr_capture.specs.declared.csv.RowPlace.TheVariants.{Names};
+ghost use Rattle.pr_capture.specs.CsvSteps.{field_len, fields_left, is_inner, line_number, AnswersEnd, HasNoRows, HasReadTable, HoldsMore, NamesAreRefused, NamesLeadTo, ReadsLine};
+ghost use Rattle.pr_capture.specs.TableTimes.{time_at_rate};
 ghost use Rattle.pr_capture.specs.declared.fault.CaptureFault.TheVariants.{NoMemory};
 
+use crate::entries::is_word;
 use crate::fault::{CaptureFault, Wire};
-use crate::signals::{Signals, are_framing, is_named, level_in, without_front};
-use pr_base::digit_count;
+use crate::numbers::{behind_first, behind_word, first_of};
+use crate::remarks::{Remarks, is_time_alone, time_unit};
+use crate::signals::{Signals, are_framing, is_named, is_space, level_in, without_front};
+use crate::times::{Instant, from_start, instant_in, start_of, time_at_rate, time_or};
 use pr_wire::{Edge, Levels};
 use std::alloc::Global;
-
-/// How many decimals of a second make microseconds.
-const DECIMALS: usize = 6;
 
 /// The places of the three lines' columns, from 0.
 #[derive(Clone, Copy)]
@@ -29,24 +29,91 @@ struct Columns {
     line: usize,
 }
 
+/// What the rows' times are.
+#[derive(Clone, Copy)]
+enum Scale {
+    /// Each row begins with its time, in this unit: how many decimals it is of a second.
+    Timed(u8),
+    /// A row is a sample, and a second has this many.
+    Counted(u64),
+}
+
+/// How the rows of a table are read.
+#[derive(Clone, Copy)]
+struct Layout {
+    columns: Columns,
+    /// The byte that separates fields.
+    separator: u8,
+    scale: Scale,
+}
+
+/// Where the next row is in time.
+#[derive(Clone, Copy)]
+struct Moment {
+    /// How long before moment 0 the table starts, in microseconds, once a row has told it.
+    start: Option<u64>,
+    /// The time of the last row, in microseconds from the start on.
+    before: u64,
+    /// How many samples come before, in a table without times.
+    count: u64,
+}
+
+/// What follows the white space in front.
+fn without_space(bytes: &[u8]) -> &[u8]
+    ensures { result.now ≡ without_space bytes.now }
+{
+    for (i, b) in bytes.iter().enumerate() {
+        if !is_space(*b) {
+            return &bytes[i..];
+        }
+    }
+    &[]
+}
+
 /// Whether a line is blank or a remark, which begins with `;` or `#`.
 fn is_silent(line: &[u8]) -> bool
     ensures { result ≡ is_silent line.now }
 {
-    match without_front(line) {
+    match without_space(line) {
         [] => true,
         [b, ..] => *b == b';' || *b == b'#',
     }
 }
 
-/// How many bytes the first field has. A comma between quotation marks does not end it.
-fn field_len(line: &[u8]) -> usize
-    ensures len { result ≡ field_len false line.now }
+/// The same, or the line that sigrok-cli puts in front of what it writes.
+fn is_in_front(line: &[u8]) -> bool
+    ensures { result ≡ is_in_front line.now }
+{
+    is_silent(line) || behind_word(b"METAsamplerate", line).is_some()
+}
+
+/// Whether a byte can separate fields.
+fn is_separator(b: u8) -> bool
+    ensures { result ≡ is_separator b }
+{
+    b == b',' || b == b';' || b == b'\t'
+}
+
+/// What separates fields, by the line of the names: the first comma, semicolon or tab.
+fn separator_of(line: &[u8]) -> u8
+    ensures { result ≡ separator_of line.now }
+{
+    for b in line {
+        if is_separator(*b) {
+            return *b;
+        }
+    }
+    b','
+}
+
+/// How many bytes the first field has. A separator between quotation marks does not end it.
+fn field_len(separator: u8, line: &[u8]) -> usize
+    ensures len { result ≡ field_len separator false line.now }
     ensures within { result ≤ length line.now }
 {
     let mut is_quoted = false;
     for (i, b) in line.iter().enumerate() {
-        if *b == b',' && !is_quoted {
+        if *b == separator && !is_quoted {
             return i;
         }
         if *b == b'"' {
@@ -56,11 +123,11 @@ fn field_len(line: &[u8]) -> usize
     line.len()
 }
 
-/// The first field of a line, and what stands behind its comma, if it has one.
-fn split_field(line: &[u8]) -> (&[u8], Option<&[u8]>)
-    ensures { fields_of false line.now ≡ result.0.now ∷ fields_left (option_copied result.1) }
+/// The first field of a line, and what follows its separator, if it has one.
+fn split_field(separator: u8, line: &[u8]) -> (&[u8], Option<&[u8]>)
+    ensures { fields_of separator false line.now ≡ result.0.now ∷ fields_left separator (option_copied result.1) }
 {
-    let len = field_len(line);
+    let len = field_len(separator, line);
     if len < line.len() {
         (&line[..len], Some(&line[len + 1..]))
     } else {
@@ -69,162 +136,185 @@ fn split_field(line: &[u8]) -> (&[u8], Option<&[u8]>)
 }
 
 /// The field of a place, from 0.
-fn field_at(line: &[u8], place: usize) -> Option<&[u8]>
-    ensures { option_copied result ≡ field_at place (fields_of false line.now) }
+fn field_at(separator: u8, line: &[u8], place: usize) -> Option<&[u8]>
+    ensures { option_copied result ≡ field_at place (fields_of separator false line.now) }
 {
     let mut rest = line;
     let mut left = place;
     while left > 0 {
-        let (_, Some(more)) = split_field(rest) else {
+        let (_, Some(more)) = split_field(separator, rest) else {
             return None;
         };
         rest = more;
         left -= 1;
     }
-    Some(split_field(rest).0)
+    Some(split_field(separator, rest).0)
 }
 
-/// The place of the first field that is this name; the first field has place 1.
-fn column_of(name: &[u8], fields: Option<&[u8]>) -> Option<usize>
-    requires { length (fields_left (option_copied fields)) + 1 < 2 ^ 64 }
-    ensures { result ≡ column_of name.now 1 (fields_left (option_copied fields.entry)) }
+/// The place of the first field that is this name, where the first of them has a place.
+fn column_of(name: &[u8], place: usize, separator: u8, fields: Option<&[u8]>) -> Option<usize>
+    requires { place + length (fields_left separator (option_copied fields)) < 2 ^ 64 }
+    ensures { result ≡ column_of name.now place (fields_left separator (option_copied fields.entry)) }
 {
-    let mut place = 1;
+    let mut at = place;
     let mut left = fields;
     while let Some(line) = left {
-        let (field, more) = split_field(line);
+        let (field, more) = split_field(separator, line);
         if is_named(name, field) {
-            return Some(place);
+            return Some(at);
         }
-        place += 1;
+        at += 1;
         left = more;
     }
     None
 }
 
 /// The place of CLOCK's column, by its first name or else by its second.
-fn clock_column(signals: &Signals<'_>, fields: Option<&[u8]>) -> Option<usize>
-    requires { length (fields_left (option_copied fields)) + 1 < 2 ^ 64 }
-    ensures { result ≡ clock_column signals.now (fields_left (option_copied fields.entry)) }
+fn clock_column(
+    signals: &Signals<'_>,
+    place: usize,
+    separator: u8,
+    fields: Option<&[u8]>,
+) -> Option<usize>
+    requires { place + length (fields_left separator (option_copied fields)) < 2 ^ 64 }
+    ensures { result ≡ clock_column signals.now place (fields_left separator (option_copied fields.entry)) }
 {
-    match column_of(signals.clock, fields) {
+    match column_of(signals.clock, place, separator, fields) {
         Some(place) => Some(place),
-        None => column_of(signals.second_name(), fields),
+        None => column_of(signals.second_name(), place, separator, fields),
     }
 }
 
-/// The columns of the three lines, by the fields behind that of the time.
+/// The columns of the three lines, by the fields from a place on.
 fn columns_in(
     signals: &Signals<'_>,
     number: usize,
+    place: usize,
+    separator: u8,
     fields: Option<&[u8]>,
 ) -> Result<Columns, CaptureFault>
-    requires { length (fields_left (option_copied fields)) + 1 < 2 ^ 64 }
-    ensures { result ≡ columns_in signals.now number (fields_left (option_copied fields.entry)) }
+    requires { place + length (fields_left separator (option_copied fields)) < 2 ^ 64 }
+    ensures { result ≡ columns_in signals.now number place (fields_left separator (option_copied fields.entry)) }
 {
-    let Some(atn) = column_of(signals.atn, fields) else {
+    let Some(atn) = column_of(signals.atn, place, separator, fields) else {
         return Err(CaptureFault::NoSignal(number, Wire::Atn));
     };
-    let Some(clock) = clock_column(signals, fields) else {
+    let Some(clock) = clock_column(signals, place, separator, fields) else {
         return Err(CaptureFault::NoSignal(number, Wire::Clock));
     };
-    let Some(line) = column_of(signals.line, fields) else {
+    let Some(line) = column_of(signals.line, place, separator, fields) else {
         return Err(CaptureFault::NoSignal(number, Wire::Data));
     };
     Ok(Columns { atn, clock, line })
 }
 
-/// The number that digits spell behind those that spell another, as long as it is below 2^64.
-pub fn number_from(front: u64, digits: &[u8]) -> Option<u64>
-    ensures { result ≡ number_from front digits.now }
+/// The rate of samples, where the first column is another than one of times.
+fn rate_beside(remarks: Remarks, first: Option<&[u8]>) -> Option<u64>
+    ensures { result ≡ rate_beside remarks (option_copied first.entry) }
 {
-    let mut number = front;
-    for digit in digits {
-        let tens = number.checked_mul(10)?;
-        number = tens.checked_add(u64::from(digit.saturating_sub(b'0')))?;
-    }
-    Some(number)
-}
-
-/// The number that digits spell which stand in two places, behind those that spell another.
-fn number_of_both(front: u64, first: &[u8], second: &[u8]) -> Option<u64>
-    ensures { result ≡ number_from front (first.now ++ second.now) }
-{
-    let middle = number_from(front, first)?;
-    number_from(middle, second)
-}
-
-/// The first six decimals, or all where they are fewer.
-fn first_decimals(decimals: &[u8]) -> &[u8]
-    ensures front { result.now ≡ take 6 decimals.now }
-    ensures within { length result.now ≤ 6 }
-{
-    if decimals.len() < DECIMALS {
-        decimals
-    } else {
-        &decimals[..DECIMALS]
-    }
-}
-
-/// The microseconds of seconds with these digits and decimals.
-fn micros_in(whole: &[u8], decimals: &[u8]) -> Option<u64>
-    ensures { result ≡ micros_in whole.now decimals.now }
-{
-    if whole.is_empty() {
-        return None;
-    }
-    let zeros: &[u8] = b"000000";
-    let front = first_decimals(decimals);
-    let seconds = number_from(0, whole)?;
-    number_of_both(seconds, front, &zeros[front.len()..])
-}
-
-/// The microseconds that a field spells: a number of seconds with or without decimals.
-fn time_in(field: &[u8]) -> Option<u64>
-    ensures { result ≡ time_in field.now }
-{
-    let whole = digit_count(field);
-    match &field[whole..] {
-        [b'.', rest @ ..] => {
-            let decimals = digit_count(rest);
-            if !are_framing(&rest[decimals..]) {
-                return None;
-            }
-            micros_in(&field[..whole], &rest[..decimals])
-        }
-        rest => {
-            if !are_framing(rest) {
-                return None;
-            }
-            micros_in(&field[..whole], &[])
-        }
-    }
-}
-
-/// A row's time, which in whole microseconds is not before that of an earlier row.
-pub fn time_or(number: usize, before: u64, time: Option<u64>) -> Result<u64, CaptureFault>
-    ensures { result ≡ time_or number before time }
-{
-    match time {
-        None => Err(CaptureFault::BadTime(number)),
-        Some(time) => {
-            if time < before {
-                Err(CaptureFault::GoesBack(number))
+    match first {
+        None => remarks.rate,
+        Some(name) => {
+            if is_time_alone(name) {
+                None
             } else {
-                Ok(time)
+                remarks.rate
             }
         }
     }
 }
 
-/// The level that a field spells.
+/// How a table is read whose first column has times of this unit, or no times, by the line of its names
+/// and what follows its first field.
+fn layout_by(
+    signals: &Signals<'_>,
+    remarks: Remarks,
+    number: usize,
+    separator: u8,
+    unit: Option<u8>,
+    line: &[u8],
+    more: Option<&[u8]>,
+) -> Result<Layout, CaptureFault>
+    requires first { 1 + length (fields_left separator (option_copied more)) < 2 ^ 64 }
+    requires all { length (fields_of separator false line.now) < 2 ^ 64 }
+    requires more { drop 1 (fields_of separator false line.now) ≡ fields_left separator (option_copied more) }
+    ensures { result ≡ layout_by signals.now remarks number separator unit (fields_of separator false line.now) }
+{
+    match unit {
+        Some(unit) => {
+            let columns = columns_in(signals, number, 1, separator, more)?;
+            Ok(Layout {
+                columns,
+                separator,
+                scale: Scale::Timed(unit),
+            })
+        }
+        None => {
+            let columns = columns_in(signals, number, 0, separator, Some(line))?;
+            match rate_beside(remarks, field_at(separator, line, 0)) {
+                None => Err(CaptureFault::NoTime(number)),
+                Some(rate) => Ok(Layout {
+                    columns,
+                    separator,
+                    scale: Scale::Counted(rate),
+                }),
+            }
+        }
+    }
+}
+
+/// How a table is read, by the line of its names.
+fn layout_of(
+    signals: &Signals<'_>,
+    remarks: Remarks,
+    number: usize,
+    line: &[u8],
+) -> Result<Layout, CaptureFault>
+    requires { length line.now + 1 < 2 ^ 64 }
+    ensures { result ≡ layout_of signals.now remarks number line.now }
+{
+    let separator = separator_of(line);
+    let (first, more) = split_field(separator, line);
+    let unit = time_unit(remarks.bare, first);
+    layout_by(signals, remarks, number, separator, unit, line, more)
+}
+
+/// What follows the zeros in front.
+fn without_zeros(bytes: &[u8]) -> &[u8]
+    ensures { result.now ≡ without_zeros bytes.now }
+{
+    for (i, b) in bytes.iter().enumerate() {
+        if *b != b'0' {
+            return &bytes[i..];
+        }
+    }
+    &[]
+}
+
+/// What follows a point and zeros, if they are in front.
+fn behind_point(bytes: &[u8]) -> &[u8]
+    ensures { result.now ≡ behind_point bytes.now }
+{
+    match bytes {
+        [] => &[],
+        [b, rest @ ..] => {
+            if *b == b'.' {
+                without_zeros(rest)
+            } else {
+                bytes
+            }
+        }
+    }
+}
+
+/// The level that a field spells: 0 or 1.0.
 fn level_of(number: usize, is_inverted: bool, field: &[u8]) -> Result<bool, CaptureFault>
     ensures { result ≡ level_of number is_inverted field.now }
 {
     match field {
         [] => Err(CaptureFault::BadLevel(number)),
         [b, rest @ ..] => {
-            if are_framing(rest) {
+            if are_framing(behind_point(rest)) {
                 level_in(number, is_inverted, *b)
             } else {
                 Err(CaptureFault::BadLevel(number))
@@ -250,57 +340,186 @@ fn level_or(
 
 /// A row's sample, which has this time.
 fn sample_of(
-    columns: Columns,
+    layout: Layout,
     is_inverted: bool,
     number: usize,
     line: &[u8],
     time: u64,
 ) -> Result<Edge, CaptureFault>
-    ensures { result ≡ sample_of columns is_inverted number (fields_of false line.now) time }
+    ensures { result ≡ sample_of layout.columns is_inverted number (fields_of layout.separator false line.now) time }
 {
-    let atn = level_or(number, is_inverted, Wire::Atn, field_at(line, columns.atn))?;
+    let columns = layout.columns;
+    let separator = layout.separator;
+    let atn = level_or(
+        number,
+        is_inverted,
+        Wire::Atn,
+        field_at(separator, line, columns.atn),
+    )?;
     let clock = level_or(
         number,
         is_inverted,
         Wire::Clock,
-        field_at(line, columns.clock),
+        field_at(separator, line, columns.clock),
     )?;
     let line = level_or(
         number,
         is_inverted,
         Wire::Data,
-        field_at(line, columns.line),
+        field_at(separator, line, columns.line),
     )?;
     let levels = Levels { atn, clock, line };
     Ok(Edge { time, levels })
 }
 
-/// The sample of a row behind one of this time.
-fn row(
-    columns: Columns,
+impl Moment {
+    /// That of the first row.
+    fn first() -> Moment
+        ensures { result ≡ first_moment }
+    {
+        Moment {
+            start: None,
+            before: 0,
+            count: 0,
+        }
+    }
+
+    /// That of a row with this time.
+    fn at(self, number: usize, time: Option<Instant>) -> Result<Moment, CaptureFault>
+        ensures { result ≡ moment_at number self time }
+    {
+        let Some(time) = time else {
+            return Err(CaptureFault::BadTime(number));
+        };
+        let start = start_of(self.start, time);
+        let time = from_start(number, start, time)?;
+        let before = time_or(number, self.before, Some(time))?;
+        Ok(Moment {
+            start: Some(start),
+            before,
+            count: self.count,
+        })
+    }
+
+    /// That of the next row at a rate.
+    fn next(self, number: usize, rate: u64) -> Result<Moment, CaptureFault>
+        ensures { result ≡ moment_next number self (time_at_rate rate self.count) }
+    {
+        let Some(time) = time_at_rate(rate, self.count) else {
+            return Err(CaptureFault::BadTime(number));
+        };
+        let last = time_or(number, self.before, Some(time))?;
+        Ok(Moment {
+            start: self.start,
+            before: last,
+            count: self.count + 1,
+        })
+    }
+
+    /// That of a row.
+    fn of_row(self, layout: Layout, number: usize, line: &[u8]) -> Result<Moment, CaptureFault>
+        ensures { result ≡ moment_of layout.scale number self (fields_of layout.separator false line.now) }
+    {
+        match layout.scale {
+            Scale::Timed(unit) => {
+                let (time, _) = split_field(layout.separator, line);
+                self.at(number, instant_in(unit, without_front(time)))
+            }
+            Scale::Counted(rate) => self.next(number, rate),
+        }
+    }
+}
+
+/// What a row tells.
+#[derive(Clone, Copy)]
+struct Row {
+    sample: Edge,
+    /// Where the next row goes on.
+    moment: Moment,
+}
+
+/// What a row after a moment tells.
+fn row_of(
+    layout: Layout,
     is_inverted: bool,
     number: usize,
-    before: u64,
+    moment: Moment,
     line: &[u8],
-) -> Result<Edge, CaptureFault>
-    ensures { result ≡ row columns is_inverted number before (fields_of false line.now) }
+) -> Result<Row, CaptureFault>
+    ensures { result ≡ row_of layout is_inverted number moment (fields_of layout.separator false line.now) }
 {
-    let (time, _) = split_field(line);
-    let time = time_or(number, before, time_in(without_front(time)))?;
-    sample_of(columns, is_inverted, number, line, time)
+    let moment = moment.of_row(layout, number, line)?;
+    let sample = sample_of(layout, is_inverted, number, line, moment.before)?;
+    Ok(Row { sample, moment })
+}
+
+/// Whether a text has 16 bits a letter.
+fn is_wide(line: &[u8]) -> bool
+    ensures { result ≡ is_wide line.now }
+{
+    is_word(first_of(line, 2), &[255, 254]) || is_word(first_of(line, 2), &[254, 255])
+}
+
+/// Whether this is a zip archive.
+fn is_archive(line: &[u8]) -> bool
+    ensures { result ≡ is_archive line.now }
+{
+    is_word(first_of(line, 4), &[b'P', b'K', 3, 4])
+}
+
+/// The first line without its byte order mark, if it has one.
+fn opened(line: &[u8]) -> Result<&[u8], CaptureFault>
+    ensures ok { IfOk result (λ l. opened line.now ≡ Ok l.now) }
+    ensures err { IfErr result (λ f. opened line.now ≡ Err f) }
+    ensures within { IfOk result (λ l. length l.now ≤ length line.now) }
+{
+    if is_wide(line) {
+        return Err(CaptureFault::WideText);
+    }
+    if is_archive(line) {
+        return Err(CaptureFault::Archive);
+    }
+    if is_word(first_of(line, 3), &[239, 187, 191]) {
+        Ok(behind_first(line, 3))
+    } else {
+        Ok(line)
+    }
 }
 
 /// Which lines come next.
 #[derive(Drop)]
 enum RowPlace {
-    /// Some without a word, and that of the names.
-    Names,
-    /// Rows, behind one of this time in microseconds.
-    Rows(Columns, u64),
+    /// The first, and those up to that of the names.
+    First,
+    /// Some that say nothing of the bus, and that of the names, after these remarks.
+    Names(Remarks),
+    /// Rows, after this moment.
+    Rows(Layout, Moment),
 }
 
 impl RowPlace {
-    /// Goes on behind a line with this number, and gives its sample, if it has one.
+    /// Goes on after a line that comes before the names or has them, after these remarks.
+    fn take_names(
+        &mut self,
+        signals: &Signals<'_>,
+        remarks: Remarks,
+        number: usize,
+        line: &[u8],
+    ) -> Result<(), CaptureFault>
+        requires { length line.now + 1 < 2 ^ 64 }
+        ensures ok { IfOk result (λ _. NamesLeadTo signals.now remarks number line.now self.new) }
+        ensures err { IfErr result (λ f. NamesAreRefused signals.now remarks number line.now f) }
+    {
+        if is_in_front(line) {
+            *self = RowPlace::Names(remarks.behind(line));
+            return Ok(());
+        }
+        let layout = layout_of(signals, remarks, number, line)?;
+        *self = RowPlace::Rows(layout, Moment::first());
+        Ok(())
+    }
+
+    /// Goes on after a line with this number, and gives its sample, if it has one.
     fn take_line(
         &mut self,
         signals: &Signals<'_>,
@@ -309,28 +528,32 @@ impl RowPlace {
     ) -> Result<Option<Edge>, CaptureFault>
         requires { length line.now + 1 < 2 ^ 64 }
         ensures read { ReadsLine signals.now number line.now self.old result self.new }
-        ensures names { IfOk result (λ sample. self.new ≡ Names → sample ≡ None) }
+        ensures names { IfOk result (λ sample. HasNoRows self.new → sample ≡ None) }
     {
-        if is_silent(line) {
-            return Ok(None);
-        }
         match self {
-            RowPlace::Names => {
-                let (_, fields) = split_field(line);
-                let columns = columns_in(signals, number, fields)?;
-                *self = RowPlace::Rows(columns, 0);
+            RowPlace::First => {
+                let line = opened(line)?;
+                self.take_names(signals, Remarks::new(), number, line)?;
                 Ok(None)
             }
-            RowPlace::Rows(columns, before) => {
-                let sample = row(*columns, signals.is_inverted, number, *before, line)?;
-                *before = sample.time;
-                Ok(Some(sample))
+            RowPlace::Names(remarks) => {
+                let remarks = *remarks;
+                self.take_names(signals, remarks, number, line)?;
+                Ok(None)
+            }
+            RowPlace::Rows(layout, moment) => {
+                if is_silent(line) {
+                    return Ok(None);
+                }
+                let row = row_of(*layout, signals.is_inverted, number, *moment, line)?;
+                *moment = row.moment;
+                Ok(Some(row.sample))
             }
         }
     }
 }
 
-/// How many bytes stand before the end of the first line.
+/// How many bytes come before the end of the first line.
 fn line_len(text: &[u8]) -> usize
     ensures len { result ≡ prefix_len is_inner text.now }
     ensures within { result ≤ length text.now }
@@ -362,7 +585,7 @@ impl<'a> CsvReader<'a> {
         CsvReader {
             signals,
             number: 1,
-            place: RowPlace::Names,
+            place: RowPlace::First,
             line: Vec::new(alloc),
         }
     }
@@ -386,7 +609,7 @@ impl<'a> CsvReader<'a> {
         ensures read { IfOk result (λ sample. ReadsMore (10 ∷ []) sample self.old self.new) }
         ensures number { IfOk result (λ sample. line_number self.new ≡ line_number self.old + 1) }
         ensures line { IfOk result (λ sample. self.new.line.items ≡ []) }
-        ensures names { IfOk result (λ sample. self.new.place ≡ Names → sample ≡ None) }
+        ensures names { IfOk result (λ sample. HasNoRows self.new.place → sample ≡ None) }
         // when it refuses, and what that leaves
         ensures refused { IfErr result (λ f. FaultsIn (10 ∷ []) self.old f) }
     {
@@ -402,11 +625,12 @@ impl<'a> CsvReader<'a> {
     /// last line.
     fn answer(&self, last: Option<Edge>) -> Result<Option<Edge>, CaptureFault>
         requires whole { self.now.line.items ≡ [] }
-        requires names { self.now.place ≡ Names → last ≡ None }
+        requires names { HasNoRows self.now.place → last ≡ None }
         ensures { AnswersEnd self.now last result }
     {
         match self.place {
-            RowPlace::Names => Err(CaptureFault::NoSignal(self.number, Wire::Atn)),
+            RowPlace::First => Err(CaptureFault::NoSignal(self.number, Wire::Atn)),
+            RowPlace::Names(_) => Err(CaptureFault::NoSignal(self.number, Wire::Atn)),
             RowPlace::Rows(_, _) => Ok(last),
         }
     }

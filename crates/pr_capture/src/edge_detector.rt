@@ -40,7 +40,7 @@ fn counted_from(start: u64, sample: Edge) -> Edge
     }
 }
 
-/// The edge that the sample held makes, if the next sample stands at this moment.
+/// The edge that the sample held makes, if the next sample is at this moment.
 fn edge_before(held: Option<Edge>, told: Option<Levels>, next: u64) -> Option<Edge>
     ensures { result ≡ edge_before held told next }
 {

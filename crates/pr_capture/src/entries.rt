@@ -2,34 +2,42 @@
 
 ghost use Rattle.std.specs.Prelude.{◌≡◌};
 ghost use Rattle.std.specs.Str.{bytes_eq};
-ghost use Rattle.pr_capture.specs.VcdPieces.{bit_of, entry_of, is_bracket, is_level, is_value, keeps, keyword_of, level_entry, rest_of};
+ghost use Rattle.pr_capture.specs.VcdPieces.{bits_of, entry_of, is_bracket, is_level, is_value, keeps, keyword_entry, keyword_of, level_entry, rest_of};
 
 /// What a section says, by its keyword.
 #[derive(Clone, Copy)]
 pub enum Keyword {
     /// The unit of all times.
     Timescale,
+    /// A scope that begins: the signals up to its end are in it.
+    Scope,
+    /// A scope that ends.
+    Upscope,
     /// A signal.
     Var,
     /// Nothing but that the header ends.
     Definitions,
+    /// Nothing but that recording pauses.
+    Pause,
     /// Nothing of the bus.
     Other,
 }
 
-/// What a word is that stands in no section.
+/// What a word is that is in no section.
 #[derive(Clone, Copy)]
 pub enum Entry {
     /// The keyword of a section.
     Opens(Keyword),
-    /// The keyword of a section whose words stand as if it were not there, or an end.
+    /// The keyword of a section whose words count as if it were not there, or an end.
     Silent,
+    /// Recording goes on after a pause.
+    Resumes,
     /// A time stamp.
     Time,
     /// A level, and the code of its signal.
     Level(u8),
-    /// A value that is no level but where it is a single bit; the code of its signal is the next word.
-    Value(u8),
+    /// A value of bits, or of another kind; the code of its signal is the next word.
+    Value,
     /// Nothing that is known.
     Foreign,
 }
@@ -45,11 +53,7 @@ pub fn is_word(letters: &[u8], word: &[u8]) -> bool
 fn is_bracket(letters: &[u8]) -> bool
     ensures { result ≡ is_bracket letters.now }
 {
-    is_word(letters, b"$end")
-        || is_word(letters, b"$dumpvars")
-        || is_word(letters, b"$dumpall")
-        || is_word(letters, b"$dumpon")
-        || is_word(letters, b"$dumpoff")
+    is_word(letters, b"$end") || is_word(letters, b"$dumpvars") || is_word(letters, b"$dumpall")
 }
 
 /// What a section says that has this keyword.
@@ -58,12 +62,31 @@ fn keyword_of(letters: &[u8]) -> Keyword
 {
     if is_word(letters, b"$timescale") {
         Keyword::Timescale
+    } else if is_word(letters, b"$scope") {
+        Keyword::Scope
+    } else if is_word(letters, b"$upscope") {
+        Keyword::Upscope
     } else if is_word(letters, b"$var") {
         Keyword::Var
     } else if is_word(letters, b"$enddefinitions") {
         Keyword::Definitions
+    } else if is_word(letters, b"$dumpoff") {
+        Keyword::Pause
     } else {
         Keyword::Other
+    }
+}
+
+/// What a word is that begins with `$` and is in no section.
+fn keyword_entry(letters: &[u8]) -> Entry
+    ensures { result ≡ keyword_entry letters.now }
+{
+    if is_bracket(letters) {
+        Entry::Silent
+    } else if is_word(letters, b"$dumpon") {
+        Entry::Resumes
+    } else {
+        Entry::Opens(keyword_of(letters))
     }
 }
 
@@ -81,23 +104,23 @@ fn is_value(b: u8) -> bool
     b"bBrRsS".contains(&b)
 }
 
-/// The level of such a value, if it is a single bit; else its first letter.
-fn bit_of(first: u8, letters: &[u8]) -> u8
-    ensures { result ≡ bit_of first letters.now }
+/// The bits of such a value, or the first letter of one of another kind, which is no level.
+pub fn bits_of(letters: &[u8]) -> &[u8]
+    ensures { result.now ≡ bits_of letters.now }
 {
     match letters {
-        [b] => {
-            if first == b'b' || first == b'B' {
-                *b
+        [] => &[],
+        [b, rest @ ..] => {
+            if *b == b'b' || *b == b'B' {
+                rest
             } else {
-                first
+                &letters[..1]
             }
         }
-        _ => first,
     }
 }
 
-/// A level, if the code of its signal stands behind it.
+/// A level, if the code of its signal is after it.
 fn level_entry(level: u8, code: &[u8]) -> Entry
     ensures { result ≡ level_entry level code.now }
 {
@@ -108,7 +131,7 @@ fn level_entry(level: u8, code: &[u8]) -> Entry
     }
 }
 
-/// What a word is that stands in no section.
+/// What a word is that is in no section.
 pub fn entry_of(letters: &[u8]) -> Entry
     ensures { result ≡ entry_of letters.now }
 {
@@ -116,17 +139,13 @@ pub fn entry_of(letters: &[u8]) -> Entry
         [] => Entry::Silent,
         [b, rest @ ..] => {
             if *b == b'$' {
-                if is_bracket(letters) {
-                    Entry::Silent
-                } else {
-                    Entry::Opens(keyword_of(letters))
-                }
+                keyword_entry(letters)
             } else if *b == b'#' {
                 Entry::Time
             } else if is_level(*b) {
                 level_entry(*b, rest)
             } else if is_value(*b) {
-                Entry::Value(bit_of(*b, rest))
+                Entry::Value
             } else {
                 Entry::Foreign
             }
@@ -134,7 +153,7 @@ pub fn entry_of(letters: &[u8]) -> Entry
     }
 }
 
-/// The letters behind the first.
+/// The letters after the first.
 pub fn rest_of(letters: &[u8]) -> &[u8]
     ensures { result.now ≡ rest_of letters.now }
 {
@@ -149,7 +168,7 @@ pub fn keeps(keyword: Keyword) -> bool
     ensures { result ≡ keeps keyword }
 {
     match keyword {
-        Keyword::Timescale | Keyword::Var => true,
-        Keyword::Definitions | Keyword::Other => false,
+        Keyword::Timescale | Keyword::Scope | Keyword::Var => true,
+        Keyword::Upscope | Keyword::Definitions | Keyword::Pause | Keyword::Other => false,
     }
 }

@@ -23,7 +23,10 @@ pub enum CaptureFault {
     /// No signal has the wire's name.
     #[error("line {0}: no signal {1}")]
     NoSignal(usize, Wire),
-    /// A word that can not stand here.
+    /// The first column of a table is not one of times, and no remark tells the rate of its samples.
+    #[error("line {0}: no time")]
+    NoTime(usize),
+    /// A word that can not be here.
     #[error("line {0}: bad word")]
     BadWord(usize),
     /// A section that the text does not end.
@@ -32,9 +35,15 @@ pub enum CaptureFault {
     /// The header does not end with `$enddefinitions`.
     #[error("line {0}: no $enddefinitions")]
     NoDefinitions(usize),
-    /// No `$timescale`, or one that is not 1, 10 or 100 units from fs to s.
+    /// Another signal has the wire's name, and they are not the same: on this line.
+    #[error("line {0}: another signal {1}")]
+    TwoSignals(usize, Wire),
+    /// No `$timescale`.
     #[error("line {0}: no timescale")]
     NoTimescale(usize),
+    /// A `$timescale` that is not 1, 10 or 100 units from fs to s.
+    #[error("line {0}: bad timescale")]
+    BadTimescale(usize),
     /// A time that is no number of its unit, or not below 2^64 microseconds or 2^64 of a dump's own unit.
     #[error("line {0}: bad time")]
     BadTime(usize),
@@ -50,9 +59,15 @@ pub enum CaptureFault {
     /// Nobody drives the wire.
     #[error("line {0}: level z")]
     Floating(usize),
-    /// A level that is none of 0, 1, x and z.
+    /// A level that is none of 0, 1, L, H, x and z.
     #[error("line {0}: bad level")]
     BadLevel(usize),
+    /// The text has 16 bits a letter, as that of UTF-16.
+    #[error("UTF-16 text")]
+    WideText,
+    /// A zip archive, as .sr, .sal and .dsl files are.
+    #[error("zip archive")]
+    Archive,
     /// Memory was refused.
     #[error("out of memory")]
     NoMemory,

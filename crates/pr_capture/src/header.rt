@@ -2,12 +2,13 @@
 
 ghost use Rattle.std.specs.Prelude.{◌≡◌, ◌≤◌, option_copied, IfOk, IfSome, OnOk};
 ghost use Rattle.pr_capture.specs.Csv.{field_at};
-ghost use Rattle.pr_capture.specs.Recording.{first_some};
-ghost use Rattle.pr_capture.specs.VcdReading.{code_in, has_levels, is_code, scale_in, scale_of, unit_in, with_signal};
-ghost use Rattle.pr_capture.specs.VcdSteps.{code_of, codes_of, words_in};
+ghost use Rattle.pr_capture.specs.VcdReading.{bit_wanted, clock_found, found_too, has_levels, is_bit, is_code, nothing, other_line, scale_in, scale_of, unit_in, with_path, with_signal, with_words};
+ghost use Rattle.pr_capture.specs.VcdSteps.{code_of, codes_of, found_of, words_in};
 
+use crate::bits::bit_in;
 use crate::entries::is_word;
-use crate::signals::{Signals, is_named};
+use crate::paths::{has_path, path_of};
+use crate::signals::Signals;
 use pr_base::digit_count;
 use pr_wire::NoMemory;
 use std::alloc::Global;
@@ -51,7 +52,7 @@ fn scale_of(count: &[u8], unit: &[u8]) -> Option<u64>
 }
 
 /// The word of a place, from 0.
-fn word_at(inside: &[Vec<u8>], place: usize) -> Option<&[u8]>
+pub fn word_at(inside: &[Vec<u8>], place: usize) -> Option<&[u8]>
     ensures { option_copied result ≡ field_at place (words_in inside.now) }
 {
     if place < inside.len() {
@@ -78,17 +79,22 @@ pub fn scale_in(inside: &[Vec<u8>]) -> Option<u64>
     }
 }
 
-/// The code of a signal of one bit that has a name, if the words of a section `$var` tell one.
-fn code_in<'w>(wanted: &[u8], inside: &'w [Vec<u8>]) -> Option<&'w [u8]>
-    ensures { option_copied result ≡ code_in wanted.now (words_in inside.now) }
+/// Whether a signal is wanted, by its path and its size; and which of its bits, where it has more than
+/// one, by how many are on its right.
+fn bit_wanted(wanted: &[u8], path: &[u8], size: &[u8]) -> Option<Option<u64>>
+    ensures { result ≡ bit_wanted wanted.now path.now size.now }
 {
-    let name = word_at(inside, 3)?;
-    let code = word_at(inside, 2)?;
-    let size = word_at(inside, 1)?;
-    if is_word(size, b"1") && is_named(wanted, name) {
-        Some(code)
+    if is_word(size, b"1") {
+        if has_path(wanted, path) {
+            Some(None)
+        } else {
+            None
+        }
     } else {
-        None
+        match bit_in(wanted, path) {
+            None => None,
+            Some(bit) => Some(Some(bit)),
+        }
     }
 }
 
@@ -116,83 +122,168 @@ pub fn copied(alloc: Global, bytes: &[u8]) -> Result<Vec<u8>, NoMemory>
     Ok(copy)
 }
 
-/// Whether a wire has this code.
-fn has_code(wire: &Option<Vec<u8>>, code: &[u8]) -> bool
-    ensures { result ≡ is_code (code_of wire.now) code.now }
+/// The code by which changes call a wire.
+#[derive(Drop)]
+pub struct WireCode {
+    /// The code, once it is known.
+    pub code: Option<Vec<u8>>,
+    /// How many bits of the signal are on the right of the wire's, if it has more than one.
+    pub bit: Option<u64>,
+    /// The line of the first other signal that has the wire's name too.
+    pub other: Option<usize>,
+}
+
+/// Whether two bits are the same.
+fn is_bit(known: Option<u64>, bit: Option<u64>) -> bool
+    ensures { result ≡ is_bit known bit }
 {
-    match wire {
-        None => false,
-        Some(known) => is_word(known.as_slice(), code),
+    match (known, bit) {
+        (None, None) => true,
+        (Some(known), Some(bit)) => known == bit,
+        _ => false,
+    }
+}
+
+/// The line of a signal, if it is another than the known one.
+fn other_line(
+    line: usize,
+    known: &[u8],
+    known_bit: Option<u64>,
+    code: &[u8],
+    bit: Option<u64>,
+) -> Option<usize>
+    ensures { result ≡ other_line line known.now known_bit code.now bit }
+{
+    if is_word(known, code) && is_bit(known_bit, bit) {
+        None
+    } else {
+        Some(line)
+    }
+}
+
+impl WireCode {
+    /// No signal has the wire's name yet.
+    pub fn new() -> WireCode
+        ensures { found_of result ≡ nothing }
+    {
+        WireCode {
+            code: None,
+            bit: None,
+            other: None,
+        }
+    }
+
+    /// Whether the wire has this code.
+    pub fn has_code(&self, code: &[u8]) -> bool
+        ensures { result ≡ is_code (code_of self.now.code) code.now }
+    {
+        match &self.code {
+            None => false,
+            Some(known) => is_word(known.as_slice(), code),
+        }
+    }
+
+    /// Notes the code of a signal on a line that has the wire's name, and its bit.
+    fn note_code(
+        &mut self,
+        alloc: Global,
+        line: usize,
+        code: &[u8],
+        bit: Option<u64>,
+    ) -> Result<(), NoMemory>
+        ensures { OnOk result (found_of self.new ≡ found_too line (found_of self.old) (code_of self.old.code) code.now bit) }
+    {
+        match &self.code {
+            None => {
+                self.code = Some(copied(alloc, code)?);
+                self.bit = bit;
+            }
+            Some(known) => {
+                if self.other.is_none() {
+                    self.other = other_line(line, known.as_slice(), self.bit, code, bit);
+                }
+            }
+        }
+        Ok(())
+    }
+
+    /// Notes the signal on a line, if it has the wire's name and these words tell its code.
+    fn note(
+        &mut self,
+        alloc: Global,
+        line: usize,
+        name: &[u8],
+        path: &[u8],
+        inside: &[Vec<u8>],
+    ) -> Result<(), NoMemory>
+        ensures { OnOk result (found_of self.new ≡ with_words line (found_of self.old) name.now path.now (words_in inside.now)) }
+    {
+        let [_, size, code, _, ..] = inside else {
+            return Ok(());
+        };
+        match bit_wanted(name, path, size.as_slice()) {
+            None => Ok(()),
+            Some(bit) => self.note_code(alloc, line, code.as_slice(), bit),
+        }
     }
 }
 
 /// The codes by which changes call the three wires, as far as they are known.
 #[derive(Drop)]
 pub struct WireCodes {
-    pub atn: Option<Vec<u8>>,
-    pub clock: Option<Vec<u8>>,
+    pub atn: WireCode,
+    pub clock: WireCode,
     /// That of a signal with CLOCK's second name.
-    pub second: Option<Vec<u8>>,
-    pub line: Option<Vec<u8>>,
-}
-
-/// Notes the code of a signal with a name, if none is known and these words tell one.
-fn note(
-    alloc: Global,
-    known: &mut Option<Vec<u8>>,
-    name: &[u8],
-    inside: &[Vec<u8>],
-) -> Result<(), NoMemory>
-    ensures { OnOk result (code_of known.new ≡ first_some (code_of known.old) (code_in name.now (words_in inside.now))) }
-{
-    if known.is_some() {
-        return Ok(());
-    }
-    if let Some(code) = code_in(name, inside) {
-        *known = Some(copied(alloc, code)?);
-    }
-    Ok(())
+    pub second: WireCode,
+    pub line: WireCode,
 }
 
 impl WireCodes {
-    /// Notes the codes of the wires whose signal has its section with these words, if it has levels.
+    /// Notes the codes of the wires whose name the signal with this path has.
+    fn note_path(
+        &mut self,
+        alloc: Global,
+        signals: &Signals<'_>,
+        line: usize,
+        path: &[u8],
+        inside: &[Vec<u8>],
+    ) -> Result<(), NoMemory>
+        ensures { OnOk result (codes_of self.new ≡ with_path signals.now (codes_of self.old) line path.now (words_in inside.now)) }
+    {
+        self.atn.note(alloc, line, signals.atn, path, inside)?;
+        self.clock.note(alloc, line, signals.clock, path, inside)?;
+        self.second
+            .note(alloc, line, signals.second_name(), path, inside)?;
+        self.line.note(alloc, line, signals.line, path, inside)
+    }
+
+    /// Notes the codes of the wires whose signal has its section on a line with these words, in some
+    /// scopes, if it has levels.
     pub fn note_signal(
         &mut self,
         alloc: Global,
         signals: &Signals<'_>,
+        line: usize,
+        scopes: &[Vec<u8>],
         inside: &[Vec<u8>],
     ) -> Result<(), NoMemory>
-        ensures { OnOk result (codes_of self.new ≡ with_signal signals.now (codes_of self.old) (words_in inside.now)) }
+        ensures { OnOk result (codes_of self.new ≡ with_signal signals.now (codes_of self.old) line (words_in scopes.now) (words_in inside.now)) }
     {
         if !has_levels(word_at(inside, 0)) {
             return Ok(());
         }
-        note(alloc, &mut self.atn, signals.atn, inside)?;
-        note(alloc, &mut self.clock, signals.clock, inside)?;
-        note(alloc, &mut self.second, signals.second_name(), inside)?;
-        note(alloc, &mut self.line, signals.line, inside)
+        let path = path_of(alloc, scopes, inside)?;
+        self.note_path(alloc, signals, line, path.as_slice(), inside)
     }
 
-    /// Whether CLOCK has this code: that of its first name counts, if a signal has it.
-    fn is_clock(&self, code: &[u8]) -> bool
-        ensures { result ≡ is_code (first_some (code_of self.now.clock) (code_of self.now.second)) code.now }
+    /// CLOCK's own: that of its first name counts, if a signal has it.
+    pub fn clock_code(&self) -> &WireCode
+        ensures { found_of result.now ≡ clock_found (codes_of self.now) }
     {
-        match &self.clock {
-            None => has_code(&self.second, code),
-            Some(known) => is_word(known.as_slice(), code),
+        if self.clock.code.is_some() {
+            &self.clock
+        } else {
+            &self.second
         }
-    }
-
-    /// Which wires have a code: ATN, CLOCK and DATA.
-    pub fn which(&self, code: &[u8]) -> (bool, bool, bool)
-        ensures atn { result.0 ≡ is_code (code_of self.now.atn) code.now }
-        ensures clock { result.1 ≡ is_code (first_some (code_of self.now.clock) (code_of self.now.second)) code.now }
-        ensures line { result.2 ≡ is_code (code_of self.now.line) code.now }
-    {
-        (
-            has_code(&self.atn, code),
-            self.is_clock(code),
-            has_code(&self.line, code),
-        )
     }
 }

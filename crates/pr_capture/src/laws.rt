@@ -20,7 +20,7 @@ pub fn given_edges_come_first()
 
 /// A law: a table with a row for each of some samples, in the order of time, says these samples and
 /// has no fault; of edges, each later than the one before and with other levels, it says these
-/// edges.
+/// edges. So it is with each separator and each unit of time.
 pub fn csv_is_read_back()
     ensures { CsvIsReadBack }
 {}

@@ -5,16 +5,20 @@
 //!   read.
 //! - `vcd` writes a Value Change Dump. [`VcdWriter`] keeps the last edge alone.
 //! - `csv` reads a table that comes in blocks, line by line. [`CsvReader`] keeps the line that has begun.
+//!   `remarks` says what the name of the first column and remarks say of time, `times` what a field spells,
+//!   `numbers` what digits and words are.
 //! - `vcd_reader` reads a dump that comes in blocks, word by word. [`VcdReader`] keeps the letters of the
-//!   word that has begun, `vcd_parser` the words of the section or value that has begun (at most four),
+//!   word that has begun, `vcd_parser` the words of the section or the bits of the value that has begun,
 //!   `known` what was said so far: the timescale and the codes, then time and levels. `entries` says what
-//!   a word is, `header` what a section says, `changes` what a time stamp and a level say.
+//!   a word is, `header` what a section says, `paths` and `bits` which signal a name means, `changes` what a
+//!   time stamp and a level say.
 //! - `edge_detector` makes edges of samples, one by one and without memory.
 //!
 //! The contracts of the readers speak of whatever text may still come (`contents_left`), so a loop over
 //! blocks needs one relation. What is written is read back: [`vcd_is_read_back`], [`csv_is_read_back`].
 #![tactic(auto)]
 
+mod bits;
 mod changes;
 mod csv;
 mod edge_detector;
@@ -24,7 +28,11 @@ mod format;
 mod header;
 mod known;
 mod laws;
+mod numbers;
+mod paths;
+mod remarks;
 mod signals;
+mod times;
 mod vcd;
 mod vcd_parser;
 mod vcd_reader;

@@ -1,32 +1,40 @@
 //! Which signals of a recording are the lines of the bus.
 
-ghost use Rattle.std.specs.Prelude.{◌≡◌};
+ghost use Rattle.std.specs.Prelude.{◌≡◌, option_copied};
 ghost use Rattle.std.specs.List.{list_all};
-ghost use Rattle.pr_capture.specs.Recording.{has_name, is_framing, is_named, level_in, second_name, without_front};
+ghost use Rattle.pr_capture.specs.Recording.{behind_letter, behind_sign, is_framing, is_named, level_in, second_name, without_front};
+ghost use Rattle.pr_capture.specs.Words.{is_space};
 
 use crate::fault::CaptureFault;
 
 /// Which signals of a recording are the lines of the bus, and how their levels are meant.
 #[derive(Clone, Copy)]
 pub struct Signals<'a> {
-    /// ATN's name, as bytes. Its letters may be capitals or not.
+    /// ATN's name, as bytes. Its letters may be capitals or not, and white space in it does not count.
     pub atn: &'a [u8],
     /// CLOCK's name, likewise. Where it is CLOCK and no signal is called so, one called CLK is CLOCK.
     pub clock: &'a [u8],
     /// DATA's name, likewise.
     pub line: &'a [u8],
-    /// Whether the probes stand behind inverters, so that 0 is released.
+    /// Whether the probes invert, so that 0 is released.
     pub is_inverted: bool,
 }
 
+/// Whether a byte is white space.
+pub fn is_space(b: u8) -> bool
+    ensures { result ≡ is_space b }
+{
+    b == b' ' || (b >= 9 && b <= 13)
+}
+
 /// White space or a quotation mark.
-fn is_framing(b: u8) -> bool
+pub fn is_framing(b: u8) -> bool
     ensures { result ≡ is_framing b }
 {
     b == b' ' || b == b'"' || (b >= 9 && b <= 13)
 }
 
-/// Whether nothing but white space and quotation marks stands here.
+/// Whether nothing but white space and quotation marks is here.
 pub fn are_framing(bytes: &[u8]) -> bool
     ensures { result ≡ list_all is_framing bytes.now }
 {
@@ -38,7 +46,7 @@ pub fn are_framing(bytes: &[u8]) -> bool
     true
 }
 
-/// What stands behind the white space and quotation marks in front.
+/// What follows the white space and quotation marks in front.
 pub fn without_front(bytes: &[u8]) -> &[u8]
     ensures { result.now ≡ without_front bytes.now }
 {
@@ -50,29 +58,45 @@ pub fn without_front(bytes: &[u8]) -> &[u8]
     &[]
 }
 
-/// Whether these are a name's letters, in either case, and then nothing but white space and quotation
-/// marks.
-fn has_name(name: &[u8], bytes: &[u8]) -> bool
-    ensures { result ≡ has_name name.now bytes.now }
+/// What follows a letter, if it is here, a capital or not.
+pub fn behind_letter(letter: u8, bytes: &[u8]) -> Option<&[u8]>
+    ensures { option_copied result ≡ behind_letter letter bytes.now }
 {
-    let mut left = bytes;
-    for letter in name {
-        let [b, rest @ ..] = left else {
-            return false;
-        };
-        if !letter.eq_ignore_ascii_case(b) {
-            return false;
+    match bytes {
+        [] => None,
+        [b, rest @ ..] => {
+            if letter.eq_ignore_ascii_case(b) {
+                Some(rest)
+            } else {
+                None
+            }
         }
-        left = rest;
     }
-    are_framing(left)
 }
 
-/// Whether a field is a signal's name.
+/// What follows a letter of a name, in which white space and quotation marks do not count.
+fn behind_sign(letter: u8, bytes: &[u8]) -> Option<&[u8]>
+    ensures { option_copied result ≡ behind_sign letter bytes.now }
+{
+    if is_framing(letter) {
+        return Some(bytes);
+    }
+    behind_letter(letter, without_front(bytes))
+}
+
+/// Whether a field is a signal's name: its letters, in either case. White space and quotation marks do
+/// not count.
 pub fn is_named(name: &[u8], field: &[u8]) -> bool
     ensures { result ≡ is_named name.now field.now }
 {
-    has_name(name, without_front(field))
+    let mut left = field;
+    for letter in name {
+        let Some(rest) = behind_sign(*letter, left) else {
+            return false;
+        };
+        left = rest;
+    }
+    are_framing(left)
 }
 
 impl Signals<'_> {
@@ -81,7 +105,7 @@ impl Signals<'_> {
     pub fn second_name(&self) -> &[u8]
         ensures { result.now ≡ second_name self.now }
     {
-        if has_name(b"clock", self.clock) {
+        if is_named(b"clock", self.clock) {
             b"clk"
         } else {
             self.clock
@@ -89,13 +113,14 @@ impl Signals<'_> {
     }
 }
 
-/// A level: 1 is released, unless the levels are inverted. The number is that of the line.
+/// A level: 1 and H are released, 0 and L pulled, unless the levels are inverted. The number is that of
+/// the line.
 pub fn level_in(number: usize, is_inverted: bool, b: u8) -> Result<bool, CaptureFault>
     ensures { result ≡ level_in number is_inverted b }
 {
     match b {
-        b'0' => Ok(is_inverted),
-        b'1' => Ok(!is_inverted),
+        b'0' | b'L' | b'l' => Ok(is_inverted),
+        b'1' | b'H' | b'h' => Ok(!is_inverted),
         b'x' | b'X' => Err(CaptureFault::Unknown(number)),
         b'z' | b'Z' => Err(CaptureFault::Floating(number)),
         _ => Err(CaptureFault::BadLevel(number)),

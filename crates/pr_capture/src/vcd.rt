@@ -10,10 +10,10 @@ use itoa::Buffer;
 use pr_wire::{Edge, Levels, NoMemory};
 use std::alloc::Global;
 
-/// How long after the last edge the last time stamp stands, in microseconds (profile).
+/// How long after the last edge the last time stamp is, in microseconds (profile).
 const END: u128 = 1000;
 
-/// What stands before the changes.
+/// What comes before the changes.
 #[tactic(auto, unfolding(crate::specs::Vcd::head))]
 fn head() -> &'static [u8]
     ensures { result.now ≡ head }
@@ -97,7 +97,7 @@ fn push_levels(text: &mut Vec<u8>, before: Option<Edge>, levels: Levels) -> Resu
     }
 }
 
-/// Writes a trace as a Value Change Dump, edges behind edges.
+/// Writes a trace as a Value Change Dump, edges after edges.
 #[derive(Drop)]
 pub struct VcdWriter {
     last: Option<Edge>,

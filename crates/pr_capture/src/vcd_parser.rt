@@ -9,16 +9,13 @@ ghost use Rattle.pr_capture.specs.VcdReading.Place.{Header};
 ghost use Rattle.pr_capture.specs.VcdPieces.Begun.{Nothing};
 ghost use Rattle.pr_capture.specs.VcdSteps.{begun_of, place_of, words_in, AnswersEnd, MayEnd, ReadsWords};
 
-use crate::entries::{Entry, Keyword, entry_of, is_word, keeps, rest_of};
+use crate::entries::{Entry, Keyword, bits_of, entry_of, is_word, keeps, rest_of};
 use crate::fault::CaptureFault;
-use crate::header::{WireCodes, copied};
+use crate::header::{WireCode, WireCodes, copied};
 use crate::known::{Known, Stage};
 use crate::signals::Signals;
 use pr_wire::Edge;
 use std::alloc::Global;
-
-/// How many words of a section are looked at.
-const WORDS: usize = 4;
 
 /// What has begun.
 #[derive(Clone, Copy)]
@@ -27,8 +24,8 @@ pub enum Phase {
     Between,
     /// A section, with the line of its keyword.
     InSection(usize, Keyword),
-    /// A value, with its line and its level: its code is the next word.
-    BehindValue(usize, u8),
+    /// A value, with its line: its code is the next word.
+    BehindValue(usize),
 }
 
 /// How far a dump has come, by whole words.
@@ -36,8 +33,10 @@ pub enum Phase {
 pub struct VcdParser {
     alloc: Global,
     phase: Phase,
-    /// The words of the section that has begun, as far as they are looked at.
+    /// The words of the section that has begun, if they are looked at.
     inside: Vec<Vec<u8>>,
+    /// The bits of the last value whose code is a word of its own.
+    bits: Vec<u8>,
     known: Known,
 }
 
@@ -45,20 +44,22 @@ impl VcdParser {
     /// No word has come. It takes no memory.
     pub fn new(alloc: Global) -> VcdParser
         ensures begun { begun_of result ≡ Nothing }
-        ensures place { place_of result.known ≡ Header None no_codes }
+        ensures place { place_of result.known ≡ Header None [] no_codes }
     {
         let codes = WireCodes {
-            atn: None,
-            clock: None,
-            second: None,
-            line: None,
+            atn: WireCode::new(),
+            clock: WireCode::new(),
+            second: WireCode::new(),
+            line: WireCode::new(),
         };
         VcdParser {
             alloc,
             phase: Phase::Between,
             inside: Vec::new(alloc),
+            bits: Vec::new(alloc),
             known: Known {
                 stage: Stage::InHeader(None),
+                scopes: Vec::new(alloc),
                 codes,
             },
         }
@@ -71,14 +72,14 @@ impl VcdParser {
         ensures phase { self.new.phase ≡ self.old.phase }
         ensures known { self.new.known ≡ self.old.known }
     {
-        if keeps(keyword) && self.inside.len() < WORDS {
+        if keeps(keyword) {
             let copy = copied(self.alloc, word)?;
             self.inside.push(copy)?;
         }
         Ok(())
     }
 
-    /// Goes on behind a word that stands in no section.
+    /// Goes on after a word that is in no section.
     fn take_single(
         &mut self,
         signals: &Signals<'_>,
@@ -92,23 +93,26 @@ impl VcdParser {
         match entry_of(word) {
             Entry::Silent => Ok(None),
             Entry::Foreign => self.known.take_stray(signals, number),
+            Entry::Resumes => self.known.take_resumption(signals, number),
             Entry::Opens(keyword) => {
                 self.inside.clear();
                 self.phase = Phase::InSection(number, keyword);
                 Ok(None)
             }
-            Entry::Value(level) => {
-                self.phase = Phase::BehindValue(number, level);
+            Entry::Value => {
+                self.bits.clear();
+                self.bits.extend_from_slice(bits_of(word))?;
+                self.phase = Phase::BehindValue(number);
                 Ok(None)
             }
             Entry::Time => self.known.take_stamp(signals, number, rest_of(word)),
             Entry::Level(level) => self
                 .known
-                .take_change(signals, number, level, rest_of(word)),
+                .take_change(signals, number, &[level], rest_of(word)),
         }
     }
 
-    /// Goes on behind a word of a section.
+    /// Goes on after a word of a section.
     fn take_inner(
         &mut self,
         signals: &Signals<'_>,
@@ -130,7 +134,7 @@ impl VcdParser {
             .take_section(self.alloc, signals, line, keyword, inside)
     }
 
-    /// Goes on behind a word.
+    /// Goes on after a word.
     pub fn take_word(
         &mut self,
         signals: &Signals<'_>,
@@ -143,9 +147,10 @@ impl VcdParser {
         match self.phase {
             Phase::Between => self.take_single(signals, number, word),
             Phase::InSection(line, keyword) => self.take_inner(signals, line, keyword, word),
-            Phase::BehindValue(line, level) => {
+            Phase::BehindValue(line) => {
                 self.phase = Phase::Between;
-                self.known.take_change(signals, line, level, word)
+                self.known
+                    .take_change(signals, line, self.bits.as_slice(), word)
             }
         }
     }
@@ -157,8 +162,9 @@ impl VcdParser {
         match (self.phase, self.known.stage) {
             (Phase::InSection(line, _), _) => Err(CaptureFault::NoEnd(line)),
             (_, Stage::InHeader(_)) => Err(CaptureFault::NoDefinitions(end)),
-            (Phase::BehindValue(line, _), _) => Err(CaptureFault::BadWord(line)),
-            (Phase::Between, Stage::InChanges(_, seen)) => match seen.missing() {
+            (Phase::BehindValue(line), _) => Err(CaptureFault::BadWord(line)),
+            (Phase::Between, Stage::InChanges(_, seen))
+            | (Phase::Between, Stage::InPause(_, seen)) => match seen.missing() {
                 Some(wire) => Err(CaptureFault::NoLevel(end, wire)),
                 None => Ok(None),
             },

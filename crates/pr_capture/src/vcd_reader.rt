@@ -9,19 +9,12 @@ ghost use Rattle.pr_capture.specs.VcdReads.{EndsText, ReadsMore, RefusesDump};
 ghost use Rattle.pr_capture.specs.VcdSteps.{is_letter, line_number, word_begun, HasReadDump, HoldsMore, MayEnd, ReadsWords};
 
 use crate::fault::CaptureFault;
-use crate::signals::Signals;
+use crate::signals::{Signals, is_space};
 use crate::vcd_parser::VcdParser;
 use pr_wire::Edge;
 use std::alloc::Global;
 
-/// Whether a byte is white space.
-fn is_space(b: u8) -> bool
-    ensures { result ≡ is_space b }
-{
-    b == b' ' || (b >= 9 && b <= 13)
-}
-
-/// How many bytes stand before the first white space.
+/// How many bytes come before the first white space.
 fn word_len(text: &[u8]) -> usize
     ensures len { result ≡ prefix_len is_letter text.now }
     ensures within { result ≤ length text.now }
@@ -34,8 +27,9 @@ fn word_len(text: &[u8]) -> usize
     text.len()
 }
 
-/// Reads a Value Change Dump that comes in blocks. It keeps the word that has begun, no more than four
-/// words of a section, and the codes of the three wires and of a signal CLK.
+/// Reads a Value Change Dump that comes in blocks. It keeps the word that has begun, the words of a section
+/// `$timescale`, `$scope` or `$var` or the bits of a value that has begun, the scopes of the header, and the
+/// codes of the three wires and of a signal CLK.
 #[derive(Drop)]
 pub struct VcdReader<'a> {
     signals: Signals<'a>,

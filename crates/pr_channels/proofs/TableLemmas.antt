@@ -35,12 +35,12 @@ absent_filter : (p q : File → Bool) (xs : Files) → find p xs ≡ None → fi
 absent_filter p q [] none = refl
 absent_filter p q (x ∷ xs) none = absent_cons p q x xs (p x) (q x) refl refl none (absent_filter p q xs)
 
--- some of the files stand once, with one more
+-- some of the files are once, with one more
 once_cons : (q : File → Bool) (x : File) (xs : Files) (a : Bool) → q x ≡ a → IsOnce (x ∷ xs) → IsOnce (filter q xs) → IsOnce (filter q (x ∷ xs))
 once_cons q x xs true na once ih = simp na (absent_filter (λ file. file.number == x.number) q xs once.0, ih)
 once_cons q x xs false na once ih = simp na ih
 
--- some of the files stand once
+-- some of the files are once
 once_filter : (q : File → Bool) (files : Files) → IsOnce files → IsOnce (filter q files)
 once_filter q [] once = tt
 once_filter q (x ∷ xs) once = once_cons q x xs (q x) refl once (once_filter q xs once.1)
@@ -69,7 +69,7 @@ first_differs : (n : ℕ) (x : File) (xs : Files) (a : Bool) → (x.number == n)
 first_differs n x xs true na none = let clash : Some x ≡ None = ap (λ t. cond t (Some x) (file_at xs n)) (sym na) ∙ none in absurd (cc clash)
 first_differs n x xs false na none = (refl, ap (λ t. cond t (Some x) (file_at xs n)) (sym na) ∙ none)
 
--- with a new number each number still stands once
+-- with a new number each number still is once
 once_push : (file : File) (files : Files) → IsOnce files → file_at files file.number ≡ None → IsOnce (files ++ file ∷ [])
 once_push file [] once none = (refl, tt)
 once_push file (x ∷ xs) once none =
@@ -86,13 +86,13 @@ pub each_push : (file : File) (files : Files) → AreFiles files → IsFile file
 each_push file [] each is = (is, tt)
 each_push file (x ∷ xs) each is = (each.0, each_push file xs each.1 is)
 
--- what it means that nothing stands against opening a file
+-- what it means that nothing is against opening a file
 record IsOpenable (files : Files) (n : ℕ) : Type 0 where
   named : (n == 0) ≡ false
   absent : file_at files n ≡ None
   room : (length files == 10) ≡ false
 
--- nothing stands against it where no test finds anything
+-- nothing is against it where no test finds anything
 openable_at : (files : Files) (n : ℕ) (a : Bool) (f : Option File) (b : Bool) → (n == 0) ≡ a → file_at files n ≡ f → (length files == 10) ≡ b
     → cond a (Some NotInputFile) (cond (is_some f) (Some FileOpen) (cond b (Some TooManyFiles) None)) ≡ None → IsOpenable files n
 openable_at files n true f b na nf nb none = let clash : Some NotInputFile ≡ None = none in absurd (cc clash)
@@ -118,7 +118,7 @@ table_push files file is absent room = record {
   few = omega (arith, length-append files (file ∷ []), room_left (length files) is.few room);
 }
 
--- one more file against which nothing stands makes a table of a table
+-- one more file against which nothing is makes a table of a table
 pub table_opened : (files : Files) (file : File) → IsTable files → open_stop files file.number ≡ None → IsTable (files ++ file ∷ [])
 table_opened files file is none =
     let may = openable_at files file.number (file.number == 0) (file_at files file.number) (length files == 10) refl refl refl none in

@@ -17,7 +17,7 @@ AddingInTwoParts = (es fs : List Element) (old : Seen) →
 abbrev pub AddingNone : Type 0
 AddingNone = (old : Seen) → old.sent ≡ items_of old.elements → adding [] old ≡ old
 
--- one more file against which nothing stands makes a file table of a file table
+-- one more file against which nothing is makes a file table of a file table
 abbrev pub TableWithOneMore : Type 0
 TableWithOneMore =
     (files : Files) (file : File) → IsTable files → open_stop files file.number ≡ None → IsTable (files ++ file ∷ [])

@@ -11,7 +11,7 @@ pub record IsFile (file : File) : Type 0 where
   pub high : file.device ≤ 30
   pub second : ForSome file.second (λ s. s ≤ 15)
 
--- each number stands once
+-- each number is once
 abbrev pub IsOnce : Files → Type 0
 IsOnce [] = ⊤
 IsOnce (file ∷ files) = (file_at files file.number ≡ None) × IsOnce files

@@ -9,7 +9,8 @@ use Rattle.pr_capture.specs.declared.format.Source.{Source}
 use Rattle.pr_capture.specs.declared.format.Source.TheVariants as source
 use Rattle.pr_capture.specs.declared.format.TraceInput.{TraceInput}
 use Rattle.pr_cli.specs.Report.{edges_made}
-use Rattle.pr_cli.specs.Sources.{HasGathered, MadeEdgesComeFirst, MakesAll, MakesMore}
+use Rattle.pr_cli.specs.InputReads.{MakesAll, MakesMore}
+use Rattle.pr_cli.specs.Sources.{HasGathered, MadeEdgesComeFirst}
 use Rattle.pr_cli.specs.declared.edge_maker.EdgeMaker.{EdgeMaker}
 
 pub made_gathered : (input : TraceInput) (g : EdgeDetector) → (input.source ≡ source.Text → ⊥) → gathering.HasGathered input.start [] [] g → HasGathered input [] [] (Some g)
@@ -21,25 +22,25 @@ made_gathered input g n h = (by input.source refl, h)
     by source.Vcd e ss = rw e refl
 
 -- one sample more, and the edge that is made by it, if any
-pub makes_gathered : (s : Edge) (e : Option Edge) (old new : EdgeMaker) (g h : EdgeDetector) → old.gatherer ≡ Some g → new.gatherer ≡ Some h → GathersMore (s ∷ []) (listed e) g h → MakesMore s old e new
+pub makes_gathered : (s : Edge) (e : Option Edge) (old new : EdgeMaker) (g h : EdgeDetector) → old.detector ≡ Some g → new.detector ≡ Some h → GathersMore (s ∷ []) (listed e) g h → MakesMore s old e new
 makes_gathered s None old new g h is was more = λ input samples edges m. rw was (let k : HasGathered input samples edges (Some g) = rw is at m in (k.0, more input.start samples edges k.1))
 makes_gathered s (Some e) old new g h is was more = λ input samples edges m. rw was (let k : HasGathered input samples edges (Some g) = rw is at m in (k.0, more input.start samples edges k.1))
 
-pub makes_kept : (s : Edge) (old new : EdgeMaker) → old.gatherer ≡ None → new.gatherer ≡ None → MakesMore s old (Some s) new
+pub makes_kept : (s : Edge) (old new : EdgeMaker) → old.detector ≡ None → new.detector ≡ None → MakesMore s old (Some s) new
 makes_kept s old new is was = λ input samples edges m. rw was (let k : HasGathered input samples edges None = rw is at m in (k.0, ap (λ l. l ++ s ∷ []) k.1))
 
 -- all edges that were made
-pub makes_all : (m : EdgeMaker) (g : EdgeDetector) (last : Option Edge) → m.gatherer ≡ Some g
+pub makes_all : (m : EdgeMaker) (g : EdgeDetector) (last : Option Edge) → m.detector ≡ Some g
     → ((start : ℕ) (ss es : List Edge) → gathering.HasGathered start ss es g → edges_of start ss ≡ es ++ listed last) → MakesAll m last
 makes_all m g None is ends = λ input samples edges h. let k : HasGathered input samples edges (Some g) = rw is at h in sym (k.0 samples ∙ ends input.start samples edges k.1)
 makes_all m g (Some e) is ends = λ input samples edges h. let k : HasGathered input samples edges (Some g) = rw is at h in sym (k.0 samples ∙ ends input.start samples edges k.1)
 
-pub makes_same : (m : EdgeMaker) → m.gatherer ≡ None → MakesAll m None
+pub makes_same : (m : EdgeMaker) → m.detector ≡ None → MakesAll m None
 makes_same m is = λ input samples edges h. let k : HasGathered input samples edges None = rw is at h in append-nil edges ∙ (k.1 ∙ rw k.0 refl)
 
 -- the edges given come first
 pub made_first : gathering.GivenEdgesComeFirst → MadeEdgesComeFirst
-made_first first = λ input samples more edges m h. by input samples more edges m.gatherer h
+made_first first = λ input samples more edges m h. by input samples more edges m.detector h
   where
     by : (input : TraceInput) (samples more edges : List Edge) (g : Option EdgeDetector) → HasGathered input samples edges g
         → (later : List Edge) × (edges_made input.source input.start (samples ++ more) ≡ edges ++ later)

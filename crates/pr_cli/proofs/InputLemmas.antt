@@ -6,9 +6,11 @@ use Rattle.std.specs.Io.KnownBytes.{Consumes, IsAtEnd}
 use Rattle.std.proofs.KnownBytes.{Consumes-nil, Consumes-trans}
 use Rattle.pr_wire.specs.declared.Edge.{Edge}
 use Rattle.pr_capture.specs.declared.format.TraceInput.{TraceInput}
-use Rattle.pr_cli.specs.Inputs.{AddsLast, AddsSample, EachTextSaysEdges, EndsSource, GivesBlock, GivesEdges, HasEdges, HasReached, HasReachedOr, HasReadEdges, IsTooLong, ReadEdgesComeFirst, ReadsEdges, SaysAll, SaysFirst, SaysWhole, EndsInputs, EndsReading, HasTakenAll, HasTakenBefore, edges_in, edges_read, fault_read}
-use Rattle.pr_cli.specs.Report.{edges_made, Says, SaysSamples}
-use Rattle.pr_cli.specs.Sources.{EachTextSaysSamples, EndsInput, GivenSamplesComeFirst, GivesMore, HasGiven, HasMade, IsOwnFault, MadeEdgesComeFirst, MakesAll, MakesMore, RefusesInput}
+use Rattle.pr_cli.specs.Inputs.{AddsLast, AddsSample, EachTextSaysEdges, EndsSource, GivesBlock, HasEdges, HasReached, HasReachedOr, HasReadEdges, ReadEdgesComeFirst, SaysFirst, edges_in, edges_read, fault_read}
+use Rattle.pr_cli.specs.InputReads.{GivesEdges, IsTooLong, ReadsEdges, SaysAll, EndsInputs, EndsInput, GivesMore, MakesAll, MakesMore, RefusesInput}
+use Rattle.pr_cli.specs.EdgesTaken.{EndsReading, HasTakenAll, HasTakenBefore}
+use Rattle.pr_cli.specs.Report.{SaysWhole, edges_made, Says, SaysSamples, IsOwnFault}
+use Rattle.pr_cli.specs.Sources.{EachTextSaysSamples, GivenSamplesComeFirst, HasGiven, HasMade, MadeEdgesComeFirst}
 use Rattle.pr_cli.specs.declared.edge_maker.EdgeMaker.{EdgeMaker}
 use Rattle.pr_cli.specs.declared.edge_reader.EdgeReader.{EdgeReader}
 use Rattle.pr_cli.specs.declared.edge_reader.LastEdges.{LastEdges}

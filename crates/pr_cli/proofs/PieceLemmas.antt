@@ -39,7 +39,7 @@ written_front a b c text rest ys zs is h k = (
 pub written_all : (a b : Option (List ℕ)) (text : List ℕ) → HasWritten a b text [] → Appends a b text
 written_all a b text h = let P : List ℕ → Type 0 = λ t. Appends a b t in subst P (sym (h.whole ∙ append-nil h.front)) h.wrote
 
--- the bytes left are those of the next block and of what stands behind it
+-- the bytes left are those of the next block and of what follows it
 pub block_next : (blocks full : List (Vec ℕ Global)) (i : ℕ) (b : Vec ℕ Global) (piece last : List ℕ) → blocks ≡ full → i < length blocks → b ≡ get_or blocks i b → piece ≡ b.items
     → joined (drop i full) ++ last ≡ piece ++ (joined (drop (i + 1) full) ++ last)
 block_next blocks full i b piece last same within is told =
@@ -50,7 +50,7 @@ block_next blocks full i b piece last same within is told =
     ∙ ap (λ l. l ++ more blocks) (sym told)
     ∙ ap (λ l. piece ++ more l) same
 
--- nothing stands behind the last block
+-- nothing is after the last block
 pub block_last : (blocks full : List (Vec ℕ Global)) (i : ℕ) (piece last : List ℕ) → blocks ≡ full → length blocks ≤ i → piece ≡ last → joined (drop i full) ++ last ≡ piece ++ []
 block_last blocks full i piece last same past told =
     ap (λ l. joined (drop i l) ++ last) (sym same) ∙ ap (λ l. joined l ++ last) (drop_all i blocks past) ∙ sym told ∙ sym (append-nil piece)

@@ -10,15 +10,16 @@ use Rattle.pr_report.specs.declared.report.Report.{Report}
 use Rattle.pr_report.specs.declared.report.Report.TheVariants as report
 use Rattle.pr_capture.specs.declared.format.TraceInput.{TraceInput}
 use Rattle.pr_cli.specs.Check.{trace_limit}
-use Rattle.pr_cli.specs.Inputs.{HasTakenAll, HasTakenBefore, IsNoReading, IsTooLong, SaysWhole, fault_read}
-use Rattle.pr_cli.specs.Report.{refusal, AnswersReport, IsReport, IsWhole, MayBeWritten, Reports, WritesReport}
+use Rattle.pr_cli.specs.Inputs.{fault_read}
+use Rattle.pr_cli.specs.EdgesTaken.{HasTakenAll, HasTakenBefore}
+use Rattle.pr_cli.specs.InputReads.{IsTooLong}
+use Rattle.pr_cli.specs.Report.{IsNoReading, SaysWhole, refusal, AnswersReport, IsReport, IsWhole, MayBeWritten, Reports, WritesReport, IsOwnFault}
 use Rattle.pr_cli.specs.Reported.{AreLines, EndsReport, EndsReported, GivesReport, HasReported, IsRefused, IsReportOf, IsTraceFault, WritesText}
-use Rattle.pr_cli.specs.Sources.{IsOwnFault}
 use Rattle.pr_cli.specs.declared.input_reader.InputReader.{InputReader}
 use Rattle.pr_cli.specs.declared.reporter.FrameReporter.{FrameReporter}
 use Rattle.pr_cli.specs.declared.reporter.ReportText.{ReportText}
 use Rattle.pr_cli.specs.declared.fault.CliFault.{CliFault}
-use Rattle.pr_cli.specs.declared.fault.CliFault.TheVariants.{Script, Trace, Wave, Capture, TooLarge, NoMemory, ReadFailed, WriteFailed}
+use Rattle.pr_cli.specs.declared.fault.CliFault.TheVariants.{Script, Trace, Wave, Capture, Picture, TooLarge, NoMemory, ReadFailed, WriteFailed}
 
 -- an input with a fault of its own is not known to be whole
 pub not_whole : (v : Option CliFault) (f : CliFault) → v ≡ Some f → IsOwnFault f → IsWhole v → ⊥
@@ -30,6 +31,7 @@ not_whole (Some g) f e o w = by g (let same : f ≡ g = cc in let P : CliFault �
     by (Trace x) o w = w
     by (Wave x) o w = o
     by (Capture x) o w = w
+    by (Picture x) o w = w
     by TooLarge o w = w
     by NoMemory o w = w
     by ReadFailed o w = w
@@ -79,6 +81,7 @@ gives_none limit start now input report r taken (Err x) f h e none long = rw e (
     by (Trace fault) none long = absurd none
     by (Wave fault) none long = absurd none
     by (Capture fault) none long = absurd none
+    by (Picture fault) none long = absurd none
     by WriteFailed none long = absurd none
 
 -- what holds of known bytes
@@ -138,6 +141,7 @@ frames_refused input r text t f a frames e refused h =
     by (Trace x) o w s = w
     by (Wave x) o w s = (s x refl, w)
     by (Capture x) o w s = w
+    by (Picture x) o w s = absurd o
     by TooLarge o w s = absurd o
     by NoMemory o w s = absurd o
     by ReadFailed o w s = absurd o
@@ -170,6 +174,7 @@ report_written input r text t a b v told refused h w = by v w
     by (Err (Trace x)) w = (t.lines.items, refused_as (Some (Trace x)) w.0, w.1)
     by (Err (Wave x)) w = (short (Some (Wave x)) w.0 tt, (t.lines.items, refused_as (Some (Wave x)) w.0, w.1))
     by (Err (Capture x)) w = (t.lines.items, refused_as (Some (Capture x)) w.0, w.1)
+    by (Err (Picture x)) w = absurd (own (Picture x) w.0)
     by (Err TooLarge) w = absurd (own TooLarge w.0)
     by (Err NoMemory) w = absurd (own NoMemory w.0)
     by (Err ReadFailed) w = absurd (own ReadFailed w.0)

@@ -20,13 +20,12 @@ use Rattle.pr_report.specs.FrameTiming.{HasTold}
 use Rattle.pr_report.specs.declared.report.Report.{Report}
 use Rattle.pr_report.specs.declared.report.Report.TheVariants as report
 use Rattle.pr_cli.specs.FrameText.{frame_line, frame_lines}
-use Rattle.pr_cli.specs.Report.{refusal, IsReport}
+use Rattle.pr_cli.specs.Report.{refusal, IsReport, IsOwnFault}
 use Rattle.pr_cli.specs.Reported.{data_behind, last_line, lines_of_frame, lines_of_frames, AreLines, EndsReport, HasEnded, HasReported, IsTraceFault, ReportsMore, TellsSoFar}
-use Rattle.pr_cli.specs.Sources.{IsOwnFault}
 use Rattle.pr_cli.specs.declared.reporter.FrameReporter.{FrameReporter}
 use Rattle.pr_cli.specs.declared.reporter.ReportText.{ReportText}
 use Rattle.pr_cli.specs.declared.fault.CliFault.{CliFault}
-use Rattle.pr_cli.specs.declared.fault.CliFault.TheVariants.{Script, Trace, Wave, Capture, TooLarge, NoMemory, ReadFailed, WriteFailed}
+use Rattle.pr_cli.specs.declared.fault.CliFault.TheVariants.{Script, Trace, Wave, Capture, Picture, TooLarge, NoMemory, ReadFailed, WriteFailed}
 
 -- a frame more in a story
 story_more : (b : Bool) (fs : List TimedFrame) (f : TimedFrame) → story_lines b (fs ++ f ∷ []) ≡ story_lines b fs ++ story_line (data_behind b fs) f
@@ -120,7 +119,7 @@ edge_refused old new e w n m r l b small fault ends = λ report edges h. record 
   memory = other_fault new.fault w m small;
 }
 
--- an edge behind a fault
+-- an edge after a fault
 told_kept : (edges : List Edge) (given : List TimedFrame) (e : Edge) (t : FrameTimer) (a : Option WaveFault) → (a ≡ None → ⊥) → TellsSoFar edges given t a → TellsSoFar (edges ++ e ∷ []) given t a
 told_kept edges given e t None n h = absurd (n refl)
 told_kept edges given e t (Some w) n h = λ more. rw (append_assoc edges (e ∷ []) more) (h (e ∷ more))
@@ -216,6 +215,7 @@ trace_fault (Some f) w n h = by f h
     by (Trace trace.NoMemory) h = absurd h
     by (Wave x) h = absurd h
     by (Capture x) h = h
+    by (Picture x) h = absurd h
     by TooLarge h = absurd h
     by NoMemory h = absurd h
     by ReadFailed h = absurd h

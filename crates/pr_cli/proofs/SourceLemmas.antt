@@ -25,8 +25,9 @@ use Rattle.pr_capture.specs.declared.format.Source.{Source}
 use Rattle.pr_capture.specs.declared.format.Source.TheVariants as source
 use Rattle.pr_capture.specs.declared.format.TraceInput.{TraceInput}
 use Rattle.pr_cli.specs.Faults.{fault_of_capture, fault_of_trace}
-use Rattle.pr_cli.specs.Report.{IsTold, SaysSamples}
-use Rattle.pr_cli.specs.Sources.{EachTextSaysSamples, EndsInput, GivenSamplesComeFirst, GivesMore, HasGiven, IsOwnFault, RefusesInput}
+use Rattle.pr_cli.specs.Report.{IsTold, SaysSamples, IsOwnFault}
+use Rattle.pr_cli.specs.InputReads.{EndsInput, GivesMore, RefusesInput}
+use Rattle.pr_cli.specs.Sources.{EachTextSaysSamples, GivenSamplesComeFirst, HasGiven}
 use Rattle.pr_cli.specs.declared.source_reader.SourceReader.{SourceReader}
 use Rattle.pr_cli.specs.declared.source_reader.SourceReader.TheVariants as reader
 use Rattle.pr_cli.specs.declared.fault.CliFault.{CliFault}
@@ -62,7 +63,12 @@ own_fault (capture.NoSignal n w) = inr (tt, refl)
 own_fault (capture.BadWord n) = inr (tt, refl)
 own_fault (capture.NoEnd n) = inr (tt, refl)
 own_fault (capture.NoDefinitions n) = inr (tt, refl)
+own_fault (capture.TwoSignals n w) = inr (tt, refl)
 own_fault (capture.NoTimescale n) = inr (tt, refl)
+own_fault (capture.BadTimescale n) = inr (tt, refl)
+own_fault (capture.NoTime n) = inr (tt, refl)
+own_fault capture.WideText = inr (tt, refl)
+own_fault capture.Archive = inr (tt, refl)
 own_fault (capture.BadTime n) = inr (tt, refl)
 own_fault (capture.GoesBack n) = inr (tt, refl)
 own_fault (capture.NoLevel n w) = inr (tt, refl)

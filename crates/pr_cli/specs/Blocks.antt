@@ -1,4 +1,4 @@
--- Linking words, for proofs: the bytes of blocks, one behind another. No reader needs to believe them.
+-- Linking words, for proofs: the bytes of blocks, one after another. No reader needs to believe them.
 use Rattle.std.specs.Prelude.{ℕ, List, Vec, flat_map}
 use Rattle.std.specs.Global.{Global}
 

@@ -11,7 +11,7 @@ use Rattle.pr_capture.specs.declared.fault.CaptureFault.TheVariants as capture
 use Rattle.pr_input.specs.declared.read_write.ReadFault.{ReadFault}
 use Rattle.pr_input.specs.declared.read_write.ReadFault.TheVariants as read
 use Rattle.pr_cli.specs.declared.fault.CliFault.{CliFault}
-use Rattle.pr_cli.specs.declared.fault.CliFault.TheVariants.{Script, Trace, Wave, Capture, TooLarge, NoMemory, ReadFailed}
+use Rattle.pr_cli.specs.declared.fault.CliFault.TheVariants.{Script, Trace, Wave, Capture, Picture, TooLarge, NoMemory, ReadFailed}
 
 -- a fault of reading
 abbrev pub fault_of_read : ReadFault → CliFault

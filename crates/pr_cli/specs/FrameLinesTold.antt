@@ -10,7 +10,7 @@ use Rattle.pr_wire.specs.Checked.{HasChecked}
 use Rattle.pr_cli.specs.Check.{IsBadText, IsFaultyText, IsLawfulText}
 use Rattle.pr_cli.specs.FrameText.{frame_line, frame_lines}
 use Rattle.pr_cli.specs.declared.fault.CliFault.{CliFault}
-use Rattle.pr_cli.specs.declared.fault.CliFault.TheVariants.{Script, Trace, Wave, Capture, TooLarge, NoMemory, ReadFailed, WriteFailed}
+use Rattle.pr_cli.specs.declared.fault.CliFault.TheVariants.{Script, Trace, Wave, Capture, Picture, TooLarge, NoMemory, ReadFailed, WriteFailed}
 
 -- the lines are those of the frames of the text checked so far
 pub record HasTold (text lines : List ℕ) (c : Checker) : Type 0 where
@@ -27,13 +27,14 @@ abbrev pub line_if : Option Frame → List ℕ
 line_if None = []
 line_if (Some f) = frame_line f
 
--- the frame lines of a text of at most so many bytes, or its fault
+-- the frame lines of a text of at most this many bytes, or its fault
 abbrev pub GivesLines : ℕ → Result (Vec ℕ Global) CliFault → List ℕ → Type 0
 GivesLines limit (Ok lines) text = (frames : List Frame) × (length text ≤ limit)
     × IsLawfulText text frames × (lines.items ≡ frame_lines frames)
 GivesLines limit (Err (Trace fault)) text = (length text ≤ limit) × IsBadText text fault
 GivesLines limit (Err (Wave fault)) text = (length text ≤ limit) × IsFaultyText text fault
 GivesLines limit (Err (Capture fault)) text = ⊥
+GivesLines limit (Err (Picture fault)) text = ⊥
 GivesLines limit (Err TooLarge) text = limit < length text
 GivesLines limit (Err NoMemory) text = Unit {0}
 GivesLines limit (Err ReadFailed) text = Unit {0}

@@ -1,18 +1,16 @@
 -- Linking words, for proofs: which edges were read of an input that comes block by block. No reader needs to believe them.
-use Rattle.std.specs.Prelude.{◌≡◌, ℕ, ◌+◌, ◌<◌, ◌≤◌, Bool, true, false, List, [], ◌++◌, length, Option, Some, None, IfSome}
-use Rattle.std.specs.Io.KnownBytes.{Consumes, IsAtEnd}
+use Rattle.std.specs.Prelude.{◌≡◌, ℕ, ◌+◌, ◌<◌, ◌≤◌, List, [], ◌++◌, length, Option, Some, None, IfSome}
+use Rattle.std.specs.Io.KnownBytes.{Consumes}
 use Rattle.std.specs.Option.{option_to_list}
 use Rattle.pr_wire.specs.declared.Edge.{Edge}
 use Rattle.pr_capture.specs.declared.format.TraceInput.{TraceInput}
-use Rattle.pr_cli.specs.Report.{edges_made, Says, SaysSamples}
-use Rattle.pr_cli.specs.Sources.{HasGiven, HasMade, IsOwnFault, lines_read}
+use Rattle.pr_cli.specs.Report.{edges_made, IsOwnFault, Says, SaysSamples}
+use Rattle.pr_cli.specs.Sources.{HasGiven, HasMade, lines_read}
 use Rattle.pr_cli.specs.declared.edge_maker.EdgeMaker.{EdgeMaker}
 use Rattle.pr_cli.specs.declared.edge_reader.EdgeReader.{EdgeReader}
-use Rattle.pr_cli.specs.declared.edge_reader.LastEdges.{LastEdges}
 use Rattle.pr_cli.specs.declared.input_reader.InputReader.{InputReader}
 use Rattle.pr_cli.specs.declared.source_reader.SourceReader.{SourceReader}
 use Rattle.pr_cli.specs.declared.fault.CliFault.{CliFault}
-use Rattle.pr_cli.specs.declared.fault.CliFault.TheVariants.{TooLarge, NoMemory, ReadFailed}
 
 -- What an input says.
 
@@ -91,17 +89,6 @@ lines_taken r = lines_at r.fault r.reader
 abbrev pub HasEdges : TraceInput → (text : List ℕ) → (given : List Edge) → EdgeReader → Type 0
 HasEdges input text given r = HasReachedOr input text (given ++ edges_in r) r.reader r.maker r.fault
 
--- a block more was taken
-abbrev pub GivesEdges : (block : List ℕ) → (old new : EdgeReader) → Type 0
-GivesEdges block old new = (input : TraceInput) (text : List ℕ) (given : List Edge) → HasEdges input text given old
-    → HasEdges input (text ++ block) (given ++ edges_in old) new
-
--- what an input says that ends here, or has had its fault whatever follows
-abbrev pub SaysAll : EdgeReader → LastEdges → Type 0
-SaysAll r last = (input : TraceInput) (text more : List ℕ) (given : List Edge) → HasEdges input text given r
-    → (fault_in r ≡ None → more ≡ []) → Says input (text ++ more) (given ++ last.edges.items) last.fault
-    × IfSome last.fault IsOwnFault
-
 -- Reading blocks.
 
 -- the edges of the last block
@@ -127,73 +114,6 @@ pub record HasReadEdges (limit : ℕ) (start now : Option (List ℕ)) (input : T
   pub taken : Consumes start now text
   pub known : HasEdges input text given r.edges
   pub room : length text + r.left ≡ limit
-
--- a block more was read
-abbrev pub ReadsEdges : (before after : Option (List ℕ)) → (old new : InputReader) → Type 0
-ReadsEdges before after old new =
-    (limit : ℕ) (start : Option (List ℕ)) (input : TraceInput) (given : List Edge)
-    → HasReadEdges limit start before input given old
-    → HasReadEdges limit start after input (given ++ edges_read old) new
-
--- an input that does not go on has ended, or has its fault
-abbrev pub StopsWell : (goes_on : Bool) → Option (List ℕ) → InputReader → Type 0
-StopsWell true left r = fault_read r ≡ None
-StopsWell false left r = fault_read r ≡ None → IsAtEnd left
-
--- the input has more bytes than the limit
-abbrev pub IsTooLong : Option (List ℕ) → InputReader → Type 0
-IsTooLong before r = (limit : ℕ) (start : Option (List ℕ)) (input : TraceInput) (given : List Edge)
-    → HasReadEdges limit start before input given r → IfSome start (λ text. limit < length text)
-
--- a fault of reading, or want of memory
-abbrev pub IsNoReading : CliFault → Type 0
-IsNoReading TooLarge = Unit {0}
-IsNoReading NoMemory = Unit {0}
-IsNoReading ReadFailed = Unit {0}
-IsNoReading _ = ⊥
-
--- a text of at most so many bytes says these edges, or more bytes say them and then have this fault
-pub record SaysWhole (limit : ℕ) (input : TraceInput) (edges : List Edge) (fault : Option CliFault)
-    (text : List ℕ) : Type 0 where
-  pub says : Says input text edges fault
-  pub short : fault ≡ None → length text ≤ limit
-
--- what an input says that was read to its end, or to its first fault, and what follows of that
-pub record EndsHere (limit : ℕ) (start now : Option (List ℕ)) (input : TraceInput) (r : InputReader)
-    (claim : (edges : List Edge) → (fault : Option CliFault) → Type 0) : Type 0 where
-  pub edges : List Edge
-  pub fault : Option CliFault
-  pub own : IfSome fault IsOwnFault
-  pub kept : fault ≡ None → fault_read r ≡ None
-  pub says : (fault_read r ≡ None → IsAtEnd now) → IfSome start (SaysWhole limit input edges fault)
-  pub follows : claim edges fault
-
--- that follows for whoever has taken the edges known before the last block
-abbrev pub EndsReading : InputReader → (taken : List Edge → Type 0) → (follows : List Edge → Option CliFault → Type 0)
-    → Type 0
-EndsReading r taken follows =
-    (limit : ℕ) (start now : Option (List ℕ)) (input : TraceInput) (given : List Edge)
-    → HasReadEdges limit start now input given r → taken given → EndsHere limit start now input r follows
-
--- the last edges of an input, and its fault
-abbrev pub EndsInputs : InputReader → LastEdges → Type 0
-EndsInputs r last = (limit : ℕ) (start now : Option (List ℕ)) (input : TraceInput) (given : List Edge)
-    → HasReadEdges limit start now input given r
-    → EndsHere limit start now input r (λ edges fault. (edges ≡ given ++ last.edges.items) × (fault ≡ last.fault))
-
--- Who takes edges: all that are known, or all before the last block.
-
-pub record HasTakenAll (limit : ℕ) (start now : Option (List ℕ)) (input : TraceInput) (r : InputReader)
-    (claim : List Edge → Type 0) : Type 0 where
-  pub given : List Edge
-  pub read : HasReadEdges limit start now input given r
-  pub taken : claim (given ++ edges_read r)
-
-pub record HasTakenBefore (limit : ℕ) (start now : Option (List ℕ)) (input : TraceInput) (r : InputReader)
-    (claim : List Edge → Type 0) : Type 0 where
-  pub given : List Edge
-  pub read : HasReadEdges limit start now input given r
-  pub taken : claim given
 
 -- Laws.
 

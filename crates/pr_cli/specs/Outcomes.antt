@@ -9,7 +9,7 @@ use Rattle.pr_system.specs.declared.outcome.Outcome.{Outcome}
 use Rattle.pr_system.specs.Headline.{IsOutcome}
 use Rattle.pr_cli.specs.Pages.{Start}
 use Rattle.pr_cli.specs.declared.fault.CliFault.{CliFault}
-use Rattle.pr_cli.specs.declared.fault.CliFault.TheVariants.{Script, Trace, Wave, Capture, TooLarge, NoMemory, ReadFailed, WriteFailed}
+use Rattle.pr_cli.specs.declared.fault.CliFault.TheVariants.{Script, Trace, Wave, Capture, Picture, TooLarge, NoMemory, ReadFailed, WriteFailed}
 
 -- the outcome is that of the script's statements, or the fault is the script's first
 abbrev pub GivesOutcome : Start → List ℕ → Result Outcome CliFault → Type 0
@@ -19,6 +19,7 @@ GivesOutcome start script (Err (Script f)) = (f ≢ fault.NoMemory) × IsFirstFa
 GivesOutcome start script (Err (Trace f)) = ⊥
 GivesOutcome start script (Err (Wave f)) = ⊥
 GivesOutcome start script (Err (Capture f)) = ⊥
+GivesOutcome start script (Err (Picture f)) = ⊥
 GivesOutcome start script (Err NoMemory) = Unit {0}
 GivesOutcome start script (Err TooLarge) = ⊥
 GivesOutcome start script (Err ReadFailed) = ⊥

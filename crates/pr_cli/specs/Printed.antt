@@ -9,9 +9,9 @@ use Rattle.pr_page.specs.declared.paper.Paper.{Paper}
 use Rattle.pr_page.specs.declared.state.PrinterState.{PrinterState}
 use Rattle.pr_cli.specs.Raw.{raw_inputs}
 use Rattle.pr_cli.specs.declared.fault.CliFault.{CliFault}
-use Rattle.pr_cli.specs.declared.fault.CliFault.TheVariants.{Script, Trace, Wave, Capture, TooLarge, NoMemory, ReadFailed, WriteFailed}
+use Rattle.pr_cli.specs.declared.fault.CliFault.TheVariants.{Script, Trace, Wave, Capture, Picture, TooLarge, NoMemory, ReadFailed, WriteFailed}
 
--- the page of at most so many bytes, or why there is none
+-- the page of at most this many bytes, or why there is none
 abbrev pub GivesPaper : ℕ → Bool → Result Paper CliFault → List ℕ → Type 0
 GivesPaper limit lower (Ok paper) bytes = (length bytes ≤ limit) × IsPage (raw_inputs lower bytes) paper
 GivesPaper limit lower (Err TooLarge) bytes = limit < length bytes
@@ -22,6 +22,7 @@ GivesPaper limit lower (Err (Script fault)) bytes = ⊥
 GivesPaper limit lower (Err (Trace fault)) bytes = ⊥
 GivesPaper limit lower (Err (Wave fault)) bytes = ⊥
 GivesPaper limit lower (Err (Capture fault)) bytes = ⊥
+GivesPaper limit lower (Err (Picture fault)) bytes = ⊥
 
 -- with the paper its end was read
 abbrev pub HasReadAll : Option (List ℕ) → Result Paper CliFault → Type 0

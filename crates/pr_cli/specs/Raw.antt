@@ -12,7 +12,8 @@ use Rattle.pr_cli.specs.Formats.{text_in}
 use Rattle.pr_input.specs.PartlyWritten.{AppendsFront}
 use Rattle.pr_render.specs.declared.format.Format.{Format}
 use Rattle.pr_cli.specs.declared.fault.CliFault.{CliFault}
-use Rattle.pr_cli.specs.declared.fault.CliFault.TheVariants.{Script, Trace, Wave, Capture, TooLarge, NoMemory, ReadFailed, WriteFailed}
+use Rattle.pr_cli.specs.declared.fault.PictureFault.{PictureFault}
+use Rattle.pr_cli.specs.declared.fault.CliFault.TheVariants.{Script, Trace, Wave, Capture, Picture, TooLarge, NoMemory, ReadFailed, WriteFailed}
 
 -- the most bytes: a printer takes at most 2^32 inputs, and the selection of a set is one of them
 abbrev pub raw_limit : ℕ
@@ -34,7 +35,13 @@ printed_on paper = record { paper4 = paper; paper5 = empty_paper; statuses = [];
 pub record IsRawText (lower : Bool) (format : Format) (bytes text : List ℕ) : Type 0 where
   pub paper : Paper
   pub is_page : IsPage (raw_inputs lower bytes) paper
-  pub is_text : text ≡ text_in format four_alone (printed_on paper)
+  pub is_text : text_in format four_alone (printed_on paper) ≡ Ok text
+
+-- the page of these bytes can not be shown in this format
+pub record IsRawUnshown (lower : Bool) (format : Format) (bytes : List ℕ) (fault : PictureFault) : Type 0 where
+  pub paper : Paper
+  pub is_page : IsPage (raw_inputs lower bytes) paper
+  pub is_unshown : text_in format four_alone (printed_on paper) ≡ Err fault
 
 -- the answer, by the bytes and by what the writer held before and after
 abbrev pub AnswersRaw : Bool → Format → List ℕ → Option (List ℕ) → Option (List ℕ) → Result (Unit {0}) CliFault → Type 0
@@ -44,6 +51,8 @@ AnswersRaw lower format bytes old new (Err (Script fault)) = ⊥
 AnswersRaw lower format bytes old new (Err (Trace fault)) = ⊥
 AnswersRaw lower format bytes old new (Err (Wave fault)) = ⊥
 AnswersRaw lower format bytes old new (Err (Capture fault)) = ⊥
+AnswersRaw lower format bytes old new (Err (Picture fault)) =
+    (length bytes ≤ raw_limit) × IsRawUnshown lower format bytes fault × Keeps old new
 AnswersRaw lower format bytes old new (Err TooLarge) = (raw_limit < length bytes) × Keeps old new
 AnswersRaw lower format bytes old new (Err NoMemory) = Keeps old new
 AnswersRaw lower format bytes old new (Err ReadFailed) = Keeps old new

@@ -26,7 +26,7 @@ use Rattle.pr_cli.specs.Check.{trace_limit}
 use Rattle.pr_cli.specs.FrameText.{frame_lines}
 use Rattle.pr_input.specs.PartlyWritten.{AppendsFront}
 use Rattle.pr_cli.specs.declared.fault.CliFault.{CliFault}
-use Rattle.pr_cli.specs.declared.fault.CliFault.TheVariants.{Script, Trace, Wave, Capture, TooLarge, NoMemory, ReadFailed, WriteFailed}
+use Rattle.pr_cli.specs.declared.fault.CliFault.TheVariants.{Script, Trace, Wave, Capture, Picture, TooLarge, NoMemory, ReadFailed, WriteFailed}
 
 -- What an input says.
 
@@ -53,6 +53,26 @@ pub record Says (input : TraceInput) (text : List ℕ) (edges : List Edge) (faul
   pub samples : List Edge
   pub are_samples : SaysSamples input input.source text samples fault
   pub are_edges : edges ≡ edges_made input.source input.start samples
+
+-- a fault of an input itself: of its text, not of its edges, of memory or of reading
+abbrev pub IsOwnFault : CliFault → Type 0
+IsOwnFault (Trace (trace.BadLine n)) = Unit {0}
+IsOwnFault (Capture capture.NoMemory) = ⊥
+IsOwnFault (Capture fault) = Unit {0}
+IsOwnFault _ = ⊥
+
+-- a fault of reading, or want of memory
+abbrev pub IsNoReading : CliFault → Type 0
+IsNoReading TooLarge = Unit {0}
+IsNoReading NoMemory = Unit {0}
+IsNoReading ReadFailed = Unit {0}
+IsNoReading _ = ⊥
+
+-- a text of at most this many bytes says these edges, or more bytes say them and then have this fault
+pub record SaysWhole (limit : ℕ) (input : TraceInput) (edges : List Edge) (fault : Option CliFault)
+    (text : List ℕ) : Type 0 where
+  pub says : Says input text edges fault
+  pub short : fault ≡ None → length text ≤ limit
 
 -- What is written.
 
@@ -113,6 +133,7 @@ AnswersReport input r text old new (Err (Trace fault)) = WritesReport input r te
 AnswersReport input r text old new (Err (Wave fault)) =
     (length text ≤ trace_limit) × WritesReport input r text (Some (Wave fault)) old new
 AnswersReport input r text old new (Err (Capture fault)) = WritesReport input r text (Some (Capture fault)) old new
+AnswersReport input r text old new (Err (Picture fault)) = ⊥
 AnswersReport input r text old new (Err TooLarge) = (trace_limit < length text) × Keeps old new
 AnswersReport input r text old new (Err NoMemory) = Keeps old new
 AnswersReport input r text old new (Err ReadFailed) = Keeps old new
@@ -140,6 +161,7 @@ ReadsAll r left (Err _) = Unit {0}
 -- a fault of an input: never one of a script; want of memory is always `NoMemory` itself
 abbrev pub IsReportFault : CliFault → Type 0
 IsReportFault (Script fault) = ⊥
+IsReportFault (Picture fault) = ⊥
 IsReportFault (Trace trace.NoMemory) = ⊥
 IsReportFault (Wave wave.NoMemory) = ⊥
 IsReportFault (Capture capture.NoMemory) = ⊥

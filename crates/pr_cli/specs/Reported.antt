@@ -15,15 +15,14 @@ use Rattle.pr_report.specs.declared.report.Report.{Report}
 use Rattle.pr_report.specs.declared.report.Report.TheVariants as report
 use Rattle.pr_capture.specs.declared.format.TraceInput.{TraceInput}
 use Rattle.pr_cli.specs.FrameText.{frame_line}
-use Rattle.pr_cli.specs.Inputs.{EndsReading, SaysWhole}
-use Rattle.pr_cli.specs.Report.{refusal, IsReport, IsWhole}
-use Rattle.pr_cli.specs.Sources.{IsOwnFault}
+use Rattle.pr_cli.specs.EdgesTaken.{EndsReading}
+use Rattle.pr_cli.specs.Report.{SaysWhole, refusal, IsReport, IsWhole, IsOwnFault}
 use Rattle.pr_input.specs.PartlyWritten.{AppendsFront}
 use Rattle.pr_cli.specs.declared.reporter.FrameReporter.{FrameReporter}
 use Rattle.pr_cli.specs.declared.reporter.ReportText.{ReportText}
 use Rattle.pr_cli.specs.declared.input_reader.InputReader.{InputReader}
 use Rattle.pr_cli.specs.declared.fault.CliFault.{CliFault}
-use Rattle.pr_cli.specs.declared.fault.CliFault.TheVariants.{Script, Trace, Wave, Capture, TooLarge, NoMemory, ReadFailed, WriteFailed}
+use Rattle.pr_cli.specs.declared.fault.CliFault.TheVariants.{Script, Trace, Wave, Capture, Picture, TooLarge, NoMemory, ReadFailed, WriteFailed}
 
 -- a fault of a trace, itself or of its edges
 abbrev pub IsTraceFault : CliFault → Type 0
@@ -43,7 +42,7 @@ abbrev pub lines_of_frames : Report → List TimedFrame → List ℕ
 lines_of_frames report.Frames fs = flat_map (λ f. frame_line (frame_told f)) fs
 lines_of_frames report.Story fs = story_lines false fs
 
--- the last of frames is a data byte, or stands before them
+-- the last of frames is a data byte, or comes before them
 abbrev pub data_behind : (behind_data : Bool) → List TimedFrame → Bool
 data_behind behind_data [] = behind_data
 data_behind behind_data (f ∷ fs) = data_behind (is_data f.sending) fs
@@ -116,7 +115,7 @@ pub record IsReportOf (limit : ℕ) (input : TraceInput) (report : Report) (text
   pub says : SaysWhole limit input edges own text
   pub ends : EndsReport report edges own t
 
--- the report on an input of at most so many bytes, or why there is none
+-- the report on an input of at most this many bytes, or why there is none
 abbrev pub GivesReport : ℕ → TraceInput → Report → Result ReportText CliFault → List ℕ → Type 0
 GivesReport limit input report (Ok t) text = IsReportOf limit input report text t
 GivesReport limit input report (Err TooLarge) text = limit < length text
@@ -127,6 +126,7 @@ GivesReport limit input report (Err (Script fault)) text = ⊥
 GivesReport limit input report (Err (Trace fault)) text = ⊥
 GivesReport limit input report (Err (Wave fault)) text = ⊥
 GivesReport limit input report (Err (Capture fault)) text = ⊥
+GivesReport limit input report (Err (Picture fault)) text = ⊥
 
 -- so far as its end was read
 abbrev pub HasReadAll : Option (List ℕ) → Result ReportText CliFault → Type 0

@@ -1,11 +1,8 @@
 -- Linking words, for proofs: what a reader of a trace in any format has given, and which edges were made of it. No reader needs to
 -- believe them.
-use Rattle.std.specs.Prelude.{◌≡◌, ◌⊎◌, ℕ, List, [], ◌∷◌, ◌++◌, Option, Some, None, Result, Ok, Err}
-use Rattle.std.specs.Option.{option_to_list}
+use Rattle.std.specs.Prelude.{◌≡◌, ℕ, List, ◌++◌, Option, Some, None}
 use Rattle.pr_wire.specs.declared.Edge.{Edge}
-use Rattle.pr_wire.specs.declared.text.TraceFault.TheVariants as trace
 use Rattle.pr_wire.specs.TraceReading as text
-use Rattle.pr_capture.specs.declared.fault.CaptureFault.TheVariants as capture
 use Rattle.pr_capture.specs.declared.edge_detector.EdgeDetector.{EdgeDetector}
 use Rattle.pr_capture.specs.CsvSteps as csv
 use Rattle.pr_capture.specs.VcdSteps as vcd
@@ -18,7 +15,6 @@ use Rattle.pr_cli.specs.declared.edge_maker.EdgeMaker.{EdgeMaker}
 use Rattle.pr_cli.specs.declared.source_reader.SourceReader.{SourceReader}
 use Rattle.pr_cli.specs.declared.source_reader.SourceReader.TheVariants as reader
 use Rattle.pr_cli.specs.declared.fault.CliFault.{CliFault}
-use Rattle.pr_cli.specs.declared.fault.CliFault.TheVariants.{Trace, Capture, NoMemory}
 
 -- Readers.
 
@@ -33,32 +29,6 @@ abbrev pub HasGiven : TraceInput → (text : List ℕ) → (samples : List Edge)
 HasGiven input t samples (reader.Text r) = (input.source ≡ source.Text) × text.HasReadTrace t samples r
 HasGiven input t samples (reader.Vcd r) = (input.source ≡ source.Vcd) × vcd.HasReadDump input.signals t samples r
 HasGiven input t samples (reader.Csv r) = (input.source ≡ source.Csv) × csv.HasReadTable input.signals t samples r
-
--- the reader has taken these bytes too, behind whatever it had taken, and has given this sample, if it gives one
-abbrev pub GivesMore : (bytes : List ℕ) → Option Edge → (old new : SourceReader) → Type 0
-GivesMore bytes sample old new = (input : TraceInput) (t : List ℕ) (samples : List Edge) → HasGiven input t samples old
-    → HasGiven input (t ++ bytes) (samples ++ option_to_list sample) new
-
--- a fault of an input itself
-abbrev pub IsOwnFault : CliFault → Type 0
-IsOwnFault (Trace (trace.BadLine n)) = Unit {0}
-IsOwnFault (Capture capture.NoMemory) = ⊥
-IsOwnFault (Capture fault) = Unit {0}
-IsOwnFault _ = ⊥
-
--- a fault is want of memory, or that of every input that goes on so
-abbrev pub RefusesInput : (bytes : List ℕ) → (old : SourceReader) → CliFault → Type 0
-RefusesInput bytes old f = (f ≡ NoMemory) ⊎ (IsOwnFault f
-    × ((input : TraceInput) (t : List ℕ) (samples : List Edge) → HasGiven input t samples old
-    → (more : List ℕ) → SaysSamples input input.source ((t ++ bytes) ++ more) samples (Some f)))
-
--- what a reader answers at the input's end
-abbrev pub EndsInput : SourceReader → Result (Option Edge) CliFault → Type 0
-EndsInput r (Ok sample) = (input : TraceInput) (t : List ℕ) (samples : List Edge) → HasGiven input t samples r
-    → SaysSamples input input.source t (samples ++ option_to_list sample) None
-EndsInput r (Err f) = (f ≡ NoMemory) ⊎ (IsOwnFault f
-    × ((input : TraceInput) (t : List ℕ) (samples : List Edge) → HasGiven input t samples r
-    → SaysSamples input input.source t samples (Some f)))
 
 -- whatever follows the text that a reader has taken, the samples that it has given come first
 abbrev pub GivenSamplesComeFirst : Type 0
@@ -83,17 +53,7 @@ HasGathered input samples edges (Some g) =
     × gathering.HasGathered input.start samples edges g
 
 abbrev pub HasMade : TraceInput → (samples edges : List Edge) → EdgeMaker → Type 0
-HasMade input samples edges m = HasGathered input samples edges m.gatherer
-
--- with a sample more comes this edge, if any
-abbrev pub MakesMore : Edge → EdgeMaker → Option Edge → EdgeMaker → Type 0
-MakesMore sample old e new = (input : TraceInput) (samples edges : List Edge) → HasMade input samples edges old
-    → HasMade input (samples ++ sample ∷ []) (edges ++ option_to_list e) new
-
--- and at the end of the samples
-abbrev pub MakesAll : EdgeMaker → Option Edge → Type 0
-MakesAll m e = (input : TraceInput) (samples edges : List Edge) → HasMade input samples edges m
-    → edges ++ option_to_list e ≡ edges_made input.source input.start samples
+HasMade input samples edges m = HasGathered input samples edges m.detector
 
 -- whatever samples follow those that a maker has taken, the edges that it has given come first
 abbrev pub MadeEdgesComeFirst : Type 0

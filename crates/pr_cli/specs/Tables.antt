@@ -1,4 +1,4 @@
--- Linking words, for proofs: short texts that stand ready in a list. No reader needs to believe them.
+-- Linking words, for proofs: short texts that are ready in a list. No reader needs to believe them.
 use Rattle.std.specs.Prelude.{◌≡◌, ℕ, ◌<◌, List, ◌++◌, decimal, slice_index_or}
 
 -- at each place below count, the number of that place in decimal between two texts

@@ -1,7 +1,8 @@
 //! The edges of an input in any format.
 
 ghost use Rattle.std.specs.Prelude.{[]};
-ghost use Rattle.pr_cli.specs.Sources.{HasMade, MadeEdgesComeFirst, MakesAll, MakesMore};
+ghost use Rattle.pr_cli.specs.Sources.{HasMade, MadeEdgesComeFirst};
+ghost use Rattle.pr_cli.specs.InputReads.{MakesAll, MakesMore};
 
 use pr_capture::{EdgeDetector, Source, TraceInput, given_edges_come_first};
 use pr_wire::Edge;
@@ -11,7 +12,7 @@ use pr_wire::Edge;
 #[derive(Drop)]
 pub struct EdgeMaker {
     /// Makes edges of samples; None where the input has edges.
-    gatherer: Option<EdgeDetector>,
+    detector: Option<EdgeDetector>,
 }
 
 impl EdgeMaker {
@@ -19,11 +20,11 @@ impl EdgeMaker {
     pub fn new(input: TraceInput<'_>) -> EdgeMaker
         ensures { HasMade input.entry [] [] result }
     {
-        let gatherer = match input.source {
+        let detector = match input.source {
             Source::Text => None,
             Source::Vcd | Source::Csv => Some(EdgeDetector::new(input.start)),
         };
-        EdgeMaker { gatherer }
+        EdgeMaker { detector }
     }
 
     /// Takes the next sample, or the next edge of an input that has edges, and gives the edge that is
@@ -31,8 +32,8 @@ impl EdgeMaker {
     pub fn take(&mut self, sample: Edge) -> Option<Edge>
         ensures { MakesMore sample self.old result self.new }
     {
-        match &mut self.gatherer {
-            Some(gatherer) => gatherer.take(sample),
+        match &mut self.detector {
+            Some(detector) => detector.take(sample),
             None => Some(sample),
         }
     }
@@ -41,8 +42,8 @@ impl EdgeMaker {
     pub fn finish(self) -> Option<Edge>
         ensures { MakesAll self result }
     {
-        match self.gatherer {
-            Some(gatherer) => gatherer.finish(),
+        match self.detector {
+            Some(detector) => detector.finish(),
             None => None,
         }
     }

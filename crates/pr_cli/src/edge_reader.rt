@@ -1,7 +1,8 @@
 //! The edges of an input in any format, block by block.
 
-ghost use Rattle.std.specs.Prelude.{◌≡◌, ◌+◌, ◌^◌, ◌<◌, ◌≤◌, [], length, is_none, IfOk, None, OnOk};
-ghost use Rattle.pr_cli.specs.Inputs.{AddsLast, AddsSample, EndsSource, GivesBlock, GivesEdges, HasEdges, SaysAll, edges_in, fault_in, lines_taken};
+ghost use Rattle.std.specs.Prelude.{◌≡◌, ◌+◌, ◌^◌, ◌<◌, ◌≤◌, [], length, is_none, IfOk, None, OnErr, OnOk, Some};
+ghost use Rattle.pr_cli.specs.Inputs.{AddsLast, AddsSample, EndsSource, GivesBlock, HasEdges, edges_in, fault_in, lines_taken};
+ghost use Rattle.pr_cli.specs.InputReads.{GivesEdges, SaysAll};
 ghost use Rattle.pr_cli.specs.Sources.{lines_read};
 
 use crate::edge_maker::EdgeMaker;
@@ -72,21 +73,33 @@ impl<'a> EdgeReader<'a> {
     ///
     /// # Errors
     ///
-    /// `AllocError` where memory was refused.
+    /// `AllocError` where memory was refused. The reader then has no edges, and takes no other block: its fault
+    /// is [`CliFault::NoMemory`].
     pub fn take_block(&mut self, block: &[u8]) -> Result<bool, AllocError>
         // the caller's part
         requires open { fault_in self.old ≡ None }
         requires lines { lines_taken self.old + length block.now + 1 < 2 ^ 64 }
         // what it gives
+        ensures known { OnOk result (GivesEdges block.now self.old self.new) }
         ensures goes_on { IfOk result (λ goes_on. goes_on ≡ is_none (fault_in self.new)) }
         ensures lines { OnOk result (lines_taken self.new ≤ lines_taken self.old + length block.now) }
         ensures few { OnOk result (length (edges_in self.new) ≤ length block.now) }
-        // when it refuses, and what that leaves
-        ensures known { OnOk result (GivesEdges block.now self.old self.new) }
+        // what a refusal leaves
+        ensures refused { OnErr result (fault_in self.new ≡ Some CliFault.NoMemory) }
+        ensures none { OnErr result (edges_in self.new ≡ []) }
     {
         self.edges.clear();
-        self.fault = take_samples(&mut self.reader, &mut self.maker, block, &mut self.edges)?;
-        Ok(self.fault.is_none())
+        match take_samples(&mut self.reader, &mut self.maker, block, &mut self.edges) {
+            Ok(fault) => {
+                self.fault = fault;
+                Ok(self.fault.is_none())
+            }
+            Err(refused) => {
+                self.edges.clear();
+                self.fault = Some(CliFault::NoMemory);
+                Err(refused)
+            }
+        }
     }
 
     /// Ends the input, and gives the edges of the last block, with the last of the input after

@@ -9,6 +9,17 @@ use pr_wire::{CheckFault, TraceFault, WaveFault};
 use std::alloc::AllocError;
 use thiserror::Error;
 
+/// Why pages can not be shown.
+#[derive(Clone, Copy, Debug, PartialEq, Eq, Error)]
+pub enum PictureFault {
+    /// There is no such sheet: the printer's pages have this many.
+    #[error("no such sheet")]
+    NoSuchSheet(u64),
+    /// The document would be longer than a PDF document can be: 9,999,999,999 bytes.
+    #[error("document too large")]
+    TooLarge,
+}
+
 /// Why a run of the program wrote no text, or not all of it.
 #[derive(Clone, Copy, Debug, PartialEq, Eq, Error)]
 pub enum CliFault {
@@ -25,6 +36,9 @@ pub enum CliFault {
     /// The recording can not be read, with the line where. It is never want of memory.
     #[error(transparent)]
     Capture(CaptureFault),
+    /// The pages can not be shown in this format.
+    #[error(transparent)]
+    Picture(PictureFault),
     /// The input is larger than the limit.
     #[error("input too large")]
     TooLarge,
@@ -88,6 +102,16 @@ impl From<CaptureFault> for CliFault {
             CaptureFault::NoMemory => CliFault::NoMemory,
             refusal => CliFault::Capture(refusal),
         }
+    }
+}
+
+impl From<PictureFault> for CliFault {
+    ghost use Rattle.pr_cli.specs.declared.fault.CliFault.TheVariants.{Picture};
+
+    ghost from_gives = { λ e f. f ≡ Picture e };
+
+    fn from(e: PictureFault) -> CliFault {
+        CliFault::Picture(e)
     }
 }
 

@@ -1,7 +1,9 @@
 //! The edges of an input in any format, read block by block.
 
-ghost use Rattle.std.specs.Prelude.{◌≡◌, ◌+◌, ◌^◌, ◌<◌, ◌≤◌, ◌↔◌, ℕ, List, Option, [], false, true, length, IfErr, IfOk, IsErrOf, None, OnOk};
-ghost use Rattle.pr_cli.specs.Inputs.{EachTextSaysEdges, EndsInputs, HasReadEdges, IsNoReading, IsTooLong, ReadEdgesComeFirst, ReadsEdges, StopsWell, bytes_left, edges_read, fault_read, lines_ahead};
+ghost use Rattle.std.specs.Prelude.{◌≡◌, ◌+◌, ◌^◌, ◌<◌, ◌≤◌, ◌↔◌, ℕ, List, Option, [], false, true, length, IfErr, IfOk, IsErrOf, None, OnOk, Some};
+ghost use Rattle.pr_cli.specs.Inputs.{EachTextSaysEdges, HasReadEdges, ReadEdgesComeFirst, bytes_left, edges_read, fault_read, lines_ahead};
+ghost use Rattle.pr_cli.specs.InputReads.{EndsInputs, IsTooLong, ReadsEdges, StopsWell};
+ghost use Rattle.pr_cli.specs.Report.{IsNoReading};
 ghost use Rattle.pr_input.specs.Watched.{has_failed, wrapped};
 
 use crate::edge_maker::made_edges_come_first;
@@ -62,7 +64,7 @@ impl<'a> InputReader<'a> {
     ///
     /// - [`CliFault::ReadFailed`] exactly if the read has failed.
     /// - [`CliFault::TooLarge`]: only if the input has more bytes than the limit.
-    /// - [`CliFault::NoMemory`]: memory was refused.
+    /// - [`CliFault::NoMemory`]: memory was refused. The reader then has this fault, and reads no other block.
     pub fn read_block<R: Read>(
         &mut self,
         input: &mut Watched<R>,
@@ -80,10 +82,11 @@ impl<'a> InputReader<'a> {
         ensures few { OnOk result (length (edges_read self.new) + bytes_left self.new ≤ bytes_left self.old) }
         ensures less { IfOk result (λ goes_on. goes_on ≡ true → bytes_left self.new < bytes_left self.old) }
         ensures room { length block.new ≡ length block.old }
-        // faults
+        // when it refuses, and what that leaves
         ensures own { IfErr result IsNoReading }
         ensures large { IsErrOf result CliFault.TooLarge → IsTooLong (R.remaining (wrapped input.old)) self.old }
         ensures failed { IsErrOf result CliFault.ReadFailed ↔ (has_failed input.new ≡ true) }
+        ensures refused { IsErrOf result CliFault.NoMemory → fault_read self.new ≡ Some CliFault.NoMemory }
     {
         match input.read(block) {
             Err(_) => Err(CliFault::ReadFailed),

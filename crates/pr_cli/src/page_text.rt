@@ -1,7 +1,7 @@
 //! Page texts.
 //!
 //! A page text has about twelve bytes for each byte that is printed, so what is added for a mark
-//! stands ready in tables of short texts.
+//! is ready in tables of short texts.
 
 ghost use Rattle.std.specs.Prelude.{◌≡◌, ◌+◌, ◌≤◌, [], ◌++◌, codes, decimal, drop, flat_map, length, take, vec_len, OnOk, IfOk, IfSome, MatchOption};
 ghost use Rattle.pr_cli.specs.PageText.{end_text, held_text, mark_text, mark_words, numbers_text, page_text, paper_text, row_text, stop_text, word_if};
@@ -100,7 +100,7 @@ impl Texts {
         })
     }
 
-    /// The rest of a mark's line, if it stands in a table.
+    /// The rest of a mark's line, if it is in a table.
     #[inline(always)]
     fn mark_end(&self, mark: Mark) -> Option<&ShortText>
         ensures { IfSome result (λ end. end.now ≡ mark_words mark ++ codes "\n") }
@@ -123,7 +123,7 @@ impl Texts {
         }
     }
 
-    /// Puts the line of a mark into a block behind its first bytes, and says how many these are
+    /// Puts the line of a mark into a block after its first bytes, and says how many these are
     /// then; None, and the block as it was, for a mark whose line is in no table.
     #[inline(always)]
     #[tactic(auto, unfolding(crate::specs::PageText::mark_text))]
@@ -222,7 +222,7 @@ impl Texts {
         self.push_held(text, paper.held.as_slice())
     }
 
-    /// Adds the lines of rows, and lets go each row whose lines stand there.
+    /// Adds the lines of rows, and lets go each row whose lines are there.
     fn move_rows(&self, text: &mut Text, rows: Vec<Row>) -> Result<(), AllocError>
         ensures { OnOk result (text.new ≡ text.old ++ flat_map row_text rows.items) }
     {
@@ -255,7 +255,7 @@ impl Texts {
         text.add(b"\n")
     }
 
-    /// Adds what stands behind the printers: the statuses, the bytes of the screen and the stop.
+    /// Adds what follows the printers: the statuses, the bytes of the screen and the stop.
     #[tactic(auto, unfolding(crate::specs::PageText::end_text))]
     fn push_end(
         &self,
@@ -317,7 +317,7 @@ pub fn pages_text(alloc: Global, outcome: &Outcome) -> Result<Vec<u8>, NoMemory>
     text.into_vec()
 }
 
-/// The page text of an outcome, in blocks. Each row is let go when its lines stand there, so the
+/// The page text of an outcome, in blocks. Each row is let go when its lines are there, so the
 /// text takes the place of the marks.
 #[tactic(auto, unfolding(crate::specs::PageText::page_text))]
 pub(crate) fn text_from(alloc: Global, outcome: Outcome) -> Result<Text, NoMemory>

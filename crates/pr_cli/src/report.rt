@@ -3,8 +3,8 @@
 ghost use Rattle.std.specs.Prelude.{◌≡◌, ◌+◌, ◌^◌, ◌<◌, ◌≤◌, ◌↔◌, length, false, true, None, Some, IfErr, IfOk, IfSome, IsErrOf, OnErr, OnOk};
 ghost use Rattle.pr_report.specs.declared.report.Report.{Report};
 ghost use Rattle.pr_cli.specs.Check.{trace_limit};
-ghost use Rattle.pr_cli.specs.Report.{AnswersReport, IsReportFault, ReadsAll, WritesNoReport};
-ghost use Rattle.pr_cli.specs.Inputs.{IsNoReading, edges_read, lines_ahead};
+ghost use Rattle.pr_cli.specs.Report.{AnswersReport, IsReportFault, ReadsAll, WritesNoReport, IsNoReading};
+ghost use Rattle.pr_cli.specs.Inputs.{edges_read, lines_ahead};
 ghost use Rattle.pr_cli.specs.Reported.{EndsReported, GivesReport, HasReadAll, IsRefused, WritesText, edges_taken};
 ghost use Rattle.pr_input.specs.Watched.{has_failed, is_flushed, wrapped};
 

@@ -102,7 +102,7 @@ impl FrameReporter {
     }
 
     /// Ends the edges of an input with this fault, if it has one: where nothing is refused, `lawful`
-    /// stands behind the lines of their frames.
+    /// is after the lines of their frames.
     pub fn finish(self, own: Option<CliFault>) -> Result<ReportText, AllocError>
         ensures { IfOk result (λ text.
             (report : Report) (edges : List Edge) → HasReported report edges self → EndsReport report edges own text) }
@@ -126,7 +126,7 @@ fn refusal(own: Option<CliFault>, fault: Option<WaveFault>) -> Option<CliFault>
     }
 }
 
-/// Lines, and behind them `lawful` where nothing is refused.
+/// Lines, and after them `lawful` where nothing is refused.
 fn with_last_line(mut lines: Vec<u8>, refused: Option<CliFault>) -> Result<Vec<u8>, AllocError>
     ensures { IfOk result (λ v. v.items ≡ lines.items ++ last_line refused) }
 {

@@ -1,4 +1,4 @@
-//! Short texts that stand ready in tables.
+//! Short texts that are ready in tables.
 
 ghost use Rattle.std.specs.Prelude.{◌≡◌, ◌+◌, ◌≤◌, ◌++◌, decimal, length, take, vec_len, OnOk, IfOk};
 ghost use Rattle.pr_cli.specs.Tables.{HasNumbers};
@@ -51,7 +51,7 @@ impl ShortText {
         text.add_front(&self.bytes, self.len)
     }
 
-    /// Puts the text into a block behind its first bytes, and says how many these are then.
+    /// Puts the text into a block after its first bytes, and says how many these are then.
     #[inline(always)]
     pub fn put(&self, block: &mut [u8], at: usize) -> usize
         requires { at + 16 ≤ length block.old }

@@ -1,7 +1,8 @@
 //! Reading a trace in any format.
 
 ghost use Rattle.std.specs.Prelude.{◌+◌, ◌^◌, ◌<◌, ◌≤◌, [], length, take, IfErr, IfOk, OnOk};
-ghost use Rattle.pr_cli.specs.Sources.{EachTextSaysSamples, EndsInput, GivenSamplesComeFirst, GivesMore, HasGiven, RefusesInput, lines_read};
+ghost use Rattle.pr_cli.specs.Sources.{EachTextSaysSamples, GivenSamplesComeFirst, HasGiven, lines_read};
+ghost use Rattle.pr_cli.specs.InputReads.{EndsInput, GivesMore, RefusesInput};
 
 use crate::fault::CliFault;
 use pr_capture::{CsvReader, Source, TraceInput, VcdReader, given_samples_come_first};

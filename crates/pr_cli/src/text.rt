@@ -1,6 +1,6 @@
 //! A text in blocks.
 //!
-//! A text that stands in one piece has to be moved, or to have room for twice its bytes, as it
+//! A text that is in one piece has to be moved, or to have room for twice its bytes, as it
 //! grows. A block stays where it is, and takes the place of what was let go before.
 //!
 //! Only the page text, the default and the longest, is made in blocks; lines and picture are one
@@ -25,7 +25,7 @@ pub struct Text {
     alloc: Global,
     /// The blocks to which no more is added.
     full: Vec<Vec<u8>>,
-    /// The bytes behind them.
+    /// The bytes after them.
     last: Vec<u8>,
 }
 
@@ -103,7 +103,7 @@ impl Text {
         self.add(buffer.format(n).as_bytes())
     }
 
-    /// Begins a block where the last one has no room for so many bytes more.
+    /// Begins a block where the last one has no room for this many more bytes.
     #[inline(always)]
     fn make_room(&mut self, count: usize) -> Result<(), AllocError>
         ensures { OnOk result (self.new ≡ self.old) }

@@ -1,4 +1,4 @@
-//! Writing a trace in a format, edges behind edges.
+//! Writing a trace in a format, edges after edges.
 
 ghost use Rattle.std.specs.Prelude.{◌≡◌, None, IfOk, OnOk};
 ghost use Rattle.pr_cli.specs.Traced.{edges_in, end_in, format_of, head_in, last_in, last_of};
@@ -7,14 +7,14 @@ use pr_capture::{TraceFormat, VcdWriter, push_vcd_head};
 use pr_wire::{Edge, NoMemory, write_trace};
 use std::alloc::Global;
 
-/// Makes the text of a trace in a format, edges behind edges.
+/// Makes the text of a trace in a format, edges after edges.
 #[derive(Drop)]
 pub enum TraceWriter {
     Text,
     Vcd(VcdWriter),
 }
 
-/// What stands before the edges; nothing in a trace text. It is not empty where there is something.
+/// What comes before the edges; nothing in a trace text. It is not empty where there is something.
 pub fn trace_head(alloc: Global, format: TraceFormat) -> Result<Vec<u8>, NoMemory>
     ensures { IfOk result (λ text. text.items ≡ head_in format) }
 {
@@ -37,7 +37,7 @@ impl TraceWriter {
         }
     }
 
-    /// The text of edges behind those before.
+    /// The text of edges after those before.
     pub fn edges(&mut self, alloc: Global, edges: &[Edge]) -> Result<Vec<u8>, NoMemory>
         ensures text { IfOk result (λ text. text.items ≡ edges_in (format_of self.old) (last_of self.old) edges.now) }
         ensures format { OnOk result (format_of self.new ≡ format_of self.old) }
@@ -53,7 +53,7 @@ impl TraceWriter {
         }
     }
 
-    /// What stands behind the last edge; nothing in a trace text.
+    /// What follows the last edge; nothing in a trace text.
     pub fn end(self, alloc: Global) -> Result<Vec<u8>, NoMemory>
         ensures { IfOk result (λ text. text.items ≡ end_in (format_of self) (last_of self)) }
     {

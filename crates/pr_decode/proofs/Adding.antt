@@ -32,7 +32,7 @@ bits-come (b ∷ bs) l ss n (e, d, h) =
     ∙ (ap (λ x. put_bit (record { low = b.low; high = b.high; down = x }) (bits_from (with_more bs n) (first_low bs l) (tail_of bs l ss))) (sym d)
     ∙ ap (put_bit b) (bits-come bs l ss n h)))
 
--- no bit comes behind them
+-- no bit comes after them
 abbrev pub none_come : ClockPhase → List ClockPhase → Bits
 none_come l ss = record { bits = []; last = l; behind = ss }
 
@@ -40,12 +40,12 @@ onto-none : (bs : List Bit) (l : ClockPhase) (ss : List ClockPhase) → onto bs 
 onto-none [] l ss = refl
 onto-none (b ∷ bs) l ss = ap (put_bit b) (onto-none bs l ss)
 
--- what is said behind the stretches of bits
+-- what is said after the stretches of bits
 behind-bits : (bs : List Bit) (ss : List ClockPhase) → readings (number_of bs) (stretched bs ++ ss) ≡ readings 0 ss
 behind-bits [] ss = refl
 behind-bits (b ∷ bs) ss = behind-bits bs ss
 
--- behind the first pull of CLOCK comes no call, where bits have come, or where none comes behind them
+-- after the first pull of CLOCK comes no call, where bits have come, or where none comes after them
 abbrev pub goes_uncalled : List Bit → List ClockPhase → Bool
 goes_uncalled [] ss = is_called ss
 goes_uncalled (b ∷ bs) ss = false

@@ -127,7 +127,7 @@ keeps-off p q s last e c h k m =
     (kept-begun c e ∙ ap (λ v. began v e) (sym k)) m
     ∙ sym (after-off (transfer_in p s) s last e h)
 
--- the stretches behind an edge that ends one
+-- the stretches after an edge that ends one
 pub off-called : (s : ClockPhase) (last e : Edge) (es : List Edge) (c : Bool) → goes_on s.first last e ≡ false → calls last e ≡ c
     → stretches_from s last (e ∷ es) ≡ s ∷ stretches_from (begun c e) e es
 off-called s last e es c h k = stretches-off s last e es h ∙ ap (λ v. s ∷ stretches_from (begun v e) e es) k

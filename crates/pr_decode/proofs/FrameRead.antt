@@ -21,7 +21,7 @@ use Rattle.pr_decode.proofs.Cutting.{stretches-off, stretches-on}
 use Rattle.pr_decode.proofs.Moving.{acknowledged-gives}
 use Rattle.pr_decode.proofs.DecoderSteps.{off-called, sent}
 
--- the level of DATA with the first pull of CLOCK, and the edges behind that
+-- the level of DATA with the first pull of CLOCK, and the edges after that
 abbrev first_level : List BitTimes → Bool
 first_level [] = true
 first_level (b ∷ bs) = b.level
@@ -174,7 +174,7 @@ bits-said x p o c bs ack more h k n =
 pub record Walk (s : ClockPhase) (last : Edge) (es : List Edge) (said : List Reading) (t : ClockPhase) (at : Edge) : Type 0 where
   pub comes : (more : List Edge) → to_come Waiting s last (es ++ more) ≡ said ++ to_come Waiting t at more
 
--- an edge that begins a stretch behind one with CLOCK pulled
+-- an edge that begins a stretch after one with CLOCK pulled
 pub walk-off : (s : ClockPhase) (last e : Edge) → s.first.levels.clock ≡ false → goes_on s.first last e ≡ false
     → Walk s last (e ∷ []) [] (begun (calls last e) e) e
 walk-off s last e h k = record {
@@ -187,7 +187,7 @@ walk-off s last e h k = record {
 pub walk-on : (s : ClockPhase) (last e : Edge) → goes_on s.first last e ≡ true → Walk s last (e ∷ []) [] (longer s e) e
 walk-on s last e h = record { comes = λ more. ap (readings 0) (stretches-on s last e more h) }
 
--- one walk behind another
+-- one walk after another
 pub walk-both : (s t u : ClockPhase) (a b c : Edge) (es fs : List Edge) (rs qs : List Reading) → Walk s a es rs t b → Walk t b fs qs u c
     → Walk s a (es ++ fs) (rs ++ qs) u c
 walk-both s t u a b c es fs rs qs h k = record {
@@ -196,7 +196,7 @@ walk-both s t u a b c es fs rs qs h k = record {
       ∙ (h.comes (fs ++ more) ∙ (ap (λ l. rs ++ l) (k.comes more) ∙ sym (append_assoc rs qs (to_come Waiting u c more))));
 }
 
--- what stands behind a frame
+-- what follows a frame
 abbrev pub behind_frame : Bool → FrameTimes → ClockPhase
 behind_frame x f = longer (last_low x f.pull f.bits) (edge_at f.ack x false false)
 

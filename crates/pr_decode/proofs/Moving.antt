@@ -240,7 +240,7 @@ high-gives p o bs n l s last e end h u c k es =
     glitch-comes p o bs n l next end h (uncalled-behind bs next (ap is_called (head-of s last (e ∷ es)).is ∙ u)) (c es) (k es)
     ∙ ap (λ x. IncompleteByte (sent o bs l) end ∷ x) (nothing-begins l next (low-opens-nothing l h.pulled))
 
--- what comes behind a low stretch, where the first stretch of it ends no bit
+-- what comes after a low stretch, where the first stretch of it ends no bit
 no-bit : (n : ℕ) (l h : ClockPhase) (ss : List ClockPhase) → ((x : ClockPhase) (xs : List ClockPhase) → ss ≡ x ∷ xs → ends_bit h x ≡ false)
     → bits_from (suc n) l (h ∷ ss) ≡ none_come l (h ∷ ss)
 no-bit n l h [] k = refl

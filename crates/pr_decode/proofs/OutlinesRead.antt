@@ -186,7 +186,7 @@ parts-same (suc n) l (h ∷ x ∷ ss) k =
         (sym (is-released h (k.0 u.0)))
         ∙ sym (ap one q)))
 
--- the stretches behind bits
+-- the stretches after bits
 bits-behind : (n : ℕ) (l : ClockPhase) (ss : List ClockPhase) → AreNext false ss → AreNext false (bits_from n l ss).behind
 bits-behind zero l [] k = k
 bits-behind zero l (h ∷ []) k = k
@@ -200,7 +200,7 @@ bits-behind (suc n) l (h ∷ x ∷ ss) k = by (ends_bit h x) refl (λ q. bits-be
     by true q m = subst (λ v. AreNext false (more_bits n l h x ss v).behind) (sym q) (m q)
     by false q m = subst (λ v. AreNext false (more_bits n l h x ss v).behind) (sym q) k
 
--- the acknowledgement stands where all bits have come
+-- the acknowledgement is where all bits have come
 abbrev twice : ℕ → ℕ
 twice zero = 0
 twice (suc n) = suc (suc (twice n))

@@ -47,13 +47,13 @@ walk-first s last (Some d) look f h k w = by (d == look)
         (edge_at look false true false ∷ frame_edges false f) [] (frame_read false look f ∷ [])
         (walk-on s last e on) (frame-walk false (longer s e) e look f h refl w)
 
--- what stands between two pieces
+-- what is between two pieces
 abbrev Stands : Between → ClockPhase → Edge → Type 0
 Stands (Resting i) s last = last.levels.atn ≡ true
 Stands (Held k) s last = (s.first.levels.clock ≡ false) × (last.levels.atn ≡ true)
 Stands (Loose r) s last = (s.first.levels.clock ≡ false) × (last.levels.atn ≡ true)
 
--- a walk leads to what stands behind it
+-- a walk leads to what follows it
 record Leads (s : ClockPhase) (last : Edge) (es : List Edge) (said : List Reading) (b : Between) : Type 0 where
   to : ClockPhase
   at : Edge
@@ -118,7 +118,7 @@ walk-end s last e h c = by e.line e.clock
       stands = refl;
     }
 
--- a call, by what stands before it
+-- a call, by what comes before it
 called-edge : (b : Between) (a : ℕ) → (v : Bool) × (call_edge b a ≡ edge_at a false false v)
 called-edge (Resting i) a = (true, refl)
 called-edge (Held k) a = (false, refl)

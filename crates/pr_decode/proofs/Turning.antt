@@ -8,7 +8,7 @@ use Rattle.pr_decode.specs.Steps.{acknowledged_in, opened, turned}
 use Rattle.pr_decode.specs.ClockPhases.{ClockPhase, edges_in, longer, begun}
 use Rattle.pr_decode.specs.Taking.{noted}
 
--- the level that DATA turns to next, behind some turns
+-- the level that DATA turns to next, after some turns
 abbrev pub flipped : Bool → List Edge → Bool
 flipped b [] = b
 flipped b (t ∷ ts) = flipped (not b) ts

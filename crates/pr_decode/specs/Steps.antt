@@ -18,7 +18,7 @@ use Rattle.pr_decode.specs.declared.clock_phase.DataTransitions.TheVariants.{Sti
 use Rattle.pr_decode.specs.Readings.{is_late}
 use Rattle.pr_decode.specs.ClockPhases.{calls, goes_on}
 
--- what the number of the next bit counts for, behind so many bits
+-- what the number of the next bit counts for, after this many bits
 abbrev pub weight : ℕ → ℕ
 weight n =
     if n == 0 then 1
@@ -30,7 +30,7 @@ weight n =
     else (if n == 6 then 64
     else 128))))))
 
--- one half more, behind those of so many bits
+-- one half more, after those of this many bits
 abbrev pub widened : (bits : ℕ) → Halves → ℕ → Halves
 widened bits h n =
     if bits == 0 then record { shortest = n; longest = n }
@@ -148,7 +148,7 @@ advanced (Some t) s e = Some (if s.first.levels.clock then with_bit t s.first e 
 abbrev pub moved : Option Transfer → ClockPhase → Edge → Option Transfer
 moved t s e = if calls s.last e then None else advanced t s e
 
--- a decoder behind an edge that goes on with a stretch, or ends it
+-- a decoder after an edge that goes on with a stretch, or ends it
 abbrev pub after : Option Transfer → ClockPhase → Edge → Decoder
 after t s e =
     if goes_on s.first s.last e then record { stretch = Some (with_edge s e); transfer = t }

@@ -31,7 +31,7 @@ abbrev pub first_low : List Bit → ClockPhase → ClockPhase
 first_low [] last = last
 first_low (b ∷ bs) last = b.low
 
--- bits behind one another, and so many bits with others
+-- bits after one another, and this many bits with others
 abbrev pub AreBits : List Bit → ClockPhase → Type 0
 AreBits [] last = Unit {0}
 AreBits (b ∷ bs) last =
@@ -123,12 +123,12 @@ time_in (Some s) = Some s.last.time
 abbrev pub last_time : Decoder → Option ℕ
 last_time d = time_in d.stretch
 
--- a moment stands before another, if there is one
+-- a moment comes before another, if there is one
 abbrev pub StandsBefore : (time : ℕ) → (last : Option ℕ) → Type 0
 StandsBefore t None = ⊥
 StandsBefore t (Some last) = t < last
 
--- an edge stands before the one taken last
+-- an edge comes before the one taken last
 abbrev pub IsBefore : Edge → Decoder → Type 0
 IsBefore e d = StandsBefore e.time (last_time d)
 

@@ -53,7 +53,7 @@ pub struct ClockPhase {
     pub turns: DataTransitions,
 }
 
-/// Whether an edge pulls ATN behind the edge before it.
+/// Whether an edge pulls ATN after the edge before it.
 pub(crate) fn calls(last: Edge, edge: Edge) -> bool
     ensures { result ≡ calls last edge }
 {

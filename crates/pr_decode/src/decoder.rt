@@ -53,7 +53,7 @@ fn whole_end(stretch: &ClockPhase, edge: Edge) -> Option<Ending>
     Some(Ending::Whole(FrameEnd::Acknowledged(time)))
 }
 
-/// How an edge ends a byte that has begun and has so many bits, behind a stretch with CLOCK pulled. Where
+/// How an edge ends a byte that has begun and has this many bits, after a stretch with CLOCK pulled. Where
 /// ATN is pulled before the first bit, it does not.
 #[inline(always)]
 fn low_end(bits: u8, stretch: &ClockPhase, edge: Edge) -> Option<Ending>
@@ -67,7 +67,7 @@ fn low_end(bits: u8, stretch: &ClockPhase, edge: Edge) -> Option<Ending>
     }
 }
 
-/// How an edge ends a byte that has begun, behind a stretch with CLOCK released.
+/// How an edge ends a byte that has begun, after a stretch with CLOCK released.
 #[inline(always)]
 fn high_end(stretch: &ClockPhase, edge: Edge) -> Option<Ending>
     ensures { (transfer : Transfer) → ended_as (Some transfer) result ≡ high_ended transfer stretch.now edge }
@@ -81,7 +81,7 @@ fn high_end(stretch: &ClockPhase, edge: Edge) -> Option<Ending>
     }
 }
 
-/// How an edge ends the byte that has begun, if one has, behind a stretch.
+/// How an edge ends the byte that has begun, if one has, after a stretch.
 #[inline(always)]
 fn ended_now(transfer: &Option<Transfer>, stretch: &ClockPhase, edge: Edge) -> Option<Ending>
     ensures { ended_as transfer.now result ≡ ended_by transfer.now stretch.now edge }
@@ -129,7 +129,7 @@ fn advance(transfer: &mut Option<Transfer>, stretch: &ClockPhase, edge: Edge)
     }
 }
 
-/// Goes on behind a stretch.
+/// Goes on after a stretch.
 #[inline(always)]
 fn go_on(transfer: &mut Option<Transfer>, stretch: &mut ClockPhase, edge: Edge)
     ensures { record { stretch = Some stretch.new; transfer = transfer.new } ≡ after transfer.old stretch.old edge }

@@ -58,7 +58,7 @@ pub struct Transfer {
 /// How a whole byte ends.
 #[derive(Clone, Copy, Debug, PartialEq, Eq)]
 pub enum FrameEnd {
-    /// DATA is pulled behind the last pull of CLOCK, and CLOCK is pulled still: the byte is acknowledged.
+    /// DATA is pulled after the last pull of CLOCK, and CLOCK is pulled still: the byte is acknowledged.
     Acknowledged(u64),
     /// CLOCK is released, or ATN pulled, before that.
     Unacknowledged(u64),
@@ -86,7 +86,7 @@ pub enum Reading {
     IncompleteByte(Transfer, IncompleteEnd),
 }
 
-/// What the number of the next bit counts for, behind so many bits.
+/// What the number of the next bit counts for, after this many bits.
 fn weight(bits: u8) -> u8
     ensures { result ≡ weight bits }
 {
@@ -103,7 +103,7 @@ fn weight(bits: u8) -> u8
 }
 
 impl Halves {
-    /// One half more comes, behind those of so many bits.
+    /// One half more comes, after those of this many bits.
     fn push(&mut self, bits: u8, half: u64)
         ensures { self.new ≡ widened bits self.old half }
     {

@@ -1,3 +1,4 @@
 pub mod Codes
 pub mod Dots
 pub mod Shapes
+pub mod Sheets

@@ -18,7 +18,7 @@ fn printed_as(code: u8) -> u8
     }
 }
 
-/// Where a printed code stands in the tables.
+/// Where a printed code is in the tables.
 fn place_of(printed: u8) -> usize
     requires { printed < 224 }
     ensures place { result ≡ place_of printed }

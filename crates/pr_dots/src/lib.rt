@@ -2,13 +2,16 @@
 //!
 //! - `shapes` has the dots of each character, in tables that `tools/shapes` makes; `codes` says which place of a table a code has.
 //! - `mark_columns` gives the columns of a mark, and `dots` says which dots a paper has.
+//! - `sheets` says how many sheets a paper has, and which rows are on each.
 #![tactic(auto)]
 
 mod codes;
 mod dots;
 mod mark_columns;
 mod shapes;
+mod sheets;
 
 pub use codes::place_of_code;
 pub use dots::has_dot;
 pub use mark_columns::{COLUMNS, columns};
+pub use sheets::{SHEET, is_on, sheets_of};

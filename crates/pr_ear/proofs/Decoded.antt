@@ -33,7 +33,7 @@ pub last-back : (edges : List WireEdge) (given : List Reading) (w : WireDecoder)
     → last_time d ≡ last_moment edges
 last-back edges given w d h k = ap last_time (k ∙ comes-back edges given w h) ∙ h.last
 
--- the moment of the last edge, behind one more
+-- the moment of the last edge, after one more
 pub last-one : (edges : List WireEdge) (e : WireEdge) → last_moment (edges ++ e ∷ []) ≡ Some e.time
 last-one [] e = refl
 last-one (a ∷ []) e = refl
@@ -67,7 +67,7 @@ settled-next law edges given w new e r h k =
     law (map edge_of (edges ++ e ∷ [])) (given ++ option_to_list r) k.decoder k.read
     ∙ ap (λ gs. gs ++ option_to_list r) (sym (law (map edge_of edges) given h.decoder h.read))
 
--- an edge stands before the last in both ways of saying it
+-- an edge comes before the last in both ways of saying it
 same-way : (t : ℕ) (o : Option ℕ) → StandsBefore t o → taking.StandsBefore t o
 same-way t None h = h
 same-way t (Some n) h = h

@@ -47,7 +47,7 @@ turns-alternate level (e ∷ es) = by (same e.levels.line level) refl (turns-alt
     by true k h j = (same-is e.levels.line level k, h)
     by false k h j = j
 
--- one of the edges that are kept, at its level, and none behind them
+-- one of the edges that are kept, at its level, and none after them
 kept-turn : (n k : ℕ) (level : Bool) (e : Edge) → k ≤ n → e.levels.line ≡ level → IsTurn n k level (wire_of e)
 kept-turn n k level e h j = record { kept = λ _. (edge-is e, level-back e.levels.line ∙ j); none = λ less. absurd (omega (arith, less, h)) }
 
@@ -131,7 +131,7 @@ turns-fit s last t =
       begins = λ k. begins-turned level s.first s.rest (sym (level-back s.first.levels.line) ∙ (k ∙ sym odd));
     }
 
--- bits make no greater number than so many can
+-- bits make no greater number than this many can
 bits-few : (bs : List Bool) → byte_of bs < 2 ^ length bs
 bits-few [] = omega arith
 bits-few (true ∷ bs) = omega (arith, bits-few bs, pow-succ' 2 (length bs))
@@ -186,7 +186,7 @@ byte-fits o bs left low h = record {
   none = without-bits bs low;
 }
 
--- ATN was not pulled in the stretch behind the bits
+-- ATN was not pulled in the stretch after the bits
 last-uncalled : (bs : List Bit) (low : ClockPhase) → AreBits bs low → (first_low bs low).attention ≡ false → low.attention ≡ false
 last-uncalled [] low h k = k
 last-uncalled (b ∷ bs) low h k = last-uncalled bs low h.2 (by b.high.attention (first_low bs low).attention (is_none (first_late b.high.first.time (b.high.rest ++ (first_low bs low).first ∷ []))) h.0)

@@ -23,7 +23,7 @@ use Rattle.pr_ear.specs.Buffers.{IsFilled, KeepsOn, laid_over, numbers_with}
 abbrev IsAnswer : Result (Option Input) WaveFault → Result (Option Input) WaveFault → Type 0
 IsAnswer answer wanted = answer ≡ wanted
 
--- a receiver has taken the first edges, and the numbers of the inputs that came with them stand in the buffer
+-- a receiver has taken the first edges, and the numbers of the inputs that came with them are in the buffer
 pub record IsFilling (device : ℕ) (edges : List Edge) (n : ℕ) (receiver : Progress) (k : ℕ) (old new : List ℕ) : Type 0 where
   pub taken : HasReceived (take n edges) receiver
   pub refusal : refusal_of receiver ≡ None

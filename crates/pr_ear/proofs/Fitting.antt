@@ -63,7 +63,7 @@ none-of s e h = record {
   refused = first-number s.refused h.refused;
 }
 
--- one behind an edge as an ear that has accepted some
+-- one after an edge as an ear that has accepted some
 some-of : (s : Standing) (last : Edge) → s.last ≡ Some last → IsBehind last s → HasSome (stored s)
 some-of s last e h =
     let w : stored_last s.last ≡ wire_of last = ap stored_last e in record {
@@ -147,7 +147,7 @@ numbers-of last n h = h.numbers ∙ ap stored_place (sym (place-of last n h))
 pub leads-of : (last : WireEdge) (n : PlaceNumbers) → IsPlace last n → CanLead (edge_of last) (place_by n)
 leads-of last n h = subst (λ q. CanLead (edge_of last) q) (sym (place-of last n h)) h.leads
 
--- an ear that has accepted no edge stands before all edges
+-- an ear that has accepted no edge comes before all edges
 before-of : (ear : Ear) → HasNone ear → IsBefore (standing_by ear)
 before-of ear h = record {
   taken = h.taken;
@@ -156,7 +156,7 @@ before-of ear h = record {
   refused = first-refusal ear.refused h.refused;
 }
 
--- one that has accepted some stands behind the last of them
+-- one that has accepted some is after the last of them
 behind-of : (ear : Ear) → HasSome ear → IsBehind (edge_of ear.last) (standing_by ear)
 behind-of ear h =
     let p = place-of ear.last ear.place h.place in record {
@@ -181,7 +181,7 @@ idle-at : (last : Edge) (p : BusState) → CanLead last p → (stored_place p).p
 idle-at last (Idle i) h k j = ap (λ t. Idle t) (h.0 ∙ j)
 idle-at last p h k j = absurd (omega (arith, k))
 
--- behind more edges there is room for one more, with as many microseconds
+-- after more edges there is room for one more, with as many microseconds
 far-behind : (last : Edge) (s : Standing) (e : Edge) (t : Step) → IsBehind last s → last.time < e.time → by_row s.place e ≡ Ok t → s.taken + 99 ≤ e.time
 far-behind last s e t h later r = by (s.taken == 1) refl
   where
@@ -289,7 +289,7 @@ refused-later : (r : Refusal) (n : ℕ) (f : EdgeError) → refusal_at r n ≡ f
 refused-later Start n f h = not-first f n (sym h)
 refused-later (Flawed g) n f h = tt
 
--- a standing before all edges, or behind some, that refuses one
+-- a standing before all edges, or after some, that refuses one
 before-refused : (s : Standing) (r : Refusal) → IsBefore s → IsFirstRefusal (Some r) → IsBefore (record s { refused = Some r })
 before-refused s r h k = record { taken = h.taken; place = h.place; listens = h.listens; refused = k }
 

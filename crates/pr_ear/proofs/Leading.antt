@@ -48,7 +48,7 @@ same-is false false h = refl
 same-is true false h = absurd (let x : false ≡ true = h in cc)
 same-is false true h = absurd (let x : false ≡ true = h in cc)
 
--- an edge stands at its moment
+-- an edge is at its moment
 stands : (t : ℕ) (a b c d l m : Bool) → a ≡ b → c ≡ d → l ≡ m → StandsAt (edge_at t a c l) t b d m
 stands t a b c d l m h k j = (refl, record { atn_is = h; clock_is = k; line_is = j })
 

@@ -37,7 +37,7 @@ calls-on d f x h k =
     always true = refl
     always false = refl
 
--- behind a frame only a device that listens was called
+-- after a frame only a device that listens was called
 called-listens : ListeningAfterOneMore → CalledAfterOneMore → (d : ℕ) → IsDevice d → (before : List Frame) (f : Frame) → CanListen (kept_of d (before ++ f ∷ []))
 called-listens listening called d h before f = record {
   device = h;

@@ -49,7 +49,7 @@ abbrev frame_led : Result Reached WaveFault → Edge → Option Frame
 frame_led (Ok r) e = frame_of_step (step_of r.last r.place r.count e)
 frame_led (Err w) e = None
 
--- behind an edge in its place, the frame that the table says is the one where the edges lead
+-- after an edge in its place, the frame that the table says is the one where the edges lead
 frame-behind : (es : List Edge) (last : Edge) (p : BusState) (before : List Frame) (n : ℕ) (e : Edge)
     → frame_from last p es e ≡ frame_led (reached (record { last = Some last; place = p; before = before; count = n }) es) e
 frame-behind [] last p before n e = by (verdict last p e)
@@ -96,7 +96,7 @@ step-frame device es s e t h k =
     let j : step_of h.come.last h.come.place h.come.count e ≡ Ok t = rw (← h.last, ← h.place, ← h.count) k in
     frame-reached es e ∙ (ap (λ v. frame_led v e) h.leads ∙ ap frame_of_step j)
 
--- behind the first edge none comes for a tenth of a millisecond
+-- after the first edge none comes for a tenth of a millisecond
 pub idle-late : (e : Edge) (s : Step) → by_row (Idle 0) e ≡ Ok s → 100 ≤ e.time
 idle-late e s h = by e.levels.atn e.levels.clock e.levels.line h
   where
@@ -226,7 +226,7 @@ refusal-stays allowed fault device es fs s refusal r h =
 pub stands-of : (device : ℕ) (es : List Edge) (s : Standing) → s.refused ≡ None → HasCome device es s → Stands device es s
 stands-of device es s r h = subst (λ o. CameTo device es s o) r h.came
 
--- the standing behind an accepted edge is one of one edge more
+-- the standing after an accepted edge is one of one edge more
 pub still-accepted : (device : ℕ) (es : List Edge) (old : Standing) (e : Edge) (frame : Option Frame) (mid new : Standing) (t : ℕ) → Accepts device es old e frame mid → t ≡ old.taken + 1
     → new ≡ record { taken = t; last = Some e; place = mid.place; listener = kept_of device (frames_ended es ++ option_to_list frame); refused = mid.refused }
     → HasCome device (es ++ e ∷ []) new

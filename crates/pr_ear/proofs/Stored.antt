@@ -109,7 +109,7 @@ standing-back s h =
     let e = bit-back s.listener.called in
     rw (a, b, c, d, e) refl
 
--- so many bits have been put into a place, and the rest of the byte has the others
+-- this many bits have been put into a place, and the rest of the byte has the others
 pub record HasBits (n : PlaceNumbers) (i : ℕ) (place : BusState) (rest : ℕ) : Type 0 where
   pub seen : List Bool
   pub place_is : place ≡ Bit n.since (sending_by n.sending) (n.eoi == 1) seen (n.bit == 1)

@@ -13,13 +13,13 @@ numbers_with device edges = map number_of (inputs_with device (map edge_of edges
 abbrev pub laid_over : List ℕ → List ℕ → List ℕ
 laid_over numbers old = take (length old) numbers ++ drop (length numbers) old
 
--- the edges are lawful, so many inputs come with them, and the buffer has those that it has room for
+-- the edges are lawful, this many inputs come with them, and the buffer has those that it has room for
 pub record IsFilled (device : ℕ) (edges : List WireEdge) (old new : List ℕ) (n : ℕ) : Type 0 where
   pub lawful : IsLawful (map edge_of edges)
   pub count : n ≡ length (numbers_with device edges)
   pub buffer : new ≡ laid_over (numbers_with device edges) old
 
--- further numbers are laid behind those that were, of which there were so many
+-- further numbers are laid after those that were, of which there were this many
 abbrev pub KeepsOn : ℕ → List ℕ → List ℕ → List ℕ → Type 0
 KeepsOn count more old new =
     (numbers first : List ℕ) → count ≡ length numbers → old ≡ laid_over numbers first → new

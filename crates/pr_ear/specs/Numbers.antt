@@ -26,7 +26,7 @@ abbrev pub wire_of : Edge → WireEdge
 wire_of e = record
     { time = e.time; atn = bit_of e.levels.atn; clock = bit_of e.levels.clock; «data» = bit_of e.levels.line }
 
--- so many bits have come; a byte has no more than eight
+-- this many bits have come; a byte has no more than eight
 abbrev pub few : ℕ → ℕ
 few count = if nat_lt 8 count then 0 else count
 

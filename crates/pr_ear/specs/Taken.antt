@@ -22,12 +22,12 @@ use Rattle.pr_ear.specs.Hearing.{edge_of, IsDevice}
 use Rattle.pr_ear.specs.EarNumbers.{stored_place, CanLead, IsEar}
 use Rattle.pr_ear.specs.Numbers.{standing_by}
 
--- so many edges have come, and no more than microseconds; only behind the first is it otherwise
+-- this many edges have come, and no more than microseconds; only after the first is it otherwise
 abbrev pub HasRoom : Option Edge → BusState → ℕ → Type 0
 HasRoom None place n = n ≡ 0
 HasRoom (Some last) place n = last.time < n → (n ≡ 1) × (place ≡ Idle 0)
 
--- a standing is that of a device behind these edges, each of which was accepted
+-- a standing is that of a device after these edges, each of which was accepted
 pub record Stands (device : ℕ) (edges : List Edge) (s : Standing) : Type 0 where
   pub come : Reached
   pub leads : reached begin edges ≡ Ok come
@@ -53,7 +53,7 @@ IsRight device edges edge (Ok input) = IsAllowed (edges ++ edge ∷ []) × (inpu
 IsRight device edges edge (Err fault) =
     (IsAllowed (edges ++ edge ∷ []) → ⊥) × (fault_of (edges ++ edge ∷ []) ≡ Some fault)
 
--- what comes of an end behind the edges is right
+-- what comes of an end after the edges is right
 abbrev pub IsRightEnd : List Edge → Result (Unit {0}) WaveFault → Type 0
 IsRightEnd edges (Ok done) = IsLawful edges
 IsRightEnd edges (Err fault) = fault_of edges ≡ Some fault
@@ -68,7 +68,7 @@ pub record CanListen (l : Listener) : Type 0 where
   pub device : IsDevice l.device
   pub called : l.called ≡ true → l.listens ≡ true
 
--- at most an edge was refused as no first one; at most one was refused behind others
+-- at most an edge was refused as no first one; at most one was refused after others
 abbrev pub IsFirstRefusal : Option Refusal → Type 0
 IsFirstRefusal (Some (Flawed flaw)) = ⊥
 IsFirstRefusal _ = Unit {0}
@@ -77,7 +77,7 @@ abbrev pub IsLaterRefusal : Option Refusal → Type 0
 IsLaterRefusal (Some Start) = ⊥
 IsLaterRefusal _ = Unit {0}
 
--- a standing before all edges, and one behind some
+-- a standing before all edges, and one after some
 pub record IsBefore (s : Standing) : Type 0 where
   pub taken : s.taken ≡ 0
   pub place : s.place ≡ Idle 0

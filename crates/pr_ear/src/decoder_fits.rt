@@ -30,8 +30,8 @@ fn is_released(level: u8) -> bool
     level != 0
 }
 
-/// Whether an edge is the one of this number at which DATA has turned, to this level, where there are so many; or none
-/// behind them.
+/// Whether an edge is the one of this number at which DATA has turned, to this level, where there are this many; or none
+/// after them.
 fn is_turn(turns: u8, number: u8, level: bool, edge: WireEdge) -> bool
     ensures { result ≡ true ↔ IsTurn turns number level edge }
 {

@@ -73,7 +73,7 @@ pub fn end_decoder(decoder: &WireDecoder) -> DecoderTold
     }
 }
 
-/// What a decoder tells, as numbers.
+/// What a decoder answers, as numbers.
 fn answer(told: DecoderTold) -> Answer
     ensures { result ≡ decoder_answer_of told }
 {

@@ -31,7 +31,7 @@ pub enum EarTold {
     NoEar,
 }
 
-/// What an ear tells, as numbers.
+/// What an ear answers, as numbers.
 #[repr(C)]
 #[derive(Clone, Copy, Debug, PartialEq, Eq)]
 pub struct EarAnswer {
@@ -118,7 +118,7 @@ pub fn first_faults_stay()
     fronts_are_allowed();
 }
 
-/// What an ear tells, as numbers.
+/// What an ear answers, as numbers.
 fn ear_numbers(told: EarTold) -> EarAnswer
     ensures { result ≡ ear_answer_of told }
 {

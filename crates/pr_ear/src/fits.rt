@@ -9,7 +9,7 @@ use crate::{WireEdge, edge_for, is_device};
 use pr_wire::{BusState, ByteRole, Edge};
 
 /// How many microseconds more the last moment has at least than edges were accepted, once there are two: the
-/// second stands at 100 or later.
+/// second is at 100 or later.
 const AHEAD: u64 = 98;
 
 /// Whether an edge has these levels.
@@ -19,7 +19,7 @@ fn has_levels(edge: Edge, atn: bool, clock: bool, line: bool) -> bool
     edge.levels.atn == atn && edge.levels.clock == clock && edge.levels.line == line
 }
 
-/// Whether an edge stands at a moment, and has these levels.
+/// Whether an edge is at a moment, and has these levels.
 fn stands_at(edge: Edge, since: u64, atn: bool, clock: bool, line: bool) -> bool
     ensures { result ≡ true ↔ StandsAt edge since atn clock line }
 {
@@ -44,7 +44,7 @@ fn can_call(edge: Edge, since: u64, pulled: bool) -> bool
     }
 }
 
-/// Whether an edge can lead to the place behind an attention.
+/// Whether an edge can lead to the place after an attention.
 fn can_free(edge: Edge, since: u64, unlistened: bool, released: bool) -> bool
     ensures { result ≡ true ↔ CanLead edge (BusState.Freed since unlistened released) }
 {
@@ -138,7 +138,7 @@ fn has_none(ear: &Ear) -> bool
         && (ear.refused == 0 || ear.refused == 11)
 }
 
-/// Whether so many edges may have come, the last of them at this moment and to a place of this number.
+/// Whether this many edges may have come, the last of them at this moment and to a place of this number.
 fn are_counted(taken: usize, time: u64, place: u8) -> bool
     ensures some { result ≡ true → 0 < taken }
     ensures first { result ≡ true → taken ≡ 1 → (time ≡ 0) × (place ≡ 0) }

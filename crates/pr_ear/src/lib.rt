@@ -44,7 +44,7 @@ use pr_page::Input;
 use pr_receiver::{Receiver, inputs_add_up, traces_give_what_is_heard};
 use pr_wire::{Edge, Levels, WaveFault, allowed_traces, lawful_traces};
 
-/// An edge of a trace: the moment from which on the lines stand at these levels.
+/// An edge of a trace: the moment from which on the lines have these levels.
 #[repr(C)]
 #[derive(Clone, Copy, Debug, PartialEq, Eq)]
 pub struct WireEdge {
@@ -100,7 +100,7 @@ fn edge_for(edge: WireEdge) -> Edge
     }
 }
 
-/// The number that stands for an input.
+/// The number that means an input.
 fn number_for(input: Input) -> u16
     ensures { result ≡ number_of input }
 {
@@ -111,7 +111,7 @@ fn number_for(input: Input) -> u16
     }
 }
 
-/// Puts the number of an input that came, if one did, behind those that came before it, where the
+/// Puts the number of an input that came, if one did, after those that came before it, where the
 /// buffer has room for it. Gives how many have come.
 fn keep(out: &mut [u16], count: usize, input: Option<Input>) -> usize
     requires few { count + 1 < 2 ^ 64 }
@@ -218,7 +218,7 @@ fn plain(code: usize, length: usize) -> Answer
     }
 }
 
-/// What is told, as numbers.
+/// The answer, as numbers.
 fn numbered(told: Told) -> Answer
     ensures { result ≡ answer_of told }
 {

@@ -33,7 +33,7 @@ pub struct PlaceNumbers {
     pub count: u8,
     /// Their number, the lowest bit first; of an acknowledged byte the byte.
     pub byte: u8,
-    /// The bit that stands; in a call whether DATA is pulled, behind an attention whether it is
+    /// The bit that is set; in a call whether DATA is pulled, after an attention whether it is
     /// released.
     pub bit: u8,
     /// 1: the last command of the attention was UNLISTEN.

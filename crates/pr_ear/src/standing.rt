@@ -56,7 +56,7 @@ impl Standing {
         }
     }
 
-    /// Goes on to the place that an edge reaches behind those accepted, and gives the frame that it
+    /// Goes on to the place that an edge reaches after those accepted, and gives the frame that it
     /// ends.
     fn go_on(&mut self, edge: Edge) -> Result<Option<Frame>, Refusal>
         ensures moved { MatchResult (step_of self.old.last self.old.place self.old.taken edge)
@@ -118,7 +118,7 @@ impl Standing {
         }
     }
 
-    /// Whether a trace may end behind the edges given.
+    /// Whether a trace may end after the edges given.
     ///
     /// # Errors
     ///

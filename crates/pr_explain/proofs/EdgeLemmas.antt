@@ -1,7 +1,7 @@
 -- Edges that are followed to the first that is not allowed.
 use Rattle.std.proofs.Common.{◌≡◌, ℕ, ◌+◌, ◌-◌, ◌<◌, ◌≤◌, ◌^◌, Bool, true, false, not, ◌&&◌, ◌||◌, List, [], ◌∷◌, ◌++◌, length, take, drop, refl, ap, subst, sym, ◌∙◌, arith, append_assoc, append-nil, length-append, Option, Some, None, Result, Ok, Err}
 use Rattle.std.specs.Prelude.{◌↔◌, ◌==◌, IsTrue, if◌then◌else◌, nat_lt, slice_index_or}
-use Rattle.std.specs.List.{list_any}
+use Rattle.std.specs.List.{list_all, list_any}
 use Rattle.std.specs.Result.{result_err}
 use Rattle.std.proofs.lemmas.Grind.{common_steps}
 use Rattle.std.proofs.lemmas.List.{take_rest}
@@ -26,7 +26,7 @@ use Rattle.pr_explain.specs.declared.rows.Row.{Row}
 use Rattle.pr_explain.specs.declared.traces.ReadingPlace.{ReadingPlace}
 use Rattle.pr_explain.specs.declared.traces.TracePlace.{TracePlace}
 use Rattle.pr_explain.specs.Followed.{EndsAt, Follows, HasFront}
-use Rattle.pr_explain.specs.Rows.{AreRowsBehind, is_step, takes}
+use Rattle.pr_explain.specs.Rows.{AreRowsBehind, all_lead_apart, has_moment, is_step, takes}
 use Rattle.pr_explain.specs.TracePlaces.{AreRowsAfter, AreStopped, IsPlaceOf, IsPlaceRead, IsReadingPlace, IsTracePlace, StopAfter, StopsAt, fault_line, missed_by, missed_first, row_to}
 
 -- a step is taken
@@ -165,9 +165,9 @@ follows_to edges rest more e f g w allowed is h count first followed refuses =
 
 -- where edges stop of which one is not allowed
 pub stops_at_edge : (whole : Bool) (edges : List Edge) (r : Followed) (e : Refused) (rows : List (Option Row)) (p : EdgePlace) → AllowedIsReached → r.refused ≡ Some e → Follows edges r
-    → ((es : List Edge) (fs : List Frame) → HasAccepted es fs r.follower → AreRowsAfter rows es)
+    → ((es : List Edge) (fs : List Frame) → HasAccepted es fs r.follower → AreRowsAfter rows es) → list_all has_moment rows ≡ true → all_lead_apart rows ≡ true
     → p.index ≡ r.follower.taken → p.fault ≡ e.fault → p.expected ≡ rows → p.missed ≡ missed_by (row_to e.edge.levels rows) e.edge.time → AreStopped whole edges p
-stops_at_edge whole edges r e rows p allowed is h are index fault expected missed =
+stops_at_edge whole edges r e rows p allowed is h are moments apart index fault expected missed =
     let ends : EndsAt edges h.before r.follower (Some e) h.rest = subst (λ o. EndsAt edges h.before r.follower o h.rest) is h.ends in
     record {
       before = h.before;
@@ -178,6 +178,8 @@ stops_at_edge whole edges r e rows p allowed is h are index fault expected misse
       stop = subst (λ l. StopAfter whole h.before l) (sym ends.1) ends.2.refused;
       fault = ends.2.first ∙ ap Some (sym fault);
       expected = subst (λ l. AreRowsAfter l h.before) (sym expected) (are h.before h.frames h.accepted);
+      moments = ap (list_all has_moment) expected ∙ moments;
+      levels = ap all_lead_apart expected ∙ apart;
       missed = missed ∙ (ap (λ l. missed_by (row_to e.edge.levels l) e.edge.time) (sym expected) ∙ ap (λ l. missed_first p.expected l) (sym ends.1));
     }
 
@@ -210,9 +212,9 @@ none_at_end whole edges r v x all is none h gives =
 
 pub stops_at_end : {A : Type 0} (whole : Bool) (edges : List Edge) (r : Followed) (v : Result A WaveFault) (w : WaveFault) (rows : List (Option Row)) (p : EdgePlace) → AllowedIsReached → whole ≡ true → v ≡ Err w
     → r.refused ≡ None → Follows edges r → ((es : List Edge) (fs : List Frame) → HasFollowed es fs r.follower → result_err v ≡ fault_of es)
-    → ((es : List Edge) (fs : List Frame) → HasAccepted es fs r.follower → AreRowsAfter rows es)
+    → ((es : List Edge) (fs : List Frame) → HasAccepted es fs r.follower → AreRowsAfter rows es) → list_all has_moment rows ≡ true → all_lead_apart rows ≡ true
     → p.index ≡ r.follower.taken → p.fault ≡ w → p.expected ≡ rows → p.missed ≡ None → AreStopped whole edges p
-stops_at_end whole edges r v w rows p allowed all is none h gives are index fault expected missed =
+stops_at_end whole edges r v w rows p allowed all is none h gives are moments apart index fault expected missed =
     let ends : EndsAt edges h.before r.follower None h.rest = subst (λ o. EndsAt edges h.before r.follower o h.rest) none h.ends in
     record {
       before = h.before;
@@ -223,6 +225,8 @@ stops_at_end whole edges r v w rows p allowed all is none h gives are index faul
       stop = all;
       fault = sym (fault_at_end edges r v none h gives) ∙ (ap result_err is ∙ ap Some (sym fault));
       expected = subst (λ l. AreRowsAfter l h.before) (sym expected) (are h.before h.frames h.accepted);
+      moments = ap (list_all has_moment) expected ∙ moments;
+      levels = ap all_lead_apart expected ∙ apart;
       missed = missed;
     }
 

@@ -2,9 +2,9 @@
 use Rattle.std.proofs.Common.{◌≡◌, ℕ, List, [], refl, subst, append-nil}
 use Rattle.std.specs.Prelude.{IfSome}
 use Rattle.pr_capture.specs.declared.format.TraceInput.{TraceInput}
-use Rattle.pr_cli.specs.Inputs.{GivesEdges, HasEdges, SaysAll, edges_in}
-use Rattle.pr_cli.specs.Report.{Says}
-use Rattle.pr_cli.specs.Sources.{IsOwnFault}
+use Rattle.pr_cli.specs.Inputs.{HasEdges, edges_in}
+use Rattle.pr_cli.specs.InputReads.{GivesEdges, SaysAll}
+use Rattle.pr_cli.specs.Report.{Says, IsOwnFault}
 use Rattle.pr_cli.specs.declared.edge_reader.EdgeReader.{EdgeReader}
 use Rattle.pr_cli.specs.declared.edge_reader.LastEdges.{LastEdges}
 

@@ -1,4 +1,4 @@
--- The row of a bit that stands, against the table.
+-- The row of a bit that is, against the table.
 use Rattle.std.proofs.Common.{◌≡◌, ◌+◌, ◌++◌, ◌∷◌, [], length, ℕ, Bool, true, false, not, ◌&&◌, ◌||◌, List, Option, Some, None, IfSome, Result, Ok, Err, refl, ap, ◌∙◌, arith, get_or}
 use Rattle.std.specs.Prelude.{if◌then◌else◌, nat_lt}
 use Rattle.pr_wire.specs.declared.bus_state.ByteRole.{ByteRole}
@@ -12,7 +12,8 @@ use Rattle.pr_wire.specs.Table.{atn_of, differ, is_late, same, timed, where_true
 use Rattle.pr_explain.specs.declared.rows.Row.{Row}
 use Rattle.std.specs.List.{list_any}
 use Rattle.pr_wire.specs.declared.Edge.{Edge}
-use Rattle.pr_explain.specs.Rows.{is_step, is_taken, lead_apart, lies, takes}
+use Rattle.pr_explain.specs.Rows.{all_lead_apart, is_step, is_taken, lead_apart, lies, takes}
+use Rattle.pr_explain.specs.Followed.{KeepsLevels}
 
 -- an edge lies in an interval
 abbrev inside : ℕ → ℕ → ℕ → Bool
@@ -45,7 +46,7 @@ tests true true false = refl
 tests true false r = refl
 tests false q r = refl
 
--- the row of a bit that stands takes what the table takes
+-- the row of a bit that is takes what the table takes
 pub bit_row : (c t : ℕ) (s : ByteRole) (eoi : Bool) (seen : List Bool) (b x k l : Bool)
     → lies (record { atn = atn_of s; clock = true; line = b }) (c + 20) (Some (c + 200)) (record { time = t; levels = record { atn = x; clock = k; line = l } }) || false
     ≡ is_taken (Bit c s eoi seen b) (record { time = t; levels = record { atn = x; clock = k; line = l } })
@@ -66,7 +67,7 @@ neither : (p : Bool) → (p && false) || ((p && false) || false) ≡ false
 neither true = refl
 neither false = refl
 
--- the rows behind a bit that is not the last take what the table takes
+-- the rows after a bit that is not the last take what the table takes
 pub high_rows : (u t : ℕ) (s : ByteRole) (eoi : Bool) (seen : List Bool) (b x k l : Bool) → nat_lt (length seen) 7 ≡ true
     → lies (record { atn = atn_of s; clock = false; line = false }) (u + 20) (Some (u + 200)) (record { time = t; levels = record { atn = x; clock = k; line = l } })
     || (lies (record { atn = atn_of s; clock = false; line = true }) (u + 20) (Some (u + 200)) (record { time = t; levels = record { atn = x; clock = k; line = l } }) || false)
@@ -102,7 +103,7 @@ in_order : (f : Bool) (s : Result Step EdgeError) → f && is_step s ≡ is_step
 in_order true s = refl
 in_order false s = refl
 
--- three rows behind the last edge take what the rows do, where the order is kept
+-- three rows after the last edge take what the rows do, where the order is kept
 pub behind_rows : (a b c p q r f : Bool) (s : Result Step EdgeError) → a ≡ p && f → b ≡ q && f → c ≡ r && f → p || (q || (r || false)) ≡ is_step s
     → a || (b || (c || false)) ≡ is_step (if f then s else Err Order)
 behind_rows a b c p q r f s x y z h = rw (x, y, z) (distribute p q r f ∙ (ap (λ t. f && t) h ∙ in_order f s))
@@ -115,3 +116,26 @@ any_of_three (a ∷ []) e h = absurd (omega arith)
 any_of_three (a ∷ b ∷ []) e h = absurd (omega arith)
 any_of_three (a ∷ b ∷ c ∷ []) e h = refl
 any_of_three (a ∷ b ∷ c ∷ d ∷ more) e h = absurd (omega arith)
+
+-- rows that lead where others do, or are none, lead apart as those do
+apart_two : (a b r s : Option Row) → KeepsLevels a r → KeepsLevels b s → lead_apart r s ≡ true → lead_apart a b ≡ true
+apart_two a None r s x y h = refl
+apart_two None (Some b) r s x y h = refl
+apart_two (Some a) (Some b) None s x y h = absurd x
+apart_two (Some a) (Some b) (Some r) None x y h = absurd y
+apart_two (Some a) (Some b) (Some r) (Some s) x y h = rw (x, y) h
+
+-- three rows that lead where three others do, or are none
+pub apart_three : (rows : List (Option Row)) (a b c : Option Row) → length rows ≡ 3 → KeepsLevels a (get_or rows 0 None) → KeepsLevels b (get_or rows 1 None) → KeepsLevels c (get_or rows 2 None)
+    → all_lead_apart rows ≡ true → all_lead_apart (a ∷ b ∷ c ∷ []) ≡ true
+apart_three [] a b c n x y z h = absurd (omega arith)
+apart_three (p ∷ []) a b c n x y z h = absurd (omega arith)
+apart_three (p ∷ q ∷ []) a b c n x y z h = absurd (omega arith)
+apart_three (p ∷ q ∷ r ∷ []) a b c n x y z h = by (lead_apart p q) (lead_apart p r) (lead_apart q r) h (apart_two a b p q x y) (apart_two a c p r x z) (apart_two b c q r y z)
+  where
+    by : (k l m : Bool) → (k && (l && true)) && ((m && true) && (true && true)) ≡ true → (k ≡ true → lead_apart a b ≡ true) → (l ≡ true → lead_apart a c ≡ true) → (m ≡ true → lead_apart b c ≡ true) → all_lead_apart (a ∷ b ∷ c ∷ []) ≡ true
+    by true true true h f g i = rw (f refl, g refl, i refl) refl
+    by true true false h f g i = absurd (cc)
+    by true false m h f g i = absurd (cc)
+    by false l m h f g i = absurd (cc)
+apart_three (p ∷ q ∷ r ∷ s ∷ more) a b c n x y z h = absurd (omega arith)

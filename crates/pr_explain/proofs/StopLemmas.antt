@@ -45,12 +45,12 @@ last_line (b ∷ c ∷ bs) some none =
     let rest : lines_of (c ∷ bs) ≡ (c ∷ bs) ∷ [] = last_line (c ∷ bs) (omega arith) (λ k l. none (suc k) (omega arith)) in
     grind (arith, common_steps)
 
--- and there is none behind it
+-- and there is none after it
 pub only_line : (bs : List ℕ) → 0 < length bs → ((k : ℕ) → k < length bs → get_or bs k 0 ≡ 10 → ⊥) → lines_of bs ≡ bs ∷ lines_of []
 unfolding lines_of
 only_line bs some none = last_line bs some none
 
--- the lines before those that are left have so many statements that this one is left to find
+-- the lines before those that are left have this many statements that this one is left to find
 pub record IsLeft (script : List ℕ) (statement number left : ℕ) (rest : List ℕ) : Type 0 where
   pub before : List (List ℕ)
   pub earlier : List Statement
@@ -185,7 +185,7 @@ error_place script stop statement present items all line p is same d number stan
   cause = cause;
 }
 
--- the device of a statement that stands behind others
+-- the device of a statement that is after others
 pub device_there : (all before rest more : List Statement) (at : Statement) (n : ℕ) (device : Option ℕ) → all ≡ before ++ rest → rest ≡ at ∷ more → length before ≡ n - 1 → 0 < n → device ≡ device_of before at
     → IsDeviceAt all n device
 device_there all before rest more at n device cut is size some of = record {

@@ -1,5 +1,5 @@
--- Linking words, for proofs: how far edges were followed, and the device of a statement. No reader
--- needs to believe them.
+-- Linking words, for proofs: how far edges were followed, the levels of a row, and the device of a
+-- statement. No reader needs to believe them.
 use Rattle.std.specs.Prelude.{◌≡◌, ℕ, suc, ◌+◌, Bool, false, nat_lt, if◌then◌else◌, List, [], ◌∷◌, ◌++◌, length, Option, Some, None}
 use Rattle.pr_wire.specs.declared.Edge.{Edge}
 use Rattle.pr_wire.specs.declared.Frame.{Frame}
@@ -9,7 +9,14 @@ use Rattle.pr_wire.specs.Table.{IsAllowed, fault_of}
 use Rattle.pr_basic.specs.declared.statement.Statement.{Statement}
 use Rattle.pr_explain.specs.declared.edges.Followed.{Followed}
 use Rattle.pr_explain.specs.declared.edges.Refused.{Refused}
+use Rattle.pr_explain.specs.declared.rows.Row.{Row}
 use Rattle.pr_explain.specs.StopPlaces.{device_of}
+
+-- a row leads where another one does, or is none
+abbrev pub KeepsLevels : Option Row → Option Row → Type 0
+KeepsLevels None r = Unit {0}
+KeepsLevels (Some n) None = ⊥
+KeepsLevels (Some n) (Some r) = n.levels ≡ r.levels
 
 -- a follower has accepted the edges before these, and refused none
 pub record HasFront (edges rest : List Edge) (f : TraceFollower) : Type 0 where

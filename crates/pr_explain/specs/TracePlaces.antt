@@ -1,7 +1,7 @@
 -- Trusted: the places that the explanations of traces and of recordings have: the line that cannot
 -- be read, and the edge at which the trace is no longer lawful, or time goes back.
 use Rattle.std.specs.Prelude.{◌≡◌, ◌↔◌, IsTrue, ℕ, ◌+◌, ◌-◌, ◌<◌, ◌≤◌, ◌^◌, nat_lt, Bool, true, false, if◌then◌else◌, List, [], ◌∷◌, ◌++◌, length, take, Option, Some, None}
-use Rattle.std.specs.List.{list_any}
+use Rattle.std.specs.List.{list_all, list_any}
 use Rattle.pr_wire.specs.declared.Edge.{Edge}
 use Rattle.pr_wire.specs.declared.Levels.{Levels}
 use Rattle.pr_wire.specs.declared.text.TraceFault.TheVariants as trace
@@ -12,7 +12,7 @@ use Rattle.pr_capture.specs.declared.format.TraceInput.{TraceInput}
 use Rattle.pr_cli.specs.Report.{Says}
 use Rattle.pr_cli.specs.declared.fault.CliFault.{CliFault}
 use Rattle.pr_cli.specs.declared.fault.CliFault.TheVariants.{Trace, Capture}
-use Rattle.pr_explain.specs.Rows.{takes}
+use Rattle.pr_explain.specs.Rows.{all_lead_apart, has_moment, takes}
 use Rattle.pr_explain.specs.declared.edges.EdgePlace.{EdgePlace}
 use Rattle.pr_explain.specs.declared.rows.Miss.{Miss}
 use Rattle.pr_explain.specs.declared.rows.Miss.TheVariants.{Early, Late}
@@ -55,8 +55,8 @@ abbrev pub StopAfter : (whole : Bool) → (before after : List Edge) → Type 0
 StopAfter whole before [] = IsTrue whole
 StopAfter whole before (e ∷ es) = IsAllowed (before ++ e ∷ []) → ⊥
 
--- where edges stop being lawful: how many are allowed, their first fault, the edges that may
--- follow, and by how much the next one is early or late
+-- where edges stop being lawful: how many are allowed, their first fault, the edges that may follow,
+-- in rows that each have a moment and lead to other levels, and by how much the next misses these
 pub record AreStopped (whole : Bool) (edges : List Edge) (p : EdgePlace) : Type 0 where
   pub before : List Edge
   pub after : List Edge
@@ -66,6 +66,8 @@ pub record AreStopped (whole : Bool) (edges : List Edge) (p : EdgePlace) : Type 
   pub stop : StopAfter whole before after
   pub fault : fault_of edges ≡ Some p.fault
   pub expected : AreRowsAfter p.expected before
+  pub moments : list_all has_moment p.expected ≡ true
+  pub levels : all_lead_apart p.expected ≡ true
   pub missed : p.missed ≡ missed_first p.expected after
 
 -- edges stop being lawful here, or are lawful; if they are not whole, more edges may follow
@@ -82,13 +84,18 @@ capture_line (capture.NoSignal n wire) = Some n
 capture_line (capture.BadWord n) = Some n
 capture_line (capture.NoEnd n) = Some n
 capture_line (capture.NoDefinitions n) = Some n
+capture_line (capture.TwoSignals n wire) = Some n
 capture_line (capture.NoTimescale n) = Some n
+capture_line (capture.BadTimescale n) = Some n
+capture_line (capture.NoTime n) = Some n
 capture_line (capture.BadTime n) = Some n
 capture_line (capture.GoesBack n) = Some n
 capture_line (capture.NoLevel n wire) = Some n
 capture_line (capture.Unknown n) = Some n
 capture_line (capture.Floating n) = Some n
 capture_line (capture.BadLevel n) = Some n
+capture_line capture.WideText = Some 1
+capture_line capture.Archive = Some 1
 capture_line capture.NoMemory = None
 
 -- the line of a fault of an input, from 1

@@ -1,4 +1,4 @@
-//! What can stand at a place of a script.
+//! What can be at a place of a script.
 
 use crate::words::word_at;
 use pr_basic::ScriptFault;
@@ -16,21 +16,21 @@ enum Context {
     List,
 }
 
-/// That no name stands behind an OPEN's secondary address.
+/// That no name follows an OPEN's secondary address.
 const NO_NAME: &str = "a printer's OPEN takes no file name: OPEN file,device,secondary ends here";
 
-/// That no name stands in place of an OPEN's secondary address.
+/// That no name is in place of an OPEN's secondary address.
 const NO_NAME_FOR_SECOND: &str =
     "a secondary address from 0 to 15 stands here; a printer's OPEN takes no file name";
 
-/// That no name stands behind an OPEN's device.
-const NO_NAME_BEHIND_DEVICE: &str =
+/// That no name follows an OPEN's device.
+const NO_NAME_AFTER_DEVICE: &str =
     "a comma and a secondary address, or the end of the OPEN can stand here; a printer's takes no file name";
 
 /// That CHR$ has another number.
 const CODE: &str = "CHR$ has a number from 0 to 255";
 
-/// What can stand behind some bytes of a line, where this is the fault.
+/// What can follow some bytes of a line, where this is the fault.
 pub fn expected_at(before: &[u8], rest: &[u8], fault: ScriptFault) -> &'static str {
     let context = context_of(before);
     match fault {
@@ -44,7 +44,7 @@ pub fn expected_at(before: &[u8], rest: &[u8], fault: ScriptFault) -> &'static s
         },
         ScriptFault::BadDevice(_) => match last_of(before) {
             Some(b',') => "a device from 4 to 30 stands here",
-            _ => "a comma and a device from 4 to 30 stand behind the file",
+            _ => "a comma and a device from 4 to 30 come after the file",
         },
         ScriptFault::BadSecond(_) => match rest {
             [b'"', ..] => NO_NAME_FOR_SECOND,
@@ -60,7 +60,7 @@ pub fn expected_at(before: &[u8], rest: &[u8], fault: ScriptFault) -> &'static s
     }
 }
 
-/// What can stand in a statement, where an unknown word does.
+/// What can be in a statement, where an unknown word does.
 fn expected_in(context: Context, before: &[u8], rest: &[u8]) -> &'static str {
     if context == Context::Start {
         return "OPEN, CMD, PRINT, PRINT#, CLOSE or REM can stand here";
@@ -70,32 +70,32 @@ fn expected_in(context: Context, before: &[u8], rest: &[u8]) -> &'static str {
     }
     match context {
         Context::Start | Context::Open => expected_in_open(before, rest),
-        Context::Close => "the end of the statement stands behind the file",
+        Context::Close => "the statement ends after the file",
         Context::File => "a comma and a list, or the end of the statement can stand here",
         Context::List => expected_in_list(before, rest),
     }
 }
 
-/// What can stand behind the device or the secondary address of an OPEN, where an unknown word
+/// What can follow the device or the secondary address of an OPEN, where an unknown word
 /// does.
 fn expected_in_open(before: &[u8], rest: &[u8]) -> &'static str {
     let has_second = cut_before(before).commas > 1;
     match (has_second, rest) {
         (true, [b',' | b'"', ..]) => NO_NAME,
         (true, _) => "the end of OPEN file,device,secondary stands here",
-        (false, [b'"', ..]) => NO_NAME_BEHIND_DEVICE,
+        (false, [b'"', ..]) => NO_NAME_AFTER_DEVICE,
         (false, _) => "a comma, or the end of OPEN file,device,secondary can stand here",
     }
 }
 
-/// What can stand in a list, where an unknown word does.
+/// What can be in a list, where an unknown word does.
 fn expected_in_list(before: &[u8], rest: &[u8]) -> &'static str {
     match last_of(before) {
-        Some(b'$') => "( stands behind CHR$",
+        Some(b'$') => "( comes after CHR$",
         Some(b'(') => "a number stands here",
-        Some(b'0'..=b'9') => ") stands behind the number",
+        Some(b'0'..=b'9') => ") comes after the number",
         Some(b',') =>
-            "a list stands behind the comma: strings between quotation marks, CHR$(n) and ;",
+            "a list comes after the comma: strings between quotation marks, CHR$(n) and ;",
         _ => match rest {
             [b',', ..] => "; and not , stands between the parts of a list here",
             _ => "a string, CHR$(n) or ; can stand here",
@@ -103,13 +103,13 @@ fn expected_in_list(before: &[u8], rest: &[u8]) -> &'static str {
     }
 }
 
-/// Whether an item of a list can stand behind these bytes of a line.
+/// Whether an item of a list can follow these bytes of a line.
 pub fn takes_item(before: &[u8]) -> bool {
     context_of(before) == Context::List
         && !matches!(last_of(before), Some(b'$' | b'(' | b'0'..=b'9'))
 }
 
-/// Whether a statement can not end behind these bytes of it. In a list a digit belongs to a CHR$
+/// Whether a statement can not end after these bytes of it. In a list a digit belongs to a CHR$
 /// that has begun.
 fn wants_more(context: Context, before: &[u8]) -> bool {
     match last_of(before) {
@@ -127,7 +127,7 @@ fn last_of(bytes: &[u8]) -> Option<u8> {
         .rfind(|byte| *byte != b' ' && *byte != b'\t')
 }
 
-/// The statement behind these bytes of a line.
+/// The statement after these bytes of a line.
 fn context_of(before: &[u8]) -> Context {
     let Before { part, commas, .. } = cut_before(before);
     let front = without_label(part);
@@ -182,7 +182,7 @@ pub fn cut_before(before: &[u8]) -> Before<'_> {
     }
 }
 
-/// What stands behind spaces, tabs and digits.
+/// What follows spaces, tabs and digits.
 fn without_label(part: &[u8]) -> &[u8] {
     for (i, byte) in part.iter().enumerate() {
         if *byte != b' ' && *byte != b'\t' && !byte.is_ascii_digit() {

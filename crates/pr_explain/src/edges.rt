@@ -1,10 +1,12 @@
 //! Where the edges of a trace stop being lawful.
 
-ghost use Rattle.std.specs.Prelude.{◌≡◌, List, None};
+ghost use Rattle.std.specs.Prelude.{◌≡◌, List, None, true};
+ghost use Rattle.std.specs.List.{list_all};
 ghost use Rattle.pr_wire.specs.declared.Edge.{Edge};
 ghost use Rattle.pr_wire.specs.declared.Frame.{Frame};
 ghost use Rattle.pr_wire.specs.Following.{HasAccepted};
 ghost use Rattle.pr_explain.specs.Followed.{Follows};
+ghost use Rattle.pr_explain.specs.Rows.{all_lead_apart, has_moment};
 ghost use Rattle.pr_explain.specs.TracePlaces.{AreRowsAfter, StopsAt};
 
 use crate::rows::{Miss, Row, missed_by, row_to, rows_behind};
@@ -18,7 +20,8 @@ pub struct EdgePlace {
     pub index: usize,
     /// The first fault.
     pub fault: WaveFault,
-    /// The edges that may follow those that are allowed.
+    /// The edges that may follow those that are allowed. Each row has a moment, and no two rows
+    /// have the same levels.
     pub expected: [Option<Row>; 3],
     /// By how much the edge misses the interval of its levels, if an edge to these levels may
     /// follow.
@@ -63,10 +66,13 @@ pub fn follow(edges: &[Edge]) -> Followed
     }
 }
 
-/// The edges that may follow those that a follower has accepted.
+/// The edges that may follow those that a follower has accepted: rows that each have a moment, and lead to
+/// other levels.
 fn rows_after(follower: &TraceFollower) -> [Option<Row>; 3]
-    ensures { (edges : List Edge) (frames : List Frame) → HasAccepted edges frames follower.now
+    ensures rows { (edges : List Edge) (frames : List Frame) → HasAccepted edges frames follower.now
         → AreRowsAfter result edges }
+    ensures moments { list_all has_moment result ≡ true }
+    ensures levels { all_lead_apart result ≡ true }
 {
     allowed_traces();
     match follower.last {

@@ -1,7 +1,7 @@
 //! The line of a trace text or of a recording that cannot be read, and what it should have.
 
 ghost use Rattle.std.specs.Prelude.{◌≡◌, Some};
-ghost use Rattle.pr_cli.specs.Sources.{IsOwnFault};
+ghost use Rattle.pr_cli.specs.Report.{IsOwnFault};
 ghost use Rattle.pr_explain.specs.TracePlaces.{capture_line, fault_line};
 
 use crate::names::{begins_with_number, push_dump_names, push_table_names};
@@ -21,7 +21,8 @@ fn line_of(fault: CliFault) -> Option<usize>
     }
 }
 
-/// The line of a recording's fault, from 1. Want of memory has none.
+/// The line of a recording's fault, from 1. Want of memory has none; a file of another kind shows it on
+/// its first line.
 fn line_of_capture(fault: CaptureFault) -> Option<usize>
     ensures { result ≡ capture_line fault }
 {
@@ -30,13 +31,17 @@ fn line_of_capture(fault: CaptureFault) -> Option<usize>
         | CaptureFault::BadWord(line)
         | CaptureFault::NoEnd(line)
         | CaptureFault::NoDefinitions(line)
+        | CaptureFault::TwoSignals(line, _)
         | CaptureFault::NoTimescale(line)
+        | CaptureFault::BadTimescale(line)
+        | CaptureFault::NoTime(line)
         | CaptureFault::BadTime(line)
         | CaptureFault::GoesBack(line)
         | CaptureFault::NoLevel(line, _)
         | CaptureFault::Unknown(line)
         | CaptureFault::Floating(line)
         | CaptureFault::BadLevel(line) => Some(line),
+        CaptureFault::WideText | CaptureFault::Archive => Some(1),
         CaptureFault::NoMemory => None,
     }
 }
@@ -132,7 +137,7 @@ fn push_columns(
 fn rule_of_dumps(fault: CaptureFault) -> &'static str {
     match fault {
         CaptureFault::BadWord(_) => {
-            "behind its header a dump has times (#120), levels (0! or b0 !, with the signal's code) and \
+            "after its header a dump has times (#120), levels (0! or b0 !, with the signal's code) and \
              sections up to $end"
         }
         CaptureFault::NoEnd(_) => "the section that begins here has no $end",
@@ -140,7 +145,10 @@ fn rule_of_dumps(fault: CaptureFault) -> &'static str {
             "the header of a dump ends with $enddefinitions $end; --from csv reads tables, and without --from \
              a trace text is read"
         }
-        CaptureFault::NoTimescale(_) => {
+        CaptureFault::TwoSignals(_, _) => {
+            "two signals have the name that is looked for: --names takes a signal with its scopes, as in bus.ATN"
+        }
+        CaptureFault::NoTimescale(_) | CaptureFault::BadTimescale(_) => {
             "the header of a dump has $timescale 1 us $end: 1, 10 or 100 of a unit from fs to s"
         }
         CaptureFault::BadTime(_) => {
@@ -154,8 +162,12 @@ fn rule_of_dumps(fault: CaptureFault) -> &'static str {
 fn rule_of_tables(fault: CaptureFault) -> &'static str {
     match fault {
         CaptureFault::BadTime(_) => {
-            "a row begins with its time in seconds, digits with or without decimals, as in 0.000125; it is below \
+            "a row begins with its time, a number as 0.000125, -2 or 5e-05, in the unit of its column; it is below \
              2^64 microseconds"
+        }
+        CaptureFault::NoTime(_) => {
+            "the first column is one of times, as in Time [s] or microseconds, or a remark tells the rate of \
+             samples, as in ; Samplerate: 4 MHz"
         }
         _ => rule_of_levels(fault),
     }
@@ -172,7 +184,12 @@ fn rule_of_levels(fault: CaptureFault) -> &'static str {
         CaptureFault::Floating(_) => {
             "z says that nobody drives the line; a level of the three lines is 0 or 1, and a pull-up makes it 1"
         }
-        CaptureFault::BadLevel(_) => "a level of the three lines is 0 or 1",
+        CaptureFault::BadLevel(_) => "a level of the three lines is 0 or 1, L or H",
+        CaptureFault::WideText =>
+            "this text has two bytes a letter, as UTF-16 has: save it as UTF-8",
+        CaptureFault::Archive => {
+            "this is an archive, as .sr, .sal and .dsl files are: export a dump (VCD) or a table (CSV) with the tool"
+        }
         _ => "this can not stand here",
     }
 }

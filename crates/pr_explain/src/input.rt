@@ -1,8 +1,7 @@
 //! Reading a trace whole, in any format.
 
 ghost use Rattle.std.specs.Prelude.{◌≡◌, IfOk, IfSome};
-ghost use Rattle.pr_cli.specs.Report.{Says};
-ghost use Rattle.pr_cli.specs.Sources.{IsOwnFault};
+ghost use Rattle.pr_cli.specs.Report.{Says, IsOwnFault};
 
 use pr_capture::TraceInput;
 use pr_cli::{EdgeReader, LastEdges};

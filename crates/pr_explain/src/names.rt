@@ -14,7 +14,7 @@ const ALONE: [&[u8]; 5] = [b"$end", b"$dumpvars", b"$dumpall", b"$dumpon", b"$du
 /// Kinds of signals without levels: numbers, texts and events.
 const WITHOUT_LEVELS: [&[u8]; 4] = [b"real", b"realtime", b"string", b"event"];
 
-/// Adds a name after so many others, unless it is empty or enough are shown, and gives how many
+/// Adds a name after this many others, unless it is empty or enough are shown, and gives how many
 /// there are with it.
 fn push_name(text: &mut String, count: usize, name: &[u8]) -> Result<usize, NoMemory> {
     if name.is_empty() {

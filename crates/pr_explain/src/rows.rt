@@ -5,6 +5,7 @@ ghost use Rattle.pr_wire.specs.declared.Edge.{Edge};
 ghost use Rattle.pr_wire.specs.declared.bus_state.ByteRole.{ByteRole};
 ghost use Rattle.pr_wire.specs.Delays.{bounds_of};
 ghost use Rattle.std.specs.List.{list_all};
+ghost use Rattle.pr_explain.specs.Followed.{KeepsLevels};
 ghost use Rattle.pr_explain.specs.Rows.{AreRows, AreRowsBehind, all_lead_apart, comes_after, has_moment, lies, takes};
 ghost use Rattle.pr_explain.specs.TracePlaces.{missed_by, row_to};
 
@@ -18,7 +19,7 @@ const LAST_BIT: usize = 7;
 /// or is none.
 #[derive(Clone, Copy, Debug, PartialEq, Eq)]
 pub struct Row {
-    /// The levels behind the edge.
+    /// The levels after the edge.
     pub levels: Levels,
     /// The least moment, in microseconds.
     pub earliest: u64,
@@ -235,7 +236,7 @@ fn after_high(since: u64, sending: ByteRole) -> [Option<Row>; 3]
     [low, high, None]
 }
 
-/// CLOCK is pulled behind the last bit, and DATA is released.
+/// CLOCK is pulled after the last bit, and DATA is released.
 fn after_last_bit(since: u64, sending: ByteRole) -> [Option<Row>; 3]
     ensures rows { (eoi : Bool) (seen : List Bool) (bit : Bool) → length seen ≡ 7 → AreRows result (BusState.High since sending eoi seen bit) }
     ensures moments { list_all has_moment result ≡ true }
@@ -289,7 +290,7 @@ fn after_ack(since: u64, sending: ByteRole) -> [Option<Row>; 3]
     [next, other, None]
 }
 
-/// ATN is released behind an attention, and DATA is still pulled.
+/// ATN is released after an attention, and DATA is still pulled.
 fn after_freed(since: u64, unlistened: bool) -> [Option<Row>; 3]
     ensures rows { AreRows result (BusState.Freed since unlistened false) }
     ensures moments { list_all has_moment result ≡ true }
@@ -305,7 +306,7 @@ fn after_freed(since: u64, unlistened: bool) -> [Option<Row>; 3]
     [release, next, other]
 }
 
-/// ATN is released behind an attention, and DATA too.
+/// ATN is released after an attention, and DATA too.
 fn after_released(since: u64, unlistened: bool) -> [Option<Row>; 3]
     ensures rows { AreRows result (BusState.Freed since unlistened true) }
     ensures moments { list_all has_moment result ≡ true }
@@ -379,6 +380,7 @@ pub fn rows_from(place: &BusState) -> [Option<Row>; 3]
 fn behind(row: Option<Row>, last: Edge) -> Option<Row>
     ensures takes { (e : Edge) → e.time < 2 ^ 64 → takes result e ≡ (takes row e && comes_after last e) }
     ensures moments { has_moment result ≡ true }
+    ensures levels { KeepsLevels result row }
 {
     let row = row?;
     if row.levels == last.levels {
@@ -394,10 +396,11 @@ fn behind(row: Option<Row>, last: Edge) -> Option<Row>
 /// Returns the rows at a place of the table of lawful traces, after an edge `last`: [`rows_from`],
 /// but for the moments that are not later than that edge, and for a row with its levels. An edge
 /// may follow there exactly if one of the rows has its levels and its moment lies within. Each row
-/// has a moment. It takes no memory.
+/// has a moment, and no two rows have the same levels. It takes no memory.
 pub fn rows_behind(place: &BusState, last: Edge) -> [Option<Row>; 3]
     ensures rows { AreRowsBehind result last place.now }
     ensures moments { list_all has_moment result ≡ true }
+    ensures levels { all_lead_apart result ≡ true }
 {
     let [first, second, third] = rows_from(place);
     [

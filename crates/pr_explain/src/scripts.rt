@@ -9,7 +9,7 @@ ghost use Rattle.pr_explain.specs.ScriptPlaces.{IsLabel, IsScriptPlace};
 use crate::Explanation;
 use crate::context::{cut_before, expected_at, takes_item};
 use crate::texts::{Cut, Escaped, without_end};
-use crate::words::{foreign_word, is_number, word_at};
+use crate::words::{Foreign, foreign_word, is_number, word_at};
 use pr_basic::{
     LineAt, ScriptFault, basic_number, faults_tell_their_line, line_at, read_script_at,
 };
@@ -106,10 +106,10 @@ fn cut_at(line: LineAt<'_>, place: usize) -> CutLine<'_>
     requires from { line.start ≤ place }
     requires to { place ≤ line.start + length line.bytes.now }
 {
-    let (before, behind) = line.bytes.split_at(place - line.start);
+    let (before, after) = line.bytes.split_at(place - line.start);
     CutLine {
         before,
-        rest: without_end(behind),
+        rest: without_end(after),
     }
 }
 
@@ -153,23 +153,24 @@ fn push_hints(text: &mut String, line: CutLine<'_>, fault: ScriptFault) -> Resul
     if let Some(word) = word_at(line.rest).unspaced() {
         write!(
             text,
-            "  this is {word} with a space in it; no space stands in a word of BASIC here\n"
+            "  this is {word} with a space in it; write the word without a space\n"
         )?;
     }
     if is_number(line.rest) && takes_item(line.before) {
         write!(
             text,
-            "  this is a number; in a list here a number stands in a string, as \"5\", or in CHR$( )\n"
+            "  this is a number; in a list write a number as a string, \"5\", or as a code, CHR$(5)\n"
         )?;
     }
     let wants_number = !matches!(fault, ScriptFault::UnknownWord(_));
-    if let Some(name) = foreign_word(line.before, line.rest, wants_number) {
-        write!(
+    match foreign_word(line.before, line.rest, wants_number) {
+        Some(Foreign::Word(name)) => write!(
             text,
-            "  {name} not among OPEN, CMD, PRINT, PRINT#, CLOSE, REM and CHR$\n"
-        )?;
+            "  {name} is not among OPEN, CMD, PRINT, PRINT#, CLOSE, REM and CHR$\n"
+        ),
+        Some(Foreign::Sentence(sentence)) => write!(text, "  {sentence}\n"),
+        None => Ok(()),
     }
-    Ok(())
 }
 
 /// Whether a word or a number of this profile was wanted.

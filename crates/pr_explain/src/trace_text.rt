@@ -89,7 +89,7 @@ fn push_bad_start(text: &mut String, trace: TraceSaid<'_>, edge: Edge) -> Result
     } else {
         write!(
             text,
-            "  if nothing is sent there, the probes stand behind inverters: --invert reads 0 as released\n"
+            "  if nothing is sent there, the probes are inverted: --invert reads 0 as released\n"
         )
     }
 }
@@ -118,7 +118,7 @@ fn push_start(text: &mut String, trace: TraceSaid<'_>) -> Result<(), NoMemory> {
     }
     if let Some(edge) = first_idle(trace.edges) {
         let time = start.saturating_add(edge.time);
-        write!(text, ", and an attention follows first behind {time}")?;
+        write!(text, ", and the first attention follows after {time}")?;
     }
     write!(text, "\n")
 }
@@ -222,7 +222,7 @@ fn push_end(
     }
     write!(
         text,
-        "  a trace may end at rest (all lines released, and no byte under way), behind a data byte that \
-         a printer has acknowledged, or behind an attention that did not end with UNLISTEN\n"
+        "  a trace may end at rest (all lines released, and no byte under way), after a data byte that \
+         a printer has acknowledged, or after an attention that did not end with UNLISTEN\n"
     )
 }

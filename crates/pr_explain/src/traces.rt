@@ -3,7 +3,7 @@
 ghost use Rattle.std.specs.Prelude.{◌≡◌, List, [], None, IfOk, IfSome, MatchOption};
 ghost use Rattle.std.specs.String.{string_bytes};
 ghost use Rattle.pr_wire.specs.declared.Edge.{Edge};
-ghost use Rattle.pr_cli.specs.Sources.{IsOwnFault};
+ghost use Rattle.pr_cli.specs.Report.{IsOwnFault};
 ghost use Rattle.pr_explain.specs.Followed.{Follows, back_from, stands_before};
 ghost use Rattle.pr_explain.specs.TracePlaces.{AreInOrder, GoesBackAt, IsPlaceOf, IsPlaceRead, IsReadingPlace, IsTracePlace, nowhere};
 

@@ -26,7 +26,7 @@ pub enum WordKind {
     Keyword(&'static str),
     /// A word of BASIC that this profile does not have, as BASIC writes it.
     Foreign(&'static str),
-    /// A variable, by the mark behind its letters.
+    /// A variable, by the mark after its letters.
     Variable,
     /// A variable without a mark, or another word.
     Letters,
@@ -45,7 +45,7 @@ pub struct Word {
 }
 
 impl Word {
-    /// The word as BASIC writes it, where spaces stand in it.
+    /// The word as BASIC writes it, where spaces are in it.
     pub fn unspaced(self) -> Option<&'static str> {
         match self.kind {
             WordKind::Keyword(word) | WordKind::Foreign(word) if self.len > word.len() => Some(
@@ -82,12 +82,12 @@ pub fn word_at(rest: &[u8]) -> Word
     Word { kind, len }
 }
 
-/// Whether a number stands in front.
+/// Whether there is a number in front.
 pub fn is_number(rest: &[u8]) -> bool {
     matches!(rest, [b'0'..=b'9', ..] | [b'.', b'0'..=b'9', ..])
 }
 
-/// The word of BASIC in front, if one stands there.
+/// The word of BASIC in front, if there is one.
 fn entry_at(rest: &[u8]) -> Option<Word>
     ensures { IfSome result (λ word. word.len ≤ length rest.now) }
 {
@@ -128,7 +128,7 @@ fn spelled(rest: &[u8], word: &[u8]) -> Option<usize>
     }
 }
 
-/// What stands behind the spaces and tabs in front.
+/// What follows the spaces and tabs in front.
 fn after_blanks(bytes: &[u8]) -> &[u8] {
     for (i, byte) in bytes.iter().enumerate() {
         if *byte != b' ' && *byte != b'\t' {
@@ -138,7 +138,7 @@ fn after_blanks(bytes: &[u8]) -> &[u8] {
     &[]
 }
 
-/// The letters and digits in front, at most [`LETTERS`], and a variable's mark behind them.
+/// The letters and digits in front, at most [`LETTERS`], and a variable's mark after them.
 fn other_at(rest: &[u8]) -> Word
     ensures { result.len ≤ length rest.now }
 {
@@ -155,7 +155,7 @@ fn other_at(rest: &[u8]) -> Word
     }
 }
 
-/// How many letters and digits stand in front, at most [`LETTERS`].
+/// How many letters and digits are in front, at most [`LETTERS`].
 fn letter_count(rest: &[u8]) -> usize
     ensures { result ≤ length rest.now }
 {
@@ -167,33 +167,53 @@ fn letter_count(rest: &[u8]) -> usize
     rest.len()
 }
 
-/// What stands in front, behind the bytes `before` of its line, where it is common BASIC that this
-/// profile does not have: the beginning of a sentence. Where a number is wanted, letters are a
-/// variable. `rest` is without the line's end: byte 10, and byte 13 directly before it or before
-/// the text's end.
-pub fn foreign_word(before: &[u8], rest: &[u8], wants_number: bool) -> Option<&'static str> {
-    match rest {
-        [b'?', ..] => return Some("? for PRINT is"),
-        [b'#', ..] if parts_print(before) => return Some("# with a space before it is"),
-        [b'+' | b'-' | b'*' | b'/' | b'^' | b'=' | b'<' | b'>', ..] => {
-            return Some("an operator is");
-        }
-        [b'$', digits @ ..] if is_hexadecimal(digits) => return Some("a hexadecimal number is"),
-        [b'\r', ..] => return Some("a byte 13 that no byte 10 follows is"),
-        [0xef, 0xbb, 0xbf, ..] => return Some("a byte order mark is"),
-        [1, 8, ..] if before.is_empty() => return Some("a saved program is"),
-        _ => {}
-    }
-    match word_at(rest).kind {
-        WordKind::Foreign(_) => Some("this word of BASIC is"),
-        WordKind::Variable => Some("a variable is"),
-        WordKind::Letters if wants_number => Some("a variable is"),
-        WordKind::Letters => Some("a variable or another word is"),
-        WordKind::Keyword(_) | WordKind::Digits | WordKind::Other => None,
-    }
+/// What a text has that is common in BASIC or in files, and that this profile does not have.
+#[derive(Clone, Copy)]
+pub enum Foreign {
+    /// A word that is not among those of this profile, by what it is.
+    Word(&'static str),
+    /// Something else, with a sentence that says what it is or what to write.
+    Sentence(&'static str),
 }
 
-/// Whether letters and digits stand in front that are all hexadecimal digits.
+/// What is in front, after the bytes `before` of its line, where it is common and this profile does
+/// not have it. Where a number is wanted, letters are a variable. `rest` is without the line's end:
+/// byte 10, and byte 13 directly before it or before the text's end.
+pub fn foreign_word(before: &[u8], rest: &[u8], wants_number: bool) -> Option<Foreign> {
+    let word = match rest {
+        [b'?', ..] => "? for PRINT",
+        [b'+' | b'-' | b'*' | b'/' | b'^' | b'=' | b'<' | b'>', ..] => "an operator",
+        [b'$', digits @ ..] if is_hexadecimal(digits) => "a hexadecimal number",
+        _ => return foreign_sentence(before, rest).or(foreign_name(rest, wants_number)),
+    };
+    Some(Foreign::Word(word))
+}
+
+/// What to say of bytes that are no word.
+fn foreign_sentence(before: &[u8], rest: &[u8]) -> Option<Foreign> {
+    let sentence = match rest {
+        [b'#', ..] if parts_print(before) => "write PRINT# without a space before #",
+        [b'\r', ..] => "this is a byte 13 without a byte 10 after it; a line ends with byte 10",
+        [0xef, 0xbb, 0xbf, ..] => "this is a byte order mark; save the script without it",
+        [1, 8, ..] if before.is_empty() => "this is a tokenised program",
+        _ => return None,
+    };
+    Some(Foreign::Sentence(sentence))
+}
+
+/// A word in front that this profile does not have, or a variable.
+fn foreign_name(rest: &[u8], wants_number: bool) -> Option<Foreign> {
+    let name = match word_at(rest).kind {
+        WordKind::Foreign(_) => "this word of BASIC",
+        WordKind::Variable => "a variable",
+        WordKind::Letters if wants_number => "a variable",
+        WordKind::Letters => "a variable or another word",
+        WordKind::Keyword(_) | WordKind::Digits | WordKind::Other => return None,
+    };
+    Some(Foreign::Word(name))
+}
+
+/// Whether there are letters and digits in front that are all hexadecimal digits.
 fn is_hexadecimal(rest: &[u8]) -> bool {
     let digits = &rest[..letter_count(rest)];
     for byte in digits {

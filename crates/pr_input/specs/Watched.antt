@@ -1,5 +1,5 @@
--- Trusted: a reader or a writer that remembers whether a call has failed, and whether what was
--- written has been flushed.
+-- Trusted: a reader or a writer that remembers whether a call has failed, and whether a flush has
+-- come after the last write.
 use Rattle.std.specs.Prelude.{ℕ, Bool, true, ◌&&◌, ◌==◌, not, Result, Ok, Err}
 use Rattle.pr_input.specs.declared.watched.Watched.{Watched}
 
@@ -11,7 +11,8 @@ wrapped w = w.inner
 abbrev pub has_failed : {T : Type 0} → Watched T → Bool
 has_failed w = w.failed
 
--- whether a flush has succeeded since the last write, if there was a write
+-- its flag: false after a write, true after a flush that answers Ok; that such a flush is one of
+-- the writer inside is tested, since std's `Write` has no word for it
 abbrev pub is_flushed : {T : Type 0} → Watched T → Bool
 is_flushed w = w.flushed
 

@@ -34,7 +34,7 @@ impl<R> TeeReader<R> {
         TeeReader { inner, bytes }
     }
 
-    /// Keeps more bytes behind the others, if those are kept and there is memory.
+    /// Keeps more bytes after the others, if those are kept and there is memory.
     fn keep(&mut self, more: &[u8])
         ensures inner { read_from self.new ≡ read_from self.old }
         ensures bytes { KeepsMore more.now self.old self.new }

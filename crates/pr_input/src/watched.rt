@@ -8,8 +8,8 @@ ghost use Rattle.pr_input.specs.Watched.{has_failed, is_flushed, wrapped, write_
 use std::io;
 use std::io::{ErrorKind, Read, Write};
 
-/// A reader or a writer, whether a call through it has failed, and whether all that was written
-/// through it has been flushed.
+/// A reader or a writer, whether a call through it has failed, and whether a flush through it has
+/// succeeded since the last write.
 ///
 /// It has failed for good exactly when a read, a write or a flush through it fails, or when a write
 /// of some bytes answers 0. So a caller can tell a failed read or write from every other refusal.
@@ -52,8 +52,9 @@ impl<T> Watched<T> {
         self.failed
     }
 
-    /// Returns whether a flush has succeeded since the last write, if there was one. What the flush
-    /// did to the bytes no clause can say, since std's `Write` has no word for it.
+    /// Returns whether a flush has succeeded since the last write, if there was one. That each such
+    /// flush reaches the writer inside is tested, not proved: std's `Write` has no word for what a
+    /// flush does.
     pub fn is_flushed(&self) -> bool
         ensures { result ≡ is_flushed self.now }
     {

@@ -28,7 +28,7 @@ cut_in_number [] h l e = absurd (omega arith)
 cut_in_number (a ∷ []) h l e = absurd (omega arith)
 cut_in_number (a ∷ b ∷ rest) h l e = inr (a, b, rest, refl, e, inl (omega arith))
 
--- no 0 behind a line
+-- no 0 after a line
 pub cut_in_line : (bs : List ℕ) → 4 ≤ length bs → 0 < get_or bs 0 0 + get_or bs 1 0 → prefix_len is_not_zero (drop 4 bs) ≡ length (drop 4 bs) → IsCutOff bs
 cut_in_line [] h e k = absurd (omega arith)
 cut_in_line (a ∷ []) h e k = absurd (omega arith)

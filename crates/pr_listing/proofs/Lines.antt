@@ -9,7 +9,7 @@ begins-one_more : (ls : List Line) (l : Line) (bytes rest after : List ℕ) → 
 begins-one_more [] l bytes rest after e b = (after, subst (λ (x : List ℕ). BeginsWith l x after) (sym e) b, refl)
 begins-one_more (m ∷ ms) l bytes rest after h b = (h.0, h.1, begins-one_more ms l h.0 rest after h.2 b)
 
--- its text stands at the end
+-- its text is at the end
 text-one_more : (ls : List Line) (l : Line) → lines_text (ls ++ l ∷ []) ≡ lines_text ls ++ line_text l
 text-one_more [] l = append-nil (line_text l)
 text-one_more (m ∷ ms) l = ap (λ t. line_text m ++ t) (text-one_more ms l) ∙ sym (append_assoc (line_text m) (lines_text ms) (line_text l))

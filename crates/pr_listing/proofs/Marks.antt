@@ -56,7 +56,7 @@ first_mark p m fail (x ∷ xs) (y ∷ ys) r s a b e =
     let k0 : xs ≡ ys = k.0 in
     (cc, k.1)
 
--- a mark stands before the end
+-- a mark comes before the end
 pub mark_within : (p : ℕ → Bool) (m : ℕ) (fail : p m ≡ false) (xs r : List ℕ) → prefix_len p (xs ++ m ∷ r) < length (xs ++ m ∷ r)
 mark_within p m fail [] r = rw fail (omega arith)
 mark_within p m fail (x ∷ xs) r = step (p x) refl (mark_within p m fail xs r)

@@ -205,7 +205,7 @@ line_taken line old mid new n e none h k = (
   k ∙ (ap (λ v. v ++ drop n line) h.1.is_text ∙ (append_assoc old h.1.said (drop n line) ∙ ap (λ v. old ++ (h.1.said ++ drop v line)) e)),
 )
 
--- one line more is read, with byte 10 behind its text
+-- one line more is read, with byte 10 after its text
 pub line_read : (file text rest line cut after mid more : List ℕ) (number : ℕ) → IsReadTo file text rest number → lines_of rest ≡ line ∷ lines_of after → cut ≡ without_return line → IsLineTaken cut text mid → more ≡ mid ++ 10 ∷ [] → IsReadTo file more after (number + 1)
 line_read file text rest line cut after mid more number h e same k added =
     read-one_more file text rest line after k.0 more number h e (subst (λ (v : List ℕ). HasLineText v k.0) same k.1) (added ∙ (ap (λ v. v ++ 10 ∷ []) k.2 ∙ append_assoc text k.0 (10 ∷ [])))

@@ -9,3 +9,5 @@ pub mod Names
 pub mod Petcat
 pub mod Pieces
 pub mod Program
+pub mod TokenLaws
+pub mod Tokens

@@ -41,7 +41,7 @@ pub record ArePiecesTaken (front rest : List ℕ) (in_string : Bool) (old new : 
 abbrev pub IsFrontTaken : List ℕ → List ℕ → List ℕ → Type 0
 IsFrontTaken front old new = (in_string : Bool) × ArePiecesTaken front [] in_string old new
 
--- pieces, and then in a string a fault; so many bytes are before it
+-- pieces, and then in a string a fault; this many bytes are before it
 pub record IsFrontFault (f : PieceFault) (column : ℕ) (front : List ℕ) : Type 0 where
   pub pieces : List Piece
   pub said : List ℕ

@@ -12,7 +12,7 @@ pub enum ListingFault {
     /// A saved program has fewer bytes than its load address.
     #[error("not a saved program")]
     NoAddress,
-    /// A saved program ends in this line: in its link, in its number, or before the 0 behind it.
+    /// A saved program ends in this line: in its link, in its number, or before the 0 after it.
     #[error("line {0}: cut off")]
     CutOff(usize),
     /// In a string of petcat's text, at this line and this column: a brace with no name in it that

@@ -1,6 +1,7 @@
 //! Listings from a reader.
 
-ghost use Rattle.std.specs.Prelude.{◌≡◌, ◌↔◌, false, true, IfErr, IfOk, IfSome, IsErrOf};
+ghost use Rattle.std.specs.Prelude.{◌≡◌, ◌≤◌, ◌↔◌, length, false, true, IfErr, IfOk, IfSome, IsErrOf};
+ghost use Rattle.std.specs.Io.KnownBytes.{IsAtEnd};
 ghost use Rattle.pr_input.specs.Watched.{has_failed, wrapped};
 ghost use Rattle.pr_listing.specs.Forms.{HasText};
 ghost use Rattle.pr_listing.specs.Inputs.{IsTextFault};
@@ -29,8 +30,8 @@ pub enum TextFault {
     NoMemory,
 }
 
-/// Reads a listing in this form, at most `limit` bytes, to the reader's end, and gives the text of
-/// a script that it has.
+/// Reads a listing in this form, at most `limit` bytes, and gives the text of a script that it has.
+/// Where it has one, the reader has been read to its end.
 ///
 /// # Errors
 ///
@@ -38,14 +39,21 @@ pub enum TextFault {
 /// - [`TextFault::TooLarge`]: only if the reader had more than `limit` bytes left.
 /// - [`TextFault::ReadFailed`] exactly if a read failed.
 /// - [`TextFault::NoMemory`]: memory was refused.
+///
+/// After an error some of the bytes have been taken from the reader.
 pub fn read_text<R: Read>(
     alloc: Global,
     input: &mut Watched<R>,
     form: ListingForm,
     limit: usize,
 ) -> Result<Vec<u8>, TextFault>
+    // the caller's part
     requires fresh { has_failed input.old ≡ false }
+    // what it gives
     ensures ok { IfOk result (λ text. IfSome (R.remaining (wrapped input.old)) (λ bytes. HasText form bytes text.items)) }
+    ensures at_end { IfOk result (λ _. IsAtEnd (R.remaining (wrapped input.new))) }
+    ensures within { IfOk result (λ _. IfSome (R.remaining (wrapped input.old)) (λ bytes. length bytes ≤ limit)) }
+    // when it refuses, and what that leaves
     ensures refused { IfErr result (λ fault. IfSome (R.remaining (wrapped input.old)) (λ bytes. IsTextFault form limit bytes fault)) }
     ensures failed { IsErrOf result TextFault.ReadFailed ↔ (has_failed input.new ≡ true) }
 {

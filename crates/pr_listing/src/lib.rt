@@ -24,17 +24,17 @@ mod form;
 mod hints;
 mod input;
 mod keywords;
+pub mod laws;
 mod line;
 mod names;
 mod petcat;
 mod program;
-mod text_lines;
 
 pub use fault::ListingFault;
 pub use form::{
     ListingForm, Refusal, each_listing_has_one_text_or_one_fault, read_listing, script_text,
 };
-pub use hints::{has_typed_strings, looks_like_disk, looks_saved};
+pub use hints::{has_typed_strings, looks_like_disk, looks_like_text, looks_saved};
 pub use input::{TextFault, read_text};
 pub use petcat::petcat_text;
 pub use program::program_text;

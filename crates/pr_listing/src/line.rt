@@ -9,19 +9,19 @@ use crate::keywords::keyword;
 use itoa::Buffer;
 use std::alloc::AllocError;
 
-/// Where a byte of a line stands.
+/// Where a byte of a line is.
 #[derive(Clone, Copy, Debug, PartialEq, Eq)]
 pub enum Mode {
     /// Outside strings and remarks.
     Plain,
-    /// In a string, behind its first quote.
+    /// In a string, after its first quote.
     Quoted,
-    /// In a remark, behind its keyword.
+    /// In a remark, after its keyword.
     Remark,
 }
 
 impl Mode {
-    /// Where the byte after one stands that stands here.
+    /// The place of the byte after one that is here.
     fn after(self, b: u8) -> Mode
         ensures { result ≡ mode_after self b }
     {
@@ -88,7 +88,7 @@ fn add_or_question(text: &mut Vec<u8>, b: u8) -> Result<(), AllocError>
     Ok(())
 }
 
-/// Adds a byte that stands outside strings and remarks.
+/// Adds a byte that is outside strings and remarks.
 fn add_plain(text: &mut Vec<u8>, b: u8) -> Result<(), AllocError>
     ensures { OnOk result (text.new.items ≡ text.old.items ++ plain_text b) }
 {
@@ -129,7 +129,7 @@ pub fn add_quoted(text: &mut Vec<u8>, b: u8) -> Result<(), AllocError>
     add_in_string(text, b)
 }
 
-/// Adds a byte of a line, which stands there.
+/// Adds a byte of a line, which is there.
 fn add_byte(text: &mut Vec<u8>, mode: Mode, b: u8) -> Result<(), AllocError>
     ensures { OnOk result (text.new.items ≡ text.old.items ++ byte_text mode b) }
 {

@@ -4,8 +4,8 @@ ghost use Rattle.std.specs.Prelude.{◌≡◌, ◌≢◌, ◌≤◌, ◌<◌, �
 ghost use Rattle.pr_base.specs.Digits.{number_of};
 ghost use Rattle.pr_listing.specs.Names.{byte_at, byte_named, hex_byte, hex_value, is_hex, is_name, named, place_of};
 
-use crate::text_lines::cut_line;
 use pr_base::{digit_count, is_digit};
+use pr_basic::cut_line;
 
 /// The names of bytes 0 to 31, of bytes 128 to 223, and two of byte 32, in the order of the bytes, each
 /// in a line (petcat of VICE, its table for BASIC 2). Where petcat has no name, the byte's number is here.

@@ -9,7 +9,7 @@ ghost use Rattle.pr_listing.specs.Pieces.{IsFrontFault, IsFrontTaken, IsLineTake
 use crate::fault::ListingFault;
 use crate::line::{add_in_string, add_quoted};
 use crate::names::named;
-use crate::text_lines::{cut_line, without_return};
+use pr_basic::{cut_line, without_return};
 use std::alloc::{AllocError, Global};
 
 /// Why no piece of a string is at a place.
@@ -69,7 +69,7 @@ fn count_to_brace(bytes: &[u8]) -> usize
     bytes.len()
 }
 
-/// Adds a byte of a string so many times.
+/// Adds a byte of a string this many times.
 fn add_times(text: &mut Vec<u8>, count: u32, b: u8) -> Result<(), AllocError>
     ensures { OnOk result (text.new.items ≡ text.old.items ++ repeated count (string_text b)) }
 {
@@ -180,7 +180,7 @@ fn begins_remark(bytes: &[u8]) -> bool
 
 /// How many bytes of a line are before its remark.
 #[tactic(auto, unfolding(crate::specs::Petcat::before_remark))]
-fn before_remark(line: &[u8]) -> usize
+pub fn before_remark(line: &[u8]) -> usize
     ensures count { result ≡ before_remark false line.now }
     ensures within { result ≤ length line.now }
 {

@@ -4,7 +4,7 @@ use Rattle.std.specs.Prelude.{option_and_then, option_map, unwrap_or, IfSome, fi
 use Rattle.std.specs.Option.{option_map_or}
 use Rattle.std.specs.Str.{bytes_eq}
 use Rattle.clap.specs.declared.error.Error.{Error}
-use Rattle.clap.specs.Words.{App, HasKind, HasMatchesOf, Text, built, first_of, first_value, fault_of, is_simple, is_simple_and_free, rows_of, subcommand_of, subcommand_rows_of}
+use Rattle.clap.specs.Words.{App, HasKind, HasMatchesOf, Row, Text, built, first_of, first_value, fault_of, is_simple, is_simple_and_free, rows_of, subcommand_of, subcommand_rows_of}
 use Rattle.clap.specs.declared.parser.matches.ArgMatches.{ArgMatches}
 use Rattle.clap.proofs.WalkLemmas.{find_row, first_value-rows}
 use Rattle.clap.specs.Simple.{Shape, argument_words, entered, names_of, rows_at, label_of}
@@ -16,7 +16,14 @@ use Rattle.clap.specs.declared.parser.matches.Found.{Found}
 use Rattle.clap.specs.declared.parser.matches.MatchedArg.{MatchedArg}
 use Rattle.clap.specs.declared.parser.matches.ValueSource.{ValueSource}
 use Rattle.pr_options.specs.CommandLine.{print1525}
-use Rattle.pr_options.specs.Given.{is_given, is_of_words}
+use Rattle.pr_options.specs.Found.{bad_value, value_given}
+use Rattle.pr_options.specs.Given.{has_ending, is_given, is_of_words, value_in}
+use Rattle.pr_options.specs.OptionNames.{ValueOption}
+use Rattle.pr_options.specs.Steps.{Met}
+use Rattle.pr_options.specs.Values.{option_of}
+use Rattle.pr_options.specs.declared.command_line.JobFault.{JobFault}
+use Rattle.pr_options.specs.Subcommands.{endings_view}
+use Rattle.pr_options.specs.declared.options.Ending.{Ending}
 use Rattle.pr_options.specs.CommandLaws.{IsOurs}
 
 -- each of these subcommands is the program's
@@ -85,3 +92,27 @@ given_is f id r e =
     by : (o : Option (Bor Text × MatchedArg)) → is_of_words (option_and_then (λ a. a.source) (option_map (λ e. e.1) o)) ≡ option_map_or (λ row. is_of_words row.source) (option_map row_of o) false
     by None = refl
     by (Some e) = refl
+
+-- the first ending of the code that a name has gives what the first one of the definition gives
+pub found_by : (name : Text) (es : List Ending) → option_map (λ (e : Text × Text). e.1) (find (λ (e : Text × Text). has_ending name e.0) (endings_view es))
+    ≡ option_map (λ (e : Ending). e.value.now) (find (λ (e : Ending). has_ending name e.ending.now) es)
+found_by name [] = refl
+found_by name (e ∷ es) =
+    elim (has_ending name e.ending.now) as (λ v. option_map (λ (x : Text × Text). x.1) (if v then Some (e.ending.now, e.value.now) else find (λ (x : Text × Text). has_ending name x.0) (endings_view es))
+    ≡ option_map (λ (x : Ending). x.value.now) (if v then Some e else find (λ (x : Ending). has_ending name x.ending.now) es)) [
+      | true ↦ refl
+      | false ↦ found_by name es
+    ]
+
+-- the value that a subcommand's rows give is that of the words
+pub value_by_rows : (r : Option (Bor Text)) (o : ValueOption) (words : List Text) (met : Met) → met ≡ subcommand_of print1525 words
+    → option_map (λ (v : Bor Text). v.now) r ≡ option_map (value_in o) (option_map (λ (m : Text × List Row). m.1) met) → IfSome r (λ v. value_given words o ≡ Some v.now)
+value_by_rows None o words met e h = tt
+value_by_rows (Some v) o words met e h = ap (λ (x : Met). option_map (value_in o) (option_map (λ (m : Text × List Row). m.1) x)) (sym e) ∙ sym h
+
+-- the value of a fault's option is that of the fault
+pub value_by_fault : (r : Option (Bor Text)) (o : ValueOption) (words : List Text) (f : JobFault) → Some o ≡ option_of f
+    → IfSome r (λ v. value_given words o ≡ Some v.now) → IfSome r (λ v. bad_value words f ≡ Some v.now)
+value_by_fault r o words f e h =
+    let P : Option ValueOption → Type 0 = λ x. IfSome r (λ v. option_and_then (value_given words) x ≡ Some v.now) in
+    subst P e h

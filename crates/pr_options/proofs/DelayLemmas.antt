@@ -126,7 +126,7 @@ four_lists : (a b d : List ℕ) (ls : List (List ℕ)) → 0 < length ls → up_
 four_lists a b d [] h = absurd (omega arith)
 four_lists a b d (l ∷ ls) h = refl
 
--- a slash behind two
+-- a slash after two
 more_lists : (text : List ℕ) → position_or_len slash (after_first slash (after_first slash text)) < length (after_first slash (after_first slash text)) → delays_of text ≡ None
 more_lists text third = by (place 47 text) (place 47 (after_first slash text))
   where

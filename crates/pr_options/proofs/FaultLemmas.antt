@@ -1,6 +1,6 @@
 -- Which faults the words ask for: never one of clap's.
 use Rattle.std.proofs.Common.{◌≡◌, ℕ, Bool, true, false, List, [], Option, Some, None, Result, Ok, Err, IfErr, OnOk, inl, inr, ◌⊎◌, refl, sym, subst, codes}
-use Rattle.std.specs.Prelude.{◌≢◌, ⊤, ok_or, if◌then◌else◌}
+use Rattle.std.specs.Prelude.{◌≢◌, ⊤, is_none, ok_or, unwrap_or, if◌then◌else◌}
 use Rattle.std.specs.Str.{bytes_eq}
 use Rattle.clap.specs.Words.{HasKind, IsAmong, Row, Text, fault_of, kind_of, subcommand_of, takes}
 use Rattle.clap.specs.declared.error.Error.{Error}
@@ -10,15 +10,20 @@ use Rattle.pr_serial.specs.Bus.{DelayNumbers}
 use Rattle.pr_basic.specs.declared.session.StatusMode.{StatusMode}
 use Rattle.pr_capture.specs.declared.format.Source.{Source}
 use Rattle.pr_listing.specs.declared.form.ListingForm.{ListingForm}
+use Rattle.pr_render.specs.Showing.{showing}
+use Rattle.pr_render.specs.declared.format.Device.{Device}
+use Rattle.pr_render.specs.declared.format.Format.{Format}
+use Rattle.pr_render.specs.declared.format.Part.{Part}
 use Rattle.pr_options.specs.CommandLine.{print1525}
 use Rattle.pr_options.specs.DelayLists.{delays_of}
-use Rattle.pr_options.specs.Given.{is_given, value_in}
-use Rattle.pr_options.specs.Jobs.{◌>>=◌, Bus, Check, Decode, InputView, IsRefused, JobView, Pages, Raw, RunView, asked, fits, wanted, wanted_bus, wanted_check, wanted_decode, wanted_input, wanted_pages, wanted_raw, wanted_run}
+use Rattle.pr_options.specs.Given.{file_in, is_given, value_in}
+use Rattle.pr_options.specs.Jobs.{◌>>=◌, Bus, Check, Decode, InputView, IsRefused, JobView, Pages, Raw, RunView, TaskView, asked, fits, shown, unless_found, wanted, wanted_bus, wanted_check, wanted_decode, wanted_format, wanted_input, wanted_pages, wanted_part, wanted_raw, wanted_run, wanted_task}
+use Rattle.pr_options.specs.OptionNames.{ValueOption}
 use Rattle.pr_options.specs.OptionNames as option
-use Rattle.pr_options.specs.Options.{form_of, format_of, mode_of, present_of, report_of, set_of, source_of, start_of, trace_format_of}
+use Rattle.pr_options.specs.Options.{device_of, form_of, format_of, mode_of, present_of, reading_source_of, report_of, set_of, sheet_of, source_of, start_of, trace_format_of}
 use Rattle.pr_options.specs.SignalNames.{Names, names_of}
 use Rattle.pr_options.specs.Steps.{IsOfClap, Met, wanted_of}
-use Rattle.pr_options.specs.declared.command_line.Job.{Job}
+use Rattle.pr_options.specs.declared.command_line.Task.{Task}
 use Rattle.pr_options.specs.declared.command_line.JobFault.{JobFault}
 use Rattle.pr_options.specs.declared.command_line.JobFault.TheVariants as fault
 
@@ -39,8 +44,17 @@ wanted_ok present delays mode = Ok (record { present = present; delays = delays;
 abbrev input_ok : Source → Names → Bool → ℕ → Result InputView JobFault
 input_ok source names inverted start = Ok (record { source = source; names = names; is_inverted = inverted; start = start })
 
+abbrev part_ok : Option Device → Option ℕ → Result Part JobFault
+part_ok device sheet = Ok (record { device = device; sheet = sheet })
+
 abbrev job_ok : JobView → Result JobView JobFault
 job_ok job = Ok job
+
+abbrev result_of : {A : Type 0} → A → Result A JobFault
+result_of x = Ok x
+
+abbrev task_with_files : List Row → JobView → TaskView
+task_with_files rows job = record { job = job; input = file_in option.input rows; output = file_in option.output rows }
 
 -- none of how a script is run
 run_no_line : (rows : List Row) → NoLine (wanted_run rows)
@@ -55,28 +69,75 @@ run_no_line rows =
     by (Some p) (Some d) (Some m) = tt
 
 -- none of how a trace is read
-input_no_line : (rows : List Row) → NoLine (wanted_input rows)
-input_no_line rows =
-    by (source_of (value_in option.from rows)) (names_of (value_in option.names rows)) (start_of (value_in option.from_time rows))
-    (λ source. fits source rows) (is_given option.invert rows)
+input_no_line : (source : Source) (rows : List Row) → NoLine (wanted_input source rows)
+input_no_line source rows =
+    by (names_of (value_in option.names rows)) (start_of (value_in option.from_time rows)) (fits source rows) (is_given option.invert rows)
   where
-    by : (s : Option Source) (n : Option Names) (t : Option ℕ) (f : Source → Bool) (i : Bool) → NoLine (ok_or s fault.BadFrom >>= λ source.
+    by : (n : Option Names) (t : Option ℕ) (f : Bool) (i : Bool) → NoLine (
         ok_or n fault.BadNames >>= λ names. ok_or t fault.BadStart >>= λ start.
-        if f source then input_ok source names i start else Err fault.NoRecording)
-    by None n t f i = λ h. h
-    by (Some s) None t f i = λ h. h
-    by (Some s) (Some n) None f i = λ h. h
-    by (Some s) (Some n) (Some t) f i = elim (f s) as (λ v. NoLine (if v then input_ok s n i t else Err fault.NoRecording)) [ true ↦ tt | false ↦ λ h. h ]
+        if f then input_ok source names i start else Err fault.NoRecording)
+    by None t f i = λ h. h
+    by (Some n) None f i = λ h. h
+    by (Some n) (Some t) true i = tt
+    by (Some n) (Some t) false i = λ h. h
 
 -- none of a job's last value
 last_no_line : {A : Type 0} (o : Option A) (f : JobFault) (job : A → JobView) → ¬ IsLine f → NoLine (ok_or o f >>= λ x. job_ok (job x))
 last_no_line None f job h = h
 last_no_line (Some x) f job h = tt
 
+-- none of the format of pages
+part_no_line : (d : Option (Option Device)) (s : Option (Option ℕ)) → NoLine (ok_or d fault.BadDevice >>= λ device. ok_or s fault.BadSheet >>= λ sheet. part_ok device sheet)
+part_no_line None s = λ h. h
+part_no_line (Some d) None = λ h. h
+part_no_line (Some d) (Some s) = tt
+
+shown_no_line : (p : Result Part JobFault) (show : Part → Option Format) → NoLine p → NoLine (p >>= λ part. ok_or (show part) fault.NoPart)
+shown_no_line (Err f) show h = h
+shown_no_line (Ok p) show h = by (show p)
+  where
+    by : (o : Option Format) → NoLine (ok_or o fault.NoPart)
+    by None = λ h. h
+    by (Some x) = tt
+
+format_no_line : (o : ValueOption) (bad : JobFault) (rows : List Row) → ¬ IsLine bad → NoLine (wanted_format o bad rows)
+format_no_line o bad rows h = by (format_of (value_in o rows))
+  where
+    by : (f : Option Format) → NoLine (ok_or f bad >>= λ format. shown format rows)
+    by None = h
+    by (Some format) =
+        shown_no_line (wanted_part rows) (λ part. showing format part) (part_no_line (device_of (value_in option.device rows)) (sheet_of (value_in option.sheet rows)))
+
+-- none of a job with such a format
+drawn_no_line : {A : Type 0} (r : Result A JobFault) (job : A → JobView) → NoLine r → NoLine (r >>= λ x. job_ok (job x))
+drawn_no_line (Err f) job h = h
+drawn_no_line (Ok x) job h = tt
+
+-- none of a run of a listing that is drawn
+drawn_listing_no_line : {A : Type 0} (form : Option ListingForm) (r : Result A JobFault) (job : ListingForm → A → JobView) → NoLine r → NoLine (ok_or form fault.BadForm >>= λ x. r >>= λ y. job_ok (job x y))
+drawn_listing_no_line None r job h = λ q. q
+drawn_listing_no_line (Some form) r job h = drawn_no_line r (job form) h
+
+-- none of a recording that is drawn
+drawn_reading_no_line : {S A : Type 0} (s : Option S) (e : JobFault) (i : S → Result InputView JobFault) (r : Result A JobFault) (job : S → InputView → A → JobView)
+    → ((x : S) → NoLine (i x)) → ¬ IsLine e → NoLine r → NoLine (ok_or s e >>= λ source. i source >>= λ input. r >>= λ x. job_ok (job source input x))
+drawn_reading_no_line None e i r job k g h = g
+drawn_reading_no_line (Some x) e i r job k g h = by (i x) (k x)
+  where
+    by : (w : Result InputView JobFault) → NoLine w → NoLine (w >>= λ input. r >>= λ y. job_ok (job x input y))
+    by (Err f) q = q
+    by (Ok input) q = drawn_no_line r (job x input) h
+
 -- none of a report on an input
 report_no_line : {A : Type 0} (i : Result InputView JobFault) (o : Option A) (f : JobFault) (job : InputView → A → JobView) → NoLine i → ¬ IsLine f → NoLine (i >>= λ input. ok_or o f >>= λ x. job_ok (job input x))
 report_no_line (Err g) o f job k h = k
 report_no_line (Ok input) o f job k h = last_no_line o f (job input) h
+
+-- none of a report on an input whose format is read first
+source_no_line : {S A : Type 0} (s : Option S) (e : JobFault) (i : S → Result InputView JobFault) (o : Option A) (f : JobFault) (job : S → InputView → A → JobView)
+    → ((x : S) → NoLine (i x)) → ¬ IsLine e → ¬ IsLine f → NoLine (ok_or s e >>= λ source. i source >>= λ input. ok_or o f >>= λ x. job_ok (job source input x))
+source_no_line None e i o f job k g h = g
+source_no_line (Some x) e i o f job k g h = report_no_line (i x) o f (job x) (k x) h
 
 -- none of a run of a listing
 listing_no_line : {A : Type 0} (form : Option ListingForm) (o : Option A) (f : JobFault) (job : ListingForm → A → JobView) → ¬ IsLine f → NoLine (ok_or form fault.BadForm >>= λ x. ok_or o f >>= λ y. job_ok (job x y))
@@ -89,13 +150,19 @@ wanted_no_line name rows = by (wanted_run rows) (set_of (value_in option.set row
   where
     named : (run : RunView) (lower : Bool) (a b d e : Bool) → NoLine (if a then wanted_check rows
         else (if b then wanted_decode rows else (if d then wanted_bus run rows else (if e then wanted_raw lower rows else wanted_pages run rows))))
-    named run lower true b d e = report_no_line (wanted_input rows) (report_of (value_in option.report_as rows)) fault.BadReportAs Check (input_no_line rows) (λ h. h)
-    named run lower false true d e = report_no_line (wanted_input rows) (format_of (value_in option.reading_as rows)) fault.BadReadingAs Decode (input_no_line rows) (λ h. h)
+    named run lower true b d e =
+        source_no_line (source_of (value_in option.from rows)) fault.BadFrom (λ source. wanted_input source rows) (report_of (value_in option.report_as rows)) fault.BadReportAs
+        (λ source input report. Check input report) (λ source. input_no_line source rows) (λ h. h) (λ h. h)
+    named run lower false true d e =
+        drawn_reading_no_line (reading_source_of (value_in option.reading_from rows)) fault.BadReadingFrom (λ source. wanted_input (unwrap_or source (unless_found rows)) rows)
+        (wanted_format option.reading_as fault.BadReadingAs rows) (λ source input format. Decode (is_none source) input format)
+        (λ source. input_no_line (unwrap_or source (unless_found rows)) rows) (λ h. h) (format_no_line option.reading_as fault.BadReadingAs rows (λ h. h))
     named run lower false false true e =
         listing_no_line (form_of (value_in option.listing_from rows)) (trace_format_of (value_in option.trace_as rows)) fault.BadTraceAs (λ form format. Bus form run format) (λ h. h)
-    named run lower false false false true = last_no_line (format_of (value_in option.page_as rows)) fault.BadPageAs (Raw lower) (λ h. h)
+    named run lower false false false true = drawn_no_line (wanted_format option.page_as fault.BadPageAs rows) (Raw lower) (format_no_line option.page_as fault.BadPageAs rows (λ h. h))
     named run lower false false false false =
-        listing_no_line (form_of (value_in option.listing_from rows)) (format_of (value_in option.page_as rows)) fault.BadPageAs (λ form format. Pages form run format) (λ h. h)
+        drawn_listing_no_line (form_of (value_in option.listing_from rows)) (wanted_format option.page_as fault.BadPageAs rows) (λ form format. Pages form run format)
+        (format_no_line option.page_as fault.BadPageAs rows (λ h. h))
 
     by : (r : Result RunView JobFault) (s : Option Bool) → NoLine r → NoLine (r >>= λ run.
         ok_or s fault.BadSet >>= λ lower. if bytes_eq name (codes "check") then wanted_check rows
@@ -107,16 +174,21 @@ wanted_no_line name rows = by (wanted_run rows) (set_of (value_in option.set row
         named run lower (bytes_eq name (codes "check")) (bytes_eq name (codes "decode")) (bytes_eq name (codes "bus")) (bytes_eq name (codes "raw"))
 
 -- so it is none of clap's
-line_free : (w : Result JobView JobFault) (e : Error) → NoLine w → w ≡ Err (fault.Line e) → ⊥
+line_free : (w : Result TaskView JobFault) (e : Error) → NoLine w → w ≡ Err (fault.Line e) → ⊥
 line_free w e h q =
-    let P : Result JobView JobFault → Type 0 = λ r. NoLine r in
+    let P : Result TaskView JobFault → Type 0 = λ r. NoLine r in
     (subst P q h) tt
+
+-- nor is it with the job's files
+task_no_line : {A : Type 0} (w : Result JobView JobFault) (task : JobView → A) → NoLine w → NoLine (w >>= λ job. result_of (task job))
+task_no_line (Ok job) task h = tt
+task_no_line (Err f) task h = h
 
 asked_no_line : (met : Met) (e : Error) → wanted_of met ≡ Some (Err (fault.Line e)) → ⊥
 asked_no_line None e h = cc h
 asked_no_line (Some m) e h =
-    let w : wanted m.0 m.1 ≡ Err (fault.Line e) = cc in
-    line_free (wanted m.0 m.1) e (wanted_no_line m.0 m.1) w
+    let w : wanted_task m.0 m.1 ≡ Err (fault.Line e) = cc in
+    line_free (wanted_task m.0 m.1) e (task_no_line (wanted m.0 m.1) (task_with_files m.1) (wanted_no_line m.0 m.1)) w
 
 -- what holds whatever the job is
 pub on_ok : {T E A : Type 0} (r : Result T E) → A → OnOk r A
@@ -124,7 +196,7 @@ on_ok (Ok x) h = h
 on_ok (Err e) h = tt
 
 -- words that clap takes are refused for the fault that is wanted
-pub bad_is : (words : List Text) (r : Result Job JobFault) → IfErr r (λ f. (f ≡ fault.NoMemory) ⊎ (asked words ≡ Some (Err f))) → fault_of print1525 words ≡ [] → IfErr r (IsRefused words)
+pub bad_is : (words : List Text) (r : Result Task JobFault) → IfErr r (λ f. (f ≡ fault.NoMemory) ⊎ (asked words ≡ Some (Err f))) → fault_of print1525 words ≡ [] → IfErr r (IsRefused words)
 bad_is words (Ok x) h e = tt
 bad_is words (Err f) h e = by f h
   where
@@ -142,6 +214,8 @@ bad_is words (Err f) h e = by f h
     by fault.BadSet (inr h) = (e, h)
     by fault.BadFrom (inl h) = absurd (cc h)
     by fault.BadFrom (inr h) = (e, h)
+    by fault.BadReadingFrom (inl h) = absurd (cc h)
+    by fault.BadReadingFrom (inr h) = (e, h)
     by fault.BadForm (inl h) = absurd (cc h)
     by fault.BadForm (inr h) = (e, h)
     by fault.BadNames (inl h) = absurd (cc h)
@@ -158,6 +232,12 @@ bad_is words (Err f) h e = by f h
     by fault.BadReportAs (inr h) = (e, h)
     by fault.BadReadingAs (inl h) = absurd (cc h)
     by fault.BadReadingAs (inr h) = (e, h)
+    by fault.BadDevice (inl h) = absurd (cc h)
+    by fault.BadDevice (inr h) = (e, h)
+    by fault.BadSheet (inl h) = absurd (cc h)
+    by fault.BadSheet (inr h) = (e, h)
+    by fault.NoPart (inl h) = absurd (cc h)
+    by fault.NoPart (inr h) = (e, h)
 
 not_true : (b : Bool) → ¬ (b ≡ true) → b ≡ false
 not_true true h = absurd (h refl)
@@ -176,6 +256,7 @@ refused_is words error fault.BadDelays h passes kinds = absurd h
 refused_is words error fault.BadStatus h passes kinds = absurd h
 refused_is words error fault.BadSet h passes kinds = absurd h
 refused_is words error fault.BadFrom h passes kinds = absurd h
+refused_is words error fault.BadReadingFrom h passes kinds = absurd h
 refused_is words error fault.BadForm h passes kinds = absurd h
 refused_is words error fault.BadNames h passes kinds = absurd h
 refused_is words error fault.BadStart h passes kinds = absurd h
@@ -184,3 +265,6 @@ refused_is words error fault.BadPageAs h passes kinds = absurd h
 refused_is words error fault.BadTraceAs h passes kinds = absurd h
 refused_is words error fault.BadReportAs h passes kinds = absurd h
 refused_is words error fault.BadReadingAs h passes kinds = absurd h
+refused_is words error fault.BadDevice h passes kinds = absurd h
+refused_is words error fault.BadSheet h passes kinds = absurd h
+refused_is words error fault.NoPart h passes kinds = absurd h

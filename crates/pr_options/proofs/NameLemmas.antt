@@ -69,7 +69,7 @@ four_parts : (a b d : List ℕ) (ls : List (List ℕ)) → 0 < length ls → nam
 four_parts a b d [] h = absurd (omega arith)
 four_parts a b d (l ∷ ls) h = refl
 
--- a comma behind two, where the texts were cut
+-- a comma after two, where the texts were cut
 pub no_names : (text rest d : List ℕ) → rest ≡ after_first comma text → d ≡ after_first comma rest → position_or_len comma d < length d → names_of text ≡ None
 no_names text rest d y w third =
     let e = ap (after_first comma) y in

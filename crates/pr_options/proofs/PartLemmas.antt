@@ -32,7 +32,7 @@ one_part m text none = record {
   behind = drop_all _ text (omega arith);
 }
 
--- nothing stands before or behind a mark of an empty text
+-- nothing comes before or after a mark of an empty text
 pub empty_rest : (m : ℕ) (t : List ℕ) → t ≡ [] → (before_first (is_mark m) t ≡ []) × (after_first (is_mark m) t ≡ [])
 empty_rest m t e = rw e (refl, refl)
 

@@ -1,5 +1,5 @@
 -- Trusted: the program's command line, as a simple command of clap.
-use Rattle.std.specs.Prelude.{◌∷◌, [], Some, List, codes, false, true}
+use Rattle.std.specs.Prelude.{◌∷◌, ◌++◌, [], Some, List, codes, false, true}
 use Rattle.clap.specs.Words.{App, Rule, Shape, Text, new_rule}
 use Rattle.clap.specs.Simple.{new_shape}
 use Rattle.clap.specs.declared.builder.action.ArgAction.TheVariants.{SetTrue}
@@ -15,9 +15,17 @@ value_rule o =
 abbrev pub flag_rule : Text → Rule
 flag_rule name = record (new_rule name) { long = Some name; action = Some SetTrue }
 
--- a subcommand with its options
+-- the file that is read, which is named without the name of an option
+abbrev pub input_rule : Text → Rule
+input_rule name = record (new_rule name) { value_names = 1 }
+
+-- the file that is written: `--output FILE`, or `-o FILE` (111)
+abbrev pub output_rule : Text → Rule
+output_rule name = record (new_rule name) { long = Some name; short = Some 111; value_names = 1 }
+
+-- a subcommand with its options; each has a file that is read and one that is written
 abbrev pub subcommand : Text → List Rule → Shape
-subcommand name rules = record (new_shape name) { rules = rules }
+subcommand name rules = record (new_shape name) { rules = input_rule option.input ∷ output_rule option.output ∷ rules }
 
 -- a subcommand that runs a script, and the formats of what it writes
 abbrev pub run_shape : Text → ValueOption → Shape
@@ -26,16 +34,21 @@ run_shape name formats =
     ∷ value_rule option.delays ∷ value_rule option.status ∷ value_rule formats
     ∷ flag_rule option.explain ∷ [])
 
--- a subcommand that reads a trace or a recording, and the formats of what it writes
-abbrev pub trace_shape : Text → ValueOption → Shape
-trace_shape name formats =
-    subcommand name (value_rule option.from ∷ value_rule option.names ∷ flag_rule option.invert
+-- a subcommand that reads a trace or a recording, the formats of it, and those of what it writes
+abbrev pub trace_shape : Text → ValueOption → ValueOption → Shape
+trace_shape name from formats =
+    subcommand name (value_rule from ∷ value_rule option.names ∷ flag_rule option.invert
     ∷ value_rule option.from_time ∷ value_rule formats ∷ flag_rule option.explain ∷ [])
 
 -- the subcommand that writes the page of a printer's bytes
 abbrev pub raw_shape : Shape
 raw_shape =
     subcommand (codes "raw") (value_rule option.set ∷ value_rule option.page_as ∷ flag_rule option.explain ∷ [])
+
+-- the same with what of the pages a picture shows
+abbrev pub with_part : Shape → Shape
+with_part s =
+    record s { rules = s.rules ++ value_rule option.device ∷ value_rule option.sheet ∷ [] }
 
 -- the program: it has a version, and needs one of its subcommands
 abbrev pub print1525 : App
@@ -46,7 +59,9 @@ print1525 = record {
     subcommand_required = true;
     disable_help_subcommand = true;
   };
-  subs = run_shape (codes "pages") option.page_as ∷ run_shape (codes "bus") option.trace_as
-      ∷ trace_shape (codes "check") option.report_as ∷ trace_shape (codes "decode") option.reading_as
-      ∷ raw_shape ∷ [];
+  subs = with_part (run_shape (codes "pages") option.page_as)
+      ∷ run_shape (codes "bus") option.trace_as
+      ∷ trace_shape (codes "check") option.from option.report_as
+      ∷ with_part (trace_shape (codes "decode") option.reading_from option.reading_as)
+      ∷ with_part raw_shape ∷ [];
 }

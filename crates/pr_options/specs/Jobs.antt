@@ -1,5 +1,5 @@
--- Trusted: what a command line asks for, by clap's meaning of the command.
-use Rattle.std.specs.Prelude.{◌≡◌, ◌≢◌, ◌||◌, ⊤, ℕ, Bool, true, false, not, List, Option, Some, None, Result, Ok, Err, [], codes, ok_or, option_map, if◌then◌else◌}
+-- Trusted: the job that a command line asks for, with clap's reading of the words.
+use Rattle.std.specs.Prelude.{◌≡◌, ◌≢◌, ◌||◌, ⊤, ℕ, Bool, true, false, not, List, Option, Some, None, Result, Ok, Err, [], codes, is_none, ok_or, option_map, unwrap_or, if◌then◌else◌}
 use Rattle.std.specs.Str.{bytes_eq}
 use Rattle.clap.specs.Words.{IsAmong, Row, Text, fault_of, kind_of, subcommand_of, takes}
 use Rattle.clap.specs.declared.error.kind.ErrorKind.TheVariants.{OutOfMemory}
@@ -9,7 +9,9 @@ use Rattle.pr_bus.specs.declared.wires.Delays.{Delays}
 use Rattle.pr_bus.specs.DelaysLeft.{numbers_left}
 use Rattle.pr_basic.specs.declared.session.StatusMode.{StatusMode}
 use Rattle.pr_listing.specs.declared.form.ListingForm.{ListingForm}
+use Rattle.pr_render.specs.Showing.{showing}
 use Rattle.pr_render.specs.declared.format.Format.{Format}
+use Rattle.pr_render.specs.declared.format.Part.{Part}
 use Rattle.pr_capture.specs.declared.format.TraceFormat.{TraceFormat}
 use Rattle.pr_capture.specs.declared.format.Source.{Source}
 use Rattle.pr_capture.specs.declared.format.Source.TheVariants as source
@@ -19,12 +21,13 @@ use Rattle.pr_options.specs.OptionNames.{ValueOption}
 use Rattle.pr_options.specs.OptionNames as option
 use Rattle.pr_options.specs.CommandLine.{print1525}
 use Rattle.pr_options.specs.DelayLists.{delays_of}
-use Rattle.pr_options.specs.Given.{is_given, value_in}
-use Rattle.pr_options.specs.Options.{form_of, format_of, mode_of, present_of, report_of, set_of, source_of, start_of, trace_format_of}
+use Rattle.pr_options.specs.Given.{file_in, is_given, value_in}
+use Rattle.pr_options.specs.Options.{device_of, form_of, format_of, mode_of, present_of, reading_source_of, report_of, set_of, sheet_of, source_of, start_of, trace_format_of}
 use Rattle.pr_options.specs.SignalNames.{Names, names_of, names_of_signals}
 use Rattle.pr_options.specs.declared.command_line.Job.{Job}
 use Rattle.pr_options.specs.declared.command_line.Job.TheVariants as job
 use Rattle.pr_options.specs.declared.command_line.JobFault.{JobFault}
+use Rattle.pr_options.specs.declared.command_line.Task.{Task}
 use Rattle.pr_options.specs.declared.command_line.JobFault.TheVariants as fault
 
 -- how a script is run
@@ -45,8 +48,14 @@ pub data JobView : Type 0 where
   Pages : ListingForm → RunView → Format → JobView
   Bus : ListingForm → RunView → TraceFormat → JobView
   Check : InputView → Report → JobView
-  Decode : InputView → Format → JobView
+  Decode : Bool → InputView → Format → JobView
   Raw : Bool → Format → JobView
+
+-- a job, the file that it reads and the file that it writes, where words name them
+pub record TaskView : Type 0 where
+  pub job : JobView
+  pub input : Option Text
+  pub output : Option Text
 
 -- the plain values of an input
 abbrev pub input_view : TraceInput → InputView
@@ -69,10 +78,18 @@ job_view (job.Pages form present delays mode format) =
 job_view (job.Bus form present delays mode format) =
     Bus form (view_of_run present delays mode) format
 job_view (job.Check input report) = Check (input_view input) report
-job_view (job.Decode input format) = Decode (input_view input) format
+job_view (job.Decode is_found input format) = Decode is_found (input_view input) format
 job_view (job.Raw lower format) = Raw lower format
 
--- what follows a value, or the first fault
+-- a job with its files, in plain values
+abbrev pub task_view : Task → TaskView
+task_view task = record {
+  job = job_view task.job;
+  input = option_map (λ name. name.now) task.input;
+  output = option_map (λ name. name.now) task.output;
+}
+
+-- the next step with a value, or the first fault
 infixl 10 ◌>>=◌
 abbrev pub ◌>>=◌ : {A B : Type 0} → Result A JobFault → (A → Result B JobFault) → Result B JobFault
 Ok value >>= next = next value
@@ -101,10 +118,9 @@ abbrev pub fits : Source → List Row → Bool
 fits source.Text rows = not (wants_recording rows)
 fits _ rows = true
 
--- how a trace or a recording is to be read
-abbrev pub wanted_input : List Row → Result InputView JobFault
-wanted_input rows =
-    read option.from source_of fault.BadFrom rows >>= λ source.
+-- how a trace or a recording in this format is to be read
+abbrev pub wanted_input : Source → List Row → Result InputView JobFault
+wanted_input source rows =
     read option.names names_of fault.BadNames rows >>= λ names.
     read option.from_time start_of fault.BadStart rows >>= λ start.
     if fits source rows
@@ -116,18 +132,41 @@ wanted_input rows =
     })
     else Err fault.NoRecording
 
+-- what of the pages is shown
+abbrev pub wanted_part : List Row → Result Part JobFault
+wanted_part rows =
+    read option.device device_of fault.BadDevice rows >>= λ device.
+    read option.sheet sheet_of fault.BadSheet rows >>= λ sheet.
+    Ok (record { device = device; sheet = sheet })
+
+-- a format that shows that part
+abbrev pub shown : Format → List Row → Result Format JobFault
+shown format rows = wanted_part rows >>= λ part. ok_or (showing format part) fault.NoPart
+
+-- the format of pages
+abbrev pub wanted_format : ValueOption → JobFault → List Row → Result Format JobFault
+wanted_format option bad rows = read option format_of bad rows >>= λ format. shown format rows
+
 -- the jobs of the subcommands; each has its own values of --as
 abbrev pub wanted_check : List Row → Result JobView JobFault
 wanted_check rows =
-    wanted_input rows >>= λ input.
+    read option.from source_of fault.BadFrom rows >>= λ source.
+    wanted_input source rows >>= λ input.
     read option.report_as report_of fault.BadReportAs rows >>= λ report.
     Ok (Check input report)
 
+-- a recording whose format is not given is a trace text, or a table where something is given that goes with a
+-- recording alone, if its first bytes do not show another one
+abbrev pub unless_found : List Row → Source
+unless_found rows = if wants_recording rows then source.Csv else source.Text
+
+-- the first part of a job of `decode` says whether the format is to be found by the first bytes
 abbrev pub wanted_decode : List Row → Result JobView JobFault
 wanted_decode rows =
-    wanted_input rows >>= λ input.
-    read option.reading_as format_of fault.BadReadingAs rows >>= λ format.
-    Ok (Decode input format)
+    read option.reading_from reading_source_of fault.BadReadingFrom rows >>= λ source.
+    wanted_input (unwrap_or source (unless_found rows)) rows >>= λ input.
+    wanted_format option.reading_as fault.BadReadingAs rows >>= λ format.
+    Ok (Decode (is_none source) input format)
 
 abbrev pub wanted_bus : RunView → List Row → Result JobView JobFault
 wanted_bus run rows =
@@ -137,12 +176,12 @@ wanted_bus run rows =
 
 abbrev pub wanted_raw : Bool → List Row → Result JobView JobFault
 wanted_raw lower rows =
-    read option.page_as format_of fault.BadPageAs rows >>= λ format. Ok (Raw lower format)
+    wanted_format option.page_as fault.BadPageAs rows >>= λ format. Ok (Raw lower format)
 
 abbrev pub wanted_pages : RunView → List Row → Result JobView JobFault
 wanted_pages run rows =
     read option.listing_from form_of fault.BadForm rows >>= λ form.
-    read option.page_as format_of fault.BadPageAs rows >>= λ format.
+    wanted_format option.page_as fault.BadPageAs rows >>= λ format.
     Ok (Pages form run format)
 
 -- the job of a subcommand with these rows of options, or the first bad value: the options of a run
@@ -157,9 +196,19 @@ wanted name rows =
     else (if bytes_eq name (codes "raw") then wanted_raw lower rows
     else wanted_pages run rows)))
 
--- the job that words ask for, by the subcommand that they name
-abbrev pub asked : List Text → Option (Result JobView JobFault)
-asked words = option_map (λ met. wanted met.0 met.1) (subcommand_of print1525 words)
+-- the same with the files that it reads and writes
+abbrev pub wanted_task : Text → List Row → Result TaskView JobFault
+wanted_task name rows =
+    wanted name rows >>= λ job.
+    Ok (record {
+      job = job;
+      input = file_in option.input rows;
+      output = file_in option.output rows;
+    })
+
+-- the job that words ask for and its files, with the subcommand that they name
+abbrev pub asked : List Text → Option (Result TaskView JobFault)
+asked words = option_map (λ met. wanted_task met.0 met.1) (subcommand_of print1525 words)
 
 -- why words ask for no job: clap refuses them, for one of the reasons that it has and not for want
 -- of memory; or memory was refused; or clap takes them, and this is their first bad value

@@ -1,59 +1,115 @@
--- Trusted: the names of the program's options, and the values of those that are not given.
-use Rattle.std.specs.Prelude.{[], codes}
+-- Trusted: the names of the program's options, their defaults, and what the endings of file names say.
+use Rattle.std.specs.Prelude.{◌∷◌, [], List, codes}
 use Rattle.clap.specs.Words.{Text}
 
--- an option with a value: its name, and the value where none is given
+-- an option with a value: its name; the value where nothing else gives one; and the values that the endings of a
+-- file's name give, where the argument `file` names one
 pub record ValueOption : Type 0 where
   pub name : Text
   pub default : Text
+  pub file : Text
+  pub endings : List (Text × Text)
+
+-- the file that is read; words give it without a name of an option
+abbrev pub input : Text
+input = codes "file"
+
+-- the file that is written
+abbrev pub output : Text
+output = codes "output"
+
+-- an option whose value no file's name gives
+abbrev pub plain : Text → Text → ValueOption
+plain name default = record { name = name; default = default; file = []; endings = [] }
+
+-- an option whose value the ending of a file's name can give
+abbrev pub by_file : Text → List (Text × Text) → Text → Text → ValueOption
+by_file file endings name default =
+    record { name = name; default = default; file = file; endings = endings }
+
+-- what the endings of a listing's name say
+abbrev pub listing_endings : List (Text × Text)
+listing_endings = (codes ".prg", codes "prg") ∷ (codes ".petcat", codes "petcat") ∷ []
+
+-- what the endings of a recording's name say
+abbrev pub recording_endings : List (Text × Text)
+recording_endings = (codes ".vcd", codes "vcd") ∷ (codes ".csv", codes "csv") ∷ []
+
+-- what the endings of the name of any recording say
+abbrev pub reading_from_endings : List (Text × Text)
+reading_from_endings = (codes ".vcd", codes "vcd") ∷ (codes ".csv", codes "csv") ∷ (codes ".trace", codes "text") ∷ []
+
+-- what the endings of a page's name say
+abbrev pub page_endings : List (Text × Text)
+page_endings = (codes ".svg", codes "svg") ∷ (codes ".png", codes "png") ∷ (codes ".pdf", codes "pdf") ∷ (codes ".txt", codes "text") ∷ []
+
+-- what the endings of a trace's name say
+abbrev pub trace_endings : List (Text × Text)
+trace_endings = (codes ".vcd", codes "vcd") ∷ []
+
+-- what the endings of a reading's name say
+abbrev pub reading_endings : List (Text × Text)
+reading_endings = (codes ".svg", codes "svg") ∷ (codes ".png", codes "png") ∷ (codes ".pdf", codes "pdf") ∷ []
 
 -- which printers are present
 abbrev pub present : ValueOption
-present = record { name = codes "present"; default = codes "both" }
+present = plain (codes "present") (codes "both")
 
 -- the form of a listing
 abbrev pub listing_from : ValueOption
-listing_from = record { name = codes "from"; default = codes "text" }
+listing_from = by_file input listing_endings (codes "from") (codes "text")
 
 -- the delays of the wires
 abbrev pub delays : ValueOption
-delays = record { name = codes "delays"; default = [] }
+delays = plain (codes "delays") []
 
 -- whether the status is kept from statement to statement
 abbrev pub status : ValueOption
-status = record { name = codes "status"; default = codes "each" }
+status = plain (codes "status") (codes "each")
 
 -- the character set that is selected
 abbrev pub set : ValueOption
-set = record { name = codes "set"; default = codes "upper" }
+set = plain (codes "set") (codes "upper")
 
 -- the format of a page
 abbrev pub page_as : ValueOption
-page_as = record { name = codes "as"; default = codes "list" }
+page_as = by_file output page_endings (codes "as") (codes "list")
+
+-- the printer whose pages a picture shows
+abbrev pub device : ValueOption
+device = plain (codes "device") []
+
+-- the sheet that a picture shows
+abbrev pub sheet : ValueOption
+sheet = plain (codes "sheet") []
 
 -- the format of the trace of a run
 abbrev pub trace_as : ValueOption
-trace_as = record { name = codes "as"; default = codes "text" }
+trace_as = by_file output trace_endings (codes "as") (codes "text")
 
 -- what `check` writes
 abbrev pub report_as : ValueOption
-report_as = record { name = codes "as"; default = codes "frames" }
+report_as = plain (codes "as") (codes "frames")
 
 -- what `decode` writes
 abbrev pub reading_as : ValueOption
-reading_as = record { name = codes "as"; default = codes "list" }
+reading_as = by_file output reading_endings (codes "as") (codes "list")
 
 -- the format of a trace that is checked
 abbrev pub from : ValueOption
-from = record { name = codes "from"; default = codes "text" }
+from = by_file input recording_endings (codes "from") (codes "text")
+
+-- the format of a recording that is decoded; with `auto` its first bytes show it
+abbrev pub reading_from : ValueOption
+reading_from = by_file input reading_from_endings (codes "from") (codes "auto")
 
 -- the names of the signals in a recording
 abbrev pub names : ValueOption
-names = record { name = codes "names"; default = codes "ATN,CLOCK,DATA" }
+names = plain (codes "names") (codes "ATN,CLOCK,DATA")
 
 -- the moment of a recording at which the trace starts
 abbrev pub from_time : ValueOption
-from_time = record { name = codes "from-time"; default = codes "0" }
+from_time = plain (codes "from-time") (codes "0")
 
 -- the probes invert; a flag without a value
 abbrev pub invert : Text

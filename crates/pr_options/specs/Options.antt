@@ -1,5 +1,5 @@
 -- Trusted: the values of the program's options.
-use Rattle.std.specs.Prelude.{ℕ, ◌^◌, ◌&&◌, ◌∷◌, [], Bool, List, length, nat_lt, Option, Some, None, true, false, codes, if◌then◌else◌, find, option_map}
+use Rattle.std.specs.Prelude.{ℕ, ◌^◌, ◌==◌, ◌&&◌, ◌∷◌, [], Bool, List, length, nat_lt, Option, Some, None, true, false, codes, if◌then◌else◌, find, option_and_then, option_map}
 use Rattle.std.specs.List.{list_all}
 use Rattle.std.specs.Str.{bytes_eq}
 use Rattle.clap.specs.Words.{Text}
@@ -11,6 +11,9 @@ use Rattle.pr_listing.specs.declared.form.ListingForm.{ListingForm}
 use Rattle.pr_listing.specs.declared.form.ListingForm.TheVariants as form
 use Rattle.pr_render.specs.declared.format.Format.{Format}
 use Rattle.pr_render.specs.declared.format.Format.TheVariants as format
+use Rattle.pr_render.specs.Showing.{whole}
+use Rattle.pr_render.specs.declared.format.Device.{Device}
+use Rattle.pr_render.specs.declared.format.Device.TheVariants as device
 use Rattle.pr_capture.specs.declared.format.TraceFormat.{TraceFormat}
 use Rattle.pr_capture.specs.declared.format.TraceFormat.TheVariants as trace
 use Rattle.pr_capture.specs.declared.format.Source.{Source}
@@ -42,10 +45,14 @@ mode_of = meaning_of ((codes "each", Each) ∷ (codes "kept", Kept) ∷ [])
 abbrev pub set_of : Text → Option Bool
 set_of = meaning_of ((codes "upper", false) ∷ (codes "lower", true) ∷ [])
 
--- the format of the page: list, text or svg
+-- the format of the page: list, text, svg, png or pdf
 abbrev pub format_of : Text → Option Format
-format_of = meaning_of (
-    (codes "list", format.List) ∷ (codes "text", format.Lines) ∷ (codes "svg", format.Picture) ∷ [])
+format_of = meaning_of ((codes "list", format.List) ∷ (codes "text", format.Lines)
+    ∷ (codes "svg", format.Svg whole) ∷ (codes "png", format.Png whole) ∷ (codes "pdf", format.Pdf None) ∷ [])
+
+-- the printer whose pages are drawn: 4 or 5, or nothing for all of them
+abbrev pub device_of : Text → Option (Option Device)
+device_of = meaning_of (([], None) ∷ (codes "4", Some device.Four) ∷ (codes "5", Some device.Five) ∷ [])
 
 -- the format of a run's trace: text or vcd
 abbrev pub trace_format_of : Text → Option TraceFormat
@@ -56,7 +63,12 @@ abbrev pub source_of : Text → Option Source
 source_of = meaning_of (
     (codes "text", source.Text) ∷ (codes "vcd", source.Vcd) ∷ (codes "csv", source.Csv) ∷ [])
 
--- what is written of a trace that is checked: frames or story
+-- the format of a recording that is decoded: text, vcd or csv, or auto, which names none
+abbrev pub reading_source_of : Text → Option (Option Source)
+reading_source_of = meaning_of ((codes "auto", None) ∷ (codes "text", Some source.Text)
+    ∷ (codes "vcd", Some source.Vcd) ∷ (codes "csv", Some source.Csv) ∷ [])
+
+-- what `check` writes: frames or story
 abbrev pub report_of : Text → Option Report
 report_of = meaning_of ((codes "frames", report.Frames) ∷ (codes "story", report.Story) ∷ [])
 
@@ -65,3 +77,12 @@ abbrev pub start_of : Text → Option ℕ
 start_of text =
     if nat_lt 0 (length text) && (list_all is_digit text && nat_lt (number_of text) (2 ^ 64))
     then Some (number_of text) else None
+
+-- the sheet of a number; sheets count from 1
+abbrev pub sheet_numbered : ℕ → Option (Option ℕ)
+sheet_numbered n = if n == 0 then None else Some (Some n)
+
+-- the sheet that is drawn: decimal digits that spell a number from 1, below 2^64, or nothing for none
+abbrev pub sheet_of : Text → Option (Option ℕ)
+sheet_of text =
+    if length text == 0 then Some None else option_and_then sheet_numbered (start_of text)

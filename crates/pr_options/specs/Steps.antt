@@ -5,7 +5,7 @@ use Rattle.clap.specs.Words.{Row, Text, kind_of}
 use Rattle.clap.specs.declared.error.Error.{Error}
 use Rattle.clap.specs.declared.error.kind.ErrorKind.TheVariants.{OutOfMemory}
 use Rattle.pr_capture.specs.declared.signals.Signals.{Signals}
-use Rattle.pr_options.specs.Jobs.{JobView, RunView, job_view, view_of_run, wanted}
+use Rattle.pr_options.specs.Jobs.{JobView, RunView, TaskView, job_view, view_of_run, wanted_task}
 use Rattle.pr_options.specs.SignalNames.{Names, names_of_signals}
 use Rattle.pr_options.specs.declared.command_line.Job.{Job}
 use Rattle.pr_options.specs.declared.command_line.JobFault.{JobFault}
@@ -32,9 +32,9 @@ signals_result r = result_map_both names_of_signals (λ f. f) r
 abbrev pub Met : Type 0
 Met = Option (Text × List Row)
 
--- the job that the subcommand met is to do
-abbrev pub wanted_of : Met → Option (Result JobView JobFault)
-wanted_of met = option_map (λ m. wanted m.0 m.1) met
+-- the job that the subcommand met is to do, with its files
+abbrev pub wanted_of : Met → Option (Result TaskView JobFault)
+wanted_of met = option_map (λ m. wanted_task m.0 m.1) met
 
 -- what a refusal by clap is to the command line
 abbrev pub IsOfClap : Error → JobFault → Type 0

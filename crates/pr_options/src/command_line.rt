@@ -1,30 +1,37 @@
 //! What a command line asks for: the program's job.
 
-ghost use Rattle.std.specs.Prelude.{◌≡◌, ◌⊎◌, [], Err, Ok, Some, codes, map, option_map, IfErr, IfOk, IsSome, OnOk};
+ghost use Rattle.std.specs.Prelude.{◌≡◌, ◌==◌, ◌||◌, ◌⊎◌, [], Err, Ok, Some, codes, find, map, option_map, IfErr, IfOk, IfSome, IsSome, OnOk};
 ghost use Rattle.std.specs.List.{list_any};
 ghost use Rattle.std.specs.Str.{bytes_eq};
 ghost use Rattle.clap.specs.Words.{fault_of, found_of, rows_of, subcommand_rows_of};
 ghost use Rattle.pr_options.specs.CommandLine.{print1525};
 ghost use Rattle.pr_options.specs.CommandLaws.{NamesOurs};
-ghost use Rattle.pr_options.specs.Jobs.{IsRefused, asked, input_view, job_view, wanted_bus, wanted_check, wanted_decode, wanted_input, wanted_pages, wanted_raw, wanted_run};
+ghost use Rattle.pr_options.specs.Jobs.{IsRefused, asked, input_view, job_view, task_view, wanted, wanted_bus, wanted_check, wanted_decode, wanted_input, wanted_pages, wanted_raw, wanted_run};
 ghost use Rattle.pr_options.specs.Steps.{IsFaultIn, IsOfClap, job_result, run_view, wanted_of};
-ghost use Rattle.pr_options.specs.Values.{values_of};
+ghost use Rattle.pr_options.specs.Found.{bad_value, begins_as_dump, begins_as_table, found_source, front, has_comma, value_given};
+ghost use Rattle.pr_options.specs.Given.{value_in};
+ghost use Rattle.pr_options.specs.Subcommands.{option_view};
+ghost use Rattle.pr_options.specs.Values.{good_values_of, option_of, values_of};
 
 use crate::clap_command::make_command;
 use crate::delays::DelayFault;
 use crate::options::{
-    DELAYS, FROM, FROM_TIME, LISTING_FROM, NAMES, PAGE_AS, PRESENT, READING_AS, REPORT_AS, SET,
-    STATUS, TRACE_AS,
+    DELAYS, DEVICE, DEVICE_VALUES, FROM, FROM_TIME, FROM_TIME_VALUES, FROM_VALUES, INPUT,
+    LISTING_FROM, LISTING_FROM_VALUES, NAMES, NAMES_VALUES, OUTPUT, PAGE_AS, PAGE_AS_VALUES,
+    PRESENT, READING_AS, READING_AS_VALUES, READING_FROM, READING_FROM_VALUES, REPORT_AS,
+    REPORT_AS_VALUES, SET, SET_VALUES, SHEET, SHEET_VALUES, STATUS, TRACE_AS, TRACE_AS_VALUES,
+    ValueOption,
 };
 use crate::values_given::{
-    delays_in, fits, form_in, page_format_in, present_in, reading_format_in, report_in, set_in,
-    signals_in, source_in, start_in, status_in, trace_format_in,
+    delays_in, file_in, fits, form_in, page_format_in, present_in, reading_format_in,
+    reading_source_in, report_in, set_in, signals_in, source_in, start_in, status_in,
+    trace_format_in, unless_found, value_in,
 };
 use clap::ArgMatches;
 use clap::error::ErrorKind;
 use pr_basic::StatusMode;
 use pr_bus::Delays;
-use pr_capture::{TraceFormat, TraceInput};
+use pr_capture::{Source, TraceFormat, TraceInput};
 use pr_listing::ListingForm;
 use pr_render::Format;
 use pr_report::Report;
@@ -44,8 +51,16 @@ pub enum Job<'a> {
     /// Read a trace and write what it says.
     Check(TraceInput<'a>, Report),
     /// Read any recording and write what it says: with [`Format::List`] byte by byte, else as the pages
-    /// that printers 4 and 5 print of it, in this format.
-    Decode(TraceInput<'a>, Format),
+    /// that printers 4 and 5 print of it.
+    Decode {
+        /// The first bytes of the recording show its format, as [`found_source`] reads them; the format
+        /// in `input` is the one where they show none.
+        is_found: bool,
+        /// How it is read.
+        input: TraceInput<'a>,
+        /// The format of what is written.
+        format: Format,
+    },
     /// Read the bytes of a printer and write its page.
     Raw {
         /// The lower/upper case set is selected first, else the graphic/upper case set.
@@ -53,6 +68,16 @@ pub enum Job<'a> {
         /// The format of the page.
         format: Format,
     },
+}
+
+/// A job, and the files that it reads and writes.
+#[derive(Drop)]
+pub struct Task<'a> {
+    pub job: Job<'a>,
+    /// The name of the file that is read; None where standard input is.
+    pub input: Option<&'a str>,
+    /// The name of the file that is written; None where standard output is.
+    pub output: Option<&'a str>,
 }
 
 /// Why a command line asks for nothing.
@@ -73,9 +98,12 @@ pub enum JobFault {
     /// The value of `--set` is not `upper` or `lower`.
     #[error("bad --set")]
     BadSet,
-    /// The value of `--from` of `check` or `decode` is not `text`, `vcd` or `csv`.
+    /// The value of `--from` of `check` is not `text`, `vcd` or `csv`.
     #[error("bad --from")]
     BadFrom,
+    /// The value of `--from` of `decode` is not `auto`, `text`, `vcd` or `csv`.
+    #[error("bad --from")]
+    BadReadingFrom,
     /// The value of `--from` of `pages` or `bus` is not `text`, `prg` or `petcat`.
     #[error("bad --from")]
     BadForm,
@@ -88,7 +116,7 @@ pub enum JobFault {
     /// `--names`, `--invert` or `--from-time` is given where the trace is a text.
     #[error("--names, --invert and --from-time go with --from vcd or csv")]
     NoRecording,
-    /// The value of `--as` of `pages` or `raw` is not `list`, `text` or `svg`.
+    /// The value of `--as` of `pages` or `raw` is not `list`, `text`, `svg`, `png` or `pdf`.
     #[error("bad --as")]
     BadPageAs,
     /// The value of `--as` of `bus` is not `text` or `vcd`.
@@ -97,9 +125,18 @@ pub enum JobFault {
     /// The value of `--as` of `check` is not `frames` or `story`.
     #[error("bad --as")]
     BadReportAs,
-    /// The value of `--as` of `decode` is not `list`, `text` or `svg`.
+    /// The value of `--as` of `decode` is not `list`, `text`, `svg`, `png` or `pdf`.
     #[error("bad --as")]
     BadReadingAs,
+    /// The value of `--device` is not `4` or `5`.
+    #[error("bad --device")]
+    BadDevice,
+    /// The value of `--sheet` is no number from 1.
+    #[error("bad --sheet")]
+    BadSheet,
+    /// `--device` is given where no picture is written, or `--sheet` where no picture of a sheet is.
+    #[error("--device goes with --as svg, png or pdf, --sheet with svg or png")]
+    NoPart,
     /// Memory was refused.
     #[error("out of memory")]
     NoMemory,
@@ -112,20 +149,60 @@ impl JobFault {
     pub fn values(&self) -> Option<&'static str>
         ensures { option_map (λ text. text.now) result ≡ values_of self.now }
     {
+        match self.option() {
+            Some(option) => Some(option.help),
+            None => None,
+        }
+    }
+
+    /// Returns the values that the option has of which this is a bad one, in a few words, which the
+    /// line of the fault has too. None where that line's text is fixed, and of other faults. It takes
+    /// no memory.
+    pub fn good_values(&self) -> Option<&'static str>
+        ensures { option_map (λ text. text.now) result ≡ good_values_of self.now }
+    {
         match self {
-            JobFault::BadPresent => Some(PRESENT.help),
-            JobFault::BadDelays => Some(DELAYS.help),
-            JobFault::BadStatus => Some(STATUS.help),
-            JobFault::BadSet => Some(SET.help),
-            JobFault::BadFrom => Some(FROM.help),
-            JobFault::BadForm => Some(LISTING_FROM.help),
-            JobFault::BadNames => Some(NAMES.help),
-            JobFault::BadStart => Some(FROM_TIME.help),
-            JobFault::BadPageAs => Some(PAGE_AS.help),
-            JobFault::BadTraceAs => Some(TRACE_AS.help),
-            JobFault::BadReportAs => Some(REPORT_AS.help),
-            JobFault::BadReadingAs => Some(READING_AS.help),
-            JobFault::NoRecording | JobFault::Line(_) | JobFault::NoMemory => None,
+            JobFault::BadSet => Some(SET_VALUES),
+            JobFault::BadFrom => Some(FROM_VALUES),
+            JobFault::BadReadingFrom => Some(READING_FROM_VALUES),
+            JobFault::BadForm => Some(LISTING_FROM_VALUES),
+            JobFault::BadNames => Some(NAMES_VALUES),
+            JobFault::BadStart => Some(FROM_TIME_VALUES),
+            JobFault::BadPageAs => Some(PAGE_AS_VALUES),
+            JobFault::BadTraceAs => Some(TRACE_AS_VALUES),
+            JobFault::BadReportAs => Some(REPORT_AS_VALUES),
+            JobFault::BadReadingAs => Some(READING_AS_VALUES),
+            JobFault::BadDevice => Some(DEVICE_VALUES),
+            JobFault::BadSheet => Some(SHEET_VALUES),
+            JobFault::BadPresent | JobFault::BadDelays | JobFault::BadStatus => None,
+            JobFault::NoRecording | JobFault::NoPart | JobFault::Line(_) | JobFault::NoMemory =>
+                None,
+        }
+    }
+
+    /// Returns the option of which this is a bad value.
+    fn option(&self) -> Option<ValueOption>
+        ensures option { option_map option_view result ≡ option_of self.now }
+        ensures help { option_map (λ o. o.help.now) result ≡ values_of self.now }
+    {
+        match self {
+            JobFault::BadPresent => Some(PRESENT),
+            JobFault::BadDelays => Some(DELAYS),
+            JobFault::BadStatus => Some(STATUS),
+            JobFault::BadSet => Some(SET),
+            JobFault::BadFrom => Some(FROM),
+            JobFault::BadReadingFrom => Some(READING_FROM),
+            JobFault::BadForm => Some(LISTING_FROM),
+            JobFault::BadNames => Some(NAMES),
+            JobFault::BadStart => Some(FROM_TIME),
+            JobFault::BadPageAs => Some(PAGE_AS),
+            JobFault::BadTraceAs => Some(TRACE_AS),
+            JobFault::BadReportAs => Some(REPORT_AS),
+            JobFault::BadReadingAs => Some(READING_AS),
+            JobFault::BadDevice => Some(DEVICE),
+            JobFault::BadSheet => Some(SHEET),
+            JobFault::NoRecording | JobFault::NoPart | JobFault::Line(_) | JobFault::NoMemory =>
+                None,
         }
     }
 }
@@ -154,13 +231,14 @@ impl From<DelayFault> for JobFault {
 /// [`JobFault::NoMemory`] where memory was refused, by clap too. The other faults come
 /// only for words that clap takes, and report the first bad value in this order:
 /// [`JobFault::BadPresent`], [`JobFault::BadDelays`], [`JobFault::BadStatus`], [`JobFault::BadSet`];
-/// of `pages` and `bus` [`JobFault::BadForm`]; of `check` and `decode` [`JobFault::BadFrom`],
-/// [`JobFault::BadNames`], [`JobFault::BadStart`], then [`JobFault::NoRecording`], where these are good;
+/// of `pages` and `bus` [`JobFault::BadForm`]; of `check` [`JobFault::BadFrom`], of `decode`
+/// [`JobFault::BadReadingFrom`], and of both [`JobFault::BadNames`], [`JobFault::BadStart`], then [`JobFault::NoRecording`], where these are good;
 /// and at last a bad `--as`:
 /// [`JobFault::BadPageAs`] of `pages` and `raw`, [`JobFault::BadTraceAs`] of `bus`,
-/// [`JobFault::BadReportAs`] of `check`, [`JobFault::BadReadingAs`] of `decode`.
-pub fn read_job<'a>(alloc: Global, words: &'a [&'a str]) -> Result<Job<'a>, JobFault>
-    ensures ok { IfOk result (λ job. asked (map (λ s. s.now) words.entry.now) ≡ Some (Ok (job_view job))) }
+/// [`JobFault::BadReportAs`] of `check`, [`JobFault::BadReadingAs`] of `decode`. A good one of pages is
+/// followed by [`JobFault::BadDevice`], [`JobFault::BadSheet`] and [`JobFault::NoPart`].
+pub fn read_task<'a>(alloc: Global, words: &'a [&'a str]) -> Result<Task<'a>, JobFault>
+    ensures ok { IfOk result (λ task. asked (map (λ s. s.now) words.entry.now) ≡ Some (Ok (task_view task))) }
     ensures taken { OnOk result (fault_of print1525 (map (λ s. s.now) words.entry.now) ≡ []) }
     ensures bad { IfErr result (IsRefused (map (λ s. s.now) words.entry.now)) }
 {
@@ -168,14 +246,98 @@ pub fn read_job<'a>(alloc: Global, words: &'a [&'a str]) -> Result<Job<'a>, JobF
         return Err(JobFault::NoMemory);
     };
     match command.try_get_matches_from(words) {
-        Ok(matches) => job_of(alloc, &matches),
+        Ok(matches) => task_of(alloc, &matches),
         Err(error) => Err(refused_by_clap(error)),
     }
 }
 
+/// Returns the value that words give the option of which the fault says that it is a bad one, where
+/// the fault is [`read_task`]'s for these words. None of other faults, and where memory was refused.
+pub fn bad_value<'a>(alloc: Global, words: &'a [&'a str], fault: &JobFault) -> Option<&'a str>
+    ensures { IfSome result (λ value. bad_value (map (λ s. s.now) words.entry.now) fault.now ≡ Some value.now) }
+{
+    match fault.option() {
+        Some(option) => given_to(alloc, words, option),
+        None => None,
+    }
+}
+
+/// The value that words give an option. None where clap refuses them, and where memory was refused.
+fn given_to<'a>(alloc: Global, words: &'a [&'a str], option: ValueOption) -> Option<&'a str>
+    ensures { IfSome result (λ value. value_given (map (λ s. s.now) words.entry.now) (option_view option) ≡ Some value.now) }
+{
+    let Ok(command) = make_command(alloc) else {
+        return None;
+    };
+    match command.try_get_matches_from(words) {
+        Ok(matches) => value_of(&matches, option),
+        Err(_error) => None,
+    }
+}
+
+/// The value of an option of the subcommand that was met.
+fn value_of<'a>(matches: &ArgMatches<'a>, option: ValueOption) -> Option<&'a str>
+    ensures { option_map (λ value. value.now) result ≡ option_map (value_in (option_view option)) (option_map (λ met. met.1) (subcommand_rows_of matches.now)) }
+{
+    match matches.subcommand() {
+        Some((_name, options)) => Some(value_in(options, option)),
+        None => None,
+    }
+}
+
+/// Returns the format that the first bytes of a recording show, or else `source`: a dump begins with
+/// `$`, a table with `;` or `#`, or it has a comma in its first line. It takes no memory.
+pub fn found_source(source: Source, bytes: &[u8]) -> Source
+    ensures { result ≡ found_source source bytes.now }
+{
+    if begins_as_dump(bytes) {
+        Source::Vcd
+    } else if begins_as_table(bytes) {
+        Source::Csv
+    } else {
+        source
+    }
+}
+
+/// The first byte that is no blank.
+fn front(bytes: &[u8]) -> Option<u8>
+    ensures { result ≡ front bytes.now }
+{
+    bytes.iter().copied().find(|b| !b.is_ascii_whitespace())
+}
+
+/// Whether the first byte that is no blank is a `$`.
+fn begins_as_dump(bytes: &[u8]) -> bool
+    ensures { result ≡ begins_as_dump bytes.now }
+{
+    matches!(front(bytes), Some(b'$'))
+}
+
+/// Whether the first byte that is no blank is a `;` or a `#`, or a comma comes before the first line's
+/// end.
+fn begins_as_table(bytes: &[u8]) -> bool
+    ensures { result ≡ begins_as_table bytes.now }
+{
+    matches!(front(bytes), Some(b';' | b'#')) || has_comma(bytes)
+}
+
+/// Whether a comma comes before the first line's end.
+fn has_comma(bytes: &[u8]) -> bool
+    ensures { result ≡ has_comma bytes.now }
+{
+    matches!(comma_or_end(bytes), Some(b','))
+}
+
+/// The first comma or line's end.
+fn comma_or_end(bytes: &[u8]) -> Option<u8>
+    ensures { result ≡ find (λ b. b == 44 || b == 10) bytes.now }
+{
+    bytes.iter().copied().find(|b| *b == b',' || *b == b'\n')
+}
+
 /// Returns whether a word is `--explain`, which asks for more on a refusal or an error; also on a
 /// bad value, where there is no job. No value of an option is that word in a command line that clap
-/// takes. It takes no memory.
+/// takes; a file has that name only after `--`. It takes no memory.
 pub fn explains(words: &[&str]) -> bool
     ensures { result ≡ list_any (λ word. bytes_eq word.now (codes "--explain")) words.now }
 {
@@ -195,16 +357,29 @@ struct Run {
     mode: StatusMode,
 }
 
-/// The job that the matches of the words ask for. The values of a run and `--set` are read whichever
-/// subcommand was met: an option that the subcommand does not have has its default there.
-fn job_of<'a>(alloc: Global, matches: &ArgMatches<'a>) -> Result<Job<'a>, JobFault>
+/// The job that the matches of the words ask for, with its files.
+fn task_of<'a>(alloc: Global, matches: &ArgMatches<'a>) -> Result<Task<'a>, JobFault>
     requires { IsSome (subcommand_rows_of matches.now) }
-    ensures ok { IfOk result (λ job. wanted_of (subcommand_rows_of matches.now) ≡ Some (Ok (job_view job))) }
+    ensures ok { IfOk result (λ task. wanted_of (subcommand_rows_of matches.now) ≡ Some (Ok (task_view task))) }
     ensures bad { IfErr result (λ f. (f ≡ JobFault.NoMemory) ⊎ (wanted_of (subcommand_rows_of matches.now) ≡ Some (Err f))) }
 {
     let Some((name, options)) = matches.subcommand() else {
         unreachable!()
     };
+    let job = job_of(alloc, name, options)?;
+    Ok(Task {
+        job,
+        input: file_in(options, INPUT),
+        output: file_in(options, OUTPUT),
+    })
+}
+
+/// The job of a subcommand. The values of a run and `--set` are read whichever it is: an option that
+/// the subcommand does not have has its default there.
+fn job_of<'a>(alloc: Global, name: &str, options: &ArgMatches<'a>) -> Result<Job<'a>, JobFault>
+    ensures ok { IfOk result (λ job. wanted name.now (rows_of (found_of options.now)) ≡ Ok (job_view job)) }
+    ensures bad { IfErr result (IsFaultIn (wanted name.now (rows_of (found_of options.now)))) }
+{
     let run = run_of(alloc, options)?;
     let lower = set_in(options)?;
     match name {
@@ -231,13 +406,12 @@ fn run_of(alloc: Global, options: &ArgMatches<'_>) -> Result<Run, JobFault>
     })
 }
 
-/// How a trace or a recording is to be read. What goes with a recording alone is judged when all
+/// How a trace or a recording in this format is to be read. What goes with a recording alone is judged when all
 /// these values are good.
-fn input_of<'a>(options: &ArgMatches<'a>) -> Result<TraceInput<'a>, JobFault>
-    ensures ok { IfOk result (λ input. wanted_input (rows_of (found_of options.now)) ≡ Ok (input_view input)) }
-    ensures bad { IfErr result (λ f. wanted_input (rows_of (found_of options.now)) ≡ Err f) }
+fn input_of<'a>(source: Source, options: &ArgMatches<'a>) -> Result<TraceInput<'a>, JobFault>
+    ensures ok { IfOk result (λ input. wanted_input source (rows_of (found_of options.now)) ≡ Ok (input_view input)) }
+    ensures bad { IfErr result (λ f. wanted_input source (rows_of (found_of options.now)) ≡ Err f) }
 {
-    let source = source_in(options)?;
     let signals = signals_in(options)?;
     let start = start_in(options)?;
     if !fits(source, options) {
@@ -254,7 +428,8 @@ fn input_of<'a>(options: &ArgMatches<'a>) -> Result<TraceInput<'a>, JobFault>
 fn check_job<'a>(options: &ArgMatches<'a>) -> Result<Job<'a>, JobFault>
     ensures { job_result result ≡ wanted_check (rows_of (found_of options.now)) }
 {
-    let input = input_of(options)?;
+    let source = source_in(options)?;
+    let input = input_of(source, options)?;
     let report = report_in(options)?;
     Ok(Job::Check(input, report))
 }
@@ -263,9 +438,14 @@ fn check_job<'a>(options: &ArgMatches<'a>) -> Result<Job<'a>, JobFault>
 fn decode_job<'a>(options: &ArgMatches<'a>) -> Result<Job<'a>, JobFault>
     ensures { job_result result ≡ wanted_decode (rows_of (found_of options.now)) }
 {
-    let input = input_of(options)?;
+    let source = reading_source_in(options)?;
+    let input = input_of(source.unwrap_or(unless_found(options)), options)?;
     let format = reading_format_in(options)?;
-    Ok(Job::Decode(input, format))
+    Ok(Job::Decode {
+        is_found: source.is_none(),
+        input,
+        format,
+    })
 }
 
 /// The job of `bus`.

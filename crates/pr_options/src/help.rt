@@ -6,8 +6,7 @@
 pub struct HelpText {
     /// What it does, in a line.
     pub about: &'static str,
-    /// How it is called. A command line that clap refuses shows this too, also where clap refuses a
-    /// file name: so it ends with what standard input is, as `< SCRIPT`.
+    /// How it is called. A command line that clap refuses shows this too.
     pub usage: &'static str,
     /// What follows the options.
     pub more: &'static str,
@@ -18,25 +17,26 @@ pub const PROGRAM: HelpText = HelpText {
     about: "\
 Runs the output statements of Commodore 64 BASIC and shows what two VIC-1525
 printers put on paper and what happens on the serial bus",
-    usage: "print1525 <COMMAND> [OPTIONS] < INPUT",
+    usage: "print1525 <COMMAND> [OPTIONS] [FILE]",
     more: "\
-Every command reads standard input and writes standard output; no file name is
-an argument. `print1525 COMMAND --help` has its input, output and options.
+Every command reads FILE, or standard input, and writes the file of --output,
+or standard output. `print1525 help COMMAND` has its input, output and options.
+PRINT1525_EXPLAIN=1 in the environment asks for the same as --explain.
 
 Exit status:
   0  done
   1  a BASIC error stopped the run; what was printed until then is written
   2  the input or the command line is refused, with a line on standard error
-  3  memory ran out, or a read or a write failed
+  3  memory ran out, or a file cannot be opened, read or written
 
 Example:
-  print1525 pages --as text < listing.bas",
+  print1525 pages --as text listing.bas",
 };
 
 /// The subcommand `pages`.
 pub const PAGES: HelpText = HelpText {
     about: "Writes the pages of a script",
-    usage: "print1525 pages [OPTIONS] < SCRIPT",
+    usage: "print1525 pages [OPTIONS] [FILE]",
     more: "\
 Input: a script of BASIC, statements on lines or separated by `:`. Line numbers
 are ignored; statements run in file order.
@@ -49,48 +49,54 @@ are ignored; statements run in file order.
 A list has strings, CHR$(n) and `;`. Variables, loops and `+` are refused.
 With --from prg the script is a saved program, whose strings have any byte but
 0 and 34; with --from petcat it is petcat's text of one, with names as {down}.
+A FILE named *.prg or *.petcat is read so without --from.
 
 Output: the marks on the paper of printers 4 and 5, the status of each
 statement, the bytes on the screen, and the BASIC error that stopped the run.
+A file named *.svg, *.png, *.pdf or *.txt is written so without --as. --device
+goes with svg, png and pdf, --sheet with svg and png; a sheet past the end is
+refused.
 
 Exit status: 0 done, 1 stopped by a BASIC error, 2 refused, 3 memory ran out
-or a read or a write failed.
+or a file cannot be opened, read or written.
 
 Example:
-  print1525 pages --present 4 --as svg < listing.bas > page.svg
-  print1525 pages --from prg --as text < listing.prg",
+  print1525 pages --present 4 listing.bas -o page.svg
+  print1525 pages --as text listing.prg",
 };
 
 /// The subcommand `bus`.
 pub const BUS: HelpText = HelpText {
     about: "Writes the trace of the serial bus during a script's run",
-    usage: "print1525 bus [OPTIONS] < SCRIPT",
+    usage: "print1525 bus [OPTIONS] [FILE]",
     more: "\
 Input: a script of BASIC, see `print1525 pages --help`.
 
 Output: a line for each edge, a time in microseconds and the levels of ATN,
 CLOCK and DATA (1 released, 0 pulled), as in `100 001`; or a Value Change Dump
-for GTKWave, PulseView and sigrok-cli.
+for GTKWave, PulseView and sigrok-cli, also for a file named *.vcd.
 
 A delay number is microseconds above the minimum delay; larger values wrap
 around. After the end of a list every delay is the typical one.
 
 Exit status: 0 done, 1 stopped by a BASIC error, 2 refused, 3 memory ran out
-or a read or a write failed.
+or a file cannot be opened, read or written.
 
 Example:
-  print1525 bus --present 4 --delays 900/9 < listing.bas | print1525 check",
+  print1525 bus listing.bas -o session.vcd
+  print1525 bus --present 4 --delays 900/9 listing.bas | print1525 check",
 };
 
 /// The subcommand `check`.
 pub const CHECK: HelpText = HelpText {
     about: "Writes the frames of a trace, if its timing is lawful",
-    usage: "print1525 check [OPTIONS] < TRACE",
+    usage: "print1525 check [OPTIONS] [FILE]",
     more: "\
 Input: a trace as `print1525 bus` writes it, or a recording of one. Only this
 project's timing profile is lawful; use `print1525 decode` for real hardware.
 A table has a row of names, then a row for each sample: its time in seconds
-and a level, 0 or 1, of each signal.
+and a level, 0 or 1, of each signal. A FILE named *.vcd or *.csv is read so
+without --from.
 
 --names, --invert and --from-time go with --from vcd or csv. Case and blanks
 around a name do not matter. Where no signal is called CLOCK, CLK is taken.
@@ -100,19 +106,22 @@ Output: a line for each frame, `command 36`, `data 72` or `data 13 eoi`, then
 a listener acknowledges it, the byte and its meaning. A trace that is not
 lawful is refused at its first fault; edges count from 0, lines from 1.
 
-Exit status: 0 lawful, 2 refused, 3 memory ran out or a read or a write failed.
+Exit status: 0 lawful, 2 refused, 3 memory ran out or a file cannot be opened,
+read or written.
 
 Example:
-  print1525 check --from csv --names D0,D1,D2 --explain < analyser.csv",
+  print1525 check --names D0,D1,D2 --explain analyser.csv",
 };
 
 /// The subcommand `decode`.
 pub const DECODE: HelpText = HelpText {
     about: "Writes what any recording of a serial bus says",
-    usage: "print1525 decode [OPTIONS] < RECORDING",
+    usage: "print1525 decode [OPTIONS] [FILE]",
     more: "\
 Input: a recording of any serial bus, whoever drives it and wherever it begins,
-in a format of `print1525 check`.
+in a format of `print1525 check`. Without --from the ending of FILE says which,
+or the first bytes do: `$` begins a dump, `;` or `#` a table, whose first line
+may also have a comma; with --names, --invert or --from-time it is a recording.
 
 Output: a line for each byte, as in a story of `print1525 check`; below it a
 line for each interval outside this project's bounds; unacknowledged and
@@ -121,24 +130,26 @@ recording is lawful. Or the pages that printers 4 and 5 print of the bytes.
 A recording that cannot be read is refused at its first fault, after the lines
 of what comes before it.
 
-Exit status: 0 read to its end, 2 refused, 3 memory ran out or a read or a
-write failed.
+Exit status: 0 read to its end, 2 refused, 3 memory ran out or a file cannot be
+opened, read or written.
 
 Example:
-  print1525 decode --from vcd < session.vcd",
+  print1525 decode session.vcd",
 };
 
 /// The subcommand `raw`.
 pub const RAW: HelpText = HelpText {
     about: "Writes the page of the bytes that a printer gets",
-    usage: "print1525 raw [OPTIONS] < BYTES",
+    usage: "print1525 raw [OPTIONS] [FILE]",
     more: "\
 Input: bytes as a printer gets them, such as an emulator's raw printer output.
 
-Output: the page that they print, under the heading of printer 4.
+Output: the page that they print, under the heading of printer 4. A file named
+*.svg, *.png, *.pdf or *.txt is written so without --as.
 
-Exit status: 0 done, 2 refused, 3 memory ran out or a read or a write failed.
+Exit status: 0 done, 2 refused, 3 memory ran out or a file cannot be opened,
+read or written.
 
 Example:
-  print1525 raw --set lower --as text < printer.out",
+  print1525 raw --set lower --as text printer.out",
 };

@@ -1,7 +1,7 @@
 //! What a command line of the program `print1525` asks for.
 //!
-//! [`read_job`] reads the words of a command line and returns the [`Job`] that they ask for, or the
-//! reason why they ask for none; [`explains`] returns whether the user wants to read more about a
+//! [`read_task`] reads the words of a command line and returns the [`Task`] that they ask for, a
+//! [`Job`] and the files that it reads and writes, or the reason why they ask for none; [`explains`] returns whether the user wants to read more about a
 //! refusal. [`read_present`], [`read_delays`] and [`read_status`] read the values of the options that
 //! say how a run begins. Nothing here reads an input, runs a script or writes a text. Only this crate
 //! and the program's `main` know clap.
@@ -29,6 +29,8 @@ mod options;
 mod parts;
 mod values_given;
 
-pub use command_line::{Job, JobFault, explains, read_job, subcommands_are_these};
+pub use command_line::{
+    Job, JobFault, Task, bad_value, explains, found_source, read_task, subcommands_are_these,
+};
 pub use delays::{DelayFault, read_delays};
 pub use option_values::{read_present, read_status};

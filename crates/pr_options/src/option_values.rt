@@ -1,14 +1,14 @@
 //! The values of the program's options.
 
 ghost use Rattle.std.specs.Prelude.{◌≡◌, ◌∷◌, [], option_map, IfSome};
-ghost use Rattle.pr_options.specs.Options.{form_of, format_of, mode_of, present_of, report_of, set_of, source_of, start_of, trace_format_of};
+ghost use Rattle.pr_options.specs.Options.{device_of, form_of, format_of, mode_of, present_of, reading_source_of, report_of, set_of, sheet_numbered, sheet_of, source_of, start_of, trace_format_of};
 ghost use Rattle.pr_options.specs.SignalNames.{are_names, differ, is_clock_twice, is_name, names_of, names_of_signals, three_names};
 
 use crate::parts::{all_digits, cut};
 use pr_basic::StatusMode;
 use pr_capture::{Signals, Source, TraceFormat};
 use pr_listing::ListingForm;
-use pr_render::Format;
+use pr_render::{Device, Format, Part};
 use pr_report::Report;
 use pr_serial::Present;
 
@@ -63,16 +63,52 @@ pub fn read_set(text: &str) -> Option<bool>
     }
 }
 
-/// The format of the page: `list`, `text` or `svg` (profile). None for any other text.
+/// The format of the page: `list`, `text`, `svg`, `png` or `pdf` (profile). None for any other text.
 pub fn read_format(text: &str) -> Option<Format>
     ensures { result ≡ format_of text.now }
 {
     match text {
         "list" => Some(Format::List),
         "text" => Some(Format::Lines),
-        "svg" => Some(Format::Picture),
+        "svg" => Some(Format::Svg(Part::whole())),
+        "png" => Some(Format::Png(Part::whole())),
+        "pdf" => Some(Format::Pdf(None)),
         _ => None,
     }
+}
+
+/// The printer whose pages are drawn: `4` or `5`, or nothing for all of them (profile). None for any
+/// other text.
+pub fn read_device(text: &str) -> Option<Option<Device>>
+    ensures { result ≡ device_of text.now }
+{
+    match text {
+        "" => Some(None),
+        "4" => Some(Some(Device::Four)),
+        "5" => Some(Some(Device::Five)),
+        _ => None,
+    }
+}
+
+/// The sheet that is drawn: decimal digits that spell a number from 1, below 2^64, or nothing for none
+/// (profile). None for any other text.
+pub fn read_sheet(text: &str) -> Option<Option<u64>>
+    ensures { result ≡ sheet_of text.now }
+{
+    if text.is_empty() {
+        return Some(None);
+    }
+    match read_start(text) {
+        Some(n) => sheet_numbered(n),
+        None => None,
+    }
+}
+
+/// The sheet of a number; sheets count from 1.
+fn sheet_numbered(n: u64) -> Option<Option<u64>>
+    ensures { result ≡ sheet_numbered n }
+{
+    if n == 0 { None } else { Some(Some(n)) }
 }
 
 /// The format of a run's trace: `text` or `vcd` (profile). None for any other text.
@@ -98,6 +134,20 @@ pub fn read_source(text: &str) -> Option<Source>
     }
 }
 
+/// The format of a recording that is decoded: `text`, `vcd` or `csv`, or `auto`, which names none
+/// (profile). None for any other text.
+pub fn read_reading_source(text: &str) -> Option<Option<Source>>
+    ensures { result ≡ reading_source_of text.now }
+{
+    match text {
+        "auto" => Some(None),
+        "text" => Some(Some(Source::Text)),
+        "vcd" => Some(Some(Source::Vcd)),
+        "csv" => Some(Some(Source::Csv)),
+        _ => None,
+    }
+}
+
 /// What is written of a trace that is checked: `frames` or `story` (profile). None for any other
 /// text.
 pub fn read_report(text: &str) -> Option<Report>
@@ -110,7 +160,7 @@ pub fn read_report(text: &str) -> Option<Report>
     }
 }
 
-/// The signals of a recording by the names of ATN, CLOCK and DATA, which stand in this order, parted
+/// The signals of a recording by the names of ATN, CLOCK and DATA, which are in this order, parted
 /// by commas. White space around a name does not count; no name is empty or begins with a quotation
 /// mark, and no two are the same or CLOCK and CLK, capitals or not (profile). None for any other text.
 pub fn read_signals(text: &str, is_inverted: bool) -> Option<Signals<'_>>

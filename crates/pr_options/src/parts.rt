@@ -6,7 +6,7 @@ ghost use Rattle.pr_base.specs.Digits.{is_digit};
 
 use pr_base::is_digit;
 
-/// What stands before the first mark, a character of ASCII, and behind it; behind it nothing, where
+/// What comes before the first mark, a character of ASCII, and after it; after it nothing, where
 /// there is none.
 pub fn cut(text: &str, mark: char) -> (&str, &str)
     requires { mark < 128 }

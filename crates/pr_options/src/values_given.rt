@@ -1,25 +1,27 @@
 //! The values that words give the options, each with the fault of a bad one.
 
-ghost use Rattle.std.specs.Prelude.{◌≡◌, Ok, IfErr, IfOk, unwrap_or};
+ghost use Rattle.std.specs.Prelude.{◌≡◌, Ok, IfErr, IfOk, find, option_map, unwrap_or};
+ghost use Rattle.std.specs.Str.{str_eq_ignore_ascii_case};
 ghost use Rattle.clap.specs.Words.{first_of, found_of, rows_of};
 ghost use Rattle.pr_bus.specs.DelaysLeft.{numbers_left};
 ghost use Rattle.pr_options.specs.DelayLists.{delays_of};
-ghost use Rattle.pr_options.specs.Given.{is_given, is_of_words};
+ghost use Rattle.pr_options.specs.Given.{ending_value, file_in, has_ending, is_given, is_of_words, named, value_by_ending, value_in};
 ghost use Rattle.pr_options.specs.OptionNames as option;
-ghost use Rattle.pr_options.specs.Jobs.{fits, read, wants_recording};
-ghost use Rattle.pr_options.specs.Options.{form_of, format_of, mode_of, present_of, report_of, set_of, source_of, start_of, trace_format_of};
+ghost use Rattle.pr_options.specs.Jobs.{fits, read, shown, unless_found, wanted_format, wanted_part, wants_recording};
+ghost use Rattle.pr_options.specs.Options.{device_of, form_of, format_of, mode_of, present_of, reading_source_of, report_of, set_of, sheet_of, source_of, start_of, trace_format_of};
 ghost use Rattle.pr_options.specs.SignalNames.{names_of};
 ghost use Rattle.pr_options.specs.Steps.{IsFaultIn, signals_result};
+ghost use Rattle.pr_options.specs.Subcommands.{endings_view, option_view};
 
 use crate::command_line::JobFault;
 use crate::delays::read_delays;
 use crate::option_values::{
-    read_form, read_format, read_present, read_report, read_set, read_signals, read_source,
-    read_start, read_status, read_trace_format,
+    read_device, read_form, read_format, read_present, read_reading_source, read_report, read_set,
+    read_sheet, read_signals, read_source, read_start, read_status, read_trace_format,
 };
 use crate::options::{
-    DELAYS, FROM, FROM_TIME, INVERT, LISTING_FROM, NAMES, PAGE_AS, PRESENT, READING_AS, REPORT_AS,
-    SET, STATUS, TRACE_AS, ValueOption,
+    DELAYS, DEVICE, Ending, FROM, FROM_TIME, FileArgument, INVERT, LISTING_FROM, NAMES, PAGE_AS,
+    PRESENT, READING_AS, READING_FROM, REPORT_AS, SET, SHEET, STATUS, TRACE_AS, ValueOption,
 };
 use clap::ArgMatches;
 use clap::parser::ValueSource;
@@ -27,7 +29,7 @@ use pr_basic::StatusMode;
 use pr_bus::Delays;
 use pr_capture::{Signals, Source, TraceFormat};
 use pr_listing::ListingForm;
-use pr_render::Format;
+use pr_render::{Device, Format, Part};
 use pr_report::Report;
 use pr_serial::Present;
 use std::alloc::Global;
@@ -69,6 +71,24 @@ pub fn source_in(options: &ArgMatches<'_>) -> Result<Source, JobFault>
     read_source(value_in(options, FROM)).ok_or(JobFault::BadFrom)
 }
 
+/// The format of a recording that is decoded; None where its first bytes are to show it.
+pub fn reading_source_in(options: &ArgMatches<'_>) -> Result<Option<Source>, JobFault>
+    ensures { result ≡ read option.reading_from reading_source_of JobFault.BadReadingFrom (rows_of (found_of options.now)) }
+{
+    read_reading_source(value_in(options, READING_FROM)).ok_or(JobFault::BadReadingFrom)
+}
+
+/// The format of a recording whose first bytes show none.
+pub fn unless_found(options: &ArgMatches<'_>) -> Source
+    ensures { result ≡ unless_found (rows_of (found_of options.now)) }
+{
+    if wants_recording(options) {
+        Source::Csv
+    } else {
+        Source::Text
+    }
+}
+
 /// The signals of a recording, by their names and by whether the probes invert.
 pub fn signals_in<'a>(options: &ArgMatches<'a>) -> Result<Signals<'a>, JobFault>
     ensures names { signals_result result ≡ read option.names names_of JobFault.BadNames (rows_of (found_of options.now)) }
@@ -92,11 +112,50 @@ pub fn form_in(options: &ArgMatches<'_>) -> Result<ListingForm, JobFault>
     read_form(value_in(options, LISTING_FROM)).ok_or(JobFault::BadForm)
 }
 
-/// The format of a page.
+/// The format of a page, and what of the pages it shows.
 pub fn page_format_in(options: &ArgMatches<'_>) -> Result<Format, JobFault>
+    ensures { result ≡ wanted_format option.page_as JobFault.BadPageAs (rows_of (found_of options.now)) }
+{
+    let format = page_as_in(options)?;
+    shown_in(format, options)
+}
+
+/// The format of a page.
+fn page_as_in(options: &ArgMatches<'_>) -> Result<Format, JobFault>
     ensures { result ≡ read option.page_as format_of JobFault.BadPageAs (rows_of (found_of options.now)) }
 {
     read_format(value_in(options, PAGE_AS)).ok_or(JobFault::BadPageAs)
+}
+
+/// A format that shows the part of the pages that is asked for.
+fn shown_in(format: Format, options: &ArgMatches<'_>) -> Result<Format, JobFault>
+    ensures { result ≡ shown format (rows_of (found_of options.now)) }
+{
+    let part = part_in(options)?;
+    format.showing(part).ok_or(JobFault::NoPart)
+}
+
+/// What of the pages is shown.
+fn part_in(options: &ArgMatches<'_>) -> Result<Part, JobFault>
+    ensures { result ≡ wanted_part (rows_of (found_of options.now)) }
+{
+    let device = device_in(options)?;
+    let sheet = sheet_in(options)?;
+    Ok(Part { device, sheet })
+}
+
+/// The printer whose pages are shown.
+fn device_in(options: &ArgMatches<'_>) -> Result<Option<Device>, JobFault>
+    ensures { result ≡ read option.device device_of JobFault.BadDevice (rows_of (found_of options.now)) }
+{
+    read_device(value_in(options, DEVICE)).ok_or(JobFault::BadDevice)
+}
+
+/// The sheet that is shown.
+fn sheet_in(options: &ArgMatches<'_>) -> Result<Option<u64>, JobFault>
+    ensures { result ≡ read option.sheet sheet_of JobFault.BadSheet (rows_of (found_of options.now)) }
+{
+    read_sheet(value_in(options, SHEET)).ok_or(JobFault::BadSheet)
 }
 
 /// The format of a run's trace.
@@ -113,8 +172,16 @@ pub fn report_in(options: &ArgMatches<'_>) -> Result<Report, JobFault>
     read_report(value_in(options, REPORT_AS)).ok_or(JobFault::BadReportAs)
 }
 
-/// The format of what a recording says.
+/// The format of what a recording says, and what of its pages it shows.
 pub fn reading_format_in(options: &ArgMatches<'_>) -> Result<Format, JobFault>
+    ensures { result ≡ wanted_format option.reading_as JobFault.BadReadingAs (rows_of (found_of options.now)) }
+{
+    let format = reading_as_in(options)?;
+    shown_in(format, options)
+}
+
+/// The format of what a recording says.
+fn reading_as_in(options: &ArgMatches<'_>) -> Result<Format, JobFault>
     ensures { result ≡ read option.reading_as format_of JobFault.BadReadingAs (rows_of (found_of options.now)) }
 {
     read_format(value_in(options, READING_AS)).ok_or(JobFault::BadReadingAs)
@@ -139,11 +206,94 @@ fn wants_recording(options: &ArgMatches<'_>) -> bool
         || is_given(options, FROM_TIME.name)
 }
 
-/// The value of an option, or that of its default where the subcommand does not have it.
-fn value_in<'a>(options: &ArgMatches<'a>, option: ValueOption) -> &'a str
+/// The file that words name by this argument. None where they name none, or give `-`.
+pub fn file_in<'a>(options: &ArgMatches<'a>, file: FileArgument) -> Option<&'a str>
+    ensures { option_map (λ name. name.now) result ≡ file_in file.name.now (rows_of (found_of options.now)) }
+{
+    match text_in(options, file.name) {
+        Some(name) => named(name),
+        None => None,
+    }
+}
+
+/// The name of a file, which `-` is not.
+fn named(name: &str) -> Option<&str>
+    ensures { option_map (λ text. text.now) result ≡ named name.now }
+{
+    if name == "-" { None } else { Some(name) }
+}
+
+/// The text that words, or a default, give an argument.
+fn text_in<'a>(options: &ArgMatches<'a>, name: &str) -> Option<&'a str>
+    ensures { option_map (λ text. text.now) result ≡ first_of name.now (rows_of (found_of options.now)) }
+{
+    options.get_str(name)
+}
+
+/// The value of an option: the one that words give, else the one that a file's name gives, else its
+/// default, which serves where the subcommand does not have the option too.
+pub fn value_in<'a>(options: &ArgMatches<'a>, option: ValueOption) -> &'a str
+    ensures { result.now ≡ value_in (option_view option) (rows_of (found_of options.now)) }
+{
+    match ending_value(options, option) {
+        Some(value) => value,
+        None => given_value(options, option),
+    }
+}
+
+/// The value that words give an option, or else its default.
+fn given_value<'a>(options: &ArgMatches<'a>, option: ValueOption) -> &'a str
     ensures { result.now ≡ unwrap_or (first_of option.name.now (rows_of (found_of options.now))) option.default.now }
 {
     options.get_str(option.name).unwrap_or(option.default)
+}
+
+/// The value that a file's name gives an option, where words do not give it.
+fn ending_value(options: &ArgMatches<'_>, option: ValueOption) -> Option<&'static str>
+    ensures { option_map (λ value. value.now) result ≡ ending_value (option_view option) (rows_of (found_of options.now)) }
+{
+    if is_given(options, option.name) {
+        return None;
+    }
+    match text_in(options, option.file) {
+        Some(name) => value_by_ending(option.endings, name),
+        None => None,
+    }
+}
+
+/// The value of the first of these endings that the name has.
+fn value_by_ending(endings: &[Ending], name: &str) -> Option<&'static str>
+    ensures { option_map (λ value. value.now) result ≡ value_by_ending (endings_view endings.now) name.now }
+{
+    match first_ending(endings, name) {
+        Some(e) => Some(e.value),
+        None => None,
+    }
+}
+
+/// The first of these endings that the name has.
+fn first_ending<'a>(endings: &'a [Ending], name: &str) -> Option<&'a Ending>
+    ensures { option_map (λ e. e.now) result ≡ find (λ e. has_ending name.now e.ending.now) endings.now }
+{
+    endings.iter().find(|e| has_ending(name, e.ending))
+}
+
+/// Whether a file's name ends so, in capitals or not.
+fn has_ending(name: &str, ending: &str) -> bool
+    ensures { result ≡ has_ending name.now ending.now }
+{
+    let bytes = name.as_bytes();
+    if bytes.len() < ending.len() {
+        return false;
+    }
+    is_same(&bytes[bytes.len() - ending.len()..], ending.as_bytes())
+}
+
+/// Whether two texts differ in nothing but capitals and small letters.
+fn is_same(a: &[u8], b: &[u8]) -> bool
+    ensures { result ≡ str_eq_ignore_ascii_case a.now b.now }
+{
+    a.eq_ignore_ascii_case(b)
 }
 
 /// Whether words gave an option or a flag, and not only its default.

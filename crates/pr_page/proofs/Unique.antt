@@ -125,7 +125,7 @@ module _ (a b next : ℕ) (more : List ℕ) where
   address_rest (x ∷ y ∷ z ∷ w ∷ []) h = absurd cc
   address_rest (x ∷ y ∷ z ∷ w ∷ v ∷ rest) h = absurd cc
 
--- before one byte stands nothing
+-- before one byte is nothing
 one_rest : (b next : ℕ) (more : List ℕ) (rest : List Came) → map (λ c. c.byte) rest ++ next ∷ more ≡ b ∷ [] → run Idle rest ≡ []
 one_rest b next more [] h = refl
 one_rest b next more (x ∷ []) h = absurd cc

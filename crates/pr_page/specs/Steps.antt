@@ -135,7 +135,7 @@ GoesOn old new = (new.position ≤ line_dots) × (new.y ≤ old.y + 21)
 abbrev pub IsInRange : PrinterState → Type 0
 IsInRange s = (s.sheet.position ≤ line_dots) × (s.sheet.y ≤ 21 * s.taken) × (s.taken ≤ 2 ^ 32)
 
--- so many equal columns of dots, side by side from x on
+-- this many equal columns of dots, side by side from x on
 abbrev pub columns_from : ℕ → ℕ → ℕ → List Placed
 columns_from x dots zero = []
 columns_from x dots (suc n) = record { x = x; mark = Dots dots } ∷ columns_from (x + 1) dots n

@@ -91,7 +91,7 @@ impl<T> Sequence<T> {
         self.items.is_empty()
     }
 
-    /// The empty list, with room for so many items.
+    /// The empty list, with room for this many items.
     pub(crate) fn with_capacity(alloc: Global, capacity: usize) -> Result<Self, AllocError>
         ensures { IfOk result (λ s. s ≡ []) }
     {

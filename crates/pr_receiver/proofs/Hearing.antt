@@ -13,7 +13,7 @@ pub with_before-append : {X : Type 0} (before xs ys : List X) → with_before be
 with_before-append before [] ys = rw append-nil
 with_before-append before (x ∷ xs) ys = rw (with_before-append (before ++ x ∷ []) xs ys, append_assoc)
 
--- what comes of each element behind those before it, for two parts
+-- what comes of each element after those before it, for two parts
 pub each-append : {X A : Type 0} (f : List X × X → List A) (xs ys : List X)
     → flat_map f (with_before [] (xs ++ ys)) ≡ flat_map f (with_before [] xs) ++ flat_map f (with_before xs ys)
 each-append f xs ys = ap (flat_map f) (with_before-append [] xs ys) ∙ flat_map-append f (with_before [] xs) (with_before xs ys)
@@ -33,7 +33,7 @@ pub is_called-push : (device : ℕ) (frames : List Frame) (frame : Frame) → is
 is_called-push device frames frame =
     ap (λ o. list_any (is_listen device) (option_to_list o)) (last_or-push None frames frame) ∙ or-false (is_listen device frame)
 
--- one frame more gives what it gives behind the others
+-- one frame more gives what it gives after the others
 pub heard_of-push : (device : ℕ) (frames : List Frame) (frame : Frame) → heard_of device (frames ++ frame ∷ []) ≡ heard_of device frames ++ option_to_list (input_of device frames frame)
 heard_of-push device frames frame = each-push (λ p. option_to_list (input_of device p.0 p.1)) frames frame
 

@@ -10,20 +10,20 @@ use Rattle.pr_receiver.specs.Given.{frames_ended, inputs_with}
 use Rattle.pr_receiver.specs.Taken.{HasReceived, device_of, number_taken, refusal_of}
 use Rattle.pr_receiver.specs.declared.state.Progress.{Progress}
 
--- edges behind others end one frame
+-- edges after others end one frame
 abbrev pub EndOneFrame : List Edge → List Edge → Type 0
 EndOneFrame before edges = (frame : Frame) × (frames_ended (before ++ edges) ≡ frames_ended before ++ frame ∷ [])
 
--- edges behind others end no frame, and so bring no device an input
+-- edges after others end no frame, and so bring no device an input
 abbrev pub EndNoFrame : List Edge → List Edge → Type 0
 EndNoFrame before edges = frames_ended (before ++ edges) ≡ frames_ended before
 
--- edges behind others bring a device this input, if it is one, and no other
+-- edges after others bring a device this input, if it is one, and no other
 abbrev pub BringInput : ℕ → List Edge → List Edge → Option Input → Type 0
 BringInput device before edges input =
     inputs_with device (before ++ edges) ≡ inputs_with device before ++ option_to_list input
 
--- a receiver has taken so many edges in front, edge by edge, and this input came with the last of them; if none, it is as it was
+-- a receiver has taken this many edges in front, edge by edge, and this input came with the last of them; if none, it is as it was
 pub record TakesAtOnce (old : Progress) (edges : List Edge) (n : ℕ) (input : Option Input)
     (new : Progress) : Type 0 where
   pub taken : (before : List Edge) → HasReceived before old → HasReceived (before ++ take n edges) new

@@ -56,7 +56,7 @@ LawfulIsAllowed = (edges : List Edge) → IsLawful edges → IsAllowed edges
 abbrev pub FrontsAreAllowed : Type 0
 FrontsAreAllowed = (edges more : List Edge) → IsAllowed (edges ++ more) → IsAllowed edges
 
--- a device hears of one frame more what that gives it behind the others
+-- a device hears of one frame more what that gives it after the others
 abbrev pub HeardOfOneMore : Type 0
 HeardOfOneMore =
     (device : ℕ) (frames : List Frame) (frame : Frame)

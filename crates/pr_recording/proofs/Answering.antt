@@ -10,10 +10,12 @@ use Rattle.pr_capture.specs.declared.fault.CaptureFault.{CaptureFault}
 use Rattle.pr_capture.specs.declared.fault.CaptureFault.TheVariants as capture
 use Rattle.pr_capture.specs.declared.format.TraceInput.{TraceInput}
 use Rattle.pr_input.specs.PartlyWritten.{AppendsFront}
-use Rattle.pr_cli.specs.Inputs.{EachTextSaysEdges, HasReadEdges, HasTakenAll, HasTakenBefore, IsNoReading, IsTooLong, ReadEdgesComeFirst, ReadsEdges, SaysFirst, SaysWhole, edges_read, fault_read}
-use Rattle.pr_cli.specs.Sources.{IsOwnFault}
+use Rattle.pr_cli.specs.Inputs.{EachTextSaysEdges, HasReadEdges, ReadEdgesComeFirst, SaysFirst, edges_read, fault_read}
+use Rattle.pr_cli.specs.EdgesTaken.{HasTakenAll, HasTakenBefore}
+use Rattle.pr_cli.specs.Report.{IsNoReading, SaysWhole, IsOwnFault}
+use Rattle.pr_cli.specs.InputReads.{IsTooLong, ReadsEdges}
 use Rattle.pr_cli.specs.declared.fault.CliFault.{CliFault}
-use Rattle.pr_cli.specs.declared.fault.CliFault.TheVariants.{Script, Trace, Wave, Capture, TooLarge, NoMemory, ReadFailed, WriteFailed}
+use Rattle.pr_cli.specs.declared.fault.CliFault.TheVariants.{Script, Trace, Wave, Capture, Picture, TooLarge, NoMemory, ReadFailed, WriteFailed}
 use Rattle.pr_cli.specs.declared.input_reader.InputReader.{InputReader}
 use Rattle.pr_recording.specs.declared.decode_report.DecodeReport.{DecodeReport}
 use Rattle.pr_recording.specs.declared.decode_report.Ended.{Ended}
@@ -120,6 +122,7 @@ unwritten laws first limit start now old mid input r n (Err x) f h e none long =
     by (Trace fault) none long = absurd none
     by (Wave fault) none long = absurd none
     by (Capture fault) none long = absurd none
+    by (Picture fault) none long = absurd none
     by WriteFailed none long = absurd none
 
 -- the answer where memory was refused
@@ -150,6 +153,7 @@ is_stop None (Some f) h = own_stop f h
     own_stop (Trace x) h = h
     own_stop (Wave x) h = absurd h
     own_stop (Capture x) h = h
+    own_stop (Picture x) h = h
     own_stop TooLarge h = h
     own_stop NoMemory h = h
     own_stop ReadFailed h = h
@@ -172,6 +176,7 @@ stop_fault (Capture x) h = of_capture x h
     of_capture : (x : CaptureFault) → IsOwnFault (Capture x) → IsDecodeFault (Capture x)
     of_capture capture.NoMemory h = h
     of_capture x h = tt
+stop_fault (Picture x) h = h
 stop_fault TooLarge h = tt
 stop_fault NoMemory h = tt
 stop_fault ReadFailed h = tt
@@ -210,6 +215,7 @@ leaves_end limit len edges written own e old now new v short ends is_own wrote w
     by (Err (Trace x)) w = (sym ends.stop ∙ w.0, all w.1)
     by (Err (Wave x)) w = (sym ends.stop ∙ w.0, all w.1)
     by (Err (Capture x)) w = (sym ends.stop ∙ w.0, all w.1)
+    by (Err (Picture x)) w = absurd (known (Picture x) w.0)
     by (Err TooLarge) w = absurd (known TooLarge w.0)
     by (Err NoMemory) w = absurd (known NoMemory w.0)
     by (Err ReadFailed) w = absurd (known ReadFailed w.0)
@@ -237,6 +243,7 @@ own_fault e now new (Err f) h w = by f w
     by (Trace x) w = stop_fault (Trace x) (known_stop e.stop (Trace x) w.0 h)
     by (Wave x) w = stop_fault (Wave x) (known_stop e.stop (Wave x) w.0 h)
     by (Capture x) w = stop_fault (Capture x) (known_stop e.stop (Capture x) w.0 h)
+    by (Picture x) w = stop_fault (Picture x) (known_stop e.stop (Picture x) w.0 h)
     by TooLarge w = tt
     by NoMemory w = tt
     by ReadFailed w = tt
@@ -298,6 +305,7 @@ reading_fault (Err x) f e none = rw e (by f none)
     by (Trace fault) none = absurd none
     by (Wave fault) none = absurd none
     by (Capture fault) none = absurd none
+    by (Picture fault) none = absurd none
     by WriteFailed none = absurd none
 
 pub reading_no_write : (v : Result (Unit {0}) CliFault) (f : CliFault) → IsErrAnd v (λ x. x ≡ f) → IsNoReading f → v ≡ Err WriteFailed → ⊥

@@ -9,7 +9,7 @@ use Rattle.pr_decode.specs.Taking.{StandsBefore}
 use Rattle.pr_recording.specs.Decoded.{back_behind, back_in, in_front}
 use Rattle.pr_recording.specs.Narrated.{time_after, time_of}
 
--- more edges change nothing behind the first that goes back
+-- more edges change nothing after the first that goes back
 behind_more : (i last : ℕ) (es more : List Edge) (n : ℕ) → back_behind i last es ≡ Some n → back_behind i last (es ++ more) ≡ Some n
 behind_more i last [] more n h = absurd (cc)
 behind_more i last (e ∷ es) more n h = by (behind_more (i + 1) e.time es more n) (nat_lt e.time last) h
@@ -36,7 +36,7 @@ pub back_within : (es : List Edge) (n : ℕ) → back_in es ≡ Some n → n < l
 back_within [] n h = absurd (cc)
 back_within (e ∷ es) n h = omega (arith, (behind_within 1 e.time es n h).1)
 
--- behind edges of which none goes back
+-- after edges of which none goes back
 behind_later : (i last : ℕ) (es more : List Edge) (n : ℕ) → back_behind i last es ≡ None → back_behind i last (es ++ more) ≡ Some n → i + length es ≤ n
 behind_later i last [] more n h k = omega (arith, (behind_within i last more n k).0)
 behind_later i last (e ∷ es) more n h k = by (behind_later (i + 1) e.time es more n) (nat_lt e.time last) h k
@@ -95,7 +95,7 @@ pub front_on : (es : List Edge) (e : Edge) → back_in es ≡ None → (StandsBe
     → in_front (back_in (es ++ e ∷ [])) (es ++ e ∷ []) ≡ in_front (back_in es) es ++ e ∷ []
 front_on es e h later = ap (λ v. in_front v (es ++ e ∷ [])) (goes_on es e h later) ∙ sym (ap (λ v. in_front v es ++ e ∷ []) h)
 
--- with more edges more may stand in front
+-- with more edges more may be in front
 pub front_more : (es more : List Edge) → (later : List Edge) × (in_front (back_in (es ++ more)) (es ++ more) ≡ in_front (back_in es) es ++ later)
 front_more es more = by (back_in es) refl
   where

@@ -11,6 +11,7 @@ use Rattle.pr_report.specs.declared.reading_line.Preceding.TheVariants.{Nothing}
 use Rattle.pr_report.specs.ReadingText.{all_lines, behind_all}
 use Rattle.pr_report.specs.Summary.{summary}
 use Rattle.pr_report.specs.Verdict.{verdict_text}
+use Rattle.pr_report.specs.Oddities.{oddities_of, oddities_text}
 use Rattle.pr_cli.specs.declared.fault.CliFault.{CliFault}
 use Rattle.pr_recording.specs.declared.decode_report.DecodeReport.{DecodeReport}
 use Rattle.pr_recording.specs.Decoded.{back_in, in_front, stop_at, told_of}
@@ -34,13 +35,13 @@ told_begins cut edges own = by (back_in edges) refl own
     by None is None =
         let c = cut edges in
         let settled = settled_of edges in
-        let end = summary (readings_of edges) ++ verdict_text (fault_of edges) in
+        let end = summary (readings_of edges) ++ (verdict_text (fault_of edges) ++ oddities_text (oddities_of edges (readings_of edges))) in
         let last = all_lines (behind_all Nothing settled) (option_to_list c.0) in
         let lines : all_lines Nothing (readings_of edges) ≡ all_lines Nothing settled ++ last = ap (λ rs. all_lines Nothing rs) c.1 ∙ lines_add Nothing settled (option_to_list c.0) in
         let all : told_of None edges ≡ all_lines Nothing settled ++ (last ++ end) = ap (λ t. t ++ end) lines ∙ append_assoc (all_lines Nothing settled) last end in
         (last ++ end, all ∙ ap (λ v. all_lines Nothing (settled_of (in_front v edges)) ++ (last ++ end)) (sym is))
 
--- the readings given stand in front of all
+-- the readings given are in front of all
 given_begins : Laws → (before all : List Edge) (given : List Reading) (later : List Edge) → all ≡ before ++ later → settled_of (in_front (back_in before) before) ≡ given
     → (more : List Reading) × (settled_of (in_front (back_in all) all) ≡ given ++ more)
 given_begins laws before all given later is has =

@@ -33,7 +33,7 @@ printed_as edges old new d p t h = record {
   taken = t ∙ h.taken;
 }
 
--- behind an edge at which time goes back nothing is taken
+-- after an edge at which time goes back nothing is taken
 pub copies_nothing : (c : CapturePrinter) (m : ℕ) (more : List Edge) → c.back ≡ Some m → CopiesMore more c c
 copies_nothing c m more is = λ edges h.
     let back : back_in edges ≡ Some m = sym h.back ∙ is in

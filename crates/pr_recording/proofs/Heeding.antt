@@ -12,6 +12,8 @@ use Rattle.pr_report.specs.declared.reading_line.Preceding.TheVariants.{Nothing}
 use Rattle.pr_report.specs.ReadingText.{all_lines}
 use Rattle.pr_report.specs.Summary.{summary}
 use Rattle.pr_report.specs.Verdict.{verdict_text}
+use Rattle.pr_report.specs.Oddities.{oddities_of, oddities_text}
+use Rattle.pr_report.specs.Taking as survey
 use Rattle.pr_cli.specs.declared.fault.CliFault.{CliFault}
 use Rattle.pr_recording.specs.declared.reading_log.ReadingLog.{ReadingLog}
 use Rattle.pr_recording.specs.declared.decode_report.Ended.{Ended}
@@ -21,22 +23,23 @@ use Rattle.pr_recording.specs.Narrated.{AccountsMore, EndsEdges, HasAccounted, H
 use Rattle.pr_recording.proofs.Backs.{back_stays, front_back, front_stays, goes_back, goes_on, time_of_one}
 
 -- no edge
-pub narrated_none : (n : DecodeReport) → n.back ≡ None → HasReadings [] [] n.decoder → last_time n.decoder ≡ None → IsFollowed [] n.follower → HasAccounted [] [] n.log → n.taken ≡ 0 → HasNarrated [] [] n
-narrated_none n b r l j a t = record { back = b; heeded = record { given = []; read = r; last = l; followed = j; accounted = a; taken = t } }
+pub narrated_none : (n : DecodeReport) → n.back ≡ None → HasReadings [] [] n.decoder → last_time n.decoder ≡ None → IsFollowed [] n.follower → survey.HasSeen [] n.seen → HasAccounted [] [] n.log → n.taken ≡ 0 → HasNarrated [] [] n
+narrated_none n b r l j s a t = record { back = b; heeded = record { given = []; read = r; last = l; followed = j; seen = s; accounted = a; taken = t } }
 
 -- other parts alone are changed
-heeded_as : (edges : List Edge) (written : List ℕ) (old new : DecodeReport) → new.decoder ≡ old.decoder → new.follower ≡ old.follower → new.log ≡ old.log → new.taken ≡ old.taken
+heeded_as : (edges : List Edge) (written : List ℕ) (old new : DecodeReport) → new.decoder ≡ old.decoder → new.follower ≡ old.follower → new.seen ≡ old.seen → new.log ≡ old.log → new.taken ≡ old.taken
     → HasHeeded edges written old → HasHeeded edges written new
-heeded_as edges written old new d j a t h = record {
+heeded_as edges written old new d j s a t h = record {
   given = h.given;
   read = rw d h.read;
   last = ap last_time d ∙ h.last;
   followed = rw j h.followed;
+  seen = rw s h.seen;
   accounted = rw a h.accounted;
   taken = t ∙ h.taken;
 }
 
--- behind an edge at which time goes back nothing is taken
+-- after an edge at which time goes back nothing is taken
 narrates_nothing : (n : DecodeReport) (m : ℕ) (more : List Edge) → n.back ≡ Some m → NarratesMore more n n
 narrates_nothing n m more is = λ edges written h.
     let back : back_in edges ≡ Some m = sym h.back ∙ is in
@@ -53,7 +56,7 @@ narrates_stopped n more is = by n.back refl is
     by None e k = absurd (cc)
     by (Some m) e k = narrates_nothing n m more e
 
--- nothing stands there
+-- nothing is there
 pub not_some : {X : Type 0} (v : Option X) → is_some v ≡ false → v ≡ None
 not_some None h = refl
 not_some (Some x) h = absurd (cc)
@@ -71,24 +74,25 @@ of_front : (edges : List Edge) (written : List ℕ) (n : DecodeReport) → back_
 of_front edges written n none h = let P : List Edge → Type 0 = λ l. HasHeeded l written n in subst P (all_front edges none) h
 
 -- time goes back at an edge
-pub narrates_back : (old new : DecodeReport) (e : Edge) → old.back ≡ None → IsBefore e old.decoder → new.back ≡ Some old.taken → new.decoder ≡ old.decoder → new.follower ≡ old.follower → new.log ≡ old.log
+pub narrates_back : (old new : DecodeReport) (e : Edge) → old.back ≡ None → IsBefore e old.decoder → new.back ≡ Some old.taken → new.decoder ≡ old.decoder → new.follower ≡ old.follower → new.seen ≡ old.seen → new.log ≡ old.log
     → new.taken ≡ old.taken → NarratesMore (e ∷ []) old new
-narrates_back old new e was before back d j a t = λ edges written h.
+narrates_back old new e was before back d j s a t = λ edges written h.
     let none : back_in edges ≡ None = sym h.back ∙ was in
     let k = of_front edges written old none h.heeded in
     let stands : StandsBefore e.time (time_of edges) = rw (← k.last) before in
     let P : List Edge → Type 0 = λ l. HasHeeded l written new in
     record {
       back = back ∙ (ap (λ (i : ℕ). Some i) k.taken ∙ sym (goes_back edges e none stands));
-      heeded = subst P (sym (front_back edges e none stands)) (heeded_as (in_front (back_in edges) edges) written old new d j a t h.heeded);
+      heeded = subst P (sym (front_back edges e none stands)) (heeded_as (in_front (back_in edges) edges) written old new d j s a t h.heeded);
     }
 
 -- an edge is taken
 pub narrates_one : (old new : DecodeReport) (e : Edge) (r : Option Reading) → old.back ≡ None → (IsBefore e old.decoder → ⊥) → new.back ≡ old.back
     → ((edges : List Edge) (given : List Reading) → HasReadings edges given old.decoder → HasReadings (edges ++ e ∷ []) (given ++ option_to_list r) new.decoder) → last_time new.decoder ≡ Some e.time
-    → ((edges : List Edge) → IsFollowed edges old.follower → IsFollowed (edges ++ e ∷ []) new.follower) → AccountsMore (option_to_list r) old.log new.log → new.taken ≡ old.taken + 1
+    → ((edges : List Edge) → IsFollowed edges old.follower → IsFollowed (edges ++ e ∷ []) new.follower)
+    → ((edges : List Edge) → survey.HasSeen edges old.seen → survey.HasSeen (edges ++ e ∷ []) new.seen) → AccountsMore (option_to_list r) old.log new.log → new.taken ≡ old.taken + 1
     → NarratesMore (e ∷ []) old new
-narrates_one old new e r was later same reads last follows accounts taken = λ edges written h.
+narrates_one old new e r was later same reads last follows sees accounts taken = λ edges written h.
     let none : back_in edges ≡ None = sym h.back ∙ was in
     let k = of_front edges written old none h.heeded in
     let on : StandsBefore e.time (time_of edges) → ⊥ = λ s. later (rw k.last s) in
@@ -99,6 +103,7 @@ narrates_one old new e r was later same reads last follows accounts taken = λ e
       read = reads edges k.given k.read;
       last = last ∙ sym (time_of_one edges e);
       followed = follows edges k.followed;
+      seen = sees edges k.seen;
       accounted = accounts k.given written k.accounted;
       taken = taken ∙ (ap (λ i. i + 1) k.taken ∙ sym (length-append edges (e ∷ [])));
     } in
@@ -108,10 +113,10 @@ narrates_one old new e r was later same reads last follows accounts taken = λ e
     }
 
 -- lines are given up
-pub narrated_cleared : (old new : DecodeReport) → new.back ≡ old.back → new.decoder ≡ old.decoder → new.follower ≡ old.follower → new.taken ≡ old.taken
+pub narrated_cleared : (old new : DecodeReport) → new.back ≡ old.back → new.decoder ≡ old.decoder → new.follower ≡ old.follower → new.seen ≡ old.seen → new.taken ≡ old.taken
     → ((given : List Reading) (written : List ℕ) → HasAccounted given written old.log → HasAccounted given (written ++ old.log.lines.items) new.log) → (edges : List Edge) (written : List ℕ)
     → HasNarrated edges written old → HasNarrated edges (written ++ old.log.lines.items) new
-narrated_cleared old new b d j t clears = λ edges written h.
+narrated_cleared old new b d j s t clears = λ edges written h.
     let k = h.heeded in
     record {
       back = b ∙ h.back;
@@ -120,6 +125,7 @@ narrated_cleared old new b d j t clears = λ edges written h.
         read = rw d k.read;
         last = ap last_time d ∙ k.last;
         followed = rw j k.followed;
+        seen = rw s k.seen;
         accounted = clears k.given written k.accounted;
         taken = t ∙ k.taken;
       };
@@ -152,7 +158,8 @@ no_back (Some n) own h = absurd (cc)
 pub ends_whole : (n : DecodeReport) (own : Option CliFault) (cut : Option Reading) (a : ReadingLog) (v : Option WaveFault) (e : Ended) → stop_at n.back own ≡ None → e.stop ≡ None
     → ((edges : List Edge) (given : List Reading) → HasReadings edges given n.decoder → readings_of edges ≡ given ++ option_to_list cut) → ((edges : List Edge) → IsFollowed edges n.follower → v ≡ fault_of edges)
     → AccountsMore (option_to_list cut) n.log a
-    → ((given : List Reading) (written : List ℕ) → HasAccounted given written a → written ++ e.lines.items ≡ all_lines Nothing given ++ (summary given ++ verdict_text v)) → (edges : List Edge) (written : List ℕ)
+    → ((edges : List Edge) (given : List Reading) (written : List ℕ) → survey.HasSeen edges n.seen → HasAccounted given written a
+    → written ++ e.lines.items ≡ all_lines Nothing given ++ (summary given ++ (verdict_text v ++ oddities_text (oddities_of edges given)))) → (edges : List Edge) (written : List ℕ)
     → HasNarrated edges written n → EndsEdges edges written own e
 ends_whole n own cut a v e is stop reads follows accounts ends = λ edges written h.
     let none : back_in edges ≡ None = sym h.back ∙ no_back n.back own is in
@@ -161,7 +168,7 @@ ends_whole n own cut a v e is stop reads follows accounts ends = λ edges writte
     record {
       stop = stop ∙ (sym is ∙ ap (λ v. stop_at v own) h.back);
       lines =
-          ends (k.given ++ option_to_list cut) written (accounts k.given written k.accounted)
-          ∙ (ap (λ rs. all_lines Nothing rs ++ (summary rs ++ verdict_text v)) (sym all)
-          ∙ (ap (λ w. all_lines Nothing (readings_of edges) ++ (summary (readings_of edges) ++ verdict_text w)) (follows edges k.followed) ∙ sym (ap (λ s. told_of s edges) stop)));
+          ends edges (k.given ++ option_to_list cut) written k.seen (accounts k.given written k.accounted)
+          ∙ (ap (λ rs. all_lines Nothing rs ++ (summary rs ++ (verdict_text v ++ oddities_text (oddities_of edges rs)))) (sym all)
+          ∙ (ap (λ w. all_lines Nothing (readings_of edges) ++ (summary (readings_of edges) ++ (verdict_text w ++ oddities_text (oddities_of edges (readings_of edges))))) (follows edges k.followed) ∙ sym (ap (λ s. told_of s edges) stop)));
     }

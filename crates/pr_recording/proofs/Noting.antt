@@ -3,7 +3,8 @@ use Rattle.std.proofs.Common.{ℕ, ◌+◌, ◌<◌, List, [], ◌∷◌, ◌++�
 use Rattle.std.proofs.lemmas.List.{take_more}
 use Rattle.std.specs.Prelude.{IfOk, OnOk}
 use Rattle.pr_wire.specs.declared.Edge.{Edge}
-use Rattle.pr_cli.specs.Inputs.{EndsInputs, EndsReading}
+use Rattle.pr_cli.specs.InputReads.{EndsInputs}
+use Rattle.pr_cli.specs.EdgesTaken.{EndsReading}
 use Rattle.pr_cli.specs.declared.edge_reader.LastEdges.{LastEdges}
 use Rattle.pr_cli.specs.declared.input_reader.InputReader.{InputReader}
 use Rattle.pr_cli.specs.declared.fault.CliFault.{CliFault}

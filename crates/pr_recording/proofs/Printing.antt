@@ -1,15 +1,18 @@
 -- An input that is printed block by block.
 use Rattle.std.proofs.Common.{◌≡◌, ◌<◌, ℕ, List, [], ◌++◌, length, refl, sym, subst, ◌∙◌, Option, Some, None, Result, Ok, Err}
-use Rattle.std.specs.Prelude.{IfSome, IsErrAnd}
+use Rattle.std.specs.Prelude.{IfErr, IfSome, IsErrAnd}
 use Rattle.std.specs.Io.KnownBytes.{IsAtEnd, Keeps}
 use Rattle.pr_wire.specs.declared.Edge.{Edge}
 use Rattle.pr_render.specs.declared.format.Format.{Format}
 use Rattle.pr_capture.specs.declared.format.TraceInput.{TraceInput}
-use Rattle.pr_input.specs.PartlyWritten.{AppendsFront}
-use Rattle.pr_cli.specs.Inputs.{EachTextSaysEdges, HasReadEdges, HasTakenAll, HasTakenBefore, IsNoReading, IsTooLong, ReadsEdges, SaysWhole, edges_read, fault_read}
-use Rattle.pr_cli.specs.Sources.{IsOwnFault}
+use Rattle.pr_cli.specs.Inputs.{EachTextSaysEdges, HasReadEdges, edges_read, fault_read}
+use Rattle.pr_cli.specs.EdgesTaken.{HasTakenAll, HasTakenBefore}
+use Rattle.pr_cli.specs.Report.{IsNoReading, SaysWhole, IsOwnFault}
+use Rattle.pr_cli.specs.InputReads.{IsTooLong, ReadsEdges}
+use Rattle.pr_cli.specs.Shown.{GivesShown}
+use Rattle.pr_cli.specs.declared.fault.PictureFault.{PictureFault}
 use Rattle.pr_cli.specs.declared.fault.CliFault.{CliFault}
-use Rattle.pr_cli.specs.declared.fault.CliFault.TheVariants.{Script, Trace, Wave, Capture, TooLarge, NoMemory, ReadFailed, WriteFailed}
+use Rattle.pr_cli.specs.declared.fault.CliFault.TheVariants.{Script, Trace, Wave, Capture, Picture, TooLarge, NoMemory, ReadFailed, WriteFailed}
 use Rattle.pr_cli.specs.declared.input_reader.InputReader.{InputReader}
 use Rattle.pr_recording.specs.declared.capture_printer.CapturePrinter.{CapturePrinter}
 use Rattle.pr_recording.specs.declared.capture_printer.Printed.{Printed}
@@ -17,7 +20,7 @@ use Rattle.pr_recording.specs.Copied.{CopiesMore, EndsCopy, EndsPrinted, HasCopi
 use Rattle.pr_recording.specs.Copying.{GivesPrint, PrintsWhole, WritesPrint, text_of_print}
 use Rattle.pr_recording.specs.Decoded.{back_in, stop_at}
 use Rattle.pr_recording.specs.Narrated.{IsStop}
-use Rattle.pr_recording.specs.Pages.{AnswersPages, IsPagesOf, LeavesPages, print_limit, readings_up_to}
+use Rattle.pr_recording.specs.Pages.{AnswersPages, IsPagesOf, IsReprintFault, LeavesPages, print_limit, readings_up_to}
 use Rattle.pr_recording.proofs.Answering.{is_stop, no_own}
 
 -- before the first block
@@ -53,6 +56,7 @@ prints_none limit start now input r taken (Err x) f h e none long = rw e (by f n
     by (Trace fault) none long = absurd none
     by (Wave fault) none long = absurd none
     by (Capture fault) none long = absurd none
+    by (Picture fault) none long = absurd none
     by WriteFailed none long = absurd none
 
 -- what was printed at an input's end, or at its fault
@@ -78,9 +82,39 @@ prints_last limit start left input r c p h stops ends =
     known None edges own o k says = tt
     known (Some text) edges own o k says = record { edges = edges; own = own; is_own = o; says = says; ends = k }
 
--- the same text, partly written
-pub front_as : (old new : Option (List ℕ)) (t u : List ℕ) → t ≡ u → AppendsFront old new t → AppendsFront old new u
-front_as old new t u e h = subst (λ (l : List ℕ). AppendsFront old new l) e h
+-- the pages are not shown, and nothing is written
+pub unshown : (format : Format) (p : Printed) (old : Option (List ℕ)) (shown : Result (List ℕ) PictureFault) (v : Result (Unit {0}) CliFault) (f : CliFault)
+    → IsErrAnd v (λ x. x ≡ f) → shown ≡ text_of_print format p → GivesShown shown (Err f) → Keeps old old → WritesPrint format p old old v
+unshown format p old shown (Ok u) f e same gives keeps = absurd e
+unshown format p old shown (Err x) f e same gives keeps = rw e (by f gives)
+  where
+    by : (f : CliFault) → GivesShown shown (Err f) → WritesPrint format p old old (Err f)
+    by (Picture fault) g = (sym same ∙ g, keeps)
+    by NoMemory g = keeps
+    by (Script fault) g = absurd g
+    by (Trace fault) g = absurd g
+    by (Wave fault) g = absurd g
+    by (Capture fault) g = absurd g
+    by TooLarge g = absurd g
+    by ReadFailed g = absurd g
+    by WriteFailed g = absurd g
+
+-- that is a fault of pages
+pub unshown_fault : (shown : Result (List ℕ) PictureFault) (v : Result (Unit {0}) CliFault) (f : CliFault) → IsErrAnd v (λ x. x ≡ f)
+    → GivesShown shown (Err f) → IfErr v IsReprintFault
+unshown_fault shown (Ok u) f e gives = tt
+unshown_fault shown (Err x) f e gives = rw e (by f gives)
+  where
+    by : (f : CliFault) → GivesShown shown (Err f) → IsReprintFault f
+    by (Picture fault) g = tt
+    by NoMemory g = tt
+    by (Script fault) g = absurd g
+    by (Trace fault) g = absurd g
+    by (Wave fault) g = absurd g
+    by (Capture fault) g = absurd g
+    by TooLarge g = absurd g
+    by ReadFailed g = absurd g
+    by WriteFailed g = absurd g
 
 -- what is written of the pages, and what is answered
 pub answered : (input : TraceInput) (format : Format) (text : List ℕ) (p : Printed) (old new : Option (List ℕ)) (v : Result (Unit {0}) CliFault) → PrintsWhole print_limit input text p
@@ -92,23 +126,24 @@ answered input format text p old new v h stop w = record {
   leaves = rw (← h.ends.stop) (leaves v w);
 }
   where
-    pages : IsPagesOf format (readings_up_to p.stop h.edges) (text_of_print format p)
-    pages = record { reprinted = p.pages; are_papers = h.ends.papers; is_text = refl }
+    pages : (text : List ℕ) → text_of_print format p ≡ Ok text → IsPagesOf format (readings_up_to p.stop h.edges) text
+    pages text is = record { reprinted = p.pages; are_papers = h.ends.papers; is_text = is }
 
     never : (f : CliFault) → p.stop ≡ Some f → (IsStop f → ⊥) → ⊥
     never f e n = n (let k : IfSome (Some f) IsStop = rw e at stop in k)
 
     leaves : (v : Result (Unit {0}) CliFault) → WritesPrint format p old new v
         → LeavesPages (length text) p.stop format (readings_up_to p.stop h.edges) old new v
-    leaves (Ok u) w = (h.says.short (no_own (back_in h.edges) h.own (sym h.ends.stop ∙ w.0)), w.0, (text_of_print format p, pages, w.1))
-    leaves (Err (Script fault)) w = never (Script fault) w.0 (λ o. o)
-    leaves (Err (Trace fault)) w = (w.0, (text_of_print format p, pages, w.1))
-    leaves (Err (Wave fault)) w = (w.0, (text_of_print format p, pages, w.1))
-    leaves (Err (Capture fault)) w = (w.0, (text_of_print format p, pages, w.1))
-    leaves (Err TooLarge) w = absurd (never TooLarge w.0 (λ o. o))
+    leaves (Ok u) w = (h.says.short (no_own (back_in h.edges) h.own (sym h.ends.stop ∙ w.2)), w.2, (w.0, pages w.0 w.1, w.3))
+    leaves (Err (Script fault)) w = never (Script fault) w.2 (λ o. o)
+    leaves (Err (Trace fault)) w = (w.2, (w.0, pages w.0 w.1, w.3))
+    leaves (Err (Wave fault)) w = (w.2, (w.0, pages w.0 w.1, w.3))
+    leaves (Err (Capture fault)) w = (w.2, (w.0, pages w.0 w.1, w.3))
+    leaves (Err (Picture fault)) w = (record { reprinted = p.pages; are_papers = h.ends.papers; is_unshown = w.0 }, w.1)
+    leaves (Err TooLarge) w = absurd (never TooLarge w.2 (λ o. o))
     leaves (Err NoMemory) w = w
-    leaves (Err ReadFailed) w = absurd (never ReadFailed w.0 (λ o. o))
-    leaves (Err WriteFailed) w = (text_of_print format p, pages, w)
+    leaves (Err ReadFailed) w = absurd (never ReadFailed w.2 (λ o. o))
+    leaves (Err WriteFailed) w = (w.0, pages w.0 w.1, w.2)
 
 -- what is answered where nothing was printed
 pub unanswered : EachTextSaysEdges → (input : TraceInput) (format : Format) (text : List ℕ) (old new : Option (List ℕ)) (f : CliFault) → IsNoReading f → (f ≡ TooLarge → print_limit < length text) → Keeps old new
@@ -131,6 +166,7 @@ unanswered some input format text old new f none large keeps =
     by (Trace fault) n l = absurd n
     by (Wave fault) n l = absurd n
     by (Capture fault) n l = absurd n
+    by (Picture fault) n l = absurd n
     by WriteFailed n l = absurd n
 
 -- the same, where it is known what the reader gives
@@ -155,3 +191,4 @@ none_answered some (Some text) old input format f (Err x) is none keeps h =
     large (Trace fault) h e = absurd (cc)
     large (Wave fault) h e = absurd (cc)
     large (Capture fault) h e = absurd (cc)
+    large (Picture fault) h e = absurd (cc)

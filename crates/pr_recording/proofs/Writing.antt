@@ -12,7 +12,7 @@ front_none a text = ([], text, refl, Appends-nil a)
 pub front_whole : (a b : Option (List ℕ)) (text : List ℕ) → Appends a b text → AppendsFront a b text
 front_whole a b text h = (text, [], sym (append-nil text), h)
 
--- a beginning behind what was written before
+-- a beginning after what was written before
 pub front_behind : (a b d : Option (List ℕ)) (xs ys zs rest : List ℕ) → zs ≡ (xs ++ ys) ++ rest → Appends a b xs → AppendsFront b d ys → AppendsFront a d zs
 front_behind a b d xs ys zs rest is h k = (
   xs ++ k.0,
@@ -21,6 +21,6 @@ front_behind a b d xs ys zs rest is h k = (
   Appends-trans a b d xs k.0 h k.3,
 )
 
--- all behind what was written before
+-- all after what was written before
 pub whole_behind : (a b d : Option (List ℕ)) (xs ys zs : List ℕ) → xs ++ ys ≡ zs → Appends a b xs → Appends b d ys → Appends a d zs
 whole_behind a b d xs ys zs is h k = rw (← is) (Appends-trans a b d xs ys h k)

@@ -7,7 +7,7 @@ use Rattle.pr_decode.specs.Taking.{HasReadings, last_time}
 use Rattle.pr_recording.specs.declared.printer_pair.BusPrinters.{BusPrinters}
 use Rattle.pr_recording.specs.PrintedPages.{ArePapers}
 use Rattle.pr_recording.specs.Taking as reprint
-use Rattle.pr_cli.specs.Inputs.{EndsReading}
+use Rattle.pr_cli.specs.EdgesTaken.{EndsReading}
 use Rattle.pr_cli.specs.declared.fault.CliFault.{CliFault}
 use Rattle.pr_cli.specs.declared.input_reader.InputReader.{InputReader}
 use Rattle.pr_recording.specs.declared.capture_printer.CapturePrinter.{CapturePrinter}

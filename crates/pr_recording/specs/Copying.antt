@@ -6,15 +6,15 @@ use Rattle.pr_render.specs.declared.format.Format.{Format}
 use Rattle.pr_capture.specs.declared.format.TraceInput.{TraceInput}
 use Rattle.pr_cli.specs.Formats.{text_in}
 use Rattle.pr_input.specs.PartlyWritten.{AppendsFront}
-use Rattle.pr_cli.specs.Inputs.{SaysWhole}
-use Rattle.pr_cli.specs.Sources.{IsOwnFault}
+use Rattle.pr_cli.specs.Report.{SaysWhole, IsOwnFault}
 use Rattle.pr_cli.specs.declared.fault.CliFault.{CliFault}
-use Rattle.pr_cli.specs.declared.fault.CliFault.TheVariants.{TooLarge, NoMemory, ReadFailed, WriteFailed}
+use Rattle.pr_cli.specs.declared.fault.CliFault.TheVariants.{Picture, TooLarge, NoMemory, ReadFailed, WriteFailed}
+use Rattle.pr_cli.specs.declared.fault.PictureFault.{PictureFault}
 use Rattle.pr_recording.specs.declared.capture_printer.Printed.{Printed}
 use Rattle.pr_recording.specs.Copied.{EndsCopy}
 use Rattle.pr_recording.specs.Pages.{papers_alone}
 
--- what was printed of an input of at most so many bytes, or up to its fault, or why nothing was
+-- what was printed of an input of at most this many bytes, or up to its fault, or why nothing was
 pub record PrintsWhole (limit : ℕ) (input : TraceInput) (text : List ℕ) (p : Printed) : Type 0 where
   pub edges : List Edge
   pub own : Option CliFault
@@ -35,11 +35,15 @@ HasReadPages left (Ok p) = p.stop ≡ None → IsAtEnd left
 HasReadPages left (Err fault) = Unit {0}
 
 -- what the pages that were printed come to in the writer
-abbrev pub text_of_print : Format → Printed → List ℕ
+abbrev pub text_of_print : Format → Printed → Result (List ℕ) PictureFault
 text_of_print format p = text_in format p.pages.present (papers_alone p.pages)
 
 abbrev pub WritesPrint : Format → Printed → Option (List ℕ) → Option (List ℕ) → Result (Unit {0}) CliFault → Type 0
-WritesPrint format p old new (Ok _) = (p.stop ≡ None) × Appends old new (text_of_print format p)
+WritesPrint format p old new (Ok _) =
+    (text : List ℕ) × (text_of_print format p ≡ Ok text) × (p.stop ≡ None) × Appends old new text
 WritesPrint format p old new (Err NoMemory) = Keeps old new
-WritesPrint format p old new (Err WriteFailed) = AppendsFront old new (text_of_print format p)
-WritesPrint format p old new (Err fault) = (p.stop ≡ Some fault) × Appends old new (text_of_print format p)
+WritesPrint format p old new (Err (Picture fault)) = (text_of_print format p ≡ Err fault) × Keeps old new
+WritesPrint format p old new (Err WriteFailed) =
+    (text : List ℕ) × (text_of_print format p ≡ Ok text) × AppendsFront old new text
+WritesPrint format p old new (Err fault) =
+    (text : List ℕ) × (text_of_print format p ≡ Ok text) × (p.stop ≡ Some fault) × Appends old new text

@@ -11,11 +11,12 @@ use Rattle.pr_report.specs.declared.reading_line.Preceding.TheVariants.{Nothing}
 use Rattle.pr_report.specs.ReadingText.{all_lines}
 use Rattle.pr_report.specs.Summary.{summary}
 use Rattle.pr_report.specs.Verdict.{verdict_text}
+use Rattle.pr_report.specs.Oddities.{oddities_of, oddities_text}
 use Rattle.pr_capture.specs.declared.format.TraceInput.{TraceInput}
 use Rattle.pr_input.specs.PartlyWritten.{AppendsFront}
 use Rattle.pr_cli.specs.Report.{Says}
 use Rattle.pr_cli.specs.declared.fault.CliFault.{CliFault}
-use Rattle.pr_cli.specs.declared.fault.CliFault.TheVariants.{Script, Trace, Wave, Capture, TooLarge, NoMemory, ReadFailed, WriteFailed}
+use Rattle.pr_cli.specs.declared.fault.CliFault.TheVariants.{Script, Trace, Wave, Capture, Picture, TooLarge, NoMemory, ReadFailed, WriteFailed}
 
 -- Where a recording stops.
 
@@ -40,11 +41,13 @@ stop_at (Some n) own = Some (Wave (wave.Order n))
 
 -- What is written.
 
--- for a whole recording the lines of its readings, their summary, and whether it is lawful; for any
--- other the lines of what its edges settle up to where it stops
+-- for a whole recording the lines of its readings, their summary, whether it is lawful, and what is odd
+-- about it; for any other the lines of what its edges settle up to where it stops
 abbrev pub told_of : (stop : Option CliFault) → List Edge → List ℕ
 told_of None edges =
-    all_lines Nothing (readings_of edges) ++ (summary (readings_of edges) ++ verdict_text (fault_of edges))
+    all_lines Nothing (readings_of edges)
+    ++ (summary (readings_of edges)
+    ++ (verdict_text (fault_of edges) ++ oddities_text (oddities_of edges (readings_of edges))))
 told_of (Some fault) edges = all_lines Nothing (settled_of (in_front (back_in edges) edges))
 
 -- what the writer holds with each answer, by the limit and the length of the input, why it stops, and the text for it
@@ -57,6 +60,7 @@ Leaves limit len stop told old new (Err (Script fault)) = ⊥
 Leaves limit len stop told old new (Err (Trace fault)) = (stop ≡ Some (Trace fault)) × Appends old new told
 Leaves limit len stop told old new (Err (Wave fault)) = (stop ≡ Some (Wave fault)) × Appends old new told
 Leaves limit len stop told old new (Err (Capture fault)) = (stop ≡ Some (Capture fault)) × Appends old new told
+Leaves limit len stop told old new (Err (Picture fault)) = ⊥
 Leaves limit len stop told old new (Err TooLarge) = (limit < len) × AppendsFront old new told
 Leaves limit len stop told old new (Err NoMemory) = AppendsFront old new told
 Leaves limit len stop told old new (Err ReadFailed) = AppendsFront old new told
@@ -79,6 +83,7 @@ ReadsAll left (Err fault) = Unit {0}
 -- a fault of a recording: of its edges only that time goes back; want of memory is always `NoMemory` itself
 abbrev pub IsDecodeFault : CliFault → Type 0
 IsDecodeFault (Script fault) = ⊥
+IsDecodeFault (Picture fault) = ⊥
 IsDecodeFault (Trace trace.NoMemory) = ⊥
 IsDecodeFault (Wave (wave.Order n)) = Unit {0}
 IsDecodeFault (Wave fault) = ⊥

@@ -1,6 +1,7 @@
 -- Linking words, for proofs: which edges were taken, and which lines were made and written of them. No reader needs to believe them.
 use Rattle.std.specs.Prelude.{◌≡◌, ℕ, ◌+◌, List, [], ◌∷◌, ◌++◌, length, Option, Some, None, Result, Ok, Err}
 use Rattle.std.specs.Io.KnownBytes.{Appends}
+use Rattle.std.specs.List.{list_any}
 use Rattle.pr_wire.specs.declared.Edge.{Edge}
 use Rattle.pr_wire.specs.declared.Frame.{Frame}
 use Rattle.pr_wire.specs.declared.WaveFault.TheVariants as wave
@@ -10,10 +11,11 @@ use Rattle.pr_decode.specs.declared.reading.Reading.{Reading}
 use Rattle.pr_decode.specs.Taking.{HasReadings, last_time}
 use Rattle.pr_report.specs.declared.reading_line.Preceding.TheVariants.{Nothing}
 use Rattle.pr_report.specs.ReadingText.{all_lines, behind_all}
+use Rattle.pr_report.specs.Oddities.{is_acknowledged}
 use Rattle.pr_report.specs.Taking as survey
 use Rattle.pr_input.specs.PartlyWritten.{AppendsFront}
-use Rattle.pr_cli.specs.Inputs.{EndsReading}
-use Rattle.pr_cli.specs.Sources.{IsOwnFault}
+use Rattle.pr_cli.specs.EdgesTaken.{EndsReading}
+use Rattle.pr_cli.specs.Report.{IsOwnFault}
 use Rattle.pr_cli.specs.declared.fault.CliFault.{CliFault}
 use Rattle.pr_cli.specs.declared.fault.CliFault.TheVariants.{Wave, WriteFailed}
 use Rattle.pr_cli.specs.declared.input_reader.InputReader.{InputReader}
@@ -34,6 +36,7 @@ IsFollowed edges f = (frames : List Frame) × HasFollowed edges frames f
 pub record HasAccounted (given : List Reading) (written : List ℕ) (a : ReadingLog) : Type 0 where
   pub surveyed : survey.HasSurveyed given a.survey
   pub behind : a.behind ≡ behind_all Nothing given
+  pub byte : a.has_byte ≡ list_any is_acknowledged given
   pub lines : written ++ a.lines.items ≡ all_lines Nothing given
 
 -- how many readings an log has
@@ -62,6 +65,7 @@ pub record HasHeeded (edges : List Edge) (written : List ℕ) (n : DecodeReport)
   pub read : HasReadings edges given n.decoder
   pub last : last_time n.decoder ≡ time_of edges
   pub followed : IsFollowed edges n.follower
+  pub seen : survey.HasSeen edges n.seen
   pub accounted : HasAccounted given written n.log
   pub taken : n.taken ≡ length edges
 

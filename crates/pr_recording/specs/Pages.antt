@@ -13,8 +13,9 @@ use Rattle.pr_cli.specs.Formats.{text_in}
 use Rattle.pr_input.specs.PartlyWritten.{AppendsFront}
 use Rattle.pr_cli.specs.Report.{Says}
 use Rattle.pr_cli.specs.declared.fault.CliFault.{CliFault}
-use Rattle.pr_cli.specs.declared.fault.CliFault.TheVariants.{Script, Trace, Wave, Capture, TooLarge, NoMemory, ReadFailed, WriteFailed}
-use Rattle.pr_recording.specs.Decoded.{back_in, in_front, stop_at}
+use Rattle.pr_cli.specs.declared.fault.PictureFault.{PictureFault}
+use Rattle.pr_cli.specs.declared.fault.CliFault.TheVariants.{Script, Trace, Wave, Capture, Picture, TooLarge, NoMemory, ReadFailed, WriteFailed}
+use Rattle.pr_recording.specs.Decoded.{IsDecodeFault, back_in, in_front, stop_at}
 
 -- the most bytes of a recording that is printed: a printer takes at most 2 ^ 32 inputs, and no byte
 -- of a recording makes more than one
@@ -34,7 +35,13 @@ papers_alone r = record { paper4 = r.paper4; paper5 = r.paper5; statuses = []; s
 pub record IsPagesOf (format : Format) (readings : List Reading) (text : List ℕ) : Type 0 where
   pub reprinted : PrintedPages
   pub are_papers : ArePapers readings reprinted
-  pub is_text : text ≡ text_in format reprinted.present (papers_alone reprinted)
+  pub is_text : text_in format reprinted.present (papers_alone reprinted) ≡ Ok text
+
+-- the pages that readings make can not be shown in this format
+pub record AreUnshown (format : Format) (readings : List Reading) (fault : PictureFault) : Type 0 where
+  pub reprinted : PrintedPages
+  pub are_papers : ArePapers readings reprinted
+  pub is_unshown : text_in format reprinted.present (papers_alone reprinted) ≡ Err fault
 
 -- these pages were written, or a beginning of them
 abbrev pub WritesPages : Format → List Reading → Option (List ℕ) → Option (List ℕ) → Type 0
@@ -54,6 +61,7 @@ LeavesPages len stop format rs old new (Err (Trace fault)) = (stop ≡ Some (Tra
 LeavesPages len stop format rs old new (Err (Wave fault)) = (stop ≡ Some (Wave fault)) × WritesPages format rs old new
 LeavesPages len stop format rs old new (Err (Capture fault)) =
     (stop ≡ Some (Capture fault)) × WritesPages format rs old new
+LeavesPages len stop format rs old new (Err (Picture fault)) = AreUnshown format rs fault × Keeps old new
 LeavesPages len stop format rs old new (Err TooLarge) = (print_limit < len) × Keeps old new
 LeavesPages len stop format rs old new (Err NoMemory) = Keeps old new
 LeavesPages len stop format rs old new (Err ReadFailed) = Keeps old new
@@ -68,3 +76,8 @@ pub record AnswersPages (input : TraceInput) (format : Format) (text : List ℕ)
   pub leaves :
       let stop = stop_at (back_in edges) own in
       LeavesPages (length text) stop format (readings_up_to stop edges) old new result
+
+-- a fault of pages that are asked for: one of the recording or of their picture
+abbrev pub IsReprintFault : CliFault → Type 0
+IsReprintFault (Picture fault) = Unit {0}
+IsReprintFault fault = IsDecodeFault fault

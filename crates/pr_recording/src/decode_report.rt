@@ -4,12 +4,14 @@ ghost use Rattle.std.specs.Prelude.{◌≡◌, ◌+◌, ◌*◌, ◌^◌, ◌<�
 ghost use Rattle.pr_wire.specs.declared.Edge.{Edge};
 ghost use Rattle.pr_wire.specs.declared.Frame.{Frame};
 ghost use Rattle.pr_wire.specs.Following.{HasFollowed};
+ghost use Rattle.pr_report.specs.Taking.{HasSeen};
 ghost use Rattle.pr_recording.specs.Decoded.{stop_at};
 ghost use Rattle.pr_recording.specs.Narrated.{EndsEdges, GivesUp, HasNarrated, IsFollowed, NarratesMore, lines_in, load};
 
 use crate::reading_log::ReadingLog;
 use pr_cli::CliFault;
 use pr_decode::{Decoder, GoesBack, readings_add_up};
+use pr_report::LinesSeen;
 use pr_wire::{Edge, TraceFollower, WaveFault};
 use std::alloc::{AllocError, Global};
 
@@ -26,6 +28,8 @@ pub struct DecodeReport {
     decoder: Decoder,
     /// Whether the edges taken are a lawful trace.
     follower: TraceFollower,
+    /// What the edges taken say of the lines.
+    seen: LinesSeen,
     log: ReadingLog,
     /// How many edges were taken.
     taken: usize,
@@ -42,6 +46,7 @@ impl DecodeReport {
         Ok(DecodeReport {
             decoder: Decoder::new(),
             follower: TraceFollower::new(),
+            seen: LinesSeen::new(),
             log: ReadingLog::new(alloc)?,
             taken: 0,
             back: None,
@@ -60,6 +65,7 @@ impl DecodeReport {
         match self.decoder.take(edge) {
             Ok(reading) => {
                 follow(&mut self.follower, edge);
+                see(&mut self.seen, edge);
                 self.taken += 1;
                 self.log.push_if(reading)
             }
@@ -98,7 +104,7 @@ impl DecodeReport {
     }
 
     /// Ends the edges of an input with this fault, if it has one. Where nothing stops them, what the end
-    /// cuts, the summary and the verdict are told.
+    /// cuts, the summary, the verdict and what is odd are told.
     pub fn finish(mut self, own: Option<CliFault>) -> Result<Ended, AllocError>
         requires room { load self + 3 < 2 ^ 64 }
         ensures { IfOk result (λ ended. (edges : List Edge) (written : List ℕ) → HasNarrated edges written self →
@@ -113,7 +119,7 @@ impl DecodeReport {
         let cut = self.decoder.finish();
         self.log.push_if(cut)?;
         let verdict = self.follower.finish().err();
-        let lines = self.log.finish(verdict)?;
+        let lines = self.log.finish(verdict, self.seen)?;
         Ok(Ended { lines, stop: None })
     }
 }
@@ -129,6 +135,13 @@ fn follow(follower: &mut TraceFollower, edge: Edge)
         Ok(_) => {}
         Err(_) => {}
     }
+}
+
+/// Looks at the next edge.
+fn see(seen: &mut LinesSeen, edge: Edge)
+    ensures { (edges : List Edge) → HasSeen edges seen.old → HasSeen (edges ++ edge ∷ []) seen.new }
+{
+    seen.take(edge);
 }
 
 /// Why no more is told of edges: time goes back at one of them, or else their input has a fault.

@@ -2,13 +2,14 @@
 
 ghost use Rattle.std.specs.Prelude.{◌≡◌, ◌≢◌, ◌+◌, ◌^◌, ◌<◌, ◌≤◌, ◌↔◌, length, false, true, None, IfErr, IfOk, IfSome, IsErrOf, OnOk};
 ghost use Rattle.std.specs.Io.KnownBytes.{Keeps};
-ghost use Rattle.pr_cli.specs.Inputs.{IsNoReading, edges_read, lines_ahead};
+ghost use Rattle.pr_cli.specs.Inputs.{edges_read, lines_ahead};
+ghost use Rattle.pr_cli.specs.Report.{IsNoReading};
 ghost use Rattle.pr_input.specs.Watched.{has_failed, is_flushed, wrapped};
 ghost use Rattle.pr_recording.specs.Copied.{EndsPrinted, edges_copied, inputs_printed};
 ghost use Rattle.pr_recording.specs.Copying.{GivesPrint, HasReadPages, WritesPrint};
-ghost use Rattle.pr_recording.specs.Decoded.{IsDecodeFault, ReadsAll};
+ghost use Rattle.pr_recording.specs.Decoded.{ReadsAll};
 ghost use Rattle.pr_recording.specs.Narrated.{IsStop};
-ghost use Rattle.pr_recording.specs.Pages.{AnswersPages, papers_alone, print_limit};
+ghost use Rattle.pr_recording.specs.Pages.{AnswersPages, IsReprintFault, papers_alone, print_limit};
 
 use crate::capture_printer::{CapturePrinter, Printed};
 use crate::printer_pair::PrintedPages;
@@ -43,6 +44,7 @@ pub const PRINT_LIMIT: usize = 4_000_000_000;
 /// - [`CliFault::TooLarge`]: only if the input has more than [`PRINT_LIMIT`] bytes.
 /// - [`CliFault::ReadFailed`] exactly if the input has failed, [`CliFault::WriteFailed`] exactly if the
 ///   output has.
+/// - [`CliFault::Picture`]: the pages have no such sheet, or their document is too large; whatever the recording's own fault is.
 /// - [`CliFault::NoMemory`]: memory was refused.
 ///
 /// With the first three the pages of all that is settled before the fault have been written; after
@@ -63,7 +65,7 @@ pub fn reprint_over<R: Read, W: Write>(
     ensures at_end { ReadsAll (R.remaining (wrapped input.new)) result }
     ensures flushed { OnOk result (is_flushed output.new ≡ true) }
     // when it refuses, and what that leaves
-    ensures own { IfErr result IsDecodeFault }
+    ensures own { IfErr result IsReprintFault }
     ensures read_failed { IsErrOf result CliFault.ReadFailed ↔ (has_failed input.new ≡ true) }
     ensures write_failed { IsErrOf result CliFault.WriteFailed ↔ (has_failed output.new ≡ true) }
 {
@@ -149,7 +151,7 @@ fn write_pages<W: Write>(
     ensures written { WritesPrint format printed (W.contents (wrapped output.old)) (W.contents (wrapped output.new)) result }
     ensures flushed { OnOk result (is_flushed output.new ≡ true) }
     // when it refuses, and what that leaves
-    ensures own { IfErr result IsDecodeFault }
+    ensures own { IfErr result IsReprintFault }
     ensures failed { IsErrOf result CliFault.WriteFailed ↔ (has_failed output.new ≡ true) }
 {
     let Printed { pages, stop } = printed;

@@ -1,26 +1,40 @@
 //! The lines of readings, and what they come to.
 
-ghost use Rattle.std.specs.Prelude.{◌≡◌, ◌+◌, ◌^◌, ◌<◌, ◌≤◌, ◌∷◌, ◌++◌, [], List, ℕ, IfOk, OnOk};
+ghost use Rattle.std.specs.Prelude.{◌≡◌, ◌+◌, ◌^◌, ◌<◌, ◌≤◌, ◌∷◌, ◌++◌, ◌||◌, [], List, ℕ, IfOk, OnOk};
 ghost use Rattle.std.specs.Option.{option_to_list};
+ghost use Rattle.pr_wire.specs.declared.Edge.{Edge};
 ghost use Rattle.pr_decode.specs.declared.reading.Reading.{Reading};
 ghost use Rattle.pr_report.specs.declared.reading_line.Preceding.TheVariants.{Nothing};
 ghost use Rattle.pr_report.specs.ReadingText.{all_lines};
 ghost use Rattle.pr_report.specs.Summary.{summary};
+ghost use Rattle.pr_report.specs.Oddities.{is_acknowledged, oddities_of, oddities_text};
+ghost use Rattle.pr_report.specs.Taking.{HasSeen};
 ghost use Rattle.pr_report.specs.Verdict.{verdict_text};
 ghost use Rattle.pr_recording.specs.Narrated.{AccountsMore, HasAccounted, readings_told};
 
 use pr_decode::Reading;
-use pr_report::{Preceding, Survey, push_reading, push_verdict};
+use pr_report::{
+    LinesSeen, Preceding, Survey, is_acknowledged, push_oddities, push_reading, push_verdict,
+};
 use pr_wire::WaveFault;
 use std::alloc::{AllocError, Global};
 
 /// The lines of the readings so far that are not written yet, and a survey of all of them.
 #[derive(Drop)]
 pub struct ReadingLog {
-    /// What stands before the next reading.
+    /// What comes before the next reading.
     behind: Preceding,
+    /// Some reading is an acknowledged byte.
+    has_byte: bool,
     survey: Survey,
     lines: Vec<u8>,
+}
+
+/// Whether an acknowledged byte has come, with one reading more.
+fn with_byte(before: bool, reading: &Reading) -> bool
+    ensures { result ≡ (before || is_acknowledged reading.now) }
+{
+    before || is_acknowledged(reading)
 }
 
 impl ReadingLog {
@@ -31,6 +45,7 @@ impl ReadingLog {
     {
         Ok(ReadingLog {
             behind: Preceding::Nothing,
+            has_byte: false,
             survey: Survey::new(alloc)?,
             lines: Vec::new(alloc),
         })
@@ -44,6 +59,7 @@ impl ReadingLog {
     {
         push_reading(&mut self.lines, self.behind, reading)?;
         self.behind = self.behind.after(reading);
+        self.has_byte = with_byte(self.has_byte, reading);
         self.survey.take(reading);
         Ok(())
     }
@@ -84,15 +100,17 @@ impl ReadingLog {
         self.lines
     }
 
-    /// Ends the readings: gives the lines that are not written yet, the summary of all readings, and the
-    /// verdict.
-    pub fn finish(self, verdict: Option<WaveFault>) -> Result<Vec<u8>, AllocError>
-        ensures { IfOk result (λ text. (given : List Reading) (written : List ℕ) → HasAccounted given written self →
-            written ++ text.items ≡ all_lines Nothing given ++ (summary given ++ verdict_text verdict)) }
+    /// Ends the readings: gives the lines that are not written yet, the summary of all readings, the
+    /// verdict, and what is odd about the edges that were seen.
+    pub fn finish(self, verdict: Option<WaveFault>, seen: LinesSeen) -> Result<Vec<u8>, AllocError>
+        ensures { IfOk result (λ text. (edges : List Edge) (given : List Reading) (written : List ℕ) → HasSeen edges seen →
+            HasAccounted given written self → written ++ text.items ≡ all_lines Nothing given
+            ++ (summary given ++ (verdict_text verdict ++ oddities_text (oddities_of edges given)))) }
     {
         let mut lines = self.lines;
         self.survey.push_summary(&mut lines)?;
         push_verdict(&mut lines, verdict)?;
+        push_oddities(&mut lines, seen.oddities(self.has_byte))?;
         Ok(lines)
     }
 }

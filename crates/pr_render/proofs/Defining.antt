@@ -1,13 +1,15 @@
 -- Which marks are still to be defined.
 use Rattle.std.proofs.Common.{◌≡◌, ℕ, ◌+◌, ◌<◌, Bool, true, false, cond, List, [], ◌∷◌, ◌++◌, length, refl, sym, ap, ◌∙◌, arith, append_assoc}
-use Rattle.std.specs.Prelude.{◌==◌, not, flat_map, replicate, slice_index_or, slice_set}
+use Rattle.std.specs.Prelude.{◌==◌, not, flat_map, if◌then◌else◌, map, replicate, slice_index_or, slice_set}
 use Rattle.std.specs.List.{filter}
 use Rattle.std.proofs.lemmas.Grind.{common_steps, get_or-set_at}
 use Rattle.pr_page.specs.declared.paper.Mark.{Mark}
-use Rattle.pr_render.specs.Defined.{HasDefined, is_new, new_definitions}
+use Rattle.pr_page.specs.declared.paper.Row.{Row}
+use Rattle.pr_dots.specs.Sheets.{is_on, rows_on}
+use Rattle.pr_render.specs.Defined.{HasDefined, is_new, marks_on, new_definitions}
 use Rattle.pr_render.specs.Svg.{definition_svg, differ, each_once, number_of}
 
--- two tests, one behind the other, are one test
+-- two tests, one after the other, are one test
 filter-both : {X : Type 0} (p q r : X → Bool) → ((x : X) → cond (q x) (p x) false ≡ r x) → (xs : List X) → filter p (filter q xs) ≡ filter r xs
 filter-both p q r both [] = refl
 filter-both p q r both (x ∷ xs) = grind (arith, common_steps, both x, filter-both p q r both xs)
@@ -22,7 +24,7 @@ known : (defined : List Bool) (n k : ℕ) → slice_index_or defined n false ≡
     → cond (not (n == k)) (not (slice_index_or defined k false)) false ≡ not (slice_index_or defined k false)
 known defined n k is = grind (arith, is)
 
--- behind a definition the marks with another number are as they were
+-- after a definition the marks with another number are as they were
 others : (defined : List Bool) (n k : ℕ) → n < length defined
     → cond (not (n == k)) (not (slice_index_or defined k false)) false ≡ not (slice_index_or (slice_set defined n true) k false)
 others defined n k within = grind (arith, common_steps)
@@ -71,3 +73,14 @@ pub two-papers : (t1 t2 t3 : List ℕ) (d1 d2 d3 : List Bool) (four five : List 
     → HasDefined four t1 d1 t2 d2 → HasDefined five t2 d2 t3 d3 → t3 ≡ t1 ++ flat_map definition_svg (each_once (four ++ five))
 two-papers t1 t2 t3 d1 d2 d3 four five at_first first second =
     grind (arith, common_steps, second [], first five, at_first, none-defined (four ++ five))
+
+-- the definitions of the marks of a sheet
+pub one-sheet : (t1 t2 : List ℕ) (d1 d2 : List Bool) (marks : List Mark) → d1 ≡ replicate 2304 false
+    → HasDefined marks t1 d1 t2 d2 → t2 ≡ t1 ++ flat_map definition_svg (each_once marks)
+one-sheet t1 t2 d1 d2 marks at_first defined = grind (arith, common_steps, defined [], at_first, none-defined marks)
+
+-- the marks of the rows that are on a sheet, with one row more
+pub marks_of_more : (sheet : ℕ) (row : Row) (rows : List Row)
+    → marks_on (flat_map (λ r. r.marks) (rows_on sheet (row ∷ rows)))
+    ≡ (if is_on sheet row then marks_on row.marks else []) ++ marks_on (flat_map (λ r. r.marks) (rows_on sheet rows))
+marks_of_more sheet row rows = grind (arith, common_steps)

@@ -126,7 +126,7 @@ use-dots ms p y all known =
     ∙ (once (λ d. map (moved (21 * p.x) (10 * y)) (mark_discs d)) p.mark ms parts.0
     ∙ columns-moved p.x y 0 p.x (omega arith) (columns_of p.mark))
 
--- lists of discs, one behind the other
+-- lists of discs, one after the other
 discs-append : (a b : List Disc) (c d : List Dot) → a ≡ map disc_of c → b ≡ map disc_of d → a ++ b ≡ map disc_of (c ++ d)
 discs-append a b c d p q = grind (arith, common_steps, p, q)
 
@@ -173,7 +173,7 @@ any-between : (test : Mark → Bool) (ps : List Mark) (m : Mark) (qs : List Mark
 any-between test [] m qs is = grind (arith, is)
 any-between test (p ∷ ps) m qs is = grind (arith, any-between test ps m qs is)
 
--- each of the marks behind others is among them all
+-- each of the marks after others is among them all
 each-known : (ps qs : List Mark) → list_all is_of_bytes qs ≡ true → list_all (is_known (ps ++ qs)) qs ≡ true
 each-known ps [] all = refl
 each-known ps (q ∷ qs) all =

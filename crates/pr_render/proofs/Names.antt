@@ -46,7 +46,7 @@ flags-tell false false true false ds es a b is = grind (arith, common_steps, a.0
 flags-tell false false false true ds es a b is = grind (arith, common_steps, a.0, a.1, b.0, b.1, is)
 flags-tell false false false false ds es a b is = (refl, refl, is)
 
--- what stands behind the first sign
+-- what follows the first sign
 rest-is : {a b : ℕ} {xs bs : List ℕ} → a ∷ xs ≡ b ∷ bs → xs ≡ bs
 rest-is is = cc
 

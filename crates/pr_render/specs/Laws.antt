@@ -1,13 +1,15 @@
 -- Laws: what a picture's elements draw, and what a line shows, said without the folds of Svg.antt and Plain.antt. src/laws.rt proves them.
-use Rattle.std.specs.Prelude.{◌≡◌, ℕ, ◌+◌, ◌*◌, ◌/◌, ◌<◌, Bool, true, false, not, List, [], ◌∷◌, ◌++◌, ◌==◌, ◌&&◌, ◌||◌, nat_lt, codes, encode_utf8, flat_map, length, map, slice_index_or, if◌then◌else◌}
+use Rattle.std.specs.Prelude.{◌≡◌, ℕ, ◌+◌, ◌-◌, ◌*◌, ◌/◌, ◌<◌, Bool, true, false, not, List, [], ◌∷◌, ◌++◌, ◌==◌, ◌&&◌, ◌||◌, nat_lt, encode_utf8, flat_map, map, slice_index_or, if◌then◌else◌}
 use Rattle.std.specs.List.{list_all}
 use Rattle.pr_page.specs.declared.paper.Placed.{Placed}
+use Rattle.pr_base.specs.Lines.{lines_of}
 use Rattle.pr_page.specs.declared.paper.Paper.{Paper}
+use Rattle.pr_page.specs.declared.paper.Row.{Row}
 use Rattle.pr_page.specs.declared.paper.Mark.{Mark}
 use Rattle.pr_page.specs.declared.paper.Mark.TheVariants.{Cell, Dots}
 use Rattle.pr_dots.specs.Dots.{dots_of}
 use Rattle.pr_render.specs.Characters.{character}
-use Rattle.pr_render.specs.Plain.{line_text, shown}
+use Rattle.pr_render.specs.Plain.{held_text, rows_text, shown}
 use Rattle.pr_render.specs.Words.{is_blank}
 use Rattle.pr_render.specs.Svg.{Disc, disc_of, each_once, mark_discs, marks_of, name_svg}
 
@@ -48,24 +50,45 @@ DiscsAreTheDots =
 abbrev pub NamesTellMarks : Type 0
 NamesTellMarks = (m n : Mark) → is_of_bytes m ≡ true → is_of_bytes n ≡ true → name_svg m ≡ name_svg n → m ≡ n
 
--- a line's text has a character at a column, counted from 0
-pub record HasAt (column u : ℕ) (text : List ℕ) : Type 0 where
+-- a text shows a character at a column of a line, both counted from 0: a blank where the line is shorter
+pub record ShowsAt (line column u : ℕ) (text : List ℕ) : Type 0 where
   pub characters : List ℕ
-  pub spells : text ≡ flat_map encode_utf8 characters ++ codes "\n"
-  pub within : column < length characters
-  pub at : slice_index_or characters column 0 ≡ u
+  pub spells : text ≡ flat_map encode_utf8 characters
+  pub at : slice_index_or (slice_index_or (lines_of characters) line []) column 32 ≡ u
+
+-- how many lines come before that of a row this far down, on paper that is empty from a distance on: one for each row above
+-- it, and one for each line of text for which a row leaves room above it
+abbrev pub lines_before : (empty : ℕ) → (above : List Row) → (y : ℕ) → ℕ
+lines_before empty [] y = (y - empty) / 21
+lines_before empty (r ∷ rs) y = (r.y - empty) / 21 + (1 + lines_before (r.y + 21) rs y)
 
 -- a mark may change a column: that of its place, and also the next one if it is a wide cell
 abbrev pub reaches : ℕ → ℕ → Mark → Bool
 reaches column place (Cell code lower reverse wide) = column == place || (wide && column == place + 1)
 reaches column place (Dots value) = column == place
 
+-- no mark of these reaches a column
+abbrev pub none_reaches : ℕ → List Placed → Bool
+none_reaches column marks = list_all (λ q. not (reaches column (q.x / 6) q.mark)) marks
+
+-- a mark shows a character at a column of a list of marks: in the line of a row with these marks, wherever the row is on its paper,
+-- and in the line under the heading of the marks held
+pub record Shows (column u : ℕ) (marks : List Placed) : Type 0 where
+  pub row : (above : List Row) (y : ℕ) (below : List Row)
+      → ShowsAt (lines_before 0 above y) column u (rows_text 0 (above ++ record { y = y; marks = marks } ∷ below))
+  pub held : ShowsAt 1 column u (held_text marks)
+
 -- a cell shows its character, or a full block where it is a reversed blank, at the column of its place, if no later mark of its
 -- line reaches that column
 abbrev pub LinesShowEachCell : Type 0
 LinesShowEachCell =
     (before : List Placed) (x code : ℕ) (lower reverse wide : Bool) (after : List Placed)
-    → (reverse || not (is_blank (character lower code))) ≡ true → x / 6 < 80
-    → list_all (λ q. not (reaches (x / 6) (q.x / 6) q.mark)) after ≡ true
-    → HasAt (x / 6) (shown reverse (character lower code))
-    (line_text (before ++ record { x = x; mark = Cell code lower reverse wide } ∷ after))
+    → (reverse || not (is_blank (character lower code))) ≡ true → x / 6 < 80 → none_reaches (x / 6) after ≡ true
+    → Shows (x / 6) (shown reverse (character lower code)) (before ++ record { x = x; mark = Cell code lower reverse wide } ∷ after)
+
+-- a wide cell also shows a blank, or a full block where it is reversed, at the next column, if no later mark of its line reaches that
+abbrev pub WideCellsShowABlank : Type 0
+WideCellsShowABlank =
+    (before : List Placed) (x code : ℕ) (lower reverse : Bool) (after : List Placed)
+    → (reverse || not (is_blank (character lower code))) ≡ true → x / 6 + 1 < 80 → none_reaches (x / 6 + 1) after ≡ true
+    → Shows (x / 6 + 1) (shown reverse 32) (before ++ record { x = x; mark = Cell code lower reverse true } ∷ after)

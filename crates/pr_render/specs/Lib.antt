@@ -2,6 +2,8 @@ pub mod Characters
 pub mod Defined
 pub mod Laws
 pub mod Parts
+pub mod SheetSvg
+pub mod Showing
 pub mod Plain
 pub mod Strips
 pub mod Svg

@@ -118,3 +118,23 @@ status_begin = codes "<tspan x=\"0\" dy=\"210\">Status "
 -- the end of a text
 unfoldable pub text_end : List ℕ
 text_end = codes "</text>\n"
+
+-- one sheet: its document's first tag, 10 inches by 11, up to where the sheet begins
+unfoldable pub single_begin : List ℕ
+single_begin = codes "<svg xmlns=\"http://www.w3.org/2000/svg\" version=\"1.1\" width=\"60pc\" height=\"66pc\" viewBox=\"0 "
+
+-- the sheet's size in units
+unfoldable pub single_size : List ℕ
+single_size = codes " 12600 13860"
+
+-- the sheet's paper, up to where it begins
+unfoldable pub single_paper : List ℕ
+single_paper = codes "<rect y=\""
+
+-- the rest of the paper, and the group of the sheet's marks
+unfoldable pub single_marks : List ℕ
+single_marks = codes "\" width=\"12600\" height=\"13860\" fill=\"url(#paper)\"/>\n<g transform=\"translate(1260 630)\">\n"
+
+-- the end of the document
+unfoldable pub single_end : List ℕ
+single_end = codes "</svg>\n"

@@ -43,7 +43,7 @@ pub fn push_blanks(text: &mut Vec<u8>, count: u64) -> Result<(), AllocError>
     Ok(())
 }
 
-/// Adds numbers, each behind a space; each 18th begins a line, by this text (profile).
+/// Adds numbers, each after a space; each 18th begins a line, by this text (profile).
 pub fn push_numbers(text: &mut Vec<u8>, line: &[u8], numbers: &[u8]) -> Result<(), AllocError>
     ensures { OnOk result (text.new.items ≡ text.old.items ++ numbers_text line.now 1 numbers.now) }
 {

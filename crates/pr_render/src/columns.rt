@@ -12,7 +12,7 @@ use std::marker::Model;
 /// The columns of a line: six of the 480 dots each.
 const COLUMNS: usize = 80;
 
-/// What is seen in a column: a character, and over it so many dots. Contracts see a `Column`.
+/// What is seen in a column: a character, and over it this many dots. Contracts see a `Column`.
 #[derive(Clone, Copy)]
 struct Seen {
     character: char,
@@ -62,7 +62,7 @@ fn ink_of(value: u8) -> u32
     u32::from(dots)
 }
 
-/// What is seen in a column with so many dots more, of which 42 fill it.
+/// What is seen in a column with this many more dots, of which 42 fill it.
 fn darker(ink: u32, seen: Seen) -> Seen
     requires { ink ≤ 7 }
     ensures { result ≡ darker ink seen }
@@ -140,7 +140,7 @@ fn paint(columns: &mut [Seen], marks: &[Placed])
     }
 }
 
-/// The shade of so many dots of the 42, darker by every eleven (profile).
+/// The shade of this many dots of the 42, darker by every eleven (profile).
 fn shade_of(dots: u32) -> char
     ensures { result ≡ shade_of dots }
 {

@@ -1,10 +1,12 @@
 //! Which marks have been defined.
 
 ghost use Rattle.std.specs.Prelude.{◌≡◌, false, ◌∷◌, [], flat_map, if◌then◌else◌, replicate, IfOk, OnOk};
+ghost use Rattle.pr_dots.specs.Sheets.{is_on, rows_on};
 ghost use Rattle.pr_render.specs.Defined.{HasDefined, marks_on};
 ghost use Rattle.pr_render.specs.Svg.{marks_of};
 
 use crate::uses::{number_of, push_definition};
+use pr_dots::is_on;
 use pr_page::{Mark, Paper, Placed, Row};
 use std::alloc::{AllocError, Global};
 use std::marker::Model;
@@ -67,6 +69,32 @@ impl Defined {
     {
         for row in rows {
             self.define_all(text, row.marks.as_slice())?;
+        }
+        Ok(())
+    }
+
+    /// The same of the marks of a row, if it is on a sheet.
+    fn define_row(&mut self, text: &mut Vec<u8>, sheet: u64, row: &Row) -> Result<(), AllocError>
+        ensures { OnOk result (HasDefined (if is_on sheet row.now then marks_on row.now.marks else []) text.old.items self.old text.new.items self.new) }
+    {
+        if !is_on(sheet, row) {
+            return Ok(());
+        }
+        self.define_all(text, row.marks.as_slice())
+    }
+
+    /// The same of the marks of the rows on a sheet.
+    #[tactic(auto, using(crate::proofs::Defining::marks_of_more))]
+    pub fn define_sheet(
+        &mut self,
+        text: &mut Vec<u8>,
+        sheet: u64,
+        rows: &[Row],
+    ) -> Result<(), AllocError>
+        ensures { OnOk result (HasDefined (marks_on (flat_map (λ r. r.marks) (rows_on sheet rows.now))) text.old.items self.old text.new.items self.new) }
+    {
+        for row in rows {
+            self.define_row(text, sheet, row)?;
         }
         Ok(())
     }

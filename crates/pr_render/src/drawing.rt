@@ -1,4 +1,4 @@
-//! Pictures of pages as SVG documents, in units of 1/1260 inch. Dots and lines stand as the printer
+//! Pictures of pages as SVG documents, in units of 1/1260 inch. Dots and lines are as the printer
 //! puts them (VIC-1525 User's Manual); paper, names and notes round them are this project's own choice
 //! (profile).
 
@@ -38,7 +38,7 @@ fn has_printed(paper: &Paper) -> bool
 }
 
 /// The printers that are drawn: those present that have printed, or else all that are present (profile).
-fn drawn_of(outcome: &Outcome, present: Present) -> Present
+pub fn drawn_of(outcome: &Outcome, present: Present) -> Present
     ensures { result ≡ drawn_of outcome.now present }
 {
     let four = present.four && has_printed(&outcome.paper4);

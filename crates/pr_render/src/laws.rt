@@ -1,6 +1,6 @@
 //! Laws of the definitions, with nothing to run.
 
-ghost use Rattle.pr_render.specs.Laws.{DiscsAreTheDots, LinesShowEachCell, NamesTellMarks};
+ghost use Rattle.pr_render.specs.Laws.{DiscsAreTheDots, LinesShowEachCell, NamesTellMarks, WideCellsShowABlank};
 
 /// A law: what a picture draws of a paper's rows is a disc at each dot of the paper, and no other.
 /// An element draws what is defined under its name, moved to the element's place; each mark in the
@@ -14,8 +14,11 @@ pub fn names_tell_marks()
     ensures { NamesTellMarks }
 {}
 
-/// A law: in the lines a cell shows its character (a reversed blank a full block) at the column of its place, if
-/// no later mark of its row reaches that column.
+/// Laws: in the line of its row a cell shows its character (a reversed blank a full block) at the column of its
+/// place, and a wide cell a blank (reversed a full block) at the next one, if no later mark of its row reaches that
+/// column. The line is the row's own: one for each row above it, and one for each line of text for which there is
+/// room above a row, come before it. Held marks show so in the line under their heading.
 pub fn lines_show_each_cell()
-    ensures { LinesShowEachCell }
+    ensures cells { LinesShowEachCell }
+    ensures wide { WideCellsShowABlank }
 {}

@@ -66,7 +66,7 @@ fn push_each(text: &mut Vec<u8>, characters: &[char]) -> Result<(), AllocError>
     Ok(())
 }
 
-/// How wide so many cells are, in dots.
+/// How wide this many cells are, in dots.
 fn cells_width(wide: bool, count: u64) -> u64
     requires { count ≤ 65547 }
     ensures width { result ≡ cells_width wide count }

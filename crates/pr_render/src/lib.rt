@@ -4,7 +4,7 @@
 //! - `columns` and `plain` make the lines of [`Format`]'s text.
 //! - `drawing` makes the SVG document of the fixed texts in `parts`: `defined` defines each mark once and `uses` has
 //!   the elements that name one, `letters` makes the letters of a line, `sheets` a printer's sheet of these, and
-//!   `notes` the lines below the sheets.
+//!   `notes` the lines below the sheets. `single` draws one sheet of 11 inches.
 //! - `laws` says what is drawn, without the folds.
 //!
 //! A further format is a definition in `specs/` and a file in `src/`, and an arm in pr_cli's `text_in` and
@@ -23,8 +23,11 @@ mod notes;
 mod parts;
 mod plain;
 mod sheets;
+mod single;
 mod uses;
 
-pub use drawing::svg;
-pub use format::Format;
+pub use characters::character;
+pub use drawing::{drawn_of, svg};
+pub use format::{Device, Format, Part};
 pub use plain::text;
+pub use single::sheet_svg;

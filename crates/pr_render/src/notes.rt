@@ -42,7 +42,7 @@ pub fn all_zero(statuses: &[u8]) -> bool
     statuses.iter().all(|status| *status == 0)
 }
 
-/// Adds the status of a statement, behind a comma or not.
+/// Adds the status of a statement, after a comma or not.
 #[tactic(auto, unfolding(crate::specs::Svg::place_text))]
 fn push_place(text: &mut Vec<u8>, comma: bool, status: u8, place: u64) -> Result<(), AllocError>
     ensures { OnOk result (text.new.items ≡ text.old.items ++ place_text comma status place) }

@@ -5,7 +5,7 @@
 //! an inch long, so its size does not grow with the page.
 
 ghost use Rattle.std.specs.Prelude.{◌≡◌};
-ghost use Rattle.pr_render.specs.Parts.{definitions_begin, definitions_end, desk, document_about, document_begin, height_begin, held_begin, held_note, ink_begin, letters_fitted, letters_width, mark_begin, mark_path, notes_begin, paper_folds, paper_piece, row_begin, sheet_end, sheet_marks, sheet_name, sheet_paper, status_begin, stop_begin, text_end, units_begin, units_between, use_begin, use_end, use_place};
+ghost use Rattle.pr_render.specs.Parts.{definitions_begin, definitions_end, desk, document_about, document_begin, height_begin, held_begin, held_note, ink_begin, letters_fitted, letters_width, mark_begin, mark_path, notes_begin, paper_folds, paper_piece, row_begin, sheet_end, sheet_marks, sheet_name, sheet_paper, single_begin, single_end, single_marks, single_paper, single_size, status_begin, stop_begin, text_end, units_begin, units_between, use_begin, use_end, use_place};
 
 /// The document's first tag, up to its width.
 #[tactic(auto, unfolding(crate::specs::Parts::document_begin))]
@@ -237,4 +237,44 @@ pub fn text_end() -> &'static [u8]
     ensures { result.now ≡ text_end }
 {
     b"</text>\n"
+}
+
+/// One sheet: its document's first tag, 10 inches by 11, up to where the sheet begins.
+#[tactic(auto, unfolding(crate::specs::Parts::single_begin))]
+pub fn single_begin() -> &'static [u8]
+    ensures { result.now ≡ single_begin }
+{
+    b"<svg xmlns=\"http://www.w3.org/2000/svg\" version=\"1.1\" width=\"60pc\" height=\"66pc\" viewBox=\"0 "
+}
+
+/// The sheet's size in units.
+#[tactic(auto, unfolding(crate::specs::Parts::single_size))]
+pub fn single_size() -> &'static [u8]
+    ensures { result.now ≡ single_size }
+{
+    b" 12600 13860"
+}
+
+/// The sheet's paper, up to where it begins.
+#[tactic(auto, unfolding(crate::specs::Parts::single_paper))]
+pub fn single_paper() -> &'static [u8]
+    ensures { result.now ≡ single_paper }
+{
+    b"<rect y=\""
+}
+
+/// The rest of the paper, and the group of the sheet's marks.
+#[tactic(auto, unfolding(crate::specs::Parts::single_marks))]
+pub fn single_marks() -> &'static [u8]
+    ensures { result.now ≡ single_marks }
+{
+    b"\" width=\"12600\" height=\"13860\" fill=\"url(#paper)\"/>\n<g transform=\"translate(1260 630)\">\n"
+}
+
+/// The end of the document.
+#[tactic(auto, unfolding(crate::specs::Parts::single_end))]
+pub fn single_end() -> &'static [u8]
+    ensures { result.now ≡ single_end }
+{
+    b"</svg>\n"
 }

@@ -50,7 +50,7 @@ fn push_line(text: &mut Vec<u8>, alloc: Global, marks: &[Placed]) -> Result<(), 
 
 /// Adds a printed line.
 #[tactic(auto, unfolding(crate::specs::Svg::row_svg))]
-fn push_row(text: &mut Vec<u8>, alloc: Global, row: &Row) -> Result<(), AllocError>
+pub fn push_row(text: &mut Vec<u8>, alloc: Global, row: &Row) -> Result<(), AllocError>
     ensures { OnOk result (text.new.items ≡ text.old.items ++ row_svg row.now) }
 {
     text.extend_from_slice(row_begin())?;

@@ -24,13 +24,13 @@ use Rattle.pr_report.specs.FrameTiming.{HasTold, timed_behind}
 abbrev start_step : Bool → Result Step WaveFault
 start_step b = if b then Ok (record { place = Idle 0; frame = None }) else Err (Start 0)
 
--- all frames are those behind no edge
+-- all frames are those after no edge
 pub frames-behind : (es : List Edge) → timed_frames es ≡ timed_behind 0 None (Idle 0) es
 unfolding timed_frames
 frames-behind [] = refl
 frames-behind (e ∷ es) = refl
 
--- an edge that comes to a step ends the step's frame, and the frames behind it follow
+-- an edge that comes to a step ends the step's frame, and the frames after it follow
 pub behind-step : (look : ℕ) (last : Option Edge) (p : BusState) (n : ℕ) (e : Edge) (es : List Edge) (s : Step) → step_of last p n e ≡ Ok s
     → timed_behind look last p (e ∷ es) ≡ option_to_list (with_moments look s.frame s.place) ++ timed_behind (look_with look s.place) (Some e) s.place es
 behind-step look None p n e es s h = by (is_start e) h
@@ -133,7 +133,7 @@ refused-ends edges more given s f e fault moves h = by (step_of s.follower.last 
         h.told (e ∷ more)
         ∙ (ap (λ l. given ++ l) (behind-fault s.look s.follower.last s.follower.state s.follower.taken e more w k) ∙ append-nil given)
 
--- no edge behind the last adds a frame
+-- no edge after the last adds a frame
 pub behind-nothing : (look : ℕ) (last : Option Edge) (p : BusState) → timed_behind look last p [] ≡ []
 behind-nothing look None p = refl
 behind-nothing look (Some last) p = refl

@@ -69,7 +69,7 @@ longest-high c [] h e = absurd (none-of-eight e)
 longest-high c (b ∷ bs) h e =
     greatest-within 20 200 (b.down - b.up) (high_times bs) (half-within b.up b.down h.1) (high-within b.down bs h.2)
 
--- what stands between ready and CLOCK's first pull
+-- what is between ready and CLOCK's first pull
 after-within : (a b low high : ℕ) → IsWithin b (a + low) (a + high) → IsWithin (b - a) low high
 after-within a b low high h = record { from = omega arith; to = omega arith }
 

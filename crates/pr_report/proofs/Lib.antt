@@ -10,3 +10,4 @@ pub mod Surveyed
 pub mod Lines
 pub mod Lawful
 pub mod Stories
+pub mod LinesLooked

@@ -31,12 +31,12 @@ Emits None fs next = next fs
 Emits (Some f) [] next = ⊥
 Emits (Some f) (g ∷ fs) next = (g ≡ f) × next fs
 
--- an edge has its row, and the rest goes on from there, behind the last look
+-- an edge has its row, and the rest goes on from there, after the last look
 abbrev FitsRow : ℕ → Option Row → ℕ → List TimedFrame → (BusState → ℕ → List TimedFrame → Type 0) → Type 0
 FitsRow look None t fs next = ⊥
 FitsRow look (Some r) t fs next = (r.earliest ≤ t) × IsInTime t r.latest × Emits (with_moments look r.frame r.place) fs (next r.place (look_with look r.place))
 
--- from a place on, behind a look and an edge, the edges are allowed and end the frames
+-- from a place on, after a look and an edge, the edges are allowed and end the frames
 abbrev Tells : ℕ → Edge → BusState → List Edge → List TimedFrame → Type 0
 Tells look last p [] fs = fs ≡ []
 Tells look last p (e ∷ es) fs =
@@ -205,7 +205,7 @@ abbrev is_held : Between → Bool
 is_held (Held k) = true
 is_held _ = false
 
--- the rest goes through the table from what stands between two pieces, behind whatever look
+-- the rest goes through the table from what is between two pieces, after whatever look
 abbrev TellsFrom : Between → List Edge → List TimedFrame → Type 0
 TellsFrom (Resting i) es fs = (n : ℕ) → Tells n (edge_at i true true true) (Idle i) es fs
 TellsFrom (Held k) es fs =
@@ -378,7 +378,7 @@ tells-timed look last p (e ∷ es) fs w =
     ∙ (ap (λ l. option_to_list (with_moments look f.step.frame f.step.place) ++ l) (tells-timed (look_with look f.step.place) e f.step.place es f.after f.goes_on)
     ∙ sym f.frames)
 
--- behind the start the frames are those from Idle on
+-- after the start the frames are those from Idle on
 from-start : (es : List Edge) → timed_frames (start ∷ es) ≡ timed_from 0 start (Idle 0) es
 unfolding timed_frames
 from-start es = refl

@@ -141,7 +141,7 @@ timed-told t (Some r) s h k = by (nat_lt t r.earliest) (is_late t r.latest) k
         let q : reached_there ≡ s = cc in
         rw (← q) h.told
 
--- the step of an edge behind another
+-- the step of an edge after another
 verdict-told : (last : Edge) (p : BusState) (e : Edge) (s : Step) → verdict last p e ≡ Ok s → StepTold s
 verdict-told last p e s h = by (nat_lt last.time e.time && differ last.levels e.levels) h
   where
@@ -153,7 +153,7 @@ verdict-told last p e s h = by (nat_lt last.time e.time && differ last.levels e.
 abbrev start_step : Bool → Result Step WaveFault
 start_step b = if b then Ok (record { place = Idle 0; frame = None }) else Err (Start 0)
 
--- the step of an edge behind those before it
+-- the step of an edge after those before it
 step-told : (last : Option Edge) (p : BusState) (n : ℕ) (e : Edge) (s : Step) → step_of last p n e ≡ Ok s → StepTold s
 step-told None p n e s h = by (is_start e) h
   where
@@ -205,7 +205,7 @@ traces-told spelled edges frames h =
     let k = (spelled edges frames).0 h in
     ap (map frame_told) (frames-behind edges) ∙ (sym (frames-behind-told edges begin k.0 0 k.1) ∙ (ap reverse k.3 ∙ reverse-reverse frames))
 
--- more edges add frames behind an edge or none
+-- more edges add frames after an edge or none
 behind-more : (es more : List Edge) (look : ℕ) (last : Option Edge) (p : BusState)
     → (later : List TimedFrame) × (timed_behind look last p (es ++ more) ≡ timed_behind look last p es ++ later)
 behind-more [] more look last p = (timed_behind look last p more, rw (behind-nothing look last p) refl)

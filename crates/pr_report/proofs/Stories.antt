@@ -84,7 +84,7 @@ frames_told b (Frame t (Unacknowledged k) ∷ rs) = frames_told b rs
 frames_told b (Frame t Cut ∷ rs) = frames_told b rs
 frames_told b (IncompleteByte t end ∷ rs) = frames_told b rs
 
--- a data byte stands behind a frame that is one
+-- a data byte is after a frame that is one
 if-second : (t : Bool) → is_behind_data (if t then behind.Nothing else behind.Command) ≡ false
 if-second true = refl
 if-second false = refl
@@ -199,7 +199,7 @@ same-frame s s' look f e =
 cons-frame : (x y : TimedFrame) (xs ys : List TimedFrame) → x ≡ y → xs ≡ ys → x ∷ xs ≡ y ∷ ys
 cons-frame x y xs ys e es = ap (λ z. z ∷ xs) e ∙ ap (λ zs. y ∷ zs) es
 
--- an attention's second command is told as such behind its first
+-- an attention's second command is told as such after its first
 second-told : (b : Preceding) (first : ℕ) (byte : ℕ) → first < command.secondary → command.secondary ≤ byte → first ≢ command.unlisten
     → sending_of (after_frame (sending_of b true first) first) true byte ≡ sending.Second
 second-told b first byte less more apart =

@@ -12,7 +12,7 @@ use Rattle.pr_report.specs.Moments.{timed_frames}
 use Rattle.pr_report.specs.StoryText.{is_data, last_line, story_line, story_lines, story_of}
 use Rattle.pr_report.specs.FrameTiming.{HasTold, data_after, line_if, number_taken}
 
--- the first edges were taken, and the lines of their frames stand behind a text: whatever frames follow, all lines are these and those that come yet
+-- the first edges were taken, and the lines of their frames are after a text: whatever frames follow, all lines are these and those that come yet
 pub record IsTelling (edges : List Edge) (n : ℕ) (s : FrameTimer) (old text : List ℕ) (behind_data : Bool) : Type 0 where
   pub given : List TimedFrame
   pub taken : HasTold (take n edges) given s
@@ -73,7 +73,7 @@ lines-all : (edges : List Edge) (old text : List ℕ) (behind_data : Bool) (give
 lines-all edges old text behind_data given h t =
     ap (λ fs. old ++ story_lines false fs) (t ∙ sym (append-nil given)) ∙ (h [] ∙ append-nil text)
 
--- the story, where the lines of all frames stand behind a text
+-- the story, where the lines of all frames are after a text
 story-all : (edges : List Edge) (old text : List ℕ) (fault : Option WaveFault) → old ++ story_lines false (timed_frames edges) ≡ text
     → fault ≡ fault_of edges → text ++ last_line fault ≡ old ++ story_of edges
 unfolding story_of

@@ -7,6 +7,7 @@ pub mod StoryLaws
 pub mod Intervals
 pub mod ReadingText
 pub mod Summary
+pub mod Oddities
 pub mod Steps
 pub mod Taking
 pub mod ReadingLaws

@@ -18,7 +18,7 @@ use Rattle.pr_report.specs.Intervals.{highest_of, lowest_of}
 use Rattle.pr_report.specs.ReadingText.{after_reading, all_lines, behind_all, reading_lines}
 use Rattle.pr_report.specs.Summary.{is_half, lengths, middle}
 
--- one reading more adds its lines, by what stands behind the others
+-- one reading more adds its lines, by what follows the others
 abbrev pub LinesAddUp : Type 0
 LinesAddUp = (b : Preceding) (rs : List Reading) (r : Reading) →
     (all_lines b (rs ++ r ∷ []) ≡ all_lines b rs ++ reading_lines (behind_all b rs) r)
@@ -39,7 +39,7 @@ abbrev pub LawfulTracesAreWithin : Type 0
 LawfulTracesAreWithin = (edges : List Edge) (i : Interval) → IsLawful edges →
     AreWithin (lowest_of i) (highest_of i) (lengths i (readings_of edges))
 
--- the lines of a lawful trace are those of frames whose own lines are the story's: `attention` and `data` alone may stand elsewhere
+-- the lines of a lawful trace are those of frames whose own lines are the story's: `attention` and `data` alone may be elsewhere
 abbrev pub LawfulTracesAreTold : Type 0
 LawfulTracesAreTold = (edges : List Edge) → IsLawful edges →
     (frames : List TimedFrame)

@@ -1,5 +1,6 @@
 -- Machine steps: what a tally keeps of lengths, and what one length more comes to. No reader needs to believe them.
 use Rattle.std.specs.Prelude.{◌≡◌, ℕ, ◌+◌, ◌-◌, ◌^◌, ◌<◌, ◌==◌, cond, min, max, nat_le, Bool, List, [], ◌∷◌, length, get_or, Option, Some, None, codes, if◌then◌else◌}
+use Rattle.pr_wire.specs.declared.Levels.{Levels}
 use Rattle.pr_report.specs.declared.tally.Tally.{Tally}
 use Rattle.pr_report.specs.Intervals.{is_outside}
 use Rattle.pr_report.specs.Summary.{figures_text}
@@ -16,7 +17,7 @@ counter_with more n counter = if n == more then min (counter + 1) (2 ^ 64 - 1) e
 abbrev pub least_with : (count : ℕ) → ℕ → ℕ → ℕ
 least_with count low more = if count == 0 then more else min low more
 
--- the first length at which the counters make at least half, from n on, behind so many
+-- the first length at which the counters make at least half, from n on, after this many
 abbrev pub first_half : (count so_far n : ℕ) → List ℕ → Option ℕ
 first_half count so_far n [] = None
 first_half count so_far n (c ∷ cs) =
@@ -39,3 +40,8 @@ abbrev pub known_text : Tally → List ℕ
 known_text t =
     if t.count == 0 then codes ": none"
     else figures_text t.interval t.count t.least (first_half t.count 0 0 t.counters.items) t.greatest t.outside
+
+-- the levels of the first edge, after one edge more
+abbrev pub first_or : Option Levels → (next : Levels) → Levels
+first_or None next = next
+first_or (Some first) next = first

@@ -11,14 +11,17 @@ use Rattle.pr_report.specs.declared.timed_frame.TimedFrame.{TimedFrame}
 use Rattle.pr_report.specs.Moments.{timed_frames}
 use Rattle.pr_report.specs.Numbers.{hex_column, moment, numbered}
 
--- the text of a command
+-- the text of a command (Programmer's Reference Guide, serial bus): 95 is UNTALK
 abbrev pub command_text : ℕ → List ℕ
 command_text byte =
     if byte == command.unlisten then codes "UNLISTEN"
+    else (if byte == 95 then codes "UNTALK"
     else (if byte / 32 == 1 then numbered (codes "LISTEN ") (byte % 32)
+    else (if byte / 32 == 2 then numbered (codes "TALK ") (byte % 32)
     else (if byte / 16 == 6 then numbered (codes "SECOND ") (byte % 16)
     else (if byte / 16 == 14 then numbered (codes "CLOSE ") (byte % 16)
-    else numbered (codes "command ") byte)))
+    else (if byte / 16 == 15 then numbered (codes "OPEN ") (byte % 16)
+    else numbered (codes "command ") byte))))))
 
 -- the name of a control code of the printer; other bytes have none
 abbrev pub control_name : ℕ → List ℕ

@@ -1,15 +1,18 @@
 -- Linking words: which readings a survey has taken. The clauses of `Survey` say all that a caller needs of them. No reader needs to
 -- believe them.
 use Rattle.std.specs.Prelude.{◌≡◌, ℕ, ◌==◌, ◌<◌, ◌^◌, List, [], ◌∷◌, length, get_or}
-use Rattle.std.specs.List.{count_by}
+use Rattle.std.specs.List.{count_by, list_any}
 use Rattle.pr_decode.specs.declared.reading.Reading.{Reading}
 use Rattle.pr_decode.specs.Readings.{greatest}
 use Rattle.pr_report.specs.declared.interval.Interval.{Interval}
 use Rattle.pr_report.specs.declared.interval.Interval.TheVariants.{Ready, FirstPull, Answer, AnswerLength, PullAfterAnswer, ShortestLow, LongestLow, ShortestHigh, LongestHigh, Acknowledgement}
+use Rattle.pr_wire.specs.declared.Edge.{Edge}
 use Rattle.pr_report.specs.declared.counts.Counts.{Counts}
+use Rattle.pr_report.specs.declared.oddities.LinesSeen.{LinesSeen}
 use Rattle.pr_report.specs.declared.survey.Survey.{Survey}
 use Rattle.pr_report.specs.declared.tally.Tally.{Tally}
 use Rattle.pr_report.specs.Intervals.{is_outside}
+use Rattle.pr_report.specs.Oddities.{first_levels, is_attention, last_levels}
 use Rattle.pr_report.specs.Summary.{is_command, is_cut, is_data_byte, is_frame, is_incomplete, is_unacknowledged, least_of, lengths, exact_below}
 
 -- the greatest of some lengths, 0 of none
@@ -62,3 +65,9 @@ pub record HasSurveyed (rs : List Reading) (s : Survey) : Type 0 where
   pub shortest_high : Tallies ShortestHigh rs s.shortest_high
   pub longest_high : Tallies LongestHigh rs s.longest_high
   pub acknowledgement : Tallies Acknowledgement rs s.acknowledgement
+
+-- these edges were looked at
+pub record HasSeen (edges : List Edge) (s : LinesSeen) : Type 0 where
+  pub attention : s.has_attention ≡ list_any is_attention edges
+  pub first : s.first ≡ first_levels edges
+  pub last : s.last ≡ last_levels edges

@@ -16,6 +16,8 @@
 //! - `tally` keeps one interval, with a counter for each length below 16384 microseconds, so that neither
 //!   memory nor the time for a reading grows with the recording; `counts` how many readings of each kind
 //!   there are; `survey` has both, with the relation `HasTaken` in its contracts.
+//! - `oddities` looks at the levels of the lines, edge by edge, and says at the end what is odd about a
+//!   recording: no byte acknowledged, no attention, lines that rest at 0.
 //! - `proofs/Tallied.antt` takes a tally from a list of lengths to the longer one, and `Middle.antt` ties the
 //!   first counter at which half of the lengths are reached to the middle. `Lawful.antt` and `Stories.antt` go
 //!   over the pieces of lawful traces, for the laws in `laws`.
@@ -26,6 +28,7 @@ mod frame_timer;
 mod interval;
 mod laws;
 mod numbers;
+mod oddities;
 mod reading_line;
 mod report;
 mod story;
@@ -40,6 +43,7 @@ pub use laws::{
     frames_are_told, lawful_traces_are_told, lawful_traces_are_within, lines_add_up,
     middles_are_least, stories_add_up,
 };
+pub use oddities::{LinesSeen, Oddities, is_acknowledged, push_oddities};
 pub use reading_line::{Preceding, push_reading};
 pub use report::Report;
 pub use story::push_story;

@@ -10,19 +10,28 @@ use crate::timed_frame::TimedFrame;
 use pr_base::UNLISTEN;
 use pr_wire::{ByteRole, NoMemory};
 
-/// Adds what a command says.
+/// UNTALK: no device talks any more (Programmer's Reference Guide, serial bus).
+const UNTALK: u8 = 0x5f;
+
+/// Adds what a command says (Programmer's Reference Guide, serial bus).
 fn push_command(text: &mut Vec<u8>, byte: u8) -> Result<(), NoMemory>
     ensures { OnOk result (text.new.items ≡ text.old.items ++ command_text byte) }
 {
     let number = byte as u64;
     if byte == UNLISTEN {
         text.extend_from_slice(b"UNLISTEN")
+    } else if byte == UNTALK {
+        text.extend_from_slice(b"UNTALK")
     } else if byte / 32 == 1 {
         push_numbered(text, b"LISTEN ", number % 32)
+    } else if byte / 32 == 2 {
+        push_numbered(text, b"TALK ", number % 32)
     } else if byte / 16 == 6 {
         push_numbered(text, b"SECOND ", number % 16)
     } else if byte / 16 == 14 {
         push_numbered(text, b"CLOSE ", number % 16)
+    } else if byte / 16 == 15 {
+        push_numbered(text, b"OPEN ", number % 16)
     } else {
         push_numbered(text, b"command ", number)
     }

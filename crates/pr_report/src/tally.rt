@@ -65,7 +65,7 @@ fn least_with(count: u64, least: u64, length: u64) -> u64
     }
 }
 
-/// The middle of so many lengths, by their counters: the least that at least half of them do not exceed.
+/// The middle of this many lengths, by their counters: the least that at least half of them do not exceed.
 /// None where it has no counter.
 fn middle(count: u64, counters: &[u64]) -> Option<u64>
     ensures { result ≡ first_half count 0 0 counters.now }

@@ -20,7 +20,7 @@ use Rattle.pr_system.proofs.FileLemmas.{rest_of}
 use Rattle.pr_system.proofs.ApartLemmas.{Apart, apart_begins}
 use Rattle.pr_system.proofs.StepLemmas.{Laws, standing, table_after, step_both, step_alone}
 
--- the second run has no stop either, and stands apart from the first
+-- the second run has no stop either, and is apart from the first
 record AreApart (present : Present) (left_out : ℕ) (one two : Run) : Type 0 where
   goes_on : two.stop ≡ None
   apart : Apart present left_out one.elements two.elements

@@ -46,7 +46,7 @@ fed_more present device mark items inputs old new is fed taken count =
       count = count ∙ ap (λ n. n + length inputs) fed.count ∙ sym (length-append before inputs) ∙ ap length is.heard;
     }
 
--- so many inputs can be given
+-- this many inputs can be given
 pub room_to_feed : (present : Present) (device : ℕ) (mark : Option ℕ) (items : List Item) (inputs : List Input) (old : PrinterState) → Shows present device mark items inputs → IsFed present device (items_before mark items) old
     → 2 * length items ≤ 4294967296 → number_taken old + length inputs ≤ 4294967296
 room_to_feed present device mark items inputs old is fed few =
@@ -62,7 +62,7 @@ pub record Advanced (old new : Seen) (mode : StatusMode) : Type 0 where
   pub works : new.failed ≡ false
   pub found : found_by mode new.status ≡ found_of mode new.present new.elements
 
--- a statement that was performed behind a mark brings the run on by one step
+-- a statement that was performed after a mark brings the run on by one step
 pub advanced : StatusFoundNext → (old mid new : Seen) (mode : StatusMode) (channel number : ℕ) (answer : Option Stop) (statement : Statement)
     → old.failed ≡ false → old.sent ≡ items_of old.elements → found_by mode old.status ≡ found_of mode old.present old.elements
     → mid ≡ record old { mark = Some (length old.sent) }

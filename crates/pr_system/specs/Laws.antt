@@ -19,7 +19,7 @@ abbrev pub StepsMakeTheRun : Type 0
 StepsMakeTheRun = (mode : StatusMode) (present : Present) (delays : DelayNumbers) (statements : List Statement) →
     IsWhole (stepped_through (begun mode present delays) statements) (run_of mode present statements)
 
--- before the edges of a step stands the trace that there was
+-- before the edges of a step is the trace that there was
 abbrev pub StepsAddToTheTrace : Type 0
 StepsAddToTheTrace = (run : RunningState) (statement : Statement) → run.items ≡ items_of run.elements →
     trace_before (stepped_by run statement) ≡ trace_so_far run

@@ -18,7 +18,7 @@ enum Call {
     Forget,
 }
 
-/// A call, what it answers, and what is seen behind it: items, output device, status, and how many of
+/// A call, what it answers, and what is seen after it: items, output device, status, and how many of
 /// the test's inputs printer 4 heard.
 type Row = (Call, Result<(), Fault>, u64, u8, u8, usize);
 
@@ -74,7 +74,7 @@ fn shows(channels: &Channels<Direct>, items: u64, output: u8, status: u8, heard:
         && channels.serial().heard(5).is_empty()
 }
 
-/// Makes calls over a bus on which nothing was sent, and compares what is seen behind each.
+/// Makes calls over a bus on which nothing was sent, and compares what is seen after each.
 fn plays(
     rt: &(impl Abort + AllocGlobal),
     present: Present,
@@ -177,7 +177,7 @@ fn screen_and_files_that_are_not_open(rt: HostRuntime) {
     assert!(rt; is_marked && is_shown && bus.items() == 0 && screen.as_slice() == wanted);
 }
 
-/// What stands against opening a file.
+/// What is against opening a file.
 #[test]
 fn stops_of_the_file_table(rt: HostRuntime) {
     let mut files = FileTable::new();
@@ -220,7 +220,7 @@ fn stops_have_numbers_and_texts(rt: HostRuntime) -> Result<(), Fail> {
     Ok(())
 }
 
-/// Writes bytes on the screen, and tells whether one was refused: it leaves the list as it was, and
+/// Writes bytes on the screen, and returns whether one was refused: it leaves the list as it was, and
 /// the next is taken again.
 fn is_byte_refused(rt: &(impl Abort + AllocGlobal)) -> bool {
     let mut channels = Channels::new(rt.alloc(), Direct::new(rt.alloc(), BOTH));
@@ -263,7 +263,7 @@ const SCRIPT: [Call; 8] = [
     Call::CloseFile(4),
 ];
 
-/// So many LISTENs and then the script, on a new bus. It tells whether a call was refused; if none
+/// So many LISTENs and then the script, on a new bus. It returns whether a call was refused; if none
 /// was, printer 4 heard all of it.
 fn is_script_refused(rt: &(impl Abort + AllocGlobal), listens: u64) -> bool {
     let mut channels = Channels::new(rt.alloc(), Direct::new(rt.alloc(), BOTH));

@@ -14,7 +14,7 @@ const LETTER: Mark = Mark::Cell {
     wide: false,
 };
 
-/// The letter behind it.
+/// The letter after it.
 const NEXT_LETTER: Mark = Mark::Cell {
     code: 66,
     lower: false,
@@ -47,7 +47,7 @@ const SHORT_BAR: Mark = Mark::Dots(126);
 /// The top dot and the bottom one.
 const ENDS: Mark = Mark::Dots(65);
 
-/// Marks, and the dots at which they stand.
+/// Marks, and the dots at which they are.
 type Marks = &'static [(u16, Mark)];
 
 /// Inputs, the rows of their page with their distances from the top, and the marks that are held.
@@ -167,7 +167,7 @@ static PAGES: [Page; 8] = [
     },
 ];
 
-/// Whether these marks stand at these dots, and no others.
+/// Whether these marks are at these dots, and no others.
 fn are_marks(given: &[Placed], wanted: Marks) -> bool {
     given.len() == wanted.len()
         && given
@@ -184,7 +184,7 @@ fn is_page(paper: &Paper, page: &Page) -> bool {
             && are_marks(row.marks.as_slice(), marks))
 }
 
-/// Gives a printer an input, and tells whether it was refused: it is then taken when it is given
+/// Gives a printer an input, and returns whether it was refused: it is then taken when it is given
 /// again, and until then the printer is as `same`, where that one is given.
 fn is_refused(
     rt: &impl Abort,
@@ -204,7 +204,7 @@ fn is_refused(
     true
 }
 
-/// Prints a page, and tells how many inputs were refused. Another printer, which is one input behind,
+/// Prints a page, and tells how many inputs were refused. Another printer, which is one input after,
 /// has the paper of one whose input is refused.
 fn refusals(rt: &(impl Abort + AllocGlobal), page: &Page) -> usize {
     let mut refused: usize = 0;

@@ -39,7 +39,7 @@ enum Call {
     Forget,
 }
 
-/// A call and whether a printer answers it, and what is seen behind it: the number of items, the
+/// A call and whether a printer answers it, and what is seen after it: the number of items, the
 /// mark, and what printers 4 and 5 heard.
 type Row = (
     Call,
@@ -53,7 +53,7 @@ type Row = (
 /// What is seen of a new bus.
 const NEW: Row = (Call::Forget, true, 0, None, &[], &[]);
 
-/// Makes a call, and tells whether a printer answers it; forgetting needs none.
+/// Makes a call, and returns whether a printer answers it; forgetting needs none.
 fn answer(rt: &impl Abort, bus: &mut Direct, call: Call) -> Result<bool, NoMemory> {
     assert!(rt; bus.items() < 1000);
     match call {

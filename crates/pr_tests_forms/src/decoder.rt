@@ -10,7 +10,7 @@ use pr_wire::example::TRACE_TEXT;
 use pr_wire::{Edge, Levels, read_trace};
 use std::process::Abort;
 
-/// How a byte goes on behind its moments, and how it ends.
+/// How a byte goes on after its moments, and how it ends.
 #[derive(Clone, Copy)]
 enum End {
     /// It is acknowledged.
@@ -21,11 +21,11 @@ enum End {
     GivenUp(u64),
     /// The recording ends before the acknowledgement.
     WholeCut,
-    /// Behind so many bits ATN is pulled.
+    /// Behind this many bits ATN is pulled.
     Attention(u8, u64),
-    /// Behind so many bits CLOCK is released for too long.
+    /// Behind this many bits CLOCK is released for too long.
     ClockTimeout(u8, u64),
-    /// Behind so many bits the recording ends.
+    /// Behind this many bits the recording ends.
     Cut(u8),
     /// Preceding DATA's pull and its release, and no bit, the recording ends.
     PulseCut(u64, u64),
@@ -130,7 +130,7 @@ const FROM_THE_MIDDLE: &str = "\
     1482 100\n1540 110\n1600 101\n1750 100\n\
 ";
 
-/// An "A" whose talker lets go of DATA 9 microseconds behind the last pull of CLOCK: the next pull
+/// An "A" whose talker lets go of DATA 9 microseconds after the last pull of CLOCK: the next pull
 /// acknowledges.
 const LET_GO_LATE: &str = "\
     0 100\n100 110\n150 111\n190 101\n260 111\n280 100\n350 110\n370 100\n440 110\n460 100\n\
@@ -210,7 +210,7 @@ static RECORDINGS: [Recording; 29] = [
         [LET_GO_LATE, ""],
         &[(false, [100, 150, 190, 910], 65, TWENTY, Whole(949))],
     ),
-    // A byte is aborted behind three bits: ATN is pulled while CLOCK is pulled, or while it is released; or
+    // A byte is aborted after three bits: ATN is pulled while CLOCK is pulled, or while it is released; or
     // the recording ends.
     (
         [THREE_BITS, "613 001\n"],
@@ -224,7 +224,7 @@ static RECORDINGS: [Recording; 29] = [
         [THREE_BITS, "650 111\n"],
         &[(false, [100, 150, 190, 580], 5, SIXTY, Cut(3))],
     ),
-    // A talker that stops behind three bits releases CLOCK while the listener holds DATA for 5 ms: the byte
+    // A talker that stops after three bits releases CLOCK while the listener holds DATA for 5 ms: the byte
     // is ended, and that was the look of the next one.
     (
         [
@@ -283,7 +283,7 @@ static RECORDINGS: [Recording; 29] = [
         ["0 100\n100 110\n150 111\n", "190 110\n191 100\n"],
         &[(false, [100, 150, 191, 191], 0, NO_BIT, Cut(0))],
     ),
-    // ATN is pulled before the look and released behind it: its level when DATA is released says whether the
+    // ATN is pulled before the look and released after it: its level when DATA is released says whether the
     // byte is a command.
     (
         ["0 000\n100 010\n", "150 111\n190 101\n"],
@@ -391,7 +391,7 @@ fn wanted(rt: &(impl Abort + AllocGlobal), rows: &[Row]) -> Vec<Reading> {
     wanted
 }
 
-/// A recording says what stands beside it.
+/// A recording says what is beside it.
 fn told(rt: &(impl Abort + AllocGlobal), recording: Recording) {
     let (parts, rows) = recording;
     let text = joined(rt, &parts);
@@ -406,7 +406,7 @@ fn recordings(rt: HostRuntime) {
     }
 }
 
-/// Edges by their levels of ATN, CLOCK and DATA, and whether a decoder takes them. They may stand at one
+/// Edges by their levels of ATN, CLOCK and DATA, and whether a decoder takes them. They may be at one
 /// time; one that goes back is refused, and the decoder is as it was.
 static TAKEN: [(u64, [bool; 3], bool); 5] = [
     (9, [true, true, false], true),

@@ -77,11 +77,11 @@ const OWN: Signals<'static> = Signals {
 
 /// Of a simulator: scopes, other signals, a section of first levels, one of them twice.
 const OF_A_SIMULATOR: &str =
-    "$date\n\tToday\n$end\n$version\n\tSimulator\n$end\n$timescale\n\t1ns\n$end\n$scope module bench $end\n$var wire 8 ! DATA [7:0] $end\n$var wire 1 \" atn $end\n$var reg 1 # Clock $end\n$attrbegin misc 07 name $end\n$scope module device $end\n$var wire 1 % DATA $end\n$var wire 1 $ DATA $end\n$var real 64 r ATN $end\n$upscope $end\n$upscope $end\n$enddefinitions $end\n#0\n$dumpvars\nbx !\nx$\nr0.5 r\n1%\n1#\n1\"\n$end\n#1000\n0\"\nb10100 !\n#1999\n0#\n$comment at 2 us\n0%\n$end\n#2000\n0%\nr1.5e-3 r\n#3000\nU$\nb0 $\n1#\n";
+    "$date\n\tToday\n$end\n$version\n\tSimulator\n$end\n$timescale\n\t1ns\n$end\n$scope module bench $end\n$var wire 8 ! DATA [7:0] $end\n$var wire 1 \" atn $end\n$var reg 1 # Clock $end\n$attrbegin misc 07 name $end\n$scope module device $end\n$var wire 1 % DATA $end\n$var wire 1 $ DATA2 $end\n$var real 64 r ATN $end\n$upscope $end\n$upscope $end\n$enddefinitions $end\n#0\n$dumpvars\nbx !\nx$\nr0.5 r\n1%\n1#\n1\"\n$end\n#1000\n0\"\nb10100 !\n#1999\n0#\n$comment at 2 us\n0%\n$end\n#2000\n0%\nr1.5e-3 r\n#3000\nU$\nb0 $\n1#\n";
 
 /// Of a logic analyser: all on few lines, both ends of lines, a vector of one bit, no end of the last line.
 const OF_AN_ANALYSER: &str =
-    "$timescale 1 us $end\r\n$var wire 1 ! ATN $end $var wire 1 \" CLK $end\r\n$var wire 1 # DATA $end $enddefinitions $end\r\n#5 1! 1\" 1#\r\n#105 0! 0\"\r\n$dumpoff $end #205 b0 # B1 \"";
+    "$timescale 1 us $end\r\n$var wire 1 ! ATN $end $var wire 1 \" CLK $end\r\n$var wire 1 # DATA $end $enddefinitions $end\r\n#5 1! 1\" 1#\r\n#105 0! 0\"\r\n$comment off $end #205 b0 # B1 \"";
 
 /// One code for two wires.
 const OF_ONE_CODE: &str =
@@ -96,13 +96,41 @@ const OF_SIGROK_CLI: &str =
 const NOT_KNOWN_YET: &str =
     "$timescale 1 us $end $var wire 1 a ATN $end $var wire 1 c CLOCK $end $var wire 1 d DATA $end $enddefinitions $end\n#0 $dumpvars xa Xc bx d $end\n#3 1a 1c\n#4 zc\n#5 0d bZ a\n#6 1c\n#7 0a\n#8 1d\n";
 
-/// CLOCK comes before CLK wherever they stand.
+/// CLOCK comes before CLK wherever they are.
 const CLK_AND_CLOCK: &str =
     "$timescale 1 us $end $var wire 1 k clk $end $var wire 1 a ATN $end $var wire 1 c Clock $end $var wire 1 d DATA $end $enddefinitions $end 1a 1d 1k 0c #3 1c";
 
-/// Of several signals called CLK the first counts, where none is called CLOCK.
+/// Two signals called CLK are no matter where one is called CLOCK, nor is a signal that is in two scopes.
 const CLK_TWICE: &str =
-    "$timescale 1 us $end $var wire 1 k clk $end $var wire 1 a ATN $end $var wire 1 c CLK $end $var wire 1 d DATA $end $enddefinitions $end 1a 1d 1k 0c #3 1c";
+    "$timescale 1 us $end $var wire 1 k clk $end $var wire 1 a ATN $end $var wire 1 c CLK $end $var wire 1 b CLOCK $end $scope module m $end $var wire 1 a ATN $end $upscope $end $var wire 1 d DATA $end $enddefinitions $end 1a 1d 1k 0c 1b #3 1c";
+
+/// Names of two words, as Saleae's and DSView's software has them.
+const NAMES_OF_TWO_WORDS: &str =
+    "$timescale 1 ns $end\n$var wire 1 ! Channel 0 $end\n$var wire 1 \" Channel 1 $end\n$var wire 1 # Channel  2 $end\n$var wire 1 $ Channel 10 $end\n$enddefinitions $end\n#0 0! 0\" 0# 1$\n#5000 1!\n";
+
+/// Signals by their scopes, and levels that a simulator of VHDL writes.
+const SIGNALS_OF_SCOPES: &str =
+    "$timescale 1 ns $end $scope module top $end $scope module bus $end $var wire 1 ! ATN $end $var wire 1 \" IEC [0] $end $upscope $end $scope module other $end $var wire 1 # ATN $end $upscope $end $var wire 1 $ DATA $end $upscope $end $enddefinitions $end #0 H! L\" 1# h$ #3000 l!";
+
+/// Recording ends before the dump does.
+const SWITCHED_OFF: &str =
+    "$timescale 1 us $end $var wire 1 a ATN $end $var wire 1 c CLOCK $end $var wire 1 d DATA $end $enddefinitions $end #0 1a 1c 1d #4 0a #9 $dumpoff xa xc xd $end #20";
+
+/// Names with white space.
+const CHANNELS: Signals<'static> = Signals {
+    atn: b"Channel 0",
+    clock: b"channel 1",
+    line: b"Channel2",
+    is_inverted: true,
+};
+
+/// Names with scopes, and one with the place of a bit.
+const SCOPES: Signals<'static> = Signals {
+    atn: b"bus.ATN",
+    clock: b"IEC[0]",
+    line: b"top.DATA",
+    is_inverted: false,
+};
 
 /// Signals that are no wires whatever their name: numbers, texts and events.
 const KINDS_WITHOUT_LEVELS: &str =
@@ -111,12 +139,12 @@ const KINDS_WITHOUT_LEVELS: &str =
 const OWN_NAMES: &str =
     "$timescale 1 us $end $var wire 1 ! d2 $end $var wire 1 ' D1 $end $var wire 1 ( D10 $end $var wire 1 ) D0 $end $enddefinitions $end 0! 1' 0( 0) #9 1(";
 
-/// A dump that is blank behind its header says no edges.
+/// A dump that is blank after its header says no edges.
 const BLANK: &str =
     "$timescale 1 us $end $var wire 1 a ATN $end $var wire 1 c CLOCK $end $var wire 1 d DATA $end $enddefinitions $end #0 xa $dumpoff $end";
 
 /// Whose signals, a dump, and its edges.
-const DUMPS: [(Signals<'static>, &str, &str); 11] = [
+const DUMPS: [(Signals<'static>, &str, &str); 14] = [
     (NAMES, OF_A_SIMULATOR, "0 111\n1 001\n2 000\n3 010\n"),
     (NAMES, OF_AN_ANALYSER, "5 111\n105 001\n205 010\n"),
     (NAMES, OF_ONE_CODE, "0 100\n10000 111\n"),
@@ -132,6 +160,9 @@ const DUMPS: [(Signals<'static>, &str, &str); 11] = [
     (NAMES, KINDS_WITHOUT_LEVELS, "0 111\n2 101\n"),
     (OWN, OWN_NAMES, "0 101\n"),
     (NAMES, BLANK, ""),
+    (CHANNELS, NAMES_OF_TWO_WORDS, "0 111\n5 011\n"),
+    (SCOPES, SIGNALS_OF_SCOPES, "0 101\n3 001\n"),
+    (NAMES, SWITCHED_OFF, "0 111\n4 011\n"),
 ];
 
 #[test]

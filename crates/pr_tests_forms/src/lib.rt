@@ -1,8 +1,10 @@
-//! Tests of forms: dots, pages as pictures, recordings in the formats of other tools, what recordings say, and stories.
+//! Tests of forms: dots, pages as pictures, their sheets, documents, recordings in the formats of other tools, what recordings say, and stories.
 #![tactic(auto)]
 
 #[cfg(test)]
 mod decoder;
+#[cfg(test)]
+mod documents;
 #[cfg(test)]
 mod dots;
 #[cfg(test)]
@@ -17,6 +19,8 @@ mod readings;
 mod refusals;
 #[cfg(test)]
 mod samples;
+#[cfg(test)]
+mod sheets;
 #[cfg(test)]
 mod story;
 #[cfg(test)]

@@ -30,12 +30,12 @@ const NONE: Present = Present {
 /// The beginning of a picture, up to its size.
 const BEGIN: &str = "<svg xmlns=\"http://www.w3.org/2000/svg\" version=\"1.1\" ";
 
-/// What stands between its size and the definitions of marks.
+/// What is between its size and the definitions of marks.
 const ABOUT: &str =
     ">\n<desc>Pages of VIC-1525 printers. Each dot is where a needle strikes; the shapes of characters are this project's own.</desc>\n<pattern id=\"paper\" width=\"12600\" height=\"630\" patternUnits=\"userSpaceOnUse\"><rect width=\"12600\" height=\"630\" fill=\"#fff\"/><g fill=\"#e9e6df\" stroke=\"#b4afa2\" stroke-width=\"10\"><circle cx=\"315\" cy=\"315\" r=\"100\"/><circle cx=\"12285\" cy=\"315\" r=\"100\"/><path stroke-dasharray=\"35\" d=\"M630 0v630M11970 0v630\"/></g></pattern>\n<pattern id=\"folds\" y=\"7560\" width=\"12600\" height=\"13860\" patternUnits=\"userSpaceOnUse\"><path stroke=\"#b4afa2\" stroke-width=\"10\" stroke-dasharray=\"70\" d=\"M0 6930h12600\"/></pattern>\n<rect width=\"100%\" height=\"100%\" fill=\"#e9e6df\"/>\n<defs>\n";
 
 /// The definition of `A`.
-const DEFINED_A: &str =
+pub const DEFINED_A: &str =
     "<path stroke=\"#222\" id=\"u65\" d=\"M10 30h0M10 50h0M10 70h0M10 90h0M10 110h0M10 130h0M31 10h0M31 70h0M52 10h0M52 70h0M73 10h0M73 70h0M94 30h0M94 50h0M94 70h0M94 90h0M94 110h0M94 130h0\"/>\n";
 
 /// The definition of `a`.
@@ -66,21 +66,21 @@ const SECOND: &str = "<g transform=\"translate(13860 1050)\">\n";
 const FOUR_BEGIN: &str =
     "<text font-size=\"210\" fill=\"#555\" y=\"-210\">Printer 4</text>\n<rect width=\"12600\" height=\"1890\" fill=\"url(#paper)\" stroke=\"#b4afa2\" stroke-width=\"10\"/>\n<rect y=\"1260\" width=\"12600\" height=\"630\" fill=\"url(#folds)\"/>\n<g transform=\"translate(1260 630)\">\n<g stroke-width=\"22\" stroke-linecap=\"round\" fill-opacity=\"0\" font-size=\"140\">\n<g transform=\"translate(0 0)\">\n";
 
-/// What stands behind them.
+/// What follows them.
 const FOUR_END: &str = "</g>\n</g>\n</g>\n</g>\n";
 
 /// The sheet of printer 5, which holds an `a`.
 const FIVE_SHEET: &str =
     "<text font-size=\"210\" fill=\"#555\" y=\"-210\">Printer 5</text>\n<rect width=\"12600\" height=\"1890\" fill=\"url(#paper)\" stroke=\"#b4afa2\" stroke-width=\"10\"/>\n<rect y=\"1260\" width=\"12600\" height=\"630\" fill=\"url(#folds)\"/>\n<g transform=\"translate(1260 630)\">\n<g stroke-width=\"22\" stroke-linecap=\"round\" fill-opacity=\"0\" font-size=\"140\">\n<g opacity=\".4\" transform=\"translate(0 210)\">\n<use href=\"#l65\" x=\"0\"/>\n<text x=\"0\" y=\"140\" textLength=\"126\" lengthAdjust=\"spacingAndGlyphs\" xml:space=\"preserve\">a</text>\n</g>\n</g>\n<g transform=\"translate(0 0)\">\n<path stroke=\"#a33\" stroke-width=\"20\" stroke-dasharray=\"126\" d=\"M0 60h10080\"/>\n<text font-size=\"120\" fill=\"#a33\" x=\"7350\" y=\"200\">held by the printer, not yet printed</text>\n</g>\n</g>\n</g>\n";
 
-/// What stands below the sheets.
+/// What is below the sheets.
 const BELOW: &str =
     "<text font-size=\"210\" fill=\"#555\" transform=\"translate(630 3150)\">\n</text>\n</svg>\n";
 
 /// An `A` as it is drawn, and as it is searched for.
-const A: &str = "<use href=\"#u65\" x=\"0\"/>\n";
+pub const A: &str = "<use href=\"#u65\" x=\"0\"/>\n";
 
-const LETTER_A: &str =
+pub const LETTER_A: &str =
     "<text x=\"0\" y=\"140\" textLength=\"126\" lengthAdjust=\"spacingAndGlyphs\" xml:space=\"preserve\">A</text>\n";
 
 /// A reversed `W` over the edge of the paper, likewise.
@@ -89,11 +89,11 @@ const EDGE: &str = "<use href=\"#urw87\" x=\"9954\"/>\n";
 const LETTER_EDGE: &str =
     "<text x=\"9954\" y=\"140\" textLength=\"252\" lengthAdjust=\"spacingAndGlyphs\" xml:space=\"preserve\">W</text>\n";
 
-/// The sheet with rows at several distances, and what stands below it.
+/// The sheet with rows at several distances, and what is below it.
 const DISTANCES: &str =
     "<text font-size=\"210\" fill=\"#555\" y=\"-210\">Printer 4</text>\n<rect width=\"12600\" height=\"3150\" fill=\"url(#paper)\" stroke=\"#b4afa2\" stroke-width=\"10\"/>\n<rect y=\"1260\" width=\"12600\" height=\"1890\" fill=\"url(#folds)\"/>\n<g transform=\"translate(1260 630)\">\n<g stroke-width=\"22\" stroke-linecap=\"round\" fill-opacity=\"0\" font-size=\"140\">\n<g transform=\"translate(0 210)\">\n<use href=\"#u65\" x=\"0\"/>\n<text x=\"0\" y=\"140\" textLength=\"126\" lengthAdjust=\"spacingAndGlyphs\" xml:space=\"preserve\">A</text>\n</g>\n<g transform=\"translate(0 420)\">\n</g>\n<g transform=\"translate(0 560)\">\n<use href=\"#d1\" x=\"0\"/>\n</g>\n<g transform=\"translate(0 1180)\">\n<use href=\"#u66\" x=\"126\"/>\n<text x=\"126\" y=\"140\" textLength=\"126\" lengthAdjust=\"spacingAndGlyphs\" xml:space=\"preserve\">B</text>\n</g>\n<g transform=\"translate(0 1600)\">\n<use href=\"#u67\" x=\"252\"/>\n<text x=\"252\" y=\"140\" textLength=\"126\" lengthAdjust=\"spacingAndGlyphs\" xml:space=\"preserve\">C</text>\n</g>\n</g>\n</g>\n</g>\n<text font-size=\"210\" fill=\"#555\" transform=\"translate(630 4410)\">\n</text>\n</svg>\n";
 
-/// Two empty sheets, and what stands below them.
+/// Two empty sheets, and what is below them.
 const EMPTY: &str =
     "<g transform=\"translate(630 1050)\">\n<text font-size=\"210\" fill=\"#555\" y=\"-210\">Printer 4</text>\n<rect width=\"12600\" height=\"1260\" fill=\"url(#paper)\" stroke=\"#b4afa2\" stroke-width=\"10\"/>\n<rect y=\"1260\" width=\"12600\" height=\"0\" fill=\"url(#folds)\"/>\n<g transform=\"translate(1260 630)\">\n<g stroke-width=\"22\" stroke-linecap=\"round\" fill-opacity=\"0\" font-size=\"140\">\n</g>\n</g>\n</g>\n<g transform=\"translate(13860 1050)\">\n<text font-size=\"210\" fill=\"#555\" y=\"-210\">Printer 5</text>\n<rect width=\"12600\" height=\"1260\" fill=\"url(#paper)\" stroke=\"#b4afa2\" stroke-width=\"10\"/>\n<rect y=\"1260\" width=\"12600\" height=\"0\" fill=\"url(#folds)\"/>\n<g transform=\"translate(1260 630)\">\n<g stroke-width=\"22\" stroke-linecap=\"round\" fill-opacity=\"0\" font-size=\"140\">\n</g>\n</g>\n</g>\n<text font-size=\"210\" fill=\"#555\" transform=\"translate(630 2520)\">\n</text>\n</svg>\n";
 
@@ -102,7 +102,7 @@ const GROWN: &str =
     "<text x=\"0\" y=\"140\" textLength=\"252\" lengthAdjust=\"spacingAndGlyphs\" xml:space=\"preserve\">AB</text>\n</g>\n</g>\n<g transform=\"translate(0 0)\">\n<path stroke=\"#a33\" stroke-width=\"20\" stroke-dasharray=\"126\" d=\"M0 60h10080\"/>\n<text font-size=\"120\" fill=\"#a33\" x=\"7350\" y=\"200\">held by the printer, not yet printed</text>\n</g>\n</g>\n</g>\n<text font-size=\"210\" fill=\"#555\" transform=\"translate(630 3150)\">\n</text>\n</svg>\n";
 
 /// A cell, neither reversed nor wide.
-const fn cell(x: u16, code: u8, lower: bool) -> Placed {
+pub const fn cell(x: u16, code: u8, lower: bool) -> Placed {
     Placed {
         x,
         mark: Mark::Cell {
@@ -120,7 +120,7 @@ fn sequence(rt: &(impl Abort + AllocGlobal), marks: &[Placed]) -> Sequence<Place
 }
 
 /// Paper with rows at these distances.
-fn paper(rt: &(impl Abort + AllocGlobal), rows: &[(u64, &[Placed])]) -> Paper {
+pub fn paper(rt: &(impl Abort + AllocGlobal), rows: &[(u64, &[Placed])]) -> Paper {
     let mut made = Vec::new(rt.alloc());
     for (y, marks) in rows {
         let marks = sequence(rt, marks);

@@ -44,7 +44,7 @@ const ATN: Transfer = Transfer {
 
 const ACKNOWLEDGED: FrameEnd = FrameEnd::Acknowledged(1930);
 
-/// What stands before a reading, the reading, and its lines.
+/// What comes before a reading, the reading, and its lines.
 type Row = (Preceding, Reading, &'static str);
 
 /// The readings of these rows have their lines.
@@ -59,7 +59,7 @@ fn are_told(rt: &(impl Abort + AllocGlobal), rows: &[Row]) {
     }
 }
 
-/// Acknowledged bytes have the story's lines: what stands before decides on their headings.
+/// Acknowledged bytes have the story's lines: what comes before decides on their headings.
 const ACKNOWLEDGED_BYTES: [Row; 13] = [
     (
         Preceding::Nothing,
@@ -94,7 +94,7 @@ const ACKNOWLEDGED_BYTES: [Row; 13] = [
     (
         Preceding::Command,
         Reading::Frame(Transfer { byte: 95, ..ATN }, ACKNOWLEDGED),
-        "attention\n        1100         1930  $5F  command 95\n",
+        "attention\n        1100         1930  $5F  UNTALK\n",
     ),
     (
         Preceding::Command,
@@ -128,7 +128,7 @@ const ACKNOWLEDGED_BYTES: [Row; 13] = [
     ),
 ];
 
-/// The answer to end-or-identify, its length and the pull behind it, within the bounds and outside.
+/// The answer to end-or-identify, its length and the pull after it, within the bounds and outside.
 const ANSWERS: [Row; 4] = [
     (
         Preceding::Data,
@@ -414,7 +414,7 @@ fn attentions_one_after_another(rt: HostRuntime) {
     assert!(rt; text.as_slice() == STORY.as_bytes());
 }
 
-/// What stands before a reading, the reading, and what stands behind it.
+/// What comes before a reading, the reading, and what follows it.
 const BEHIND: [(Preceding, Reading, Preceding); 8] = [
     (
         Preceding::Nothing,

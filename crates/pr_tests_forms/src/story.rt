@@ -9,7 +9,7 @@ use pr_wire::example::TRACE_TEXT;
 use pr_wire::{ByteRole, Frame, WaveFault, read_trace};
 use std::process::Abort;
 
-/// LISTEN 4 and, a millisecond behind it, the secondary address 7.
+/// LISTEN 4 and, a millisecond after it, the secondary address 7.
 const TWO_COMMANDS: &str = "\
     0 111\n100 001\n200 000\n1100 010\n1150 011\n1190 000\n1260 010\n1280 000\n1350 010\n1370 001\n\
     1440 011\n1460 000\n1530 010\n1550 000\n1620 010\n1640 001\n1710 011\n1730 000\n1800 010\n\
@@ -78,19 +78,21 @@ fn stories(rt: HostRuntime) {
 /// The moments of the frames below.
 const MOMENTS: &str = "           7 1234567890123  ";
 
-/// Frames, each by how it is sent, its byte and whether a data byte stands before it; perhaps a heading of its
-/// line, and what the line says behind the moments.
-static LINES: [(ByteRole, u8, bool, &str, &str); 31] = [
+/// Frames, each by how it is sent, its byte and whether a data byte comes before it; perhaps a heading of its
+/// line, and what the line says after the moments.
+static LINES: [(ByteRole, u8, bool, &str, &str); 33] = [
     // command bytes
     (Second, 32, true, "", "$20  LISTEN 0"),
     (Second, 62, true, "", "$3E  LISTEN 30"),
     (Second, 63, true, "", "$3F  UNLISTEN"),
-    (Second, 95, false, "", "$5F  command 95"),
+    (Second, 64, false, "", "$40  TALK 0"),
+    (Second, 94, false, "", "$5E  TALK 30"),
+    (Second, 95, false, "", "$5F  UNTALK"),
     (Second, 96, false, "", "$60  SECOND 0"),
     (Second, 111, false, "", "$6F  SECOND 15"),
     (Second, 112, false, "", "$70  command 112"),
     (Second, 231, false, "", "$E7  CLOSE 7"),
-    (Second, 240, false, "", "$F0  command 240"),
+    (Second, 240, false, "", "$F0  OPEN 0"),
     (First, 31, true, "attention\n", "$1F  command 31"),
     (First, 37, false, "attention\n", "$25  LISTEN 5"),
     // data bytes

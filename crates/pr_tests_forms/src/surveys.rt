@@ -6,7 +6,7 @@ use pr_wire::{Kind, NoMemory, bounds};
 use std::alloc::Global;
 use std::process::Abort;
 
-/// A data byte's opening with the look at 1000, ready 50 microseconds behind it.
+/// A data byte's opening with the look at 1000, ready 50 microseconds after it.
 const OPENING: Opening = Opening {
     command: false,
     ready_to_send: 1000,
@@ -30,7 +30,7 @@ const HIGH: Halves = Halves {
     longest: 20,
 };
 
-/// A byte with CLOCK's first pull 40 microseconds behind ready, and its last at 40000.
+/// A byte with CLOCK's first pull 40 microseconds after ready, and its last at 40000.
 const BYTE: Transfer = Transfer {
     opening: OPENING,
     pull: 1090,
@@ -41,7 +41,7 @@ const BYTE: Transfer = Transfer {
     last_pull: 40000,
 };
 
-/// A command that is ready 24310 microseconds behind the look.
+/// A command that is ready 24310 microseconds after the look.
 const COMMAND: Transfer = Transfer {
     opening: Opening {
         ready_for_data: 25310,
@@ -77,7 +77,7 @@ const FIRST: Transfer = Transfer {
     ..BYTE
 };
 
-/// A data byte that is ready 10001 microseconds behind the look.
+/// A data byte that is ready 10001 microseconds after the look.
 const SECOND: Transfer = Transfer {
     opening: Opening {
         ready_for_data: 11001,
@@ -95,8 +95,8 @@ const SECOND: Transfer = Transfer {
     ..BYTE
 };
 
-/// A byte that ends, by end-or-identify: an answer 199 microseconds behind ready, which lasts 80, and CLOCK's
-/// first pull 30 behind it.
+/// A byte that ends, by end-or-identify: an answer 199 microseconds after ready, which lasts 80, and CLOCK's
+/// first pull 30 after it.
 const LAST: Transfer = Transfer {
     opening: Opening {
         pulse: Some(Pulse {
@@ -118,7 +118,7 @@ const LAST: Transfer = Transfer {
     ..BYTE
 };
 
-/// The same with the answer 200 microseconds behind ready.
+/// The same with the answer 200 microseconds after ready.
 const LAST_AT_200: Transfer = Transfer {
     opening: Opening {
         pulse: Some(Pulse {
@@ -153,7 +153,7 @@ const BEGUN: Reading = Reading::IncompleteByte(
     IncompleteEnd::Cut,
 );
 
-/// A command that is ready 20000 microseconds behind the look.
+/// A command that is ready 20000 microseconds after the look.
 const READY_AT_20000: Reading = Reading::Frame(
     Transfer {
         opening: Opening {

@@ -2,10 +2,11 @@
 
 ghost use Rattle.std.specs.Prelude.{◌≤◌, length};
 
-use pr_capture::{CaptureFault, CsvReader, Signals};
-use pr_wire::write_trace;
+use pr_capture::{CaptureFault, CsvReader, Signals, csv_is_read_back};
+use pr_wire::{Edge, NoMemory, read_trace, write_trace};
 use std::alloc::Global;
 use std::process::Abort;
+use std::test::Fail;
 
 /// The names that are looked for where none are given.
 pub const NAMES: Signals<'static> = Signals {
@@ -66,7 +67,7 @@ const OWN: Signals<'static> = Signals {
 
 /// Whose signals, a table, and its samples: other columns, lines without a word, quoted names, spaces, both
 /// ends of lines, CLK beside CLOCK, and whole microseconds of seconds.
-const TABLES: [(Signals<'static>, &str, &str); 10] = [
+const TABLES: [(Signals<'static>, &str, &str); 22] = [
     (
         NAMES,
         "Time [s],ATN,CLOCK,DATA\n0.000000000,1,1,1\n0.000100000,0,0,1\n0.000200000,0,0,0\n",
@@ -97,6 +98,66 @@ const TABLES: [(Signals<'static>, &str, &str); 10] = [
         "t,ATN,CLOCK,DATA\n18446744073709.551615,1,1,1\n",
         "18446744073709551615 111\n",
     ),
+    (
+        NAMES,
+        "Time (ms),ATN,CLOCK,DATA\n0,1,1,1\n1.5,1,1,0\n20e-1,1,1,1\n",
+        "0 111\n1500 110\n2000 111\n",
+    ),
+    (
+        NAMES,
+        "t/ns;ATN;CLOCK;DATA\n999;1;1;1\n1000;1;1;0\n",
+        "0 111\n1 110\n",
+    ),
+    (
+        NAMES,
+        "\u{feff}Time[\u{b5}s]\tATN\tCLOCK\tDATA\n+7\t1.0\tL\tH\n",
+        "7 101\n",
+    ),
+    (
+        NAMES,
+        "picoseconds,ATN,CLOCK,DATA\n1999999,1,1,1\n2e6,0.0,1.0,1\n",
+        "1 111\n2 011\n",
+    ),
+    (
+        NAMES,
+        "Time [s],ATN,CLOCK,DATA\n-0.0005,1,1,1\n-0.0004999,0,1,1\n0.000001,1,1,1\n",
+        "0 111\n0 011\n501 111\n",
+    ),
+    (
+        NAMES,
+        "Time [s],ATN,CLOCK,DATA\n5e-05,1,1,1\n1.5E+1,0,1,1\n",
+        "50 111\n15000000 011\n",
+    ),
+    (
+        NAMES,
+        "; Samplerate: 4 MHz\nATN,CLOCK,DATA\n1,1,1\n1,1,0\n\n1,1,1\n1,1,1\n0,1,1\n",
+        "0 111\n0 110\n0 111\n0 111\n1 011\n",
+    ),
+    (
+        NAMES,
+        "META samplerate: 500000\nDATA,CLOCK,ATN\n1,1,1\n1,1,0\n",
+        "0 111\n2 011\n",
+    ),
+    (
+        NAMES,
+        "; Sample rate: 1.5 kHz\nSample,ATN,CLOCK,DATA\n0,1,1,1\n1,1,1,0\n2,1,1,1\n3,1,0,1\n",
+        "0 111\n666 110\n1333 111\n2000 101\n",
+    ),
+    (
+        NAMES,
+        "; Samplerate: 4 MHz\nTime,ATN,CLOCK,DATA\n250,1,1,1\n25250,0,1,1\n",
+        "0 111\n25 011\n",
+    ),
+    (
+        NAMES,
+        "; Sample rate: 24 MHz\nTime(s), ATN, CLOCK, DATA\n0.000000125, 1, 1, 1\n0.00002, 0, 1, 1\n",
+        "0 111\n20 011\n",
+    ),
+    (
+        NAMES,
+        "nanoseconds,ATN,CLOCK,DATA\n 1e4 ,1,1,1\n",
+        "10 111\n",
+    ),
 ];
 
 #[test]
@@ -104,4 +165,43 @@ fn tables_say_samples(rt: HostRuntime) {
     for &(signals, text, wanted) in &TABLES {
         says(&rt, signals, text, wanted);
     }
+}
+
+/// Adds the row of an edge: its seconds, with six decimals, and its levels.
+fn push_row(table: &mut String, edge: Edge) -> Result<(), NoMemory> {
+    let seconds = edge.time / 1_000_000;
+    let micros = edge.time % 1_000_000;
+    let atn = u8::from(edge.levels.atn);
+    let clock = u8::from(edge.levels.clock);
+    let line = u8::from(edge.levels.line);
+    write!(table, "{seconds:014}.{micros:06},{atn},{clock},{line}\n")
+}
+
+/// The edges of a trace as a table with a row for each.
+fn written(alloc: Global, edges: &[Edge]) -> Result<String, NoMemory> {
+    let mut table = String::new(alloc);
+    write!(table, "Time [s],ATN,CLOCK,DATA\n")?;
+    for edge in edges {
+        push_row(&mut table, *edge)?;
+    }
+    Ok(table)
+}
+
+/// Traces with edges at the same second, over a second, and at the last moment.
+const TRACES: [&str; 3] = [
+    "0 111\n100 001\n200 000\n",
+    "0 111\n999999 011\n1000000 001\n60000000 101\n",
+    "18446744073709551614 000\n18446744073709551615 010\n",
+];
+
+/// A law that is proved of every trace, played with a writer of tables: the table's samples are the trace's edges.
+#[test]
+fn tables_of_traces_are_read_back(rt: HostRuntime) -> Result<(), Fail> {
+    csv_is_read_back();
+    for &trace in &TRACES {
+        let edges = read_trace(rt.alloc(), trace.as_bytes())?;
+        let table = written(rt.alloc(), edges.as_slice())?;
+        says(&rt, NAMES, table.as_str(), trace);
+    }
+    Ok(())
 }

@@ -1,7 +1,7 @@
-//! Verdicts, in the words of `check`.
+//! Verdicts, in the words of `check`, and what is odd about a recording.
 
-use pr_report::push_verdict;
-use pr_wire::WaveFault;
+use pr_report::{LinesSeen, push_oddities, push_verdict};
+use pr_wire::{Edge, Levels, WaveFault};
 use std::process::Abort;
 
 /// A verdict's line is `lawful`, or names the edge of the first fault and what is wrong with it.
@@ -32,6 +32,60 @@ fn verdicts_have_lines(rt: HostRuntime) {
         assert!(rt;
             pushed.is_ok() && text.as_slice() == line.as_bytes(),
             "{line}"
+        );
+    }
+}
+
+const RELEASED: Edge = Edge {
+    time: 0,
+    levels: Levels {
+        atn: true,
+        clock: true,
+        line: true,
+    },
+};
+
+const CALLED: Edge = Edge {
+    time: 100,
+    levels: Levels {
+        atn: false,
+        clock: false,
+        line: true,
+    },
+};
+
+/// Edges, whether a byte was acknowledged in them, and what is odd.
+const ODD: [(&[Edge], bool, &str); 4] = [
+    (&[RELEASED, CALLED, RELEASED], true, ""),
+    (
+        &[RELEASED, CALLED, RELEASED],
+        false,
+        "no byte is acknowledged\ntry --invert for probes behind inverters, or other signals with --names\n",
+    ),
+    (
+        &[RELEASED],
+        true,
+        "attention never comes: ATN is not pulled\ntry --invert for probes behind inverters, or other signals with --names\n",
+    ),
+    (
+        &[CALLED, RELEASED, CALLED],
+        true,
+        "ATN rests at 0\nCLOCK rests at 0\ntry --invert for probes behind inverters, or other signals with --names\n",
+    ),
+];
+
+#[test]
+fn oddities_have_lines(rt: HostRuntime) {
+    for &(edges, has_byte, lines) in &ODD {
+        let mut seen = LinesSeen::new();
+        for edge in edges {
+            seen.take(*edge);
+        }
+        let mut text = Vec::new(rt.alloc());
+        let pushed = push_oddities(&mut text, seen.oddities(has_byte));
+        assert!(rt;
+            pushed.is_ok() && text.as_slice() == lines.as_bytes(),
+            "{lines}"
         );
     }
 }

@@ -5,11 +5,11 @@ use pr_wire::read_trace;
 use std::process::Abort;
 use std::test::Fail;
 
-/// What stands before the changes.
+/// What comes before the changes.
 pub const HEAD: &str =
     "$timescale 1 us $end\n$scope module bus $end\n$var wire 1 A ATN $end\n$var wire 1 C CLOCK $end\n$var wire 1 D DATA $end\n$upscope $end\n$enddefinitions $end\n";
 
-/// The edges of a trace text are written so, behind the head.
+/// The edges of a trace text are written so, after the head.
 fn is_written(rt: &(impl Abort + AllocGlobal), trace: &str, changes: &str) -> Result<(), Fail> {
     let edges = read_trace(rt.alloc(), trace.as_bytes())?;
     let text = write_vcd(rt.alloc(), edges.as_slice())?;
@@ -23,7 +23,7 @@ fn is_written(rt: &(impl Abort + AllocGlobal), trace: &str, changes: &str) -> Re
 /// The changes of `0 111`, `100 001` and `200 000`.
 const THREE_EDGES: &str = "#0\n1A\n1C\n1D\n#100\n0A\n0C\n#200\n0D\n#1200\n";
 
-/// Edges, and what is written of them behind the head: one time stamp an edge, and one behind the last. The
+/// Edges, and what is written of them after the head: one time stamp an edge, and one after the last. The
 /// first edge tells all three levels, each later one those that it changes, if any.
 const ROWS: [(&str, &str); 6] = [
     ("", ""),

@@ -2,7 +2,10 @@
 
 use pr_basic::StatusMode;
 use pr_bus::Delays;
-use pr_options::{DelayFault, Job, JobFault, explains, read_delays, read_job};
+use pr_capture::Source;
+use pr_options::{
+    DelayFault, Job, JobFault, bad_value, explains, found_source, read_delays, read_task,
+};
 use pr_wire::Kind;
 use std::alloc::Global;
 use std::fmt::Display;
@@ -20,8 +23,8 @@ fn first_delays(delays: &mut Delays) -> [u16; 3] {
 
 /// The job that words ask for, if they ask for one.
 fn job_of<'a>(alloc: Global, words: &'a [&'a str]) -> Option<Job<'a>> {
-    match read_job(alloc, words) {
-        Ok(job) => Some(job),
+    match read_task(alloc, words) {
+        Ok(task) => Some(task.job),
         Err(_fault) => None,
     }
 }
@@ -35,7 +38,7 @@ fn is_run(job: Job<'_>, wanted: [u16; 3], status: StatusMode) -> bool {
         Job::Bus(_form, _present, mut delays, mode, _format) => {
             first_delays(&mut delays) == wanted && mode == status
         }
-        Job::Check(..) | Job::Decode(..) | Job::Raw { .. } => false,
+        Job::Check(..) | Job::Decode { .. } | Job::Raw { .. } => false,
     }
 }
 
@@ -47,7 +50,7 @@ fn is_check(job: Job<'_>, [atn, clock, line]: [&str; 3]) -> bool {
                 && input.signals.clock == clock.as_bytes()
                 && input.signals.line == line.as_bytes()
         }
-        Job::Pages(..) | Job::Bus(..) | Job::Decode(..) | Job::Raw { .. } => false,
+        Job::Pages(..) | Job::Bus(..) | Job::Decode { .. } | Job::Raw { .. } => false,
     }
 }
 
@@ -176,4 +179,75 @@ fn fault_texts(rt: HostRuntime) {
     tells(&rt, &DelayFault::NoMemory, "out of memory");
     tells(&rt, &JobFault::NoMemory, "out of memory");
     assert!(rt; JobFault::NoMemory.values().is_none());
+}
+
+/// Whether words ask for a job that reads and writes these files.
+fn has_files<'a>(
+    alloc: Global,
+    words: &'a [&'a str],
+    input: Option<&str>,
+    output: Option<&str>,
+) -> bool {
+    match read_task(alloc, words) {
+        Ok(task) => task.input == input && task.output == output,
+        Err(_fault) => false,
+    }
+}
+
+/// The files that words name: `-` is none.
+#[test]
+fn files_of_tasks(rt: HostRuntime) {
+    let alloc = rt.alloc();
+    assert!(rt; has_files(alloc, &["print1525", "pages"], None, None));
+    let alloc = rt.alloc();
+    assert!(rt;
+        has_files(
+            alloc,
+            &["print1525", "raw", "a", "--output=b"],
+            Some("a"),
+            Some("b")
+        )
+    );
+    let alloc = rt.alloc();
+    assert!(rt;
+        has_files(
+            alloc,
+            &["print1525", "bus", "-o", "b.vcd", "-"],
+            None,
+            Some("b.vcd")
+        )
+    );
+    let alloc = rt.alloc();
+    assert!(rt; has_files(alloc, &["print1525", "check", "-o-", "--", "-"], None, None));
+    let alloc = rt.alloc();
+    assert!(rt;
+        has_files(
+            alloc,
+            &["print1525", "decode", "--", "-o"],
+            Some("-o"),
+            None
+        )
+    );
+}
+
+/// The value of a fault is that of the words.
+#[test]
+fn bad_values(rt: HostRuntime) {
+    const WORDS: [&str; 4] = ["print1525", "pages", "--as", "gif"];
+    assert!(rt; bad_value(rt.alloc(), &WORDS, &JobFault::BadPageAs) == Some("gif"));
+    assert!(rt; bad_value(rt.alloc(), &WORDS, &JobFault::NoMemory).is_none());
+    assert!(rt; JobFault::BadPageAs.good_values() == Some("list, text, svg, png or pdf"));
+    assert!(rt; JobFault::BadPresent.good_values().is_none());
+}
+
+/// The format of a recording by its first bytes.
+#[test]
+fn found_sources(rt: HostRuntime) {
+    assert!(rt; found_source(Source::Text, b"") == Source::Text);
+    assert!(rt; found_source(Source::Text, b"0 111\n1,1\n") == Source::Text);
+    assert!(rt; found_source(Source::Text, b" \n\t$date") == Source::Vcd);
+    assert!(rt; found_source(Source::Text, b"# a, b") == Source::Csv);
+    assert!(rt; found_source(Source::Text, b"\n; table") == Source::Csv);
+    assert!(rt; found_source(Source::Text, b"Time,ATN\n") == Source::Csv);
+    assert!(rt; found_source(Source::Csv, b"0 111") == Source::Csv);
 }

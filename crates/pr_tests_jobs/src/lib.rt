@@ -9,6 +9,8 @@ mod command_line;
 #[cfg(test)]
 mod explanations;
 #[cfg(test)]
+mod files;
+#[cfg(test)]
 mod recordings;
 #[cfg(test)]
 mod refusals;

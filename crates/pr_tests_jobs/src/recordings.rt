@@ -20,7 +20,8 @@ const NOTHING: &str = "\
     frames: 0\ncommands: 0\ndata bytes: 0\nnot acknowledged: 0\nglitches: 0\ncut by the recording's end: 0\n\
     ready: none\nfirst pull: none\nanswer: none\nanswer length: none\npull after answer: none\n\
     shortest low half: none\nlongest low half: none\nshortest high half: none\nlongest high half: none\n\
-    acknowledgement: none\nlawful\n";
+    acknowledgement: none\nlawful\nno byte is acknowledged\nattention never comes: ATN is not pulled\n\
+    try --invert for probes behind inverters, or other signals with --names\n";
 
 #[test]
 fn too_large(rt: HostRuntime) {

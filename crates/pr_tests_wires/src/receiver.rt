@@ -67,7 +67,7 @@ fn take_edge(rt: &impl Abort, receivers: &mut Receivers, edge: Edge) -> Option<I
     input.ok()?
 }
 
-/// Lets the receivers take the edges of a frame, so many, or else one edge.
+/// Lets the receivers take the edges of a frame, this many, or else one edge.
 fn pass(rt: &impl Abort, receivers: &mut Receivers, edges: &[Edge], count: usize) -> Option<Input> {
     let Receivers { alone, four, five } = receivers;
     assert!(rt; !edges.is_empty() && edges.len() < 1000 && alone.taken() < 1000);

@@ -26,7 +26,7 @@ pub enum Said {
     Lost(u8),
     /// A data byte begun and not ended.
     Begun(u8),
-    /// A data byte behind which the recording ends.
+    /// A data byte after which the recording ends.
     Cut(u8),
 }
 
@@ -250,7 +250,7 @@ fn are_cells(marks: &[Placed], codes: &[u8], lower: bool) -> bool {
     marks.len() == codes.len()
 }
 
-/// Whether a paper has this page; its row, if it has one, stands at its top.
+/// Whether a paper has this page; its row, if it has one, is at its top.
 pub fn has_page(paper: &Paper, page: Page, lower: bool) -> bool {
     let is_well = match (page.row, paper.rows.as_slice()) {
         (None, []) => true,

@@ -35,6 +35,11 @@ capture_numbers (capture.GoesBack line) = (46, line)
 capture_numbers (capture.Unknown line) = (47, line)
 capture_numbers (capture.Floating line) = (48, line)
 capture_numbers (capture.BadLevel line) = (49, line)
+capture_numbers (capture.BadTimescale line) = (70, line)
+capture_numbers (capture.NoTime line) = (71, line)
+capture_numbers capture.WideText = (72, 1)
+capture_numbers capture.Archive = (73, 1)
+capture_numbers (capture.TwoSignals line wire) = (74 + signal_number wire, line)
 capture_numbers capture.NoMemory = (0, 0)
 
 -- a fault of an input as its number, and its line or the index of its edge

@@ -15,7 +15,7 @@ use Rattle.pr_web.specs.Settings.{IsInput, is_yes, page_format_of}
 use Rattle.pr_web.specs.declared.answer.Answer.{Answer}
 use Rattle.pr_web.specs.declared.answer.Told.{Told}
 
--- a number that stands for no setting is refused, and the buffer is as it was
+-- a number that means no setting is refused, and the buffer is as it was
 abbrev pub Refuses : ℕ → (old new : List ℕ) → Answer → Type 0
 Refuses fault old new answer = (answer ≡ refusal (fault, 0) 0) × (new ≡ old)
 
@@ -34,7 +34,7 @@ abbrev pub TellsReprint :
 TellsReprint None atn clock line inverted start picture bytes old new answer = Refuses 29 old new answer
 TellsReprint (Some source) atn clock line inverted start picture bytes old new answer =
     (input : TraceInput) × IsInput source atn clock line (is_yes inverted) start input
-    × (told : Told) × GivesPages input (page_format_of (is_yes picture)) bytes old new told × (answer ≡ answer_of told)
+    × (told : Told) × GivesPages input (page_format_of picture) bytes old new told × (answer ≡ answer_of told)
 
 -- the text of an explanation is in the buffer, and the answer has its place's number; or memory for
 -- it was refused. Where there is no place there is no text

@@ -6,6 +6,7 @@ use Rattle.pr_channels.specs.declared.faults.Stop.{Stop}
 use Rattle.pr_channels.specs.declared.faults.Stop.TheVariants as stop
 use Rattle.pr_render.specs.declared.format.Format.{Format}
 use Rattle.pr_render.specs.declared.format.Format.TheVariants as format
+use Rattle.pr_render.specs.Showing.{whole}
 use Rattle.pr_capture.specs.declared.format.Source.{Source}
 use Rattle.pr_capture.specs.declared.format.Source.TheVariants as source
 use Rattle.pr_capture.specs.declared.format.TraceInput.{TraceInput}
@@ -38,10 +39,11 @@ abbrev pub mode_of : (is_kept : Bool) → StatusMode
 mode_of false = mode.Each
 mode_of true = mode.Kept
 
--- the format of pages: lines of 80 columns, or an SVG document
-abbrev pub page_format_of : (is_picture : Bool) → Format
-page_format_of false = format.Lines
-page_format_of true = format.Picture
+-- the format of pages: lines of 80 columns, the first sheet as a PNG file, a PDF document, or an SVG document
+abbrev pub page_format_of : ℕ → Format
+page_format_of number =
+    if number == 0 then format.Lines
+    else (if number == 2 then format.Png whole else (if number == 3 then format.Pdf None else format.Svg whole))
 
 -- a recording with these names of its signals, with levels as they are or inverted, which starts at this microsecond
 pub record IsInput (source : Source) (atn clock line : List ℕ) (is_inverted : Bool) (start : ℕ)

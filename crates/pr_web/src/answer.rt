@@ -1,4 +1,4 @@
-//! What a call tells the page.
+//! What a call answers the page.
 
 ghost use Rattle.std.specs.Prelude.{◌≡◌, length};
 ghost use Rattle.pr_web.specs.Answers.{answer_of, capture_numbers, fault_numbers, refusal, signal_number};
@@ -11,8 +11,8 @@ use pr_wire::{TraceFault, WaveFault};
 /// What came of a call.
 #[derive(Clone, Copy, Debug, PartialEq, Eq)]
 pub enum Told {
-    /// The text stands at the front of the buffer, and has this many bytes. Of an input that can not be
-    /// read to its end it is what stands before the fault, and there is the fault.
+    /// The text is at the front of the buffer, and has this many bytes. Of an input that can not be
+    /// read to its end it is what comes before the fault, and there is the fault.
     Written(Option<CliFault>, usize),
     /// The text has this many bytes, more than the buffer has room for.
     TooSmall(usize),
@@ -27,7 +27,7 @@ pub struct Answer {
     /// 0 done, 2 refused, 3 out of memory, 4 the buffer is too small.
     pub code: usize,
     /// With code 2 the number of the fault: 8 a bad line of a trace text, 9 too large, 12 an edge that
-    /// stands before the one in front of it, 29 and 30 a number that stands for no setting, 31 to 49 those
+    /// comes before the one in front of it, 29 and 30 a number that means no setting, 31 to 49 those
     /// of a recording. Else 0.
     pub fault: usize,
     /// The line of the fault, from 1, or the index of its edge; or 0.
@@ -86,7 +86,7 @@ pub fn refused(fault: usize, place: usize) -> Answer
     }
 }
 
-/// What is told, as numbers.
+/// The answer, as numbers.
 pub fn numbered(told: Told) -> Answer
     ensures { result ≡ answer_of told }
 {
@@ -141,6 +141,11 @@ fn numbers_of_capture(fault: CaptureFault) -> (usize, usize)
         CaptureFault::Unknown(line) => (47, line),
         CaptureFault::Floating(line) => (48, line),
         CaptureFault::BadLevel(line) => (49, line),
+        CaptureFault::BadTimescale(line) => (70, line),
+        CaptureFault::NoTime(line) => (71, line),
+        CaptureFault::WideText => (72, 1),
+        CaptureFault::Archive => (73, 1),
+        CaptureFault::TwoSignals(line, wire) => (74 + number_of_wire(wire), line),
         CaptureFault::NoMemory => (0, 0),
     }
 }

@@ -145,7 +145,7 @@ pub extern "C" fn print1525_explain_stop(
 /// lawful: the text and the place of [`pr_explain::explain_trace`]. 0, and no text, where it is not
 /// refused.
 ///
-/// The trace is passed as to [`crate::print1525_readings`]. It is refused where a number stands for
+/// The trace is passed as to [`crate::print1525_readings`]. It is refused where a number means
 /// no format of a recording, where memory was refused, and where the text has more bytes than the
 /// buffer has room for. The buffer is then as it was.
 #[unsafe(no_mangle)]

@@ -49,7 +49,7 @@ fn reprint(
 /// and `start` is the microsecond at which the recording starts.
 ///
 /// It is refused with the faults of [`pr_recording::decode_over`] but for reads and writes, for a
-/// number that stands for no format, and where the text has more bytes than the buffer has room
+/// number that means no format, and where the text has more bytes than the buffer has room
 /// for, with their number. Of a recording that cannot be read to its end, the text of what comes
 /// before the fault is in the buffer, with code 2. With every other refusal the buffer is as it
 /// was.
@@ -103,6 +103,6 @@ pub extern "C" fn print1525_reprint(
         return;
     };
     let input = input_for(source, atn, clock, line, inverted != 0, start);
-    let format = page_format_for(picture != 0);
+    let format = page_format_for(picture);
     *answer = numbered(reprint(alloc, bytes, input, format, out));
 }

@@ -1,4 +1,4 @@
-//! What the numbers and bytes that the page passes stand for.
+//! What the numbers and bytes that the page passes mean.
 
 ghost use Rattle.std.specs.Prelude.{◌≡◌};
 ghost use Rattle.pr_web.specs.Settings.{IsInput, mode_of, page_format_of, source_of, stop_of};
@@ -6,7 +6,7 @@ ghost use Rattle.pr_web.specs.Settings.{IsInput, mode_of, page_format_of, source
 use pr_basic::StatusMode;
 use pr_capture::{Signals, Source, TraceInput};
 use pr_channels::Stop;
-use pr_render::Format;
+use pr_render::{Format, Part};
 
 /// The format of a recording: 0 a trace text, 1 a Value Change Dump, 2 a table of comma separated values.
 pub fn source_for(number: u8) -> Option<Source>
@@ -45,18 +45,20 @@ pub fn mode_for(is_kept: bool) -> StatusMode
     }
 }
 
-/// The format of pages: lines of 80 columns, or an SVG document.
-pub fn page_format_for(is_picture: bool) -> Format
-    ensures { result ≡ page_format_of is_picture }
+/// The format of pages: 0 lines of 80 columns, 2 the first sheet as a PNG file, 3 a PDF document, another number an SVG
+/// document.
+pub fn page_format_for(picture: u8) -> Format
+    ensures { result ≡ page_format_of picture }
 {
-    if is_picture {
-        Format::Picture
-    } else {
-        Format::Lines
+    match picture {
+        0 => Format::Lines,
+        2 => Format::Png(Part::whole()),
+        3 => Format::Pdf(None),
+        _ => Format::Svg(Part::whole()),
     }
 }
 
-/// A recording with these names of its signals, of levels as they stand or inverted, which starts at this
+/// A recording with these names of its signals, of levels as they are or inverted, which starts at this
 /// microsecond.
 pub fn input_for<'a>(
     source: Source,

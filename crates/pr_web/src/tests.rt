@@ -8,7 +8,7 @@ use std::alloc::Global;
 /// The names of the lines of the bus.
 const NAMES: (&[u8], &[u8], &[u8]) = (b"ATN", b"CLOCK", b"DATA");
 
-/// What stands before a call.
+/// What comes before a call.
 const NOTHING: Answer = Answer {
     code: 7,
     fault: 7,

@@ -37,7 +37,7 @@ digits_with t (d ∷ ds) rest all small =
     let one : part_after (Time t) d ≡ Time (10 * t + (d - 48)) = rw (digit_no_space d first) (digit_more t d first (omega (arith, grows (10 * t + (d - 48)) ds))) in
     ap (λ p. part_with p (ds ++ rest)) one ∙ digits_with (10 * t + (d - 48)) ds rest more small
 
--- the levels behind a time, and the line's end
+-- the levels after a time, and the line's end
 levels_with_end : (e : Edge) (end : Return) → edge_of_part (part_with (Time e.time) (levels_text e ++ return_text end)) ≡ Some e
 levels_with_end e WithReturn = rw (level_read e.levels.atn, level_read e.levels.clock, level_read e.levels.line) refl
 levels_with_end e Without = rw (level_read e.levels.atn, level_read e.levels.clock, level_read e.levels.line) refl
@@ -57,7 +57,7 @@ line_part line e h = rw h.spelled (by h.digits h.some h.all h.time h.small)
         ap edge_of_part (ap (λ p. part_with p (ds ++ rest)) one ∙ (digits_with (10 * 0 + (d - 48)) ds rest more (omega arith) ∙ ap (λ t. part_with (Time t) rest) time))
         ∙ levels_with_end e h.end
 
--- digits behind a time, its levels and the line's end
+-- digits after a time, its levels and the line's end
 record IsTimed (t : ℕ) (line : List ℕ) (e : Edge) : Type 0 where
   digits : List ℕ
   all : list_all is_digit digits ≡ true

@@ -24,15 +24,15 @@ inner_more (x ∷ xs) b h e =
     let rest : list_all is_inner xs ≡ true = grind (arith, common_steps) in
     rw (first, inner_more xs b rest e) refl
 
--- the first byte of inner bytes, and those behind it
+-- the first byte of inner bytes, and those after it
 first_inner : (b : ℕ) (bs : List ℕ) → list_all is_inner (b ∷ bs) ≡ true → (b == 10) ≡ false
 first_inner b bs h = grind (arith, common_steps)
 
--- the bytes behind the first of inner bytes are inner bytes
+-- the bytes after the first of inner bytes are inner bytes
 rest_inner : (b : ℕ) (bs : List ℕ) → list_all is_inner (b ∷ bs) ≡ true → list_all is_inner bs ≡ true
 rest_inner b bs h = grind (arith, common_steps)
 
--- inner bytes stand on one line, up to its end or the text's
+-- inner bytes are on one line, up to its end or the text's
 inner_line : (line more : List ℕ) → list_all is_inner line ≡ true → lines_of (line ++ 10 ∷ more) ≡ line ∷ lines_of more
 inner_line [] more h = at_end more
 inner_line (b ∷ bs) more h = on_line b (bs ++ 10 ∷ more) bs (lines_of more) (first_inner b bs h) (inner_line bs more (rest_inner b bs h))
@@ -128,7 +128,7 @@ scanned_ends text edges part n s =
     ap lines_of (sym (append-nil text)) ∙ (s.lines [] ∙ (ap (λ l. s.good ++ lines_of (l ++ [])) none ∙ (ap (λ ls. s.good ++ ls) no_line ∙ append-nil s.good))) in
     subst (λ ls. AreEdgeLines ls edges) (sym lines) s.are_edges
 
--- a line's end behind a line that lacks it makes no other lines
+-- a line's end after a line that lacks it makes no other lines
 pub scanned_same_lines : (text : List ℕ) (edges : List Edge) (part : LinePart) → is_nothing part ≡ false → IsScanned text edges part
     → lines_of (text ++ 10 ∷ []) ≡ lines_of text
 scanned_same_lines text edges part n s =

@@ -39,7 +39,7 @@ lines_once (l ∷ ls) (e ∷ es) (f ∷ fs) h k = rw (line_once l e f h.0 k.0, l
 pub text_once : (text : List ℕ) (es fs : List Edge) → IsTraceText text es → IsTraceText text fs → es ≡ fs
 text_once text es fs h k = lines_once (lines_of text) es fs h k
 
--- a bad line spells no edge, whatever stands before it
+-- a bad line spells no edge, whatever comes before it
 none_with_bad : (good : List (List ℕ)) (bad : List ℕ) (more : List (List ℕ)) (es : List Edge) → ((e : Edge) → IsEdgeLine bad e → ⊥) → AreEdgeLines (good ++ bad ∷ more) es → ⊥
 none_with_bad [] bad more [] none h = h
 none_with_bad [] bad more (e ∷ es) none h = none e h.0
@@ -83,7 +83,7 @@ says_once text es fs (Some m) (Some n) h k =
 one_more : (e f : Edge) (fs es later : List Edge) → e ≡ f → fs ≡ es ++ later → f ∷ fs ≡ (e ∷ es) ++ later
 one_more e f fs es later a b = rw (a, b) refl
 
--- behind good lines come edges behind theirs
+-- after good lines come edges after theirs
 lines_behind : (good ls : List (List ℕ)) (given all : List Edge) → AreEdgeLines good given → AreEdgeLines (good ++ ls) all → (later : List Edge) × (all ≡ given ++ later)
 lines_behind [] ls [] all g h = (all, refl)
 lines_behind [] ls (e ∷ es) all g h = absurd g
@@ -93,7 +93,7 @@ lines_behind (k ∷ ks) ls (e ∷ es) (f ∷ fs) g h =
     let more = lines_behind ks ls es fs g.1 h.1 in
     (more.0, one_more e f fs es more.0 (line_once k e f g.0 h.0) more.1)
 
--- behind good lines stands the first bad one
+-- after good lines is the first bad one
 bad_behind : (good ls h : List (List ℕ)) (b : List ℕ) (m : List (List ℕ)) (given all : List Edge) → AreEdgeLines good given → AreEdgeLines h all
     → ((e : Edge) → IsEdgeLine b e → ⊥) → good ++ ls ≡ h ++ b ∷ m → (later : List Edge) × (all ≡ given ++ later)
 bad_behind [] ls h b m [] all ge he bad is = (all, refl)
@@ -140,7 +140,7 @@ says_some text = by (said (lines_of text))
         let first : IsFirstBad (length good + 1) text = record { good = good; edges = edges; bad = bad; more = more; lines = lines; are_edges = are; is_bad = none; number = refl } in
         (edges, Some (length good + 1), (first, refl))
 
--- what was read of a text: so many good lines, and what is left
+-- what was read of a text: this many good lines, and what is left
 pub record HasRead (text rest : List ℕ) (edges : List Edge) : Type 0 where
   pub good : List (List ℕ)
   pub lines : lines_of text ≡ good ++ lines_of rest
@@ -239,12 +239,12 @@ decimal_three n lo hi =
     let d : n % 10 ≡ n % 1000 % 10 = omega arith in
     decimal_step n (omega arith) hi ∙ (ap (λ v. v ++ (48 + n % 10) ∷ []) (decimal_step (n / 10) (omega arith) (omega arith) ∙ ap (λ v. v ++ (48 + n / 10 % 10) ∷ []) (decimal_step (n / 10 / 10) (omega arith) (omega arith))) ∙ rw (append_assoc, append_assoc, a, b, c, d) refl)
 
--- a line behind what was written: its time, and then the rest
+-- a line after what was written: its time, and then the rest
 pub written_short : (old mid : List ℕ) (e : Edge) → mid ≡ old ++ decimal e.time → old ++ edge_text e ≡ mid ++ levels_line e.levels
 unfolding edge_text
 written_short old mid e h = sym (ap (λ v. v ++ levels_line e.levels) h ∙ append_assoc old (decimal e.time) (levels_line e.levels))
 
--- the same, where the time's last three digits stand with the rest
+-- the same, where the time's last three digits are with the rest
 pub written_long : (old mid : List ℕ) (e : Edge) → 1000 ≤ e.time → e.time < 2 ^ 64 → mid ≡ old ++ decimal (e.time / 1000)
     → old ++ edge_text e ≡ mid ++ (three_digits (e.time % 1000) ++ levels_line e.levels)
 unfolding edge_text

@@ -54,7 +54,7 @@ pub record Pulled (s : ByteRole) (eoi : Bool) (c : ℕ) (es : List Edge) (fs : L
   pub frames : fs ≡ frame_of s eoi (levels_of bits) ∷ frames_after
   pub goes : Acked s (byte_of (levels_of bits)) ack tail frames_after
 
--- the rest after the pull of CLOCK that brings a bit, behind the bits seen
+-- the rest after the pull of CLOCK that brings a bit, after the bits seen
 pub record AtBit (c : ℕ) (s : ByteRole) (eoi : Bool) (seen : List Bool) (b : Bool) (es : List Edge) (fs : List Frame) : Type 0 where
   pub up : ℕ
   pub down : ℕ

@@ -49,7 +49,7 @@ pulls-after q p b before n h m = rw (lt-ltb q p (omega arith), le-ltb p (q + 1) 
 push-step : (r q p : Reached) (es : List Edge) (e : Edge) → reached r es ≡ Ok q → one_more q e ≡ Ok p → reached r (es ++ e ∷ []) ≡ Ok p
 push-step r q p es e h k = reached-append es r e ∙ (ap (λ v. led (λ x. one_more x e) v) h ∙ k)
 
--- edges behind others
+-- edges after others
 pub reached-both : (es fs : List Edge) (r : Reached) → reached r (es ++ fs) ≡ led (λ q. reached q fs) (reached r es)
 reached-both [] fs r = refl
 reached-both (e ∷ es) fs r = by (step_of r.last r.place r.count e) (λ s. reached-both es fs (onto r e s))
@@ -59,7 +59,7 @@ reached-both (e ∷ es) fs r = by (step_of r.last r.place r.count e) (λ s. reac
     by (Ok s) k = k s
     by (Err w) k = refl
 
--- one edge behind another, by their levels
+-- one edge after another, by their levels
 pub record AreEdges (old : Edge) (x c l : Bool) (new : Edge) (y d m : Bool) : Type 0 where
   pub old_is : old ≡ edge_at old.time x c l
   pub new_is : new ≡ edge_at new.time y d m
@@ -119,7 +119,7 @@ opens-answered old s last look free pulse release pull before n d b o k =
     (behind-both (After release.time) (Bit pull.time Data true [] pull.levels.line) true true true true false pull.levels.line release pull before (n + 1 + 1 + 1 + 1) (record { old_is = q; new_is = z })
     (pulls-after release.time pull.time pull.levels.line before (n + 1 + 1 + 1 + 1) k.pulls.from k.pulls.to))
 
--- edges behind others come by no frame more
+-- edges after others come by no frame more
 both-same : (es fs : List Edge) (r q : Reached) → reached r es ≡ Ok q → MatchResult (reached q fs) (λ p. p.before ≡ r.before) (λ _. ⊥) → MatchResult (reached r (es ++ fs)) (λ p. p.before ≡ r.before) (λ _. ⊥)
 both-same es fs r q h k = rw (reached-both es fs r, h) k
 

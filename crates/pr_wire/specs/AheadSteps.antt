@@ -37,7 +37,7 @@ pub record IsAcknowledged (pull ack : Edge) : Type 0 where
   pub from : pull.time + 1 ≤ ack.time
   pub to : ack.time ≤ pull.time + 80
 
--- the first 17 edges behind a pull of CLOCK that brings a first bit send and acknowledge this byte, the last of them ending the frame
+-- the first 17 edges after a pull of CLOCK that brings a first bit send and acknowledge this byte, the last of them ending the frame
 pub record BringsByte (pull : Edge) (edges : List Edge) (byte : ℕ) : Type 0 where
   pub leads : (s : ByteRole) (eoi : Bool) (before : List Frame) (count : ℕ) → atn_of s ≡ pull.levels.atn
       → let ack : Edge = last_of edges 17 in
@@ -55,7 +55,7 @@ pub record IsEdgeIn (edge : Edge) (levels : Levels) (since least greatest : ℕ)
   pub from : since + least ≤ edge.time
   pub to : edge.time ≤ since + greatest
 
--- a frame begins behind a pull of CLOCK: CLOCK is released for it in time, and then DATA
+-- a frame begins after a pull of CLOCK: CLOCK is released for it in time, and then DATA
 pub record IsBegunBy (last : Edge) (s : Start) (look free : Edge) : Type 0 where
   pub later : last.time < look.time
   pub clock : last.levels.clock ≡ false
@@ -81,7 +81,7 @@ Begins p s =
     → IsEdgeIn look (record { atn = atn_of s.sending; clock = true; line = false }) s.since s.least s.greatest
     → one_more (behind last p before n) look ≡ Ok (behind look (Ready look.time s.sending) before (n + 1))
 
--- from any place where a frame may begin so, so many edges lead to its acknowledgement, the last of them
+-- from any place where a frame may begin so, this many edges lead to its acknowledgement, the last of them
 pub record PassesTo (last : Edge) (s : Start) (edges : List Edge) (len : ℕ) (a : Ahead) : Type 0 where
   pub passes : (old : BusState) → Begins old s
       → PassesFrame last old edges len (Ack (last_of edges len).time s.sending a.byte)

@@ -12,7 +12,7 @@ use Rattle.pr_wire.specs.Pieces.{Spells}
 use Rattle.pr_wire.specs.Table.{fault_of}
 use Rattle.pr_wire.specs.TraceText.{IsFirstBad, IsTraceText}
 
--- the frames, with the one that an edge ends behind them, if it ends one
+-- the frames, with the one that an edge ends after them, if it ends one
 abbrev pub with_frame : List Frame → Option Frame → List Frame
 with_frame fs None = fs
 with_frame fs (Some f) = fs ++ f ∷ []

@@ -5,7 +5,7 @@ use Rattle.pr_wire.specs.AheadSteps.{answered_edges}
 use Rattle.pr_wire.specs.TraceText.{AreEdgeLines}
 use Rattle.pr_base.specs.Lines.{lines_of}
 
--- the first lines of a text spell these edges, whatever stands behind them; there is room for those of a frame
+-- the first lines of a text spell these edges, whatever is after them; there is room for those of a frame
 pub record AreFirstLines (text : List ℕ) (f : FirstLines) : Type 0 where
   pub room : length f.edges ≡ answered_edges
   pub good : List (List ℕ)

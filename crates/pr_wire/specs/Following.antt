@@ -68,7 +68,7 @@ Moves f edge result new =
 abbrev pub LeadBy : (edges : List Edge) → (frames : List Frame) → Type 0
 LeadBy edges frames = MatchResult (reached begin edges) (λ r. r.before ≡ reverse frames) (λ _. ⊥)
 
--- so many edges in front are accepted at once, and the last of them alone ends a frame, this one
+-- this many edges in front are accepted at once, and the last of them alone ends a frame, this one
 pub record TakesFrame (old : TraceFollower) (edges : List Edge) (n : ℕ) (frame : Frame)
     (new : TraceFollower) : Type 0 where
   pub some : 0 < n

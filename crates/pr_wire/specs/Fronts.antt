@@ -10,12 +10,12 @@ word_at text i =
     (slice_index_or text i 0 ∷ slice_index_or text (i + 1) 0 ∷ slice_index_or text (i + 2) 0
     ∷ slice_index_or text (i + 3) 0 ∷ [])
 
--- so many digits stand in front, and spell these thousands
+-- this many digits are in front, and spell these thousands
 pub record SpellsThousands (text : List ℕ) (len time : ℕ) : Type 0 where
   pub digits : (i : ℕ) → i < len → is_digit (slice_index_or text i 0) ≡ true
   pub number : 1000 * number_after 0 (take len text) ≡ time
 
--- from 4 to 8 digits, by the first four and the last four, spell these thousands wherever they stand in front
+-- from 4 to 8 digits, by the first four and the last four, spell these thousands wherever they are in front
 pub record IsFront (len first last time : ℕ) : Type 0 where
   pub least : 4 ≤ len
   pub greatest : len ≤ 8

@@ -33,7 +33,7 @@ abbrev pub indexed : ℕ → Result Step EdgeError → Result Step WaveFault
 indexed n (Ok s) = Ok s
 indexed n (Err f) = Err (fault_at f n)
 
--- what an edge comes to behind the last one, with its index
+-- what an edge comes to after the last one, with its index
 abbrev pub step_of : Option Edge → BusState → ℕ → Edge → Result Step WaveFault
 step_of None p n e = first_step e
 step_of (Some last) p n e = indexed n (verdict last p e)
@@ -61,12 +61,12 @@ abbrev pub reached : Reached → List Edge → Result Reached WaveFault
 reached r [] = Ok r
 reached r (e ∷ es) = led (λ s. reached (onto r e s) es) (step_of r.last r.place r.count e)
 
--- a trace may end behind the last edge, in the place reached; none ends before its first edge
+-- a trace may end after the last edge, in the place reached; none ends before its first edge
 abbrev pub may_stop : Option Edge → BusState → Bool
 may_stop None p = false
 may_stop (Some last) p = may_end p
 
--- the fault of a list that ends behind its last edge, in the place reached, and has so many edges
+-- the fault of a list that ends after its last edge, in the place reached, and has this many edges
 abbrev pub fault_at_stop : Option Edge → BusState → ℕ → Option WaveFault
 fault_at_stop None p n = Some (Start 0)
 fault_at_stop (Some last) p n = if may_end p then None else Some (Truncated n)
@@ -76,7 +76,7 @@ abbrev pub fault_by : Result Reached WaveFault → Option WaveFault
 fault_by (Err w) = Some w
 fault_by (Ok r) = fault_at_stop r.last r.place r.count
 
--- the edges are whole lawful pieces behind what stands there, and spell the frames
+-- the edges are whole lawful pieces after what is there, and spell the frames
 pub record Onwards (b : Between) (es : List Edge) (fs : List Frame) : Type 0 where
   pub pieces : List Piece
   pub lawful : AreLawful b pieces

@@ -4,7 +4,7 @@
 /// UNLISTEN, with both printers present and typical delays: 110 edges as trace text, four lines
 /// of it to a line here. It spells the frames command 36, data 72, data 73, data 13 with
 /// end-or-identify and command 63, which end with edges 22, 43, 63, 85 and 106. Tests of several
-/// crates stand on it.
+/// crates build on it.
 pub const TRACE_TEXT: &str = "\
     0 111\n100 001\n200 000\n1100 010\n\
     1150 011\n1190 000\n1260 010\n1280 000\n\

@@ -8,7 +8,7 @@ use crate::ahead::ANSWERED_EDGES;
 use crate::time_prefix::{TimePrefix, read_next};
 use crate::{Edge, Levels};
 
-/// The edges of the first lines of a text, so many, at most those of a frame; and how long these
+/// The edges of the first lines of a text, this many, at most those of a frame; and how long these
 /// lines are with their ends, in bytes.
 #[derive(Drop)]
 pub struct FirstLines {
@@ -39,7 +39,7 @@ impl FirstLines {
         }
     }
 
-    /// Reads on until there are `count` lines, and tells whether there are: each spells an edge and
+    /// Reads on until there are `count` lines, and returns whether there are: each spells an edge and
     /// ends with byte 10 alone.
     pub fn read_to(&mut self, text: &[u8], count: usize) -> bool
         // the caller's part

@@ -144,7 +144,7 @@ impl TraceFollower {
         }
     }
 
-    /// Takes so many edges at once, the last of them being known. The state has gone over them.
+    /// Takes this many edges at once, the last of them being known. The state has gone over them.
     #[inline(always)]
     fn accept(&mut self, last: Edge, len: usize)
         requires room { self.old.taken + len < 2 ^ 64 }

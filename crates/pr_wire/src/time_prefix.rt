@@ -13,10 +13,10 @@ const LEAST: usize = 4;
 const MOST: usize = 8;
 
 /// The most bytes of a line that begins with a front: three digits, a space, the levels and byte 10
-/// stand behind it.
+/// stand after it.
 const MOST_LEN: usize = 16;
 
-/// How many bytes of a line stand behind a front.
+/// How many bytes of a line are after a front.
 const TAIL_LEN: usize = 8;
 
 /// What the lines have in common whose times share all digits but the last three.

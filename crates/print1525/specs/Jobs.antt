@@ -14,7 +14,7 @@ use Rattle.pr_options.specs.declared.command_line.Job.TheVariants.{Pages, Bus, C
 use Rattle.pr_cli.specs.declared.fault.CliFault.{CliFault}
 use Rattle.pr_cli.specs.declared.pages.Ending.{Ending}
 use Rattle.pr_cli.specs.declared.pages.Ending.TheVariants.{Done, Stopped}
-use Rattle.pr_cli.specs.Pages.{AnswersPages, IsRunFault, ReadsToEnd, WritesNothing, start_of}
+use Rattle.pr_cli.specs.Pages.{AnswersPages, IsPagesFault, IsRunFault, ReadsToEnd, WritesNothing, start_of}
 use Rattle.pr_cli.specs.Bus.{AnswersBus, WritesNoEdge}
 use Rattle.pr_cli.specs.Check.{AnswersCheck, trace_limit}
 use Rattle.pr_cli.specs.Report.{AnswersReport, IsReportFault, WritesNoReport}
@@ -46,8 +46,9 @@ IsDone answers (Ok Done) = answers (Ok tt)
 IsDone answers (Ok Stopped) = ⊥
 IsDone answers (Err fault) = answers (Err fault)
 
--- the answer of a job, by the input's bytes and what the writer held before and after; the bytes of a
--- run are a script's text, also where the listing has another form
+-- the answer of a job, by the input's bytes and by what the writer held before and after; for a run
+-- they are the bytes of a script text, also where the listing has another form; the format of a
+-- recording is the input's, also where it was found in the first bytes
 abbrev pub AnswersJob :
     Job → List ℕ → Option (List ℕ) → Option (List ℕ) → Result Ending CliFault → Type 0
 AnswersJob (Pages form present delays mode f) text old new result =
@@ -56,18 +57,23 @@ AnswersJob (Bus form present delays mode f) text old new result =
     AnswersBus (start_of present delays mode) f text old new result
 AnswersJob (Check input r) text old new result =
     IsDone (AnswersTrace input input.source r text old new) result
-AnswersJob (Decode input f) text old new result =
+AnswersJob (Decode is_found input f) text old new result =
     IsDone (AnswersRecording input f text old new) result
 AnswersJob (Raw lower f) text old new result = IsDone (AnswersRaw lower f text old new) result
 
 -- Whatever the reader gives.
 
--- a fault of the job: want of memory always as itself
+-- a fault of a recording, and of its pages where they are asked for
+abbrev pub IsRecordingFault : Format → CliFault → Type 0
+IsRecordingFault format.List fault = IsDecodeFault fault
+IsRecordingFault f fault = reprint.IsReprintFault fault
+
+-- a fault of the job; want of memory is always `NoMemory` itself
 abbrev pub IsJobFault : Job → CliFault → Type 0
-IsJobFault (Pages form present delays mode f) fault = IsRunFault fault
+IsJobFault (Pages form present delays mode f) fault = IsPagesFault fault
 IsJobFault (Bus form present delays mode f) fault = IsRunFault fault
 IsJobFault (Check input r) fault = IsReportFault fault
-IsJobFault (Decode input f) fault = IsDecodeFault fault
+IsJobFault (Decode is_found input f) fault = IsRecordingFault f fault
 IsJobFault (Raw lower f) fault = IsRawFault fault
 
 -- the input has been read to its end, unless the job's subcommand ends earlier
@@ -75,7 +81,7 @@ abbrev pub ReadsInput : Job → Option (List ℕ) → Result Ending CliFault →
 ReadsInput (Pages form present delays mode f) left result = ReadsToEnd left result
 ReadsInput (Bus form present delays mode f) left result = ReadsToEnd left result
 ReadsInput (Check input r) left result = IsDone (check.ReadsAll r left) result
-ReadsInput (Decode input f) left result = IsDone (decode.ReadsAll left) result
+ReadsInput (Decode is_found input f) left result = IsDone (decode.ReadsAll left) result
 ReadsInput (Raw lower f) left result = ReadsToEnd left result
 
 -- a refusal leaves the writer's bytes as they were, unless the job's subcommand writes while it reads
@@ -83,5 +89,5 @@ abbrev pub KeepsOutput : Job → Option (List ℕ) → Option (List ℕ) → Res
 KeepsOutput (Pages form present delays mode f) old new result = WritesNothing old new result
 KeepsOutput (Bus form present delays mode f) old new result = WritesNoEdge old new result
 KeepsOutput (Check input r) old new result = IsDone (WritesNoReport r old new) result
-KeepsOutput (Decode input f) old new result = Unit {0}
+KeepsOutput (Decode is_found input f) old new result = Unit {0}
 KeepsOutput (Raw lower f) old new result = WritesNothing old new result

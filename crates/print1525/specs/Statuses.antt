@@ -8,7 +8,7 @@ use Rattle.pr_listing.specs.declared.input.TextFault.TheVariants as listing
 use Rattle.pr_options.specs.declared.command_line.JobFault.{JobFault}
 use Rattle.pr_options.specs.declared.command_line.JobFault.TheVariants as job
 use Rattle.pr_cli.specs.declared.fault.CliFault.{CliFault}
-use Rattle.pr_cli.specs.declared.fault.CliFault.TheVariants.{Script, Trace, Wave, Capture, TooLarge, NoMemory, ReadFailed, WriteFailed}
+use Rattle.pr_cli.specs.declared.fault.CliFault.TheVariants.{Script, Trace, Wave, Capture, Picture, TooLarge, NoMemory, ReadFailed, WriteFailed}
 use Rattle.pr_cli.specs.declared.pages.Ending.{Ending}
 use Rattle.pr_cli.specs.declared.pages.Ending.TheVariants.{Done, Stopped}
 
@@ -23,6 +23,7 @@ fault_status (Script fault) = 2
 fault_status (Trace fault) = 2
 fault_status (Wave fault) = 2
 fault_status (Capture fault) = 2
+fault_status (Picture fault) = 2
 fault_status TooLarge = 2
 fault_status NoMemory = 3
 fault_status ReadFailed = 3

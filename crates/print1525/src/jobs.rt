@@ -4,8 +4,7 @@ ghost use Rattle.std.specs.Prelude.{◌≡◌, ◌↔◌, false, true, IfErr, If
 ghost use Rattle.pr_cli.specs.Report.{IsReportFault, ReadsAll, WritesNoReport};
 ghost use Rattle.pr_input.specs.Watched.{has_failed, wrapped};
 ghost use Rattle.pr_recording.specs.Decoded as decode;
-ghost use Rattle.pr_recording.specs.Decoded.{IsDecodeFault};
-ghost use Rattle.print1525.specs.Jobs.{AnswersJob, AnswersRecording, AnswersTrace, IsJobFault, KeepsOutput, ReadsInput};
+ghost use Rattle.print1525.specs.Jobs.{AnswersJob, AnswersRecording, AnswersTrace, IsJobFault, IsRecordingFault, KeepsOutput, ReadsInput};
 
 use pr_capture::{Source, TraceInput};
 use pr_cli::{
@@ -19,11 +18,11 @@ use std::alloc::Global;
 use std::io::{Read, Write};
 
 /// Does a job: reads the input and writes what the job's own fields ask for. The input of `pages` and
-/// `bus` is a script's text, whatever form the listing has: `main` gives the text of a listing in
-/// another form.
+/// `bus` is a script's text, whatever form the listing has: `answers` gives the text of a listing in
+/// another form. So it gives the format of a recording where it is to be found.
 ///
-/// It takes the whole [`Job`]: `main` reads only the form of a listing from it, so every use of a
-/// format, a set or a delay is proved.
+/// It takes the whole [`Job`]: only the form of a listing, and whether a recording's format is to be
+/// found, is read from it elsewhere, so every use of a format, a set or a delay is proved.
 ///
 /// The answer is [`Ending::Stopped`] exactly if a BASIC error stopped the run of a script.
 ///
@@ -64,7 +63,11 @@ pub fn do_job<R: Read, W: Write>(
             check_trace(alloc, input, output, trace, report)?;
             Ok(Ending::Done)
         }
-        Job::Decode(trace, format) => {
+        Job::Decode {
+            input: trace,
+            format,
+            ..
+        } => {
             decode_recording(alloc, input, output, trace, format)?;
             Ok(Ending::Done)
         }
@@ -120,12 +123,14 @@ fn decode_recording<R: Read, W: Write>(
         (W.contents (wrapped output.old)) (W.contents (wrapped output.new)) result) }
     ensures at_end { decode.ReadsAll (R.remaining (wrapped input.new)) result }
     // when it refuses, and what that leaves
-    ensures own { IfErr result IsDecodeFault }
+    ensures own { IfErr result (IsRecordingFault format) }
     ensures read_failed { IsErrOf result CliFault.ReadFailed ↔ (has_failed input.new ≡ true) }
     ensures write_failed { IsErrOf result CliFault.WriteFailed ↔ (has_failed output.new ≡ true) }
 {
     match format {
         Format::List => decode_over(alloc, input, output, trace),
-        Format::Lines | Format::Picture => reprint_over(alloc, input, output, trace, format),
+        Format::Lines | Format::Svg(_) | Format::Png(_) | Format::Pdf(_) => reprint_over(
+            alloc, input, output, trace, format,
+        ),
     }
 }

@@ -17,8 +17,8 @@ const STOPPED: u8 = 1;
 /// The command line or the input is refused.
 pub const REFUSED: u8 = 2;
 
-/// Memory was refused, or a read or a write failed.
-const FAILED: u8 = 3;
+/// Memory was refused, or a read or a write failed, or a file cannot be opened.
+pub const FAILED: u8 = 3;
 
 /// Returns the exit status of a job that ended so. It takes no memory.
 pub fn ending_status(ending: Ending) -> u8
@@ -39,9 +39,15 @@ pub fn fault_status(fault: CliFault) -> u8
         | CliFault::Trace(_)
         | CliFault::Wave(_)
         | CliFault::Capture(_)
+        | CliFault::Picture(_)
         | CliFault::TooLarge => REFUSED,
         CliFault::NoMemory | CliFault::ReadFailed | CliFault::WriteFailed => FAILED,
     }
+}
+
+/// Whether the status is that of a job whose whole text was written.
+pub fn is_answered(status: u8) -> bool {
+    status == DONE || status == STOPPED
 }
 
 /// Returns the exit status where a listing has no text of a script. It takes no memory.

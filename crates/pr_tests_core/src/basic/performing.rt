@@ -216,7 +216,7 @@ fn state_of(channels: &Channels<Direct>) -> (u64, u8, usize, u8) {
     )
 }
 
-/// Performs a statement, and tells whether it was refused. Then the session is as before, and either the
+/// Performs a statement, and returns whether it was refused. Then the session is as before, and either the
 /// bus has failed or only the screen's list is longer. A statement that reaches a bus that has failed is
 /// refused.
 fn is_refused(
@@ -240,7 +240,7 @@ fn is_refused(
     told.is_err()
 }
 
-/// Performs a script on a new bus, and tells whether memory was refused. If none was, the bus has so many
+/// Performs a script on a new bus, and returns whether memory was refused. If none was, the bus has this many
 /// items, and the screen these bytes.
 fn is_script_refused(
     rt: &(impl Abort + AllocGlobal),

@@ -2,7 +2,7 @@
 
 use pr_basic::{basic_number, lexeme_at, line_at};
 
-/// The number of the line at a place of a text, how many bytes stand before the line, and its bytes.
+/// The number of the line at a place of a text, how many bytes come before the line, and its bytes.
 fn line(text: &[u8], place: usize) -> Option<(usize, usize, &[u8])> {
     match line_at(text, place) {
         Some(line) => Some((line.number, line.start, line.bytes)),

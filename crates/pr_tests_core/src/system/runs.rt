@@ -23,7 +23,7 @@ fn outcome_of(rt: &(impl Abort + AllocGlobal), script: &[u8]) -> Outcome {
     run(rt.alloc(), &statements, BOTH, delays, StatusMode::Each).expect(rt, "memory")
 }
 
-/// The statement behind the one that stops is not performed.
+/// The statement after the one that stops is not performed.
 #[test]
 fn run_up_to_a_stop(rt: HostRuntime) {
     let script = b"OPEN 4,4\nPRINT#4,\"HI\"\nCLOSE 4\nPRINT#9,\"A\"\nPRINT \"X\"";
@@ -151,7 +151,7 @@ fn lines_wanted(rt: &(impl Abort + Env)) -> usize {
     text.parse().expect(rt, "a number")
 }
 
-/// A script that prints so many lines of 255 letters on printer 4.
+/// A script that prints this many lines of 255 letters on printer 4.
 fn letters(rt: &(impl Abort + AllocGlobal), lines: usize) -> Vec<u8> {
     let mut line = [65; 265];
     line[..9].copy_from_slice(b"PRINT#4,\"");

@@ -14,7 +14,7 @@ use pr_system::{Running, RunningOver};
 use pr_wire::Edge;
 use std::process::Abort;
 
-/// A statement that does not stop, and what is seen behind it: the marks of printer 4, the statuses,
+/// A statement that does not stop, and what is seen after it: the marks of printer 4, the statuses,
 /// the screen, and how many edges the statement has.
 type Row = (
     &'static str,

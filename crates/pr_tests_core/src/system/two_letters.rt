@@ -71,7 +71,7 @@ pub fn is_page(paper: &Paper, marks: &[Placed]) -> bool {
 }
 
 /// Whether printer 4 printed the two letters alone and printer 5 nothing, with these statuses, this
-/// stop, these bytes on the screen and so many edges.
+/// stop, these bytes on the screen and this many edges.
 pub fn is_outcome(
     outcome: &Outcome,
     statuses: &[u8],

@@ -10,7 +10,7 @@ use pr_capture::{Signals, Source, TraceFormat, TraceInput, write_vcd};
 use pr_cli::{
     CliFault, Ending, Watched, bus_as_over, check_as_over, check_over, pages_as_over, raw_over,
 };
-use pr_render::Format;
+use pr_render::{Format, Part};
 use pr_report::Report;
 use pr_serial::Present;
 use pr_wire::example::TRACE_TEXT;
@@ -27,6 +27,12 @@ pub const NONE: Present = Present {
     four: false,
     five: false,
 };
+
+/// The picture of all pages.
+pub const SVG: Format = Format::Svg(Part {
+    device: None,
+    sheet: None,
+});
 
 /// A script that prints two letters.
 pub const HI: &str = "OPEN 4,4\nPRINT#4,\"HI\"\n";
@@ -131,7 +137,7 @@ const ROWS: [Row; 18] = [
         HI,
         Wanted::Text("Printer 4\nHI\nPrinter 5\nStatuses: 0 0.\n"),
     ),
-    (Call::Pages(BOTH, Format::Picture), HI, Wanted::Picture),
+    (Call::Pages(BOTH, SVG), HI, Wanted::Picture),
     (
         Call::Raw(Format::List),
         HI_BYTES,
@@ -142,7 +148,7 @@ const ROWS: [Row; 18] = [
         HI_BYTES,
         Wanted::Text("Printer 4\nHI\n"),
     ),
-    (Call::Raw(Format::Picture), HI_BYTES, Wanted::Sheet),
+    (Call::Raw(SVG), HI_BYTES, Wanted::Sheet),
     (Call::Bus(TraceFormat::Text), HI, Wanted::Text(TRACE_TEXT)),
     (Call::Bus(TraceFormat::Vcd), HI, Wanted::Dump),
     (Call::Check, ONE_ATTENTION, Wanted::Text(ONE_COMMAND)),

@@ -32,7 +32,7 @@ impl Read for Endless {
     }
 }
 
-/// What reads at most so many bytes.
+/// What reads at most this many bytes.
 #[derive(Clone, Copy)]
 enum Reading {
     Whole,
@@ -80,7 +80,7 @@ const ENDLESS: [(usize, usize, usize); 7] = [
     (usize::MAX, BLOCK, 2 * BLOCK),
 ];
 
-/// With this limit an endless reader is too large as soon as it has given so many bytes.
+/// With this limit an endless reader is too large as soon as it has given this many bytes.
 fn too_large(
     rt: &(impl Abort + AllocGlobal),
     reading: Reading,

@@ -1,10 +1,11 @@
 //! Pages as pictures, and the page text of an outcome.
 
-use crate::cli::calls::{BOTH, Call, HI, NONE, typical};
+use crate::cli::calls::{BOTH, Call, HI, NONE, SVG, typical};
 use pr_basic::{StatusMode, read_script};
-use pr_cli::{Ending, pages_text};
+use pr_cli::{CliFault, Ending, PictureFault, pages_text};
 use pr_page::Sequence;
-use pr_render::Format;
+use pr_png::png;
+use pr_render::{Device, Format, Part, sheet_svg};
 use pr_serial::Present;
 use pr_system::{Outcome, run};
 use std::alloc::Global;
@@ -53,7 +54,7 @@ fn only_paper(alloc: Global, outcome: Outcome) -> Outcome {
 
 /// Whether the call draws the picture of a script's outcome.
 fn is_drawn(alloc: Global, script: &str, present: Present, ending: Ending) -> bool {
-    let call = Call::Pages(present, Format::Picture);
+    let call = Call::Pages(present, SVG);
     let (answer, picture) = call.answer(alloc, script.as_bytes());
     let head = b"<svg xmlns=\"http://www.w3.org/2000/svg\" version=\"1.1\" ";
     answer == Ok(ending)
@@ -89,4 +90,60 @@ fn page_text_of_an_outcome(rt: HostRuntime) {
     let text = page_text(rt.alloc(), "OPEN 4,4\nPRINT#4,\"A\"", NONE).expect(&rt, "memory");
     let wanted = "printer 4\nprinter 5\nstatus 0 128\nscreen\nstop 5 at 2\n";
     assert!(&rt; text.as_slice() == wanted.as_bytes());
+}
+
+/// A part of the pages.
+const fn part(device: Option<Device>, sheet: Option<u64>) -> Part {
+    Part { device, sheet }
+}
+
+/// What `pages` writes of these letters of printer 5.
+fn shown(alloc: Global, format: Format) -> (Result<Ending, CliFault>, Vec<u8>) {
+    Call::Pages(BOTH, format).answer(alloc, FIVE_LETTERS.as_bytes())
+}
+
+/// A script that prints letters on printer 5.
+const FIVE_LETTERS: &str = "OPEN 5,5\nPRINT#5,\"HI\"\n";
+
+/// Printer 5 is the first that has printed; an empty sheet of printer 4 is shown where it is asked for.
+#[test]
+fn parts_of_pages(rt: HostRuntime) {
+    let alloc = rt.alloc();
+    let outcome = outcome(alloc, FIVE_LETTERS, BOTH).expect(&rt, "memory");
+    let five = Some(Device::Five);
+    let four = Some(Device::Four);
+    let printed = sheet_svg(alloc, &outcome.paper5, 0).expect(&rt, "memory");
+    let empty = sheet_svg(alloc, &outcome.paper4, 0).expect(&rt, "memory");
+    let bitmap = png(alloc, &outcome.paper5, 0).expect(&rt, "memory");
+    let blank = png(alloc, &outcome.paper4, 0).expect(&rt, "memory");
+    let all = drawn(alloc, FIVE_LETTERS, BOTH).expect(&rt, "memory");
+    for (format, wanted) in [
+        (Format::Svg(part(None, Some(1))), &printed),
+        (Format::Svg(part(five, Some(1))), &printed),
+        (Format::Svg(part(four, Some(1))), &empty),
+        (Format::Svg(part(five, None)), &all),
+        (Format::Png(part(None, None)), &bitmap),
+        (Format::Png(part(five, Some(1))), &bitmap),
+        (Format::Png(part(four, None)), &blank),
+    ] {
+        let (answer, written) = shown(alloc, format);
+        assert!(&rt; answer == Ok(Ending::Done) && written.as_slice() == wanted.as_slice());
+    }
+}
+
+/// A sheet that there is not is refused with how many there are, and nothing is written.
+#[test]
+fn sheets_that_are_not_there(rt: HostRuntime) {
+    for format in [
+        Format::Svg(part(None, Some(2))),
+        Format::Svg(part(Some(Device::Four), Some(0))),
+        Format::Png(part(None, Some(2))),
+        Format::Png(part(None, Some(0))),
+    ] {
+        let (answer, written) = shown(rt.alloc(), format);
+        let fault = CliFault::Picture(PictureFault::NoSuchSheet(1));
+        assert!(&rt; answer == Err(fault) && written.is_empty());
+        let said = format!(in rt.alloc(); "{fault}").expect(&rt, "memory");
+        assert!(&rt; said.as_str() == "no such sheet");
+    }
 }

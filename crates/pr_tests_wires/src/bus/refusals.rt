@@ -33,7 +33,7 @@ static FOUR_HEARS: [Input; 6] = [
 /// What printer 5 hears of the script.
 static FIVE_HEARS: [Input; 5] = [Select(false), Byte(2), Byte(3), Byte(4), Byte(5)];
 
-/// Behind so many items of the script: its end, the edges so far, and how many inputs printers 4 and 5 have
+/// Behind this many items of the script: its end, the edges so far, and how many inputs printers 4 and 5 have
 /// heard.
 ///
 /// The look takes 1100 and each frame of an attention 830, a second look 1000 more, ATN's release 100; a
@@ -56,7 +56,7 @@ fn bus_of_both(rt: &(impl Abort + AllocGlobal)) -> Wires {
     }
 }
 
-/// Whether the bus shows what came of so many items of the script, and no more.
+/// Whether the bus shows what came of this many items of the script, and no more.
 fn shows(bus: &Wires, answered: usize) -> bool {
     let Some(&(end, edges, four, five)) = SHOWN.get(answered) else {
         return false;
@@ -89,7 +89,7 @@ fn items_answered(rt: &impl Abort, bus: &mut Wires) -> usize {
     answered
 }
 
-/// Whether so many items of two runs may be answered. Since one growth at most is refused, one run at least
+/// Whether this many items of two runs may be answered. Since one growth at most is refused, one run at least
 /// is answered whole, and both where none may be.
 fn may_be_answered(rt: &impl Env, answered: usize, again: usize) -> bool {
     let is_first_whole = answered == SCRIPT.len();

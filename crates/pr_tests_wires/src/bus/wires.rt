@@ -42,7 +42,7 @@ type Step = (Item, bool, u64);
 struct Part {
     steps: &'static [Step],
     edges: usize,
-    /// Stretches of these edges as text, each behind the number of its first.
+    /// Stretches of these edges as text, each after the number of its first.
     trace: &'static [(usize, &'static str)],
     /// What printer 4 hears.
     four: &'static [Input],
@@ -72,7 +72,7 @@ const TWO_LETTERS: [Step; 5] = [
     (UNLISTEN, true, 7270),
 ];
 
-/// LISTEN to printer 5 with only printer 4 present, as trace text, behind the start.
+/// LISTEN to printer 5 with only printer 4 present, as trace text, after the start.
 const LISTEN_TO_ANOTHER: &str = "\
     100 001\n200 000\n1100 010\n\
     1150 011\n1190 001\n1260 011\n1280 000\n\
@@ -82,10 +82,10 @@ const LISTEN_TO_ANOTHER: &str = "\
     1890 010\n1910 001\n1930 000\n2030 100\n\
 ";
 
-/// The byte dropped behind it.
+/// The byte dropped after it.
 const DROPPED: &str = "2050 101\n2130 111\n";
 
-/// The UNLISTEN behind two such bytes.
+/// The UNLISTEN after two such bytes.
 const UNLISTEN_AT_REST: &str = "\
     2330 001\n2430 000\n3330 010\n3380 011\n\
     3420 001\n3490 011\n3510 001\n3580 011\n\
@@ -96,7 +96,7 @@ const UNLISTEN_AT_REST: &str = "\
     4360 111\n\
 ";
 
-/// LISTEN to printer 4. The wait before ATN is 1000, the look 1999 behind it, the answer 10.
+/// LISTEN to printer 4. The wait before ATN is 1000, the look 1999 after it, the answer 10.
 const CHOSEN: &str = "\
     0 111\n1000 001\n1010 000\n2999 010\n\
     3049 011\n3089 000\n3159 010\n3179 000\n\
@@ -548,7 +548,7 @@ fn keeps(rt: &(impl Abort + AllocGlobal), bus: &Wires, part: &Part) -> bool {
     is_well
 }
 
-/// Forgets, whereupon the bus keeps nothing, and the mark stands behind the items sent.
+/// Forgets, whereupon the bus keeps nothing, and the mark is after the items sent.
 fn forgets(bus: &mut Wires) -> bool {
     let items = bus.items();
     bus.forget();
@@ -558,7 +558,7 @@ fn forgets(bus: &mut Wires) -> bool {
         && bus.heard(5).is_empty()
 }
 
-/// Whether the receivers of the printers that are there have taken so many edges.
+/// Whether the receivers of the printers that are there have taken this many edges.
 fn take_all(bus: &Wires, present: Present, edges: usize) -> bool {
     taken(bus, 4) == present.four.then_some(edges) && taken(bus, 5) == present.five.then_some(edges)
 }

@@ -14,7 +14,7 @@ const fn edge(time: u64, atn: bool, clock: bool, line: bool) -> Edge {
 }
 
 /// Calls a printer that does not answer, and then pulls DATA. Gives the frame of the call, whether a
-/// trace may end behind the call and behind its end, and the fault of the last edge.
+/// trace may end after the call and after its end, and the fault of the last edge.
 fn unanswered_call() -> Result<(Option<Frame>, bool, bool, Option<WaveFault>), EdgeError> {
     let called = edge(100, false, false, true);
     let released = edge(1100, true, true, true);

@@ -75,7 +75,7 @@ fn keep(edges: &mut Vec<Edge>, edge: Option<Edge>) -> Result<(), TraceFault> {
     Ok(())
 }
 
-/// Reads a text that comes in blocks of so many bytes, and keeps its edges.
+/// Reads a text that comes in blocks of this many bytes, and keeps its edges.
 fn read_blocks(
     rt: &impl Abort,
     text: &[u8],

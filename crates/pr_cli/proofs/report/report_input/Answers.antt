@@ -1,5 +1,6 @@
 use Rattle.std.proofs.Common.{◌≡◌, ap, arith, false, length, refl, rules, true}
-use Rattle.pr_cli.specs.Inputs.{StopsWell, edges_read}
+use Rattle.pr_cli.specs.Inputs.{edges_read}
+use Rattle.pr_cli.specs.InputReads.{StopsWell}
 use Rattle.pr_cli.specs.Reported.{HasReported, ReportsMore}
 use Rattle.pr_cli.proofs.InputLemmas.{all_taken, before_taken}
 use Rattle.pr_cli.proofs.ReportLemmas.{ends_well, gives_none}

@@ -1,5 +1,6 @@
 use Rattle.std.proofs.Common.{◌≡◌, ◌+◌, ◌<◌, ◌≤◌, false, length, None}
-use Rattle.pr_cli.specs.Inputs.{HasTakenAll, bytes_left, fault_read, lines_ahead}
+use Rattle.pr_cli.specs.Inputs.{bytes_left, fault_read, lines_ahead}
+use Rattle.pr_cli.specs.EdgesTaken.{HasTakenAll}
 use Rattle.pr_cli.specs.Reported.{HasReported, edges_taken}
 use Rattle.pr_cli.proofs.report.report_input.Given as goal
 

@@ -12,4 +12,4 @@ returns-in-Ok c = λ none edges h. none_at_end c.args.is_whole edges c.args.foll
 pub returns-in-Err : goal.returns-in-Err
 returns-in-Err c = λ none edges h.
     stops_at_end c.args.is_whole edges c.args.followed.now c.finish.result c.in-Err.fault c.rows_after-expected.result _ c.allowed_traces.ensures.allowed (grind (arith, common_steps)) c.in-Err.is none h c.finish.ensures.fault
-    c.rows_after-expected.ensures refl refl refl refl
+    c.rows_after-expected.ensures.rows c.rows_after-expected.ensures.moments c.rows_after-expected.ensures.levels refl refl refl refl

@@ -2,7 +2,7 @@ use Rattle.std.proofs.Common.{◌+◌, ◌≤◌, length}
 use Rattle.pr_explain.proofs.StopLemmas.{StaysLeft}
 use Rattle.pr_explain.proofs.stops.line_of.Given as goal
 
--- so many statements are left to pass in the lines that are left
+-- this many statements are left to pass in the lines that are left
 abbrev pub invariant-loop-line : goal.invariant-loop-line
 invariant-loop-line l = record {
   lines : StaysLeft l.script l.statement l.number l.left l.rest;

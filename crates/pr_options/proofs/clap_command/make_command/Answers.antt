@@ -1,5 +1,7 @@
-use Rattle.std.proofs.Common.{ap, ap₂, ◌∙◌, codes, ◌≡◌, ◌||◌, Bool, false, true, refl, rules}
+use Rattle.std.proofs.Common.{ap, ap₂, ◌∙◌, codes, ◌≡◌, ◌||◌, Bool, false, true, refl}
 use Rattle.clap.specs.Words.{App, app_of, new_app, with_subcommand}
+use Rattle.clap.specs.declared.Command.{Command}
+use Rattle.clap.specs.declared.Command.TheOpen.{Command-F}
 use Rattle.clap.specs.Simple.{Shape, app_of_fields, on_top}
 use Rattle.pr_options.specs.Subcommands.{IsLocal}
 use Rattle.pr_options.proofs.clap_command.make_command.Goals as goal
@@ -29,9 +31,15 @@ returns-clause-app c =
 both_local : (a b v : Bool) → v ≡ (a || b) → a ≡ false → b ≡ false → v ≡ false
 both_local a b v e h k = rw (e, h, k) refl
 
+-- whether a command has options for all, by its fields
+globals : Command-F Command → Bool
+globals f = f.has_globals
+
 pub returns-clause-local : goal.returns-clause-local
+unfolding globals
 returns-clause-local c =
-    let program : IsLocal c.disable_help_subcommand-program.result = search rules in
+    let program : IsLocal c.disable_help_subcommand-program.result =
+    ap globals c.disable_help_subcommand-program.ensures ∙ ap globals c.subcommand_required.ensures ∙ ap globals c.version.ensures ∙ c.new_command.ensures.local in
     both_local _ _ _ c.in_ok-whole.ensures.globals
     (both_local _ _ _ c.in_ok-four.ensures.globals
     (both_local _ _ _ c.in_ok-three.ensures.globals

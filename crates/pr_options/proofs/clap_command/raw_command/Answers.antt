@@ -1,10 +1,17 @@
-use Rattle.std.proofs.Common.{ap₂, ◌∙◌}
-use Rattle.clap.specs.Words.{with_rule}
+use Rattle.std.proofs.Common.{ap, ap₂, ◌∙◌}
+use Rattle.clap.specs.Words.{App, with_rule}
+use Rattle.pr_options.specs.CommandLine.{value_rule}
+use Rattle.pr_options.specs.OptionNames as option
 use Rattle.pr_options.proofs.clap_command.raw_command.Goals as goal
+
+-- a command with what of the pages is shown
+abbrev drawn : App → App
+drawn a = with_rule (with_rule a (value_rule option.device)) (value_rule option.sheet)
 
 pub returns-clause-app : goal.returns-clause-app
 returns-clause-app c =
-    c.in_ok-whole.ensures.shape c.flag_option.ensures.local
+    c.in_ok-whole.ensures.app
+    ∙ ap drawn (c.in_ok-three.ensures.shape c.flag_option.ensures.local
     ∙ ap₂ with_rule (c.in_ok-two.ensures.shape c.value_option-2.ensures.local
-    ∙ ap₂ with_rule (c.in_ok-one.ensures.shape c.value_option.ensures.local ∙ ap₂ with_rule c.new_command-command.ensures.app c.value_option.ensures.rule)
-    c.value_option-2.ensures.rule) c.flag_option.ensures.rule
+    ∙ ap₂ with_rule (c.in_ok-one.ensures.shape c.value_option.ensures.local ∙ ap₂ with_rule c.in_ok-command.ensures.app c.value_option.ensures.rule)
+    c.value_option-2.ensures.rule) c.flag_option.ensures.rule)

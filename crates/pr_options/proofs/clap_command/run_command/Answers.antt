@@ -9,5 +9,5 @@ returns-clause-app c =
     ∙ ap₂ with_rule (c.in_ok-four.ensures.shape c.value_option-4.ensures.local
     ∙ ap₂ with_rule (c.in_ok-three.ensures.shape c.value_option-3.ensures.local
     ∙ ap₂ with_rule (c.in_ok-two.ensures.shape c.value_option-2.ensures.local
-    ∙ ap₂ with_rule (c.in_ok-one.ensures.shape c.value_option.ensures.local ∙ ap₂ with_rule c.new_command-command.ensures.app c.value_option.ensures.rule)
+    ∙ ap₂ with_rule (c.in_ok-one.ensures.shape c.value_option.ensures.local ∙ ap₂ with_rule c.in_ok-command.ensures.app c.value_option.ensures.rule)
     c.value_option-2.ensures.rule) c.value_option-3.ensures.rule) c.value_option-4.ensures.rule) c.value_option-5.ensures.rule) c.flag_option.ensures.rule

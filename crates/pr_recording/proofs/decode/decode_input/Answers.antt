@@ -1,7 +1,8 @@
 use Rattle.std.proofs.Common.{◌≡◌, ap, arith, false, length, refl, rules, true}
-use Rattle.pr_cli.specs.Inputs.{StopsWell, edges_read}
+use Rattle.pr_cli.specs.Inputs.{edges_read}
+use Rattle.pr_cli.specs.InputReads.{StopsWell}
 use Rattle.pr_recording.specs.Narrated.{NarratesMore}
-use Rattle.pr_recording.proofs.Answering.{at_first, at_last, last_stop, no_write, partly, refused, told_all, told_before, told_none, told_written, unwritten}
+use Rattle.pr_recording.proofs.Answering.{at_first, at_last, last_stop, no_write, partly, reading_fault, refused, told_all, told_before, told_none, told_written, unwritten}
 use Rattle.pr_recording.proofs.Coming.{Laws}
 use Rattle.pr_recording.proofs.decode.decode_input.Goals as goal
 
@@ -27,6 +28,10 @@ returns-in_err-read_block-clause-decode g c =
     unwritten laws c.read_edges_come_first.ensures.first c.args.limit (g.R.Read.remaining c.args.input.now.inner) (g.R.Read.remaining c.pieces.input.inner) (g.W.Write.contents c.args.output.now.inner)
     (g.W.Write.contents c.pieces.output.inner) c.args.trace c.pieces.reader c.pieces.report c.from_residual-in_err-read_block.result c.in_err-read_block.field-0.0 c.pieces.invariant.read
     c.from_residual-in_err-read_block.ensures.1 c.in_err-read_block.ensures.own (λ is. c.in_err-read_block.ensures.large (rw is refl))
+
+pub returns-in_err-read_block-clause-own : goal.returns-in_err-read_block-clause-own
+returns-in_err-read_block-clause-own g c =
+    reading_fault c.from_residual-in_err-read_block.result c.in_err-read_block.field-0.0 c.from_residual-in_err-read_block.ensures.1 c.in_err-read_block.ensures.own
 
 pub returns-in_err-end_input-clause-decode : goal.returns-in_err-end_input-clause-decode
 returns-in_err-end_input-clause-decode g c =

@@ -1,5 +1,5 @@
 use Rattle.std.proofs.Common.{◌≡◌, false, refl, rules}
-use Rattle.pr_cli.specs.Inputs.{StopsWell}
+use Rattle.pr_cli.specs.InputReads.{StopsWell}
 use Rattle.pr_recording.specs.Copied.{HasCopied}
 use Rattle.pr_recording.proofs.Printing.{prints_last, prints_none, printed_before}
 use Rattle.pr_recording.proofs.pages.print_input.Goals as goal

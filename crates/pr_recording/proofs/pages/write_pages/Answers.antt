@@ -1,10 +1,10 @@
-use Rattle.std.proofs.Common.{◌≡◌, ap, ◌∙◌}
+use Rattle.std.proofs.Common.{◌≡◌, ap, sym, ◌∙◌, Ok}
 use Rattle.pr_cli.specs.Formats.{text_in}
 use Rattle.pr_recording.specs.Copying.{text_of_print}
-use Rattle.pr_recording.proofs.Printing.{front_as}
 use Rattle.pr_recording.proofs.pages.write_pages.Goals as goal
 
 pub returns-in-Err-clause-written : goal.returns-in-Err-clause-written
 returns-in-Err-clause-written g c =
-    let e : c.in_ok-text.text ≡ text_of_print c.args.format c.args.printed = c.in_ok-text.ensures ∙ ap (λ o. text_in c.args.format c.args.printed.pages.present o) c.papers_alone.ensures in
-    front_as _ _ _ _ e c.in-Err.ensures.err
+    let e : text_of_print c.args.format c.args.printed ≡ Ok c.in_ok-text.text =
+    sym (ap (λ o. text_in c.args.format c.args.printed.pages.present o) c.papers_alone.ensures) ∙ c.in_ok-text.ensures in
+    (c.in_ok-text.text, e, c.in-Err.ensures.err)

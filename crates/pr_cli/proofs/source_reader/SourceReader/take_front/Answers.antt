@@ -1,4 +1,4 @@
-use Rattle.pr_cli.specs.Sources.{RefusesInput}
+use Rattle.pr_cli.specs.InputReads.{RefusesInput}
 use Rattle.pr_cli.proofs.SourceLemmas.{csv_more, csv_refused, handed_on, text_more, text_refused, vcd_more, vcd_refused}
 use Rattle.pr_cli.proofs.source_reader.SourceReader.take_front.Goals as goal
 

@@ -15,14 +15,14 @@ pub returns-in-Ok-clause-narrated : goal.returns-in-Ok-clause-narrated
 returns-in-Ok-clause-narrated c =
     let none : is_some c.args.self.now.back ≡ false = search rules in
     let old = c.args.self.now in
-    let new : DecodeReport = record { decoder = c.take.new.self; follower = c.follow.new.follower; log = c.push_if.new.self; taken = old.taken + 1; back = old.back } in
+    let new : DecodeReport = record { decoder = c.take.new.self; follower = c.follow.new.follower; seen = c.see.new.seen; log = c.push_if.new.self; taken = old.taken + 1; back = old.back } in
     let later : IsBefore c.args.edge old.decoder → ⊥ = λ before. absurd (let e : false ≡ true = c.in-Ok.ensures.back.1 before in cc) in
     on_ok c.push_if.result _ _ c.push_if.ensures.accounted
-    (λ accounts. narrates_one old new c.args.edge c.in-Ok.reading (not_some old.back none) later refl c.in-Ok.ensures.read c.in-Ok.ensures.last (λ es k. c.follow.ensures.followed es k.0 k.1) accounts refl)
+    (λ accounts. narrates_one old new c.args.edge c.in-Ok.reading (not_some old.back none) later refl c.in-Ok.ensures.read c.in-Ok.ensures.last (λ es k. c.follow.ensures.followed es k.0 k.1) c.see.ensures accounts refl)
 
 pub returns-in-Err-clause-narrated : goal.returns-in-Err-clause-narrated
 returns-in-Err-clause-narrated c =
     let none : is_some c.args.self.now.back ≡ false = search rules in
     let old = c.args.self.now in
-    let new : DecodeReport = record { decoder = c.take.new.self; follower = old.follower; log = old.log; taken = old.taken; back = Some old.taken } in
-    narrates_back old new c.args.edge (not_some old.back none) (c.in-Err.ensures.back.0 refl) refl c.in-Err.ensures.stays refl refl refl
+    let new : DecodeReport = record { decoder = c.take.new.self; follower = old.follower; seen = old.seen; log = old.log; taken = old.taken; back = Some old.taken } in
+    narrates_back old new c.args.edge (not_some old.back none) (c.in-Err.ensures.back.0 refl) refl c.in-Err.ensures.stays refl refl refl refl

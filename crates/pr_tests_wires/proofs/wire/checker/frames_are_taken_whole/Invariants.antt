@@ -6,6 +6,6 @@ use Rattle.pr_tests_wires.proofs.wire.checker.frames_are_taken_whole.Given as go
 abbrev pub invariant-loop-rest : goal.invariant-loop-rest
 invariant-loop-rest g l = line_count l.checker + length l.rest ≤ 10000
 
--- so many bytes are left
+-- this many bytes are left
 abbrev pub decreases-loop-rest : goal.decreases-loop-rest
 decreases-loop-rest g l = length l.rest

@@ -6,6 +6,6 @@ use Rattle.pr_tests_wires.proofs.wire.texts.read_blocks.Given as goal
 abbrev pub invariant-loop-rest : goal.invariant-loop-rest
 invariant-loop-rest g l = edge_count l.reader + length l.rest ≤ length l.text
 
--- so many bytes are left
+-- this many bytes are left
 abbrev pub decreases-loop-rest : goal.decreases-loop-rest
 decreases-loop-rest g l = length l.rest

@@ -1,0 +1,65 @@
+# Completions of print1525 for bash. Made by tools/manual.
+_print1525() {
+    local word=${COMP_WORDS[COMP_CWORD]} before=${COMP_WORDS[COMP_CWORD - 1]} command=${COMP_WORDS[1]} words=
+    COMPREPLY=()
+    if [ "$COMP_CWORD" = 1 ]; then
+        mapfile -t COMPREPLY < <(compgen -W 'pages bus check decode raw help -h --help -V --version' -- "$word")
+        return
+    fi
+    if [ "$command" = help ]; then
+        [ "$COMP_CWORD" = 2 ] && mapfile -t COMPREPLY < <(compgen -W 'pages bus check decode raw' -- "$word")
+        return
+    fi
+    if [ "$word" = = ]; then
+        word=
+    elif [ "$before" = = ]; then
+        before=${COMP_WORDS[COMP_CWORD - 2]}
+    fi
+    case $command/$before in
+        pages/--from) words='text prg petcat' ;;
+        pages/--present) words='none 4 5 both' ;;
+        pages/--delays) return ;;
+        pages/--status) words='each kept' ;;
+        pages/--as) words='list text svg png pdf' ;;
+        pages/--device) words='4 5' ;;
+        pages/--sheet) return ;;
+        bus/--from) words='text prg petcat' ;;
+        bus/--present) words='none 4 5 both' ;;
+        bus/--delays) return ;;
+        bus/--status) words='each kept' ;;
+        bus/--as) words='text vcd' ;;
+        check/--from) words='text vcd csv' ;;
+        check/--names) return ;;
+        check/--from-time) return ;;
+        check/--as) words='frames story' ;;
+        decode/--from) words='auto text vcd csv' ;;
+        decode/--names) return ;;
+        decode/--from-time) return ;;
+        decode/--as) words='list text svg png pdf' ;;
+        decode/--device) words='4 5' ;;
+        decode/--sheet) return ;;
+        raw/--set) words='upper lower' ;;
+        raw/--as) words='list text svg png pdf' ;;
+        raw/--device) words='4 5' ;;
+        raw/--sheet) return ;;
+        */-o | */--output) ;;
+        *)
+            if [[ $word == -* ]]; then
+                case $command in
+                pages) words='-o --output --from --present --delays --status --as --explain --device --sheet -h --help' ;;
+                bus) words='-o --output --from --present --delays --status --as --explain -h --help' ;;
+                check) words='-o --output --from --names --invert --from-time --as --explain -h --help' ;;
+                decode) words='-o --output --from --names --invert --from-time --as --explain --device --sheet -h --help' ;;
+                raw) words='-o --output --set --as --explain --device --sheet -h --help' ;;
+                esac
+            fi
+            ;;
+    esac
+    if [ -n "$words" ]; then
+        mapfile -t COMPREPLY < <(compgen -W "$words" -- "$word")
+    else
+        compopt -o filenames 2> /dev/null
+        mapfile -t COMPREPLY < <(compgen -f -- "$word")
+    fi
+}
+complete -F _print1525 print1525

@@ -1,0 +1,233 @@
+-- Trusted: times in a table: their unit, by the name of their column; the rate of samples, by a remark; and what a field spells.
+use Rattle.std.specs.Prelude.{ℕ, ◌+◌, ◌-◌, ◌*◌, ◌/◌, ◌==◌, ◌&&◌, ◌||◌, Bool, true, false, not, List, [], ◌∷◌, codes, drop, length, nat_le, nat_lt, take, if◌then◌else◌, Option, Some, None, Result, Ok, Err}
+use Rattle.std.specs.List.{list_all}
+use Rattle.std.specs.Str.{bytes_eq}
+use Rattle.pr_base.specs.Digits.{is_digit}
+use Rattle.pr_capture.specs.declared.fault.CaptureFault.{CaptureFault}
+use Rattle.pr_capture.specs.declared.fault.CaptureFault.TheVariants.{BadTime, GoesBack}
+use Rattle.pr_capture.specs.declared.remarks.Remarks.{Remarks}
+use Rattle.pr_capture.specs.declared.times.Exponent.{Exponent}
+use Rattle.pr_capture.specs.declared.times.Instant.{Instant}
+use Rattle.pr_capture.specs.Recording.{first_some, is_framing}
+use Rattle.pr_capture.specs.Numbers.{behind_decimals, behind_digits, are_some, behind_word, decimals_in, digits_in, is_sign, number_from, number_in, number_of_first, onward, spells, without_signs}
+
+-- The unit of times: how many decimals it is of a second, 0 for seconds and 12 for picoseconds.
+
+-- a micro sign before s, in UTF-8 (of two kinds) and in Latin-1
+abbrev pub is_micro : (name : List ℕ) → Bool
+is_micro l = spells (194 ∷ 181 ∷ 115 ∷ []) l || spells (206 ∷ 188 ∷ 115 ∷ []) l || spells (181 ∷ 115 ∷ []) l
+
+-- a unit has this name; its words in full are of one thing or of more
+abbrev pub is_unit : (short long more name : List ℕ) → Bool
+is_unit short long more l = spells short l || spells long l || spells more l
+
+abbrev pub unit_of : (name : List ℕ) → Option ℕ
+unit_of l =
+    if is_unit (codes "s") (codes "second") (codes "seconds") l || spells (codes "sec") l then Some 0
+    else (if is_unit (codes "ms") (codes "millisecond") (codes "milliseconds") l then Some 3
+    else (if is_unit (codes "us") (codes "microsecond") (codes "microseconds") l || is_micro l then Some 6
+    else (if is_unit (codes "ns") (codes "nanosecond") (codes "nanoseconds") l then Some 9
+    else (if is_unit (codes "ps") (codes "picosecond") (codes "picoseconds") l then Some 12
+    else None))))
+
+-- the unit that is after a word for time; the unit of a bare word, where none does
+abbrev pub unit_behind : (bare : Option ℕ) → (rest : Option (List ℕ)) → Option ℕ
+unit_behind bare None = None
+unit_behind bare (Some rest) = if list_all is_sign rest then bare else unit_of rest
+
+-- the unit that a column of times names: Time [s], Time (ms), t/ns, microseconds. Other columns have none
+abbrev pub time_unit : (bare : Option ℕ) → (name : List ℕ) → Option ℕ
+time_unit bare l =
+    first_some (unit_behind bare (behind_word (codes "timestamp") l))
+    (first_some (unit_behind bare (behind_word (codes "time") l))
+    (first_some (unit_behind bare (behind_word (codes "t") l))
+    (unit_of l)))
+
+-- a column is called by a word for time alone
+abbrev pub is_time_alone : (name : List ℕ) → Bool
+is_time_alone l = spells (codes "timestamp") l || spells (codes "time") l || spells (codes "t") l
+
+-- Remarks: the rate of samples, in samples a second, and the unit of a bare word for time.
+
+-- the power of ten after a number
+abbrev pub rate_unit : (name : List ℕ) → Option ℕ
+rate_unit l =
+    if list_all is_sign l || spells (codes "Hz") l then Some 0
+    else (if spells (codes "kHz") l then Some 3
+    else (if spells (codes "MHz") l then Some 6
+    else (if spells (codes "GHz") l then Some 9
+    else None)))
+
+-- a rate is not 0
+abbrev pub some_rate : Option ℕ → Option ℕ
+some_rate None = None
+some_rate (Some n) = if n == 0 then None else Some n
+
+abbrev pub rate_by : (whole decimals : List ℕ) → (power : Option ℕ) → Option ℕ
+rate_by whole ds None = None
+rate_by whole ds (Some k) =
+    if length whole == 0 then None else some_rate (onward (number_from 0 whole) (λ n. number_of_first n k ds))
+
+-- 4 MHz, 1.5 kHz, 4000000
+abbrev pub rate_in : (text : List ℕ) → Option ℕ
+rate_in l = rate_by (digits_in l) (decimals_in (behind_digits l)) (rate_unit (behind_decimals (behind_digits l)))
+
+-- the unit that sigrok takes for times, by the rate of samples: the largest that is no longer than a sample
+abbrev pub unit_by : (rate : Option ℕ) → Option ℕ
+unit_by None = None
+unit_by (Some n) =
+    if n == 1 then Some 0
+    else (if nat_le n 1000 then Some 3
+    else (if nat_le n 1000000 then Some 6
+    else (if nat_le n 1000000000 then Some 9
+    else Some 12)))
+
+-- before any remark, a bare word for time is of seconds
+abbrev pub no_remarks : Remarks
+no_remarks = record { rate = None; bare = Some 0 }
+
+-- after a rate: a remark of sigrok's tells the unit of a bare word for time too
+abbrev pub with_rate : Remarks → (line : List ℕ) → (text : Option (List ℕ)) → Remarks
+with_rate r line None = r
+with_rate r line (Some text) = record {
+  rate = rate_in (without_signs text);
+  bare = if bytes_eq (take 13 line) (codes "; Samplerate:") then unit_by (rate_in (without_signs text)) else r.bare;
+}
+
+-- the line that sigrok-cli puts in front of what it writes before it knows the rate, so that all its times are 0
+abbrev pub with_meta : Remarks → (line : List ℕ) → (text : Option (List ℕ)) → Remarks
+with_meta r line None = with_rate r line (behind_word (codes "samplerate") line)
+with_meta r line (Some text) = record { rate = rate_in (without_signs text); bare = None }
+
+-- after a remark
+abbrev pub remarked : Remarks → (line : List ℕ) → Remarks
+remarked r line = with_meta r line (behind_word (codes "METAsamplerate") line)
+
+-- Times: whole microseconds before or after the moment 0, rounded to the earlier one.
+
+-- a sign, if one is here, and what follows it
+abbrev pub is_minus : List ℕ → Bool
+is_minus [] = false
+is_minus (b ∷ bs) = b == 45
+
+abbrev pub behind_plus_minus : List ℕ → List ℕ
+behind_plus_minus [] = []
+behind_plus_minus (b ∷ bs) = if b == 45 || b == 43 then bs else b ∷ bs
+
+-- up to 255 places
+abbrev pub few_places : (negative : Bool) → Option ℕ → Option Exponent
+few_places negative None = None
+few_places true (Some n) = if nat_lt n 256 then Some (record { right = 0; left = n }) else None
+few_places false (Some n) = if nat_lt n 256 then Some (record { right = n; left = 0 }) else None
+
+abbrev pub places_in : (negative : Bool) → List ℕ → Option Exponent
+places_in negative l =
+    if not (length (digits_in l) == 0) && list_all is_framing (behind_digits l) then few_places negative (number_from 0 (digits_in l)) else None
+
+-- after the digits of a number: e, a sign and digits, or nothing
+abbrev pub exponent_in : List ℕ → Option Exponent
+exponent_in [] = Some (record { right = 0; left = 0 })
+exponent_in (b ∷ bs) =
+    if b == 69 || b == 101 then places_in (is_minus bs) (behind_plus_minus bs)
+    else (if list_all is_framing (b ∷ bs) then Some (record { right = 0; left = 0 }) else None)
+
+-- the whole microseconds of a number whose point moves to the right by this many places, and then to the left
+abbrev pub micros_of : (right left : ℕ) → (whole decimals : List ℕ) → Option ℕ
+micros_of right left whole ds =
+    if nat_le left right then onward (number_from 0 whole) (λ n. number_of_first n (right - left) ds)
+    else number_from 0 (take (length whole - (left - right)) whole)
+
+-- after the point then are other digits than zeros
+abbrev pub has_rest : (right left : ℕ) → (whole decimals : List ℕ) → Bool
+has_rest right left whole ds =
+    if nat_le left right then are_some (drop (right - left) ds)
+    else are_some (drop (length whole - (left - right)) whole) || are_some ds
+
+-- a time before 0 is rounded to the earlier microsecond too
+abbrev pub earlier : (rest : Bool) → Option ℕ → Option ℕ
+earlier rest None = None
+earlier false (Some n) = Some n
+earlier true (Some n) = if nat_lt (n + 1) 18446744073709551616 then Some (n + 1) else None
+
+abbrev pub instant_of : (negative : Bool) → Option ℕ → Option Instant
+instant_of negative None = None
+instant_of negative (Some n) = Some (record { is_negative = negative; micros = n })
+
+-- the time of a number whose point moves so
+abbrev pub instant_at : (negative : Bool) → (right left : ℕ) → (whole decimals : List ℕ) → Option Instant
+instant_at negative right left whole ds =
+    instant_of negative (earlier (negative && has_rest right left whole ds) (micros_of right left whole ds))
+
+abbrev pub instant_by : (unit : ℕ) → (negative : Bool) → (whole decimals : List ℕ) → Option Exponent → Option Instant
+instant_by unit negative whole ds None = None
+instant_by unit negative whole ds (Some e) =
+    if length whole == 0 then None else instant_at negative (6 + e.right) (unit + e.left) whole ds
+
+-- the same of a number without its sign
+abbrev pub unsigned_in : (unit : ℕ) → (negative : Bool) → List ℕ → Option Instant
+unsigned_in unit negative l =
+    instant_by unit negative (digits_in l) (decimals_in (behind_digits l)) (exponent_in (behind_decimals (behind_digits l)))
+
+-- A date and a time of day, as 2024-06-21T14:28:30.123456789+00:00: it is counted back from the end of the month's last day.
+-- So times go on from day to day, and go back from month to month.
+
+-- what follows digits and a sign
+abbrev pub behind_sign_of : (sign : ℕ) → List ℕ → Option (List ℕ)
+behind_sign_of sign [] = None
+behind_sign_of sign (b ∷ bs) = if b == sign then Some bs else None
+
+abbrev pub behind_part : (sign : ℕ) → List ℕ → Option (List ℕ)
+behind_part sign l = behind_sign_of sign (behind_digits l)
+
+-- a zone: Z, hours and minutes, or nothing
+abbrev pub is_zone_sign : ℕ → Bool
+is_zone_sign b = is_digit b || b == 90 || b == 43 || b == 45 || b == 58 || is_framing b
+
+-- the microseconds from a moment of a month on to the end of its day 31
+abbrev pub micros_left : (day hour minute second micros : ℕ) → Option ℕ
+micros_left day hour minute second micros =
+    if nat_le day 31 && nat_lt hour 24 && nat_lt minute 60 && nat_lt second 60 && nat_lt micros 1000000
+    then Some ((((32 - day) * 24 - hour) * 60 - minute) * 60000000 - second * 1000000 - micros) else None
+
+-- the moment of a month that these texts begin with: a day, an hour, a minute, a second and its decimals
+abbrev pub left_at : (day hour minute second : List ℕ) → Option ℕ
+left_at day hour minute second =
+    onward (number_in day) (λ d. onward (number_in hour) (λ h. onward (number_in minute) (λ m. onward (number_in second) (λ s.
+    onward (number_of_first 0 6 (decimals_in (behind_digits second))) (λ u. micros_left d h m s u)))))
+
+-- the parts of a time of day, after those of the date
+abbrev pub dated_in : List ℕ → Option Instant
+dated_in l =
+    onward (behind_part 45 l) (λ month. onward (behind_part 45 month) (λ day. onward (behind_part 84 day) (λ hour.
+    onward (behind_part 58 hour) (λ minute. onward (behind_part 58 minute) (λ second.
+    if list_all is_zone_sign (behind_decimals (behind_digits second)) then instant_of true (left_at day hour minute second) else None)))))
+
+-- the time that a field spells: a date and a time of day, or a number of units
+abbrev pub instant_or : (dated : Option Instant) → (unit : ℕ) → List ℕ → Option Instant
+instant_or (Some i) unit l = Some i
+instant_or None unit l = unsigned_in unit (is_minus l) (behind_plus_minus l)
+
+abbrev pub instant_in : (unit : ℕ) → List ℕ → Option Instant
+instant_in unit l = instant_or (dated_in l) unit l
+
+-- From the start of a table on, which is its first time, where that lies before 0, and else 0.
+
+-- how long before 0 the start is
+abbrev pub start_of : (start : Option ℕ) → Instant → ℕ
+start_of (Some s) i = s
+start_of None i = if i.is_negative then i.micros else 0
+
+abbrev pub from_start : (number start : ℕ) → Instant → Result ℕ CaptureFault
+from_start number start i =
+    if i.is_negative then (if nat_le i.micros start then Ok (start - i.micros) else Err (GoesBack number))
+    else (if nat_lt (start + i.micros) 18446744073709551616 then Ok (start + i.micros) else Err (BadTime number))
+
+-- a time, in whole microseconds not before that of an earlier row
+abbrev pub time_or : (number before : ℕ) → Option ℕ → Result ℕ CaptureFault
+time_or number before None = Err (BadTime number)
+time_or number before (Some t) = if nat_lt t before then Err (GoesBack number) else Ok t
+
+-- the time of the sample after this many others, where a second has this many
+abbrev pub time_at_rate : (rate count : ℕ) → Option ℕ
+time_at_rate rate count =
+    if not (rate == 0) && nat_lt (count + 1) 18446744073709551616 && nat_lt (count * 1000000 / rate) 18446744073709551616 then Some (count * 1000000 / rate) else None

@@ -1,0 +1,189 @@
+//! What the name of a table's first column and its remarks say of time.
+
+ghost use Rattle.std.specs.Prelude.{◌≡◌, ◌∷◌, [], option_copied};
+ghost use Rattle.pr_capture.specs.TableTimes.{is_micro, is_time_alone, is_unit, no_remarks, rate_by, rate_in, rate_unit, remarked, time_unit, unit_behind, unit_by, unit_of, with_rate};
+
+use crate::entries::is_word;
+use crate::numbers::{
+    are_signs, behind_decimals, behind_digits, behind_word, decimals_in, digits_in, first_of,
+    number_from, number_of_first, spells, without_signs,
+};
+
+/// What remarks say of time.
+#[derive(Clone, Copy)]
+pub struct Remarks {
+    /// How many samples there are in a second, if a remark says so.
+    pub rate: Option<u64>,
+    /// The unit of a column that is called Time alone, if it has times: how many decimals it is of a
+    /// second.
+    pub bare: Option<u8>,
+}
+
+/// Whether a name is a micro sign before s, in UTF-8 (of two kinds) or in Latin-1.
+fn is_micro(name: &[u8]) -> bool
+    ensures { result ≡ is_micro name.now }
+{
+    spells(&[194, 181, b's'], name) || spells(&[206, 188, b's'], name) || spells(&[181, b's'], name)
+}
+
+/// Whether a name is that of a unit.
+fn is_unit(short: &[u8], long: &[u8], more: &[u8], name: &[u8]) -> bool
+    ensures { result ≡ is_unit short.now long.now more.now name.now }
+{
+    spells(short, name) || spells(long, name) || spells(more, name)
+}
+
+/// How many decimals of a second a unit is, from 0 for seconds to 12 for picoseconds.
+fn unit_of(name: &[u8]) -> Option<u8>
+    ensures { result ≡ unit_of name.now }
+{
+    if is_unit(b"s", b"second", b"seconds", name) || spells(b"sec", name) {
+        Some(0)
+    } else if is_unit(b"ms", b"millisecond", b"milliseconds", name) {
+        Some(3)
+    } else if is_unit(b"us", b"microsecond", b"microseconds", name) || is_micro(name) {
+        Some(6)
+    } else if is_unit(b"ns", b"nanosecond", b"nanoseconds", name) {
+        Some(9)
+    } else if is_unit(b"ps", b"picosecond", b"picoseconds", name) {
+        Some(12)
+    } else {
+        None
+    }
+}
+
+/// The unit after a word for time, or that of a bare word, if there is such a word.
+fn unit_behind(bare: Option<u8>, rest: Option<&[u8]>) -> Option<u8>
+    ensures { result ≡ unit_behind bare (option_copied rest.entry) }
+{
+    match rest {
+        None => None,
+        Some(rest) => { if are_signs(rest) { bare } else { unit_of(rest) } }
+    }
+}
+
+/// The unit that a column of times names. Other columns have none.
+pub fn time_unit(bare: Option<u8>, name: &[u8]) -> Option<u8>
+    ensures { result ≡ time_unit bare name.now }
+{
+    if let Some(unit) = unit_behind(bare, behind_word(b"timestamp", name)) {
+        return Some(unit);
+    }
+    if let Some(unit) = unit_behind(bare, behind_word(b"time", name)) {
+        return Some(unit);
+    }
+    if let Some(unit) = unit_behind(bare, behind_word(b"t", name)) {
+        return Some(unit);
+    }
+    unit_of(name)
+}
+
+/// Whether a column is called by a word for time alone.
+pub fn is_time_alone(name: &[u8]) -> bool
+    ensures { result ≡ is_time_alone name.now }
+{
+    spells(b"timestamp", name) || spells(b"time", name) || spells(b"t", name)
+}
+
+/// The power of ten after the number of a rate.
+fn rate_unit(name: &[u8]) -> Option<u8>
+    ensures { result ≡ rate_unit name.now }
+{
+    if are_signs(name) || spells(b"Hz", name) {
+        Some(0)
+    } else if spells(b"kHz", name) {
+        Some(3)
+    } else if spells(b"MHz", name) {
+        Some(6)
+    } else if spells(b"GHz", name) {
+        Some(9)
+    } else {
+        None
+    }
+}
+
+/// The rate of these digits and decimals, and a power of ten.
+fn rate_by(whole: &[u8], decimals: &[u8], power: Option<u8>) -> Option<u64>
+    ensures { result ≡ rate_by whole.now decimals.now power }
+{
+    let power = power?;
+    if whole.is_empty() {
+        return None;
+    }
+    let number = number_from(0, whole)?;
+    let rate = number_of_first(number, usize::from(power), decimals)?;
+    if rate == 0 { None } else { Some(rate) }
+}
+
+/// The rate that a text spells, as 4 MHz, in samples a second. None is 0.
+fn rate_in(text: &[u8]) -> Option<u64>
+    ensures { result ≡ rate_in text.now }
+{
+    let behind = behind_digits(text);
+    rate_by(
+        digits_in(text),
+        decimals_in(behind),
+        rate_unit(behind_decimals(behind)),
+    )
+}
+
+/// The unit that sigrok takes for times, by the rate of samples: the largest that is no longer than a
+/// sample.
+fn unit_by(rate: Option<u64>) -> Option<u8>
+    ensures { result ≡ unit_by rate }
+{
+    let rate = rate?;
+    if rate == 1 {
+        Some(0)
+    } else if rate <= 1000 {
+        Some(3)
+    } else if rate <= 1_000_000 {
+        Some(6)
+    } else if rate <= 1_000_000_000 {
+        Some(9)
+    } else {
+        Some(12)
+    }
+}
+
+impl Remarks {
+    /// No remark: a column that is called Time alone is of seconds.
+    pub fn new() -> Remarks
+        ensures { result ≡ no_remarks }
+    {
+        Remarks {
+            rate: None,
+            bare: Some(0),
+        }
+    }
+
+    /// What is known after a remark of a rate, in a line with this text after its word, if it has it.
+    fn with_rate(self, line: &[u8], text: Option<&[u8]>) -> Remarks
+        ensures { result ≡ with_rate self line.now (option_copied text.entry) }
+    {
+        let Some(text) = text else {
+            return self;
+        };
+        let rate = rate_in(without_signs(text));
+        let bare = if is_word(first_of(line, 13), b"; Samplerate:") {
+            unit_by(rate)
+        } else {
+            self.bare
+        };
+        Remarks { rate, bare }
+    }
+
+    /// What is known after a remark. The line that sigrok-cli puts in front of what it writes before it
+    /// knows the rate says that a column called Time alone has no times.
+    pub fn behind(self, line: &[u8]) -> Remarks
+        ensures { result ≡ remarked self line.now }
+    {
+        match behind_word(b"METAsamplerate", line) {
+            None => self.with_rate(line, behind_word(b"samplerate", line)),
+            Some(text) => Remarks {
+                rate: rate_in(without_signs(text)),
+                bare: None,
+            },
+        }
+    }
+}

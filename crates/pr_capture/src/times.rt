@@ -1,0 +1,321 @@
+//! Times in a table: what a field spells, and what a row's time is.
+
+ghost use Rattle.std.specs.Prelude.{◌≡◌, ◌+◌, ◌^◌, ◌<◌, option_copied, IfSome};
+ghost use Rattle.std.specs.List.{list_all};
+ghost use Rattle.pr_capture.specs.TableTimes.{behind_part, behind_plus_minus, dated_in, earlier, exponent_in, few_places, from_start, has_rest, instant_at, instant_by, instant_in, is_minus, is_zone_sign, left_at, micros_left, micros_of, places_in, start_of, time_at_rate, time_or, unsigned_in};
+
+use crate::fault::CaptureFault;
+use crate::numbers::{
+    are_some, behind_decimals, behind_digits, behind_first, decimals_in, digits_in, first_of,
+    number_from, number_in, number_of_first,
+};
+use crate::signals::{are_framing, is_framing};
+use pr_base::is_digit;
+
+/// A moment of a table, in whole microseconds before or after its moment 0.
+#[derive(Clone, Copy)]
+pub struct Instant {
+    /// Whether it lies before.
+    pub is_negative: bool,
+    pub micros: u64,
+}
+
+/// How many places an exponent moves the point.
+#[derive(Clone, Copy)]
+pub struct Exponent {
+    pub right: u8,
+    pub left: u8,
+}
+
+/// Whether a minus is in front.
+fn is_minus(text: &[u8]) -> bool
+    ensures { result ≡ is_minus text.now }
+{
+    match text {
+        [b, ..] => *b == b'-',
+        [] => false,
+    }
+}
+
+/// What follows a sign, if one is in front.
+fn behind_plus_minus(text: &[u8]) -> &[u8]
+    ensures { result.now ≡ behind_plus_minus text.now }
+{
+    match text {
+        [] => &[],
+        [b, rest @ ..] => { if *b == b'-' || *b == b'+' { rest } else { text } }
+    }
+}
+
+/// An exponent of up to 255 places.
+fn few_places(is_negative: bool, number: Option<u64>) -> Option<Exponent>
+    ensures { result ≡ few_places is_negative number }
+{
+    let places = u8::try_from(number?).ok()?;
+    if is_negative {
+        Some(Exponent {
+            right: 0,
+            left: places,
+        })
+    } else {
+        Some(Exponent {
+            right: places,
+            left: 0,
+        })
+    }
+}
+
+/// The places that the digits of an exponent spell, with nothing after them.
+fn places_in(is_negative: bool, text: &[u8]) -> Option<Exponent>
+    ensures { result ≡ places_in is_negative text.now }
+{
+    let digits = digits_in(text);
+    if digits.is_empty() || !are_framing(behind_digits(text)) {
+        return None;
+    }
+    few_places(is_negative, number_from(0, digits))
+}
+
+/// The exponent after the digits of a number, if nothing else is there.
+fn exponent_in(text: &[u8]) -> Option<Exponent>
+    ensures { result ≡ exponent_in text.now }
+{
+    match text {
+        [] => Some(Exponent { right: 0, left: 0 }),
+        [b, rest @ ..] => {
+            if *b == b'E' || *b == b'e' {
+                places_in(is_minus(rest), behind_plus_minus(rest))
+            } else if are_framing(text) {
+                Some(Exponent { right: 0, left: 0 })
+            } else {
+                None
+            }
+        }
+    }
+}
+
+/// The whole microseconds of a number whose point moves to the right by this many places, and then to the
+/// left.
+fn micros_of(right: usize, left: usize, whole: &[u8], decimals: &[u8]) -> Option<u64>
+    ensures { result ≡ micros_of right left whole.now decimals.now }
+{
+    if left <= right {
+        let number = number_from(0, whole)?;
+        number_of_first(number, right - left, decimals)
+    } else {
+        number_from(0, first_of(whole, whole.len().saturating_sub(left - right)))
+    }
+}
+
+/// Whether there are other digits than zeros after the point then.
+fn has_rest(right: usize, left: usize, whole: &[u8], decimals: &[u8]) -> bool
+    ensures { result ≡ has_rest right left whole.now decimals.now }
+{
+    if left <= right {
+        are_some(behind_first(decimals, right - left))
+    } else {
+        are_some(behind_first(whole, whole.len().saturating_sub(left - right)))
+            || are_some(decimals)
+    }
+}
+
+/// A time before 0 is rounded to the earlier microsecond too, where something is left.
+fn earlier(is_left: bool, micros: Option<u64>) -> Option<u64>
+    ensures { result ≡ earlier is_left micros }
+{
+    let micros = micros?;
+    if is_left {
+        micros.checked_add(1)
+    } else {
+        Some(micros)
+    }
+}
+
+/// The time of a number whose point moves so.
+fn instant_at(
+    is_negative: bool,
+    right: usize,
+    left: usize,
+    whole: &[u8],
+    decimals: &[u8],
+) -> Option<Instant>
+    ensures { result ≡ instant_at is_negative right left whole.now decimals.now }
+{
+    let is_left = is_negative && has_rest(right, left, whole, decimals);
+    let micros = earlier(is_left, micros_of(right, left, whole, decimals))?;
+    Some(Instant {
+        is_negative,
+        micros,
+    })
+}
+
+/// The time of these digits and decimals, in a unit, with an exponent.
+fn instant_by(
+    unit: u8,
+    is_negative: bool,
+    whole: &[u8],
+    decimals: &[u8],
+    exponent: Option<Exponent>,
+) -> Option<Instant>
+    ensures { result ≡ instant_by unit is_negative whole.now decimals.now exponent }
+{
+    let exponent = exponent?;
+    if whole.is_empty() {
+        return None;
+    }
+    let right = 6 + usize::from(exponent.right);
+    let left = usize::from(unit) + usize::from(exponent.left);
+    instant_at(is_negative, right, left, whole, decimals)
+}
+
+/// The time that a number without its sign spells.
+fn unsigned_in(unit: u8, is_negative: bool, text: &[u8]) -> Option<Instant>
+    ensures { result ≡ unsigned_in unit is_negative text.now }
+{
+    let behind = behind_digits(text);
+    let exponent = exponent_in(behind_decimals(behind));
+    instant_by(
+        unit,
+        is_negative,
+        digits_in(text),
+        decimals_in(behind),
+        exponent,
+    )
+}
+
+/// What follows the digits in front of a text, and a sign after them.
+fn behind_part(sign: u8, text: &[u8]) -> Option<&[u8]>
+    ensures { option_copied result ≡ behind_part sign text.now }
+{
+    match behind_digits(text) {
+        [] => None,
+        [b, rest @ ..] => { if *b == sign { Some(rest) } else { None } }
+    }
+}
+
+/// Whether a byte is one of a zone, or framing.
+fn is_zone_sign(b: u8) -> bool
+    ensures { result ≡ is_zone_sign b }
+{
+    is_digit(b) || b == b'Z' || b == b'+' || b == b'-' || b == b':' || is_framing(b)
+}
+
+/// Whether these are all bytes of a zone, or framing.
+fn are_zone(bytes: &[u8]) -> bool
+    ensures { result ≡ list_all is_zone_sign bytes.now }
+{
+    for b in bytes {
+        if !is_zone_sign(*b) {
+            return false;
+        }
+    }
+    true
+}
+
+/// The microseconds from a moment of a month on to the end of its day 31.
+fn micros_left(day: u64, hour: u64, minute: u64, second: u64, micros: u64) -> Option<u64>
+    ensures { result ≡ micros_left day hour minute second micros }
+{
+    if day > 31 || hour >= 24 || minute >= 60 || second >= 60 || micros >= 1_000_000 {
+        return None;
+    }
+    let minutes = ((32 - day) * 24 - hour) * 60 - minute;
+    Some(minutes * 60_000_000 - second * 1_000_000 - micros)
+}
+
+/// The same of the moment that these texts begin with: a day, an hour, a minute, a second and its
+/// decimals.
+fn left_at(day: &[u8], hour: &[u8], minute: &[u8], second: &[u8]) -> Option<u64>
+    ensures { result ≡ left_at day.now hour.now minute.now second.now }
+{
+    let decimals = decimals_in(behind_digits(second));
+    let day = number_in(day)?;
+    let hour = number_in(hour)?;
+    let minute = number_in(minute)?;
+    let second = number_in(second)?;
+    let micros = number_of_first(0, 6, decimals)?;
+    micros_left(day, hour, minute, second, micros)
+}
+
+/// The time of a date and a time of day, counted back from the end of the month's last day.
+fn dated_in(text: &[u8]) -> Option<Instant>
+    ensures { result ≡ dated_in text.now }
+{
+    let month = behind_part(b'-', text)?;
+    let day = behind_part(b'-', month)?;
+    let hour = behind_part(b'T', day)?;
+    let minute = behind_part(b':', hour)?;
+    let second = behind_part(b':', minute)?;
+    if !are_zone(behind_decimals(behind_digits(second))) {
+        return None;
+    }
+    let micros = left_at(day, hour, minute, second)?;
+    Some(Instant {
+        is_negative: true,
+        micros,
+    })
+}
+
+/// The time that a field spells: a date and a time of day, or a number of units, of which one is a
+/// second's decimal of this place.
+pub fn instant_in(unit: u8, field: &[u8]) -> Option<Instant>
+    ensures { result ≡ instant_in unit field.now }
+{
+    match dated_in(field) {
+        Some(time) => Some(time),
+        None => unsigned_in(unit, is_minus(field), behind_plus_minus(field)),
+    }
+}
+
+/// How long before moment 0 a table starts, in microseconds, which has this time first where no start is
+/// known.
+pub fn start_of(start: Option<u64>, first: Instant) -> u64
+    ensures { result ≡ start_of start first }
+{
+    match start {
+        Some(start) => start,
+        None => { if first.is_negative { first.micros } else { 0 } }
+    }
+}
+
+/// A time from a table's start on, in microseconds.
+pub fn from_start(number: usize, start: u64, time: Instant) -> Result<u64, CaptureFault>
+    ensures { result ≡ from_start number start time }
+{
+    if time.is_negative {
+        start
+            .checked_sub(time.micros)
+            .ok_or(CaptureFault::GoesBack(number))
+    } else {
+        start
+            .checked_add(time.micros)
+            .ok_or(CaptureFault::BadTime(number))
+    }
+}
+
+/// A row's time, which in whole microseconds is not before that of an earlier row.
+pub fn time_or(number: usize, before: u64, time: Option<u64>) -> Result<u64, CaptureFault>
+    ensures { result ≡ time_or number before time }
+{
+    match time {
+        None => Err(CaptureFault::BadTime(number)),
+        Some(time) => {
+            if time < before {
+                Err(CaptureFault::GoesBack(number))
+            } else {
+                Ok(time)
+            }
+        }
+    }
+}
+
+/// The time of the sample after this many others, in microseconds, where a second has this many.
+pub fn time_at_rate(rate: u64, count: u64) -> Option<u64>
+    ensures time { result ≡ time_at_rate rate count }
+    ensures few { IfSome result (λ t. count + 1 < 2 ^ 64) }
+{
+    if rate == 0 || count == u64::MAX {
+        return None;
+    }
+    u64::try_from(u128::from(count) * 1_000_000 / u128::from(rate)).ok()
+}

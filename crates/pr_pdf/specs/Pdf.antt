@@ -1,0 +1,124 @@
+-- Trusted: papers as a PDF document (ISO 32000-1): objects that are numbered from 1 on, a table of the places at which
+-- they begin, and a trailer.
+use Rattle.std.specs.Prelude.{ℕ, ◌+◌, ◌-◌, ◌*◌, ◌/◌, ◌%◌, Bool, List, [], ◌∷◌, ◌++◌, ◌&&◌, codes, decimal, flat_map, length, map, replicate, if◌then◌else◌}
+use Rattle.std.specs.List.{concat}
+use Rattle.pr_page.specs.declared.paper.Paper.{Paper}
+use Rattle.pr_page.specs.declared.paper.Row.{Row}
+use Rattle.pr_page.specs.declared.paper.Mark.{Mark}
+use Rattle.pr_serial.specs.declared.Present.{Present}
+use Rattle.pr_pdf.specs.Fonts.{characters_pdf, encoding_pdf, font_pdf, glyph_pdf, resources_pdf, used_among, used_before, used_of, widths_pdf}
+use Rattle.pr_pdf.specs.Parts.{catalog_begin, header, list_end, object_begin, object_end, page_begin, page_content, pages_begin, pages_kids, place_end, reference, reference_end, stream_begin, stream_bytes, stream_end, table_begin, table_free, trailer_begin, trailer_end, trailer_root}
+use Rattle.pr_pdf.specs.Sheets.{sheet_pdf, sheet_texts}
+use Rattle.pr_pdf.specs.Words.{numbers_from}
+
+-- an object with its number
+unfoldable pub object_pdf : ℕ → List ℕ → List ℕ
+object_pdf number body = decimal number ++ object_begin ++ body ++ object_end
+
+-- objects from a number on
+abbrev pub objects_from : ℕ → List (List ℕ) → List (List ℕ)
+objects_from number [] = []
+objects_from number (body ∷ bodies) = object_pdf number body ∷ objects_from (number + 1) bodies
+
+-- the first line, and all objects
+unfoldable pub front_pdf : List (List ℕ) → List ℕ
+front_pdf bodies = header ++ concat (objects_from 1 bodies)
+
+-- where texts begin, one after the other, from a place on
+abbrev pub places_from : ℕ → List (List ℕ) → List ℕ
+places_from place [] = []
+places_from place (text ∷ texts) = place ∷ places_from (place + length text) texts
+
+-- where each object begins
+abbrev pub places_of : List (List ℕ) → List ℕ
+places_of bodies = places_from (length header) (objects_from 1 bodies)
+
+-- a place in ten digits
+unfoldable pub place_pdf : ℕ → List ℕ
+place_pdf place = replicate (10 - length (decimal place)) 48 ++ decimal place ++ place_end
+
+-- the table of the places
+unfoldable pub table_pdf : List ℕ → List ℕ
+table_pdf places = table_begin ++ decimal (length places + 1) ++ table_free ++ flat_map place_pdf places
+
+-- the trailer, and where the table begins
+unfoldable pub trailer_pdf : (count table : ℕ) → List ℕ
+trailer_pdf count table = trailer_begin ++ decimal (count + 1) ++ trailer_root ++ decimal table ++ trailer_end
+
+-- the file of these objects
+unfoldable pub file_of : List (List ℕ) → List ℕ
+file_of bodies =
+    front_pdf bodies ++ table_pdf (places_of bodies) ++ trailer_pdf (length bodies) (length (front_pdf bodies))
+
+-- the most bytes of a file: ten digits say a place in it
+abbrev pub file_limit : ℕ
+file_limit = 9999999999
+
+-- a stream of bytes
+unfoldable pub stream_pdf : List ℕ → List ℕ
+stream_pdf bytes = stream_begin ++ decimal (length bytes) ++ stream_bytes ++ bytes ++ stream_end
+
+-- the object that begins the document, with the number of the one that has its sheets
+unfoldable pub catalog_pdf : ℕ → List ℕ
+catalog_pdf pages = catalog_begin ++ decimal pages ++ reference_end
+
+-- a sheet, with the numbers of the object that has the sheets and of what it draws
+unfoldable pub page_pdf : (pages content : ℕ) → List ℕ
+page_pdf pages content = page_begin ++ decimal pages ++ page_content ++ decimal content ++ reference_end
+
+-- the objects of sheets from a number on: two for each
+abbrev pub sheet_bodies : (pages number : ℕ) → List (List ℕ) → List (List ℕ)
+sheet_bodies pages number [] = []
+sheet_bodies pages number (sheet ∷ sheets) =
+    page_pdf pages (number + 1) ∷ stream_pdf sheet ∷ sheet_bodies pages (number + 2) sheets
+
+-- a sheet among the others: its number counts from 0
+unfoldable pub kid_pdf : (first sheet : ℕ) → List ℕ
+kid_pdf first sheet = decimal (first + 2 * sheet) ++ reference
+
+-- all sheets, of 9.5 by 11 inches, the first of which is an object with this number
+unfoldable pub pages_pdf : (first count : ℕ) → List ℕ
+pages_pdf first count =
+    pages_begin ++ decimal count ++ pages_kids ++ flat_map (kid_pdf first) (numbers_from 0 count) ++ list_end
+
+-- objects 1 to 9
+abbrev pub first_bodies : ℕ → List (List ℕ)
+first_bodies pages =
+    catalog_pdf pages ∷ resources_pdf ∷ encoding_pdf ∷ widths_pdf 6 ∷ widths_pdf 12 ∷ widths_pdf 1
+    ∷ stream_pdf (characters_pdf 0) ∷ stream_pdf (characters_pdf 1) ∷ stream_pdf (characters_pdf 2) ∷ []
+
+-- a glyph's object
+abbrev pub glyph_body : ℕ → List ℕ
+glyph_body number = stream_pdf (glyph_pdf (number / 256) (number % 256))
+
+-- all objects, of which `first` is the number of the first sheet
+abbrev pub bodies_from : (first : ℕ) → List Bool → List (List ℕ) → List (List ℕ)
+bodies_from first used sheets =
+    first_bodies (first + 2 * length sheets) ++ map (font_pdf used) (numbers_from 0 9)
+    ++ map glyph_body (used_among used 0 2304)
+    ++ sheet_bodies (first + 2 * length sheets) first sheets ++ pages_pdf first (length sheets) ∷ []
+
+-- the rows of the printers that are drawn
+abbrev pub rows_if : Bool → Paper → List Row
+rows_if drawn paper = if drawn then paper.rows else []
+
+-- the marks of rows
+abbrev pub marks_of : List Row → List Mark
+marks_of rows = map (λ placed. placed.mark) (flat_map (λ row. row.marks) rows)
+
+-- an empty sheet where there are none
+abbrev pub or_empty : List (List ℕ) → List (List ℕ)
+or_empty [] = sheet_pdf [] 0 ∷ []
+or_empty (sheet ∷ sheets) = sheet ∷ sheets
+
+-- the file of rows of both printers: the first one's sheets, then the second one's
+abbrev pub rows_pdf : (rows4 rows5 : List Row) → List ℕ
+rows_pdf rows4 rows5 = rows_with (used_of (marks_of rows4 ++ marks_of rows5))
+  where
+    rows_with : List Bool → List ℕ
+    rows_with used =
+        file_of (bodies_from (19 + used_before used 2304) used (or_empty (sheet_texts rows4 ++ sheet_texts rows5)))
+
+-- papers as a document of sheets. Marks that are held have no place yet, and are left out
+unfoldable pub pdf_of : (paper4 paper5 : Paper) → Present → List ℕ
+pdf_of paper4 paper5 drawn = rows_pdf (rows_if drawn.four paper4) (rows_if drawn.five paper5)

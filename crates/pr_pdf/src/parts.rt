@@ -1,0 +1,302 @@
+//! The fixed parts of the document.
+
+ghost use Rattle.std.specs.Prelude.{◌≡◌};
+ghost use Rattle.pr_pdf.specs.Parts.{header, object_begin, object_end, reference, reference_end, dictionary_end, list_end, stream_begin, stream_bytes, stream_end, catalog_begin, fonts_begin, encoding_begin, characters_begin, characters_end, font_begin, font_characters, font_glyphs, glyph_box, glyph_strokes, page_begin, page_content, pages_begin, pages_kids, sheet_begin, sheet_end, run_place, run_codes, run_end, disc_move, disc_stroke, table_begin, table_free, place_end, trailer_begin, trailer_root, trailer_end};
+
+/// The first line.
+#[tactic(auto, unfolding(crate::specs::Parts::header))]
+pub fn header() -> &'static [u8]
+    ensures { result.now ≡ header }
+{
+    b"%PDF-1.4\n"
+}
+
+/// After an object's number.
+#[tactic(auto, unfolding(crate::specs::Parts::object_begin))]
+pub fn object_begin() -> &'static [u8]
+    ensures { result.now ≡ object_begin }
+{
+    b" 0 obj\n"
+}
+
+/// The end of an object.
+#[tactic(auto, unfolding(crate::specs::Parts::object_end))]
+pub fn object_end() -> &'static [u8]
+    ensures { result.now ≡ object_end }
+{
+    b"\nendobj\n"
+}
+
+/// After the number of an object that is named.
+#[tactic(auto, unfolding(crate::specs::Parts::reference))]
+pub fn reference() -> &'static [u8]
+    ensures { result.now ≡ reference }
+{
+    b" 0 R "
+}
+
+/// The same at the end of a dictionary.
+#[tactic(auto, unfolding(crate::specs::Parts::reference_end))]
+pub fn reference_end() -> &'static [u8]
+    ensures { result.now ≡ reference_end }
+{
+    b" 0 R >>"
+}
+
+/// The end of a dictionary in a dictionary.
+#[tactic(auto, unfolding(crate::specs::Parts::dictionary_end))]
+pub fn dictionary_end() -> &'static [u8]
+    ensures { result.now ≡ dictionary_end }
+{
+    b">> >>"
+}
+
+/// The end of a list in a dictionary.
+#[tactic(auto, unfolding(crate::specs::Parts::list_end))]
+pub fn list_end() -> &'static [u8]
+    ensures { result.now ≡ list_end }
+{
+    b"] >>"
+}
+
+/// A stream, up to its length.
+#[tactic(auto, unfolding(crate::specs::Parts::stream_begin))]
+pub fn stream_begin() -> &'static [u8]
+    ensures { result.now ≡ stream_begin }
+{
+    b"<< /Length "
+}
+
+/// Up to its bytes.
+#[tactic(auto, unfolding(crate::specs::Parts::stream_bytes))]
+pub fn stream_bytes() -> &'static [u8]
+    ensures { result.now ≡ stream_bytes }
+{
+    b" >>\nstream\n"
+}
+
+/// And after them.
+#[tactic(auto, unfolding(crate::specs::Parts::stream_end))]
+pub fn stream_end() -> &'static [u8]
+    ensures { result.now ≡ stream_end }
+{
+    b"\nendstream"
+}
+
+/// The object that begins the document, up to the one that has its sheets.
+#[tactic(auto, unfolding(crate::specs::Parts::catalog_begin))]
+pub fn catalog_begin() -> &'static [u8]
+    ensures { result.now ≡ catalog_begin }
+{
+    b"<< /Type /Catalog /Pages "
+}
+
+/// The fonts by their names.
+#[tactic(auto, unfolding(crate::specs::Parts::fonts_begin))]
+pub fn fonts_begin() -> &'static [u8]
+    ensures { result.now ≡ fonts_begin }
+{
+    b"<< /Font << "
+}
+
+/// The encoding of all fonts.
+#[tactic(auto, unfolding(crate::specs::Parts::encoding_begin))]
+pub fn encoding_begin() -> &'static [u8]
+    ensures { result.now ≡ encoding_begin }
+{
+    b"<< /Type /Encoding /Differences [0 "
+}
+
+/// A set's characters: one range of 256 codes, up to the character of code 0.
+#[tactic(auto, unfolding(crate::specs::Parts::characters_begin))]
+pub fn characters_begin() -> &'static [u8]
+    ensures { result.now ≡ characters_begin }
+{
+    b"/CIDInit /ProcSet findresource begin\n12 dict begin\nbegincmap\n/CIDSystemInfo << /Registry (Adobe) /Ordering (UCS) /Supplement 0 >> def\n/CMapName /Adobe-Identity-UCS def\n/CMapType 2 def\n1 begincodespacerange\n<00> <ff>\nendcodespacerange\n1 beginbfrange\n<00> <ff> ["
+}
+
+/// After the last character.
+#[tactic(auto, unfolding(crate::specs::Parts::characters_end))]
+pub fn characters_end() -> &'static [u8]
+    ensures { result.now ≡ characters_end }
+{
+    b"]\nendbfrange\nendcmap\nCMapName currentdict /CMap defineresource pop\nend\nend"
+}
+
+/// A font, up to its widths: its box holds the discs of all glyphs.
+#[tactic(auto, unfolding(crate::specs::Parts::font_begin))]
+pub fn font_begin() -> &'static [u8]
+    ensures { result.now ≡ font_begin }
+{
+    b"<< /Type /Font /Subtype /Type3 /FontBBox [-1 -22 505 262] /FontMatrix [1 0 0 1 0 0] /FirstChar 0 /LastChar 255 /Encoding 3 0 R /Resources << >> /Widths "
+}
+
+/// Up to its codes' characters.
+#[tactic(auto, unfolding(crate::specs::Parts::font_characters))]
+pub fn font_characters() -> &'static [u8]
+    ensures { result.now ≡ font_characters }
+{
+    b" 0 R /ToUnicode "
+}
+
+/// Up to its glyphs.
+#[tactic(auto, unfolding(crate::specs::Parts::font_glyphs))]
+pub fn font_glyphs() -> &'static [u8]
+    ensures { result.now ≡ font_glyphs }
+{
+    b" 0 R /CharProcs << "
+}
+
+/// After a glyph's width: the box that holds its discs, up to its right edge.
+#[tactic(auto, unfolding(crate::specs::Parts::glyph_box))]
+pub fn glyph_box() -> &'static [u8]
+    ensures { result.now ≡ glyph_box }
+{
+    b" 0 -1 -22 "
+}
+
+/// The box is as high as seven dots; strokes are a little wider than a dot column, with round ends.
+#[tactic(auto, unfolding(crate::specs::Parts::glyph_strokes))]
+pub fn glyph_strokes() -> &'static [u8]
+    ensures { result.now ≡ glyph_strokes }
+{
+    b" 262 d1\n44 w 1 J\n"
+}
+
+/// A sheet, up to the object that has the sheets.
+#[tactic(auto, unfolding(crate::specs::Parts::page_begin))]
+pub fn page_begin() -> &'static [u8]
+    ensures { result.now ≡ page_begin }
+{
+    b"<< /Type /Page /Parent "
+}
+
+/// Up to what it draws.
+#[tactic(auto, unfolding(crate::specs::Parts::page_content))]
+pub fn page_content() -> &'static [u8]
+    ensures { result.now ≡ page_content }
+{
+    b" 0 R /Contents "
+}
+
+/// The sheets, of 9.5 by 11 inches, up to their count.
+#[tactic(auto, unfolding(crate::specs::Parts::pages_begin))]
+pub fn pages_begin() -> &'static [u8]
+    ensures { result.now ≡ pages_begin }
+{
+    b"<< /Type /Pages /MediaBox [0 0 684 792] /Resources 2 0 R /Count "
+}
+
+/// Up to the first sheet.
+#[tactic(auto, unfolding(crate::specs::Parts::pages_kids))]
+pub fn pages_kids() -> &'static [u8]
+    ensures { result.now ≡ pages_kids }
+{
+    b" /Kids [ "
+}
+
+/// What a sheet draws: 1/35 point a unit (a little more across and a little less up, so that a viewer
+/// that rounds down to whole pixels does not lose one), from 3/4 inch from the left and 8 points
+/// below the lower edge.
+#[tactic(auto, unfolding(crate::specs::Parts::sheet_begin))]
+pub fn sheet_begin() -> &'static [u8]
+    ensures { result.now ≡ sheet_begin }
+{
+    b".0285714286 0 0 .0285714285 54 -8 cm\nBT\n"
+}
+
+/// And its end.
+#[tactic(auto, unfolding(crate::specs::Parts::sheet_end))]
+pub fn sheet_end() -> &'static [u8]
+    ensures { result.now ≡ sheet_end }
+{
+    b"ET\n"
+}
+
+/// After a font's name: a run's place.
+#[tactic(auto, unfolding(crate::specs::Parts::run_place))]
+pub fn run_place() -> &'static [u8]
+    ensures { result.now ≡ run_place }
+{
+    b" 1 Tf 1 0 0 1 "
+}
+
+/// Up to its codes.
+#[tactic(auto, unfolding(crate::specs::Parts::run_codes))]
+pub fn run_codes() -> &'static [u8]
+    ensures { result.now ≡ run_codes }
+{
+    b" Tm <"
+}
+
+/// After them.
+#[tactic(auto, unfolding(crate::specs::Parts::run_end))]
+pub fn run_end() -> &'static [u8]
+    ensures { result.now ≡ run_end }
+{
+    b"> Tj\n"
+}
+
+/// From where a disc's stroke begins.
+#[tactic(auto, unfolding(crate::specs::Parts::disc_move))]
+pub fn disc_move() -> &'static [u8]
+    ensures { result.now ≡ disc_move }
+{
+    b" m "
+}
+
+/// To the same place, and the stroke is drawn.
+#[tactic(auto, unfolding(crate::specs::Parts::disc_stroke))]
+pub fn disc_stroke() -> &'static [u8]
+    ensures { result.now ≡ disc_stroke }
+{
+    b" l S\n"
+}
+
+/// The table of places, up to their count.
+#[tactic(auto, unfolding(crate::specs::Parts::table_begin))]
+pub fn table_begin() -> &'static [u8]
+    ensures { result.now ≡ table_begin }
+{
+    b"xref\n0 "
+}
+
+/// The place that is no object's.
+#[tactic(auto, unfolding(crate::specs::Parts::table_free))]
+pub fn table_free() -> &'static [u8]
+    ensures { result.now ≡ table_free }
+{
+    b"\n0000000000 65535 f \n"
+}
+
+/// After a place.
+#[tactic(auto, unfolding(crate::specs::Parts::place_end))]
+pub fn place_end() -> &'static [u8]
+    ensures { result.now ≡ place_end }
+{
+    b" 00000 n \n"
+}
+
+/// The trailer, up to the count of places.
+#[tactic(auto, unfolding(crate::specs::Parts::trailer_begin))]
+pub fn trailer_begin() -> &'static [u8]
+    ensures { result.now ≡ trailer_begin }
+{
+    b"trailer\n<< /Size "
+}
+
+/// Up to where the table begins.
+#[tactic(auto, unfolding(crate::specs::Parts::trailer_root))]
+pub fn trailer_root() -> &'static [u8]
+    ensures { result.now ≡ trailer_root }
+{
+    b" /Root 1 0 R >>\nstartxref\n"
+}
+
+/// And the last line.
+#[tactic(auto, unfolding(crate::specs::Parts::trailer_end))]
+pub fn trailer_end() -> &'static [u8]
+    ensures { result.now ≡ trailer_end }
+{
+    b"\n%%EOF\n"
+}

@@ -1,0 +1,147 @@
+//! What is on a sheet.
+
+ghost use Rattle.std.specs.Prelude.{◌≡◌, ◌<◌, ◌≤◌, ◌∷◌, ◌++◌, [], ◌&&◌, drop, filter, flat_map, length, nat_lt, true, OnOk};
+ghost use Rattle.pr_dots.specs.Sheets.{first_sheet, is_on, last_sheet, sheet_count};
+ghost use Rattle.pr_pdf.specs.Sheets.{height_on, row_pdf, sheet_pdf};
+ghost use Rattle.pr_pdf.specs.Linked.{IsSkipped, ascend};
+
+use crate::parts::{sheet_begin, sheet_end};
+use crate::runs::push_runs;
+use pr_page::Row;
+use std::alloc::AllocError;
+
+/// The length of a sheet in 1/126 inch.
+const SHEET: u64 = 1386;
+
+/// The sheet on which a row begins.
+fn first_sheet(row: &Row) -> u64
+    ensures { result ≡ first_sheet row.now }
+{
+    row.y / SHEET
+}
+
+/// The sheet on which a row ends.
+#[tactic(auto, using(crate::proofs::Sheeted::last_is))]
+fn last_sheet(row: &Row) -> u64
+    ensures sheet { result ≡ last_sheet row.now }
+    ensures within { result < 18014398509481984 }
+{
+    row.y / SHEET + (row.y % SHEET + 13) / SHEET
+}
+
+/// How many sheets rows take.
+pub fn sheet_count(rows: &[Row]) -> u64
+    ensures count { result ≡ sheet_count rows.now }
+    ensures within { result ≤ 18014398509481984 }
+{
+    let mut count = 0;
+    for row in rows {
+        let needed = last_sheet(row) + 1;
+        if count < needed {
+            count = needed;
+        }
+    }
+    count
+}
+
+/// Whether no row is above the one before it.
+pub fn are_ascending(rows: &[Row]) -> bool
+    ensures { result ≡ ascend 0 rows.now }
+{
+    let mut y = 0;
+    for row in rows {
+        if row.y < y {
+            return false;
+        }
+        y = row.y;
+    }
+    true
+}
+
+/// Adds a row that is on a sheet.
+fn push_row(text: &mut Vec<u8>, sheet: u64, row: &Row) -> Result<(), AllocError>
+    requires { is_on sheet row.now ≡ true }
+    ensures { OnOk result (text.new.items ≡ text.old.items ++ row_pdf sheet row.now) }
+{
+    let place = row.y % SHEET;
+    let height = if first_sheet(row) == sheet {
+        20 * (1387 - place)
+    } else {
+        20 * (2773 - place)
+    };
+    push_runs(text, height, row.marks.as_slice())
+}
+
+/// Adds a row, if it is on a sheet.
+fn push_row_if(text: &mut Vec<u8>, sheet: u64, row: &Row) -> Result<(), AllocError>
+    ensures { OnOk result (text.new.items ≡ text.old.items ++ flat_map (row_pdf sheet) (filter (is_on sheet) (row.now ∷ []))) }
+{
+    if first_sheet(row) == sheet || last_sheet(row) == sheet {
+        push_row(text, sheet, row)?;
+    }
+    Ok(())
+}
+
+/// Whether a row is after a sheet, and so are those after it.
+fn is_past(ascending: bool, sheet: u64, row: &Row) -> bool
+    ensures { result ≡ (ascending && nat_lt sheet (first_sheet row.now)) }
+{
+    ascending && sheet < first_sheet(row)
+}
+
+/// Adds the rows that are on a sheet. If the rows ascend, those after the sheet are not looked at.
+fn push_rows(
+    text: &mut Vec<u8>,
+    sheet: u64,
+    rows: &[Row],
+    ascending: bool,
+) -> Result<(), AllocError>
+    requires { ascending ≡ true → ascend 0 rows.now ≡ true }
+    ensures { OnOk result (text.new.items ≡ text.old.items ++ flat_map (row_pdf sheet) (filter (is_on sheet) rows.now)) }
+{
+    for row in rows {
+        if is_past(ascending, sheet, row) {
+            return Ok(());
+        }
+        push_row_if(text, sheet, row)?;
+    }
+    Ok(())
+}
+
+/// Adds what a sheet draws.
+#[tactic(auto, unfolding(crate::specs::Sheets::sheet_pdf))]
+pub fn push_sheet(
+    text: &mut Vec<u8>,
+    sheet: u64,
+    rows: &[Row],
+    ascending: bool,
+) -> Result<(), AllocError>
+    requires { ascending ≡ true → ascend 0 rows.now ≡ true }
+    ensures { OnOk result (text.new.items ≡ text.old.items ++ sheet_pdf rows.now sheet) }
+{
+    text.extend_from_slice(sheet_begin())?;
+    push_rows(text, sheet, rows, ascending)?;
+    text.extend_from_slice(sheet_end())
+}
+
+/// The first row, from one on, that does not end before a sheet.
+#[tactic(auto, using(crate::proofs::Sheeted::one_skipped))]
+pub fn skip_before(rows: &[Row], from: usize, sheet: u64) -> usize
+    requires { from ≤ length rows.now }
+    ensures within { result ≤ length rows.now }
+    ensures before { IsSkipped sheet from rows.now → IsSkipped sheet result rows.now }
+{
+    let mut count = from;
+    while count < rows.len() && last_sheet(&rows[count]) < sheet {
+        count += 1;
+    }
+    count
+}
+
+/// The rows from one on.
+pub fn rows_from(rows: &[Row], from: usize) -> &[Row]
+    requires { from ≤ length rows.now }
+    ensures { result.now ≡ drop from rows.now }
+{
+    &rows[from..]
+}

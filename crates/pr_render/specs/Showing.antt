@@ -1,0 +1,29 @@
+-- Trusted: which formats show a part of the pages.
+use Rattle.std.specs.Prelude.{ℕ, Option, Some, None}
+use Rattle.pr_render.specs.declared.format.Device.{Device}
+use Rattle.pr_render.specs.declared.format.Part.{Part}
+use Rattle.pr_render.specs.declared.format.Format.{Format}
+use Rattle.pr_render.specs.declared.format.Format.TheVariants.{List, Lines, Svg, Png, Pdf}
+
+-- all of the pages
+abbrev pub whole : Part
+whole = record { device = None; sheet = None }
+
+-- a format if all of the pages are to be shown
+abbrev pub if_whole : Format → Option Device → Option ℕ → Option Format
+if_whole format None None = Some format
+if_whole format None (Some sheet) = None
+if_whole format (Some device) sheet = None
+
+-- a PDF document of all printers or of one: it has no single sheet
+abbrev pub pdf_showing : Option Device → Option ℕ → Option Format
+pdf_showing device None = Some (Pdf device)
+pdf_showing device (Some sheet) = None
+
+-- a format that shows this part of the pages, if it can: the list and the lines show all pages
+abbrev pub showing : Format → Part → Option Format
+showing List part = if_whole List part.device part.sheet
+showing Lines part = if_whole Lines part.device part.sheet
+showing (Svg old) part = Some (Svg part)
+showing (Png old) part = Some (Png part)
+showing (Pdf old) part = pdf_showing part.device part.sheet

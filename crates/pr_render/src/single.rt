@@ -1,0 +1,111 @@
+//! One sheet of a paper as an SVG document, in units of 1/1260 inch.
+
+ghost use Rattle.std.specs.Prelude.{◌≡◌, ◌+◌, ◌*◌, ◌≤◌, ◌++◌, flat_map, IfOk, OnOk};
+ghost use Rattle.pr_dots.specs.Sheets.{rows_on};
+ghost use Rattle.pr_render.specs.SheetSvg.{row_marks, sheet_svg_of, single_head, single_sheet, single_svg};
+ghost use Rattle.pr_render.specs.Svg.{definition_svg, definitions_svg, each_once, row_svg};
+
+use crate::adding::push_number;
+use crate::defined::Defined;
+use crate::parts::{
+    definitions_begin, definitions_end, document_about, ink_begin, paper_piece, sheet_end,
+    single_begin, single_end, single_marks, single_paper, single_size,
+};
+use crate::sheets::push_row;
+use pr_dots::is_on;
+use pr_page::{NoMemory, Paper, Row};
+use std::alloc::{AllocError, Global};
+
+/// Adds the document's head.
+#[tactic(auto, unfolding(crate::specs::SheetSvg::single_head))]
+fn push_head(text: &mut Vec<u8>, top: u128) -> Result<(), AllocError>
+    ensures { OnOk result (text.new.items ≡ text.old.items ++ single_head top) }
+{
+    text.extend_from_slice(single_begin())?;
+    push_number(text, top)?;
+    text.extend_from_slice(single_size())?;
+    text.extend_from_slice(document_about())?;
+    text.extend_from_slice(paper_piece())
+}
+
+/// Adds the sheet's paper.
+#[tactic(auto, unfolding(crate::specs::SheetSvg::single_sheet))]
+fn push_sheet(text: &mut Vec<u8>, top: u128) -> Result<(), AllocError>
+    ensures { OnOk result (text.new.items ≡ text.old.items ++ single_sheet top) }
+{
+    text.extend_from_slice(single_paper())?;
+    push_number(text, top)?;
+    text.extend_from_slice(single_marks())
+}
+
+/// Adds the definition of each mark of the rows on a sheet.
+fn push_marks(text: &mut Vec<u8>, alloc: Global, sheet: u64, rows: &[Row]) -> Result<(), AllocError>
+    ensures { OnOk result (text.new.items ≡ text.old.items ++ flat_map definition_svg (each_once (row_marks (rows_on sheet rows.now)))) }
+{
+    let mut defined = Defined::new(alloc)?;
+    defined.define_sheet(text, sheet, rows)?;
+    Ok(())
+}
+
+/// Adds these definitions with their begin and end.
+#[tactic(auto, unfolding(crate::specs::Svg::definitions_svg))]
+fn push_definitions(
+    text: &mut Vec<u8>,
+    alloc: Global,
+    sheet: u64,
+    rows: &[Row],
+) -> Result<(), AllocError>
+    ensures { OnOk result (text.new.items ≡ text.old.items ++ definitions_svg (row_marks (rows_on sheet rows.now))) }
+{
+    text.extend_from_slice(definitions_begin())?;
+    push_marks(text, alloc, sheet, rows)?;
+    text.extend_from_slice(definitions_end())
+}
+
+/// Adds the rows on a sheet.
+fn push_rows(text: &mut Vec<u8>, alloc: Global, sheet: u64, rows: &[Row]) -> Result<(), AllocError>
+    ensures { OnOk result (text.new.items ≡ text.old.items ++ flat_map row_svg (rows_on sheet rows.now)) }
+{
+    for row in rows {
+        if is_on(sheet, row) {
+            push_row(text, alloc, row)?;
+        }
+    }
+    Ok(())
+}
+
+/// Adds the document of the rows on a sheet, which begins at `top`.
+#[tactic(auto, unfolding(crate::specs::SheetSvg::single_svg))]
+fn push_single(
+    text: &mut Vec<u8>,
+    alloc: Global,
+    sheet: u64,
+    top: u128,
+    rows: &[Row],
+) -> Result<(), AllocError>
+    ensures { OnOk result (text.new.items ≡ text.old.items ++ single_svg top (rows_on sheet rows.now)) }
+{
+    push_head(text, top)?;
+    push_definitions(text, alloc, sheet, rows)?;
+    push_sheet(text, top)?;
+    text.extend_from_slice(ink_begin())?;
+    push_rows(text, alloc, sheet, rows)?;
+    text.extend_from_slice(sheet_end())?;
+    text.extend_from_slice(single_end())
+}
+
+/// One sheet of a paper, from 0, as an SVG document: 10 inches of continuous paper by the 11 inches between two folds. A row
+/// that straddles a fold is on both sheets, each of which shows its part. Marks that are held have no place yet, and are left
+/// out. What is drawn of a mark is what [`crate::svg`] draws.
+///
+/// # Errors
+///
+/// [`NoMemory`] where memory was refused.
+pub fn sheet_svg(alloc: Global, paper: &Paper, sheet: u64) -> Result<Vec<u8>, NoMemory>
+    ensures { IfOk result (λ text. text.items ≡ sheet_svg_of paper.now sheet) }
+{
+    let mut text = Vec::new(alloc);
+    let top = 13_860 * u128::from(sheet) + 630;
+    push_single(&mut text, alloc, sheet, top, paper.rows.as_slice())?;
+    Ok(text)
+}

@@ -1,0 +1,173 @@
+//! What is odd about a recording, in lines at the end of its report.
+
+ghost use Rattle.std.specs.Prelude.{◌≡◌, ◌++◌, ◌∷◌, ◌||◌, [], List, OnOk};
+ghost use Rattle.std.specs.List.{list_any};
+ghost use Rattle.pr_wire.specs.declared.Edge.{Edge};
+ghost use Rattle.pr_decode.specs.declared.reading.Reading.{Reading};
+ghost use Rattle.pr_report.specs.Oddities.{advice, is_acknowledged, is_attention, is_odd, odd_levels, oddities_of, oddities_text, told_if};
+ghost use Rattle.pr_report.specs.Steps.{first_or};
+ghost use Rattle.pr_report.specs.Taking.{HasSeen};
+
+use pr_decode::{FrameEnd, Reading};
+use pr_wire::{Edge, Levels, NoMemory};
+
+/// What is odd about a recording: signs that other signals were recorded, or the lines the other way round.
+#[derive(Clone, Copy, Debug, PartialEq, Eq)]
+pub struct Oddities {
+    /// No byte is acknowledged.
+    pub no_byte: bool,
+    /// ATN is never pulled.
+    pub no_attention: bool,
+    /// The recording begins and ends with ATN at 0.
+    pub atn_rests: bool,
+    /// The recording begins and ends with CLOCK at 0.
+    pub clock_rests: bool,
+    /// The recording begins and ends with DATA at 0.
+    pub data_rests: bool,
+}
+
+/// What the edges of a recording so far say of its lines.
+#[derive(Clone, Copy)]
+pub struct LinesSeen {
+    /// ATN was pulled.
+    has_attention: bool,
+    /// The levels of the first edge.
+    first: Option<Levels>,
+    /// The levels of the last edge so far.
+    last: Option<Levels>,
+}
+
+/// Whether a reading is an acknowledged byte.
+pub fn is_acknowledged(reading: &Reading) -> bool
+    ensures { result ≡ is_acknowledged reading.now }
+{
+    match reading {
+        Reading::Frame(_, FrameEnd::Acknowledged(_)) => true,
+        Reading::Frame(_, FrameEnd::Unacknowledged(_)) => false,
+        Reading::Frame(_, FrameEnd::Cut) => false,
+        Reading::IncompleteByte(_, _) => false,
+    }
+}
+
+/// Whether attention has come, with one edge more.
+fn with_attention(before: bool, edge: Edge) -> bool
+    ensures { result ≡ (before || is_attention edge) }
+{
+    before || !edge.levels.atn
+}
+
+/// The levels of the first edge, after one edge more.
+fn first_or(first: Option<Levels>, next: Levels) -> Levels
+    ensures { result ≡ first_or first next }
+{
+    match first {
+        None => next,
+        Some(first) => first,
+    }
+}
+
+impl LinesSeen {
+    /// No edge was looked at.
+    pub fn new() -> LinesSeen
+        ensures { HasSeen [] result }
+    {
+        LinesSeen {
+            has_attention: false,
+            first: None,
+            last: None,
+        }
+    }
+
+    /// Looks at the next edge.
+    pub fn take(&mut self, edge: Edge)
+        ensures { (edges : List Edge) → HasSeen edges self.old → HasSeen (edges ++ edge ∷ []) self.new }
+    {
+        self.has_attention = with_attention(self.has_attention, edge);
+        self.first = Some(first_or(self.first, edge.levels));
+        self.last = Some(edge.levels);
+    }
+
+    /// What is odd about the edges, of whose readings some are acknowledged bytes or none is.
+    pub fn oddities(self, has_byte: bool) -> Oddities
+        ensures { (edges : List Edge) (readings : List Reading) → HasSeen edges self →
+            has_byte ≡ list_any is_acknowledged readings → result ≡ oddities_of edges readings }
+    {
+        odd_levels(!has_byte, !self.has_attention, self.first, self.last)
+    }
+}
+
+/// What is odd, by the levels at the recording's beginning and at its end.
+fn odd_levels(
+    no_byte: bool,
+    no_attention: bool,
+    first: Option<Levels>,
+    last: Option<Levels>,
+) -> Oddities
+    ensures { result ≡ odd_levels no_byte no_attention first last }
+{
+    let (Some(first), Some(last)) = (first, last) else {
+        return Oddities {
+            no_byte,
+            no_attention,
+            atn_rests: false,
+            clock_rests: false,
+            data_rests: false,
+        };
+    };
+    Oddities {
+        no_byte,
+        no_attention,
+        atn_rests: !(first.atn || last.atn),
+        clock_rests: !(first.clock || last.clock),
+        data_rests: !(first.line || last.line),
+    }
+}
+
+/// Adds a line, if something is so.
+fn push_if(text: &mut Vec<u8>, is_so: bool, line: &[u8]) -> Result<(), NoMemory>
+    ensures { OnOk result (text.new.items ≡ text.old.items ++ told_if is_so line.now) }
+{
+    if is_so {
+        text.extend_from_slice(line)?;
+    }
+    Ok(())
+}
+
+/// Whether anything is odd.
+fn is_odd(odd: Oddities) -> bool
+    ensures { result ≡ is_odd odd }
+{
+    odd.no_byte || odd.no_attention || odd.atn_rests || odd.clock_rests || odd.data_rests
+}
+
+/// Adds what to try, if anything is odd.
+fn push_advice(text: &mut Vec<u8>, odd: Oddities) -> Result<(), NoMemory>
+    ensures { OnOk result (text.new.items ≡ text.old.items ++ advice odd) }
+{
+    push_if(
+        text,
+        is_odd(odd),
+        b"try --invert for probes behind inverters, or other signals with --names\n",
+    )
+}
+
+/// Adds a line for each thing that is odd about a recording, and one with what to try, if there is any.
+///
+/// # Errors
+///
+/// [`NoMemory`] where a growth of the text was refused. Nothing is promised of the text then.
+pub fn push_oddities(text: &mut Vec<u8>, odd: Oddities) -> Result<(), NoMemory>
+    ensures { OnOk result (text.new.items ≡ text.old.items ++ oddities_text odd) }
+{
+    push_if(text, odd.no_byte, b"no byte is acknowledged\n")?;
+    push_if(
+        text,
+        odd.no_attention,
+        b"attention never comes: ATN is not pulled\n",
+    )?;
+    push_if(text, odd.atn_rests, b"ATN rests at 0\n")?;
+    push_if(text, odd.clock_rests, b"CLOCK rests at 0\n")?;
+    push_if(text, odd.data_rests, b"DATA rests at 0\n")?;
+    push_advice(text, odd)?;
+    Ok(())
+}

@@ -1,0 +1,351 @@
+//! A task done: its files opened, its job done over them, and what there is to tell on standard error.
+
+ghost use Rattle.std.specs.Prelude.{◌≡◌};
+ghost use Rattle.print1525.specs.Statuses.{fault_status, text_status};
+
+use crate::jobs::do_job;
+use crate::progress::{Progress, clear};
+use crate::shown::Shown;
+use crate::statuses::{FAILED, ending_status, fault_status, is_answered, text_status};
+use crate::told::{subject_of, tell_listing, tell_more};
+use pr_capture::TraceInput;
+use pr_cli::{CliFault, SCRIPT_LIMIT, TeeReader, Watched};
+use pr_files::{Noting, save};
+use pr_listing::{ListingForm, TextFault, read_text};
+use pr_options::{Job, Task, found_source};
+use pr_render::Format;
+use std::alloc::Global;
+use std::cell::Cell;
+use std::fs::{File, Files};
+use std::io;
+use std::io::{Error, Read, Write};
+use std::time::Clock;
+
+/// How many bytes of a recording show its format, at most.
+const FIRST: usize = 4096;
+
+/// The names of a task's files; None of standard input and of standard output.
+#[derive(Clone, Copy)]
+struct Names<'a> {
+    input: Option<&'a str>,
+    output: Option<&'a str>,
+}
+
+/// How a task is done, beside its job.
+#[derive(Clone, Copy)]
+pub struct Manner {
+    /// An explanation follows a refusal or an error.
+    pub is_explained: bool,
+    /// Standard input is a terminal.
+    pub is_typed: bool,
+    /// Standard error is a terminal.
+    pub is_watched: bool,
+    /// Standard output is a terminal.
+    pub is_seen: bool,
+}
+
+/// What goes to standard error beside a fault.
+#[derive(Clone, Copy)]
+struct Aside<'a> {
+    /// An explanation follows a refusal or an error.
+    is_explained: bool,
+    /// A number of bytes read is on the terminal, to be cleared before anything else is said.
+    is_shown: &'a Cell<bool>,
+}
+
+/// Opens the files that a task names, does its job and gives the exit status.
+pub fn answer_task(
+    rt: &(impl Files + Clock + Input + Print + Eprint + AllocGlobal),
+    task: Task<'_>,
+    manner: Manner,
+) -> u8 {
+    let Task { job, input, output } = task;
+    let names = Names {
+        input,
+        output: output.filter(|name| !is_standard_output(name)),
+    };
+    let is_shown = Cell::new(false);
+    let aside = Aside {
+        is_explained: manner.is_explained,
+        is_shown: &is_shown,
+    };
+    let is_apart = manner.is_watched && (names.output.is_some() || !manner.is_seen);
+    let Some(name) = input else {
+        if manner.is_typed {
+            tell_waiting(rt, &job);
+        }
+        let reader = Progress::new(rt, rt.reader(), is_apart && !manner.is_typed, &is_shown);
+        return answer_from(rt, reader, names, job, aside);
+    };
+    match File::open(rt, name) {
+        Ok(file) => {
+            let reader = Progress::new(rt, file, is_apart, &is_shown);
+            answer_from(rt, reader, names, job, aside)
+        }
+        Err(error) => tell_file(rt, name, &error),
+    }
+}
+
+/// Whether a file's name is one of standard output's, which is written on: its file is not replaced.
+fn is_standard_output(name: &str) -> bool {
+    matches!(name, "/dev/stdout" | "/dev/fd/1" | "/proc/self/fd/1")
+}
+
+/// Says on standard error what a run waits for whose input comes from a terminal.
+fn tell_waiting(rt: &impl Eprint, job: &Job<'_>) {
+    let input = match job {
+        Job::Pages(..) | Job::Bus(..) => "a script",
+        Job::Check(..) => "a trace",
+        Job::Decode { .. } => "a recording",
+        Job::Raw { .. } => "a printer's bytes",
+    };
+    let _ = rt.eprintln(format_args!(
+        "print1525: reading {input} from the terminal; Ctrl-D on a new line ends it"
+    ));
+}
+
+/// Does a job over a reader and gives the exit status. A file that is written is put in its place
+/// only where the job is done or a BASIC error stopped it.
+fn answer_from<R: Read + Drop>(
+    rt: &(impl Files + Print + Eprint + AllocGlobal),
+    reader: R,
+    names: Names<'_>,
+    job: Job<'_>,
+    aside: Aside<'_>,
+) -> u8 {
+    let Some(name) = names.output else {
+        let (status, _output) = answer_job(rt, reader, io::writer(rt), names, job, aside);
+        return status;
+    };
+    let saving = match save(rt, name) {
+        Ok(saving) => saving,
+        Err(error) => return tell_file(rt, name, &error),
+    };
+    let (status, saving) = answer_job(rt, reader, saving, names, job, aside);
+    if is_answered(status) {
+        match saving.keep(rt) {
+            Ok(()) => status,
+            Err(error) => tell_file(rt, name, &error),
+        }
+    } else {
+        saving.discard(rt);
+        status
+    }
+}
+
+/// Does a job over a reader and a writer, and gives the exit status and the writer. A listing in
+/// another form is made a script's text first, and the format of a recording is found first.
+fn answer_job<R: Read + Drop, W: Write + Drop>(
+    rt: &(impl Eprint + AllocGlobal),
+    reader: R,
+    writer: W,
+    names: Names<'_>,
+    job: Job<'_>,
+    aside: Aside<'_>,
+) -> (u8, W) {
+    if let Some(reading) = reading_to_find(&job) {
+        return answer_recording(rt, reader, writer, names, reading, aside);
+    }
+    let form = form_of(&job);
+    if form == ListingForm::Text {
+        return answer_over(rt, reader, writer, names, job, aside);
+    }
+    answer_listing(rt, reader, writer, names, form, job, aside)
+}
+
+/// The recording of which a job has to find the format.
+fn reading_to_find<'a>(job: &Job<'a>) -> Option<Reading<'a>> {
+    match job {
+        Job::Decode {
+            is_found: true,
+            input,
+            format,
+        } => Some(Reading {
+            input: *input,
+            format: *format,
+        }),
+        _ => None,
+    }
+}
+
+/// A recording whose format is to be found, and the format of what is written.
+#[derive(Clone, Copy)]
+struct Reading<'a> {
+    input: TraceInput<'a>,
+    format: Format,
+}
+
+/// Does a job of `decode` in the format that the first bytes show.
+fn answer_recording<R: Read + Drop, W: Write + Drop>(
+    rt: &(impl Eprint + AllocGlobal),
+    reader: R,
+    writer: W,
+    names: Names<'_>,
+    reading: Reading<'_>,
+    aside: Aside<'_>,
+) -> (u8, W) {
+    let mut input = Watched::new(Noting::new(reader));
+    match read_first(rt.alloc(), &mut input) {
+        Ok(first) => {
+            let source = found_source(reading.input.source, first.as_slice());
+            let job = Job::Decode {
+                is_found: false,
+                input: TraceInput {
+                    source,
+                    signals: reading.input.signals,
+                    start: reading.input.start,
+                },
+                format: reading.format,
+            };
+            let whole = first.as_slice().chain(input.into_inner());
+            answer_over(rt, whole, writer, names, job, aside)
+        }
+        Err(CliFault::ReadFailed) => {
+            let error = input.into_inner().error();
+            clear(rt, aside.is_shown);
+            (
+                tell_failed(rt, CliFault::ReadFailed, names.input, error),
+                writer,
+            )
+        }
+        Err(fault) => {
+            clear(rt, aside.is_shown);
+            (tell(rt, fault), writer)
+        }
+    }
+}
+
+/// The first bytes of an input: 4096, or all where there are fewer.
+fn read_first<R: Read>(alloc: Global, input: &mut Watched<R>) -> Result<Vec<u8>, CliFault> {
+    let mut first = Vec::new(alloc);
+    let mut block = [0u8; FIRST];
+    for _ in 0..FIRST {
+        let wanted = FIRST.saturating_sub(first.len());
+        match input.read(&mut block[..wanted.min(FIRST)]) {
+            Ok(0) => break,
+            Ok(n) => {
+                if first.extend_from_slice(&block[..n]).is_err() {
+                    return Err(CliFault::NoMemory);
+                }
+            }
+            Err(_) => return Err(CliFault::ReadFailed),
+        }
+    }
+    Ok(first)
+}
+
+/// Does a job over the text of a listing in another form.
+fn answer_listing<R: Read + Drop, W: Write + Drop>(
+    rt: &(impl Eprint + AllocGlobal),
+    reader: R,
+    writer: W,
+    names: Names<'_>,
+    form: ListingForm,
+    job: Job<'_>,
+    aside: Aside<'_>,
+) -> (u8, W) {
+    let kept = TeeReader::new(rt.alloc(), reader, aside.is_explained);
+    let mut input = Watched::new(Noting::new(kept));
+    match read_text(rt.alloc(), &mut input, form, SCRIPT_LIMIT) {
+        Ok(text) => answer_over(rt, text.as_slice(), writer, names, job, aside),
+        Err(fault) => {
+            let input = input.into_inner();
+            clear(rt, aside.is_shown);
+            let status = refuse_listing(rt, fault, names.input, input.error());
+            if let Some(bytes) = input.into_inner().into_bytes() {
+                tell_listing(rt, bytes.as_slice(), fault);
+            }
+            (status, writer)
+        }
+    }
+}
+
+/// The form of the listing that a job reads; an input that is no listing is read as it is.
+fn form_of(job: &Job<'_>) -> ListingForm {
+    match job {
+        Job::Pages(form, _, _, _, _) | Job::Bus(form, _, _, _, _) => *form,
+        Job::Check(..) | Job::Decode { .. } | Job::Raw { .. } => ListingForm::Text,
+    }
+}
+
+/// Does a job over a reader and a writer, and gives the exit status and the writer. Where more is to
+/// be told, the input is kept, since a trace text's first bad line may be its last.
+fn answer_over<R: Read + Drop, W: Write + Drop>(
+    rt: &(impl Eprint + AllocGlobal),
+    reader: R,
+    writer: W,
+    names: Names<'_>,
+    job: Job<'_>,
+    aside: Aside<'_>,
+) -> (u8, W) {
+    let subject = subject_of(&job);
+    let kept = TeeReader::new(rt.alloc(), reader, aside.is_explained);
+    let mut input = Watched::new(Noting::new(kept));
+    let mut output = Watched::new(Noting::new(writer));
+    let answer = do_job(rt.alloc(), &mut input, &mut output, job);
+    clear(rt, aside.is_shown);
+    let input = input.into_inner();
+    let output = output.into_inner();
+    let status = match answer {
+        Ok(ending) => ending_status(ending),
+        Err(CliFault::ReadFailed) => tell_failed(
+            rt,
+            CliFault::ReadFailed,
+            names.input,
+            input.error(),
+        ),
+        Err(CliFault::WriteFailed) => {
+            tell_failed(rt, CliFault::WriteFailed, names.output, output.error())
+        }
+        Err(fault) => tell(rt, fault),
+    };
+    if let Some(bytes) = input.into_inner().into_bytes() {
+        tell_more(rt, bytes.as_slice(), subject, answer);
+    }
+    (status, output.into_inner())
+}
+
+/// Tells in one line on standard error why a listing has no text, and gives the exit status.
+fn refuse_listing(
+    rt: &impl Eprint,
+    fault: TextFault,
+    name: Option<&str>,
+    error: Option<Error>,
+) -> u8
+    ensures { result ≡ text_status fault }
+{
+    match (fault, name, error) {
+        (TextFault::ReadFailed, Some(name), Some(error)) => tell_file(rt, name, &error),
+        _ => {
+            let _ = rt.eprintln(format_args!("print1525: {fault}"));
+            text_status(fault)
+        }
+    }
+}
+
+/// Tells in one line on standard error of a failed read or write: of a file by its name and the
+/// reason. Gives the exit status.
+fn tell_failed(rt: &impl Eprint, fault: CliFault, name: Option<&str>, error: Option<Error>) -> u8 {
+    match (name, error) {
+        (Some(name), Some(error)) => tell_file(rt, name, &error),
+        _ => tell(rt, fault),
+    }
+}
+
+/// Tells in one line on standard error why a file cannot be opened, read or written, and gives the
+/// exit status.
+fn tell_file(rt: &impl Eprint, name: &str, error: &Error) -> u8
+    ensures { result ≡ 3 }
+{
+    let name = Shown(name);
+    let _ = rt.eprintln(format_args!("print1525: {name}: {error}"));
+    FAILED
+}
+
+/// Tells a fault in one line on standard error and gives its exit status.
+pub fn tell(rt: &impl Eprint, fault: CliFault) -> u8
+    ensures { result ≡ fault_status fault }
+{
+    let _ = rt.eprintln(format_args!("print1525: {fault}"));
+    fault_status(fault)
+}

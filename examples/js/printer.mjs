@@ -1,0 +1,41 @@
+// An emulator's printer: it hears what comes on the bus, and each sheet is there as soon as there is ink on it.
+//
+//     node printer.mjs < PRINTER_BYTES       writes sheet.svg and sheets.pdf of a printer's raw bytes
+//
+// In a page, load the module with `loadPrint1525(await (await fetch('print1525.wasm')).arrayBuffer())`.
+import { openPrint1525 } from '../../web/print1525.mjs';
+
+const GRAPHIC = 256, LOWER = 257;      // what a LISTEN selects: the graphic/upper case set, or with secondary address 7 the lower/upper case set
+
+/** A VIC-1525 on an emulator's bus. */
+export class Printer {
+  constructor(module) {
+    this.module = module;
+    this.inputs = [];
+  }
+
+  /** LISTEN with a secondary address. */
+  listen(secondary) { this.inputs.push(secondary === 7 ? LOWER : GRAPHIC); }
+
+  /** A byte of data. */
+  byte(value) { this.inputs.push(value); }
+
+  /** What is on its paper: 'svg' and 'png' for a screen, 'pdf' to be printed, 'text' for a terminal. */
+  paper(format = 'svg') {
+    const answer = this.module.print({ inputs: this.inputs, format });
+    if (answer.code) throw new Error(`print1525: ${this.module.words(answer)}`);
+    return answer.text;
+  }
+
+  /** Tears the paper off. */
+  tear() { this.inputs = []; }
+}
+
+if (typeof process === 'object' && process.argv[1] === new URL(import.meta.url).pathname) {
+  const { readFileSync, writeFileSync } = await import('node:fs');
+  const printer = new Printer(await openPrint1525());
+  printer.listen(0);
+  for (const value of readFileSync(0)) printer.byte(value);
+  writeFileSync('sheet.svg', printer.paper());
+  writeFileSync('sheets.pdf', printer.paper('pdf'));
+}

@@ -1,0 +1,96 @@
+// Listings as people keep them: a saved program as petcat writes it, and what a file of a listing seems to be.
+// The module reads petcat's text; what is made here is shown only where the module prints the same of it.
+
+const KEYWORDS = ('end for next data input# input dim read let goto run if restore gosub return rem stop on wait load save verify def ' +
+  'poke print# print cont list clr cmd sys open close get new tab( to fn spc( then not step + - * / ^ and or > = < sgn int abs usr fre ' +
+  'pos sqr rnd log exp cos sin tan atn peek len str$ val asc chr$ left$ right$ mid$ go').split(' ');
+const REM = 143;
+
+// petcat's names of bytes 0 to 31 and of 128 to 223, where it has one.
+export const NAMES = [
+  ['', 'ctrl-a', 'ctrl-b', 'stop', 'ctrl-d', 'wht', 'ctrl-f', 'ctrl-g', 'dish', 'ensh', 'ctrl-j', 'ctrl-k', 'ctrl-l', '', 'swlc', 'ctrl-o',
+    'ctrl-p', 'down', 'rvon', 'home', 'del', 'ctrl-u', 'ctrl-v', 'ctrl-w', 'ctrl-x', 'ctrl-y', 'ctrl-z', 'esc', 'red', 'rght', 'grn', 'blu'],
+  ['', 'orng', '', '', '', 'f1', 'f3', 'f5', 'f7', 'f2', 'f4', 'f6', 'f8', 'sret', 'swuc', '',
+    'blk', 'up', 'rvof', 'clr', 'inst', 'brn', 'lred', 'gry1', 'gry2', 'lgrn', 'lblu', 'gry3', 'pur', 'left', 'yel', 'cyn',
+    'shift-space', 'cbm-k', 'cbm-i', 'cbm-t', 'cbm-@', 'cbm-g', 'cbm-+', 'cbm-m', 'cbm-pound', 'shift-pound', 'cbm-n', 'cbm-q', 'cbm-d',
+    'cbm-z', 'cbm-s', 'cbm-p', 'cbm-a', 'cbm-e', 'cbm-r', 'cbm-w', 'cbm-h', 'cbm-j', 'cbm-l', 'cbm-y', 'cbm-u', 'cbm-o', 'shift-@', 'cbm-f',
+    'cbm-c', 'cbm-x', 'cbm-v', 'cbm-b', 'shift-*', ...Array.from('abcdefghijklmnopqrstuvwxyz', letter => `shift-${letter}`), 'shift-+',
+    'cbm--', 'shift--', '', 'cbm-*'],
+];
+
+/** What petcat writes for a byte of a string; a name without its braces, where `isName`. */
+function pieceOf(byte) {
+  if (byte >= 65 && byte <= 90) return { text: String.fromCharCode(byte + 32) };
+  if (byte >= 193 && byte <= 218) return { text: String.fromCharCode(byte - 128) };
+  if (byte >= 32 && byte <= 95) return { text: String.fromCharCode(byte) };
+  const name = byte < 128 ? NAMES[0][byte] : NAMES[1][byte - 128];
+  return { text: !name ? `$${byte.toString(16).padStart(2, '0')}` : name.includes('-') ? name.toUpperCase() : name, isName: true };
+}
+
+/** Bytes of a string, with one name for a run of the same byte. */
+function stringOf(bytes) {
+  const parts = [];
+  for (let at = 0, next; at < bytes.length; at = next) {
+    const { text, isName } = pieceOf(bytes[at]);
+    next = at + 1;
+    while (isName && next < bytes.length && bytes[next] === bytes[at] && next - at < 255) next++;
+    parts.push(!isName ? text : next - at > 1 ? `{${next - at} ${text}}` : `{${text}}`);
+  }
+  return parts.join('');
+}
+
+/** A byte of a line outside strings and remarks, with what is before it: what would make another word with that is parted from it. */
+function plainOf(byte, before) {
+  const text = byte >= 128 ? KEYWORDS[byte - 128] || '?' : byte >= 32 && byte < 127 ? String.fromCharCode(byte).toLowerCase() : '?';
+  return (text[0] === '#' || text[0] === '$') && /[a-z]$/.test(before) ? ` ${text}` : text;
+}
+
+/** A line of a saved program, as petcat writes it. */
+function lineOf(number, bytes) {
+  let text = `${number} `, at = 0;
+  while (at < bytes.length) {
+    const byte = bytes[at++];
+    if (byte === REM) return `${text}rem${stringOf(bytes.subarray(at))}`;
+    if (byte !== 34) { text += plainOf(byte, text); continue; }
+    const end = bytes.indexOf(34, at), string = bytes.subarray(at, end < 0 ? bytes.length : end);
+    text += `"${stringOf(string)}${end < 0 ? '' : '"'}`;
+    at += string.length + (end < 0 ? 0 : 1);
+  }
+  return text;
+}
+
+/** A saved program as petcat's text, a line for each line; null where it is cut off. */
+export function petcatOf(file) {
+  const lines = [];
+  for (let at = 2; at + 2 <= file.length;) {
+    if (file[at] === 0 && file[at + 1] === 0) return lines.map(line => `${line}\n`).join('');
+    const end = file.indexOf(0, at + 4);
+    if (at + 4 > file.length || end < 0) return null;
+    lines.push(lineOf(file[at + 2] + 256 * file[at + 3], file.subarray(at + 4, end)));
+    at = end + 1;
+  }
+  return null;
+}
+
+/** Whether a text seems to be petcat's: it has its heading, or a name in braces in a string. */
+export const looksPetcat = text => /^\s*;.*==[0-9a-f]{4}==\s*$/im.test(text.slice(0, 400)) || /"[^"\n]*\{(?:\d+ )?(?:[a-z][a-z0-9@*+-]*|\$[0-9a-f]{2})\}/i.test(text);
+
+/** Whether a string of a script, in front of its remark, has a small letter or a brace. */
+export const hasTyped = text => text.length < 200000 && /[a-z{]/.test(text) && text.split('\n').some(line => {
+  const front = /^(?:"[^"]*(?:"|$)|(?!rem)[^"])*/i.exec(line)[0];
+  return (front.match(/"[^"]*/g) || []).some((part, index) => index % 2 === 0 && /[a-z{]/.test(part));
+});
+
+/** Whether bytes are a text's: control codes are tabs and line ends alone. */
+export const isTextual = bytes => bytes.every(byte => byte >= 32 || byte === 9 || byte === 10 || byte === 13);
+
+/** Why a file is none of what the page takes, in words, or nothing. */
+export function refusalOf(bytes, name) {
+  if (!bytes.length) return `${name} is empty.`;
+  const head = String.fromCharCode(...bytes.subarray(0, 8));
+  const [, what] = [['\x89PNG', 'a picture'], ['\xff\xd8\xff', 'a picture'], ['GIF8', 'a picture'], ['%PDF', 'a PDF'], ['PK\x03\x04', 'a ZIP archive']]
+    .find(([begin]) => head.startsWith(begin)) || [];
+  if (what) return `${name} is ${what}: drop a listing, a saved program, a trace, a recording or a printer's bytes.`;
+  const isDisk = [174848, 175531, 196608, 197376].includes(bytes.length);
+  return isDisk ? `${name} is a disk image: take the program out of it first, with VICE's c1541 for example.` : '';
+}

@@ -1,0 +1,246 @@
+// Loads the WebAssembly module of the proved crates, in a page, in a worker or in Node:
+//
+//     import { loadPrint1525 } from './module.mjs';
+//     const module = await loadPrint1525(bytes);
+//     const { code, text } = module.pages({ script, format: 'svg' });
+//
+// Scripts, recordings and texts are Uint8Arrays. Each method gives
+//
+//     code        0 done, 1 stopped by a BASIC error, 2 refused, 3 out of memory
+//     fault       with code 1 the number of the BASIC error, with code 2 that of the fault, else 0
+//     statement   with code 1 the statement that stopped, from 1, else 0
+//     line        with code 2 the line of the fault, from 1, or 0
+//     column      with code 2 the column of what petcat does not write, from 1, or 0
+//     edge        with code 2 the index of the edge of the fault, from 0, or -1
+//     text        what the program `print1525` writes on standard output; of a method whose name begins with
+//                 `explain` what its option --explain tells on standard error
+//
+// The numbers are those of include/print1525.h, and for recordings those of crates/pr_web/src/answer.rt.
+// `module.words(answer)` says a stop or a fault in the program's words.
+
+export const loadPrint1525 = (() => {
+  'use strict';
+
+  const PAGE = 65536;
+  // An instance whose memory has grown beyond this many bytes is not kept for the next call.
+  const KEPT = 2 ** 28;
+  // The room that a text gets at first, if eight times the input is less. Where it is too small, the answer says how much it needs.
+  const ROOM = 2 ** 20;
+
+  // The heap that the module imports, and that the page's own buffers stand in: the memory above `__heap_base`.
+  // A block has 2^c bytes, c from 4 on, behind 16 bytes of which the first holds c. Freed blocks are kept by c.
+  function makeHeap(exports) {
+    const { memory } = exports;
+    const free = Array.from({ length: 48 }, () => []);
+    let top = Math.ceil(Number(exports.__heap_base.value) / 16) * 16;
+    let view = new DataView(memory.buffer);
+    const data = () => (view.buffer === memory.buffer ? view : (view = new DataView(memory.buffer)));
+    const classOf = size => {
+      let c = 4;
+      while (2 ** c < size) c++;
+      return c;
+    };
+
+    // Whether the memory has grown by so many pages.
+    function grow(pages) {
+      try {
+        memory.grow(pages);
+        return true;
+      } catch {
+        return false;
+      }
+    }
+
+    // The address of a new block of so many bytes, a multiple of 16, or 0 where the browser gives no more.
+    function get(size) {
+      const c = classOf(size);
+      if (c >= free.length) return 0;
+      if (free[c].length) return free[c].pop();
+      const at = top + 16;
+      const missing = at + 2 ** c - memory.buffer.byteLength;
+      // A memory that cannot grow where it stands is copied: so it grows by half of what it is, if the browser gives that.
+      const pages = size => Math.ceil(size / PAGE);
+      if (missing > 0 && !grow(pages(Math.max(missing, memory.buffer.byteLength / 2))) && !grow(pages(missing))) return 0;
+      top = at + 2 ** c;
+      data().setUint8(at - 16, c);
+      return at;
+    }
+
+    function put(at) {
+      free[data().getUint8(at - 16)].push(at);
+    }
+
+    // Writes what an allocation came to: whether there is a block, and its address.
+    function tell(to, at) {
+      data().setBigUint64(Number(to), at ? 1n : 0n, true);
+      data().setBigUint64(Number(to) + 8, BigInt(at || 16), true);
+    }
+
+    return {
+      get,
+      put,
+      rattle_alloc(to, size) {
+        tell(to, get(Number(size)));
+      },
+      rattle_realloc(to, block, kept, size) {
+        const at = Number(block);
+        if (Number(size) <= 2 ** data().getUint8(at - 16)) return tell(to, at);
+        const next = get(Number(size));
+        if (next) {
+          new Uint8Array(memory.buffer).copyWithin(next, at, at + Number(kept));
+          put(at);
+        }
+        return tell(to, next);
+      },
+      rattle_dealloc(block) {
+        put(Number(block));
+      },
+    };
+  }
+
+  // One instance, and calls of its exports.
+  function makeInstance(compiled) {
+    let heap = null;
+    const later = name => (...words) => heap[name](...words);
+    const imports = Object.fromEntries(['rattle_alloc', 'rattle_realloc', 'rattle_dealloc'].map(it => [it, later(it)]));
+    /** @type {any} */
+    const exports = new WebAssembly.Instance(compiled, { heap: imports }).exports;
+
+    // A slice in the module's memory: its address and its length.
+    function slice(items) {
+      const at = heap.get(Math.max(items.byteLength, 1));
+      if (!at) return null;
+      new Uint8Array(exports.memory.buffer).set(new Uint8Array(items.buffer, items.byteOffset, items.byteLength), at);
+      return [BigInt(at), BigInt(items.length)];
+    }
+
+    // Calls an export with these arguments, then a buffer of so many bytes for the text, and the answer.
+    function attempt(name, words, room) {
+      // A call frees all that it takes, so each begins with an empty heap.
+      heap = makeHeap(exports);
+      const passed = words.map(it => (ArrayBuffer.isView(it) ? slice(it) : [it]));
+      const answer = heap.get(32);
+      const out = heap.get(room);
+      if (passed.includes(null) || !answer || !out) return { code: 3, fault: 0, place: 0, length: 0 };
+      exports[name](...passed.flat(), BigInt(out), BigInt(room), BigInt(answer));
+      const [code, fault, place, length] = Array.from(new BigUint64Array(exports.memory.buffer, answer, 4), Number);
+      const text = code === 4 ? null : new Uint8Array(exports.memory.buffer, out, length).slice();
+      return { code, fault, place, length, text };
+    }
+
+    return { attempt, size: () => exports.memory.buffer.byteLength };
+  }
+
+  const FAULTS = {
+    1: 'unknown word', 2: 'bad number', 3: 'bad device', 4: 'bad secondary address', 5: 'bad byte', 6: 'too long',
+    7: 'too many statements', 8: 'bad trace line', 9: 'input too large', 11: 'bad start', 12: 'bad order', 13: 'too early',
+    14: 'too late', 15: 'bad shape', 16: 'truncated', 22: 'no such printers', 23: 'no such status', 24: 'no such format',
+    25: 'no such character set', 28: 'no such input', 29: 'no such source', 30: 'no such stop', 31: 'no signal ATN', 32: 'no signal CLOCK',
+    33: 'no signal DATA', 34: 'no level of ATN', 35: 'no level of CLOCK', 36: 'no level of DATA', 41: 'bad word', 42: 'no $end',
+    43: 'no $enddefinitions', 44: 'no timescale', 45: 'bad time', 46: 'time goes back', 47: 'level x', 48: 'level z',
+    49: 'bad level', 50: 'no such sheet', 51: 'document too large', 60: 'no such form', 61: 'not a saved program', 62: 'cut off',
+    63: 'unknown name', 64: 'bad byte', 70: 'bad timescale', 71: 'no time', 72: 'UTF-16 text', 73: 'zip archive',
+    75: 'another signal ATN', 76: 'another signal CLOCK', 77: 'another signal DATA',
+  };
+  const STOPS = { 1: 'TOO MANY FILES', 2: 'FILE OPEN', 3: 'FILE NOT OPEN', 5: 'DEVICE NOT PRESENT', 6: 'NOT INPUT FILE' };
+
+  const isEdge = fault => fault >= 11 && fault <= 16;
+  const isLine = fault => (fault >= 1 && fault <= 8) || (fault >= 31 && fault <= 49) || (fault >= 62 && ![72, 73].includes(fault));
+  const isOfListing = fault => fault >= 60 && fault <= 64;
+
+  function words({ code, fault, line, column, edge }) {
+    if (code === 1) return `?${STOPS[fault]}  ERROR`;
+    if (code === 3) return 'out of memory';
+    if (code !== 2) return '';
+    if (isEdge(fault)) return `edge ${edge}: ${FAULTS[fault]}`;
+    if (column) return `line ${line}, column ${column}: ${FAULTS[fault]}`;
+    return isLine(fault) ? `line ${line}: ${FAULTS[fault]}` : FAULTS[fault];
+  }
+
+  // The number of a word among those that an argument can be.
+  function numberOf(word, known, what) {
+    const number = known.indexOf(word);
+    if (number < 0) throw new Error(`print1525: ${what} is one of ${known.join(', ')}, and not ${word}`);
+    return number;
+  }
+
+  const bytesOf = bytes => (bytes instanceof Uint8Array ? bytes : new Uint8Array(bytes));
+  const latin = text => Uint8Array.from([...text].map(it => it.charCodeAt(0)));
+  const pageFormat = format => numberOf(format, ['list', 'text', 'svg', 'png', 'pdf'], 'format');
+
+  function scriptWords({ script, printers = 3, status = 0, delays = [] }) {
+    const lists = [0, 1, 2].map(it => Uint16Array.from(delays[it] || []));
+    return [bytesOf(script), printers, status, ...lists];
+  }
+
+  // A recording: its format, the names of its signals, whether its levels are inverted, and the microsecond at which it starts.
+  function recordingWords({ bytes, input = 'text', names = ['ATN', 'CLOCK', 'DATA'], inverted = false, start = 0 }) {
+    const source = numberOf(input, ['text', 'vcd', 'csv'], 'input');
+    return [bytesOf(bytes), source, ...names.map(latin), inverted ? 1 : 0, BigInt(start)];
+  }
+
+  return async function loadPrint1525(bytes) {
+    if (typeof WebAssembly !== 'object' || typeof BigUint64Array !== 'function') {
+      throw new Error('This browser cannot run print1525: it has no WebAssembly.');
+    }
+    const compiled = await WebAssembly.compile(bytes);
+    let instance = makeInstance(compiled);
+    const rooms = {};
+
+    function call(name, passed) {
+      if (instance === null || instance.size() > KEPT) instance = makeInstance(compiled);
+      let told;
+      try {
+        told = instance.attempt(name, passed, Math.max(rooms[name] || 0, ROOM, Math.min(8 * passed[0].byteLength, KEPT / 4)));
+        if (told.code === 4) told = instance.attempt(name, passed, told.length);
+      } catch (error) {
+        // What a call that was cut off leaves behind is not used again.
+        instance = null;
+        throw error;
+      }
+      const { code, fault, place, length } = told;
+      // Beside a listing's fault the length is its column.
+      const isColumn = code === 2 && isOfListing(fault);
+      const text = isColumn || !told.text ? new Uint8Array(0) : told.text;
+      rooms[name] = Math.min(length * 1.25, KEPT / 4) | 0;
+      return {
+        code,
+        fault,
+        statement: code === 1 ? place : 0,
+        line: code === 2 && isLine(fault) ? place : 0,
+        column: isColumn ? length : 0,
+        edge: code === 2 && isEdge(fault) ? place : -1,
+        text,
+      };
+    }
+
+    return {
+      words,
+      // Which printers are present: 0 none, 1 printer 4, 2 printer 5, 3 both; whether the status is kept from statement to
+      // statement (1) or not (0); the numbers of the delays of the computer, of printer 4 and of printer 5.
+      pages: asked => call('print1525_pages', [...scriptWords(asked), pageFormat(asked.format || 'list')]),
+      bus: asked => call('print1525_bus', [...scriptWords(asked), numberOf(asked.format || 'text', ['text', 'vcd'], 'format')]),
+      // The text of the script that a listing says: 'text' (the listing itself), 'prg' (a saved program) or 'petcat' (petcat's text).
+      listing: ({ bytes, form = 'text' }) => call('print1525_listing', [bytesOf(bytes), numberOf(form, ['text', 'prg', 'petcat'], 'form')]),
+      // The bytes that a printer gets, and the character set before them: 0 graphic/upper case, 1 lower/upper case.
+      raw: ({ bytes, set = 0, format = 'list' }) => call('print1525_raw', [bytesOf(bytes), set, pageFormat(format)]),
+      // What a printer hears: 0 to 255 a byte, 256 and 257 the selection of the graphic/upper case or the lower/upper case set.
+      print: ({ inputs, format = 'list' }) => call('print1525_print', [Uint16Array.from(inputs), pageFormat(format)]),
+      check: ({ text }) => call('print1525_check', [bytesOf(text)]),
+      // What a recording says. With code 2 the text is what stands before the fault.
+      decode: asked => {
+        const output = numberOf(asked.output || 'readings', ['readings', 'text', 'svg', 'png', 'pdf'], 'output');
+        if (output === 0) return call('print1525_readings', recordingWords(asked));
+        return call('print1525_reprint', [...recordingWords(asked), output - 1]);
+      },
+      // Why a script is refused; nothing, where it is not.
+      explainScript: ({ script }) => call('print1525_explain_script', [bytesOf(script)]),
+      // The error that stopped the run of a script: `stop` and `statement` are the fault and the statement of its pages.
+      explainStop: ({ script, printers = 3, status = 0, stop, statement }) =>
+        call('print1525_explain_stop', [bytesOf(script), status, stop, BigInt(statement), printers & 1, printers >> 1]),
+      // Why a trace is refused, as `check` reads it, or why a recording can not be read to its end, as `decode` reads it.
+      explainTrace: asked => call('print1525_explain_trace', recordingWords(asked)),
+      explainReading: asked => call('print1525_explain_reading', recordingWords(asked)),
+    };
+  };
+})();

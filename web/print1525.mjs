@@ -1,0 +1,245 @@
+#!/usr/bin/env node
+// The program print1525 for Node on any system, and its library for those who write JavaScript:
+//
+//     node print1525.mjs pages hello.bas -o hello.pdf
+//     import { openPrint1525 } from './print1525.mjs';
+//
+// The texts come from the WebAssembly module of the proved crates. It is beside this file, as print1525.wasm or in
+// print1525.html. What is done here is not proved: the words are read (commandline.mjs), files are opened and written,
+// and the format of a recording is found by its first bytes. README.md says what the program does that this one does not.
+
+import { NoJob, readJob, shown } from './commandline.mjs';
+import { loadPrint1525 } from './module.mjs';
+
+export { loadPrint1525 };
+
+/** The module beside this file, ready for calls. In a browser, pass its bytes to loadPrint1525. */
+export async function openPrint1525() {
+  const { readFileSync, existsSync } = await import('node:fs');
+  const beside = new URL('print1525.wasm', import.meta.url);
+  if (existsSync(beside)) return loadPrint1525(readFileSync(beside));
+  const { inflateRawSync } = await import('node:zlib');
+  const page = readFileSync(new URL('print1525.html', import.meta.url), 'latin1');
+  const [, packed] = /<script type="text\/plain" id="module">([^<]*)</.exec(page);
+  return loadPrint1525(inflateRawSync(Buffer.from(packed, 'base64')));
+}
+
+// what the program says beside the module's texts
+
+const SAVED_PROGRAM = 'this looks like a saved program: --from prg reads one';
+const TYPED_STRINGS = 'strings are sent as they are: small letters print graphics, or capitals after OPEN file,device,7, and {name} prints its ' +
+  'letters; --from petcat reads both as typed';
+const PETCAT_TEXT = 'this may be petcat\'s text: --from petcat reads it';
+const PROGRAM_FORM = 'a saved program is a load address of two bytes, then lines: a link and a number of two bytes each, the line\'s bytes and 0; ' +
+  'a link of 0 ends it';
+const PLAIN_TEXT = 'this looks like text: --from text or petcat reads one';
+const PETCAT_NAMES = 'in a string { begins a name of petcat\'s and } ends it, as {down}, {3 down} or {$8e}';
+const PETCAT_BYTES = 'a string of petcat\'s text has the bytes 32 to 126';
+const SAVED_BYTES = 'this looks like a saved program, and not like a printer\'s bytes: pages --from prg runs one';
+const DISK_BYTES = 'this looks like an image of a disk, and not like a printer\'s bytes';
+const STANDARD_OUTPUT = ['/dev/stdout', '/dev/fd/1', '/proc/self/fd/1'];      // it is written on, and not replaced
+const WAITS_FOR = { pages: 'a script', bus: 'a script', check: 'a trace', decode: 'a recording', raw: 'a printer\'s bytes' };
+
+/** What the system says of an error, in the words of Linux, which the program has too. */
+const REASONS = {
+  EPERM: 'Operation not permitted', ENOENT: 'No such file or directory', EIO: 'Input/output error', EACCES: 'Permission denied',
+  EBUSY: 'Device or resource busy', EEXIST: 'File exists', EXDEV: 'Invalid cross-device link', ENOTDIR: 'Not a directory',
+  EISDIR: 'Is a directory', EINVAL: 'Invalid argument', EMFILE: 'Too many open files', ETXTBSY: 'Text file busy', EFBIG: 'File too large',
+  ENOSPC: 'No space left on device', EROFS: 'Read-only file system', EPIPE: 'Broken pipe', ENAMETOOLONG: 'File name too long',
+  ELOOP: 'Too many levels of symbolic links',
+};
+
+/** A failed read or write: what is told, with the exit status 3. */
+const failed = words => new NoJob(3, `print1525: ${words}\n`);
+const failedFile = (name, error) => failed(`${shown(name)}: ${REASONS[error.code] || error.message} (os error ${-error.errno})`);
+
+const isSaved = bytes => bytes.length >= 2 && bytes[0] === 1 && bytes[1] === 8;
+const isDisk = bytes => [174848, 175531, 196608, 197376].includes(bytes.length);
+
+/** Whether a string of a script, in front of a line's remark, has a small letter or a brace. */
+function hasTypedStrings(bytes) {
+  return Buffer.from(bytes).toString('latin1').split('\n').some(line => {
+    let isQuoted = false;
+    for (let at = 0; at < line.length; at++) {
+      if (!isQuoted && /^rem/i.test(line.slice(at, at + 3))) return false;
+      if (line[at] === '"') isQuoted = !isQuoted;
+      else if (isQuoted && /[a-z{]/.test(line[at])) return true;
+    }
+    return false;
+  });
+}
+
+/** Whether a refused script may be petcat's text. */
+const mayBePetcat = bytes => hasTypedStrings(bytes) || bytes.find(byte => ![32, 13, 10].includes(byte)) === 59;
+
+const isText = bytes => bytes.length > 0 && bytes.every(byte => byte >= 32 || byte === 9 || byte === 10 || byte === 13);
+
+/** The hints on a listing that has no text, by the number of its fault. */
+function hintsOnListing({ fault, column }, bytes) {
+  if (fault === 61 || fault === 62) return [PROGRAM_FORM, ...(isText(bytes) ? [PLAIN_TEXT] : [])];
+  return fault === 63 ? [PETCAT_NAMES] : fault === 64 && column ? [PETCAT_BYTES] : [];
+}
+
+/** The hints on a script that is run as its text is. */
+function hintsOnScript({ code, line }, bytes) {
+  if (code === 2 && line && isSaved(bytes)) return [SAVED_PROGRAM];
+  if (code === 2 && line && mayBePetcat(bytes)) return [PETCAT_TEXT];
+  return code < 2 && hasTypedStrings(bytes) ? [TYPED_STRINGS] : [];
+}
+
+/** The format that the first 4096 bytes of a recording show, or else another. */
+function foundSource(bytes, otherwise) {
+  const text = Buffer.from(bytes.subarray(0, 4096)).toString('latin1'), [front] = /[^\t\n\f\r ]/.exec(text) || [''];
+  if (front === '$') return 'vcd';
+  return front === ';' || front === '#' || /^[^,\n]*,/.test(text) ? 'csv' : otherwise;
+}
+
+const pageOf = job => ({ format: job.as });
+const runOf = job => ({ printers: job.present, status: job.status, delays: job.delays });
+const recordingOf = job => ({ input: job.from, names: job.names, inverted: job.inverted, start: job['from-time'] });
+
+/** Calls the module for a job over an input: the answer, and what --explain says of it. */
+function answerOf(module, job, bytes) {
+  const text = answer => Buffer.from(answer.text).toString('latin1');
+  if (job.name === 'raw') {
+    const answer = module.raw({ bytes, set: job.set, ...pageOf(job) });
+    const hints = answer.code ? [] : isSaved(bytes) ? [SAVED_BYTES] : isDisk(bytes) ? [DISK_BYTES] : [];
+    return { answer, explain: () => '', hints };
+  }
+  if (job.name === 'check') return { answer: module.check({ text: bytes }), explain: () => text(module.explainTrace({ bytes })), hints: [] };
+  if (job.name === 'decode') {
+    const asked = { bytes, ...recordingOf({ ...job, from: job.isFound ? foundSource(bytes, job.from) : job.from }) };
+    const answer = module.decode({ ...asked, output: job.as === 'list' ? 'readings' : job.as });
+    return { answer, explain: () => text(module.explainReading(asked)), hints: [] };
+  }
+  const listing = job.from === 'text' ? { code: 0, text: bytes } : module.listing({ bytes, form: job.from });
+  if (listing.code) return { answer: listing, explain: () => '', hints: hintsOnListing(listing, bytes) };
+  const asked = { script: listing.text, ...runOf(job) }, { script } = asked;
+  const answer = job.name === 'pages' ? module.pages({ ...asked, ...pageOf(job) }) : module.bus({ ...asked, ...pageOf(job) });
+  const explain = () => {
+    if (answer.code === 1) return text(module.explainStop({ ...asked, stop: answer.fault, statement: answer.statement }));
+    return answer.code === 2 ? text(module.explainScript({ script })) : '';
+  };
+  return { answer, explain, hints: job.from === 'text' ? hintsOnScript(answer, bytes) : [] };
+}
+
+/** What the module has no call for. */
+function refuseMissing(job) {
+  const missing = job.device || job.sheet ? '--device and --sheet' : job.name !== 'check' ? '' : job.from !== 'text' ? 'check of a dump or a table' : job.as === 'story' ? 'a story' : '';
+  if (missing) throw new NoJob(2, `print1525: ${missing}: only the program built for Linux has this\n`);
+}
+
+/** The files of a job, read and written with Node. */
+async function makeFiles() {
+  const fs = await import('node:fs'), path = await import('node:path');
+  const pause = new Int32Array(new SharedArrayBuffer(4));
+
+  /** Does a call again while a stream is not ready. */
+  function whenReady(call) {
+    for (;;) {
+      try { return call(); } catch (error) {
+        if (error.code === 'EOF') return 0;
+        if (error.code !== 'EAGAIN') throw error;
+        Atomics.wait(pause, 0, 0, 5);
+      }
+    }
+  }
+
+  function readAll(file) {
+    const parts = [], block = Buffer.allocUnsafe(65536);
+    for (let n; (n = whenReady(() => fs.readSync(file, block))) > 0;) parts.push(Buffer.from(block.subarray(0, n)));
+    return new Uint8Array(Buffer.concat(parts));
+  }
+
+  function writeAll(file, bytes) {
+    for (let at = 0; at < bytes.length;) at += whenReady(() => fs.writeSync(file, bytes, at, Math.min(bytes.length - at, 2 ** 20)));
+  }
+
+  /** Opens a new file in a folder, with a name of its own. */
+  function openBeside(folder) {
+    for (let n = 1; ; n++) {
+      const name = path.join(folder, `.print1525-${n}.tmp`);
+      try { return { name, file: fs.openSync(name, 'wx') }; } catch (error) { if (error.code !== 'EEXIST' || n === 100) throw error; }
+    }
+  }
+
+  /** Where the links of a file's name lead. */
+  function followed(name) {
+    for (let at = name, links = 0; ; links++) {
+      try { at = path.resolve(path.dirname(at), fs.readlinkSync(at)); } catch (error) {
+        if (['EINVAL', 'ENOENT', 'UNKNOWN'].includes(error.code)) return at;
+        throw error;
+      }
+      if (links === 40) throw Object.assign(new Error(REASONS.ELOOP), { code: 'ELOOP', errno: -40 });
+    }
+  }
+
+  /** Begins to write a file, which is put in its place by keep(); one that is no regular file is written in place. */
+  function save(name) {
+    let old = null;
+    try { old = fs.openSync(name, 'r+'); } catch (error) {
+      if (error.code !== 'ENOENT') try { old = fs.openSync(name, fs.constants.O_WRONLY); } catch { throw error; }
+    }
+    const state = old === null ? null : fs.fstatSync(old);
+    if (state && !state.isFile()) return { write: bytes => writeAll(old, bytes), keep: () => fs.closeSync(old), discard: () => fs.closeSync(old) };
+    if (old !== null) fs.closeSync(old);
+    const target = followed(name), beside = openBeside(path.dirname(target));
+    const discard = () => { try { fs.closeSync(beside.file); } catch { /* it is closed */ } fs.rmSync(beside.name, { force: true }); };
+    try { if (state && process.platform !== 'win32') fs.fchmodSync(beside.file, state.mode & 0o7777); } catch (error) { discard(); throw error; }
+    const keep = () => {
+      try { fs.fsyncSync(beside.file); fs.closeSync(beside.file); fs.renameSync(beside.name, target); } catch (error) { discard(); throw error; }
+    };
+    return { write: bytes => writeAll(beside.file, bytes), keep, discard };
+  }
+
+  return { open: name => fs.openSync(name, 'r'), readAll, writeAll, save };
+}
+
+/** Does a call, and throws what is told of its failure. */
+function trying(call, tellOf) {
+  try { return call(); } catch (error) { throw error.errno === undefined ? error : tellOf(error); }
+}
+
+/** Does the job that words ask for, and gives the exit status. */
+async function run(words, files) {
+  const tell = text => { try { files.writeAll(2, Buffer.from(text)); } catch { /* there is nowhere to tell it */ } };
+  const job = readJob(words, process.env.PRINT1525_EXPLAIN === '1');
+  refuseMissing(job);
+  const inputFailed = error => (job.input === null ? failed('read failed') : failedFile(job.input, error));
+  const outputFailed = error => (job.output === null || STANDARD_OUTPUT.includes(job.output) ? failed('write failed') : failedFile(job.output, error));
+  if (job.input === null && process.stdin.isTTY) tell(`print1525: reading ${WAITS_FOR[job.name]} from the terminal; Ctrl-D on a new line ends it\n`);
+  const input = job.input === null ? 0 : trying(() => files.open(job.input), inputFailed);
+  const standard = { write: bytes => files.writeAll(1, bytes), keep() {}, discard() {} };
+  const output = job.output === null || STANDARD_OUTPUT.includes(job.output) ? standard : trying(() => files.save(job.output), outputFailed);
+  try {
+    const bytes = trying(() => files.readAll(input), inputFailed), module = await openPrint1525();
+    const { answer, explain, hints } = answerOf(module, job, bytes);
+    trying(() => output.write(answer.text), outputFailed);
+    if (answer.code > 1) tell(`print1525: ${module.words(answer)}\n`);
+    if (job.isExplained) tell((answer.code && answer.code < 3 ? explain() : '') + hints.map(hint => `  ${hint}\n`).join(''));
+    if (answer.code > 1) output.discard(); else trying(() => output.keep(), outputFailed);
+    return answer.code;
+  } catch (error) {
+    output.discard();
+    throw error;
+  }
+}
+
+/** The program. */
+async function main() {
+  const files = await makeFiles();
+  try {
+    process.exitCode = await run(process.argv.slice(2), files);
+  } catch (fault) {
+    if (!(fault instanceof NoJob)) throw fault;
+    process.exitCode = fault.status;
+    try { files.writeAll(fault.status ? 2 : 1, Buffer.from(fault.message)); } catch { if (!fault.status) process.exitCode = 3; }
+  }
+}
+
+if (typeof process === 'object' && process.argv?.[1]) {
+  const { realpathSync } = await import('node:fs'), { fileURLToPath } = await import('node:url');
+  let started = '';
+  try { started = realpathSync(process.argv[1]); } catch { /* no file started this */ }
+  if (started === realpathSync(fileURLToPath(import.meta.url))) await main();
+}
