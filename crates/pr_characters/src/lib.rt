@@ -1,0 +1,13 @@
+//! The shapes of characters from a file, for a printer with characters of its own.
+//!
+//! - `reading` reads the lines of a file, and `names` has the line that names each picture.
+//! - `pictures` makes the columns of the characters of these lines.
+#![tactic(auto)]
+
+mod fault;
+mod names;
+mod pictures;
+mod reading;
+
+pub use fault::CharactersFault;
+pub use reading::read_shapes;
