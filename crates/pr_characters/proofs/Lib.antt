@@ -1,2 +1,5 @@
+pub mod Drawn
+pub mod Elements
+pub mod FirstBad
 pub mod Named
-pub mod Numbered
+pub mod Signs

@@ -1,10 +1,10 @@
--- Trusted: a file of the shapes of characters: 256 pictures of eight lines, those of the graphic/upper case set and then those of the
--- lower/upper case set; in each set the codes 32 to 95 and 160 to 223. A picture is a line that names it, as `upper 65`, and seven lines of
--- six signs, `#` for a dot and `.` for none. Lines, pictures, rows and columns are counted from 0.
-use Rattle.std.specs.Prelude.{◌≡◌, ℕ, ◌+◌, ◌-◌, ◌*◌, ◌/◌, ◌%◌, ◌^◌, Bool, List, [], ◌∷◌, ◌++◌, ◌==◌, ◌&&◌, ◌||◌, nat_lt, codes, decimal, length, map, slice_index, if◌then◌else◌, Option, Some, None, Result, Ok, Err}
+-- Trusted: a file of the shapes of characters. It has 256 pictures: those of the graphic/upper case set, then those of the lower/upper
+-- case set; each set has the codes 32 to 95 and 160 to 223. A picture is a line that names it, as `upper 65`, and seven rows of six signs,
+-- `#` for a dot and `.` for none. Pictures, rows and lines are counted from 0.
+use Rattle.std.specs.Prelude.{◌≡◌, ℕ, ◌+◌, ◌-◌, ◌/◌, ◌%◌, ◌^◌, Bool, true, List, [], ◌++◌, ◌==◌, ◌&&◌, nat_lt, codes, decimal, length, map, slice_index_or, take, if◌then◌else◌, Result, Ok, Err}
 use Rattle.std.specs.List.{list_all, range_with_len}
-use Rattle.std.specs.Str.{bytes_eq}
 use Rattle.pr_base.specs.Lines.{lines_of}
+use Rattle.pr_basic.specs.Grammar.{without_return}
 use Rattle.pr_dots.specs.declared.character_sets.Shapes.{Shapes}
 use Rattle.pr_characters.specs.declared.fault.CharactersFault.{CharactersFault}
 use Rattle.pr_characters.specs.declared.fault.CharactersFault.TheVariants.{BadLine}
@@ -19,69 +19,42 @@ name_line picture =
     if nat_lt picture 128 then codes "upper " ++ decimal (code_at picture)
     else codes "lower " ++ decimal (code_at (picture - 128))
 
--- six signs
-abbrev pub is_sign : ℕ → Bool
-is_sign b = b == 35 || b == 46
+-- the sign of a column in a row: bit 0 of a column is its dot in row 0, the top one
+abbrev pub sign : (row column : ℕ) → ℕ
+sign row column = if column / 2 ^ row % 2 == 1 then 35 else 46
 
-abbrev pub are_signs : List ℕ → Bool
-are_signs line = length line == 6 && list_all is_sign line
+-- a line of the file of shapes: a picture's name, or a row of it
+abbrev pub line_of : Shapes → ℕ → List ℕ
+line_of shapes line =
+    if line % 8 == 0 then name_line (line / 8)
+    else map (sign (line % 8 - 1)) (slice_index_or (shapes.upper ++ shapes.lower) (line / 8) [])
 
--- a line may have this number
-abbrev pub may_stand : ℕ → List ℕ → Bool
-may_stand number line = if number % 8 == 0 then bytes_eq line (name_line (number / 8)) else are_signs line
+-- the file of shapes: eight lines for each picture
+unfoldable pub file_of : Shapes → List (List ℕ)
+file_of shapes = map (line_of shapes) (range_with_len 0 2048)
 
--- the number of the first line that may not have it, or that is missing, where these lines are those from a number on
-abbrev pub first_fault : ℕ → List (List ℕ) → Option ℕ
-first_fault number [] = if number == 2048 then None else Some number
-first_fault number (line ∷ lines) =
-    if nat_lt number 2048 && may_stand number line then first_fault (number + 1) lines else Some number
+-- the characters of a set: each has six columns of seven dots
+abbrev pub is_character : List ℕ → Bool
+is_character columns = length columns == 6 && list_all (λ column. nat_lt column 128) columns
 
--- a line of signs as a number: bit 0 is the first sign
-abbrev pub dot_in : List ℕ → ℕ → ℕ
-dot_in line x = if slice_index line x == 35 then 1 else 0
+abbrev pub are_shapes : Shapes → Bool
+are_shapes shapes =
+    (length shapes.upper == 128 && list_all is_character shapes.upper)
+    && (length shapes.lower == 128 && list_all is_character shapes.lower)
 
-abbrev pub bits_of : List ℕ → ℕ
-bits_of line =
-    dot_in line 0 + 2 * dot_in line 1 + 4 * dot_in line 2 + 8 * dot_in line 3 + 16 * dot_in line 4 + 32 * dot_in line 5
+-- the lines of a text: byte 10 ends a line, and so do bytes 13 and 10; the last line may have no end
+abbrev pub text_lines : List ℕ → List (List ℕ)
+text_lines text = map without_return (lines_of text)
 
--- the numbers of lines from a number on; a line that names a picture has none
-abbrev pub row_of : ℕ → List ℕ → ℕ
-row_of number line = if number % 8 == 0 then 0 else bits_of line
+-- the first lines of a text, this many, are those of the file of some shapes
+abbrev pub AreFirst : ℕ → List ℕ → Type 0
+AreFirst count text = (shapes : Shapes) × (are_shapes shapes ≡ true) × (take count (text_lines text) ≡ take count (file_of shapes))
 
-abbrev pub rows_from : ℕ → List (List ℕ) → List ℕ
-rows_from number [] = []
-rows_from number (line ∷ lines) = row_of number line ∷ rows_from (number + 1) lines
+-- a text's first bad line, counted from 1: the lines before it are those of a file, and with it they are not. It may also be missing
+abbrev pub IsBadLine : List ℕ → CharactersFault → Type 0
+IsBadLine text (BadLine n) = AreFirst (n - 1) text × (AreFirst n text → ⊥)
 
--- a dot of a picture, 1 or 0
-abbrev pub dot_at : List ℕ → (picture x y : ℕ) → ℕ
-dot_at rows picture x y = slice_index rows (8 * picture + 1 + y) / 2 ^ x % 2
-
--- a column of a picture: bit 0 is its top dot
-abbrev pub column_at : List ℕ → (picture x : ℕ) → ℕ
-column_at rows picture x =
-    dot_at rows picture x 0 + 2 * dot_at rows picture x 1 + 4 * dot_at rows picture x 2 + 8 * dot_at rows picture x 3
-    + 16 * dot_at rows picture x 4 + 32 * dot_at rows picture x 5 + 64 * dot_at rows picture x 6
-
--- the columns of a picture
-unfoldable pub columns_at : List ℕ → ℕ → List ℕ
-columns_at rows picture =
-    column_at rows picture 0 ∷ column_at rows picture 1 ∷ column_at rows picture 2 ∷ column_at rows picture 3
-    ∷ column_at rows picture 4 ∷ column_at rows picture 5 ∷ []
-
--- the 128 pictures of a set, of which this one is the first
-unfoldable pub pictures_at : List ℕ → ℕ → List (List ℕ)
-pictures_at rows first = map (columns_at rows) (range_with_len first 128)
-
--- the shapes of these numbers
-abbrev pub shapes_of : List ℕ → Shapes
-shapes_of rows = record { upper = pictures_at rows 0; lower = pictures_at rows 128 }
-
--- a text's first bad line, from 1
-abbrev pub IsFault : List ℕ → CharactersFault → Type 0
-IsFault text (BadLine n) = (line : ℕ) × (n ≡ line + 1) × (first_fault 0 (lines_of text) ≡ Some line)
-
--- what a text gives: the shapes of its lines, or its first bad line
+-- what a text gives: the shapes whose file it is, or its first bad line
 abbrev pub AnswersFile : List ℕ → Result Shapes CharactersFault → Type 0
-AnswersFile text (Ok shapes) =
-    (first_fault 0 (lines_of text) ≡ None) × (shapes ≡ shapes_of (rows_from 0 (lines_of text)))
-AnswersFile text (Err fault) = IsFault text fault
+AnswersFile text (Ok shapes) = (are_shapes shapes ≡ true) × (text_lines text ≡ file_of shapes)
+AnswersFile text (Err fault) = IsBadLine text fault

@@ -16,15 +16,15 @@ fn code_at(place: u64) -> u64
 
 /// Whether a line is a set's name and then this number.
 #[tactic(auto, using(crate::proofs::Named::in_parts))]
-fn is_named(line: &[u8], set: &[u8; 6], number: u64) -> bool
+fn is_named(line: &[u8], set: &[u8], number: u64) -> bool
     ensures { result ≡ bytes_eq line.now (set.now ++ decimal number) }
 {
-    if line.len() < 6 {
-        return false;
-    }
     let mut buffer = Buffer::new();
     let digits = buffer.format(number).as_bytes();
-    line[..6] == set[..] && line[6..] == *digits
+    match line.strip_prefix(set) {
+        Some(rest) => rest == digits,
+        None => false,
+    }
 }
 
 /// Whether a line names a picture, from 0.

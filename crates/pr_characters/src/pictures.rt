@@ -1,7 +1,7 @@
 //! The columns of characters, of the lines of their pictures.
 
 ghost use Rattle.std.specs.Prelude.{◌≡◌, ◌+◌, ◌<◌, ◌≤◌, length};
-ghost use Rattle.pr_characters.specs.File.{column_at, columns_at, dot_at, pictures_at, shapes_of};
+ghost use Rattle.pr_characters.specs.Rows.{column_at, columns_at, dot_at, pictures_at, shapes_of};
 
 use pr_dots::Shapes;
 
@@ -36,7 +36,7 @@ fn column_at(rows: &[u8], picture: usize, x: u8) -> u8
 }
 
 /// The columns of a picture.
-#[tactic(auto, unfolding(crate::specs::File::columns_at))]
+#[tactic(auto, unfolding(crate::specs::Rows::columns_at))]
 fn columns_at(rows: &[u8], picture: usize) -> [u8; 6]
     requires whole { length rows.now ≡ 2048 }
     requires picture { picture < 256 }

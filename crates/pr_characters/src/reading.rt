@@ -1,35 +1,39 @@
 //! The lines of a file of characters.
 
-ghost use Rattle.std.specs.Prelude.{◌≡◌, ◌<◌, ◌≤◌, ◌∷◌, None, length, true, IfErr, IfOk, OnOk};
-ghost use Rattle.pr_base.specs.Lines.{lines_of};
-ghost use Rattle.pr_characters.specs.File.{AnswersFile, IsFault, are_signs, bits_of, dot_in, first_fault, may_stand, row_of, rows_from};
+ghost use Rattle.std.specs.Prelude.{◌≡◌, ◌<◌, ◌≤◌, None, length, true, IfErr, IfOk, OnOk};
+ghost use Rattle.std.specs.List.{list_all};
+ghost use Rattle.pr_characters.specs.File.{AnswersFile, text_lines};
+ghost use Rattle.pr_characters.specs.Rows.{IsFirstBad, are_signs, bits_of, dot_in, first_bad, is_sign, may_have, row_of, rows_from};
 
 use crate::fault::CharactersFault;
 use crate::names::is_name;
 use crate::pictures::shapes_of;
 use arrayvec::ArrayVec;
+use pr_basic::{cut_line, without_return};
 use pr_dots::Shapes;
 
 /// The lines of a file: eight for each of 256 pictures.
 const LINES: usize = 2048;
 
-/// The first line of a text, without its end, and the text after it.
-fn first_line(text: &[u8]) -> (&[u8], &[u8])
-    requires { 0 < length text.now }
-    ensures line { lines_of text.now ≡ result.0.now ∷ lines_of result.1.now }
-    ensures shorter { length result.1.now < length text.now }
+/// Whether a byte is the sign of a dot or of none.
+fn is_sign(b: u8) -> bool
+    ensures { result ≡ is_sign b }
 {
-    match text.iter().position(|b| *b == b'\n') {
-        Some(at) => (&text[..at], &text[at + 1..]),
-        None => (text, &text[text.len()..]),
-    }
+    b == b'#' || b == b'.'
+}
+
+/// Whether each byte of a line is such a sign.
+fn all_signs(line: &[u8]) -> bool
+    ensures { result ≡ list_all is_sign line.now }
+{
+    line.iter().all(|b| is_sign(*b))
 }
 
 /// Whether a line is six signs.
 fn are_signs(line: &[u8]) -> bool
     ensures { result ≡ are_signs line.now }
 {
-    line.len() == 6 && line.iter().all(|b| *b == b'#' || *b == b'.')
+    line.len() == 6 && all_signs(line)
 }
 
 /// A dot of a line of signs, 1 or 0.
@@ -55,9 +59,9 @@ fn bits_of(line: &[u8]) -> u8
 }
 
 /// Whether a line may have this number, from 0.
-fn may_stand(number: usize, line: &[u8]) -> bool
+fn may_have(number: usize, line: &[u8]) -> bool
     requires { number < 2048 }
-    ensures { result ≡ may_stand number line.now }
+    ensures { result ≡ may_have number line.now }
 {
     if number % 8 == 0 {
         is_name(line, number as u64 / 8)
@@ -68,25 +72,27 @@ fn may_stand(number: usize, line: &[u8]) -> bool
 
 /// The number of a line that may have its place.
 fn row_of(number: usize, line: &[u8]) -> u8
-    requires { may_stand number line.now ≡ true }
+    requires { may_have number line.now ≡ true }
     ensures { result ≡ row_of number line.now }
 {
     if number % 8 == 0 { 0 } else { bits_of(line) }
 }
 
 /// The numbers of the lines of a file.
+#[tactic(auto, unfolding(pr_base::specs::Lines::lines_of))]
 fn read_rows(text: &[u8]) -> Result<ArrayVec<u8, LINES>, CharactersFault>
-    ensures whole { OnOk result (first_fault 0 (lines_of text.now) ≡ None) }
-    ensures rows { IfOk result (λ rows. rows.items ≡ rows_from 0 (lines_of text.now)) }
+    ensures whole { OnOk result (first_bad 0 (text_lines text.now) ≡ None) }
+    ensures rows { IfOk result (λ rows. rows.items ≡ rows_from 0 (text_lines text.now)) }
     ensures length { IfOk result (λ rows. length rows.items ≡ 2048) }
-    ensures fault { IfErr result (IsFault text.now) }
+    ensures fault { IfErr result (IsFirstBad text.now) }
 {
     let mut rows = ArrayVec::new();
     let mut rest = text;
     while !rest.is_empty() {
-        let (line, after) = first_line(rest);
+        let (ended, after) = cut_line(rest);
+        let line = without_return(ended);
         let number = rows.len();
-        if number == LINES || !may_stand(number, line) {
+        if number == LINES || !may_have(number, line) {
             return Err(CharactersFault::BadLine(number + 1));
         }
         rows.push(row_of(number, line));
@@ -99,9 +105,10 @@ fn read_rows(text: &[u8]) -> Result<ArrayVec<u8, LINES>, CharactersFault>
     }
 }
 
-/// The shapes of characters that a file has: 256 pictures of eight lines, those of the graphic/upper case set and then those
-/// of the lower/upper case set; in each set the codes 32 to 95 and 160 to 223. A picture is a line that names it, as
-/// `upper 65`, and seven lines of six signs, `#` for a dot and `.` for none (profile).
+/// Returns the shapes of characters that a file draws: 256 pictures of eight lines, those of the graphic/upper case set and
+/// then those of the lower/upper case set; each set has the codes 32 to 95 and 160 to 223. A picture is a line that names
+/// it, as `upper 65`, and seven lines of six signs, `#` for a dot and `.` for none. A line ends with a line feed, or with a
+/// carriage return and a line feed; the last one may have no end (profile).
 ///
 /// # Errors
 ///
