@@ -290,18 +290,19 @@ typedef struct {
 void print1525_hear(uint8_t device, const print1525_edge *edges, size_t edges_length,
                     uint16_t *buffer, size_t capacity, print1525_answer *answer);
 
-/* The place that an ear's edges have reached in the table of lawful traces, and what an ear keeps of a byte.
- * A number that a place does not use is 0; docs/DEFINITIONS.md lists the places. */
+/* The place that an ear's edges have reached in the table of lawful traces (docs/DEFINITIONS.md), and what the
+ * ear keeps of a byte. Each number belongs to the places named with it, and is 0 in all others. */
 typedef struct {
-    uint64_t since;     /* the moment from which the next edge's time counts */
-    uint64_t released;  /* in the answer to end-or-identify the moment at which DATA was released before it */
-    uint8_t place;      /* which place, 0 to 10 */
-    uint8_t sending;    /* which byte is sent: 0 the first of an attention, 1 its second, 2 a data byte */
-    uint8_t eoi;        /* 1: end-or-identify was answered */
-    uint8_t count;      /* how many bits of the byte have come, at most eight */
-    uint8_t byte;       /* their number, the lowest bit first; after its acknowledgement the byte */
-    uint8_t bit;        /* the bit that is set; in a call 1: DATA is pulled, after an attention 1: it is released */
-    uint8_t unlistened; /* 1: the last command was UNLISTEN */
+    uint64_t since;     /* when the place began: the time of the last edge, but 0 to 1000 before it in a call (1) with
+                         * DATA pulled, and 1 to 60 before it after an attention (10) with DATA released */
+    uint64_t released;  /* 4: when DATA was released before the answer to end-or-identify, 200 to 250 before `since` */
+    uint8_t place;      /* which place, 0 to 10; the last edge has the levels of its row */
+    uint8_t sending;    /* 2, 3, 6 to 9: which byte is sent: 0 the first of an attention, 1 its second, 2 a data byte */
+    uint8_t eoi;        /* 6 to 8, for a data byte: 1: end-or-identify was answered */
+    uint8_t count;      /* 6 to 8: how many bits of the byte have come: at most 7, in place 8 all 8 */
+    uint8_t byte;       /* 6 to 8: the number that they make, the lowest bit first; 9: the byte */
+    uint8_t bit;        /* 6, 7: the bit that is set; 1: 1 if DATA is pulled; 10: 1 if DATA is released */
+    uint8_t unlistened; /* 10: 1: the last command was UNLISTEN */
 } print1525_ear_place;
 
 /* An ear on the wire: what the library keeps of a device between two edges, one ear for each device. It is a
@@ -395,12 +396,14 @@ typedef struct {
  * is promised of the answers, but the call returns and writes nothing else. */
 typedef struct {
     print1525_edge first;                      /* since when CLOCK has its level; each level 0 or 1 */
-    print1525_edge last;                       /* the edge taken last */
-    print1525_edge turn1, turn2, turn3, turn4; /* the edges from `first` on at which DATA has turned */
-    print1525_byte byte;                       /* the byte that has begun */
+    print1525_edge last;                       /* the last edge taken */
+    print1525_edge turn1, turn2, turn3, turn4; /* the edges from `first` on at which DATA has turned, first to the
+                                                * level that CLOCK does not have; `first` counts if it has that level */
+    print1525_byte byte;                       /* the byte that has begun; `last_pull` is the time of `first` if that
+                                                * pulls CLOCK, as it does after eight bits */
     uint8_t begun;                             /* 1: an edge was taken */
-    uint8_t called;                            /* 1: `first` pulls ATN */
-    uint8_t turns;                             /* how many turns are kept, at most four */
+    uint8_t called;                            /* 1: `first` pulls ATN; then no byte has begun */
+    uint8_t turns;                             /* how many turns are kept, at most four, after eight bits one */
     uint8_t sent;                              /* 1: a byte has begun */
 } print1525_decoder;
 
