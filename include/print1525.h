@@ -1,28 +1,40 @@
 /* libprint1525: what a Commodore 64 prints on VIC-1525 printers, for C and C++ programs.
  *
+ *     call                    gives                                                         as the subcommand
+ *     print1525_pages         the pages of a script: a list, lines, SVG, PNG or PDF         pages
+ *     print1525_bus           the trace of a script's run: a text or a Value Change Dump    bus
+ *     print1525_listing       a saved program or petcat's text as the text of a script      pages --from
+ *     print1525_raw           the page of the bytes that a printer gets                     raw
+ *     print1525_print         the page of bytes and of selections of a character set
+ *     print1525_check         the frames that a trace text spells, or its first fault       check
+ *     print1525_hear          what a device hears of a list of edges
+ *     print1525_ear_..        the same, edge by edge
+ *     print1525_decode_..     what any recording of the bus says, edge by edge              decode
+ *
+ * The last three take no memory. docs/C.md shows how to build and link, and a program for each purpose.
+ *
  * The calls are proved: each gives exactly what its definition says (docs/C.md says where the
  * definitions are), reads nothing but what it is passed, writes nothing but the caller's buffer,
  * ear, decoder, reading and answer, and returns. The proofs hold where the caller keeps these rules:
  *
- * - No pointer is NULL, also where its length is 0 (any other pointer of its type will do). A
- *   pointer is aligned for its type, and at least `length` things of it may be read there, or
- *   `capacity` of a buffer read and written.
- * - The buffer, the ear, the decoder, the reading and the answer overlap nothing else that the call is
- *   passed.
+ * - No pointer is NULL, not even with a length of 0 (pass any other pointer of its type). A pointer
+ *   is aligned for its type. At least `length` items can be read there, or `capacity` items of a
+ *   buffer read and written.
+ * - The buffer, the ear, the decoder, the reading and the answer overlap nothing else that the call
+ *   is passed.
  * - During a call no other thread writes what the call reads, or touches what it writes.
- * - malloc, realloc and free are those of one allocator, and no call is made from a signal handler,
- *   but of the calls that take no memory.
+ * - malloc, realloc and free belong to one allocator. A signal handler makes only calls that take no
+ *   memory.
  *
- * Who owns what. The caller owns all memory that it passes; no pointer is kept after a call, and no
- * call hands out memory. What a call takes by malloc it gives back before it returns.
+ * Ownership. The caller owns all memory that it passes. No call keeps a pointer or hands out memory;
+ * what a call takes by malloc it frees before it returns.
  *
- * Threads. No call keeps any state: each is by itself, and several
- * threads may make calls at once.
+ * Threads. No call keeps any state: several threads may make calls at once.
  *
- * Sizes. A text is at the front of the buffer, without a zero byte after it; the rest of the
- * buffer is as it was. A call never writes beyond `capacity`. Where the text has no room, nothing is
- * written and `length` says how many bytes it has: call with a capacity of 0 first, and then with a
- * buffer of that length. A refusal leaves the whole buffer as it was, too. */
+ * Sizes. A text is at the front of the buffer, without a zero byte after it; the rest of the buffer
+ * stays as it was. With every code but 0 and 1 the whole buffer does. No text is cut: if the buffer is
+ * too small (code 4), `length` is the size that the text needs. So call with a capacity of 0 first, and
+ * then with a buffer of that length. */
 #ifndef PRINT1525_H
 #define PRINT1525_H
 
@@ -35,9 +47,9 @@ extern "C" {
 
 /* How a call ended: `code` of an answer. 0 to 3 are the exit statuses of the program print1525. */
 enum print1525_code {
-    PRINT1525_DONE = 0,      /* what the call gives is there: a text is in the buffer */
+    PRINT1525_DONE = 0,      /* the buffer has the text, or what else the call gives */
     PRINT1525_STOPPED = 1,   /* the same, and a BASIC error stopped the run: `fault` is its number */
-    PRINT1525_REFUSED = 2,   /* what was passed is refused: `fault` says why, and `place` where */
+    PRINT1525_REFUSED = 2,   /* the call refuses what it was passed: `fault` says why, `place` where */
     PRINT1525_NO_MEMORY = 3, /* malloc or realloc gave none */
     PRINT1525_TOO_SMALL = 4  /* the text has `length` bytes, and the buffer fewer */
 };
@@ -70,8 +82,8 @@ enum print1525_fault {
     PRINT1525_NO_SUCH_STATUS = 23,
     PRINT1525_NO_SUCH_FORMAT = 24,
     PRINT1525_NO_SUCH_SET = 25,
-    /* of numbers that no ear has, and of numbers that no decoder has; `place` is 0. Memory of zeros is no
-     * ear, but it is a decoder just begun */
+    /* of numbers that no ear or no decoder has, as in memory that was never begun or a damaged file;
+     * `place` is 0. Memory of zeros is no ear, but it is a decoder just begun */
     PRINT1525_NO_EAR = 26,
     PRINT1525_NO_DECODER = 27,
     /* of a number that means no input of a printer; `place` is its index, from 0 */
@@ -83,16 +95,16 @@ enum print1525_fault {
     /* of a number that means no form of a listing; `place` is 0 */
     PRINT1525_NO_SUCH_FORM = 60,
     /* of a listing: it has no load address (`place` is 0); it ends within a line; in a string of petcat's text
-     * a brace has no name that petcat writes, or a byte is none that it writes. `place` is the line, from 1, and
-     * of the last two `length` the column, from 1 */
+     * a brace has no name that petcat writes, or a byte is one that petcat does not write. `place` is the line,
+     * from 1; `length` of the last two is the column, from 1 */
     PRINT1525_NOT_SAVED = 61,
     PRINT1525_CUT_OFF = 62,
     PRINT1525_UNKNOWN_NAME = 63,
     PRINT1525_BAD_CHARACTER = 64
 };
 
-/* The BASIC error that stopped a run: `fault` beside PRINT1525_STOPPED; `place` is the statement at
- * which it did, from 1. */
+/* The BASIC error that stopped a run: `fault` beside PRINT1525_STOPPED. `place` is the statement that
+ * it stopped, from 1. */
 enum print1525_stop {
     PRINT1525_TOO_MANY_FILES = 1,
     PRINT1525_FILE_OPEN = 2,
@@ -101,13 +113,13 @@ enum print1525_stop {
     PRINT1525_NOT_INPUT_FILE = 6
 };
 
-/* What a call answers. Each call writes all of it; nothing in it is read. */
+/* What a call answers. Each call writes all of it and reads none of it. */
 typedef struct {
     size_t code;   /* one of enum print1525_code */
     size_t fault;  /* with code 1 one of enum print1525_stop, with code 2 of enum print1525_fault, else 0 */
-    size_t place;  /* with codes 1 and 2 the statement, line, edge or input as those say, else 0 */
-    size_t length; /* with codes 0, 1 and 4 the bytes of the text (of print1525_hear the inputs, of a
-                    * decoder the readings, 0 or 1), with the faults 63 and 64 the column, else 0 */
+    size_t place;  /* with codes 1 and 2 the statement, line, edge or input that those enums name, else 0 */
+    size_t length; /* with codes 0, 1 and 4 how many bytes the text has (of print1525_hear how many inputs, of
+                    * a decoder how many readings, 0 or 1), with the faults 63 and 64 the column, else 0 */
 } print1525_answer;
 
 /* What a code says. */
@@ -122,8 +134,8 @@ static inline const char *print1525_code_text(size_t code) {
     }
 }
 
-/* What a fault says, in the program's words: it writes `line 3: unknown word` of the faults 1 to 8 and 62,
- * `edge 5: too early` of 11 to 16, and `line 3, column 9: unknown name` of 63 and 64. */
+/* What a fault says, in the program's words. The program writes `line 3: unknown word` for the faults 1 to 8
+ * and 62, `edge 5: too early` for 11 to 16, and `line 3, column 9: unknown name` for 63 and 64. */
 static inline const char *print1525_fault_text(size_t fault) {
     switch (fault) {
     case PRINT1525_UNKNOWN_WORD: return "unknown word";
@@ -183,7 +195,7 @@ enum { PRINT1525_LIST = 0, PRINT1525_TEXT = 1, PRINT1525_SVG = 2, PRINT1525_PNG 
 enum { PRINT1525_TRACE = 0, PRINT1525_VCD = 1 };
 /* `set`: the graphic/upper case or the lower/upper case characters. */
 enum { PRINT1525_UPPER = 0, PRINT1525_LOWER = 1 };
-/* An input of a printer that is no byte: the selection of the one or of the other. */
+/* An input of a printer that is no byte: the selection of the one set or of the other. */
 enum { PRINT1525_SELECT_UPPER = 256, PRINT1525_SELECT_LOWER = 257 };
 
 /* `form` of a listing: the text of a script, a saved program (a `.prg` file), or petcat's text of one. */
@@ -202,10 +214,11 @@ void print1525_listing(const uint8_t *bytes, size_t bytes_length, uint8_t form,
 /* Runs a script and gives its pages.
  *
  * Asks: a script of at most 16,777,216 bytes; printers, status and format of the enums above; and the
- * numbers of the delays of the computer, of printer 4 and of printer 5, as of the option --delays
- * (past a list's end, and so with lengths of 0, each delay is the typical one; they change no page).
+ * delay numbers of the computer, of printer 4 and of printer 5, as in the option --delays (after a list's
+ * end, so always with a length of 0, each delay is the typical one; delays change no page).
  * Gives: the text that `print1525 pages` writes. Code 1 comes with the BASIC error that stopped the run;
- * what was printed until then is in the text.
+ * what was printed until then is in the text. A script that stopped runs twice, the second time to find
+ * the error.
  * Refuses, with the buffer as it was: printers (22), status (23) and format (24), in this order; then
  * a script above the limit (9), or by its first fault (1 to 7) with its line. */
 void print1525_pages(const uint8_t *script, size_t script_length, uint8_t printers, uint8_t status,
@@ -240,7 +253,9 @@ void print1525_raw(const uint8_t *bytes, size_t bytes_length, uint8_t set, uint8
  *
  * Asks: at most 4,294,967,296 inputs, each a number as print1525_hear and an ear give it: 0 to 255 a byte,
  * 256 the selection of the graphic/upper case set, 257 that of the lower/upper case set; and a format of a
- * page. Before the first selection the graphic/upper case set is selected.
+ * page. An emulator gives 256 for each LISTEN to the printer, and 257 directly after it if secondary address
+ * 7 follows, as for a file opened by OPEN 4,4,7. Before the first selection the graphic/upper case set is
+ * selected.
  * Gives: the text of the page, as that of printer 4. Of a selection and bytes after it this is what
  * print1525_raw gives for that set and these bytes.
  * Refuses, with the buffer as it was: format (24); inputs above the limit (9); then the first number above
@@ -275,35 +290,36 @@ typedef struct {
 void print1525_hear(uint8_t device, const print1525_edge *edges, size_t edges_length,
                     uint16_t *buffer, size_t capacity, print1525_answer *answer);
 
-/* The place that an ear's edges have reached in the table of lawful traces, and what is kept of a byte.
- * What a place has not is 0; docs/DEFINITIONS.md lists the places. */
+/* The place that an ear's edges have reached in the table of lawful traces (docs/DEFINITIONS.md), and what the
+ * ear keeps of a byte. Each number belongs to the places named with it, and is 0 in all others. */
 typedef struct {
-    uint64_t since;     /* the moment from which the next edge's time counts */
-    uint64_t released;  /* in the answer to end-or-identify the moment at which DATA was released before it */
-    uint8_t place;      /* which place, 0 to 10 */
-    uint8_t sending;    /* which byte is sent: 0 the first of an attention, 1 its second, 2 a data byte */
-    uint8_t eoi;        /* 1: end-or-identify was answered */
-    uint8_t count;      /* how many bits of the byte have come, at most eight */
-    uint8_t byte;       /* their number, the lowest bit first; after its acknowledgement the byte */
-    uint8_t bit;        /* the bit that is set; in a call 1: DATA is pulled, after an attention 1: it is released */
-    uint8_t unlistened; /* 1: the last command was UNLISTEN */
+    uint64_t since;     /* when the place began: the time of the last edge, but 0 to 1000 before it in a call (1) with
+                         * DATA pulled, and 1 to 60 before it after an attention (10) with DATA released */
+    uint64_t released;  /* 4: when DATA was released before the answer to end-or-identify, 200 to 250 before `since` */
+    uint8_t place;      /* which place, 0 to 10; the last edge has the levels of its row */
+    uint8_t sending;    /* 2, 3, 6 to 9: which byte is sent: 0 the first of an attention, 1 its second, 2 a data byte */
+    uint8_t eoi;        /* 6 to 8, for a data byte: 1: end-or-identify was answered */
+    uint8_t count;      /* 6 to 8: how many bits of the byte have come: at most 7, in place 8 all 8 */
+    uint8_t byte;       /* 6 to 8: the number that they make, the lowest bit first; 9: the byte */
+    uint8_t bit;        /* 6, 7: the bit that is set; 1: 1 if DATA is pulled; 10: 1 if DATA is released */
+    uint8_t unlistened; /* 10: 1: the last command was UNLISTEN */
 } print1525_ear_place;
 
-/* What is kept of a device between two edges: an ear on the wire. The numbers are the library's; the
- * caller only keeps them, and may copy them. Before a call uses them it tests each: a device of 4 to 30;
- * `called` only with `listens`; before the first edge nothing else but the fault 11; after it levels of 0 or
- * 1, a place to which the last edge can lead by the table with the numbers of this place and no others, the
- * fault 0 or 12 to 15, and `taken` + 98 at most the last moment (with one edge: at 0). Other numbers are
- * refused (26). Not tested is whether a trace has just these moments, this count, this
- * byte and a device that listens: with numbers that pass and that no edges left the call goes on from there.
- * Nothing is promised of what it answers then, but that it returns, writes nothing else, and leaves numbers
- * that pass. */
+/* An ear on the wire: what the library keeps of a device between two edges, one ear for each device. It is a
+ * plain struct: copy, save and load it freely; copies are independent. The numbers are the library's own.
+ * Before a call uses them it tests each: a device of 4 to 30; `called` only with `listens`; before the first
+ * edge nothing else but the fault 11; after it levels of 0 or 1, a place to which the last edge can lead by
+ * the table with the numbers of this place and no others, the fault 0 or 12 to 15, and `taken` + 98 at most
+ * the time of the last edge (with one edge: at 0). It refuses other numbers (26). It does not test whether a
+ * trace has just these times, this count, this byte and a device that listens: numbers that pass, but that
+ * no edges made, are taken as they are. Then nothing is promised of the answers, but the call returns, writes
+ * nothing else, and leaves numbers that pass. */
 typedef struct {
     size_t taken;              /* how many edges were accepted */
     print1525_edge last;       /* the last of them, each level 0 or 1 */
     print1525_ear_place place;
     uint8_t begun;             /* 1: an edge was accepted */
-    uint8_t refused;           /* 0, or the fault with which an edge was refused (11 if none was accepted) */
+    uint8_t refused;           /* 0, or the fault of the edge that was refused (11 if none was accepted) */
     uint8_t device;
     uint8_t listens;           /* 1: it was called, and no UNLISTEN has come since */
     uint8_t called;            /* 1: the last frame called it */
@@ -318,16 +334,16 @@ typedef struct {
     size_t input; /* that input, a number as of print1525_hear; else 0 */
 } print1525_ear_answer;
 
-/* Begins an ear for a device of 4 to 30, to which no edge has come. Takes no memory.
+/* Begins an ear for a device of 4 to 30, before its first edge. Takes no memory.
  *
  * Refuses, with the ear as it was: the device (21). */
 void print1525_ear_begin(print1525_ear *ear, uint8_t device, print1525_ear_answer *answer);
 
-/* Gives an ear the next edge, and answers with the input that comes with it. Takes no memory, and no more time
- * for a later edge than for an earlier one.
+/* Gives an ear the next edge, and answers with the input that comes with it. Takes no memory; later edges take
+ * no more time than earlier ones.
  *
  * Asks: an ear that was begun, and edges in order, the first of them at 0 with all lines released.
- * Gives: with edge after edge the inputs that print1525_hear gives for all of them.
+ * Gives: edge by edge the inputs that print1525_hear gives for all edges.
  * Refuses: numbers that are no ear (26), with the ear as it was; and an edge that no lawful trace has
  * there (11 to 15) with its index. Each later edge is refused with the same fault; begin the ear anew
  * to go on. */
@@ -338,7 +354,7 @@ void print1525_ear_edge(print1525_ear *ear, const print1525_edge *edge, print152
  * Refuses: numbers that are no ear (26), and edges that are none by their first fault (11 to 16). */
 void print1525_ear_end(const print1525_ear *ear, print1525_ear_answer *answer);
 
-/* A byte on the wires as far as it came, with its moments in microseconds; what it has not is 0. */
+/* A byte on the wires as far as it came, with its times in microseconds; what did not come is 0. */
 typedef struct {
     uint64_t look;                          /* CLOCK is released and DATA is pulled */
     uint64_t ready;                         /* DATA is released */
@@ -353,7 +369,7 @@ typedef struct {
     uint8_t byte;                           /* their number, the lowest bit first */
 } print1525_byte;
 
-/* `kind` of a reading: of a whole byte how it ends, and of an incomplete one what ended it. */
+/* `kind` of a reading: how a whole byte ends, or what ended an incomplete one. */
 enum print1525_kind {
     PRINT1525_NOTHING = 0,
     PRINT1525_ACKNOWLEDGED = 1,     /* a whole byte, at whose end DATA is pulled */
@@ -367,39 +383,40 @@ enum print1525_kind {
 /* What a recording says at one place. */
 typedef struct {
     print1525_byte byte;
-    uint64_t end; /* the moment of its end; 0 where the recording ends before */
+    uint64_t end; /* when it ended; 0 where the recording ends before */
     uint8_t kind; /* one of enum print1525_kind */
 } print1525_reading;
 
-/* What is kept of a recording between two edges: a decoder. The numbers are the library's; the caller only
- * keeps them, and may copy them. Before a call uses them it tests each: before the first edge they are 0;
- * after it there are two edges, and those at which DATA has turned, to and fro from the level that CLOCK has
- * not; a byte that has begun has at most eight bits and no greater number than these make, its halves in
- * order, and where CLOCK is pulled, it was pulled last with the first edge. Other numbers are refused (27).
- * Not tested is whether a recording has just these moments and ATN's levels: with numbers that pass and that
- * no edges left the call goes on from there. Nothing is promised of what it answers then, but that it returns
- * and writes nothing else. */
+/* A decoder: what the library keeps of a recording between two edges. It is a plain struct, as an ear is. Before
+ * a call uses its numbers it tests each: before the first edge they are 0; after it there are two edges, and
+ * those at which DATA has turned, to and fro from the level that CLOCK does not have; a byte that has begun has
+ * at most eight bits and no greater number than these make, its halves in order, and where CLOCK is pulled,
+ * its last pull is the first edge. It refuses other numbers (27). It does not test whether a recording has just
+ * these times and ATN's levels: numbers that pass, but that no edges made, are taken as they are. Then nothing
+ * is promised of the answers, but the call returns and writes nothing else. */
 typedef struct {
     print1525_edge first;                      /* since when CLOCK has its level; each level 0 or 1 */
-    print1525_edge last;                       /* the edge taken last */
-    print1525_edge turn1, turn2, turn3, turn4; /* the edges from `first` on at which DATA has turned */
-    print1525_byte byte;                       /* the byte that has begun */
+    print1525_edge last;                       /* the last edge taken */
+    print1525_edge turn1, turn2, turn3, turn4; /* the edges from `first` on at which DATA has turned, first to the
+                                                * level that CLOCK does not have; `first` counts if it has that level */
+    print1525_byte byte;                       /* the byte that has begun; `last_pull` is the time of `first` if that
+                                                * pulls CLOCK, as it does after eight bits */
     uint8_t begun;                             /* 1: an edge was taken */
-    uint8_t called;                            /* 1: `first` pulls ATN */
-    uint8_t turns;                             /* how many turns are kept, at most four */
+    uint8_t called;                            /* 1: `first` pulls ATN; then no byte has begun */
+    uint8_t turns;                             /* how many turns are kept, at most four, after eight bits one */
     uint8_t sent;                              /* 1: a byte has begun */
 } print1525_decoder;
 
-/* Begins a decoder of a recording, from whatever bus and however it begins. Takes no memory. */
+/* Begins a decoder of a recording of any bus, wherever the recording begins. Takes no memory. */
 void print1525_decode_begin(print1525_decoder *decoder);
 
-/* Gives a decoder the next edge, and answers with the reading that it settles. Takes no memory, and no more time
- * for a later edge than for an earlier one.
+/* Gives a decoder the next edge, and answers with the reading that it settles. Takes no memory; later edges take
+ * no more time than earlier ones.
  *
  * Asks: a decoder that was begun, and edges whose times do not go back; several may have one time.
  * Gives: `length` 1 and the reading, or 0 and one that is PRINT1525_NOTHING.
  * Refuses, with the decoder as it was and PRINT1525_NOTHING: numbers that are no decoder (27), and an edge
- * that is before the one taken last (12; `place` is 0, since a decoder counts no edges). */
+ * earlier than the one before it (12; `place` is 0, since a decoder counts no edges). */
 void print1525_decode_edge(print1525_decoder *decoder, const print1525_edge *edge,
                            print1525_reading *reading, print1525_answer *answer);
 

@@ -2,6 +2,7 @@
 
 import hashlib
 import os
+import re
 import subprocess
 
 ROOT = os.path.dirname(os.path.dirname(os.path.abspath(__file__)))
@@ -34,6 +35,11 @@ def uses():
         if colon:
             found[name.split()[0]] = others.split()
     return found
+
+
+def is_static(name):
+    """Whether a crate is a static library, for programs in other languages."""
+    return bool(re.search(rf"(?m)^{name} staticlib:", text_of(f"{ROOT}/crates.txt")))
 
 
 def below(name, users=None):
@@ -92,10 +98,11 @@ def has_gate_libraries(name):
     return lines[0] == sum_of_all() and all(f"{it} {library_sum(it)}" in lines[1:] for it in below(name))
 
 
-def build_words(name):
-    """The words by which the kit's compiler proves and builds a static library over the libraries below it."""
+def words_over(name):
+    """The words by which the kit's prover reads a crate over the libraries below it."""
     users, home = uses(), kit()
-    words = [f"{home}/bin/rattle", "build", "--crate-name", name, "src/lib.rt", "-L", f"dependency={home}/rlibs"]
+    is_program = os.path.isfile(f"{ROOT}/crates/{name}/src/main.rt")
+    words = ["--crate-name", name, "src/main.rt" if is_program else "src/lib.rt", "-L", f"dependency={home}/rlibs"]
     words += ["--extern", f"std={home}/rlibs/std.rlib"]
     for it in users[name]:
         place = f"{ROOT}/crates/{it}/out/rlib" if it in users else f"{home}/rlibs"
@@ -103,5 +110,15 @@ def build_words(name):
     for it in below(name, users):
         words += ["-L", f"dependency={ROOT}/crates/{it}/out/rlib"]
     words += ["--antt-project", f"{home}/rattle/logic/antt-project.json", "--logic-built", f"{home}/logic_built"]
-    words += ["--incremental", "out/incremental", "--jobs", "1", "--links", f"{name}="]
-    return [*words, "--crate-type", "staticlib", "--backend", "llvm"]
+    words += ["--jobs", "1", "--links", f"{name}="]
+    return words + ["--crate-type", "staticlib"] * is_static(name)
+
+
+def check_words(name):
+    """The words by which the kit's compiler proves a crate over the libraries below it."""
+    return [f"{kit()}/bin/rattle", "check", *words_over(name)]
+
+
+def build_words(name):
+    """The words by which the kit's compiler proves and builds a static library over the libraries below it."""
+    return [f"{kit()}/bin/rattle", "build", *words_over(name), "--incremental", "out/incremental", "--backend", "llvm"]
