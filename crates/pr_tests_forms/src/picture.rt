@@ -1,5 +1,6 @@
 //! Pictures and lines of papers that no run of the program gives.
 
+use pr_dots::Shapes;
 use pr_page::{Mark, Paper, Placed, Row, Sequence};
 use pr_render::laws::{discs_are_the_dots, lines_show_each_cell, names_tell_marks};
 use pr_render::{svg, text};
@@ -141,7 +142,7 @@ fn holding(rt: &impl AllocGlobal, held: Sequence<Placed>) -> Paper {
 }
 
 /// What a run leaves that printed on these papers alone.
-fn printed(rt: &impl AllocGlobal, paper4: Paper, held5: Sequence<Placed>) -> Outcome {
+pub fn printed(rt: &impl AllocGlobal, paper4: Paper, held5: Sequence<Placed>) -> Outcome {
     Outcome {
         paper4,
         paper5: holding(rt, held5),
@@ -164,7 +165,7 @@ fn shows(
     for part in parts {
         wanted.push_str(part).expect(rt, "memory");
     }
-    let drawn = svg(rt.alloc(), outcome, present).expect(rt, "memory");
+    let drawn = svg(rt.alloc(), &Shapes::own(), outcome, present).expect(rt, "memory");
     let said = text(rt.alloc(), outcome, present).expect(rt, "memory");
     let is_well = drawn.as_slice() == wanted.as_bytes() && said.as_slice() == lines.as_bytes();
     assert!(rt; is_well, "{lines}");
@@ -315,7 +316,7 @@ fn laws(_rt: HostRuntime) {
 
 /// How many calls are refused memory. Each other one gives what it gives with ample memory.
 fn refusals(rt: &(impl Abort + AllocGlobal), outcome: &Outcome) -> usize {
-    let drawn = svg(rt.alloc(), outcome, FOUR);
+    let drawn = svg(rt.alloc(), &Shapes::own(), outcome, FOUR);
     let said = text(rt.alloc(), outcome, FOUR);
     let mut refused = 0;
     match drawn {

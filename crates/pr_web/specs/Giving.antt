@@ -6,6 +6,7 @@ use Rattle.pr_cli.specs.declared.fault.CliFault.TheVariants.{Trace, Wave, Captur
 use Rattle.pr_render.specs.declared.format.Format.{Format}
 use Rattle.pr_capture.specs.declared.format.TraceInput.{TraceInput}
 use Rattle.pr_recording.specs.Decoded.{AnswersDecode}
+use Rattle.pr_dots.specs.Shapes.{own_shapes}
 use Rattle.pr_recording.specs.Pages.{AnswersPages}
 use Rattle.pr_web.specs.Answers.{answer_of}
 use Rattle.pr_web.specs.declared.answer.Answer.{Answer}
@@ -50,7 +51,7 @@ GivesReadings input bytes old new told =
 -- the buffer gets the pages that printers print of a recording
 abbrev pub GivesPages : TraceInput → Format → List ℕ → (old new : List ℕ) → Told → Type 0
 GivesPages input format bytes old new told =
-    (made : Made) × (text : List ℕ) × AnswersPages input format bytes (Some []) (Some text) made
+    (made : Made) × (text : List ℕ) × AnswersPages own_shapes input format bytes (Some []) (Some text) made
     × Gives made text old new told
 
 -- the buffer gets an explanation, and the answer has its place

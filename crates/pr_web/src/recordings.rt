@@ -9,6 +9,7 @@ use crate::answer::{Answer, Told, give, numbered, refused};
 use crate::settings::{input_for, page_format_for, source_for};
 use pr_capture::TraceInput;
 use pr_cli::Watched;
+use pr_dots::Shapes;
 use pr_recording::{decode_over, reprint_over};
 use pr_render::Format;
 use std::alloc::Global;
@@ -37,7 +38,14 @@ fn reprint(
 {
     let mut reader = Watched::new(bytes);
     let mut output = Watched::new(Vec::new(alloc));
-    let made = reprint_over(alloc, &mut reader, &mut output, input, format);
+    let made = reprint_over(
+        alloc,
+        &mut reader,
+        &mut output,
+        input,
+        format,
+        &Shapes::own(),
+    );
     give(made, &output.into_inner(), out)
 }
 
