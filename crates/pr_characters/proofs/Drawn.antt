@@ -1,5 +1,5 @@
 -- A text whose lines may have their numbers is the file of the shapes that these make.
-use Rattle.std.proofs.Common.{◌≡◌, ℕ, zero, suc, ◌+◌, ◌-◌, ◌*◌, ◌/◌, ◌%◌, ◌<◌, ◌≤◌, Bool, true, false, cond, List, [], ◌∷◌, ◌++◌, length, get_or, take, min, Option, Some, None, Result, Ok, Err, refl, sym, ap, ◌∙◌, arith, ◌⊎◌, inl, inr}
+use Rattle.std.proofs.Common.{◌≡◌, ℕ, ◌+◌, ◌-◌, ◌*◌, ◌/◌, ◌%◌, ◌<◌, ◌≤◌, Bool, true, false, cond, List, [], ◌++◌, length, get_or, take, Some, None, Result, Ok, Err, refl, sym, ap, ◌∙◌, arith, ◌⊎◌, inl, inr}
 use Rattle.std.specs.Prelude.{◌==◌, ◌&&◌, map, nat_lt}
 use Rattle.std.specs.List.{list_all, range_with_len}
 use Rattle.std.specs.Result.{IsErrAnd}
@@ -77,7 +77,7 @@ file_length : (shapes : Shapes) → length (file_of shapes) ≡ 2048
 unfolding file_of
 file_length shapes = length-map-range_with_len (line_of shapes) 0 2048
 
-file_at : (shapes : Shapes) (k : ℕ) → k < 2048 → get_or (file_of shapes) k [] ≡ line_of shapes k
+pub file_at : (shapes : Shapes) (k : ℕ) → k < 2048 → get_or (file_of shapes) k [] ≡ line_of shapes k
 unfolding file_of
 file_at shapes k within = get_or-map-range_with_len (line_of shapes) 0 2048 k k [] within (omega arith)
 
@@ -113,31 +113,37 @@ front lines f is =
     length-of : (n : ℕ) (xs : List (List ℕ)) → n ≤ length xs → length (take n xs) ≡ n
     length-of n xs within = length-take-le n xs within
 
+-- the characters of shapes
+pub upper_fits : (shapes : Shapes) → are_shapes shapes ≡ true → (length shapes.upper ≡ 128) × (list_all is_character shapes.upper ≡ true)
+upper_fits shapes fit =
+    let both = and_parts (length shapes.upper == 128 && list_all is_character shapes.upper) (length shapes.lower == 128 && list_all is_character shapes.lower) fit in
+    let parts = and_parts (length shapes.upper == 128) (list_all is_character shapes.upper) both.0 in
+    (eqb-true (length shapes.upper) 128 parts.0, parts.1)
+
+pub lower_fits : (shapes : Shapes) → are_shapes shapes ≡ true → (length shapes.lower ≡ 128) × (list_all is_character shapes.lower ≡ true)
+lower_fits shapes fit =
+    let both = and_parts (length shapes.upper == 128 && list_all is_character shapes.upper) (length shapes.lower == 128 && list_all is_character shapes.lower) fit in
+    let parts = and_parts (length shapes.lower == 128) (list_all is_character shapes.lower) both.1 in
+    (eqb-true (length shapes.lower) 128 parts.0, parts.1)
+
+pub character_fits : (shapes : Shapes) (p : ℕ) → are_shapes shapes ≡ true → p < 256 → is_character (get_or (shapes.upper ++ shapes.lower) p []) ≡ true
+character_fits shapes p fit few = by (nat_lt p 128) refl (upper_fits shapes fit) (lower_fits shapes fit)
+  where
+    by : (b : Bool) → nat_lt p 128 ≡ b → (length shapes.upper ≡ 128) × (list_all is_character shapes.upper ≡ true)
+        → (length shapes.lower ≡ 128) × (list_all is_character shapes.lower ≡ true)
+        → is_character (get_or (shapes.upper ++ shapes.lower) p []) ≡ true
+    by true is upper lower =
+        let front : p < length shapes.upper = grind (arith, nat_tests, is, upper.0) in
+        ap is_character (get_or_append_left shapes.upper shapes.lower [] p front) ∙ all_at is_character [] shapes.upper p upper.1 front
+    by false is upper lower =
+        let many : 128 ≤ p = grind (arith, nat_tests, is) in
+        ap is_character (get_or-append_right shapes.upper shapes.lower 128 p [] upper.0 many)
+        ∙ all_at is_character [] shapes.lower (p - 128) lower.1 (omega (arith, lower.0))
+
 -- a line of a file may have its number
 may_draw : (shapes : Shapes) (m : ℕ) → are_shapes shapes ≡ true → m < 2048 → may_have m (line_of shapes m) ≡ true
 may_draw shapes m fit within = by (m % 8 == 0)
   where
-    upper_fits : (length shapes.upper ≡ 128) × (list_all is_character shapes.upper ≡ true)
-    upper_fits =
-        let parts = and_parts (length shapes.upper == 128) (list_all is_character shapes.upper)
-        (and_parts (length shapes.upper == 128 && list_all is_character shapes.upper) (length shapes.lower == 128 && list_all is_character shapes.lower) fit).0 in
-        (eqb-true (length shapes.upper) 128 parts.0, parts.1)
-
-    lower_fits : (length shapes.lower ≡ 128) × (list_all is_character shapes.lower ≡ true)
-    lower_fits =
-        let parts = and_parts (length shapes.lower == 128) (list_all is_character shapes.lower)
-        (and_parts (length shapes.upper == 128 && list_all is_character shapes.upper) (length shapes.lower == 128 && list_all is_character shapes.lower) fit).1 in
-        (eqb-true (length shapes.lower) 128 parts.0, parts.1)
-
-    fits : (p : ℕ) → p < 256 → (b : Bool) → nat_lt p 128 ≡ b → is_character (get_or (shapes.upper ++ shapes.lower) p []) ≡ true
-    fits p few true is =
-        let front : p < length shapes.upper = grind (arith, nat_tests, is, upper_fits.0) in
-        ap is_character (get_or_append_left shapes.upper shapes.lower [] p front) ∙ all_at is_character [] shapes.upper p upper_fits.1 front
-    fits p few false is =
-        let many : 128 ≤ p = grind (arith, nat_tests, is) in
-        ap is_character (get_or-append_right shapes.upper shapes.lower 128 p [] upper_fits.0 many)
-        ∙ all_at is_character [] shapes.lower (p - 128) lower_fits.1 (omega (arith, lower_fits.0))
-
     signs : (columns : List ℕ) → is_character columns ≡ true → are_signs (map (sign (m % 8 - 1)) columns) ≡ true
     signs columns fit =
         let six : length columns ≡ 6 = eqb-true (length columns) 6 (and_parts (length columns == 6) (list_all (λ column. nat_lt column 128) columns) fit).0 in
@@ -149,7 +155,7 @@ may_draw shapes m fit within = by (m % 8 == 0)
         → cond b (bytes_eq (cond b (name_line (m / 8)) (map (sign (m % 8 - 1)) (get_or (shapes.upper ++ shapes.lower) (m / 8) []))) (name_line (m / 8)))
         (are_signs (cond b (name_line (m / 8)) (map (sign (m % 8 - 1)) (get_or (shapes.upper ++ shapes.lower) (m / 8) [])))) ≡ true
     by true = (bytes_eq-Decides (name_line (m / 8)) (name_line (m / 8))).1 refl
-    by false = signs (get_or (shapes.upper ++ shapes.lower) (m / 8) []) (fits (m / 8) (omega (arith, within)) (nat_lt (m / 8) 128) refl)
+    by false = signs (get_or (shapes.upper ++ shapes.lower) (m / 8) []) (character_fits shapes (m / 8) fit (omega (arith, within)))
 
 -- with the first bad line they are the first of no file
 pub no_front : (lines : List (List ℕ)) (f : ℕ) (shapes : Shapes) → first_bad 0 lines ≡ Some f → are_shapes shapes ≡ true
