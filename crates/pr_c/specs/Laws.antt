@@ -14,6 +14,6 @@ selection_of true = 257
 -- the text of bytes in a set is the text of the inputs that are the set's selection and then these bytes
 abbrev pub BytesAreInputs : Type 0
 BytesAreInputs =
-    (shapes : Shapes) (lower : Bool) (format : Format) (bytes text : List ℕ) (stop : Stopping) → All (λ b. b < 256) bytes
-    → (IsPaperText shapes lower format bytes stop text
+    (shapes : Shapes) (lower : Bool) (format : Format) (bytes text : List ℕ) (stop : Stopping)
+    → All (λ b. b < 256) bytes → (IsPaperText shapes lower format bytes stop text
     ↔ IsPrintedText shapes format (selection_of lower ∷ bytes) stop text)

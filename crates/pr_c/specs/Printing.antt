@@ -36,7 +36,8 @@ pub record IsInputsText (shapes : Shapes) (format : Format) (inputs : List Input
   pub is_text : text_in shapes format four_alone (printed_on paper) ≡ Ok text
 
 -- the page of these inputs can not be shown in this format
-pub record IsInputsUnshown (shapes : Shapes) (format : Format) (inputs : List Input) (fault : PictureFault) : Type 0 where
+pub record IsInputsUnshown (shapes : Shapes) (format : Format) (inputs : List Input) (fault : PictureFault)
+    : Type 0 where
   pub paper : Paper
   pub is_page : IsPage inputs paper
   pub is_unshown : text_in shapes format four_alone (printed_on paper) ≡ Err fault

@@ -1,4 +1,4 @@
--- Trusted: the text of an outcome in each format, and of each part of its pages; pictures draw characters in given shapes.
+-- Trusted: the text of an outcome in each format, and of each part of its pages; pictures draw characters of some shapes.
 use Rattle.std.specs.Prelude.{ℕ, ◌-◌, true, false, List, ◌&&◌, length, nat_le, if◌then◌else◌, Option, Some, None, Result, Ok, Err}
 use Rattle.pr_page.specs.declared.paper.Paper.{Paper}
 use Rattle.pr_dots.specs.Sheets.{sheets_of}

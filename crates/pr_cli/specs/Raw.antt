@@ -1,4 +1,4 @@
--- Trusted: what `raw` answers for the bytes of a printer, and what it leaves in the writer, with characters of these shapes.
+-- Trusted: what `raw` answers for the bytes of a printer, and what it leaves in the writer, with characters of some shapes.
 use Rattle.std.specs.Prelude.{◌≡◌, ℕ, Bool, true, false, ◌<◌, ◌≤◌, List, [], ◌∷◌, length, map, Option, None, Result, Ok, Err}
 use Rattle.std.specs.Io.KnownBytes.{Appends, Keeps}
 use Rattle.pr_dots.specs.declared.character_sets.Shapes.{Shapes}

@@ -39,7 +39,8 @@ HasReadPages left (Err fault) = Unit {0}
 abbrev pub text_of_print : Shapes → Format → Printed → Result (List ℕ) PictureFault
 text_of_print shapes format p = text_in shapes format p.pages.present (papers_alone p.pages)
 
-abbrev pub WritesPrint : Shapes → Format → Printed → Option (List ℕ) → Option (List ℕ) → Result (Unit {0}) CliFault → Type 0
+abbrev pub WritesPrint :
+    Shapes → Format → Printed → Option (List ℕ) → Option (List ℕ) → Result (Unit {0}) CliFault → Type 0
 WritesPrint shapes format p old new (Ok _) =
     (text : List ℕ) × (text_of_print shapes format p ≡ Ok text) × (p.stop ≡ None) × Appends old new text
 WritesPrint shapes format p old new (Err NoMemory) = Keeps old new

@@ -1,5 +1,5 @@
 -- Trusted: what `decode` answers for a recording when its pages are wanted, and what it leaves in the writer, with characters
--- of these shapes.
+-- of some shapes.
 use Rattle.std.specs.Prelude.{◌≡◌, ℕ, ◌<◌, ◌≤◌, List, [], length, Option, Some, None, Result, Ok, Err}
 use Rattle.std.specs.Io.KnownBytes.{Appends, Keeps}
 use Rattle.pr_wire.specs.declared.Edge.{Edge}
@@ -40,7 +40,8 @@ pub record IsPagesOf (shapes : Shapes) (format : Format) (readings : List Readin
   pub is_text : text_in shapes format reprinted.present (papers_alone reprinted) ≡ Ok text
 
 -- the pages that readings make can not be shown in this format
-pub record AreUnshown (shapes : Shapes) (format : Format) (readings : List Reading) (fault : PictureFault) : Type 0 where
+pub record AreUnshown (shapes : Shapes) (format : Format) (readings : List Reading) (fault : PictureFault)
+    : Type 0 where
   pub reprinted : PrintedPages
   pub are_papers : ArePapers readings reprinted
   pub is_unshown : text_in shapes format reprinted.present (papers_alone reprinted) ≡ Err fault
