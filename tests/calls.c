@@ -574,13 +574,13 @@ static void try_settings(void) {
     } rows[] = {
         {"pages", 4, 0, 0, PRINT1525_NO_SUCH_PRINTERS}, {"pages", 255, 2, 3, PRINT1525_NO_SUCH_PRINTERS},
         {"pages", 3, 2, 0, PRINT1525_NO_SUCH_STATUS},   {"pages", 3, 255, 3, PRINT1525_NO_SUCH_STATUS},
-        {"pages", 3, 1, 4, PRINT1525_NO_SUCH_FORMAT},   {"pages", 0, 0, 255, PRINT1525_NO_SUCH_FORMAT},
+        {"pages", 3, 1, 5, PRINT1525_NO_SUCH_FORMAT},   {"pages", 0, 0, 255, PRINT1525_NO_SUCH_FORMAT},
         {"bus", 4, 0, 0, PRINT1525_NO_SUCH_PRINTERS},   {"bus", 255, 2, 2, PRINT1525_NO_SUCH_PRINTERS},
         {"bus", 3, 2, 0, PRINT1525_NO_SUCH_STATUS},     {"bus", 3, 255, 2, PRINT1525_NO_SUCH_STATUS},
         {"bus", 3, 1, 2, PRINT1525_NO_SUCH_FORMAT},     {"bus", 0, 0, 255, PRINT1525_NO_SUCH_FORMAT},
         {"raw", 2, 0, 0, PRINT1525_NO_SUCH_SET},        {"raw", 255, 0, 3, PRINT1525_NO_SUCH_SET},
-        {"raw", 1, 0, 4, PRINT1525_NO_SUCH_FORMAT},     {"raw", 0, 0, 255, PRINT1525_NO_SUCH_FORMAT},
-        {"print", 0, 0, 4, PRINT1525_NO_SUCH_FORMAT},   {"print", 0, 0, 255, PRINT1525_NO_SUCH_FORMAT},
+        {"raw", 1, 0, 5, PRINT1525_NO_SUCH_FORMAT},     {"raw", 0, 0, 255, PRINT1525_NO_SUCH_FORMAT},
+        {"print", 0, 0, 5, PRINT1525_NO_SUCH_FORMAT},   {"print", 0, 0, 255, PRINT1525_NO_SUCH_FORMAT},
         {"listing", 3, 0, 0, PRINT1525_NO_SUCH_FORM},   {"listing", 255, 0, 0, PRINT1525_NO_SUCH_FORM},
     };
     static const uint16_t no_input[1] = {65535};
