@@ -16,10 +16,11 @@
  *
  * Writes the text to standard output, and a line to standard error as print1525 does, and ends with the answer's
  * code. Before that the call is made with buffers of all sizes from 0 to what is needed, and with each allocation
- * refused in turn; where there are more than MOST_SIZES or MOST_REFUSALS some are left out, unless CALLS=all stands
- * in the environment (CALLS=once leaves both out). With CHARACTERS=FILE in it pages, raw and print are called with the
- * characters of this file. (So are edges above MOST_PLACES of those at which numbers are changed.) Input and buffer end where memory ends, so a byte read or written
- * beyond them is a fault. Each answer has to be as the header says, all memory has to be given back, and a refusal
+ * refused in turn. Some are left out above MOST_SIZES and MOST_REFUSALS; with CALLS=all in the environment only above
+ * MOST_OF_ALL sizes, as of a PNG file; CALLS=once leaves all of them out. With CHARACTERS=FILE in it pages, raw and print
+ * are called with the characters of this file. (So are edges above MOST_PLACES of those at which numbers are changed.)
+ * Input and buffer end where memory ends, so a byte read or written beyond them is a fault. Each answer has to be as the
+ * header says, all memory has to be given back, and a refusal
  * may change nothing; else a line beginning with WRONG is told, and the status is 99. Behind each edge each number of
  * an ear and of a decoder is changed to others: which are still an ear or a decoder is told by `is_ear` and `is_decoder`
  * here, as docs/DEFINITIONS.md says, and all others have to be refused. Linked with -Wl,--wrap=malloc,--wrap=realloc,--wrap=free. */
@@ -33,6 +34,7 @@
 #include <unistd.h>
 
 #define MOST_SIZES 8192
+#define MOST_OF_ALL 65536
 #define MOST_REFUSALS 400
 #define MOST_PLACES 200
 #define UNTOUCHED 0xA5
@@ -238,7 +240,8 @@ static size_t try_refusals(const job *j, guarded buffer, size_t capacity, print1
 
 /* The call with sizes from 0 to what is needed and beyond. */
 static void try_sizes(const job *j, guarded buffer, print1525_answer true_answer, const uint8_t *text) {
-    const size_t needed = true_answer.length, step = is_all || needed <= MOST_SIZES ? 1 : needed / 50;
+    const size_t needed = true_answer.length, most = is_all ? MOST_OF_ALL : MOST_SIZES;
+    const size_t step = needed <= most ? 1 : needed / 50;
     size_t capacity;
     for (capacity = 0; capacity < needed + 2; capacity += step) try_size(j, buffer, capacity, true_answer, text);
     for (capacity = needed < 8 ? 0 : needed - 8; capacity <= needed + 16; capacity++)
