@@ -23,7 +23,7 @@ export class Wave {
     Object.assign(this, { canvas, onUnder, onChoose, frames: [], edges: null, turns: [] });
     Object.assign(this, { begin: 0, end: 0, from: 0, to: 1, moved: false, chosen: -1, pointer: null });
     new ResizeObserver(() => this.draw()).observe(canvas);
-    matchMedia('(prefers-color-scheme: dark)').addEventListener('change', () => this.draw());
+    for (const query of ['(prefers-color-scheme: dark)', '(forced-colors: active)']) matchMedia(query).addEventListener('change', () => this.draw());
     canvas.addEventListener('keydown', event => this.key(event));
     canvas.addEventListener('wheel', event => this.wheel(event), { passive: false });
     this.listen();
@@ -222,6 +222,19 @@ export class Wave {
 
   // drawing
 
+  /** The colours of the page by their names, as a pen takes them: those that a reader has chosen have names of their own. */
+  inks(style) {
+    const found = new Map();
+    return name => {
+      if (!found.has(name)) {
+        this.canvas.style.color = `var(--${name})`;
+        found.set(name, style.color);
+        this.canvas.style.color = '';
+      }
+      return found.get(name);
+    };
+  }
+
   draw() {
     if (this.waiting) return;
     this.waiting = true;
@@ -239,7 +252,7 @@ export class Wave {
     pen.setTransform(ratio, 0, 0, ratio, 0, 0);
     pen.clearRect(0, 0, width, height);
     const style = getComputedStyle(canvas);
-    this.ink = name => style.getPropertyValue(`--${name}`).trim();
+    this.ink = this.inks(style);
     this.font = style.fontFamily;
     if (!this.edges) return;
     const places = this.rows();
