@@ -197,7 +197,7 @@ addEventListener('pointerdown', event => {
 
 $('save').onclick = () => download(encode(editor.text), state.form === 'petcat' ? 'listing.petcat' : 'listing.bas', 'text/plain');
 
-// the rest of the hands
+// the other buttons, keys and dropped files
 
 $('smaller').onclick = () => paper.zoom(1 / 1.25);
 $('larger').onclick = () => paper.zoom(1.25);

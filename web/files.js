@@ -8,7 +8,7 @@ import { ready, showChoices, showTab } from './controls.js';
 
 const KINDS = { script: 'a listing', petcat: 'petcat\'s text', prg: 'a saved program', text: 'a trace', vcd: 'a Value Change Dump', csv: 'a table of samples', raw: 'a printer\'s bytes' };
 
-/** What a file seems to be, by what stands in it. */
+/** What a file seems to be, by its first bytes and its name. */
 function kindOf(bytes, name) {
   const head = new TextDecoder('latin1').decode(bytes.subarray(0, 4096)), lines = head.split('\n').map(line => line.trim()).filter(Boolean);
   if (/\.vcd$/i.test(name) || /\$(timescale|var|enddefinitions)\b/.test(head)) return 'vcd';

@@ -45,7 +45,7 @@ export const loadPrint1525 = (() => {
       return c;
     };
 
-    // Whether the memory has grown by so many pages.
+    // Grows the memory by some pages, and says whether it has grown.
     function grow(pages) {
       try {
         memory.grow(pages);
@@ -55,7 +55,7 @@ export const loadPrint1525 = (() => {
       }
     }
 
-    // The address of a new block of so many bytes, a multiple of 16, or 0 where the browser gives no more.
+    // The address of a new block of at least `size` bytes, a multiple of 16; 0 where the browser gives no more memory.
     function get(size) {
       const c = classOf(size);
       if (c >= free.length) return 0;

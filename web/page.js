@@ -103,7 +103,7 @@ export function notice(name, words, actions = []) {
 /** A notice that goes when it is closed. */
 export const tellOnce = (name, words) => notice(name, words, [button('Close', () => notice(name, ''))]);
 
-/** Tells that a call of the module failed. */
+/** Says that a call of the module failed. */
 export const tellFailed = error => tellOnce('failed', `The module failed: ${error.message}`);
 
 export function button(words, act) {
@@ -186,7 +186,7 @@ function leavePaper() {
   cover('There is no trace of this listing.');
 }
 
-/** Shows the sheets of a script's run, which may be that of an earlier listing. */
+/** Shows the sheets of a script's run; where the listing is refused, those of the run before stay. */
 function showRun(answer, version) {
   document.body.classList.toggle('stale', answer.code > 1);
   if (answer.code > 1) {
@@ -211,7 +211,7 @@ function showPrinters(printers, chosen) {
   }));
 }
 
-/** What an empty desk says. */
+/** What is written where there is no sheet. */
 function emptyWords() {
   if (state.source) return 'No printer hears a byte of this.';
   return editor.text.trim() ? 'No printer is on the bus: no sheet.' : 'Type a listing, open an example, or drop a file: what it prints is here.';
@@ -254,7 +254,7 @@ function speakSoon() {
   speaking = setTimeout(() => { $('spoken').textContent = $('told').innerText; }, 900);
 }
 
-/** Tells of a script how it went: beside its lines, and below them. */
+/** Shows how a script's run went: beside its lines, and below them. */
 function showScript(answer) {
   const told = $('told'), words = (name, text) => {
     const line = document.createElement('p');
@@ -274,7 +274,7 @@ function showScript(answer) {
   speakSoon();
 }
 
-/** How many characters of a text so many bytes are. */
+/** How many characters the first bytes of a text are. */
 const charactersOf = (text, bytes) => decode(encode(text).subarray(0, bytes)).length;
 
 /** A listing that cannot be read: its first fault, at its place. `place` is where the module finds it in a script. */

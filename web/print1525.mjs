@@ -49,14 +49,14 @@ const REASONS = {
   ELOOP: 'Too many levels of symbolic links',
 };
 
-/** A failed read or write: what is told, with the exit status 3. */
+/** A failed read or write: its line on standard error, and exit status 3. */
 const failed = words => new NoJob(3, `print1525: ${words}\n`);
 const failedFile = (name, error) => failed(`${shown(name)}: ${REASONS[error.code] || error.message} (os error ${-error.errno})`);
 
 const isSaved = bytes => bytes.length >= 2 && bytes[0] === 1 && bytes[1] === 8;
 const isDisk = bytes => [174848, 175531, 196608, 197376].includes(bytes.length);
 
-/** Whether a string of a script, in front of a line's remark, has a small letter or a brace. */
+/** Whether a string of a script, before a line's remark, has a small letter or a brace. */
 function hasTypedStrings(bytes) {
   return Buffer.from(bytes).toString('latin1').split('\n').some(line => {
     let isQuoted = false;
@@ -195,7 +195,7 @@ async function makeFiles() {
   return { open: name => fs.openSync(name, 'r'), readAll, writeAll, save };
 }
 
-/** Does a call, and throws what is told of its failure. */
+/** Makes a call, and throws the line that says why it failed. */
 function trying(call, tellOf) {
   try { return call(); } catch (error) { throw error.errno === undefined ? error : tellOf(error); }
 }

@@ -18,7 +18,7 @@ export class Wave {
   /** @type {(under: any) => void} */ onUnder;
   /** @type {(index: number) => void} */ onChoose;
 
-  /** `onUnder` is told what is under the pointer, `onChoose` the index of the frame that is chosen, or -1. */
+  /** `onUnder` gets what is under the pointer, `onChoose` the index of the frame that is chosen, or -1. */
   constructor(canvas, onUnder, onChoose) {
     Object.assign(this, { canvas, onUnder, onChoose, frames: [], edges: null, turns: [] });
     Object.assign(this, { begin: 0, end: 0, from: 0, to: 1, moved: false, chosen: -1, pointer: null });
@@ -77,7 +77,7 @@ export class Wave {
 
   pan(part) { const width = this.to - this.from; this.see(this.from + part * width, this.to + part * width); }
 
-  /** Chooses a frame, shows it, and tells. */
+  /** Chooses a frame and shows it; `onChoose` hears of it if `tell`. */
   choose(index, tell = true) {
     this.chosen = index;
     this.span = null;
@@ -91,7 +91,7 @@ export class Wave {
     if (tell) this.onChoose(index);
   }
 
-  /** Shows a time as that of a line of the listing, or none. */
+  /** Marks the time of a line of the listing, or none. */
   showSpan(span) {
     this.span = span;
     if (span && (span[0] < this.from || span[1] > this.to)) this.see(span[0] - (span[1] - span[0]) * .1, span[1] + (span[1] - span[0]) * .1);
@@ -141,7 +141,7 @@ export class Wave {
     return under;
   }
 
-  // what the hands do
+  // keys, wheel and pointers
 
   key(event) {
     const step = event.shiftKey ? .9 : .15, last = this.frames.length - 1;
@@ -194,8 +194,8 @@ export class Wave {
         if (held.size === 2) {
           const before = [...held.values()];
           held.set(event.pointerId, event.offsetX);
-          const behind = [...held.values()], span = list => Math.max(Math.abs(list[0] - list[1]), 10);
-          this.zoom(span(behind) / span(before), this.momentAt((behind[0] + behind[1]) / 2));
+          const after = [...held.values()], span = list => Math.max(Math.abs(list[0] - list[1]), 10);
+          this.zoom(span(after) / span(before), this.momentAt((after[0] + after[1]) / 2));
           drag = null;
           return;
         }
@@ -222,7 +222,7 @@ export class Wave {
 
   // drawing
 
-  /** The colours of the page by their names, as a pen takes them: those that a reader has chosen have names of their own. */
+  /** The colours of the page by their names, as the pen takes them. In forced colours they are the system's. */
   inks(style) {
     const found = new Map();
     return name => {

@@ -10,7 +10,7 @@ let bounds = {};
 /** Takes the bounds that the module gives. */
 export function useBounds(given) { bounds = given; }
 
-/** The delay that bounds each interval of a byte, and the intervals in the order in which they are told. */
+/** The delay that bounds each interval of a byte, in the order of the table. */
 const KINDS = {
   'ready': 'H', 'first pull': 'Ne', 'answer': 'Ye', 'answer length': 'answers', 'pull after answer': 'Ry', 'low half': 'S', 'high half': 'V',
   'acknowledgement': 'F',

@@ -52,7 +52,7 @@ FindsText made (Ok stop) = HasText made stop
 FindsText made (Err fault) = (made ≡ Err fault) × (is_of_input fault ≡ false)
 
 -- the text is at the front of the buffer, and the rest is as it was; or the buffer is too small; or there is no text
-abbrev pub Gives : Made → List ℕ → (old new : List ℕ) → Told → Type 0
+abbrev pub Gives : {X : Type 0} → Made → List X → (old new : List X) → Told → Type 0
 Gives made text old new (Written stop n) =
     HasText made stop × (n ≡ length text) × (n ≤ length old) × (new ≡ text ++ drop n old)
 Gives made text old new (TooSmall n) =

@@ -38,37 +38,20 @@ pub struct Answer {
     pub length: usize,
 }
 
-/// Hands a text that was made to the page, also where its input has a fault.
-pub fn give(made: Result<(), CliFault>, text: &[u8], out: &mut [u8]) -> Told
-    ensures gives { Gives made text.now out.old out.new result }
+/// Hands a text or numbers that were made to the page, also where their input has a fault.
+pub fn give<T: Copy>(made: Result<(), CliFault>, items: &[T], out: &mut [T]) -> Told
+    ensures gives { Gives made items.now out.old out.new result }
     ensures length { length out.new ≡ length out.old }
 {
     let stop = match stop_in(made) {
         Ok(stop) => stop,
         Err(fault) => return Told::Refused(fault),
     };
-    let size = text.len();
+    let size = items.len();
     if size > out.len() {
         return Told::TooSmall(size);
     }
-    out[..size].copy_from_slice(text);
-    Told::Written(stop, size)
-}
-
-/// Hands numbers that were made to the page, also where their input has a fault.
-pub fn give_numbers(made: Result<(), CliFault>, numbers: &[u64], out: &mut [u64]) -> Told
-    ensures gives { Gives made numbers.now out.old out.new result }
-    ensures length { length out.new ≡ length out.old }
-{
-    let stop = match stop_in(made) {
-        Ok(stop) => stop,
-        Err(fault) => return Told::Refused(fault),
-    };
-    let size = numbers.len();
-    if size > out.len() {
-        return Told::TooSmall(size);
-    }
-    out[..size].copy_from_slice(numbers);
+    out[..size].copy_from_slice(items);
     Told::Written(stop, size)
 }
 

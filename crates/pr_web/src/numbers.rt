@@ -10,7 +10,7 @@ ghost use Rattle.pr_web.specs.Numbers.{bounds_numbers, edge_numbers, kind_number
 ghost use Rattle.pr_web.specs.Rows.{EndsRows};
 ghost use Rattle.pr_web.specs.Settings.{source_of};
 
-use crate::answer::{Answer, Told, ended, give_numbers, numbered, refused};
+use crate::answer::{Answer, Told, ended, give, numbered, refused};
 use crate::rows::{Ended, RecordingRows, flag};
 use crate::settings::{input_for, source_for};
 use pr_capture::TraceInput;
@@ -89,7 +89,7 @@ fn edges(alloc: Global, bytes: &[u8], input: TraceInput<'_>, out: &mut [u64]) ->
     let Ok(numbers) = numbers_of(alloc, said.edges.as_slice()) else {
         return Told::Refused(CliFault::NoMemory);
     };
-    give_numbers(ended(said.fault), numbers.as_slice(), out)
+    give(ended(said.fault), numbers.as_slice(), out)
 }
 
 /// Reads a recording, and puts a row for each of its readings at the front of a buffer.
@@ -103,7 +103,7 @@ fn rows(alloc: Global, bytes: &[u8], input: TraceInput<'_>, out: &mut [u64]) -> 
     let Ok(made) = rows_of(alloc, said.edges.as_slice(), said.fault) else {
         return Told::Refused(CliFault::NoMemory);
     };
-    give_numbers(ended(made.stop), made.rows.as_slice(), out)
+    give(ended(made.stop), made.rows.as_slice(), out)
 }
 
 /// Adds the least and the greatest delay of each of some kinds.
@@ -220,7 +220,7 @@ pub extern "C" fn print1525_bounds(alloc: Global, out: &mut [u64], answer: &mut 
     ensures length { length out.new ≡ length out.old }
 {
     let told = match bounds_of_delays(alloc) {
-        Ok(numbers) => give_numbers(Ok(()), numbers.as_slice(), out),
+        Ok(numbers) => give(Ok(()), numbers.as_slice(), out),
         Err(_) => Told::Refused(CliFault::NoMemory),
     };
     *answer = numbered(told);

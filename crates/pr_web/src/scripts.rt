@@ -17,7 +17,7 @@ ghost use Rattle.pr_web.specs.Rows.{StartsWithLine};
 ghost use Rattle.pr_web.specs.Settings.{delays_of, is_yes, mode_of, presence, shown_of};
 ghost use Rattle.pr_wire.specs.Choices.{left};
 
-use crate::answer::{Answer, Told, give, give_numbers, numbered, refused};
+use crate::answer::{Answer, Told, give, numbered, refused};
 use crate::settings::{mode_for, shown_for};
 use pr_basic::{
     LineAt, ScriptFault, StatusMode, basic_number, faults_tell_their_line, lexeme_at, line_at,
@@ -256,7 +256,7 @@ fn lines(alloc: Global, script: &[u8], out: &mut [u64]) -> Told
         Err(fault) => return Told::Refused(CliFault::Script(fault)),
     }
     match lines_of_statements(alloc, script) {
-        Ok(numbers) => give_numbers(Ok(()), numbers.as_slice(), out),
+        Ok(numbers) => give(Ok(()), numbers.as_slice(), out),
         Err(_) => Told::Refused(CliFault::NoMemory),
     }
 }
@@ -352,7 +352,7 @@ pub extern "C" fn print1525_script_fault(
     ensures length { length out.new ≡ length out.old }
 {
     let told = match fault_row(alloc, script) {
-        Ok(numbers) => give_numbers(Ok(()), numbers.as_slice(), out),
+        Ok(numbers) => give(Ok(()), numbers.as_slice(), out),
         Err(_) => Told::Refused(CliFault::NoMemory),
     };
     *answer = numbered(told);

@@ -1,7 +1,7 @@
 use Rattle.std.proofs.Common.{◌≡◌, true, false, refl, rules, sym, ◌∙◌, None}
 use Rattle.std.specs.Prelude.{is_some}
 use Rattle.pr_web.specs.declared.rows.Ended.{Ended}
-use Rattle.pr_web.proofs.Rows.{ends_stopped, ends_whole, not_some}
+use Rattle.pr_web.proofs.Logging.{ends_stopped, ends_whole, not_some}
 use Rattle.pr_web.proofs.rows.RecordingRows.finish.Goals as goal
 
 pub returns-then-is_some : goal.returns-then-is_some

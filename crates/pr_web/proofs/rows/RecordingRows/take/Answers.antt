@@ -2,7 +2,7 @@ use Rattle.std.proofs.Common.{◌≡◌, ◌+◌, [], ◌∷◌, true, false, re
 use Rattle.std.specs.Prelude.{is_some}
 use Rattle.pr_decode.specs.Taking.{IsBefore}
 use Rattle.pr_web.specs.declared.rows.RecordingRows.{RecordingRows}
-use Rattle.pr_web.proofs.Rows.{not_some, on_ok, takes_back, takes_one, takes_stopped}
+use Rattle.pr_web.proofs.Logging.{not_some, on_ok, takes_back, takes_one, takes_stopped}
 use Rattle.pr_web.proofs.rows.RecordingRows.take.Goals as goal
 
 pub returns-then-is_some-clause-rows : goal.returns-then-is_some-clause-rows

@@ -1,6 +1,6 @@
 use Rattle.std.proofs.Common.{◌++◌, arith, take}
 use Rattle.pr_web.specs.Rows.{HasTaken}
-use Rattle.pr_web.proofs.Rows.{more_at}
+use Rattle.pr_web.proofs.Logging.{more_at}
 use Rattle.pr_web.proofs.rows.RecordingRows.take_all.Goals as goal
 
 pub loop-edge-preserved : goal.loop-edge-preserved

@@ -1,5 +1,5 @@
 use Rattle.pr_web.specs.declared.rows.RowLog.{RowLog}
-use Rattle.pr_web.proofs.Rows.{one_logged}
+use Rattle.pr_web.proofs.Logging.{one_logged}
 use Rattle.pr_web.proofs.rows.RowLog.push.Goals as goal
 
 pub returns : goal.returns
