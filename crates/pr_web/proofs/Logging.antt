@@ -9,12 +9,13 @@ use Rattle.pr_decode.specs.Readings.{readings_of}
 use Rattle.pr_decode.specs.Taking.{GivenAreSettled, HasReadings, IsBefore, StandsBefore, last_time}
 use Rattle.pr_report.specs.declared.reading_line.Preceding.{Preceding}
 use Rattle.pr_report.specs.declared.reading_line.Preceding.TheVariants.{Nothing}
-use Rattle.pr_report.specs.ReadingText.{after_reading, behind_all}
+use Rattle.pr_report.specs.Intervals.{transfer_of}
+use Rattle.pr_report.specs.ReadingText.{after_reading, behind_all, reading_lines}
 use Rattle.pr_cli.specs.declared.fault.CliFault.{CliFault}
 use Rattle.pr_recording.specs.Decoded.{back_in, in_front, stop_at}
 use Rattle.pr_recording.specs.Narrated.{time_of}
 use Rattle.pr_recording.specs.Pages.{readings_up_to}
-use Rattle.pr_web.specs.Numbers.{reading_rows, row_of}
+use Rattle.pr_web.specs.Numbers.{end_of, reading_rows, row_of, row_with}
 use Rattle.pr_web.specs.Rows.{EndsRows, HasLogged, HasRows, HasTaken, LogsReading, TakesMore}
 use Rattle.pr_web.specs.declared.rows.Ended.{Ended}
 use Rattle.pr_web.specs.declared.rows.RecordingRows.{RecordingRows}
@@ -35,9 +36,10 @@ rows_more b (q ∷ rs) r =
     ap (λ l. row_of b q ++ l) (rows_more (after_reading b q) rs r)
     ∙ sym (append_assoc (row_of b q) (reading_rows (after_reading b q) rs) (row_of (behind_all (after_reading b q) rs) r))
 
-pub one_logged : (old new : RowLog) (r : Reading) → new.rows.items ≡ old.rows.items ++ row_of old.before r → new.before ≡ after_reading old.before r
-    → (given : List Reading) → HasRows given old → HasRows (given ++ r ∷ []) new
-one_logged old new r rows before = λ given h. record {
+pub one_logged : (old new : RowLog) (r : Reading) (size : ℕ) → new.rows.items ≡ old.rows.items ++ row_with (transfer_of r) (end_of r) size → size ≡ length (reading_lines old.before r)
+    → new.before ≡ after_reading old.before r → (given : List Reading) → HasRows given old → HasRows (given ++ r ∷ []) new
+one_logged old new r size row is before = λ given h.
+    let rows : new.rows.items ≡ old.rows.items ++ row_of old.before r = row ∙ ap (λ n. old.rows.items ++ row_with (transfer_of r) (end_of r) n) is in record {
   before = before ∙ (ap (λ (b : Preceding). after_reading b r) h.before ∙ sym (before_more Nothing given r));
   rows =
       rows ∙ (ap (λ l. l ++ row_of old.before r) h.rows

@@ -70,15 +70,12 @@ fn released_in(pulse: Option<Pulse>) -> u64
     }
 }
 
-/// Adds the row of a byte that ends so, and whose lines have this many bytes.
-fn push_row(
-    rows: &mut Vec<u64>,
-    byte: Transfer,
-    end: (u64, u64),
-    lines: u64,
-) -> Result<(), NoMemory>
-    ensures { OnOk result (rows.new.items ≡ rows.old.items ++ row_with byte end lines) }
+/// Adds the row of a reading whose lines have this many bytes.
+fn push_row(rows: &mut Vec<u64>, reading: &Reading, lines: u64) -> Result<(), NoMemory>
+    ensures { OnOk result (rows.new.items ≡ rows.old.items ++ row_with (transfer_of reading.now) (end_of reading.now) lines) }
 {
+    let byte = transfer_of(reading);
+    let end = end_of(reading);
     let opening = byte.opening;
     rows.extend_from_slice(&[
         end.0,
@@ -130,12 +127,7 @@ impl RowLog {
         self.lines.clear();
         push_reading(&mut self.lines, self.before, reading)?;
         let lines = self.lines.len() as u64;
-        push_row(
-            &mut self.rows,
-            transfer_of(reading),
-            end_of(reading),
-            lines,
-        )?;
+        push_row(&mut self.rows, reading, lines)?;
         self.before = self.before.after(reading);
         Ok(())
     }

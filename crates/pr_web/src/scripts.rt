@@ -221,7 +221,8 @@ fn statement_count(alloc: Global, line: &[u8]) -> Result<usize, NoMemory>
 fn push_times(numbers: &mut Vec<u64>, number: u64, count: usize) -> Result<(), NoMemory>
     ensures { OnOk result (numbers.new.items ≡ numbers.old.items ++ replicate count number) }
 {
-    for _ in 0..count {
+    for index in 0..count {
+        let _ = index;
         numbers.push(number)?;
     }
     Ok(())
@@ -284,7 +285,8 @@ fn width_of(bytes: &[u8]) -> u64
 /// The line of the first fault.
 fn line_of(script: &[u8], place: usize, fault: ScriptFault) -> LineAt<'_>
     requires { IsFirstFaultAt script.now fault place }
-    ensures { IsLineAt script.now place result.start result.bytes.now result.number }
+    ensures first { IsFirstFaultAt script.now fault place }
+    ensures line { IsLineAt script.now place result.start result.bytes.now result.number }
 {
     faults_tell_their_line();
     match line_at(script, place) {
