@@ -228,6 +228,7 @@ export function showPaper(svg) {
   if (isNew) paper.show('');
   $('no-sheet').hidden = !isNew && (!paper.picture || paper.picture.sheets.length > 0);
   $('no-sheet').textContent = emptyWords();
+  paper.room.hidden = !paper.picture || !(paper.picture.sheets.length || paper.picture.notes);
   for (const what of ['lines', 'list']) readers[what].stale = nextText();
   fillReader(state.tabs.pages);
 }

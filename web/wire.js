@@ -11,7 +11,7 @@ let bounds = {};
 export function useBounds(given) { bounds = given; }
 
 /** The delay that bounds each interval of a byte, in the order of the table. */
-const KINDS = {
+const DELAY_OF = {
   'ready': 'H', 'first pull': 'Ne', 'answer': 'Ye', 'answer length': 'answers', 'pull after answer': 'Ry', 'low half': 'S', 'high half': 'V',
   'acknowledgement': 'F',
 };
@@ -97,7 +97,7 @@ export function intervalsOf(frames) {
   return Object.entries(LENGTHS).map(([name, lengthOf]) => {
     const lengths = Float64Array.from(frames.map(lengthOf).filter(length => length !== null)).sort(), count = lengths.length;
     if (!count) return { name, count };
-    const [from, to] = bounds[KINDS[name.replace(/^(shortest|longest) /, '')]];
+    const [from, to] = bounds[DELAY_OF[name.replace(/^(shortest|longest) /, '')]];
     const outside = lengths.reduce((sum, length) => sum + (length < from || length > to ? 1 : 0), 0);
     return { name, count, least: lengths[0], middle: lengths[(count - 1) >> 1], greatest: lengths[count - 1], from, to, outside };
   });
@@ -126,7 +126,7 @@ export function frameAt(frames, moment) {
 /** The intervals of a frame in order, as far as it comes: `{ name, from, to, line, bounds, bit }`, moments in microseconds. */
 export function intervalsIn({ look, ready, pulled, released, pull, bits, end, fault }, { times, levels }) {
   const parts = [];
-  const part = (name, from, to, line, bit = 0) => parts.push({ name, from, to, line, bounds: bounds[KINDS[name]], bit });
+  const part = (name, from, to, line, bit = 0) => parts.push({ name, from, to, line, bounds: bounds[DELAY_OF[name]], bit });
   part('ready', look, ready, DATA);
   if (pulled === null) part('first pull', ready, pull, CLOCK);
   else {
