@@ -318,6 +318,17 @@ fn fault_row(alloc: Global, script: &[u8]) -> Result<Vec<u64>, NoMemory>
     Ok(numbers)
 }
 
+/// Puts the place of a script's first fault at the front of a buffer.
+fn fault(alloc: Global, script: &[u8], out: &mut [u64]) -> Told
+    ensures told { GivesFault script.now out.old out.new result }
+    ensures length { length out.new ≡ length out.old }
+{
+    match fault_row(alloc, script) {
+        Ok(numbers) => give(Ok(()), numbers.as_slice(), out),
+        Err(_) => Told::Refused(CliFault::NoMemory),
+    }
+}
+
 /// Puts the line of each statement of a script, from 1, at the front of the page's buffer, in the
 /// order of the statements.
 ///
@@ -353,9 +364,5 @@ pub extern "C" fn print1525_script_fault(
     ensures tells { TellsFault script.now out.old out.new answer.new }
     ensures length { length out.new ≡ length out.old }
 {
-    let told = match fault_row(alloc, script) {
-        Ok(numbers) => give(Ok(()), numbers.as_slice(), out),
-        Err(_) => Told::Refused(CliFault::NoMemory),
-    };
-    *answer = numbered(told);
+    *answer = numbered(fault(alloc, script, out));
 }
