@@ -22,7 +22,8 @@ export class Wave {
   constructor(canvas, onUnder, onChoose) {
     Object.assign(this, { canvas, onUnder, onChoose, frames: [], edges: null, turns: [] });
     Object.assign(this, { begin: 0, end: 0, from: 0, to: 1, moved: false, chosen: -1, pointer: null });
-    new ResizeObserver(() => this.draw()).observe(canvas);
+    // What is seen at first fits the width, so that frames have room for their names.
+    new ResizeObserver(() => { if (this.edges && !this.moved) this.front(); else this.draw(); }).observe(canvas);
     for (const query of ['(prefers-color-scheme: dark)', '(forced-colors: active)']) matchMedia(query).addEventListener('change', () => this.draw());
     canvas.addEventListener('keydown', event => this.key(event));
     canvas.addEventListener('wheel', event => this.wheel(event), { passive: false });
