@@ -21,7 +21,7 @@
  * which numbers are changed.) Input and buffer end where memory ends, so a byte read or written beyond them is a fault. Each answer has to be as the header says, all memory has to be given back, and a refusal
  * may change nothing; else a line beginning with WRONG is told, and the status is 99. Behind each edge each number of
  * an ear and of a decoder is changed to others: which are still an ear or a decoder is told by `is_ear` and `is_decoder`
- * here, as docs/DEFINITIONS.md says, and all others have to be refused. Linked with -Wl,--wrap=malloc,--wrap=realloc,--wrap=free. */
+ * here, as the header says, and all others have to be refused. Linked with -Wl,--wrap=malloc,--wrap=realloc,--wrap=free. */
 #define _DEFAULT_SOURCE
 #include "print1525.h"
 #include <stddef.h>
