@@ -46,11 +46,11 @@ _print1525() {
         *)
             if [[ $word == -* ]]; then
                 case $command in
-                pages) words='-o --output --from --present --delays --status --as --explain --device --sheet -h --help' ;;
+                pages) words='-o --output --from --present --delays --status --as --explain --device --sheet --characters -h --help' ;;
                 bus) words='-o --output --from --present --delays --status --as --explain -h --help' ;;
                 check) words='-o --output --from --names --invert --from-time --as --explain -h --help' ;;
-                decode) words='-o --output --from --names --invert --from-time --as --explain --device --sheet -h --help' ;;
-                raw) words='-o --output --set --as --explain --device --sheet -h --help' ;;
+                decode) words='-o --output --from --names --invert --from-time --as --explain --device --sheet --characters -h --help' ;;
+                raw) words='-o --output --set --as --explain --device --sheet --characters -h --help' ;;
                 esac
             fi
             ;;

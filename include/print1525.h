@@ -6,6 +6,7 @@
  *     print1525_listing       a saved program or petcat's text as the text of a script      pages --from
  *     print1525_raw           the page of the bytes that a printer gets                     raw
  *     print1525_print         the page of bytes and of selections of a character set
+ *     print1525_.._with       the same three, with characters of your own                   --characters
  *     print1525_check         the frames that a trace text spells, or its first fault       check
  *     print1525_hear          what a device hears of a list of edges
  *     print1525_ear_..        the same, edge by edge
@@ -92,6 +93,8 @@ enum print1525_fault {
     PRINT1525_NO_SUCH_SHEET = 50,
     /* of a document that is longer than its format allows; `place` is 0 */
     PRINT1525_DOCUMENT_TOO_LARGE = 51,
+    /* of a file of characters; `place` is the line, from 1 */
+    PRINT1525_BAD_CHARACTER_LINE = 52,
     /* of a number that means no form of a listing; `place` is 0 */
     PRINT1525_NO_SUCH_FORM = 60,
     /* of a listing: it has no load address (`place` is 0); it ends within a line; in a string of petcat's text
@@ -134,8 +137,8 @@ static inline const char *print1525_code_text(size_t code) {
     }
 }
 
-/* What a fault says, in the program's words. The program writes `line 3: unknown word` for the faults 1 to 8
- * and 62, `edge 5: too early` for 11 to 16, and `line 3, column 9: unknown name` for 63 and 64. */
+/* What a fault says, in the program's words. The program writes `line 3: unknown word` for the faults 1 to 8,
+ * 52 and 62, `edge 5: too early` for 11 to 16, and `line 3, column 9: unknown name` for 63 and 64. */
 static inline const char *print1525_fault_text(size_t fault) {
     switch (fault) {
     case PRINT1525_UNKNOWN_WORD: return "unknown word";
@@ -163,6 +166,7 @@ static inline const char *print1525_fault_text(size_t fault) {
     case PRINT1525_NO_SUCH_INPUT: return "no such input";
     case PRINT1525_NO_SUCH_SHEET: return "no such sheet";
     case PRINT1525_DOCUMENT_TOO_LARGE: return "document too large";
+    case PRINT1525_BAD_CHARACTER_LINE: return "bad character line";
     case PRINT1525_NO_SUCH_FORM: return "no such form";
     case PRINT1525_NOT_SAVED: return "not a saved program";
     case PRINT1525_CUT_OFF: return "cut off";
@@ -262,6 +266,25 @@ void print1525_raw(const uint8_t *bytes, size_t bytes_length, uint8_t set, uint8
  * 257 (28) with its index, before any memory is taken. */
 void print1525_print(const uint16_t *inputs, size_t inputs_length, uint8_t format,
                      uint8_t *buffer, size_t capacity, print1525_answer *answer);
+
+/* The same as print1525_pages, print1525_raw and print1525_print, with characters of your own.
+ *
+ * Asks: what those ask, and a file of characters as of the option --characters, of any length; an empty one
+ * stands for the characters that those draw, which are this project's own.
+ * Gives: what those give; a picture draws the file's characters.
+ * Refuses: as those; directly after the settings a file without characters, by its first bad line (52). */
+void print1525_pages_with(const uint8_t *script, size_t script_length, uint8_t printers, uint8_t status,
+                          const uint16_t *computer, size_t computer_length,
+                          const uint16_t *four, size_t four_length,
+                          const uint16_t *five, size_t five_length,
+                          uint8_t format, const uint8_t *characters, size_t characters_length,
+                          uint8_t *buffer, size_t capacity, print1525_answer *answer);
+void print1525_raw_with(const uint8_t *bytes, size_t bytes_length, uint8_t set, uint8_t format,
+                        const uint8_t *characters, size_t characters_length,
+                        uint8_t *buffer, size_t capacity, print1525_answer *answer);
+void print1525_print_with(const uint16_t *inputs, size_t inputs_length, uint8_t format,
+                          const uint8_t *characters, size_t characters_length,
+                          uint8_t *buffer, size_t capacity, print1525_answer *answer);
 
 /* Checks a trace text.
  *

@@ -17,11 +17,13 @@
  * Writes the text to standard output, and a line to standard error as print1525 does, and ends with the answer's
  * code. Before that the call is made with buffers of all sizes from 0 to what is needed, and with each allocation
  * refused in turn. Some are left out above MOST_SIZES and MOST_REFUSALS; with CALLS=all in the environment only above
- * MOST_OF_ALL sizes, as of a PNG file; CALLS=once leaves all of them out. (So are edges above MOST_PLACES of those at
- * which numbers are changed.) Input and buffer end where memory ends, so a byte read or written beyond them is a fault. Each answer has to be as the header says, all memory has to be given back, and a refusal
+ * MOST_OF_ALL sizes, as of a PNG file; CALLS=once leaves all of them out. With CHARACTERS=FILE in it pages, raw and print
+ * are called with the characters of this file. (So are edges above MOST_PLACES of those at which numbers are changed.)
+ * Input and buffer end where memory ends, so a byte read or written beyond them is a fault. Each answer has to be as the
+ * header says, all memory has to be given back, and a refusal
  * may change nothing; else a line beginning with WRONG is told, and the status is 99. Behind each edge each number of
  * an ear and of a decoder is changed to others: which are still an ear or a decoder is told by `is_ear` and `is_decoder`
- * here, as the header says, and all others have to be refused. Linked with -Wl,--wrap=malloc,--wrap=realloc,--wrap=free. */
+ * here, as docs/DEFINITIONS.md says, and all others have to be refused. Linked with -Wl,--wrap=malloc,--wrap=realloc,--wrap=free. */
 #define _DEFAULT_SOURCE
 #include "print1525.h"
 #include <stddef.h>
@@ -104,6 +106,8 @@ typedef struct {
     size_t count;
     uint16_t delays[3][200];
     size_t counts[3];
+    const uint8_t *characters; /* NULL: the call without them */
+    size_t characters_length;
 } job;
 
 /* The lists of a value of --delays. */
@@ -141,7 +145,14 @@ static print1525_answer call(const job *j, uint8_t *buffer, size_t capacity) {
     print1525_answer answer;
     const long before = live;
     memset(&answer, UNTOUCHED, sizeof answer);
-    if (strcmp(j->name, "pages") == 0)
+    if (j->characters && strcmp(j->name, "pages") == 0)
+        print1525_pages_with(j->input, j->length, j->first, j->second, j->delays[0], j->counts[0], j->delays[1], j->counts[1],
+                             j->delays[2], j->counts[2], j->format, j->characters, j->characters_length, buffer, capacity, &answer);
+    else if (j->characters && strcmp(j->name, "raw") == 0)
+        print1525_raw_with(j->input, j->length, j->first, j->format, j->characters, j->characters_length, buffer, capacity, &answer);
+    else if (j->characters && strcmp(j->name, "print") == 0)
+        print1525_print_with(j->numbers, j->count, j->format, j->characters, j->characters_length, buffer, capacity, &answer);
+    else if (strcmp(j->name, "pages") == 0)
         print1525_pages(j->input, j->length, j->first, j->second, j->delays[0], j->counts[0], j->delays[1], j->counts[1],
                         j->delays[2], j->counts[2], j->format, buffer, capacity, &answer);
     else if (strcmp(j->name, "bus") == 0)
@@ -560,12 +571,13 @@ static void tell(print1525_answer answer) {
     if (answer.fault <= PRINT1525_BAD_LINE) fprintf(stderr, "line %lu: ", place);
     else if (answer.fault >= PRINT1525_START && answer.fault <= PRINT1525_TRUNCATED) fprintf(stderr, "edge %lu: ", place);
     else if (answer.fault == PRINT1525_NO_SUCH_INPUT) fprintf(stderr, "input %lu: ", place);
-    else if (answer.fault == PRINT1525_CUT_OFF) fprintf(stderr, "line %lu: ", place);
+    else if (answer.fault == PRINT1525_BAD_CHARACTER_LINE || answer.fault == PRINT1525_CUT_OFF) fprintf(stderr, "line %lu: ", place);
     else if (column_of(answer) > 0) fprintf(stderr, "line %lu, column %lu: ", place, (unsigned long)answer.length);
     fprintf(stderr, "%s\n", print1525_fault_text(answer.fault));
 }
 
-/* Each number that stands for no setting is refused, the first of several, before the input is looked at. */
+/* Each number that stands for no setting is refused, the first of several, before the characters and the input are looked at; and
+ * bad characters before the input is. */
 static void try_settings(void) {
     static const struct {
         const char *name;
@@ -584,24 +596,37 @@ static void try_settings(void) {
         {"listing", 3, 0, 0, PRINT1525_NO_SUCH_FORM},   {"listing", 255, 0, 0, PRINT1525_NO_SUCH_FORM},
     };
     static const uint16_t no_input[1] = {65535};
+    static const char *const drawing[] = {"pages", "raw", "print"};
     static job j;
-    const guarded input = guard(7), buffer = guard(99);
+    const guarded input = guard(7), buffer = guard(99), bad = guard(9);
     size_t row;
     memcpy(input.bytes, "NO WORD", 7);
+    memcpy(bad.bytes, "upper 33\n", 9);
+    j.characters_length = bad.size;
     j.numbers = no_input;
     j.count = 1;
+    j.input = input.bytes;
+    j.length = input.size;
+    memset(buffer.bytes, UNTOUCHED, buffer.size);
     for (row = 0; row < sizeof rows / sizeof *rows; row++) {
-        print1525_answer answer;
-        memset(buffer.bytes, UNTOUCHED, buffer.size);
+        int times;
         j.name = rows[row].name;
         j.first = rows[row].first;
         j.second = rows[row].second;
         j.format = rows[row].format;
-        j.input = input.bytes;
-        j.length = input.size;
-        answer = call(&j, buffer.bytes, buffer.size);
-        if (!is_answer(answer, PRINT1525_REFUSED, rows[row].fault, 0, 0) || !is_untouched(buffer.bytes, buffer.size))
-            is_wrong("a setting that is none, row", row);
+        for (times = 0; times < 2; times++) {
+            j.characters = times ? bad.bytes : NULL;
+            if (!is_answer(call(&j, buffer.bytes, buffer.size), PRINT1525_REFUSED, rows[row].fault, 0, 0) || !is_untouched(buffer.bytes, buffer.size))
+                is_wrong("a setting that is none, row", row);
+        }
+    }
+    j.first = j.second = 0;
+    for (row = 0; row < 6; row++) {
+        j.name = drawing[row / 2];
+        j.format = row % 2 ? PRINT1525_SVG : PRINT1525_LIST;
+        if (!is_answer(call(&j, buffer.bytes, buffer.size), PRINT1525_REFUSED, PRINT1525_BAD_CHARACTER_LINE, 1, 0) ||
+            !is_untouched(buffer.bytes, buffer.size))
+            is_wrong("bad characters, row", row);
     }
 }
 
@@ -852,12 +877,12 @@ static int readings(guarded text) {
     return wrong ? 99 : 0;
 }
 
-/* All of standard input, ending where memory ends. */
-static guarded read_all(void) {
+/* All of a file, ending where memory ends. */
+static guarded read_all(FILE *file) {
     size_t room = 1 << 20, count = 0, got;
     uint8_t *bytes = (uint8_t *)malloc(room);
     guarded made;
-    while (bytes && (got = fread(bytes + count, 1, room - count, stdin)) > 0)
+    while (bytes && (got = fread(bytes + count, 1, room - count, file)) > 0)
         if ((count += got) == room) bytes = (uint8_t *)realloc(bytes, room *= 2);
     if (!bytes) exit(98);
     made = guard(count);
@@ -893,13 +918,22 @@ int main(int words, char **word) {
         return wrong ? 99 : 0;
     }
     if (strcmp(j.name, "hear") == 0) {
-        answer = hear((uint8_t)(words > 2 ? atoi(word[2]) : 4), read_all());
+        answer = hear((uint8_t)(words > 2 ? atoi(word[2]) : 4), read_all(stdin));
         tell(answer);
         return wrong ? 99 : (int)answer.code;
     }
-    if (strcmp(j.name, "readings") == 0) return readings(read_all());
+    if (strcmp(j.name, "readings") == 0) return readings(read_all(stdin));
     set(&j, words, word);
-    input = read_all();
+    input = read_all(stdin);
+    if (getenv("CHARACTERS")) {
+        FILE *const file = fopen(getenv("CHARACTERS"), "rb");
+        guarded characters;
+        if (!file) return 98;
+        characters = read_all(file);
+        fclose(file);
+        j.characters = characters.bytes;
+        j.characters_length = characters.size;
+    }
     j.input = input.bytes;
     j.length = input.size;
     if (strcmp(j.name, "print") == 0) read_numbers(&j);

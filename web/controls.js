@@ -3,6 +3,7 @@
 import { CODES } from './reading.js';
 import { $, all, ask, button, decode, editor, encode, fillReader, fromBase64, hasWebAssembly, notice, paper, print, readers, state, tellFailed, tellOnce, wave } from './page.js';
 import { cover } from './telling.js';
+import { useBounds } from './wire.js';
 import { keptSource, leaveSource, showFile, takeFile } from './files.js';
 import { fillMenu, FIRST, isNewAddress, keepEarlier, listingChanged, openFromMenu, own, readAddress, save, saving, store, through } from './kept.js';
 
@@ -196,7 +197,7 @@ addEventListener('pointerdown', event => {
 
 $('save').onclick = () => download(encode(editor.text), state.form === 'petcat' ? 'listing.petcat' : 'listing.bas', 'text/plain');
 
-// the rest of the hands
+// the other buttons, keys and dropped files
 
 $('smaller').onclick = () => paper.zoom(1 / 1.25);
 $('larger').onclick = () => paper.zoom(1.25);
@@ -310,7 +311,7 @@ async function begin() {
     return;
   }
   try {
-    await ask('open', { bytes: await through(new DecompressionStream('deflate-raw'), fromBase64($('module').textContent.trim())) });
+    useBounds(await ask('open', { bytes: await through(new DecompressionStream('deflate-raw'), fromBase64($('module').textContent.trim())) }));
   } catch (error) {
     notice('memory', `The module cannot run in this browser: ${error.message}`);
     return;

@@ -158,21 +158,3 @@ export class Editor {
     this.notes.append(row);
   }
 }
-
-/**
- * The lines on which the statements of a script stand, in order: the grammar's parts between colons that are not empty,
- * behind the line's number. Only for a script that was read; whether their number is right the statuses tell.
- */
-export function linesOfStatements(text) {
-  const lines = [];
-  text.split('\n').forEach((line, number) => {
-    let rest = line.replace(/^[ \t]*\d*/, '');
-    while (rest) {
-      if (/^[ \t]*rem/i.test(rest)) { lines.push(number); break; }
-      const part = /^(?:[^":]|"[^"]*(?:"|$))*/.exec(rest)[0];
-      if (part.trim()) lines.push(number);
-      rest = rest.slice(part.length + 1);
-    }
-  });
-  return lines;
-}

@@ -8,7 +8,7 @@ import { ready, showChoices, showTab } from './controls.js';
 
 const KINDS = { script: 'a listing', petcat: 'petcat\'s text', prg: 'a saved program', text: 'a trace', vcd: 'a Value Change Dump', csv: 'a table of samples', raw: 'a printer\'s bytes' };
 
-/** What a file seems to be, by what stands in it. */
+/** What a file seems to be, by its first bytes and its name. */
 function kindOf(bytes, name) {
   const head = new TextDecoder('latin1').decode(bytes.subarray(0, 4096)), lines = head.split('\n').map(line => line.trim()).filter(Boolean);
   if (/\.vcd$/i.test(name) || /\$(timescale|var|enddefinitions)\b/.test(head)) return 'vcd';
@@ -181,8 +181,7 @@ export function showSource(answer) {
   const why = answer.code === 2 ? `It cannot be read to its end: ${answer.words}.` : answer.code > 2 ? 'There was no memory for it.' : '';
   const told = (answer.told || '').split('\n').map(line => line.trim()).filter(line => line && !/^[\^~]+$/.test(line));
   const verdict = !answer.verdict ? '' : answer.verdict === 'lawful' ? 'It is lawful.' : `${answer.verdict[0].toUpperCase()}${answer.verdict.slice(1)}.`;
-  const wave = answer.isDrawn === false ? ' Its wave is not drawn here: only decode reads all of its form.' : '';
-  tellSource(`${why || verdict}${wave}`, told.length ? answer.told.replace(/\n$/, '') : '');
+  tellSource(why || verdict, told.length ? answer.told.replace(/\n$/, '') : '');
   if (answer.svg) showPaper(decode(answer.svg)); else clearPaper();
   if (source.kind === 'raw') { showWire(null); cover('A printer\'s bytes alone: nothing is known of the wire.'); return; }
   cover('');

@@ -11,7 +11,7 @@ export const FIRST = `10 REM TYPE: THE PAPER FOLLOWS
 20 OPEN 4,4
 30 PRINT#4,CHR$(14);"PRINT1525"
 40 PRINT#4,CHR$(15);
-50 PRINT#4,"WHAT A COMMODORE 64 PRINTS"
+50 PRINT#4,"WHAT A C64 PRINTS"
 60 PRINT#4,CHR$(18);" DOT BY DOT "
 70 CLOSE 4
 `;
@@ -89,7 +89,7 @@ export async function through(stream, bytes) {
   return new Uint8Array(await new Blob(parts).arrayBuffer());
 }
 
-/** The state as the part of an address behind `#`: the choices by their letters, and the listing, deflated, in base64url; empty for a long one. */
+/** The state as the part of an address after `#`: the choices by their letters, and the listing, deflated, in base64url; empty for a long one. */
 async function address() {
   if (editor.text.length > 10 * LINK_LIMIT) return '';
   const { form, printers, status, delays, lists } = state, parts = [`p=${['none', '4', '5', 'both'][printers]}`];
@@ -101,7 +101,7 @@ async function address() {
   return parts.join('&');
 }
 
-/** Reads an address; null where it has no listing, and where it has one that cannot be read, which is told. */
+/** Reads an address; null where it has no listing. If the listing cannot be read, a notice says so. */
 export async function readAddress(hash) {
   const parts = new Map(hash.replace(/^#/, '').split('&').map(part => [part[0], part.slice(2)]));
   if (!parts.has('t')) return null;
@@ -119,7 +119,7 @@ export async function readAddress(hash) {
   }
 }
 
-/** Keeps the listing that another one is about to replace, unless it is an example as it came. */
+/** Keeps the listing that another one is about to replace, unless it is an unchanged example. */
 export function keepEarlier(text = editor.text, form = state.form) {
   if (!text.trim() || text === FIRST || examples.some(example => example.text === text)) return;
   const earlier = (store.get('earlier') || []).filter(kept => kept.text !== text);

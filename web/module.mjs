@@ -14,6 +14,10 @@
 //     edge        with code 2 the index of the edge of the fault, from 0, or -1
 //     text        what the program `print1525` writes on standard output; of a method whose name begins with
 //                 `explain` what its option --explain tells on standard error
+//     sheets      where a sheet is asked for that there is not, how many there are, else 0
+//
+// The methods `edges`, `readings`, `statementLines`, `scriptFault` and `bounds` give numbers in place of a text: see
+// print1525.d.mts.
 //
 // The numbers are those of include/print1525.h, and for recordings those of crates/pr_web/src/answer.rt.
 // `module.words(answer)` says a stop or a fault in the program's words.
@@ -27,8 +31,8 @@ export const loadPrint1525 = (() => {
   // The room that a text gets at first, if eight times the input is less. Where it is too small, the answer says how much it needs.
   const ROOM = 2 ** 20;
 
-  // The heap that the module imports, and that the page's own buffers stand in: the memory above `__heap_base`.
-  // A block has 2^c bytes, c from 4 on, behind 16 bytes of which the first holds c. Freed blocks are kept by c.
+  // The heap that the module imports, which has the page's own buffers too: the memory above `__heap_base`.
+  // A block has 2^c bytes, c from 4 on, after 16 bytes of which the first holds c. Freed blocks are kept by c.
   function makeHeap(exports) {
     const { memory } = exports;
     const free = Array.from({ length: 48 }, () => []);
@@ -41,7 +45,7 @@ export const loadPrint1525 = (() => {
       return c;
     };
 
-    // Whether the memory has grown by so many pages.
+    // Grows the memory by some pages, and says whether it has grown.
     function grow(pages) {
       try {
         memory.grow(pages);
@@ -51,14 +55,14 @@ export const loadPrint1525 = (() => {
       }
     }
 
-    // The address of a new block of so many bytes, a multiple of 16, or 0 where the browser gives no more.
+    // The address of a new block of at least `size` bytes, a multiple of 16; 0 where the browser gives no more memory.
     function get(size) {
       const c = classOf(size);
       if (c >= free.length) return 0;
       if (free[c].length) return free[c].pop();
       const at = top + 16;
       const missing = at + 2 ** c - memory.buffer.byteLength;
-      // A memory that cannot grow where it stands is copied: so it grows by half of what it is, if the browser gives that.
+      // A memory that cannot grow in place is copied: so it grows by half of what it is, if the browser gives that.
       const pages = size => Math.ceil(size / PAGE);
       if (missing > 0 && !grow(pages(Math.max(missing, memory.buffer.byteLength / 2))) && !grow(pages(missing))) return 0;
       top = at + 2 ** c;
@@ -114,22 +118,45 @@ export const loadPrint1525 = (() => {
       return [BigInt(at), BigInt(items.length)];
     }
 
-    // Calls an export with these arguments, then a buffer of so many bytes for the text, and the answer.
-    function attempt(name, words, room) {
+    // Calls an export with these arguments, then a buffer with room for so many bytes or numbers, and the answer. `kind`
+    // says how many bytes each of them has, and what is made of them.
+    function attempt(name, words, room, kind) {
       // A call frees all that it takes, so each begins with an empty heap.
       heap = makeHeap(exports);
       const passed = words.map(it => (ArrayBuffer.isView(it) ? slice(it) : [it]));
       const answer = heap.get(32);
-      const out = heap.get(room);
-      if (passed.includes(null) || !answer || !out) return { code: 3, fault: 0, place: 0, length: 0 };
+      const out = heap.get(Math.max(room * kind.size, 1));
+      if (passed.includes(null) || !answer || !out) return { code: 3, fault: 0, place: 0, length: 0, made: kind.read(exports.memory.buffer, 0, 0) };
       exports[name](...passed.flat(), BigInt(out), BigInt(room), BigInt(answer));
       const [code, fault, place, length] = Array.from(new BigUint64Array(exports.memory.buffer, answer, 4), Number);
-      const text = code === 4 ? null : new Uint8Array(exports.memory.buffer, out, length).slice();
-      return { code, fault, place, length, text };
+      return { code, fault, place, length, made: code === 4 ? null : kind.read(exports.memory.buffer, out, length) };
     }
 
     return { attempt, size: () => exports.memory.buffer.byteLength };
   }
+
+  // A text, and numbers of 64 bits, of which those above 2^53 are rounded.
+  const TEXT = { size: 1, read: (buffer, at, length) => new Uint8Array(buffer, at, length).slice() };
+  const NUMBERS = {
+    size: 8,
+    read(buffer, at, length) {
+      const halves = new Uint32Array(buffer, at, 2 * length), numbers = new Float64Array(length);
+      for (let i = 0; i < length; i++) numbers[i] = halves[2 * i] + halves[2 * i + 1] * 4294967296;
+      return numbers;
+    },
+  };
+  // Edges: the moment and the levels of each.
+  const EDGES = {
+    size: 8,
+    read(buffer, at, length) {
+      const halves = new Uint32Array(buffer, at, 2 * length), times = new Float64Array(length / 2), levels = new Uint8Array(length / 2);
+      for (let i = 0; i < times.length; i++) {
+        times[i] = halves[4 * i] + halves[4 * i + 1] * 4294967296;
+        levels[i] = halves[4 * i + 2];
+      }
+      return { times, levels };
+    },
+  };
 
   const FAULTS = {
     1: 'unknown word', 2: 'bad number', 3: 'bad device', 4: 'bad secondary address', 5: 'bad byte', 6: 'too long',
@@ -143,6 +170,22 @@ export const loadPrint1525 = (() => {
     75: 'another signal ATN', 76: 'another signal CLOCK', 77: 'another signal DATA',
   };
   const STOPS = { 1: 'TOO MANY FILES', 2: 'FILE OPEN', 3: 'FILE NOT OPEN', 5: 'DEVICE NOT PRESENT', 6: 'NOT INPUT FILE' };
+
+  // The numbers of a reading's row, and the kinds of delay, in their orders.
+  const ROW = ['end', 'endMoment', 'bits', 'byte', 'isCommand', 'readyToSend', 'readyForData', 'hasEoi', 'pulled', 'released', 'firstPull', 'lastPull',
+    'shortestLow', 'longestLow', 'shortestHigh', 'longestHigh', 'textLength'];
+  const ENDS = ['acknowledged', 'not acknowledged', 'ended by ATN', 'CLOCK released too long', 'cut'];
+  const DELAYS = ['Bb', 'Aw', 'Ne', 'Ry', 'S', 'V', 'R', 'Cr', 'At', 'H', 'Ye', 'Ei', 'F', 'Dr', 'answers'];
+
+  function readingOf(rows, at) {
+    /** @type {any} */
+    const reading = {};
+    for (let i = 0; i < ROW.length; i++) reading[ROW[i]] = rows[at + i];
+    reading.end = ENDS[reading.end];
+    reading.isCommand = reading.isCommand === 1;
+    reading.hasEoi = reading.hasEoi === 1;
+    return reading;
+  }
 
   const isEdge = fault => fault >= 11 && fault <= 16;
   const isLine = fault => (fault >= 1 && fault <= 8) || (fault >= 31 && fault <= 49) || (fault >= 62 && ![72, 73].includes(fault));
@@ -165,8 +208,18 @@ export const loadPrint1525 = (() => {
   }
 
   const bytesOf = bytes => (bytes instanceof Uint8Array ? bytes : new Uint8Array(bytes));
-  const latin = text => Uint8Array.from([...text].map(it => it.charCodeAt(0)));
   const pageFormat = format => numberOf(format, ['list', 'text', 'svg', 'png', 'pdf'], 'format');
+
+  // A format, and what of the pages it shows: one printer or all, one sheet or all.
+  const partWords = ({ format = 'list', device = 0, sheet = 0 }) => [pageFormat(format), Number(device), BigInt(sheet)];
+  const isPart = ({ device, sheet }) => Boolean(device || sheet);
+
+  // How many numbers there may be: as many as the lines of a text have room for.
+  function roomOf(bytes, perLine) {
+    let lines = 2;
+    for (let at = bytes.indexOf(10); at >= 0; at = bytes.indexOf(10, at + 1)) lines++;
+    return perLine * lines;
+  }
 
   function scriptWords({ script, printers = 3, status = 0, delays = [] }) {
     const lists = [0, 1, 2].map(it => Uint16Array.from(delays[it] || []));
@@ -176,7 +229,7 @@ export const loadPrint1525 = (() => {
   // A recording: its format, the names of its signals, whether its levels are inverted, and the microsecond at which it starts.
   function recordingWords({ bytes, input = 'text', names = ['ATN', 'CLOCK', 'DATA'], inverted = false, start = 0 }) {
     const source = numberOf(input, ['text', 'vcd', 'csv'], 'input');
-    return [bytesOf(bytes), source, ...names.map(latin), inverted ? 1 : 0, BigInt(start)];
+    return [bytesOf(bytes), source, ...names.map(name => new TextEncoder().encode(name)), inverted ? 1 : 0, BigInt(start)];
   }
 
   return async function loadPrint1525(bytes) {
@@ -187,51 +240,101 @@ export const loadPrint1525 = (() => {
     let instance = makeInstance(compiled);
     const rooms = {};
 
-    function call(name, passed) {
+    // Calls an export, and makes what its buffer has then; `room` is what the buffer has room for at first.
+    function made(name, passed, kind, room) {
       if (instance === null || instance.size() > KEPT) instance = makeInstance(compiled);
-      let told;
       try {
-        told = instance.attempt(name, passed, Math.max(rooms[name] || 0, ROOM, Math.min(8 * passed[0].byteLength, KEPT / 4)));
-        if (told.code === 4) told = instance.attempt(name, passed, told.length);
+        const told = instance.attempt(name, passed, room, kind);
+        return told.code === 4 ? instance.attempt(name, passed, told.length, kind) : told;
       } catch (error) {
-        // What a call that was cut off leaves behind is not used again.
+        // What a call that was cut off leaves is not used again.
         instance = null;
         throw error;
       }
-      const { code, fault, place, length } = told;
-      // Beside a listing's fault the length is its column.
-      const isColumn = code === 2 && isOfListing(fault);
-      const text = isColumn || !told.text ? new Uint8Array(0) : told.text;
-      rooms[name] = Math.min(length * 1.25, KEPT / 4) | 0;
+    }
+
+    // An answer without what was made.
+    function answerOf({ code, fault, place, length }) {
       return {
         code,
         fault,
         statement: code === 1 ? place : 0,
         line: code === 2 && isLine(fault) ? place : 0,
-        column: isColumn ? length : 0,
+        // Beside a listing's fault the length is its column.
+        column: code === 2 && isOfListing(fault) ? length : 0,
         edge: code === 2 && isEdge(fault) ? place : -1,
-        text,
+        sheets: code === 2 && fault === 50 ? place : 0,
       };
     }
+
+    function call(name, passed) {
+      const told = made(name, passed, TEXT, Math.max(rooms[name] || 0, ROOM, Math.min(8 * passed[0].byteLength, KEPT / 4))), answer = answerOf(told);
+      rooms[name] = Math.min(told.length * 1.25, KEPT / 4) | 0;
+      return { ...answer, text: answer.column || !told.made ? new Uint8Array(0) : told.made };
+    }
+
+    const numbers = (name, passed, room) => {
+      const told = made(name, passed, NUMBERS, room);
+      return { ...answerOf(told), numbers: told.made };
+    };
 
     return {
       words,
       // Which printers are present: 0 none, 1 printer 4, 2 printer 5, 3 both; whether the status is kept from statement to
       // statement (1) or not (0); the numbers of the delays of the computer, of printer 4 and of printer 5.
-      pages: asked => call('print1525_pages', [...scriptWords(asked), pageFormat(asked.format || 'list')]),
+      // `device` (4 or 5) and `sheet` (from 1) show a part of the pages, where the format can.
+      pages(asked) {
+        const [script, , , ...delays] = scriptWords(asked), { printers = 3, status = 0 } = asked;
+        const whole = format => call('print1525_pages', [script, printers, status, ...delays, pageFormat(format)]);
+        if (!isPart(asked)) return whole(asked.format || 'list');
+        const ended = whole('list');
+        if (ended.code > 1) return ended;
+        const part = call('print1525_part_of_pages', [script, printers & 1, printers >> 1, status, ...delays, ...partWords(asked)]);
+        return part.code ? part : { ...ended, text: part.text };
+      },
       bus: asked => call('print1525_bus', [...scriptWords(asked), numberOf(asked.format || 'text', ['text', 'vcd'], 'format')]),
       // The text of the script that a listing says: 'text' (the listing itself), 'prg' (a saved program) or 'petcat' (petcat's text).
       listing: ({ bytes, form = 'text' }) => call('print1525_listing', [bytesOf(bytes), numberOf(form, ['text', 'prg', 'petcat'], 'form')]),
       // The bytes that a printer gets, and the character set before them: 0 graphic/upper case, 1 lower/upper case.
-      raw: ({ bytes, set = 0, format = 'list' }) => call('print1525_raw', [bytesOf(bytes), set, pageFormat(format)]),
+      raw: asked => {
+        const { bytes, set = 0, format = 'list' } = asked;
+        return isPart(asked) ? call('print1525_part_of_raw', [bytesOf(bytes), set, ...partWords(asked)]) : call('print1525_raw', [bytesOf(bytes), set, pageFormat(format)]);
+      },
       // What a printer hears: 0 to 255 a byte, 256 and 257 the selection of the graphic/upper case or the lower/upper case set.
       print: ({ inputs, format = 'list' }) => call('print1525_print', [Uint16Array.from(inputs), pageFormat(format)]),
       check: ({ text }) => call('print1525_check', [bytesOf(text)]),
-      // What a recording says. With code 2 the text is what stands before the fault.
+      // The frames of a trace in any format, or their story. With code 2 a story is what comes before the fault.
+      report: asked => call('print1525_report', [...recordingWords(asked), asked.story ? 1 : 0]),
+      // What a recording says. With code 2 the text is what comes before the fault.
       decode: asked => {
-        const output = numberOf(asked.output || 'readings', ['readings', 'text', 'svg', 'png', 'pdf'], 'output');
-        if (output === 0) return call('print1525_readings', recordingWords(asked));
-        return call('print1525_reprint', [...recordingWords(asked), output - 1]);
+        const output = asked.output || 'readings';
+        if (output === 'readings') return call('print1525_readings', recordingWords(asked));
+        return call('print1525_reprint', [...recordingWords(asked), ...partWords({ ...asked, format: output })]);
+      },
+      // The edges of a recording, up to its fault.
+      edges: asked => {
+        const words = recordingWords(asked), told = made('print1525_edges', words, EDGES, roomOf(words[0], 2));
+        return { ...answerOf(told), ...told.made };
+      },
+      // What a recording says, as numbers: those readings whose lines `decode` gives.
+      readings: asked => {
+        const words = recordingWords(asked), { numbers: rows, ...answer } = numbers('print1525_reading_rows', words, Math.ceil(roomOf(words[0], ROW.length) / 12));
+        return { ...answer, readings: Array.from({ length: rows.length / ROW.length }, (_, row) => readingOf(rows, row * ROW.length)) };
+      },
+      // The least and the greatest delay of each kind, and of an answer to end-or-identify that two listeners make together.
+      bounds: () => {
+        const { numbers: all } = numbers('print1525_bounds', [], 30);
+        return Object.fromEntries(DELAYS.map((kind, index) => [kind, [all[2 * index], all[2 * index + 1]]]));
+      },
+      // The line of each statement of a script, from 1.
+      statementLines: ({ script }) => {
+        const bytes = bytesOf(script), { numbers: lines, ...answer } = numbers('print1525_statement_lines', [bytes], roomOf(bytes, 2));
+        return { ...answer, lines };
+      },
+      // Where the first fault of a script is, or null.
+      scriptFault: ({ script }) => {
+        const { numbers: [line, column, label, width] } = numbers('print1525_script_fault', [bytesOf(script)], 4);
+        return line ? { line, column, basicLine: label ? label - 1 : null, width } : null;
       },
       // Why a script is refused; nothing, where it is not.
       explainScript: ({ script }) => call('print1525_explain_script', [bytesOf(script)]),

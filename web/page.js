@@ -3,7 +3,7 @@
 import { Reader } from './reader.js';
 import { hasTyped } from './listing.js';
 import { partsOf, wordsAt } from './reading.js';
-import { Editor, linesOfStatements } from './editor.js';
+import { Editor } from './editor.js';
 import { Paper } from './paper.js';
 import { spaced, Wave } from './wave.js';
 import { cover, frameChosen, lineChosen, markClicked, showWire, tellUnder, traceSoon } from './telling.js';
@@ -103,7 +103,7 @@ export function notice(name, words, actions = []) {
 /** A notice that goes when it is closed. */
 export const tellOnce = (name, words) => notice(name, words, [button('Close', () => notice(name, ''))]);
 
-/** Tells that a call of the module failed. */
+/** Says that a call of the module failed. */
 export const tellFailed = error => tellOnce('failed', `The module failed: ${error.message}`);
 
 export function button(words, act) {
@@ -186,7 +186,7 @@ function leavePaper() {
   cover('There is no trace of this listing.');
 }
 
-/** Shows the sheets of a script's run, which may be that of an earlier listing. */
+/** Shows the sheets of a script's run; where the listing is refused, those of the run before stay. */
 function showRun(answer, version) {
   document.body.classList.toggle('stale', answer.code > 1);
   if (answer.code > 1) {
@@ -211,7 +211,7 @@ function showPrinters(printers, chosen) {
   }));
 }
 
-/** What an empty desk says. */
+/** What is written where there is no sheet. */
 function emptyWords() {
   if (state.source) return 'No printer hears a byte of this.';
   return editor.text.trim() ? 'No printer is on the bus: no sheet.' : 'Type a listing, open an example, or drop a file: what it prints is here.';
@@ -228,6 +228,7 @@ export function showPaper(svg) {
   if (isNew) paper.show('');
   $('no-sheet').hidden = !isNew && (!paper.picture || paper.picture.sheets.length > 0);
   $('no-sheet').textContent = emptyWords();
+  paper.room.hidden = !paper.picture || !(paper.picture.sheets.length || paper.picture.notes);
   for (const what of ['lines', 'list']) readers[what].stale = nextText();
   fillReader(state.tabs.pages);
 }
@@ -254,7 +255,7 @@ function speakSoon() {
   speaking = setTimeout(() => { $('spoken').textContent = $('told').innerText; }, 900);
 }
 
-/** Tells of a script how it went: beside its lines, and below them. */
+/** Shows how a script's run went: beside its lines, and below them. */
 function showScript(answer) {
   const told = $('told'), words = (name, text) => {
     const line = document.createElement('p');
@@ -274,37 +275,37 @@ function showScript(answer) {
   speakSoon();
 }
 
-/** How many characters of a text so many bytes are. */
+/** How many characters the first bytes of a text are. */
 const charactersOf = (text, bytes) => decode(encode(text).subarray(0, bytes)).length;
 
-/** A script that cannot be read: its first fault, at its place. */
-function tellRefusal({ words: why, line, column, told, place }, words) {
-  const said = told.split('\n'), where = said.map(text => /^ {2}line (\d+), column (\d+)[^:]*: (.*)$/.exec(text)).find(Boolean);
-  const name = why.replace(/^line \d+(, column \d+)?: /, ''), signs = [], titles = [];
-  if (!where) {
-    const upper = name[0].toUpperCase() + name.slice(1);
+/** A listing that cannot be read: its first fault, at its place. `place` is where the module finds it in a script. */
+function tellRefusal({ words: why, line, column, told, place, inPetcat }, words) {
+  const name = why.slice(why.lastIndexOf(': ') + 1).trim(), upper = name[0].toUpperCase() + name.slice(1), signs = [], titles = [];
+  if (!place) {
     words('first', column ? `${upper} in line ${line}, column ${column}` : line ? `Line ${line}: ${name}` : upper);
     if (line) signs[line - 1] = 'refused';
     if (!column) return editor.tell(signs, titles, null);
     const text = editor.line(line - 1), from = charactersOf(text, column - 1), brace = text[from] === '{' ? text.indexOf('}', from) : -1;
     return editor.tell(signs, titles, { line: line - 1, from, to: Math.max(brace, from) + 1, words: name, kind: 'refused' });
   }
-  const number = Number(where[1]) - 1, text = editor.line(number), from = place ? place.from : charactersOf(text, Number(where[2]) - 1);
-  const word = /^"(.*)": /.exec(where[3]), length = word && text.startsWith(word[1], from) ? word[1].length : 1;
-  const expected = where[3].replace(/^".*": /, ''), hints = said.slice(said.indexOf(where[0]) + 1).filter(text => text.trim());
-  const first = words('first', `${name[0].toUpperCase()}${name.slice(1)} in line ${where[1]}, column ${place ? from + 1 : where[2]}`);
+  // The explanation is the line, a caret, then the place with what is there and what can be there, then hints.
+  const [, , found, ...hints] = told.split('\n'), number = place.line - 1, text = editor.line(number);
+  const from = inPetcat ? inPetcat.from : charactersOf(text, place.column - 1), isQuoted = (text.slice(0, from).split('"').length - 1) % 2 === 1;
+  const width = isQuoted ? 1 : Math.max(place.width, /^[a-z]*/i.exec(text.slice(from))[0].length, 1), there = found.slice(found.indexOf(': ') + 2);
+  const expected = there.startsWith('"') ? there.slice(there.indexOf('": ') + 3) : there;
+  const first = words('first', `${upper} in line ${place.line}, column ${inPetcat ? from + 1 : place.column}`);
   first.append(' ', button('go there', () => editor.goTo(number, from)));
-  words('', where[3]);
-  hints.forEach(hint => words('', hint.trim()));
+  words('', there);
+  hints.filter(hint => hint.trim()).forEach(hint => words('', hint.trim()));
   signs[number] = 'refused';
   titles[number] = expected;
-  editor.tell(signs, titles, { line: number, from, to: from + length, words: expected, kind: 'refused' });
+  editor.tell(signs, titles, { line: number, from, to: Math.min(from + width, Math.max(text.length, from + 1)), words: expected, kind: 'refused' });
 }
 
 /** A run's statuses and its stop. */
 function tellStatuses(answer, words) {
-  const { statuses, code, statement, told } = answer, lines = linesOfStatements(answer.script ?? editor.text);
-  const known = code === 1 ? lines.length >= statement : lines.length === statuses.length;
+  const { statuses, code, statement, told } = answer, lines = Array.from(answer.lines, line => line - 1);
+  const isKnown = lines.length > 0;
   const signs = [], titles = [], rank = ['', 'fine', 'unreached', 'unanswered', 'stopped'];
   const sign = (line, name, title) => {
     if (rank.indexOf(name) > rank.indexOf(signs[line] || '')) signs[line] = name;
@@ -313,7 +314,7 @@ function tellStatuses(answer, words) {
   const unanswered = [];
   statuses.forEach((status, index) => {
     if (status) unanswered.push(index);
-    if (!known || (code === 1 && index === statement - 1)) return;
+    if (!isKnown || (code === 1 && index === statement - 1)) return;
     sign(lines[index], status ? 'unanswered' : 'fine', `statement ${index + 1}: status ${status ? '128, no device answered' : '0'}`);
   });
   let note = null;
@@ -321,7 +322,7 @@ function tellStatuses(answer, words) {
     const [first, , hint] = told.split('\n'), name = first.split('  ERROR')[0];
     words('first', first);
     if (hint) words('', hint.trim());
-    if (known) {
+    if (isKnown) {
       const line = lines[statement - 1], text = editor.line(line);
       sign(line, 'stopped', `statement ${statement}: ${name}`);
       lines.slice(statement).forEach((line, index) => sign(line, 'unreached', `statement ${statement + 1 + index}: not reached`));
@@ -329,7 +330,7 @@ function tellStatuses(answer, words) {
     }
   } else if (statuses.length) words('first', `${counted(statuses.length, 'statement')} done`);
   else words('first', 'Nothing to do yet: type a listing, choose an example, or drop a file.');
-  const places = unanswered.slice(0, 4).map(index => known ? `${index + 1} (line ${lines[index] + 1})` : index + 1).join(', ');
+  const places = unanswered.slice(0, 4).map(index => isKnown ? `${index + 1} (line ${lines[index] + 1})` : index + 1).join(', ');
   const others = unanswered.length > 4 ? ` and ${spaced(unanswered.length - 4)} more` : '';
   if (unanswered.length) words('', `Status 128, no device answered: statement ${places}${others}`);
   tellTyped(words);

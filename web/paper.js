@@ -1,4 +1,4 @@
-// The sheets: the picture that the module gives, as it is. A long one stands in the page by those of its rows that can
+// The sheets: the picture that the module gives, as it is. Of a long one only the rows are in the page that can
 // be seen; they are cut from its text, and nothing is drawn anew.
 
 import { DOT, LETTER_HEIGHT, markAt, MARKS_LEFT, MARKS_TOP, sheetsOf, STEP } from './sheets.js';
@@ -6,13 +6,13 @@ import { HIGHEST } from './reader.js';
 
 const PICA = 210;              // units of the picture
 const SHEET_AND_MARGINS = 13860;
-const WHOLE = 60000;           // a picture of so many characters stands in the page as a whole
+const WHOLE = 60000;           // characters: a shorter picture is in the page as a whole
 const LEAST = 6 / 126;         // pixels of a unit: a character is never less than six pixels wide
-const SHADED = 30000;          // sheets of so many units have a shadow: on long ones it takes a browser too long
+const SHADED = 30000;          // units: shorter sheets have a shadow, which takes a browser too long on longer ones
 
 export class Paper {
   /**
-   * `onMark` is told the mark that is clicked, or null where there is none; `onTabs` the printers among which one is shown
+   * `onMark` gets the mark that is clicked, or null; `onTabs` gets the printers among which one is shown
    * where there is no room for both, and that one.
    */
   constructor(element, onMark, onTabs) {
@@ -68,7 +68,7 @@ export class Paper {
     if (!this.svg || plain !== this.frame) {
       this.frame = plain;
       this.svg = document.importNode(new DOMParser().parseFromString(plain, 'image/svg+xml').documentElement, true);
-      // What is printed stands in the picture as text, which a reader of screens reads.
+      // The picture has what is printed as text too, for readers of screens.
       this.svg.setAttribute('role', 'group');
       this.svg.setAttribute('aria-label', this.picture.sheets.map(sheet => `Printer ${sheet.printer}`).join(' and ') || 'No printer');
       this.shapes = { elements: new Map(), places: [this.svg.querySelector('defs')] };
@@ -80,7 +80,7 @@ export class Paper {
     this.drawFound();
   }
 
-  /** Puts parts into their places, by their names; those that are there and not among them go. */
+  /** Puts parts into their places, by their names, and takes out those that are not among them. */
   putParts({ elements, places }, parts) {
     const missing = parts.filter(part => !elements.has(part.name)), wanted = new Set(parts.map(part => part.name));
     for (const [name, element] of elements) {

@@ -1,4 +1,4 @@
-/** A text of the module, and how the call ended. */
+/** How a call ended. */
 export interface Answer {
   /** 0 done, 1 stopped by a BASIC error, 2 refused, 3 out of memory */
   code: 0 | 1 | 2 | 3;
@@ -12,6 +12,12 @@ export interface Answer {
   column: number;
   /** with code 2 the index of the edge of the fault, from 0, or -1 */
   edge: number;
+  /** where a sheet is asked for that there is not, how many there are, else 0 */
+  sheets: number;
+}
+
+/** An answer with a text. */
+export interface TextAnswer extends Answer {
   /** what the program writes on standard output */
   text: Uint8Array;
 }
@@ -30,6 +36,15 @@ export interface Run {
   delays?: ArrayLike<number>[];
 }
 
+/** What of the pages is shown, where the format can: one printer in svg, png and pdf, one sheet in svg and png. */
+export interface Part {
+  format?: PageFormat;
+  /** 4 or 5; 0 shows all printers, and in png the first with a page */
+  device?: 0 | 4 | 5;
+  /** from 1; 0 shows all sheets, and in png the first */
+  sheet?: number | bigint;
+}
+
 export interface Recording {
   bytes: Bytes;
   /** a trace as `print1525 bus` writes it (the default), a Value Change Dump, or a table of samples */
@@ -42,26 +57,72 @@ export interface Recording {
   start?: number | bigint;
 }
 
+/** What a recording says at one place, in microseconds. */
+export interface Reading {
+  /** how the byte ends */
+  end: 'acknowledged' | 'not acknowledged' | 'ended by ATN' | 'CLOCK released too long' | 'cut';
+  /** when; 0 where the recording's end cuts it */
+  endMoment: number;
+  /** how many bits came whole: 8 of a whole byte */
+  bits: number;
+  /** the number of these bits, the lowest first */
+  byte: number;
+  /** whether ATN is pulled: a command, or else a data byte */
+  isCommand: boolean;
+  /** CLOCK is released while DATA is pulled, and then DATA */
+  readyToSend: number;
+  readyForData: number;
+  /** whether end-or-identify is given, and when DATA is pulled and released for it, or 0 */
+  hasEoi: boolean;
+  pulled: number;
+  released: number;
+  /** CLOCK's first pull, and its last */
+  firstPull: number;
+  lastPull: number;
+  /** how long CLOCK is pulled in a bit, and released */
+  shortestLow: number;
+  longestLow: number;
+  shortestHigh: number;
+  longestHigh: number;
+  /** how many bytes of the text of `decode` are this reading's lines */
+  textLength: number;
+}
+
+/** Kinds of delay (docs/DEFINITIONS.md), and `answers`, the length of an answer to end-or-identify of two listeners together. */
+export type Delay = 'Bb' | 'Aw' | 'Ne' | 'Ry' | 'S' | 'V' | 'R' | 'Cr' | 'At' | 'H' | 'Ye' | 'Ei' | 'F' | 'Dr' | 'answers';
+
 export interface Print1525 {
-  /** the pages of a script's run */
-  pages(asked: Run & { format?: PageFormat }): Answer;
+  /** the pages of a script's run, or a part of them */
+  pages(asked: Run & Part): TextAnswer;
   /** the trace of a script's run */
-  bus(asked: Run & { format?: 'text' | 'vcd' }): Answer;
+  bus(asked: Run & { format?: 'text' | 'vcd' }): TextAnswer;
   /** the text of the script that a listing says: the text itself, a saved program, or petcat's text */
-  listing(asked: { bytes: Bytes; form?: 'text' | 'prg' | 'petcat' }): Answer;
-  /** the page of a printer's bytes; `set` 0 is graphic/upper case (the default), 1 lower/upper case */
-  raw(asked: { bytes: Bytes; set?: 0 | 1; format?: PageFormat }): Answer;
+  listing(asked: { bytes: Bytes; form?: 'text' | 'prg' | 'petcat' }): TextAnswer;
+  /** the page of a printer's bytes, or a part of it; `set` 0 is graphic/upper case (the default), 1 lower/upper case */
+  raw(asked: { bytes: Bytes; set?: 0 | 1 } & Part): TextAnswer;
   /** the page of what a printer hears: bytes, and 256 and 257, which select the graphic/upper case or the lower/upper case set */
-  print(asked: { inputs: ArrayLike<number>; format?: PageFormat }): Answer;
+  print(asked: { inputs: ArrayLike<number>; format?: PageFormat }): TextAnswer;
   /** the frames of a trace text, if it is lawful */
-  check(asked: { text: Bytes }): Answer;
+  check(asked: { text: Bytes }): TextAnswer;
+  /** the frames of a trace in any format, or their story; with code 2 a story is what comes before the fault */
+  report(asked: Recording & { story?: boolean }): TextAnswer;
   /** what a recording says; with code 2 the text is what comes before the fault */
-  decode(asked: Recording & { output?: 'readings' | 'text' | 'svg' | 'png' | 'pdf' }): Answer;
-  explainScript(asked: { script: Bytes }): Answer;
+  decode(asked: Recording & Omit<Part, 'format'> & { output?: 'readings' | PageFormat }): TextAnswer;
+  /** the edges of a recording, up to its fault: moments in microseconds, and levels (4 for ATN, 2 for CLOCK, 1 for DATA, where released) */
+  edges(asked: Recording): Answer & { times: Float64Array; levels: Uint8Array };
+  /** what a recording says, as numbers: the readings whose lines `decode` gives */
+  readings(asked: Recording): Answer & { readings: Reading[] };
+  /** the least and the greatest delay of each kind, in microseconds */
+  bounds(): Record<Delay, [number, number]>;
+  /** the line of each statement of a script, from 1; with code 2 there are none */
+  statementLines(asked: { script: Bytes }): Answer & { lines: Float64Array };
+  /** where the first fault of a script is, line and column from 1; null where it has none */
+  scriptFault(asked: { script: Bytes }): { line: number; column: number; basicLine: number | null; width: number } | null;
+  explainScript(asked: { script: Bytes }): TextAnswer;
   /** the error that stopped a run: `stop` and `statement` are the fault and the statement of its pages */
-  explainStop(asked: Run & { stop: number; statement: number }): Answer;
-  explainTrace(asked: Recording): Answer;
-  explainReading(asked: Recording): Answer;
+  explainStop(asked: Run & { stop: number; statement: number }): TextAnswer;
+  explainTrace(asked: Recording): TextAnswer;
+  explainReading(asked: Recording): TextAnswer;
   /** the stop or the fault of an answer in the program's words */
   words(answer: Answer): string;
 }

@@ -49,14 +49,14 @@ const REASONS = {
   ELOOP: 'Too many levels of symbolic links',
 };
 
-/** A failed read or write: what is told, with the exit status 3. */
+/** A failed read or write: its line on standard error, and exit status 3. */
 const failed = words => new NoJob(3, `print1525: ${words}\n`);
 const failedFile = (name, error) => failed(`${shown(name)}: ${REASONS[error.code] || error.message} (os error ${-error.errno})`);
 
 const isSaved = bytes => bytes.length >= 2 && bytes[0] === 1 && bytes[1] === 8;
 const isDisk = bytes => [174848, 175531, 196608, 197376].includes(bytes.length);
 
-/** Whether a string of a script, in front of a line's remark, has a small letter or a brace. */
+/** Whether a string of a script, before a line's remark, has a small letter or a brace. */
 function hasTypedStrings(bytes) {
   return Buffer.from(bytes).toString('latin1').split('\n').some(line => {
     let isQuoted = false;
@@ -94,39 +94,39 @@ function foundSource(bytes, otherwise) {
   return front === ';' || front === '#' || /^[^,\n]*,/.test(text) ? 'csv' : otherwise;
 }
 
-const pageOf = job => ({ format: job.as });
+const partOf = job => ({ device: job.device || 0, sheet: job.sheet || 0 });
 const runOf = job => ({ printers: job.present, status: job.status, delays: job.delays });
 const recordingOf = job => ({ input: job.from, names: job.names, inverted: job.inverted, start: job['from-time'] });
 
+/** What --explain says of a sheet that there is not, and else what a call of the module explains. */
+function explained(answer, call) {
+  if (answer.fault === 50) return `  the paper has ${answer.sheets === 1 ? 'one sheet' : `${answer.sheets} sheets`}\n`;
+  return answer.fault === 51 ? '' : Buffer.from(call().text).toString('latin1');
+}
+
 /** Calls the module for a job over an input: the answer, and what --explain says of it. */
 function answerOf(module, job, bytes) {
-  const text = answer => Buffer.from(answer.text).toString('latin1');
   if (job.name === 'raw') {
-    const answer = module.raw({ bytes, set: job.set, ...pageOf(job) });
+    const answer = module.raw({ bytes, set: job.set, format: job.as, ...partOf(job) });
     const hints = answer.code ? [] : isSaved(bytes) ? [SAVED_BYTES] : isDisk(bytes) ? [DISK_BYTES] : [];
-    return { answer, explain: () => '', hints };
+    return { answer, explain: () => explained(answer, () => ({ text: '' })), hints };
   }
-  if (job.name === 'check') return { answer: module.check({ text: bytes }), explain: () => text(module.explainTrace({ bytes })), hints: [] };
+  if (job.name === 'check') {
+    const asked = { bytes, ...recordingOf(job) }, isPlain = job.from === 'text' && job.as !== 'story';
+    const answer = isPlain ? module.check({ text: bytes }) : module.report({ ...asked, story: job.as === 'story' });
+    return { answer, explain: () => explained(answer, () => module.explainTrace(asked)), hints: [] };
+  }
   if (job.name === 'decode') {
     const asked = { bytes, ...recordingOf({ ...job, from: job.isFound ? foundSource(bytes, job.from) : job.from }) };
-    const answer = module.decode({ ...asked, output: job.as === 'list' ? 'readings' : job.as });
-    return { answer, explain: () => text(module.explainReading(asked)), hints: [] };
+    const answer = module.decode({ ...asked, output: job.as === 'list' ? 'readings' : job.as, ...partOf(job) });
+    return { answer, explain: () => explained(answer, () => module.explainReading(asked)), hints: [] };
   }
   const listing = job.from === 'text' ? { code: 0, text: bytes } : module.listing({ bytes, form: job.from });
   if (listing.code) return { answer: listing, explain: () => '', hints: hintsOnListing(listing, bytes) };
   const asked = { script: listing.text, ...runOf(job) }, { script } = asked;
-  const answer = job.name === 'pages' ? module.pages({ ...asked, ...pageOf(job) }) : module.bus({ ...asked, ...pageOf(job) });
-  const explain = () => {
-    if (answer.code === 1) return text(module.explainStop({ ...asked, stop: answer.fault, statement: answer.statement }));
-    return answer.code === 2 ? text(module.explainScript({ script })) : '';
-  };
-  return { answer, explain, hints: job.from === 'text' ? hintsOnScript(answer, bytes) : [] };
-}
-
-/** What the module has no call for. */
-function refuseMissing(job) {
-  const missing = job.device || job.sheet ? '--device and --sheet' : job.name !== 'check' ? '' : job.from !== 'text' ? 'check of a dump or a table' : job.as === 'story' ? 'a story' : '';
-  if (missing) throw new NoJob(2, `print1525: ${missing}: only the program built for Linux has this\n`);
+  const answer = job.name === 'pages' ? module.pages({ ...asked, format: job.as, ...partOf(job) }) : module.bus({ ...asked, format: job.as });
+  const why = () => answer.code === 1 ? module.explainStop({ ...asked, stop: answer.fault, statement: answer.statement }) : module.explainScript({ script });
+  return { answer, explain: () => explained(answer, why), hints: job.from === 'text' ? hintsOnScript(answer, bytes) : [] };
 }
 
 /** The files of a job, read and written with Node. */
@@ -195,7 +195,7 @@ async function makeFiles() {
   return { open: name => fs.openSync(name, 'r'), readAll, writeAll, save };
 }
 
-/** Does a call, and throws what is told of its failure. */
+/** Makes a call, and throws the line that says why it failed. */
 function trying(call, tellOf) {
   try { return call(); } catch (error) { throw error.errno === undefined ? error : tellOf(error); }
 }
@@ -204,7 +204,6 @@ function trying(call, tellOf) {
 async function run(words, files) {
   const tell = text => { try { files.writeAll(2, Buffer.from(text)); } catch { /* there is nowhere to tell it */ } };
   const job = readJob(words, process.env.PRINT1525_EXPLAIN === '1');
-  refuseMissing(job);
   const inputFailed = error => (job.input === null ? failed('read failed') : failedFile(job.input, error));
   const outputFailed = error => (job.output === null || STANDARD_OUTPUT.includes(job.output) ? failed('write failed') : failedFile(job.output, error));
   if (job.input === null && process.stdin.isTTY) tell(`print1525: reading ${WAITS_FOR[job.name]} from the terminal; Ctrl-D on a new line ends it\n`);

@@ -25,7 +25,7 @@ function printedSheet(svg, { sheet, index }) {
   return `<svg viewBox="${PAGE_LEFT} ${MARKS_TOP - SHEET_TOP + top} ${PAGE_WIDTH} ${SHEET_HEIGHT}">${frame}${rows.join('')}</g></g></svg>`;
 }
 
-/** All pages, with the shapes of the characters in front of them, and words for sheets that are left out. */
+/** All pages, after the shapes of the characters, and words for sheets that are left out. */
 function printedPages(svg, picture) {
   const sheets = printedSheets(picture), shapes = /<defs>[^]*?<\/defs>/.exec(svg)?.[0] || '';
   const more = sheets.length - MOST_PAGES;

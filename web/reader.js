@@ -1,4 +1,4 @@
-// A long text by its lines, of which only those that can be seen are in the page.
+// Shows a long text: only the lines that can be seen are in the page.
 
 export const HIGHEST = 15e6;         // pixels: the highest element that browsers lay out
 

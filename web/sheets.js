@@ -1,4 +1,4 @@
-// What stands in a picture of pages as `--as svg` writes it: its sheets, their rows, and the marks in a row.
+// What is where in a picture of pages, as `--as svg` writes it: its sheets, their rows, and the marks in a row.
 // Nothing here draws: it finds the places in the text, in the picture's units of 1/1260 inch.
 
 export const DOT = 21;            // a dot column
@@ -55,7 +55,7 @@ function marksIn(text) {
   })).filter(mark => !BLANK.test(mark.what));
 }
 
-/** How often each mark stands in a picture, by a name of the mark: its printer, its row, its place and what it shows. */
+/** How often each mark is in a picture, by a name of the mark: its printer, its row, its place and what it shows. */
 export function marksOf(svg, among = null) {
   const counts = new Map();
   for (const sheet of sheetsOf(svg).sheets) {
@@ -71,9 +71,9 @@ export function marksOf(svg, among = null) {
 }
 
 /** The marks of a picture that another one has not (or not as often): `{ printer, row, x, width }`. */
-export function marksMore(before, behind) {
+export function marksMore(before, after) {
   const had = marksOf(before), more = [];
-  for (const [name, count] of marksOf(behind)) {
+  for (const [name, count] of marksOf(after)) {
     if (count <= (had.get(name) || 0)) continue;
     const [printer, row, x, width] = name.split(' ', 4).map(Number);
     more.push({ printer, row, x, width });

@@ -50,7 +50,7 @@ async function trace(version) {
   }
 }
 
-/** Offers the texts of the wire, or not: before a run's own trace is made those of an earlier one stand there. */
+/** Offers the texts of the wire for saving, or not: until a run's own trace is made, they are those of an earlier run. */
 function offerWire(isThere) {
   for (const what of ['trace', 'vcd', 'readings']) all(`[data-save=${what}]`)[0].disabled = !isThere;
 }
@@ -109,7 +109,7 @@ function showIntervals(answer) {
 const boundsWords = bounds => bounds ? ` (${bounds[0]} to ${bounds[1]})` : '';
 const named = ({ name, bit }) => bit ? `${name} of bit ${bit - 1}` : name;
 
-/** Tells what is under the pointer on the wave. */
+/** Shows what is under the pointer on the wave. */
 export function tellUnder(under) {
   const line = $('under');
   line.className = '';
@@ -125,7 +125,7 @@ export function tellUnder(under) {
   } else line.textContent = moment;
 }
 
-/** Tells of a frame its byte, its moments and its intervals. */
+/** Shows a frame's byte, its moments and its intervals. */
 function tellChosen(index, more = '') {
   const frame = wave.frames[index], line = $('chosen');
   line.textContent = '';

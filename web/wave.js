@@ -18,12 +18,13 @@ export class Wave {
   /** @type {(under: any) => void} */ onUnder;
   /** @type {(index: number) => void} */ onChoose;
 
-  /** `onUnder` is told what is under the pointer, `onChoose` the index of the frame that is chosen, or -1. */
+  /** `onUnder` gets what is under the pointer, `onChoose` the index of the frame that is chosen, or -1. */
   constructor(canvas, onUnder, onChoose) {
     Object.assign(this, { canvas, onUnder, onChoose, frames: [], edges: null, turns: [] });
     Object.assign(this, { begin: 0, end: 0, from: 0, to: 1, moved: false, chosen: -1, pointer: null });
-    new ResizeObserver(() => this.draw()).observe(canvas);
-    matchMedia('(prefers-color-scheme: dark)').addEventListener('change', () => this.draw());
+    // What is seen at first fits the width, so that frames have room for their names.
+    new ResizeObserver(() => { if (this.edges && !this.moved) this.front(); else this.draw(); }).observe(canvas);
+    for (const query of ['(prefers-color-scheme: dark)', '(forced-colors: active)']) matchMedia(query).addEventListener('change', () => this.draw());
     canvas.addEventListener('keydown', event => this.key(event));
     canvas.addEventListener('wheel', event => this.wheel(event), { passive: false });
     this.listen();
@@ -77,7 +78,7 @@ export class Wave {
 
   pan(part) { const width = this.to - this.from; this.see(this.from + part * width, this.to + part * width); }
 
-  /** Chooses a frame, shows it, and tells. */
+  /** Chooses a frame and shows it; `onChoose` hears of it if `tell`. */
   choose(index, tell = true) {
     this.chosen = index;
     this.span = null;
@@ -91,7 +92,7 @@ export class Wave {
     if (tell) this.onChoose(index);
   }
 
-  /** Shows a time as that of a line of the listing, or none. */
+  /** Marks the time of a line of the listing, or none. */
   showSpan(span) {
     this.span = span;
     if (span && (span[0] < this.from || span[1] > this.to)) this.see(span[0] - (span[1] - span[0]) * .1, span[1] + (span[1] - span[0]) * .1);
@@ -141,7 +142,7 @@ export class Wave {
     return under;
   }
 
-  // what the hands do
+  // keys, wheel and pointers
 
   key(event) {
     const step = event.shiftKey ? .9 : .15, last = this.frames.length - 1;
@@ -194,8 +195,8 @@ export class Wave {
         if (held.size === 2) {
           const before = [...held.values()];
           held.set(event.pointerId, event.offsetX);
-          const behind = [...held.values()], span = list => Math.max(Math.abs(list[0] - list[1]), 10);
-          this.zoom(span(behind) / span(before), this.momentAt((behind[0] + behind[1]) / 2));
+          const after = [...held.values()], span = list => Math.max(Math.abs(list[0] - list[1]), 10);
+          this.zoom(span(after) / span(before), this.momentAt((after[0] + after[1]) / 2));
           drag = null;
           return;
         }
@@ -222,6 +223,19 @@ export class Wave {
 
   // drawing
 
+  /** The colours of the page by their names, as the pen takes them. In forced colours they are the system's. */
+  inks(style) {
+    const found = new Map();
+    return name => {
+      if (!found.has(name)) {
+        this.canvas.style.color = `var(--${name})`;
+        found.set(name, style.color);
+        this.canvas.style.color = '';
+      }
+      return found.get(name);
+    };
+  }
+
   draw() {
     if (this.waiting) return;
     this.waiting = true;
@@ -239,7 +253,7 @@ export class Wave {
     pen.setTransform(ratio, 0, 0, ratio, 0, 0);
     pen.clearRect(0, 0, width, height);
     const style = getComputedStyle(canvas);
-    this.ink = name => style.getPropertyValue(`--${name}`).trim();
+    this.ink = this.inks(style);
     this.font = style.fontFamily;
     if (!this.edges) return;
     const places = this.rows();

@@ -3,14 +3,15 @@
 
 import { loadPrint1525 } from './module.mjs';
 import { marksMore, marksOf } from './sheets.js';
-import { delayNumbers, edgeAt, edgesOf, edgesOfText, haveFrames, readingsOf, textOfEdges } from './wire.js';
+import { countsOf, delayNumbers, edgeAt, framesOf, intervalsOf, lineStarts, textOfEdges, useBounds } from './wire.js';
 
 let print1525 = null;
 const shown = { run: 0, kind: '', ask: null, svg: '', lines: null };   // what is on paper; `run` is the number of its print
-const wire = { run: 0, ask: null, bytes: null, input: 'text', edges: null, frames: [], readings: null };
+const wire = { run: 0, ask: null, bytes: null, input: 'text', starts: null, edges: null, frames: [], readings: null };
 let running = 0;                                                       // the run of the job under way
 
 const text = bytes => new TextDecoder().decode(bytes);
+const latin = bytes => new TextDecoder('latin1').decode(bytes);        // a character for each byte
 const lasting = () => [new Uint16Array(0), new Uint16Array(0), new Uint16Array(0)];
 
 /** What an answer says but for its text, with the stop or the fault in the program's words. */
@@ -26,10 +27,8 @@ async function scriptOf({ script, form = 'text' }) {
   return answer.code ? { refused: { ...answerOf(answer), column: answer.column, told: '' } } : { script: answer.text };
 }
 
-/** Where the place that an explanation tells of a script stands in petcat's text: its line, and how many characters of that are in front of it. */
-async function placeInPetcat(told, listing) {
-  const [, line, column] = (/^ {2}line (\d+), column (\d+)/m.exec(told) || []).map(Number);
-  if (!line) return null;
+/** The place of a script's fault in petcat's text: its line, and how many characters of the line come before it. */
+async function placeInPetcat({ line, column }, listing) {
   const row = text(listing).split('\n')[line - 1] || '', encoder = new TextEncoder();
   const lengthOf = async end => {
     const front = row.slice(0, end).replace(/\{[^}]*$/, '');
@@ -40,10 +39,10 @@ async function placeInPetcat(told, listing) {
   return { line, from: row[last] === '}' ? row.lastIndexOf('{', last) : last };
 }
 
-/** What stands behind the papers in the lines of a run: each statement's status (1 where no device answered) and the screen's bytes. */
+/** What comes after the papers in the lines of a run: each statement's status (1 where no device answered) and the screen's bytes. */
 function endOf(lines) {
   const numbers = name => {
-    const from = `\n${lines}`.lastIndexOf(`\n${name}: `);        // a printed line has a sign in front
+    const from = `\n${lines}`.lastIndexOf(`\n${name}: `);        // (a printed line begins with a sign)
     return from < 0 ? [] : lines.slice(from + name.length + 2, lines.indexOf('.', from)).split(/\s+/);
   };
   return { statuses: Uint8Array.from(numbers('Statuses').map(status => status === '0' ? 0 : 1)), screen: Uint8Array.from(numbers('Screen').map(Number)) };
@@ -59,9 +58,9 @@ function picture(kind, ask, answer) {
   return answer.text;
 }
 
-/** The pages of what stands on the wire in front of an edge, as a picture. */
+/** The pages of what is on the wire before an edge, as a picture. */
 async function pagesBefore(edge) {
-  const cut = wire.input === 'text' ? wire.bytes.subarray(0, wire.edges.starts[edge]) : textOfEdges(wire.edges, edge);
+  const cut = wire.starts ? wire.bytes.subarray(0, wire.starts[edge]) : textOfEdges(wire.edges, edge);
   return text((await print1525.decode({ bytes: cut, input: 'text', output: 'svg' })).text);
 }
 
@@ -75,21 +74,22 @@ async function least(count, isSo) {
   return low;
 }
 
-/** The edges of a recording for the drawing; none where it is not read here. */
-function edgesOrNone(ask) {
-  try { return edgesOf(ask); } catch { return { times: new Float64Array(0), levels: new Uint8Array(0) }; }
+/** Whether a recording is lawful, in words; nothing where it cannot be read to its end. */
+async function verdictOf(ask) {
+  const answer = await print1525.report(ask);
+  return answer.code === 0 ? 'lawful' : answer.code === 2 && answer.edge >= 0 ? `not lawful: ${print1525.words(answer)}` : '';
 }
 
-/** Keeps a recording, and gives its edges and what is said of it. */
-function keepWire(bytes, input, read, readings) {
-  const { frames, counts, intervals, verdict } = readingsOf(text(readings)), isDrawn = haveFrames(read, frames);
-  const edges = isDrawn ? read : { times: new Float64Array(0), levels: new Uint8Array(0) };
-  Object.assign(wire, { run: running, bytes, input, edges, frames, readings });
-  return { times: edges.times.slice(), levels: edges.levels.slice(), frames, counts, intervals, verdict, isDrawn };
+/** Keeps a recording, and gives its edges and what is said of it; `ask` has its bytes and their format. */
+async function keepWire(ask, said, verdict) {
+  const { times, levels } = await print1525.edges(ask), { readings } = await print1525.readings(ask), { bytes, input = 'text' } = ask;
+  const frames = said.code === 3 ? [] : framesOf(readings, latin(said.text)), edges = { times, levels };
+  Object.assign(wire, { run: running, bytes, input, starts: input === 'text' ? lineStarts(bytes) : null, edges, frames, readings: said.text });
+  return { times: times.slice(), levels: levels.slice(), frames, counts: countsOf(frames), intervals: intervalsOf(frames), verdict };
 }
 
 /** The first lines of the script that the wire shows, or how many lines it has. */
-function linesInFront(count, isCounted = false) {
+function firstLines(count, isCounted = false) {
   const { script } = wire.ask;
   let at = 0, lines = 0;
   while (lines < count && at < script.length) {
@@ -101,18 +101,21 @@ function linesInFront(count, isCounted = false) {
 }
 
 /** The moment of the last edge that the first lines of the script make. */
-async function momentBehind(lines) {
-  const { times } = edgesOfText((await print1525.bus({ ...wire.ask, script: linesInFront(lines) })).text);
+async function momentAfter(lines) {
+  const { times } = await print1525.edges({ bytes: (await print1525.bus({ ...wire.ask, script: firstLines(lines) })).text });
   return times[times.length - 1] ?? 0;
 }
 
 const jobs = {
-  /** Makes the module ready. */
+  /** Makes the module ready, and gives the bounds of the delays. */
   async open({ bytes }) {
     print1525 = await loadPrint1525(bytes);
+    const bounds = await print1525.bounds();
+    useBounds(bounds);
+    return bounds;
   },
 
-  /** One call of the module as it stands. */
+  /** One call of the module as it is. */
   async call({ method, ask }) {
     const answer = await print1525[method](ask);
     return { ...answer, words: print1525.words(answer) };
@@ -128,10 +131,11 @@ const jobs = {
     if (pages.code <= 1) answer.svg = picture('script', run, pages);
     answer.milliseconds = performance.now() - began;
     if (pages.code === 1) answer.told = text((await print1525.explainStop({ ...run, stop: pages.fault, statement: pages.statement })).text);
-    if (pages.code === 2) answer.told = text((await print1525.explainScript({ script })).text);
-    if (ask.form === 'petcat') {
-      answer.script = text(script);
-      if (pages.code === 2) answer.place = await placeInPetcat(answer.told, ask.script);
+    if (pages.code !== 2) answer.lines = (await print1525.statementLines({ script })).lines;
+    else {
+      answer.told = text((await print1525.explainScript({ script })).text);
+      answer.place = await print1525.scriptFault({ script });
+      if (ask.form === 'petcat' && answer.place) answer.inPetcat = await placeInPetcat(answer.place, ask.script);
     }
     return answer;
   },
@@ -147,7 +151,7 @@ const jobs = {
     return { code: 0, isSame, script: text(saved.text) };
   },
 
-  /** What stands behind the sheets of the script that is shown: each statement's status and the screen's bytes. */
+  /** What comes after the sheets of the script that is shown: each statement's status and the screen's bytes. */
   async end() {
     shown.lines = (await print1525.pages({ ...shown.ask, format: 'text' })).text;
     return endOf(text(shown.lines));
@@ -158,33 +162,34 @@ const jobs = {
     const { script, refused } = await scriptOf({ script: listing, form });
     if (refused) return refused;
     const run = { script, printers, status, delays: extreme ? lasting() : delays, format: 'text' };
-    const decode = async bytes => (await print1525.decode({ bytes, input: 'text', output: 'readings' })).text;
     let bus = await print1525.bus(run);
     if (bus.code > 1) return answerOf(bus);
+    const decode = async () => print1525.decode({ bytes: bus.text, input: 'text', output: 'readings' });
     if (extreme) {
-      const typical = edgesOfText(bus.text);
-      run.delays = delayNumbers(extreme === 'greatest', printers, readingsOf(text(await decode(bus.text))).frames, typical);
+      const { edges, frames } = { edges: await print1525.edges({ bytes: bus.text }), frames: framesOf((await print1525.readings({ bytes: bus.text })).readings, latin((await decode()).text)) };
+      run.delays = delayNumbers(extreme === 'greatest', printers, frames, edges);
       bus = await print1525.bus(run);
       if (bus.code > 1) return answerOf(bus);
     }
-    const kept = keepWire(bus.text, 'text', edgesOfText(bus.text), await decode(bus.text));
+    // (that the trace of a run is lawful is proved)
+    const kept = await keepWire({ bytes: bus.text, input: 'text' }, await decode(), 'lawful');
     wire.ask = run;
     return { ...answerOf(bus), ...kept, delays: run.delays };
   },
 
-  /** What a line of the listing sends and prints: the first of its frames and the one behind the last, and its marks. */
+  /** What a line of the listing sends and prints: the first of its frames and the one after the last, and its marks. */
   async line({ line }) {
-    const [before, behind] = [await momentBehind(line), await momentBehind(line + 1)];
+    const [before, after] = [await momentAfter(line), await momentAfter(line + 1)];
     const frameAfter = moment => wire.frames.findIndex(frame => frame.end > moment), count = wire.frames.length;
-    const [from, to] = [before, behind].map(moment => (frameAfter(moment) < 0 ? count : frameAfter(moment)));
-    const pages = async lines => text((await print1525.pages({ ...wire.ask, script: linesInFront(lines), format: 'svg' })).text);
+    const [from, to] = [before, after].map(moment => (frameAfter(moment) < 0 ? count : frameAfter(moment)));
+    const pages = async lines => text((await print1525.pages({ ...wire.ask, script: firstLines(lines), format: 'svg' })).text);
     return { from, to, marks: marksMore(await pages(line), await pages(line + 1)) };
   },
 
   /** The line of the listing that sends a frame: the first with which the trace goes as far. */
   async lineOf({ frame }) {
-    const { end } = wire.frames[frame], lines = linesInFront(Infinity, true);
-    const line = await least(lines, async number => await momentBehind(number) >= end);
+    const { end } = wire.frames[frame], lines = firstLines(Infinity, true);
+    const line = await least(lines, async number => await momentAfter(number) >= end);
     return { line: line - 1 };
   },
 
@@ -195,7 +200,7 @@ const jobs = {
   async recording(ask) {
     const said = await print1525.decode({ ...ask, output: 'readings' });
     /** @type {any} */
-    const answer = { ...answerOf(said), ...keepWire(ask.bytes, ask.input, edgesOrNone(ask), said.text) };
+    const answer = { ...answerOf(said), ...await keepWire(ask, said, said.code === 0 ? await verdictOf(ask) : '') };
     const pages = await print1525.decode({ ...ask, output: 'svg' });
     if (pages.text.length) answer.svg = picture('recording', ask, pages);
     if (said.code === 2) answer.told = text((await print1525.explainReading(ask)).text);
@@ -223,7 +228,6 @@ const jobs = {
 
   /** The marks that a frame's byte makes: those that the pages have with its last edge and not without it. */
   async marks({ frame }) {
-    if (!wire.edges.times.length) return null;
     const edge = edgeAt(wire.edges.times, wire.frames[frame].end);
     return marksMore(await pagesBefore(edge), await pagesBefore(edge + 1));
   },
@@ -237,7 +241,6 @@ const jobs = {
       const raw = async end => text((await print1525.raw({ bytes: bytes.subarray(0, end), set, format: 'svg' })).text);
       return { byte: await least(bytes.length, async end => count(await raw(end)) >= often) - 1 };
     }
-    if (!wire.edges.times.length) return { frame: -1 };
     const heard = wire.frames.flatMap((frame, index) => frame.fault ? [] : [index]);
     const found = await least(heard.length, async n => count(await pagesBefore(edgeAt(wire.edges.times, wire.frames[heard[n]].end) + 1)) >= often);
     return { frame: heard[found] ?? -1 };

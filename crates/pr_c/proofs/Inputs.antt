@@ -7,6 +7,7 @@ use Rattle.std.specs.Prelude.{◌↔◌, map}
 use Rattle.std.specs.List.{All, position, position_or_len}
 use Rattle.pr_page.specs.Page.{IsPage}
 use Rattle.pr_page.specs.declared.input.Input.TheVariants.{Byte, Select}
+use Rattle.pr_dots.specs.declared.character_sets.Shapes.{Shapes}
 use Rattle.pr_render.specs.declared.format.Format.{Format}
 use Rattle.pr_cli.specs.Raw.{raw_inputs}
 use Rattle.pr_c.specs.Answers.{IsPaperText, Stopping}
@@ -37,9 +38,9 @@ inputs_are true bytes all = ap (λ l. Select true ∷ l) (bytes_are bytes all).0
 inputs_are false bytes all = ap (λ l. Select false ∷ l) (bytes_are bytes all).0
 
 -- the text of bytes in a set is that of their inputs
-pub bytes_are_inputs : (lower : Bool) (format : Format) (bytes text : List ℕ) (stop : Stopping) → All (λ b. b < 256) bytes
-    → (IsPaperText lower format bytes stop text ↔ IsPrintedText format (selection_of lower ∷ bytes) stop text)
-bytes_are_inputs lower format bytes text stop all =
+pub bytes_are_inputs : (shapes : Shapes) (lower : Bool) (format : Format) (bytes text : List ℕ) (stop : Stopping) → All (λ b. b < 256) bytes
+    → (IsPaperText shapes lower format bytes stop text ↔ IsPrintedText shapes format (selection_of lower ∷ bytes) stop text)
+bytes_are_inputs shapes lower format bytes text stop all =
     let same = inputs_are lower bytes all in (
       λ raw. (
         omega (arith, raw.0),

@@ -1,5 +1,6 @@
 -- What is made in memory, and handed to the caller.
 use Rattle.std.proofs.Common.{◌≡◌, ℕ, List, [], Bool, Some, None, Result, Ok, Err, refl, sym, subst}
+use Rattle.pr_dots.specs.declared.character_sets.Shapes.{Shapes}
 use Rattle.pr_render.specs.declared.format.Format.{Format}
 use Rattle.pr_capture.specs.declared.format.TraceFormat.{TraceFormat}
 use Rattle.pr_basic.specs.Runs.{run_of}
@@ -47,26 +48,26 @@ refused-made : (IsText : Stopping → List ℕ → Type 0) (IsFault : CliFault �
 refused-made IsText IsFault text fault found is why = subst (λ f. IsMade IsText IsFault text f) (sym is) why
 
 -- the pages
-pub pages-made : (start : Start) (format : Format) (script text : List ℕ) (made : Result Ending CliFault) (found : Result Stopping CliFault)
-    → AnswersPages start format script (Some []) (Some text) made → GivesStop start.mode start.present script made found
-    → IsMade (IsPagesText start format script) (IsPagesRefusal start format script) text found
-pages-made start format script text (Ok Done) found a g =
-    found-made (IsPagesText start format script) (IsPagesRefusal start format script) text None found tt (subst (λ f. IsFound None f) (sym g) refl)
-    (a.0, a.2, subst (λ t. IsTextOf start format script a.0 t) (sym a.5) a.3, sym (no_stop a.0.stop a.4))
-pages-made start format script text (Ok Stopped) found a g =
-    found-made (IsPagesText start format script) (IsPagesRefusal start format script) text (run_of start.mode start.present a.3.statements).stop found tt
+pub pages-made : (shapes : Shapes) (start : Start) (format : Format) (script text : List ℕ) (made : Result Ending CliFault) (found : Result Stopping CliFault)
+    → AnswersPages shapes start format script (Some []) (Some text) made → GivesStop start.mode start.present script made found
+    → IsMade (IsPagesText shapes start format script) (IsPagesRefusal shapes start format script) text found
+pages-made shapes start format script text (Ok Done) found a g =
+    found-made (IsPagesText shapes start format script) (IsPagesRefusal shapes start format script) text None found tt (subst (λ f. IsFound None f) (sym g) refl)
+    (a.0, a.2, subst (λ t. IsTextOf shapes start format script a.0 t) (sym a.5) a.3, sym (no_stop a.0.stop a.4))
+pages-made shapes start format script text (Ok Stopped) found a g =
+    found-made (IsPagesText shapes start format script) (IsPagesRefusal shapes start format script) text (run_of start.mode start.present a.3.statements).stop found tt
     (g a.3.statements a.3.is_script)
-    (a.0, a.2, subst (λ t. IsTextOf start format script a.0 t) (sym a.5) a.3, sym a.3.is_outcome.stop)
-pages-made start format script text (Err (Script f)) found a g = refused-made (IsPagesText start format script) (IsPagesRefusal start format script) text _ found g (a.0, a.1)
-pages-made start format script text (Err (Trace f)) found a g = absurd a
-pages-made start format script text (Err (Wave f)) found a g = absurd a
-pages-made start format script text (Err (Capture f)) found a g = absurd a
-pages-made start format script text (Err (Picture f)) found a g =
-    refused-made (IsPagesText start format script) (IsPagesRefusal start format script) text _ found g (a.0, a.1)
-pages-made start format script text (Err TooLarge) found a g = refused-made (IsPagesText start format script) (IsPagesRefusal start format script) text _ found g a.0
-pages-made start format script text (Err NoMemory) found a g = refused-made (IsPagesText start format script) (IsPagesRefusal start format script) text _ found g tt
-pages-made start format script text (Err ReadFailed) found a g = refused-made (IsPagesText start format script) (IsPagesRefusal start format script) text _ found g tt
-pages-made start format script text (Err WriteFailed) found a g = refused-made (IsPagesText start format script) (IsPagesRefusal start format script) text _ found g tt
+    (a.0, a.2, subst (λ t. IsTextOf shapes start format script a.0 t) (sym a.5) a.3, sym a.3.is_outcome.stop)
+pages-made shapes start format script text (Err (Script f)) found a g = refused-made (IsPagesText shapes start format script) (IsPagesRefusal shapes start format script) text _ found g (a.0, a.1)
+pages-made shapes start format script text (Err (Trace f)) found a g = absurd a
+pages-made shapes start format script text (Err (Wave f)) found a g = absurd a
+pages-made shapes start format script text (Err (Capture f)) found a g = absurd a
+pages-made shapes start format script text (Err (Picture f)) found a g =
+    refused-made (IsPagesText shapes start format script) (IsPagesRefusal shapes start format script) text _ found g (a.0, a.1)
+pages-made shapes start format script text (Err TooLarge) found a g = refused-made (IsPagesText shapes start format script) (IsPagesRefusal shapes start format script) text _ found g a.0
+pages-made shapes start format script text (Err NoMemory) found a g = refused-made (IsPagesText shapes start format script) (IsPagesRefusal shapes start format script) text _ found g tt
+pages-made shapes start format script text (Err ReadFailed) found a g = refused-made (IsPagesText shapes start format script) (IsPagesRefusal shapes start format script) text _ found g tt
+pages-made shapes start format script text (Err WriteFailed) found a g = refused-made (IsPagesText shapes start format script) (IsPagesRefusal shapes start format script) text _ found g tt
 
 -- the trace
 pub bus-made : (start : Start) (format : TraceFormat) (script text : List ℕ) (made : Result Ending CliFault) (found : Result Stopping CliFault)
@@ -89,18 +90,18 @@ bus-made start format script text (Err ReadFailed) found a g = refused-made (IsB
 bus-made start format script text (Err WriteFailed) found a g = refused-made (IsBusText start format script) (IsScriptRefusal script) text _ found g tt
 
 -- the page of bytes
-pub raw-made : (lower : Bool) (format : Format) (bytes text : List ℕ) (made : Result (Unit {0}) CliFault)
-    → AnswersRaw lower format bytes (Some []) (Some text) made → IsMade (IsPaperText lower format bytes) (IsPaperRefusal lower format bytes) text (without_run made)
-raw-made lower format bytes text (Ok u) a = (a.1, refl, subst (λ t. IsRawText lower format bytes t) (sym a.3) a.2)
-raw-made lower format bytes text (Err (Script f)) a = absurd a
-raw-made lower format bytes text (Err (Trace f)) a = absurd a
-raw-made lower format bytes text (Err (Wave f)) a = absurd a
-raw-made lower format bytes text (Err (Capture f)) a = absurd a
-raw-made lower format bytes text (Err (Picture f)) a = (a.0, a.1)
-raw-made lower format bytes text (Err TooLarge) a = a.0
-raw-made lower format bytes text (Err NoMemory) a = tt
-raw-made lower format bytes text (Err ReadFailed) a = tt
-raw-made lower format bytes text (Err WriteFailed) a = tt
+pub raw-made : (shapes : Shapes) (lower : Bool) (format : Format) (bytes text : List ℕ) (made : Result (Unit {0}) CliFault)
+    → AnswersRaw shapes lower format bytes (Some []) (Some text) made → IsMade (IsPaperText shapes lower format bytes) (IsPaperRefusal shapes lower format bytes) text (without_run made)
+raw-made shapes lower format bytes text (Ok u) a = (a.1, refl, subst (λ t. IsRawText shapes lower format bytes t) (sym a.3) a.2)
+raw-made shapes lower format bytes text (Err (Script f)) a = absurd a
+raw-made shapes lower format bytes text (Err (Trace f)) a = absurd a
+raw-made shapes lower format bytes text (Err (Wave f)) a = absurd a
+raw-made shapes lower format bytes text (Err (Capture f)) a = absurd a
+raw-made shapes lower format bytes text (Err (Picture f)) a = (a.0, a.1)
+raw-made shapes lower format bytes text (Err TooLarge) a = a.0
+raw-made shapes lower format bytes text (Err NoMemory) a = tt
+raw-made shapes lower format bytes text (Err ReadFailed) a = tt
+raw-made shapes lower format bytes text (Err WriteFailed) a = tt
 
 -- the frames of a trace
 pub check-made : (trace text : List ℕ) (made : Result (Unit {0}) CliFault)

@@ -14,6 +14,7 @@ use Rattle.pr_wire.specs.declared.text.TraceFault.TheVariants as trace
 use Rattle.pr_channels.specs.declared.faults.Stop.{Stop}
 use Rattle.pr_channels.specs.Stops.{stop_number}
 use Rattle.pr_system.specs.declared.outcome.Outcome.{Outcome}
+use Rattle.pr_dots.specs.declared.character_sets.Shapes.{Shapes}
 use Rattle.pr_render.specs.declared.format.Format.{Format}
 use Rattle.pr_capture.specs.declared.format.TraceFormat.{TraceFormat}
 use Rattle.pr_cli.specs.Bus.{bus_text}
@@ -44,9 +45,9 @@ Tells IsText IsFault old new (Refused fault) = IsFault fault × (new ≡ old)
 Tells IsText IsFault old new (NoInput index) = ⊥
 
 -- the text of a script's pages, and the error that stopped its run
-abbrev pub IsPagesText : Start → Format → List ℕ → Stopping → List ℕ → Type 0
-IsPagesText start format script stop text =
-    (outcome : Outcome) × (length script ≤ script_limit) × IsTextOf start format script outcome text
+abbrev pub IsPagesText : Shapes → Start → Format → List ℕ → Stopping → List ℕ → Type 0
+IsPagesText shapes start format script stop text =
+    (outcome : Outcome) × (length script ≤ script_limit) × IsTextOf shapes start format script outcome text
     × (stop ≡ outcome.stop)
 
 -- the trace of a script's run, as text or as a dump, and the error that stopped the run
@@ -56,9 +57,9 @@ IsBusText start format script stop text =
     × (stop ≡ (run_of start.mode start.present statements).stop) × (text ≡ bus_text start format statements)
 
 -- the text of a printer's page
-abbrev pub IsPaperText : Bool → Format → List ℕ → Stopping → List ℕ → Type 0
-IsPaperText lower format bytes stop text =
-    (length bytes ≤ raw_limit) × (stop ≡ None) × IsRawText lower format bytes text
+abbrev pub IsPaperText : Shapes → Bool → Format → List ℕ → Stopping → List ℕ → Type 0
+IsPaperText shapes lower format bytes stop text =
+    (length bytes ≤ raw_limit) × (stop ≡ None) × IsRawText shapes lower format bytes text
 
 -- the lines of the frames of a lawful trace text
 abbrev pub IsFramesText : List ℕ → Stopping → List ℕ → Type 0
@@ -74,16 +75,18 @@ IsScriptRefusal script NoMemory = Unit {0}
 IsScriptRefusal script _ = ⊥
 
 -- why its pages give none: the script does not, or this format has no such picture of them
-abbrev pub IsPagesRefusal : Start → Format → List ℕ → CliFault → Type 0
-IsPagesRefusal start format script (Picture fault) = (length script ≤ script_limit) × IsUnshown start format script fault
-IsPagesRefusal start format script fault = IsScriptRefusal script fault
+abbrev pub IsPagesRefusal : Shapes → Start → Format → List ℕ → CliFault → Type 0
+IsPagesRefusal shapes start format script (Picture fault) =
+    (length script ≤ script_limit) × IsUnshown shapes start format script fault
+IsPagesRefusal shapes start format script fault = IsScriptRefusal script fault
 
 -- why a printer's bytes give no text
-abbrev pub IsPaperRefusal : Bool → Format → List ℕ → CliFault → Type 0
-IsPaperRefusal lower format bytes TooLarge = raw_limit < length bytes
-IsPaperRefusal lower format bytes (Picture fault) = (length bytes ≤ raw_limit) × IsRawUnshown lower format bytes fault
-IsPaperRefusal lower format bytes NoMemory = Unit {0}
-IsPaperRefusal lower format bytes _ = ⊥
+abbrev pub IsPaperRefusal : Shapes → Bool → Format → List ℕ → CliFault → Type 0
+IsPaperRefusal shapes lower format bytes TooLarge = raw_limit < length bytes
+IsPaperRefusal shapes lower format bytes (Picture fault) =
+    (length bytes ≤ raw_limit) × IsRawUnshown shapes lower format bytes fault
+IsPaperRefusal shapes lower format bytes NoMemory = Unit {0}
+IsPaperRefusal shapes lower format bytes _ = ⊥
 
 -- why a trace text gives no text
 abbrev pub IsTraceRefusal : List ℕ → CliFault → Type 0

@@ -1,6 +1,7 @@
 -- Laws: what is printed of bytes in one character set is printed of inputs. src/printing.rt proves it.
 use Rattle.std.specs.Prelude.{ℕ, ◌<◌, ◌↔◌, Bool, true, false, List, ◌∷◌}
 use Rattle.std.specs.List.{All}
+use Rattle.pr_dots.specs.declared.character_sets.Shapes.{Shapes}
 use Rattle.pr_render.specs.declared.format.Format.{Format}
 use Rattle.pr_c.specs.Answers.{IsPaperText, Stopping}
 use Rattle.pr_c.specs.Printing.{IsPrintedText}
@@ -13,5 +14,6 @@ selection_of true = 257
 -- the text of bytes in a set is the text of the inputs that are the set's selection and then these bytes
 abbrev pub BytesAreInputs : Type 0
 BytesAreInputs =
-    (lower : Bool) (format : Format) (bytes text : List ℕ) (stop : Stopping) → All (λ b. b < 256) bytes
-    → (IsPaperText lower format bytes stop text ↔ IsPrintedText format (selection_of lower ∷ bytes) stop text)
+    (shapes : Shapes) (lower : Bool) (format : Format) (bytes text : List ℕ) (stop : Stopping)
+    → All (λ b. b < 256) bytes → (IsPaperText shapes lower format bytes stop text
+    ↔ IsPrintedText shapes format (selection_of lower ∷ bytes) stop text)

@@ -2,14 +2,15 @@
 use Rattle.std.specs.Prelude.{ℕ, List, Result, Ok, Err, Vec}
 use Rattle.std.specs.Global.{Global}
 use Rattle.pr_page.specs.declared.input.Input.{Input}
+use Rattle.pr_dots.specs.declared.character_sets.Shapes.{Shapes}
 use Rattle.pr_render.specs.declared.format.Format.{Format}
 use Rattle.pr_cli.specs.declared.fault.CliFault.{CliFault}
 use Rattle.pr_cli.specs.declared.fault.CliFault.TheVariants.{Picture, NoMemory}
 use Rattle.pr_c.specs.Printing.{IsInputsText, IsInputsUnshown}
 
 -- the text of the page, or why it is not shown, unless memory was refused
-abbrev pub GivesInputsText : Format → List Input → Result (Vec ℕ Global) CliFault → Type 0
-GivesInputsText format inputs (Ok text) = IsInputsText format inputs text.items
-GivesInputsText format inputs (Err (Picture fault)) = IsInputsUnshown format inputs fault
-GivesInputsText format inputs (Err NoMemory) = Unit {0}
-GivesInputsText format inputs (Err _) = ⊥
+abbrev pub GivesInputsText : Shapes → Format → List Input → Result (Vec ℕ Global) CliFault → Type 0
+GivesInputsText shapes format inputs (Ok text) = IsInputsText shapes format inputs text.items
+GivesInputsText shapes format inputs (Err (Picture fault)) = IsInputsUnshown shapes format inputs fault
+GivesInputsText shapes format inputs (Err NoMemory) = Unit {0}
+GivesInputsText shapes format inputs (Err _) = ⊥

@@ -5,6 +5,7 @@ use Rattle.pr_page.specs.Page.{IsPage}
 use Rattle.pr_page.specs.declared.input.Input.{Input}
 use Rattle.pr_page.specs.declared.input.Input.TheVariants.{Byte, Select}
 use Rattle.pr_page.specs.declared.paper.Paper.{Paper}
+use Rattle.pr_dots.specs.declared.character_sets.Shapes.{Shapes}
 use Rattle.pr_render.specs.declared.format.Format.{Format}
 use Rattle.pr_cli.specs.Formats.{text_in}
 use Rattle.pr_cli.specs.Raw.{four_alone, printed_on}
@@ -29,34 +30,37 @@ abbrev pub inputs_limit : ℕ
 inputs_limit = 4294967296
 
 -- the text of the page of these inputs, as that of printer 4
-pub record IsInputsText (format : Format) (inputs : List Input) (text : List ℕ) : Type 0 where
+pub record IsInputsText (shapes : Shapes) (format : Format) (inputs : List Input) (text : List ℕ) : Type 0 where
   pub paper : Paper
   pub is_page : IsPage inputs paper
-  pub is_text : text_in format four_alone (printed_on paper) ≡ Ok text
+  pub is_text : text_in shapes format four_alone (printed_on paper) ≡ Ok text
 
 -- the page of these inputs can not be shown in this format
-pub record IsInputsUnshown (format : Format) (inputs : List Input) (fault : PictureFault) : Type 0 where
+pub record IsInputsUnshown (shapes : Shapes) (format : Format) (inputs : List Input) (fault : PictureFault)
+    : Type 0 where
   pub paper : Paper
   pub is_page : IsPage inputs paper
-  pub is_unshown : text_in format four_alone (printed_on paper) ≡ Err fault
+  pub is_unshown : text_in shapes format four_alone (printed_on paper) ≡ Err fault
 
 -- the text of the page of the inputs that these numbers mean; each means one
-abbrev pub IsPrintedText : Format → List ℕ → Stopping → List ℕ → Type 0
-IsPrintedText format numbers stop text =
+abbrev pub IsPrintedText : Shapes → Format → List ℕ → Stopping → List ℕ → Type 0
+IsPrintedText shapes format numbers stop text =
     (length numbers ≤ inputs_limit) × (position is_no_input numbers ≡ None) × (stop ≡ None)
-    × IsInputsText format (map input_of numbers) text
+    × IsInputsText shapes format (map input_of numbers) text
 
 -- why numbers that all mean inputs, or are too many, give no text
-abbrev pub IsPrintRefusal : Format → List ℕ → CliFault → Type 0
-IsPrintRefusal format numbers TooLarge = inputs_limit < length numbers
-IsPrintRefusal format numbers (Picture fault) =
+abbrev pub IsPrintRefusal : Shapes → Format → List ℕ → CliFault → Type 0
+IsPrintRefusal shapes format numbers TooLarge = inputs_limit < length numbers
+IsPrintRefusal shapes format numbers (Picture fault) =
     (length numbers ≤ inputs_limit) × (position is_no_input numbers ≡ None)
-    × IsInputsUnshown format (map input_of numbers) fault
-IsPrintRefusal format numbers NoMemory = (length numbers ≤ inputs_limit) × (position is_no_input numbers ≡ None)
-IsPrintRefusal format numbers _ = ⊥
+    × IsInputsUnshown shapes format (map input_of numbers) fault
+IsPrintRefusal shapes format numbers NoMemory =
+    (length numbers ≤ inputs_limit) × (position is_no_input numbers ≡ None)
+IsPrintRefusal shapes format numbers _ = ⊥
 
 -- the outcome for numbers: the index of the first that means no input, or that of the page
-abbrev pub TellsInputs : Format → List ℕ → List ℕ → List ℕ → Told → Type 0
-TellsInputs format numbers old new (NoInput index) =
+abbrev pub TellsInputs : Shapes → Format → List ℕ → List ℕ → List ℕ → Told → Type 0
+TellsInputs shapes format numbers old new (NoInput index) =
     (length numbers ≤ inputs_limit) × (position is_no_input numbers ≡ Some index) × (new ≡ old)
-TellsInputs format numbers old new told = Tells (IsPrintedText format numbers) (IsPrintRefusal format numbers) old new told
+TellsInputs shapes format numbers old new told =
+    Tells (IsPrintedText shapes format numbers) (IsPrintRefusal shapes format numbers) old new told

@@ -13,13 +13,15 @@ use pr_bus::Delays;
 use pr_capture::TraceFormat;
 use pr_channels::Stop;
 use pr_cli::{CliFault, Watched, bus_as_over, check_over, pages_as_over, raw_over};
+use pr_dots::Shapes;
 use pr_render::Format;
 use pr_serial::Present;
 use std::alloc::Global;
 
 /// Runs a script over wires, and puts the text of its pages in a format at the front of a buffer:
-/// the text that [`pr_cli::pages_as_over`] writes. The rest of the buffer stays as it was. The
-/// BASIC error that stopped the run is there exactly if one did, with its statement.
+/// the text that [`pr_cli::pages_as_over`] writes, with characters of these shapes. The rest of the
+/// buffer stays as it was. The BASIC error that stopped the run is there exactly if one did, with its
+/// statement.
 ///
 /// It is refused with the faults of [`pr_cli::pages_as_over`] but for reads and writes, and where
 /// the text has more bytes than the buffer has room for, with their number. The buffer is then as
@@ -31,10 +33,11 @@ pub fn pages(
     delays: Delays,
     mode: StatusMode,
     format: Format,
+    shapes: &Shapes,
     out: &mut [u8],
 ) -> Told
-    ensures tells { Tells (IsPagesText (start_of present delays mode) format script.now)
-        (IsPagesRefusal (start_of present delays mode) format script.now) out.old out.new result }
+    ensures tells { Tells (IsPagesText shapes.now (start_of present delays mode) format script.now)
+        (IsPagesRefusal shapes.now (start_of present delays mode) format script.now) out.old out.new result }
     ensures length { length out.new ≡ length out.old }
 {
     let mut input = Watched::new(script);
@@ -47,6 +50,7 @@ pub fn pages(
         delays,
         mode,
         format,
+        shapes,
     );
     let stopped = with_stop(alloc, made, script, present, mode);
     give(stopped, &output.into_inner(), out)
@@ -84,13 +88,21 @@ pub fn bus(
 /// Puts the text of the page that a printer prints of some bytes at the front of a buffer: the text
 /// that [`pr_cli::raw_over`] writes, with its faults. The rest is as with [`pages`], but nothing
 /// can stop.
-pub fn raw(alloc: Global, bytes: &[u8], lower: bool, format: Format, out: &mut [u8]) -> Told
-    ensures tells { Tells (IsPaperText lower format bytes.now) (IsPaperRefusal lower format bytes.now) out.old out.new result }
+pub fn raw(
+    alloc: Global,
+    bytes: &[u8],
+    lower: bool,
+    format: Format,
+    shapes: &Shapes,
+    out: &mut [u8],
+) -> Told
+    ensures tells { Tells (IsPaperText shapes.now lower format bytes.now) (IsPaperRefusal shapes.now lower format bytes.now)
+        out.old out.new result }
     ensures length { length out.new ≡ length out.old }
 {
     let mut input = Watched::new(bytes);
     let mut output = Watched::new(Vec::new(alloc));
-    let made = done(raw_over(alloc, &mut input, &mut output, lower, format));
+    let made = done(raw_over(alloc, &mut input, &mut output, lower, format, shapes));
     give(made, &output.into_inner(), out)
 }
 

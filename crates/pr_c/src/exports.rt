@@ -1,9 +1,10 @@
 //! The calls of `include/print1525.h`.
 
-ghost use Rattle.std.specs.Prelude.{◌≡◌, length, IfOk};
+ghost use Rattle.std.specs.Prelude.{◌≡◌, length, IfOk, Ok};
 ghost use Rattle.pr_bus.specs.DelaysLeft.{numbers_left};
-ghost use Rattle.pr_c.specs.Asked.{TellsBus, TellsCheck, TellsListing, TellsPages, TellsPrint, TellsRaw, delays_of};
+ghost use Rattle.pr_c.specs.Asked.{AsksShapes, TellsBus, TellsCheck, TellsListing, TellsPages, TellsPrint, TellsRaw, WithShapes, delays_of};
 ghost use Rattle.pr_c.specs.Settings.{form_of, format_of, lower_of, mode_of, present_of, trace_format_of};
+ghost use Rattle.pr_dots.specs.Shapes.{own_shapes};
 ghost use Rattle.pr_wire.specs.Choices.{left};
 
 use crate::calls::{bus, check, pages, raw};
@@ -12,7 +13,9 @@ use crate::printing::print;
 use crate::settings::{form_for, format_for, lower_for, mode_for, present_for, trace_format_for};
 use crate::told::{Answer, Told, numbered, refused};
 use pr_bus::Delays;
+use pr_characters::{CharactersFault, read_shapes};
 use pr_cli::CliFault;
+use pr_dots::Shapes;
 use pr_wire::Choices;
 use std::alloc::{AllocError, Global};
 
@@ -41,12 +44,19 @@ fn delays_for(
     })
 }
 
-/// Runs a script, and puts the text of its pages at the front of the caller's buffer.
-///
-/// It does what [`pages`](crate::pages) does, in plain numbers. A number that means no setting
-/// is refused: of the printers first, then of the status and the format.
-#[unsafe(no_mangle)]
-pub extern "C" fn print1525_pages(
+/// The shapes that a caller asks for: those of a file of characters, or this project's own where it is
+/// empty.
+fn shapes_for(characters: &[u8]) -> Result<Shapes, CharactersFault>
+    ensures { AsksShapes characters.now result }
+{
+    match characters {
+        [] => Ok(Shapes::own()),
+        [_, ..] => read_shapes(characters),
+    }
+}
+
+/// Puts the text of a script's pages at the front of the caller's buffer, in plain numbers.
+fn tell_pages(
     alloc: Global,
     script: &[u8],
     printers: u8,
@@ -55,11 +65,12 @@ pub extern "C" fn print1525_pages(
     four: &[u16],
     five: &[u16],
     format: u8,
+    shapes: Result<Shapes, CharactersFault>,
     out: &mut [u8],
     answer: &mut Answer,
 )
-    ensures tells { TellsPages (present_of printers) (mode_of status) (format_of format) (delays_of computer.now four.now five.now)
-        script.now out.old out.new answer.new }
+    ensures tells { TellsPages (present_of printers) (mode_of status) (format_of format) shapes
+        (delays_of computer.now four.now five.now) script.now out.old out.new answer.new }
     ensures length { length out.new ≡ length out.old }
 {
     let Some(present) = present_for(printers) else {
@@ -74,11 +85,74 @@ pub extern "C" fn print1525_pages(
         *answer = refused(24, 0);
         return;
     };
+    let shapes = match shapes {
+        Ok(shapes) => shapes,
+        Err(CharactersFault::BadLine(line)) => {
+            *answer = refused(52, line);
+            return;
+        }
+    };
     let told = match delays_for(alloc, computer, four, five) {
-        Ok(delays) => pages(alloc, script, present, delays, mode, format, out),
+        Ok(delays) => pages(alloc, script, present, delays, mode, format, &shapes, out),
         Err(AllocError) => Told::Refused(CliFault::NoMemory),
     };
     *answer = numbered(told);
+}
+
+/// Runs a script, and puts the text of its pages at the front of the caller's buffer.
+///
+/// It does what [`pages`](crate::pages) does, in plain numbers, with this project's own characters. A
+/// number that means no setting is refused: of the printers first, then of the status and the format.
+#[unsafe(no_mangle)]
+pub extern "C" fn print1525_pages(
+    alloc: Global,
+    script: &[u8],
+    printers: u8,
+    status: u8,
+    computer: &[u16],
+    four: &[u16],
+    five: &[u16],
+    format: u8,
+    out: &mut [u8],
+    answer: &mut Answer,
+)
+    ensures tells { TellsPages (present_of printers) (mode_of status) (format_of format) (Ok own_shapes)
+        (delays_of computer.now four.now five.now) script.now out.old out.new answer.new }
+    ensures length { length out.new ≡ length out.old }
+{
+    let shapes = Ok(Shapes::own());
+    tell_pages(
+        alloc, script, printers, status, computer, four, five, format, shapes, out, answer,
+    );
+}
+
+/// Runs a script, and puts the text of its pages at the front of the caller's buffer, with the
+/// characters of a file.
+///
+/// It does what [`print1525_pages`] does, and what it does where the file is empty. After the settings
+/// a file without shapes is refused, with its first bad line.
+#[unsafe(no_mangle)]
+pub extern "C" fn print1525_pages_with(
+    alloc: Global,
+    script: &[u8],
+    printers: u8,
+    status: u8,
+    computer: &[u16],
+    four: &[u16],
+    five: &[u16],
+    format: u8,
+    characters: &[u8],
+    out: &mut [u8],
+    answer: &mut Answer,
+)
+    ensures tells { WithShapes characters.now (λ shapes. TellsPages (present_of printers) (mode_of status) (format_of format) shapes
+        (delays_of computer.now four.now five.now) script.now out.old out.new answer.new) }
+    ensures length { length out.new ≡ length out.old }
+{
+    let shapes = shapes_for(characters);
+    tell_pages(
+        alloc, script, printers, status, computer, four, five, format, shapes, out, answer,
+    );
 }
 
 /// Runs a script, and puts the trace of its run at the front of the caller's buffer.
@@ -143,20 +217,17 @@ pub extern "C" fn print1525_listing(
     *answer = answer_for(listing(alloc, bytes, form, out));
 }
 
-/// Puts the page that a printer prints of some bytes at the front of the caller's buffer.
-///
-/// It does what [`raw`](crate::raw) does, in plain numbers. A number that means no setting is
-/// refused: of the set first, then of the format.
-#[unsafe(no_mangle)]
-pub extern "C" fn print1525_raw(
+/// Puts the page of some bytes at the front of the caller's buffer, in plain numbers.
+fn tell_raw(
     alloc: Global,
     bytes: &[u8],
     set: u8,
     format: u8,
+    shapes: Result<Shapes, CharactersFault>,
     out: &mut [u8],
     answer: &mut Answer,
 )
-    ensures tells { TellsRaw (lower_of set) (format_of format) bytes.now out.old out.new answer.new }
+    ensures tells { TellsRaw (lower_of set) (format_of format) shapes bytes.now out.old out.new answer.new }
     ensures length { length out.new ≡ length out.old }
 {
     let Some(lower) = lower_for(set) else {
@@ -167,13 +238,80 @@ pub extern "C" fn print1525_raw(
         *answer = refused(24, 0);
         return;
     };
-    *answer = numbered(raw(alloc, bytes, lower, format, out));
+    *answer = match shapes {
+        Ok(shapes) => numbered(raw(alloc, bytes, lower, format, &shapes, out)),
+        Err(CharactersFault::BadLine(line)) => refused(52, line),
+    };
+}
+
+/// Puts the page that a printer prints of some bytes at the front of the caller's buffer.
+///
+/// It does what [`raw`](crate::raw) does, in plain numbers, with this project's own characters. A
+/// number that means no setting is refused: of the set first, then of the format.
+#[unsafe(no_mangle)]
+pub extern "C" fn print1525_raw(
+    alloc: Global,
+    bytes: &[u8],
+    set: u8,
+    format: u8,
+    out: &mut [u8],
+    answer: &mut Answer,
+)
+    ensures tells { TellsRaw (lower_of set) (format_of format) (Ok own_shapes) bytes.now out.old out.new answer.new }
+    ensures length { length out.new ≡ length out.old }
+{
+    tell_raw(alloc, bytes, set, format, Ok(Shapes::own()), out, answer);
+}
+
+/// Puts the page that a printer prints of some bytes at the front of the caller's buffer, with the
+/// characters of a file.
+///
+/// It does what [`print1525_raw`] does, and what it does where the file is empty. After the settings a
+/// file without shapes is refused, with its first bad line.
+#[unsafe(no_mangle)]
+pub extern "C" fn print1525_raw_with(
+    alloc: Global,
+    bytes: &[u8],
+    set: u8,
+    format: u8,
+    characters: &[u8],
+    out: &mut [u8],
+    answer: &mut Answer,
+)
+    ensures tells { WithShapes characters.now (λ shapes.
+        TellsRaw (lower_of set) (format_of format) shapes bytes.now out.old out.new answer.new) }
+    ensures length { length out.new ≡ length out.old }
+{
+    let shapes = shapes_for(characters);
+    tell_raw(alloc, bytes, set, format, shapes, out, answer);
+}
+
+/// Puts the page of a printer's inputs at the front of the caller's buffer, in plain numbers.
+fn tell_print(
+    alloc: Global,
+    inputs: &[u16],
+    format: u8,
+    shapes: Result<Shapes, CharactersFault>,
+    out: &mut [u8],
+    answer: &mut Answer,
+)
+    ensures tells { TellsPrint (format_of format) shapes inputs.now out.old out.new answer.new }
+    ensures length { length out.new ≡ length out.old }
+{
+    let Some(format) = format_for(format) else {
+        *answer = refused(24, 0);
+        return;
+    };
+    *answer = match shapes {
+        Ok(shapes) => numbered(print(alloc, inputs, format, &shapes, out)),
+        Err(CharactersFault::BadLine(line)) => refused(52, line),
+    };
 }
 
 /// Puts the page that a printer prints of its inputs at the front of the caller's buffer.
 ///
-/// It does what [`print`](crate::print) does, in plain numbers. A number that means no format
-/// is refused.
+/// It does what [`print`](crate::print) does, in plain numbers, with this project's own characters. A
+/// number that means no format is refused.
 #[unsafe(no_mangle)]
 pub extern "C" fn print1525_print(
     alloc: Global,
@@ -182,14 +320,32 @@ pub extern "C" fn print1525_print(
     out: &mut [u8],
     answer: &mut Answer,
 )
-    ensures tells { TellsPrint (format_of format) inputs.now out.old out.new answer.new }
+    ensures tells { TellsPrint (format_of format) (Ok own_shapes) inputs.now out.old out.new answer.new }
     ensures length { length out.new ≡ length out.old }
 {
-    let Some(format) = format_for(format) else {
-        *answer = refused(24, 0);
-        return;
-    };
-    *answer = numbered(print(alloc, inputs, format, out));
+    tell_print(alloc, inputs, format, Ok(Shapes::own()), out, answer);
+}
+
+/// Puts the page that a printer prints of its inputs at the front of the caller's buffer, with the
+/// characters of a file.
+///
+/// It does what [`print1525_print`] does, and what it does where the file is empty. After the format a
+/// file without shapes is refused, with its first bad line.
+#[unsafe(no_mangle)]
+pub extern "C" fn print1525_print_with(
+    alloc: Global,
+    inputs: &[u16],
+    format: u8,
+    characters: &[u8],
+    out: &mut [u8],
+    answer: &mut Answer,
+)
+    ensures tells { WithShapes characters.now (λ shapes.
+        TellsPrint (format_of format) shapes inputs.now out.old out.new answer.new) }
+    ensures length { length out.new ≡ length out.old }
+{
+    let shapes = shapes_for(characters);
+    tell_print(alloc, inputs, format, shapes, out, answer);
 }
 
 /// Puts the frames that a trace text spells at the front of the caller's buffer.

@@ -10,6 +10,7 @@ ghost use Rattle.pr_c.specs.Printing.{TellsInputs, input_of, is_no_input, inputs
 
 use crate::told::{Told, give};
 use pr_cli::{CliFault, text_in_format};
+use pr_dots::Shapes;
 use pr_page::{Input, NoMemory, Paper, Printer, Sequence};
 use pr_render::Format;
 use pr_serial::Present;
@@ -81,26 +82,32 @@ fn outcome_with(alloc: Global, paper: Paper) -> Outcome
 }
 
 /// The text of the page of the inputs that numbers mean.
-fn text_of(alloc: Global, numbers: &[u16], format: Format) -> Result<Vec<u8>, CliFault>
+fn text_of(
+    alloc: Global,
+    numbers: &[u16],
+    format: Format,
+    shapes: &Shapes,
+) -> Result<Vec<u8>, CliFault>
     requires few { length numbers.now ≤ inputs_limit }
-    ensures { GivesInputsText format (map input_of numbers.now) result }
+    ensures { GivesInputsText shapes.now format (map input_of numbers.now) result }
 {
     let paper = paper_of(alloc, numbers)?;
-    let text = text_in_format(alloc, outcome_with(alloc, paper), FOUR_ALONE, format)?;
+    let outcome = outcome_with(alloc, paper);
+    let text = text_in_format(alloc, shapes, outcome, FOUR_ALONE, format)?;
     Ok(text.into_vec()?)
 }
 
 /// Puts the text of the page that a printer prints of its inputs, as that of printer 4, at the
-/// front of a buffer. The rest of the buffer stays as it was. The inputs are numbers: 0 to 255 a
-/// byte, 256 the selection of the graphic/upper case set, 257 that of the lower/upper case set;
-/// before the first selection the former is selected.
+/// front of a buffer, with characters of these shapes. The rest of the buffer stays as it was. The
+/// inputs are numbers: 0 to 255 a byte, 256 the selection of the graphic/upper case set, 257 that of
+/// the lower/upper case set; before the first selection the former is selected.
 ///
 /// It is refused for more than 2^32 inputs, exactly; then exactly where a number is above 257, with
 /// the index of the first, from 0, before any memory is taken; where memory was refused; and where
 /// the text has more bytes than the buffer has room for, with their number. The buffer is then as
 /// it was.
-pub fn print(alloc: Global, inputs: &[u16], format: Format, out: &mut [u8]) -> Told
-    ensures tells { TellsInputs format inputs.now out.old out.new result }
+pub fn print(alloc: Global, inputs: &[u16], format: Format, shapes: &Shapes, out: &mut [u8]) -> Told
+    ensures tells { TellsInputs shapes.now format inputs.now out.old out.new result }
     ensures length { length out.new ≡ length out.old }
 {
     if inputs.len() > INPUTS_LIMIT {
@@ -109,7 +116,7 @@ pub fn print(alloc: Global, inputs: &[u16], format: Format, out: &mut [u8]) -> T
     if let Some(index) = first_no_input(inputs) {
         return Told::NoInput(index);
     }
-    match text_of(alloc, inputs, format) {
+    match text_of(alloc, inputs, format, shapes) {
         Ok(text) => give(Ok(None), &text, out),
         Err(fault) => Told::Refused(fault),
     }

@@ -1,7 +1,8 @@
--- Trusted: the text of an outcome in each format, and of each part of its pages.
+-- Trusted: the text of an outcome in each format, and of each part of its pages; pictures draw characters of some shapes.
 use Rattle.std.specs.Prelude.{ℕ, ◌-◌, true, false, List, ◌&&◌, length, nat_le, if◌then◌else◌, Option, Some, None, Result, Ok, Err}
 use Rattle.pr_page.specs.declared.paper.Paper.{Paper}
 use Rattle.pr_dots.specs.Sheets.{sheets_of}
+use Rattle.pr_dots.specs.declared.character_sets.Shapes.{Shapes}
 use Rattle.pr_serial.specs.declared.Present.{Present}
 use Rattle.pr_system.specs.Headline.{empty_paper}
 use Rattle.pr_system.specs.declared.outcome.Outcome.{Outcome}
@@ -54,26 +55,31 @@ or_first None = 1
 or_first (Some sheet) = sheet
 
 -- the SVG document of all pages, or of one sheet
-abbrev pub svg_part : Option ℕ → Present → Outcome → Result (List ℕ) PictureFault
-svg_part None present outcome = Ok (svg_of outcome present)
-svg_part (Some sheet) present outcome = sheet_of sheet_svg_of sheet (first_paper outcome (drawn_of outcome present))
+abbrev pub svg_part : Shapes → Option ℕ → Present → Outcome → Result (List ℕ) PictureFault
+svg_part shapes None present outcome = Ok (svg_of shapes outcome present)
+svg_part shapes (Some sheet) present outcome =
+    sheet_of (sheet_svg_of shapes) sheet (first_paper outcome (drawn_of outcome present))
 
 -- a sheet as a bitmap
-abbrev pub png_part : Option ℕ → Present → Outcome → Result (List ℕ) PictureFault
-png_part sheet present outcome = sheet_of png_of (or_first sheet) (first_paper outcome (drawn_of outcome present))
+abbrev pub png_part : Shapes → Option ℕ → Present → Outcome → Result (List ℕ) PictureFault
+png_part shapes sheet present outcome =
+    sheet_of (png_of shapes) (or_first sheet) (first_paper outcome (drawn_of outcome present))
 
 -- a document, if it is not too long
 abbrev pub if_short : List ℕ → Result (List ℕ) PictureFault
 if_short file = if nat_le (length file) file_limit then Ok file else Err TooLarge
 
 -- the sheets of the printers that the picture draws, as one document
-abbrev pub pdf_part : Present → Outcome → Result (List ℕ) PictureFault
-pdf_part present outcome = if_short (pdf_of outcome.paper4 outcome.paper5 (drawn_of outcome present))
+abbrev pub pdf_part : Shapes → Present → Outcome → Result (List ℕ) PictureFault
+pdf_part shapes present outcome = if_short (pdf_of shapes outcome.paper4 outcome.paper5 (drawn_of outcome present))
 
 -- the page text, lines of 80 columns, or a picture: all but the first show the sheets of the printers that are present
-abbrev pub text_in : Format → Present → Outcome → Result (List ℕ) PictureFault
-text_in format.List present outcome = Ok (page_text outcome)
-text_in format.Lines present outcome = Ok (text_of outcome present)
-text_in (format.Svg part) present outcome = svg_part part.sheet (shown_of part.device present) (left_to part.device outcome)
-text_in (format.Png part) present outcome = png_part part.sheet (shown_of part.device present) (left_to part.device outcome)
-text_in (format.Pdf device) present outcome = pdf_part (shown_of device present) (left_to device outcome)
+abbrev pub text_in : Shapes → Format → Present → Outcome → Result (List ℕ) PictureFault
+text_in shapes format.List present outcome = Ok (page_text outcome)
+text_in shapes format.Lines present outcome = Ok (text_of outcome present)
+text_in shapes (format.Svg part) present outcome =
+    svg_part shapes part.sheet (shown_of part.device present) (left_to part.device outcome)
+text_in shapes (format.Png part) present outcome =
+    png_part shapes part.sheet (shown_of part.device present) (left_to part.device outcome)
+text_in shapes (format.Pdf device) present outcome =
+    pdf_part shapes (shown_of device present) (left_to device outcome)

@@ -1,6 +1,7 @@
--- Trusted: what `raw` answers for the bytes of a printer, and what it leaves in the writer.
+-- Trusted: what `raw` answers for the bytes of a printer, and what it leaves in the writer, with characters of some shapes.
 use Rattle.std.specs.Prelude.{◌≡◌, ℕ, Bool, true, false, ◌<◌, ◌≤◌, List, [], ◌∷◌, length, map, Option, None, Result, Ok, Err}
 use Rattle.std.specs.Io.KnownBytes.{Appends, Keeps}
+use Rattle.pr_dots.specs.declared.character_sets.Shapes.{Shapes}
 use Rattle.pr_page.specs.Page.{IsPage}
 use Rattle.pr_page.specs.declared.input.Input.{Input}
 use Rattle.pr_page.specs.declared.input.Input.TheVariants.{Byte, Select}
@@ -32,32 +33,34 @@ abbrev pub printed_on : Paper → Outcome
 printed_on paper = record { paper4 = paper; paper5 = empty_paper; statuses = []; stop = None; screen = []; trace = [] }
 
 -- the text of the page of these bytes
-pub record IsRawText (lower : Bool) (format : Format) (bytes text : List ℕ) : Type 0 where
+pub record IsRawText (shapes : Shapes) (lower : Bool) (format : Format) (bytes text : List ℕ) : Type 0 where
   pub paper : Paper
   pub is_page : IsPage (raw_inputs lower bytes) paper
-  pub is_text : text_in format four_alone (printed_on paper) ≡ Ok text
+  pub is_text : text_in shapes format four_alone (printed_on paper) ≡ Ok text
 
 -- the page of these bytes can not be shown in this format
-pub record IsRawUnshown (lower : Bool) (format : Format) (bytes : List ℕ) (fault : PictureFault) : Type 0 where
+pub record IsRawUnshown (shapes : Shapes) (lower : Bool) (format : Format) (bytes : List ℕ) (fault : PictureFault)
+    : Type 0 where
   pub paper : Paper
   pub is_page : IsPage (raw_inputs lower bytes) paper
-  pub is_unshown : text_in format four_alone (printed_on paper) ≡ Err fault
+  pub is_unshown : text_in shapes format four_alone (printed_on paper) ≡ Err fault
 
 -- the answer, by the bytes and by what the writer held before and after
-abbrev pub AnswersRaw : Bool → Format → List ℕ → Option (List ℕ) → Option (List ℕ) → Result (Unit {0}) CliFault → Type 0
-AnswersRaw lower format bytes old new (Ok _) =
-    (text : List ℕ) × (length bytes ≤ raw_limit) × IsRawText lower format bytes text × Appends old new text
-AnswersRaw lower format bytes old new (Err (Script fault)) = ⊥
-AnswersRaw lower format bytes old new (Err (Trace fault)) = ⊥
-AnswersRaw lower format bytes old new (Err (Wave fault)) = ⊥
-AnswersRaw lower format bytes old new (Err (Capture fault)) = ⊥
-AnswersRaw lower format bytes old new (Err (Picture fault)) =
-    (length bytes ≤ raw_limit) × IsRawUnshown lower format bytes fault × Keeps old new
-AnswersRaw lower format bytes old new (Err TooLarge) = (raw_limit < length bytes) × Keeps old new
-AnswersRaw lower format bytes old new (Err NoMemory) = Keeps old new
-AnswersRaw lower format bytes old new (Err ReadFailed) = Keeps old new
-AnswersRaw lower format bytes old new (Err WriteFailed) =
-    (text : List ℕ) × (length bytes ≤ raw_limit) × IsRawText lower format bytes text × AppendsFront old new text
+abbrev pub AnswersRaw :
+    Shapes → Bool → Format → List ℕ → Option (List ℕ) → Option (List ℕ) → Result (Unit {0}) CliFault → Type 0
+AnswersRaw shapes lower format bytes old new (Ok _) =
+    (text : List ℕ) × (length bytes ≤ raw_limit) × IsRawText shapes lower format bytes text × Appends old new text
+AnswersRaw shapes lower format bytes old new (Err (Script fault)) = ⊥
+AnswersRaw shapes lower format bytes old new (Err (Trace fault)) = ⊥
+AnswersRaw shapes lower format bytes old new (Err (Wave fault)) = ⊥
+AnswersRaw shapes lower format bytes old new (Err (Capture fault)) = ⊥
+AnswersRaw shapes lower format bytes old new (Err (Picture fault)) =
+    (length bytes ≤ raw_limit) × IsRawUnshown shapes lower format bytes fault × Keeps old new
+AnswersRaw shapes lower format bytes old new (Err TooLarge) = (raw_limit < length bytes) × Keeps old new
+AnswersRaw shapes lower format bytes old new (Err NoMemory) = Keeps old new
+AnswersRaw shapes lower format bytes old new (Err ReadFailed) = Keeps old new
+AnswersRaw shapes lower format bytes old new (Err WriteFailed) =
+    (text : List ℕ) × (length bytes ≤ raw_limit) × IsRawText shapes lower format bytes text × AppendsFront old new text
 
 -- a fault of `raw`: never one of a script or of a trace
 abbrev pub IsRawFault : CliFault → Type 0

@@ -8,7 +8,7 @@ ghost use Rattle.pr_system.specs.Headline.{empty_paper};
 use crate::fault::{CliFault, PictureFault};
 use crate::page_text::text_from;
 use crate::text::Text;
-use pr_dots::sheets_of;
+use pr_dots::{Shapes, sheets_of};
 use pr_page::{Paper, Sequence};
 use pr_pdf::{PdfFault, pdf};
 use pr_png::png;
@@ -86,43 +86,50 @@ fn sheet_at(paper: &Paper, sheet: u64) -> Result<u64, PictureFault>
 /// The SVG document of all pages, or of one sheet.
 fn svg_part(
     alloc: Global,
+    shapes: &Shapes,
     sheet: Option<u64>,
     present: Present,
     outcome: &Outcome,
 ) -> Result<Text, CliFault>
-    ensures { GivesShown (svg_part sheet present outcome.now) result }
+    ensures { GivesShown (svg_part shapes.now sheet present outcome.now) result }
 {
     let Some(sheet) = sheet else {
-        let text = svg(alloc, outcome, present)?;
+        let text = svg(alloc, shapes, outcome, present)?;
         return Ok(Text::from_vec(alloc, text));
     };
     let paper = first_paper(outcome, drawn_of(outcome, present));
     let index = sheet_at(paper, sheet)?;
-    let text = sheet_svg(alloc, paper, index)?;
+    let text = sheet_svg(alloc, shapes, paper, index)?;
     Ok(Text::from_vec(alloc, text))
 }
 
 /// A sheet as a bitmap, and the first one where none is named.
 fn png_part(
     alloc: Global,
+    shapes: &Shapes,
     sheet: Option<u64>,
     present: Present,
     outcome: &Outcome,
 ) -> Result<Text, CliFault>
-    ensures { GivesShown (png_part sheet present outcome.now) result }
+    ensures { GivesShown (png_part shapes.now sheet present outcome.now) result }
 {
     let paper = first_paper(outcome, drawn_of(outcome, present));
     let index = sheet_at(paper, or_first(sheet))?;
-    let file = png(alloc, paper, index)?;
+    let file = png(alloc, shapes, paper, index)?;
     Ok(Text::from_vec(alloc, file))
 }
 
 /// The sheets of the printers that the picture draws, as one document.
-fn pdf_part(alloc: Global, present: Present, outcome: &Outcome) -> Result<Text, CliFault>
-    ensures { GivesShown (pdf_part present outcome.now) result }
+fn pdf_part(
+    alloc: Global,
+    shapes: &Shapes,
+    present: Present,
+    outcome: &Outcome,
+) -> Result<Text, CliFault>
+    ensures { GivesShown (pdf_part shapes.now present outcome.now) result }
 {
     let drawn = drawn_of(outcome, present);
-    match pdf(alloc, &outcome.paper4, &outcome.paper5, drawn) {
+    match pdf(alloc, shapes, &outcome.paper4, &outcome.paper5, drawn) {
         Ok(file) => Ok(Text::from_vec(alloc, file)),
         Err(PdfFault::TooLarge) => Err(CliFault::Picture(PictureFault::TooLarge)),
         Err(PdfFault::NoMemory) => Err(CliFault::NoMemory),
@@ -141,7 +148,7 @@ fn or_first(sheet: Option<u64>) -> u64
 
 /// The text of an outcome in a format. Lines and pictures show the sheets of the printers that are present, or of the one
 /// that the format names. A sheet is one of the first printer that the picture draws: of the named one, or else of the first
-/// that has printed, or else of the first that is present.
+/// that has printed, or else of the first that is present. Pictures draw characters in these shapes.
 ///
 /// # Errors
 ///
@@ -149,11 +156,12 @@ fn or_first(sheet: Option<u64>) -> u64
 /// - [`CliFault::NoMemory`]: memory was refused.
 pub fn text_in_format(
     alloc: Global,
+    shapes: &Shapes,
     outcome: Outcome,
     present: Present,
     format: Format,
 ) -> Result<Text, CliFault>
-    ensures { GivesShown (text_in format present outcome) result }
+    ensures { GivesShown (text_in shapes.now format present outcome) result }
 {
     match format {
         Format::List => Ok(text_from(alloc, outcome)?),
@@ -163,15 +171,27 @@ pub fn text_in_format(
         }
         Format::Svg(part) => {
             let shown = left_to(alloc, part.device, outcome);
-            svg_part(alloc, part.sheet, shown_of(part.device, present), &shown)
+            svg_part(
+                alloc,
+                shapes,
+                part.sheet,
+                shown_of(part.device, present),
+                &shown,
+            )
         }
         Format::Png(part) => {
             let shown = left_to(alloc, part.device, outcome);
-            png_part(alloc, part.sheet, shown_of(part.device, present), &shown)
+            png_part(
+                alloc,
+                shapes,
+                part.sheet,
+                shown_of(part.device, present),
+                &shown,
+            )
         }
         Format::Pdf(device) => {
             let shown = left_to(alloc, device, outcome);
-            pdf_part(alloc, shown_of(device, present), &shown)
+            pdf_part(alloc, shapes, shown_of(device, present), &shown)
         }
     }
 }

@@ -9,6 +9,7 @@ ghost use Rattle.pr_input.specs.Watched.{has_failed, is_flushed, wrapped};
 
 use crate::fault::CliFault;
 use crate::format::text_in_format;
+use pr_dots::Shapes;
 use pr_input::{BLOCK, Watched, WriteFault};
 use pr_page::{Input, NoMemory, Paper, Printer, Sequence};
 use pr_render::Format;
@@ -22,8 +23,8 @@ use std::io::{Read, Write};
 pub const RAW_LIMIT: usize = 4_294_967_295;
 
 /// Reads the bytes that a printer gets to their end, and writes the page that it prints after a
-/// selection of the lower/upper case set, or else of the graphic/upper case set, in this format.
-/// (Profile; the VIC-1525 User's Manual says what the bytes do.)
+/// selection of the lower/upper case set, or else of the graphic/upper case set, in this format, in
+/// pictures with characters of these shapes. (Profile; the VIC-1525 User's Manual says what the bytes do.)
 ///
 /// The page is that of printer 4, as of a run in which nothing else happened: printer 5 printed
 /// nothing, and there are no statuses, no bytes on the screen and no stop. The input is printed as
@@ -43,13 +44,14 @@ pub fn raw_over<R: Read, W: Write>(
     output: &mut Watched<W>,
     lower: bool,
     format: Format,
+    shapes: &Shapes,
 ) -> Result<(), CliFault>
     // the caller's part
     requires input { has_failed input.old ≡ false }
     requires output { has_failed output.old ≡ false }
     // what it gives
     ensures raw { IfSome (R.remaining (wrapped input.old)) (λ bytes.
-        AnswersRaw lower format bytes (W.contents (wrapped output.old)) (W.contents (wrapped output.new)) result) }
+        AnswersRaw shapes.now lower format bytes (W.contents (wrapped output.old)) (W.contents (wrapped output.new)) result) }
     ensures at_end { ReadsToEnd (R.remaining (wrapped input.new)) result }
     ensures flushed { OnOk result (is_flushed output.new ≡ true) }
     // when it refuses, and what that leaves
@@ -63,7 +65,8 @@ pub fn raw_over<R: Read, W: Write>(
         four: true,
         five: false,
     };
-    let text = text_in_format(alloc, outcome_with(alloc, paper), four_alone, format)?;
+    let outcome = outcome_with(alloc, paper);
+    let text = text_in_format(alloc, shapes, outcome, four_alone, format)?;
     match text.write_to(output) {
         Ok(()) => Ok(()),
         Err(WriteFault) => Err(CliFault::WriteFailed),

@@ -7,6 +7,7 @@ use Rattle.pr_page.specs.declared.paper.Paper.{Paper}
 use Rattle.pr_page.specs.declared.paper.Mark.{Mark}
 use Rattle.pr_page.specs.declared.paper.Mark.TheVariants.{Cell, Dots}
 use Rattle.pr_dots.specs.Shapes.{shape}
+use Rattle.pr_dots.specs.declared.character_sets.Shapes.{Shapes}
 
 -- a dot of a paper: its dot column (1/60 inch from the left), and its distance from the top (1/126 inch)
 pub record Dot : Type 0 where
@@ -18,10 +19,10 @@ abbrev pub printed_columns : (reverse wide : Bool) → ℕ → List ℕ
 printed_columns reverse wide column =
     replicate (if wide then 2 else 1) (if reverse then 127 - column else column)
 
--- the columns of a mark, from the left: bit 0 of each is its top dot
-abbrev pub columns_of : Mark → List ℕ
-columns_of (Cell code lower reverse wide) = flat_map (printed_columns reverse wide) (shape lower code)
-columns_of (Dots value) = value ∷ []
+-- the columns of a mark in these shapes, from the left: bit 0 of each is its top dot
+abbrev pub columns_of : Shapes → Mark → List ℕ
+columns_of shapes (Cell code lower reverse wide) = flat_map (printed_columns reverse wide) (shape shapes lower code)
+columns_of shapes (Dots value) = value ∷ []
 
 -- the dot of bit b of a column, if the bit is 1: the column is at x, its top at y, and the dot is 2b below the top
 abbrev pub bit_dots : (x y value b : ℕ) → List Dot
@@ -37,17 +38,17 @@ columns_dots x y [] = []
 columns_dots x y (value ∷ values) = column_dots x y value ++ columns_dots (x + 1) y values
 
 -- the dots of a printed line
-abbrev pub row_dots : Row → List Dot
-row_dots r = flat_map (λ p. columns_dots p.x r.y (columns_of p.mark)) r.marks
+abbrev pub row_dots : Shapes → Row → List Dot
+row_dots shapes r = flat_map (λ p. columns_dots p.x r.y (columns_of shapes p.mark)) r.marks
 
--- the dots of a paper, row by row and mark by mark; held marks have no place yet
-unfoldable pub dots_of : Paper → List Dot
-dots_of paper = flat_map row_dots paper.rows
+-- the dots of a paper in these shapes, row by row and mark by mark; held marks have no place yet
+unfoldable pub dots_of : Shapes → Paper → List Dot
+dots_of shapes paper = flat_map (row_dots shapes) paper.rows
 
 -- a dot is at (x, y)
 abbrev pub is_at : (x y : ℕ) → Dot → Bool
 is_at x y dot = dot.x == x && dot.y == y
 
 -- whether a paper has a dot at (x, y)
-unfoldable pub has_dot : Paper → (x y : ℕ) → Bool
-has_dot paper x y = list_any (is_at x y) (dots_of paper)
+unfoldable pub has_dot : Shapes → Paper → (x y : ℕ) → Bool
+has_dot shapes paper x y = list_any (is_at x y) (dots_of shapes paper)

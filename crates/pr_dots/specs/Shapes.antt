@@ -2,6 +2,7 @@
 -- This project's own drawing (examples/characters.txt); tools/shapes writes this file.
 use Rattle.std.specs.Prelude.{ℕ, Bool, List, [], ◌∷◌, ◌++◌, slice_index_or, if◌then◌else◌}
 use Rattle.pr_dots.specs.Codes.{place_of, printed_as}
+use Rattle.pr_dots.specs.declared.character_sets.Shapes.{Shapes}
 
 -- six columns of seven dots, from the left, each as a graphic column prints it: bit 0 is the top dot
 abbrev pub six : (a b c d e f : ℕ) → List ℕ
@@ -222,6 +223,10 @@ upper_shapes = digits ++ capitals ++ signs ++ blocks upper_169 upper_186 ++ pict
 unfoldable pub lower_shapes : List (List ℕ)
 lower_shapes = digits ++ small_letters ++ signs ++ blocks lower_169 lower_186 ++ line_192 ∷ capitals ++ ends
 
--- the six columns of a cell's code
-unfoldable pub shape : Bool → ℕ → List ℕ
-shape lower code = slice_index_or (if lower then lower_shapes else upper_shapes) (place_of (printed_as code)) []
+-- the six columns of a cell's code in these shapes
+unfoldable pub shape : Shapes → Bool → ℕ → List ℕ
+shape shapes lower code = slice_index_or (if lower then shapes.lower else shapes.upper) (place_of (printed_as code)) []
+
+-- this project's own drawing of both sets
+abbrev pub own_shapes : Shapes
+own_shapes = record { upper = upper_shapes; lower = lower_shapes }

@@ -10,96 +10,124 @@ enum Context {
     Start,
     Open,
     Close,
-    /// Behind CMD or PRINT#, before the comma.
+    /// After CMD or PRINT#, before the comma.
     File,
     /// In a list.
     List,
 }
 
-/// That no name follows an OPEN's secondary address.
-const NO_NAME: &str = "a printer's OPEN takes no file name: OPEN file,device,secondary ends here";
+/// The number in CHR$( ), as a message names it.
+const CODE: &str = "a CHR$ code from 0 to 255";
 
-/// That no name is in place of an OPEN's secondary address.
-const NO_NAME_FOR_SECOND: &str =
-    "a secondary address from 0 to 15 stands here; a printer's OPEN takes no file name";
+/// The end of a statement, as a message names it.
+const STATEMENT_END: &str = "the end of the statement";
 
-/// That no name follows an OPEN's device.
-const NO_NAME_AFTER_DEVICE: &str =
-    "a comma and a secondary address, or the end of the OPEN can stand here; a printer's takes no file name";
+/// What is wrong at a place.
+#[derive(Clone, Copy)]
+pub enum Problem {
+    /// The script should have this there.
+    Expected(&'static str),
+    /// The script exceeds this limit there.
+    Limit(&'static str),
+}
 
-/// That CHR$ has another number.
-const CODE: &str = "CHR$ has a number from 0 to 255";
+/// What is wrong between these bytes of a line, where this is the fault.
+pub fn problem_at(before: &[u8], rest: &[u8], fault: ScriptFault) -> Problem {
+    match fault {
+        ScriptFault::TooLong(_) => Problem::Limit("a list has at most 255 bytes"),
+        ScriptFault::TooMany(_) => Problem::Limit("a script has at most 1000000 statements"),
+        ScriptFault::NoMemory => Problem::Limit("memory ran out"),
+        _ => Problem::Expected(expected_at(before, rest, fault)),
+    }
+}
 
 /// What can follow some bytes of a line, where this is the fault.
-pub fn expected_at(before: &[u8], rest: &[u8], fault: ScriptFault) -> &'static str {
+fn expected_at(before: &[u8], rest: &[u8], fault: ScriptFault) -> &'static str {
     let context = context_of(before);
     match fault {
-        ScriptFault::UnknownWord(_) => expected_in(context, before, rest),
         ScriptFault::BadNumber(_) => match context {
-            Context::Start => "a line number is at most 63999",
-            Context::Open | Context::Close | Context::File => {
-                "a file number from 0 to 255 stands here"
-            }
+            Context::Start => "a line number from 0 to 63999",
+            Context::Open | Context::Close | Context::File => "a file number from 0 to 255",
             Context::List => CODE,
         },
         ScriptFault::BadDevice(_) => match last_of(before) {
-            Some(b',') => "a device from 4 to 30 stands here",
-            _ => "a comma and a device from 4 to 30 come after the file",
+            Some(b',') => "a device number from 4 to 30",
+            _ => "a comma and a device number from 4 to 30",
         },
-        ScriptFault::BadSecond(_) => match rest {
-            [b'"', ..] => NO_NAME_FOR_SECOND,
-            _ => "a secondary address from 0 to 15 stands here",
-        },
+        ScriptFault::BadSecond(_) => "a secondary address from 0 to 15",
         ScriptFault::BadByte(_) => match rest {
             [b'0'..=b'9', ..] if !cut_before(before).is_in_string => CODE,
-            _ => "a string has the bytes 32 to 126; CHR$(n) gives the others",
+            _ => "a byte from 32 to 126 in the string",
         },
-        ScriptFault::TooLong(_) => "a list has at most 255 bytes",
-        ScriptFault::TooMany(_) => "a script has at most 1000000 statements",
-        ScriptFault::NoMemory => "memory was refused",
+        _ => expected_in(context, before, rest),
     }
 }
 
 /// What can be in a statement, where an unknown word does.
 fn expected_in(context: Context, before: &[u8], rest: &[u8]) -> &'static str {
     if context == Context::Start {
-        return "OPEN, CMD, PRINT, PRINT#, CLOSE or REM can stand here";
+        return "OPEN, CMD, PRINT, PRINT#, CLOSE or REM";
     }
     if word_at(rest).begins_statement() && !wants_more(context, before) {
-        return "a : is missing before this statement";
+        return "a colon between statements";
     }
     match context {
-        Context::Start | Context::Open => expected_in_open(before, rest),
-        Context::Close => "the statement ends after the file",
-        Context::File => "a comma and a list, or the end of the statement can stand here",
+        Context::Start | Context::Open => expected_in_open(before),
+        Context::Close => STATEMENT_END,
+        Context::File => "a comma and a list, or the end of the statement",
         Context::List => expected_in_list(before, rest),
     }
 }
 
 /// What can follow the device or the secondary address of an OPEN, where an unknown word
 /// does.
-fn expected_in_open(before: &[u8], rest: &[u8]) -> &'static str {
-    let has_second = cut_before(before).commas > 1;
-    match (has_second, rest) {
-        (true, [b',' | b'"', ..]) => NO_NAME,
-        (true, _) => "the end of OPEN file,device,secondary stands here",
-        (false, [b'"', ..]) => NO_NAME_AFTER_DEVICE,
-        (false, _) => "a comma, or the end of OPEN file,device,secondary can stand here",
+fn expected_in_open(before: &[u8]) -> &'static str {
+    if cut_before(before).commas > 1 {
+        STATEMENT_END
+    } else {
+        "a comma and a secondary address, or the end of the statement"
     }
 }
 
 /// What can be in a list, where an unknown word does.
 fn expected_in_list(before: &[u8], rest: &[u8]) -> &'static str {
     match last_of(before) {
-        Some(b'$') => "( comes after CHR$",
-        Some(b'(') => "a number stands here",
-        Some(b'0'..=b'9') => ") comes after the number",
-        Some(b',') =>
-            "a list comes after the comma: strings between quotation marks, CHR$(n) and ;",
+        Some(b'$') => "( after CHR$",
+        Some(b'(') => CODE,
+        Some(b'0'..=b'9') => ") after the CHR$ code",
+        Some(b',') => "a string, CHR$(n) or a semicolon after the comma",
         _ => match rest {
-            [b',', ..] => "; and not , stands between the parts of a list here",
-            _ => "a string, CHR$(n) or ; can stand here",
+            [b',', ..] => "a semicolon between the parts of a list",
+            _ => "a string, CHR$(n) or a semicolon",
         },
+    }
+}
+
+/// What to do about a fault between these bytes of a line, where that is known.
+pub fn advice_at(before: &[u8], rest: &[u8], fault: ScriptFault) -> Option<&'static str> {
+    if has_name(before, rest, fault) {
+        return Some("a printer's OPEN takes no file name");
+    }
+    match fault {
+        ScriptFault::BadByte(_) if cut_before(before).is_in_string => {
+            Some("write other bytes as CHR$(n)")
+        }
+        ScriptFault::TooLong(_) => {
+            Some("end the list with a semicolon and continue in another statement")
+        }
+        _ => None,
+    }
+}
+
+/// Whether the fault is a file name after the device or the secondary address of an OPEN.
+fn has_name(before: &[u8], rest: &[u8], fault: ScriptFault) -> bool {
+    if context_of(before) != Context::Open {
+        return false;
+    }
+    match (fault, rest) {
+        (ScriptFault::UnknownWord(_) | ScriptFault::BadSecond(_), [b'"', ..]) => true,
+        (ScriptFault::UnknownWord(_), [b',', ..]) => cut_before(before).commas > 1,
+        _ => false,
     }
 }
 

@@ -10,6 +10,9 @@ use pr_capture::{CaptureFault, Signals, Source, TraceInput, Wire};
 use pr_cli::CliFault;
 use pr_wire::{NoMemory, TraceFault};
 
+/// What a message says of a line that begins as those of a dump do.
+const LIKE_DUMP: &str = "this looks like a Value Change Dump: use --from vcd";
+
 /// The line of a fault of an input, from 1. Other faults have none.
 fn line_of(fault: CliFault) -> Option<usize>
     ensures { result ≡ fault_line fault }
@@ -70,7 +73,7 @@ pub fn push_fault(
     let signals = input.signals;
     match (fault, input.source) {
         (CliFault::Capture(CaptureFault::NoSignal(_, wire)), Source::Vcd) => {
-            push_missing(text, wire, signals, "no signal with levels of one bit")?;
+            push_missing(text, wire, signals, "no 1-bit signal")?;
             push_dump_names(text, bytes)
         }
         (CliFault::Capture(CaptureFault::NoSignal(_, wire)), Source::Csv) => {
@@ -96,7 +99,7 @@ fn push_missing(
     };
     write!(
         text,
-        "  {line} is looked for as {}, and {no_signal} has that name\n",
+        "  found {no_signal} named {} for the {line} line\n",
         Cut(name)
     )
 }
@@ -104,16 +107,15 @@ fn push_missing(
 /// Why a line cannot name the columns of a table.
 fn no_names(line: &[u8]) -> Option<&'static str> {
     if without_end(line).is_empty() {
-        Some("the table has no line that names its columns")
+        Some("expected column names such as Time,ATN,CLOCK,DATA before the rows, found none")
     } else if line.starts_with(b"$") {
-        Some("--from vcd reads Value Change Dumps, which have such lines")
+        Some(LIKE_DUMP)
     } else if !line.contains(&b',') {
-        Some("commas part the fields of a table, and the line of its names has none")
-    } else if begins_with_number(line) {
         Some(
-            "a line before the rows names the columns, as in Time,ATN,CLOCK,DATA, and this one begins with \
-             a number",
+            "expected column names separated by commas, semicolons or tabs, such as Time,ATN,CLOCK,DATA",
         )
+    } else if begins_with_number(line) {
+        Some("expected column names such as Time,ATN,CLOCK,DATA before the rows, found a number")
     } else {
         None
     }
@@ -137,22 +139,23 @@ fn push_columns(
 fn rule_of_dumps(fault: CaptureFault) -> &'static str {
     match fault {
         CaptureFault::BadWord(_) => {
-            "after its header a dump has times (#120), levels (0! or b0 !, with the signal's code) and \
-             sections up to $end"
+            "expected a time (#120), a level with the signal's code (0! or b0 !), or a section that ends \
+             with $end"
         }
         CaptureFault::NoEnd(_) => "the section that begins here has no $end",
         CaptureFault::NoDefinitions(_) => {
-            "the header of a dump ends with $enddefinitions $end; --from csv reads tables, and without --from \
-             a trace text is read"
+            "expected $enddefinitions $end after the header; for a table use --from csv, for a trace text \
+             no --from"
         }
         CaptureFault::TwoSignals(_, _) => {
-            "two signals have the name that is looked for: --names takes a signal with its scopes, as in bus.ATN"
+            "two signals have this name; add the scopes in --names, such as bus.ATN"
         }
         CaptureFault::NoTimescale(_) | CaptureFault::BadTimescale(_) => {
-            "the header of a dump has $timescale 1 us $end: 1, 10 or 100 of a unit from fs to s"
+            "expected a timescale in the header, such as $timescale 1 us $end: 1, 10 or 100 of s, ms, us, \
+             ns, ps or fs"
         }
         CaptureFault::BadTime(_) => {
-            "a time is # and a number of the dump's unit below 2^64, and lies below 2^64 microseconds"
+            "expected a time such as #120, below 2^64 in the dump's unit and below 2^64 microseconds"
         }
         _ => rule_of_levels(fault),
     }
@@ -162,12 +165,12 @@ fn rule_of_dumps(fault: CaptureFault) -> &'static str {
 fn rule_of_tables(fault: CaptureFault) -> &'static str {
     match fault {
         CaptureFault::BadTime(_) => {
-            "a row begins with its time, a number as 0.000125, -2 or 5e-05, in the unit of its column; it is below \
+            "expected a time first, such as 0.000125, -2 or 5e-05, in the unit of its column and below \
              2^64 microseconds"
         }
         CaptureFault::NoTime(_) => {
-            "the first column is one of times, as in Time [s] or microseconds, or a remark tells the rate of \
-             samples, as in ; Samplerate: 4 MHz"
+            "expected a first column of times, such as Time [s] or microseconds, or a remark with the \
+             sample rate, such as ; Samplerate: 4 MHz"
         }
         _ => rule_of_levels(fault),
     }
@@ -176,21 +179,18 @@ fn rule_of_tables(fault: CaptureFault) -> &'static str {
 /// What a recording of any kind has where it has this fault.
 fn rule_of_levels(fault: CaptureFault) -> &'static str {
     match fault {
-        CaptureFault::GoesBack(_) => "this time is before an earlier one",
-        CaptureFault::NoLevel(_, _) => "each of the three lines needs a level",
-        CaptureFault::Unknown(_) => {
-            "x says that the level is not known; a level of the three lines is 0 or 1"
-        }
+        CaptureFault::GoesBack(_) => "this time is earlier than the one before it",
+        CaptureFault::NoLevel(_, _) => "expected a level for each of ATN, CLOCK and DATA",
+        CaptureFault::Unknown(_) => "expected level 0 or 1, found x (unknown)",
         CaptureFault::Floating(_) => {
-            "z says that nobody drives the line; a level of the three lines is 0 or 1, and a pull-up makes it 1"
+            "expected level 0 or 1, found z (nothing drives the line); a pull-up makes it 1"
         }
-        CaptureFault::BadLevel(_) => "a level of the three lines is 0 or 1, L or H",
-        CaptureFault::WideText =>
-            "this text has two bytes a letter, as UTF-16 has: save it as UTF-8",
+        CaptureFault::BadLevel(_) => "expected level 0, 1, L or H",
+        CaptureFault::WideText => "save the recording as UTF-8 text",
         CaptureFault::Archive => {
-            "this is an archive, as .sr, .sal and .dsl files are: export a dump (VCD) or a table (CSV) with the tool"
+            ".sr, .sal and .dsl files are archives; export the recording as VCD or CSV"
         }
-        _ => "this can not stand here",
+        _ => "this is not allowed here",
     }
 }
 
@@ -199,16 +199,13 @@ fn rule_of_levels(fault: CaptureFault) -> &'static str {
 fn push_text_rule(text: &mut String, line: &[u8]) -> Result<(), NoMemory> {
     write!(
         text,
-        "  a line is a time in microseconds, a space, and a digit each for ATN, CLOCK and DATA (1 \
-         released, 0 pulled), as in 100 001\n"
+        "  expected a time in microseconds, a space, and a digit each for ATN, CLOCK and DATA (1 \
+         released, 0 pulled), such as 100 001\n"
     )?;
     if line.starts_with(b"$") {
-        write!(
-            text,
-            "  --from vcd reads Value Change Dumps, which have such lines\n"
-        )
+        write!(text, "  {LIKE_DUMP}\n")
     } else if line.contains(&b',') {
-        write!(text, "  --from csv reads tables, which have such lines\n")
+        write!(text, "  this looks like a table: use --from csv\n")
     } else {
         Ok(())
     }

@@ -32,13 +32,13 @@ fn push_name(text: &mut String, count: usize, name: &[u8]) -> Result<usize, NoMe
 /// them.
 fn push_names_end(text: &mut String, count: usize, no_signal: &str) -> Result<(), NoMemory> {
     if count == 0 {
-        write!(text, "  the recording names {no_signal}")?;
+        write!(text, "  the recording has {no_signal}")?;
     } else if count > NAMES {
         write!(text, ", ..")?;
     }
     write!(
         text,
-        "\n  --names tells which signals are ATN, CLOCK and DATA, as in --names ATN,CLOCK,DATA\n"
+        "\n  name the signals of ATN, CLOCK and DATA with --names, such as --names D0,D1,D2\n"
     )
 }
 
@@ -59,7 +59,7 @@ pub fn push_dump_names(text: &mut String, dump: &[u8]) -> Result<(), NoMemory> {
             }
         }
     }
-    push_names_end(text, count, "no signal with levels of one bit")
+    push_names_end(text, count, "no 1-bit signal")
 }
 
 /// The name of the signal that has this section, if it can be a line of the bus: it has levels, and
@@ -135,19 +135,15 @@ fn is_mark_of_number(byte: u8, has_digit: bool) -> bool {
     byte == b'.' || byte == b'-' || byte == b'+' || (has_digit && byte.eq_ignore_ascii_case(&b'e'))
 }
 
-/// Adds which column of a table is that of the time, and the names of the others, by the line of
-/// their names.
+/// Adds the name of a table's first column, and the names of the others, by the line of their
+/// names.
 pub fn push_table_names(text: &mut String, line: &[u8]) -> Result<(), NoMemory> {
     let (time, mut rest) = split_field(line);
     let name = unframed(time);
     if name.is_empty() {
-        write!(text, "  the first column is the time in seconds\n")?;
+        write!(text, "  the first column has no name\n")?;
     } else {
-        write!(
-            text,
-            "  the first column, called {}, is the time in seconds\n",
-            Cut(name)
-        )?;
+        write!(text, "  the first column is named {}\n", Cut(name))?;
     }
     let mut count = 0;
     while !rest.is_empty() {
@@ -155,7 +151,7 @@ pub fn push_table_names(text: &mut String, line: &[u8]) -> Result<(), NoMemory> 
         rest = more;
         count = push_name(text, count, unframed(field))?;
     }
-    push_names_end(text, count, "no signal")
+    push_names_end(text, count, "no named signal")
 }
 
 /// The first field of a line, and what follows its comma; nothing, where it has none. A comma

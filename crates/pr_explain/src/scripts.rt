@@ -7,7 +7,7 @@ ghost use Rattle.pr_basic.specs.LineAt.{IsLineAt};
 ghost use Rattle.pr_explain.specs.ScriptPlaces.{IsLabel, IsScriptPlace};
 
 use crate::Explanation;
-use crate::context::{cut_before, expected_at, takes_item};
+use crate::context::{Problem, advice_at, cut_before, problem_at, takes_item};
 use crate::texts::{Cut, Escaped, without_end};
 use crate::words::{Foreign, foreign_word, is_number, word_at};
 use pr_basic::{
@@ -43,8 +43,8 @@ struct CutLine<'a> {
 /// both from 1, and the number of the BASIC line if that has one. It has none, and no text, exactly
 /// where the script is not refused.
 ///
-/// The text shows the line with a caret under the place, the word found there, and what can be
-/// there; it is tested, not proved.
+/// The text shows the line with a caret under the place, what was expected and what was found there;
+/// it is tested, not proved.
 ///
 /// # Errors
 ///
@@ -113,8 +113,8 @@ fn cut_at(line: LineAt<'_>, place: usize) -> CutLine<'_>
     }
 }
 
-/// Adds the line around a place with a caret under it, the place, the word there, and what can be
-/// there.
+/// Adds the line around a place with a caret under it, the place, what is wrong there, and what to do
+/// about it.
 fn push_place(
     text: &mut String,
     place: ScriptPlace,
@@ -126,15 +126,27 @@ fn push_place(
     if let Some(label) = place.basic_line {
         write!(text, ", BASIC line {label}")?;
     }
-    let expected = expected_at(line.before, line.rest, fault);
-    match word_in(line) {
-        [] => write!(text, ": the end of the line: {expected}\n")?,
-        word => write!(text, ": \"{}\": {expected}\n", Cut(word))?,
+    match problem_at(line.before, line.rest, fault) {
+        Problem::Expected(wanted) => push_expected(text, wanted, word_in(line))?,
+        Problem::Limit(limit) => write!(text, ": {limit}\n")?,
+    }
+    if let Some(advice) = advice_at(line.before, line.rest, fault) {
+        write!(text, "  {advice}\n")?;
     }
     if asks_for_a_word(fault) {
         push_hints(text, line, fault)?;
     }
     Ok(())
+}
+
+/// Adds what was expected at a place, and the word that is there.
+fn push_expected(text: &mut String, wanted: &str, found: &[u8]) -> Result<(), NoMemory> {
+    write!(text, ": expected {wanted}, found ")?;
+    match found {
+        [] => write!(text, "the end of the line\n"),
+        [b'"', ..] => write!(text, "the string {}\n", Cut(found)),
+        _ => write!(text, "\"{}\"\n", Cut(found)),
+    }
 }
 
 /// The word at a place; inside a string, the byte.
@@ -147,27 +159,21 @@ fn word_in(line: CutLine<'_>) -> &[u8] {
     &line.rest[..len]
 }
 
-/// Adds what else there is to say of a word: that spaces are in it, that it is a number to print,
-/// that it is BASIC that this profile does not have.
+/// Adds how to write a word: without spaces, as a string if it is a number to print, or in another
+/// way if this profile does not have it.
 fn push_hints(text: &mut String, line: CutLine<'_>, fault: ScriptFault) -> Result<(), NoMemory> {
     if let Some(word) = word_at(line.rest).unspaced() {
-        write!(
-            text,
-            "  this is {word} with a space in it; write the word without a space\n"
-        )?;
+        write!(text, "  write {word} without spaces\n")?;
     }
     if is_number(line.rest) && takes_item(line.before) {
         write!(
             text,
-            "  this is a number; in a list write a number as a string, \"5\", or as a code, CHR$(5)\n"
+            "  write a number as a string, such as \"5\", or as a CHR$ code, such as CHR$(5)\n"
         )?;
     }
     let wants_number = !matches!(fault, ScriptFault::UnknownWord(_));
     match foreign_word(line.before, line.rest, wants_number) {
-        Some(Foreign::Word(name)) => write!(
-            text,
-            "  {name} is not among OPEN, CMD, PRINT, PRINT#, CLOSE, REM and CHR$\n"
-        ),
+        Some(Foreign::Word(word)) => write!(text, "  {word} is not supported\n"),
         Some(Foreign::Sentence(sentence)) => write!(text, "  {sentence}\n"),
         None => Ok(()),
     }

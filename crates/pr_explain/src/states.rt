@@ -6,13 +6,13 @@ use pr_wire::{BusState, ByteRole, NoMemory};
 use std::fmt;
 
 /// The greatest time, in microseconds, and the end of a line about it.
-pub const LAST_TIME: &str = "18446744073709551615, the last moment that an edge can have";
+pub const LAST_TIME: &str = "18446744073709551615, the greatest possible time";
 
 /// What is sent.
 fn name_of(role: ByteRole) -> &'static str {
     match role {
-        ByteRole::First => "a first command",
-        ByteRole::Second => "a second command",
+        ByteRole::First => "the first command",
+        ByteRole::Second => "the second command",
         ByteRole::Data => "a data byte",
     }
 }
@@ -24,19 +24,19 @@ struct InWords<'a>(&'a BusState);
 impl fmt::Display for InWords<'_> {
     fn fmt<W: fmt::Write>(&self, f: &mut fmt::Formatter<W>) -> fmt::Result {
         match self.0 {
-            BusState::Idle(_) => write!(f, "idle, all lines are released"),
-            BusState::Call(_, false) => write!(f, "attention, no printer answers yet"),
-            BusState::Call(_, true) => write!(f, "attention, a printer answers"),
+            BusState::Idle(_) => write!(f, "idle, all lines released"),
+            BusState::Call(_, false) => write!(f, "attention, no printer has answered yet"),
+            BusState::Call(_, true) => write!(f, "attention, a printer has answered"),
             BusState::Ready(_, role) => {
-                write!(f, "the computer is ready to send {}", name_of(*role))
+                write!(f, "the talker is ready to send {}", name_of(*role))
             }
-            BusState::Free(_, role) => write!(f, "the printers are ready for {}", name_of(*role)),
-            BusState::Pulse(_, _) => write!(f, "end-or-identify is answered"),
-            BusState::After(_) => write!(f, "end-or-identify has been answered"),
+            BusState::Free(_, role) => write!(f, "the listeners are ready for {}", name_of(*role)),
+            BusState::Pulse(_, _) => write!(f, "a listener is acknowledging end-or-identify"),
+            BusState::After(_) => write!(f, "a listener has acknowledged end-or-identify"),
             BusState::Bit { sending, seen, .. } => {
                 write!(
                     f,
-                    "bit {} of {}, CLOCK is pulled",
+                    "bit {} of {}, CLOCK pulled",
                     seen.len(),
                     name_of(*sending)
                 )
@@ -44,19 +44,25 @@ impl fmt::Display for InWords<'_> {
             BusState::High { sending, seen, .. } => {
                 write!(
                     f,
-                    "bit {} of {}, CLOCK is released",
+                    "bit {} of {}, CLOCK released",
                     seen.len(),
                     name_of(*sending)
                 )
             }
-            BusState::Last(_, role, _, _) => write!(f, "all bits have come of {}", name_of(*role)),
+            BusState::Last(_, role, _, _) => {
+                write!(
+                    f,
+                    "all bits of {} sent, not acknowledged yet",
+                    name_of(*role)
+                )
+            }
             BusState::Ack(_, role, _) => {
-                write!(f, "a printer has acknowledged {}", name_of(*role))
+                write!(f, "a listener has acknowledged {}", name_of(*role))
             }
             BusState::Freed { unlistened, .. } => {
                 write!(
                     f,
-                    "attention has ended{}",
+                    "the attention has ended{}",
                     if *unlistened { " with UNLISTEN" } else { "" }
                 )
             }
@@ -86,9 +92,9 @@ pub fn push_state(text: &mut String, state: &BusState, start: u64) -> Result<(),
     let time = since(state);
     write!(
         text,
-        "  the place there: {}, since {}\n",
-        InWords(state),
-        Moment { time, start }
+        "  bus state since {}: {}\n",
+        Moment { time, start },
+        InWords(state)
     )
 }
 
@@ -97,8 +103,9 @@ pub fn push_rows(text: &mut String, rows: &[Option<Row>], start: u64) -> Result<
     let mut may_follow = false;
     for row in rows {
         if let Some(row) = row {
-            may_follow = true;
+            write!(text, "  {} ", if may_follow { "or" } else { "expected" })?;
             push_row(text, *row, start)?;
+            may_follow = true;
         }
     }
     if may_follow {
@@ -106,11 +113,11 @@ pub fn push_rows(text: &mut String, rows: &[Option<Row>], start: u64) -> Result<
     }
     write!(
         text,
-        "  no edge could follow: it would have to come later than {LAST_TIME}\n"
+        "  no edge can follow: its time would be greater than {LAST_TIME}\n"
     )
 }
 
-/// Adds a line for an edge that may follow.
+/// Adds an edge that may follow, and ends the line.
 fn push_row(text: &mut String, row: Row, start: u64) -> Result<(), NoMemory> {
     let levels = Digits(row.levels);
     let earliest = Moment {
@@ -118,16 +125,11 @@ fn push_row(text: &mut String, row: Row, start: u64) -> Result<(), NoMemory> {
         start,
     };
     match row.latest {
-        None => write!(text, "  could follow: {levels} from {earliest} on\n"),
-        Some(time) if time == row.earliest => {
-            write!(text, "  could follow: {levels} at {earliest}\n")
-        }
+        None => write!(text, "{levels} at {earliest} or later\n"),
+        Some(time) if time == row.earliest => write!(text, "{levels} at {earliest}\n"),
         Some(time) => {
             let latest = Moment { time, start };
-            write!(
-                text,
-                "  could follow: {levels} from {earliest} to {latest}\n"
-            )
+            write!(text, "{levels} from {earliest} to {latest}\n")
         }
     }
 }

@@ -15,9 +15,12 @@ use pr_serial::Present;
 use pr_wire::NoMemory;
 use std::alloc::{AllocError, Global};
 
-/// That the byte that was held back found no listener.
+/// That no printer was listening to the byte that the computer held back.
 const UNHEARD: &str =
-    "no printer was listening to the byte printed last before this statement, which goes out only here";
+    "no printer was listening to the last byte printed before this statement, which is sent only now";
+
+/// How to connect printers.
+const CONNECTED: &str = "--present sets which of printers 4 and 5 are connected";
 
 /// Where a BASIC error stopped a run.
 #[derive(Clone, Copy, Debug, PartialEq, Eq)]
@@ -161,14 +164,14 @@ fn push_stop(
 /// The error's name, as BASIC writes it, and what it means by itself.
 fn words_of(stop: Stop) -> (&'static str, &'static str) {
     match stop {
-        Stop::TooManyFiles => ("TOO MANY FILES", "ten files are open already"),
-        Stop::FileOpen => ("FILE OPEN", "the file is open already"),
-        Stop::FileNotOpen => ("FILE NOT OPEN", "the file is not open"),
-        Stop::DeviceNotPresent => (
-            "DEVICE NOT PRESENT",
-            "no printer has answered; --present says which printers there are",
+        Stop::TooManyFiles => (
+            "TOO MANY FILES",
+            "ten files are already open; close one first",
         ),
-        Stop::NotInputFile => ("NOT INPUT FILE", "file 0 cannot be opened"),
+        Stop::FileOpen => ("FILE OPEN", "the file is already open; close it first"),
+        Stop::FileNotOpen => ("FILE NOT OPEN", "the file is not open; open it first"),
+        Stop::DeviceNotPresent => ("DEVICE NOT PRESENT", "no printer answers"),
+        Stop::NotInputFile => ("NOT INPUT FILE", "file 0 cannot be opened; use 1 to 255"),
     }
 }
 
@@ -182,23 +185,25 @@ fn push_reason(
     match (place.cause, mode, place.device) {
         (StopCause::NoPrinter, StatusMode::Kept, _) => write!(
             text,
-            "no printer has answered, here or at a statement before (--status kept); --present says which \
-             printers there are"
+            "no printer answered, here or at an earlier statement (--status kept); {CONNECTED}"
         ),
         (StopCause::NoPrinter, StatusMode::Each, Some(device)) => write!(
             text,
-            "device {device} does not answer; --present says which printers there are"
+            "device {device} does not answer; {CONNECTED}"
         ),
         (StopCause::Unheard { .. }, StatusMode::Kept, _) => write!(
             text,
-            "no printer was listening to a byte that went out here or at a statement before (--status kept)"
+            "no printer was listening to a byte sent here or at an earlier statement (--status kept)"
         ),
         (StopCause::Unheard { is_absent: true }, StatusMode::Each, Some(device)) => write!(
             text,
-            "{UNHEARD}; nor is device {device} there: --present says which printers there are"
+            "{UNHEARD}; device {device} is not connected either: {CONNECTED}"
         ),
         (StopCause::Unheard { .. }, StatusMode::Each, _) => write!(text, "{UNHEARD}"),
-        (StopCause::Files, _, _) | (StopCause::NoPrinter, StatusMode::Each, None) => {
+        (StopCause::NoPrinter, StatusMode::Each, None) => {
+            write!(text, "no printer answers; {CONNECTED}")
+        }
+        (StopCause::Files, _, _) => {
             let (_, reason) = words_of(stop);
             write!(text, "{reason}")
         }

@@ -3,9 +3,15 @@
 use crate::edges::{EdgePlace, Followed};
 use crate::rows::Miss;
 use crate::states::{LAST_TIME, push_rows, push_state};
-use crate::texts::{Shown, start_of};
+use crate::texts::{Digits, Shown, start_of};
 use pr_capture::{Source, TraceInput};
 use pr_wire::{Edge, Levels, NoMemory, WaveFault};
+
+/// The first edge of a trace.
+const FIRST: &str = "0 111, all lines released at time 0";
+
+/// The line before times with the recording's own in brackets.
+pub const BRACKETS: &str = "[in brackets: the recording's own time, in microseconds]";
 
 /// What a trace and its edges are told from.
 #[derive(Clone, Copy)]
@@ -29,7 +35,7 @@ pub fn push_stop(
         return push_no_edge(text, trace.input.source);
     };
     if start_of(trace.input) > 0 {
-        write!(text, "  [in brackets: the recording's own microseconds]\n")?;
+        write!(text, "  {BRACKETS}\n")?;
     }
     match place.fault {
         WaveFault::Start(index) => {
@@ -51,9 +57,12 @@ pub fn push_stop(
 /// Adds that there is no edge.
 fn push_no_edge(text: &mut String, source: Source) -> Result<(), NoMemory> {
     match source {
-        Source::Text => write!(text, "  there is no edge: a trace begins with 0 111\n"),
+        Source::Text => write!(text, "  expected {FIRST}, found no edge\n"),
         Source::Vcd | Source::Csv => {
-            write!(text, "  the recording has no sample of the three lines\n")
+            write!(
+                text,
+                "  the recording has no sample of ATN, CLOCK and DATA\n"
+            )
         }
     }
 }
@@ -70,10 +79,7 @@ pub fn push_index(text: &mut String, index: usize, source: Source) -> Result<(),
 fn push_bad_start(text: &mut String, trace: TraceSaid<'_>, edge: Edge) -> Result<(), NoMemory> {
     let start = start_of(trace.input);
     write!(text, "{}\n", Shown { edge, start })?;
-    write!(
-        text,
-        "  a trace begins with 0 111, all lines released at time 0\n"
-    )?;
+    write!(text, "  expected {FIRST}\n")?;
     if trace.input.source == Source::Text {
         return Ok(());
     }
@@ -84,12 +90,12 @@ fn push_bad_start(text: &mut String, trace: TraceSaid<'_>, edge: Edge) -> Result
     if trace.input.signals.is_inverted {
         write!(
             text,
-            "  if nothing is sent there, the levels are not inverted: --invert is not wanted\n"
+            "  if the bus is idle there, the levels are not inverted: remove --invert\n"
         )
     } else {
         write!(
             text,
-            "  if nothing is sent there, the probes are inverted: --invert reads 0 as released\n"
+            "  if the bus is idle there, the probes are inverted: add --invert to read 0 as released\n"
         )
     }
 }
@@ -99,7 +105,7 @@ fn push_start(text: &mut String, trace: TraceSaid<'_>) -> Result<(), NoMemory> {
     let start = start_of(trace.input);
     write!(
         text,
-        "  --from-time US says at which microsecond of the recording the trace starts; "
+        "  --from-time US starts the trace at microsecond US of the recording; "
     )?;
     if start > 0 {
         write!(text, "from {start} on, ")?;
@@ -118,7 +124,7 @@ fn push_start(text: &mut String, trace: TraceSaid<'_>) -> Result<(), NoMemory> {
     }
     if let Some(edge) = first_idle(trace.edges) {
         let time = start.saturating_add(edge.time);
-        write!(text, ", and the first attention follows after {time}")?;
+        write!(text, ", and the first attention comes after {time}")?;
     }
     write!(text, "\n")
 }
@@ -177,14 +183,21 @@ fn push_refused(
         (WaveFault::TooEarly(_) | WaveFault::TooLate(_), None) => {
             write!(
                 text,
-                "  an edge to its levels would have to come later than {LAST_TIME}\n"
+                "  levels {} are allowed only after {LAST_TIME}\n",
+                Digits(edge.levels)
             )
         }
         (WaveFault::Order(_), _) if edge.time <= last.time => {
             write!(text, "  it is not later than the edge before it\n")
         }
-        (WaveFault::Order(_), _) => write!(text, "  it has the levels of the edge before it\n"),
-        _ => write!(text, "  no edge to its levels may follow\n"),
+        (WaveFault::Order(_), _) => {
+            write!(text, "  it has the same levels as the edge before it\n")
+        }
+        _ => write!(
+            text,
+            "  levels {} are not allowed here\n",
+            Digits(edge.levels)
+        ),
     }
 }
 
@@ -217,12 +230,12 @@ fn push_end(
     {
         write!(
             text,
-            "  all lines are released here, but a data byte is under way\n"
+            "  all lines are released, but a data byte is incomplete\n"
         )?;
     }
     write!(
         text,
-        "  a trace may end at rest (all lines released, and no byte under way), after a data byte that \
-         a printer has acknowledged, or after an attention that did not end with UNLISTEN\n"
+        "  a trace can end when the bus is idle, after an acknowledged data byte, or after an attention \
+         that does not end with UNLISTEN\n"
     )
 }

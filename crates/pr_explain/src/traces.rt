@@ -12,7 +12,7 @@ use crate::edges::{EdgePlace, Followed, follow, place_in};
 use crate::faults::{own_line, push_fault};
 use crate::input::read_input;
 use crate::texts::{Shown, start_of};
-use crate::trace_text::{TraceSaid, push_index, push_stop};
+use crate::trace_text::{BRACKETS, TraceSaid, push_index, push_stop};
 use pr_capture::TraceInput;
 use pr_cli::CliFault;
 use pr_wire::{Edge, NoMemory};
@@ -45,8 +45,8 @@ pub enum ReadingPlace {
 /// only where one is not allowed. It has neither, and no text, exactly where the trace is lawful.
 /// The trace is read as `check` reads it.
 ///
-/// The text shows the line, and what it should have; the edge, those that could have followed, and
-/// by how much they were missed. Its times count from the start that the input has; the recording's
+/// The text shows the line and what was expected there; the edge, the edges that were expected, and
+/// by how much this one misses them. Its times count from the start that the input has; the recording's
 /// own microseconds are in brackets where that is not 0. It is tested, not proved.
 ///
 /// # Errors
@@ -193,7 +193,7 @@ fn push_back(
 ) -> Result<(), NoMemory> {
     let start = start_of(input);
     if start > 0 {
-        write!(text, "  [in brackets: the recording's own microseconds]\n")?;
+        write!(text, "  {BRACKETS}\n")?;
     }
     push_index(text, index, input.source)?;
     if let Some(edge) = edges.get(index) {

@@ -45,12 +45,10 @@ pub struct Word {
 }
 
 impl Word {
-    /// The word as BASIC writes it, where spaces are in it.
+    /// The word of this profile, as BASIC writes it, where spaces are in it.
     pub fn unspaced(self) -> Option<&'static str> {
         match self.kind {
-            WordKind::Keyword(word) | WordKind::Foreign(word) if self.len > word.len() => Some(
-                word,
-            ),
+            WordKind::Keyword(word) if self.len > word.len() => Some(word),
             _ => None,
         }
     }
@@ -167,10 +165,13 @@ fn letter_count(rest: &[u8]) -> usize
     rest.len()
 }
 
+/// What a message says of a variable.
+const VARIABLE: &str = "variables are not supported; write the value";
+
 /// What a text has that is common in BASIC or in files, and that this profile does not have.
 #[derive(Clone, Copy)]
 pub enum Foreign {
-    /// A word that is not among those of this profile, by what it is.
+    /// A word of BASIC, as BASIC writes it.
     Word(&'static str),
     /// Something else, with a sentence that says what it is or what to write.
     Sentence(&'static str),
@@ -180,20 +181,26 @@ pub enum Foreign {
 /// not have it. Where a number is wanted, letters are a variable. `rest` is without the line's end:
 /// byte 10, and byte 13 directly before it or before the text's end.
 pub fn foreign_word(before: &[u8], rest: &[u8], wants_number: bool) -> Option<Foreign> {
-    let word = match rest {
-        [b'?', ..] => "? for PRINT",
-        [b'+' | b'-' | b'*' | b'/' | b'^' | b'=' | b'<' | b'>', ..] => "an operator",
-        [b'$', digits @ ..] if is_hexadecimal(digits) => "a hexadecimal number",
+    let sentence = match rest {
+        [b'?', ..] => "the abbreviation ? is not supported; write PRINT",
+        [b'+' | b'-' | b'*' | b'/' | b'^' | b'=' | b'<' | b'>', ..] => {
+            "operators are not supported; write the result"
+        }
+        [b'$', digits @ ..] if is_hexadecimal(digits) => {
+            "hexadecimal numbers are not supported; write decimal numbers"
+        }
         _ => return foreign_sentence(before, rest).or(foreign_name(rest, wants_number)),
     };
-    Some(Foreign::Word(word))
+    Some(Foreign::Sentence(sentence))
 }
 
 /// What to say of bytes that are no word.
 fn foreign_sentence(before: &[u8], rest: &[u8]) -> Option<Foreign> {
     let sentence = match rest {
         [b'#', ..] if parts_print(before) => "write PRINT# without a space before #",
-        [b'\r', ..] => "this is a byte 13 without a byte 10 after it; a line ends with byte 10",
+        [b'\r', ..] => {
+            "a carriage return alone does not end a line; save the script with LF or CR LF line ends"
+        }
         [0xef, 0xbb, 0xbf, ..] => "this is a byte order mark; save the script without it",
         [1, 8, ..] if before.is_empty() => "this is a tokenised program",
         _ => return None,
@@ -203,14 +210,13 @@ fn foreign_sentence(before: &[u8], rest: &[u8]) -> Option<Foreign> {
 
 /// A word in front that this profile does not have, or a variable.
 fn foreign_name(rest: &[u8], wants_number: bool) -> Option<Foreign> {
-    let name = match word_at(rest).kind {
-        WordKind::Foreign(_) => "this word of BASIC",
-        WordKind::Variable => "a variable",
-        WordKind::Letters if wants_number => "a variable",
-        WordKind::Letters => "a variable or another word",
-        WordKind::Keyword(_) | WordKind::Digits | WordKind::Other => return None,
-    };
-    Some(Foreign::Word(name))
+    match word_at(rest).kind {
+        WordKind::Foreign(word) => Some(Foreign::Word(word)),
+        WordKind::Variable => Some(Foreign::Sentence(VARIABLE)),
+        WordKind::Letters if wants_number => Some(Foreign::Sentence(VARIABLE)),
+        WordKind::Letters => Some(Foreign::Sentence("variables and other words are not supported")),
+        WordKind::Keyword(_) | WordKind::Digits | WordKind::Other => None,
+    }
 }
 
 /// Whether there are letters and digits in front that are all hexadecimal digits.

@@ -1,8 +1,8 @@
 -- Which faults the words ask for: never one of clap's.
 use Rattle.std.proofs.Common.{◌≡◌, ℕ, Bool, true, false, List, [], Option, Some, None, Result, Ok, Err, IfErr, OnOk, inl, inr, ◌⊎◌, refl, sym, subst, codes}
-use Rattle.std.specs.Prelude.{◌≢◌, ⊤, is_none, ok_or, unwrap_or, if◌then◌else◌}
+use Rattle.std.specs.Prelude.{◌≢◌, ◌||◌, ⊤, is_none, ok_or, unwrap_or, if◌then◌else◌}
 use Rattle.std.specs.Str.{bytes_eq}
-use Rattle.clap.specs.Words.{HasKind, IsAmong, Row, Text, fault_of, kind_of, subcommand_of, takes}
+use Rattle.clap.specs.Words.{HasKind, IsAmong, Row, Text, fault_of, first_of, kind_of, subcommand_of, takes}
 use Rattle.clap.specs.declared.error.Error.{Error}
 use Rattle.clap.specs.declared.error.kind.ErrorKind.TheVariants.{OutOfMemory}
 use Rattle.pr_serial.specs.declared.Present.{Present}
@@ -17,7 +17,7 @@ use Rattle.pr_render.specs.declared.format.Part.{Part}
 use Rattle.pr_options.specs.CommandLine.{print1525}
 use Rattle.pr_options.specs.DelayLists.{delays_of}
 use Rattle.pr_options.specs.Given.{file_in, is_given, value_in}
-use Rattle.pr_options.specs.Jobs.{◌>>=◌, Bus, Check, Decode, InputView, IsRefused, JobView, Pages, Raw, RunView, TaskView, asked, fits, shown, unless_found, wanted, wanted_bus, wanted_check, wanted_decode, wanted_format, wanted_input, wanted_pages, wanted_part, wanted_raw, wanted_run, wanted_task}
+use Rattle.pr_options.specs.Jobs.{◌>>=◌, Bus, Check, Decode, InputView, IsRefused, JobView, Pages, Raw, RunView, TaskView, asked, drawn, fits, is_picture, shown, unless_found, wanted, wanted_bus, wanted_check, wanted_decode, wanted_format, wanted_input, wanted_pages, wanted_part, wanted_raw, wanted_run, wanted_task}
 use Rattle.pr_options.specs.OptionNames.{ValueOption}
 use Rattle.pr_options.specs.OptionNames as option
 use Rattle.pr_options.specs.Options.{device_of, form_of, format_of, mode_of, present_of, reading_source_of, report_of, set_of, sheet_of, source_of, start_of, trace_format_of}
@@ -54,7 +54,8 @@ abbrev result_of : {A : Type 0} → A → Result A JobFault
 result_of x = Ok x
 
 abbrev task_with_files : List Row → JobView → TaskView
-task_with_files rows job = record { job = job; input = file_in option.input rows; output = file_in option.output rows }
+task_with_files rows job =
+    record { job = job; input = file_in option.input rows; output = file_in option.output rows; characters = first_of option.characters rows }
 
 -- none of how a script is run
 run_no_line : (rows : List Row) → NoLine (wanted_run rows)
@@ -92,13 +93,21 @@ part_no_line None s = λ h. h
 part_no_line (Some d) None = λ h. h
 part_no_line (Some d) (Some s) = tt
 
-shown_no_line : (p : Result Part JobFault) (show : Part → Option Format) → NoLine p → NoLine (p >>= λ part. ok_or (show part) fault.NoPart)
-shown_no_line (Err f) show h = h
-shown_no_line (Ok p) show h = by (show p)
+characters_no_line : (rows : List Row) (format : Format) → NoLine (drawn format rows)
+characters_no_line rows format = by (is_picture format || is_none (first_of option.characters rows))
   where
-    by : (o : Option Format) → NoLine (ok_or o fault.NoPart)
+    by : (b : Bool) → NoLine (if b then result_of format else Err fault.NoPicture)
+    by true = tt
+    by false = λ h. h
+
+shown_no_line : (p : Result Part JobFault) (show : Part → Option Format) (draw : Format → Result Format JobFault) → NoLine p → ((f : Format) → NoLine (draw f))
+    → NoLine (p >>= λ part. ok_or (show part) fault.NoPart >>= λ f. draw f)
+shown_no_line (Err f) show draw h k = h
+shown_no_line (Ok p) show draw h k = by (show p)
+  where
+    by : (o : Option Format) → NoLine (ok_or o fault.NoPart >>= λ f. draw f)
     by None = λ h. h
-    by (Some x) = tt
+    by (Some x) = k x
 
 format_no_line : (o : ValueOption) (bad : JobFault) (rows : List Row) → ¬ IsLine bad → NoLine (wanted_format o bad rows)
 format_no_line o bad rows h = by (format_of (value_in o rows))
@@ -106,7 +115,8 @@ format_no_line o bad rows h = by (format_of (value_in o rows))
     by : (f : Option Format) → NoLine (ok_or f bad >>= λ format. shown format rows)
     by None = h
     by (Some format) =
-        shown_no_line (wanted_part rows) (λ part. showing format part) (part_no_line (device_of (value_in option.device rows)) (sheet_of (value_in option.sheet rows)))
+        shown_no_line (wanted_part rows) (λ part. showing format part) (λ f. drawn f rows) (part_no_line (device_of (value_in option.device rows)) (sheet_of (value_in option.sheet rows)))
+        (characters_no_line rows)
 
 -- none of a job with such a format
 drawn_no_line : {A : Type 0} (r : Result A JobFault) (job : A → JobView) → NoLine r → NoLine (r >>= λ x. job_ok (job x))
@@ -238,6 +248,8 @@ bad_is words (Err f) h e = by f h
     by fault.BadSheet (inr h) = (e, h)
     by fault.NoPart (inl h) = absurd (cc h)
     by fault.NoPart (inr h) = (e, h)
+    by fault.NoPicture (inl h) = absurd (cc h)
+    by fault.NoPicture (inr h) = (e, h)
 
 not_true : (b : Bool) → ¬ (b ≡ true) → b ≡ false
 not_true true h = absurd (h refl)
@@ -268,3 +280,4 @@ refused_is words error fault.BadReadingAs h passes kinds = absurd h
 refused_is words error fault.BadDevice h passes kinds = absurd h
 refused_is words error fault.BadSheet h passes kinds = absurd h
 refused_is words error fault.NoPart h passes kinds = absurd h
+refused_is words error fault.NoPicture h passes kinds = absurd h

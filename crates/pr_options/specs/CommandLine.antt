@@ -23,6 +23,10 @@ input_rule name = record (new_rule name) { value_names = 1 }
 abbrev pub output_rule : Text → Rule
 output_rule name = record (new_rule name) { long = Some name; short = Some 111; value_names = 1 }
 
+-- an option that names a file
+abbrev pub file_rule : Text → Rule
+file_rule name = record (new_rule name) { long = Some name; value_names = 1 }
+
 -- a subcommand with its options; each has a file that is read and one that is written
 abbrev pub subcommand : Text → List Rule → Shape
 subcommand name rules = record (new_shape name) { rules = input_rule option.input ∷ output_rule option.output ∷ rules }
@@ -45,10 +49,12 @@ abbrev pub raw_shape : Shape
 raw_shape =
     subcommand (codes "raw") (value_rule option.set ∷ value_rule option.page_as ∷ flag_rule option.explain ∷ [])
 
--- the same with what of the pages a picture shows
+-- the same with what of the pages a picture shows, and the file of its characters
 abbrev pub with_part : Shape → Shape
 with_part s =
-    record s { rules = s.rules ++ value_rule option.device ∷ value_rule option.sheet ∷ [] }
+    record s {
+      rules = s.rules ++ value_rule option.device ∷ value_rule option.sheet ∷ file_rule option.characters ∷ [];
+    }
 
 -- the program: it has a version, and needs one of its subcommands
 abbrev pub print1525 : App

@@ -1,7 +1,7 @@
 -- Trusted: the job that a command line asks for, with clap's reading of the words.
 use Rattle.std.specs.Prelude.{◌≡◌, ◌≢◌, ◌||◌, ⊤, ℕ, Bool, true, false, not, List, Option, Some, None, Result, Ok, Err, [], codes, is_none, ok_or, option_map, unwrap_or, if◌then◌else◌}
 use Rattle.std.specs.Str.{bytes_eq}
-use Rattle.clap.specs.Words.{IsAmong, Row, Text, fault_of, kind_of, subcommand_of, takes}
+use Rattle.clap.specs.Words.{IsAmong, Row, Text, fault_of, first_of, kind_of, subcommand_of, takes}
 use Rattle.clap.specs.declared.error.kind.ErrorKind.TheVariants.{OutOfMemory}
 use Rattle.pr_serial.specs.declared.Present.{Present}
 use Rattle.pr_serial.specs.Bus.{DelayNumbers}
@@ -11,6 +11,7 @@ use Rattle.pr_basic.specs.declared.session.StatusMode.{StatusMode}
 use Rattle.pr_listing.specs.declared.form.ListingForm.{ListingForm}
 use Rattle.pr_render.specs.Showing.{showing}
 use Rattle.pr_render.specs.declared.format.Format.{Format}
+use Rattle.pr_render.specs.declared.format.Format.TheVariants as format
 use Rattle.pr_render.specs.declared.format.Part.{Part}
 use Rattle.pr_capture.specs.declared.format.TraceFormat.{TraceFormat}
 use Rattle.pr_capture.specs.declared.format.Source.{Source}
@@ -51,11 +52,12 @@ pub data JobView : Type 0 where
   Decode : Bool → InputView → Format → JobView
   Raw : Bool → Format → JobView
 
--- a job, the file that it reads and the file that it writes, where words name them
+-- a job, the file that it reads, the file that it writes and the one of the characters that it draws, where words name them
 pub record TaskView : Type 0 where
   pub job : JobView
   pub input : Option Text
   pub output : Option Text
+  pub characters : Option Text
 
 -- the plain values of an input
 abbrev pub input_view : TraceInput → InputView
@@ -87,6 +89,7 @@ task_view task = record {
   job = job_view task.job;
   input = option_map (λ name. name.now) task.input;
   output = option_map (λ name. name.now) task.output;
+  characters = option_map (λ name. name.now) task.characters;
 }
 
 -- the next step with a value, or the first fault
@@ -139,9 +142,23 @@ wanted_part rows =
     read option.sheet sheet_of fault.BadSheet rows >>= λ sheet.
     Ok (record { device = device; sheet = sheet })
 
--- a format that shows that part
+-- pages in this format are drawn
+abbrev pub is_picture : Format → Bool
+is_picture format.List = false
+is_picture format.Lines = false
+is_picture (format.Svg part) = true
+is_picture (format.Png part) = true
+is_picture (format.Pdf device) = true
+
+-- a format, where it draws characters or no file of them is named
+abbrev pub drawn : Format → List Row → Result Format JobFault
+drawn format rows =
+    if is_picture format || is_none (first_of option.characters rows) then Ok format else Err fault.NoPicture
+
+-- a format that shows that part, with the characters of a file that is named
 abbrev pub shown : Format → List Row → Result Format JobFault
-shown format rows = wanted_part rows >>= λ part. ok_or (showing format part) fault.NoPart
+shown format rows =
+    wanted_part rows >>= λ part. ok_or (showing format part) fault.NoPart >>= λ shown. drawn shown rows
 
 -- the format of pages
 abbrev pub wanted_format : ValueOption → JobFault → List Row → Result Format JobFault
@@ -196,7 +213,7 @@ wanted name rows =
     else (if bytes_eq name (codes "raw") then wanted_raw lower rows
     else wanted_pages run rows)))
 
--- the same with the files that it reads and writes
+-- the same with the files that it reads and writes, and that of its characters
 abbrev pub wanted_task : Text → List Row → Result TaskView JobFault
 wanted_task name rows =
     wanted name rows >>= λ job.
@@ -204,6 +221,7 @@ wanted_task name rows =
       job = job;
       input = file_in option.input rows;
       output = file_in option.output rows;
+      characters = first_of option.characters rows;
     })
 
 -- the job that words ask for and its files, with the subcommand that they name

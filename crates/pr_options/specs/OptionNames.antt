@@ -18,6 +18,10 @@ input = codes "file"
 abbrev pub output : Text
 output = codes "output"
 
+-- the file of the shapes of characters
+abbrev pub characters : Text
+characters = codes "characters"
+
 -- an option whose value no file's name gives
 abbrev pub plain : Text → Text → ValueOption
 plain name default = record { name = name; default = default; file = []; endings = [] }

@@ -2,16 +2,16 @@
 
 ghost use Rattle.std.specs.Prelude.{◌≡◌, [], IfOk, codes, false};
 ghost use Rattle.clap.specs.Words.{app_of, new_app, rule_of, with_rule};
-ghost use Rattle.pr_options.specs.CommandLine.{flag_rule, input_rule, output_rule, print1525, raw_shape, run_shape, subcommand, trace_shape, value_rule, with_part};
+ghost use Rattle.pr_options.specs.CommandLine.{file_rule, flag_rule, input_rule, output_rule, print1525, raw_shape, run_shape, subcommand, trace_shape, value_rule, with_part};
 ghost use Rattle.pr_options.specs.OptionNames as option;
 ghost use Rattle.pr_options.specs.Subcommands.{IsLocal, alone, option_view};
 
 use crate::help;
 use crate::help::HelpText;
 use crate::options::{
-    DELAYS, DEVICE, EXPLAIN, FROM, FROM_TIME, FileArgument, Flag, INPUT, INVERT, LISTING_FROM,
-    NAMES, OUTPUT, OUTPUT_LETTER, PAGE_AS, PRESENT, READING_AS, READING_FROM, REPORT_AS, SET,
-    SHEET, STATUS, TRACE_AS, ValueOption,
+    CHARACTERS, DELAYS, DEVICE, EXPLAIN, FROM, FROM_TIME, FileArgument, Flag, INPUT, INVERT,
+    LISTING_FROM, NAMES, OUTPUT, OUTPUT_LETTER, PAGE_AS, PRESENT, READING_AS, READING_FROM,
+    REPORT_AS, SET, SHEET, STATUS, TRACE_AS, ValueOption,
 };
 use clap::{Arg, ArgAction, Command};
 use std::alloc::{AllocError, Global};
@@ -51,6 +51,17 @@ fn output_option<'a>(alloc: Global, file: FileArgument) -> Arg<'a>
     Arg::new(alloc, file.name)
         .long(file.name)
         .short(OUTPUT_LETTER)
+        .value_name(FILE)
+        .help(file.help)
+}
+
+/// An option that names a file.
+fn file_option<'a>(alloc: Global, file: FileArgument) -> Arg<'a>
+    ensures rule { rule_of result ≡ file_rule file.name.now }
+    ensures local { result.global ≡ false }
+{
+    Arg::new(alloc, file.name)
+        .long(file.name)
         .value_name(FILE)
         .help(file.help)
 }
@@ -129,14 +140,16 @@ fn trace_command<'a>(
     Ok(whole)
 }
 
-/// A subcommand with what of the pages a picture shows.
+/// A subcommand with what of the pages a picture shows, and the file of its characters.
 fn with_part<'a>(alloc: Global, command: Command<'a>) -> Result<Command<'a>, AllocError>
     requires { IsLocal command }
-    ensures app { IfOk result (λ c. app_of c ≡ with_rule (with_rule (app_of command.entry) (value_rule option.device)) (value_rule option.sheet)) }
+    ensures app { IfOk result (λ c. app_of c ≡ with_rule
+        (with_rule (with_rule (app_of command.entry) (value_rule option.device)) (value_rule option.sheet)) (file_rule option.characters)) }
     ensures local { IfOk result IsLocal }
 {
     let one = command.arg(value_option(alloc, DEVICE))?;
-    let whole = one.arg(value_option(alloc, SHEET))?;
+    let two = one.arg(value_option(alloc, SHEET))?;
+    let whole = two.arg(file_option(alloc, CHARACTERS))?;
     Ok(whole)
 }
 

@@ -23,9 +23,9 @@ use crate::options::{
     ValueOption,
 };
 use crate::values_given::{
-    delays_in, file_in, fits, form_in, page_format_in, present_in, reading_format_in,
-    reading_source_in, report_in, set_in, signals_in, source_in, start_in, status_in,
-    trace_format_in, unless_found, value_in,
+    characters_in, delays_in, file_in, fits, form_in, page_format_in, present_in,
+    reading_format_in, reading_source_in, report_in, set_in, signals_in, source_in, start_in,
+    status_in, trace_format_in, unless_found, value_in,
 };
 use clap::ArgMatches;
 use clap::error::ErrorKind;
@@ -78,6 +78,9 @@ pub struct Task<'a> {
     pub input: Option<&'a str>,
     /// The name of the file that is written; None where standard output is.
     pub output: Option<&'a str>,
+    /// The name of the file that has the shapes of characters; None where the project's own are drawn. Only a job that draws
+    /// characters has one.
+    pub characters: Option<&'a str>,
 }
 
 /// Why a command line asks for nothing.
@@ -137,6 +140,9 @@ pub enum JobFault {
     /// `--device` is given where no picture is written, or `--sheet` where no picture of a sheet is.
     #[error("--device goes with --as svg, png or pdf, --sheet with svg or png")]
     NoPart,
+    /// `--characters` is given where no picture is written.
+    #[error("--characters goes with --as svg, png or pdf")]
+    NoPicture,
     /// Memory was refused.
     #[error("out of memory")]
     NoMemory,
@@ -175,8 +181,8 @@ impl JobFault {
             JobFault::BadDevice => Some(DEVICE_VALUES),
             JobFault::BadSheet => Some(SHEET_VALUES),
             JobFault::BadPresent | JobFault::BadDelays | JobFault::BadStatus => None,
-            JobFault::NoRecording | JobFault::NoPart | JobFault::Line(_) | JobFault::NoMemory =>
-                None,
+            JobFault::NoRecording | JobFault::NoPart | JobFault::NoPicture => None,
+            JobFault::Line(_) | JobFault::NoMemory => None,
         }
     }
 
@@ -201,8 +207,8 @@ impl JobFault {
             JobFault::BadReadingAs => Some(READING_AS),
             JobFault::BadDevice => Some(DEVICE),
             JobFault::BadSheet => Some(SHEET),
-            JobFault::NoRecording | JobFault::NoPart | JobFault::Line(_) | JobFault::NoMemory =>
-                None,
+            JobFault::NoRecording | JobFault::NoPart | JobFault::NoPicture => None,
+            JobFault::Line(_) | JobFault::NoMemory => None,
         }
     }
 }
@@ -236,7 +242,7 @@ impl From<DelayFault> for JobFault {
 /// and at last a bad `--as`:
 /// [`JobFault::BadPageAs`] of `pages` and `raw`, [`JobFault::BadTraceAs`] of `bus`,
 /// [`JobFault::BadReportAs`] of `check`, [`JobFault::BadReadingAs`] of `decode`. A good one of pages is
-/// followed by [`JobFault::BadDevice`], [`JobFault::BadSheet`] and [`JobFault::NoPart`].
+/// followed by [`JobFault::BadDevice`], [`JobFault::BadSheet`], [`JobFault::NoPart`] and [`JobFault::NoPicture`].
 pub fn read_task<'a>(alloc: Global, words: &'a [&'a str]) -> Result<Task<'a>, JobFault>
     ensures ok { IfOk result (λ task. asked (map (λ s. s.now) words.entry.now) ≡ Some (Ok (task_view task))) }
     ensures taken { OnOk result (fault_of print1525 (map (λ s. s.now) words.entry.now) ≡ []) }
@@ -371,6 +377,7 @@ fn task_of<'a>(alloc: Global, matches: &ArgMatches<'a>) -> Result<Task<'a>, JobF
         job,
         input: file_in(options, INPUT),
         output: file_in(options, OUTPUT),
+        characters: characters_in(options),
     })
 }
 

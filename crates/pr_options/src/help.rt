@@ -54,8 +54,10 @@ A FILE named *.prg or *.petcat is read so without --from.
 Output: the marks on the paper of printers 4 and 5, the status of each
 statement, the bytes on the screen, and the BASIC error that stopped the run.
 A file named *.svg, *.png, *.pdf or *.txt is written so without --as. --device
-goes with svg, png and pdf, --sheet with svg and png; a sheet past the end is
-refused.
+and --characters go with svg, png and pdf, --sheet with svg and png; a sheet
+past the end is refused. A file of characters has 256 of them: a line such as
+`upper 65`, then seven lines of six signs, # for a dot and . for none; first
+upper 32 to 95 and 160 to 223, then the same of lower.
 
 Exit status: 0 done, 1 stopped by a BASIC error, 2 refused, 3 memory ran out
 or a file cannot be opened, read or written.

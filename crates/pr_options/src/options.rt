@@ -62,6 +62,14 @@ pub const OUTPUT: FileArgument = FileArgument {
            [default: standard output, as with -]",
 };
 
+/// The file of the shapes of characters, which is an option of what draws them.
+pub const CHARACTERS: FileArgument = FileArgument {
+    name: "characters",
+    help: "A file with the shapes of characters that svg,\n\
+           png and pdf draw\n\
+           [default: this project's own]",
+};
+
 /// The letter of [`OUTPUT`], after `-`.
 pub const OUTPUT_LETTER: char = 'o';
 

@@ -7,7 +7,7 @@ ghost use Rattle.pr_bus.specs.DelaysLeft.{numbers_left};
 ghost use Rattle.pr_options.specs.DelayLists.{delays_of};
 ghost use Rattle.pr_options.specs.Given.{ending_value, file_in, has_ending, is_given, is_of_words, named, value_by_ending, value_in};
 ghost use Rattle.pr_options.specs.OptionNames as option;
-ghost use Rattle.pr_options.specs.Jobs.{fits, read, shown, unless_found, wanted_format, wanted_part, wants_recording};
+ghost use Rattle.pr_options.specs.Jobs.{drawn, fits, is_picture, read, shown, unless_found, wanted_format, wanted_part, wants_recording};
 ghost use Rattle.pr_options.specs.Options.{device_of, form_of, format_of, mode_of, present_of, reading_source_of, report_of, set_of, sheet_of, source_of, start_of, trace_format_of};
 ghost use Rattle.pr_options.specs.SignalNames.{names_of};
 ghost use Rattle.pr_options.specs.Steps.{IsFaultIn, signals_result};
@@ -20,8 +20,9 @@ use crate::option_values::{
     read_sheet, read_signals, read_source, read_start, read_status, read_trace_format,
 };
 use crate::options::{
-    DELAYS, DEVICE, Ending, FROM, FROM_TIME, FileArgument, INVERT, LISTING_FROM, NAMES, PAGE_AS,
-    PRESENT, READING_AS, READING_FROM, REPORT_AS, SET, SHEET, STATUS, TRACE_AS, ValueOption,
+    CHARACTERS, DELAYS, DEVICE, Ending, FROM, FROM_TIME, FileArgument, INVERT, LISTING_FROM, NAMES,
+    PAGE_AS, PRESENT, READING_AS, READING_FROM, REPORT_AS, SET, SHEET, STATUS, TRACE_AS,
+    ValueOption,
 };
 use clap::ArgMatches;
 use clap::parser::ValueSource;
@@ -127,12 +128,34 @@ fn page_as_in(options: &ArgMatches<'_>) -> Result<Format, JobFault>
     read_format(value_in(options, PAGE_AS)).ok_or(JobFault::BadPageAs)
 }
 
-/// A format that shows the part of the pages that is asked for.
+/// A format that shows the part of the pages that is asked for, with the characters that are.
 fn shown_in(format: Format, options: &ArgMatches<'_>) -> Result<Format, JobFault>
     ensures { result ≡ shown format (rows_of (found_of options.now)) }
 {
     let part = part_in(options)?;
-    format.showing(part).ok_or(JobFault::NoPart)
+    let shown = format.showing(part).ok_or(JobFault::NoPart)?;
+    drawn_in(shown, options)
+}
+
+/// The format, where it draws characters or no file of them is named.
+fn drawn_in(format: Format, options: &ArgMatches<'_>) -> Result<Format, JobFault>
+    ensures { result ≡ drawn format (rows_of (found_of options.now)) }
+{
+    if is_picture(format) || characters_in(options).is_none() {
+        Ok(format)
+    } else {
+        Err(JobFault::NoPicture)
+    }
+}
+
+/// Whether pages in this format are drawn.
+fn is_picture(format: Format) -> bool
+    ensures { result ≡ is_picture format }
+{
+    match format {
+        Format::List | Format::Lines => false,
+        Format::Svg(_) | Format::Png(_) | Format::Pdf(_) => true,
+    }
 }
 
 /// What of the pages is shown.
@@ -214,6 +237,13 @@ pub fn file_in<'a>(options: &ArgMatches<'a>, file: FileArgument) -> Option<&'a s
         Some(name) => named(name),
         None => None,
     }
+}
+
+/// The file of characters that words name.
+pub fn characters_in<'a>(options: &ArgMatches<'a>) -> Option<&'a str>
+    ensures { option_map (λ name. name.now) result ≡ first_of option.characters (rows_of (found_of options.now)) }
+{
+    text_in(options, CHARACTERS.name)
 }
 
 /// The name of a file, which `-` is not.

@@ -8,6 +8,7 @@ use Rattle.pr_page.specs.declared.paper.Mark.TheVariants.{Cell, Dots}
 use Rattle.pr_page.specs.declared.paper.Placed.{Placed}
 use Rattle.pr_page.specs.declared.paper.Row.{Row}
 use Rattle.pr_dots.specs.Dots.{Dot, bit_dots, column_dots, columns_dots, columns_of, row_dots}
+use Rattle.pr_dots.specs.declared.character_sets.Shapes.{Shapes}
 use Rattle.pr_pdf.specs.Drawn.{disc_on, moved, row_discs, run_discs, sheet_discs, string_discs}
 use Rattle.pr_pdf.specs.Fonts.{Disc, code_of, font_columns, font_of, glyph_disc, glyph_discs, mark_of}
 use Rattle.pr_dots.specs.Sheets.{first_sheet, is_on, last_sheet}
@@ -83,58 +84,58 @@ mark_is (Cell code false false false) = refl
 mark_is (Dots value) = refl
 
 -- what the glyph of a mark draws at its place
-glyph_moved : (sheet y : ℕ) (placed : Placed) → y ≤ 1386 * (sheet + 1)
-    → map (moved (42 * placed.x) (height_on sheet y)) (glyph_discs (mark_of (font_of placed.mark) (code_of placed.mark)))
-    ≡ map (disc_on sheet) (columns_dots placed.x y (columns_of placed.mark))
-glyph_moved sheet y placed within =
-    rw (mark_is placed.mark) (columns_moved sheet placed.x y 0 placed.x (omega arith) within (columns_of placed.mark))
+glyph_moved : (shapes : Shapes) (sheet y : ℕ) (placed : Placed) → y ≤ 1386 * (sheet + 1)
+    → map (moved (42 * placed.x) (height_on sheet y)) (glyph_discs shapes (mark_of (font_of placed.mark) (code_of placed.mark)))
+    ≡ map (disc_on sheet) (columns_dots placed.x y (columns_of shapes placed.mark))
+glyph_moved shapes sheet y placed within =
+    rw (mark_is placed.mark) (columns_moved sheet placed.x y 0 placed.x (omega arith) within (columns_of shapes placed.mark))
 
 -- a mark in front of runs draws its glyph
-mark_joined : (height : ℕ) (placed : Placed) (runs : List Run)
-    → flat_map (run_discs height) (joined placed runs)
-    ≡ map (moved (42 * placed.x) height) (glyph_discs (mark_of (font_of placed.mark) (code_of placed.mark))) ++ flat_map (run_discs height) runs
-mark_joined height placed [] = grind (arith, common_steps)
-mark_joined height placed (run ∷ runs) = by (goes_on placed run) refl
+mark_joined : (shapes : Shapes) (height : ℕ) (placed : Placed) (runs : List Run)
+    → flat_map (run_discs shapes height) (joined placed runs)
+    ≡ map (moved (42 * placed.x) height) (glyph_discs shapes (mark_of (font_of placed.mark) (code_of placed.mark))) ++ flat_map (run_discs shapes height) runs
+mark_joined shapes height placed [] = grind (arith, common_steps)
+mark_joined shapes height placed (run ∷ runs) = by (goes_on placed run) refl
   where
-    same : (a b f g : ℕ) (codes : List ℕ) → a ≡ b → f ≡ g → string_discs a height f codes ≡ string_discs b height g codes
+    same : (a b f g : ℕ) (codes : List ℕ) → a ≡ b → f ≡ g → string_discs shapes a height f codes ≡ string_discs shapes b height g codes
     same a b f g codes p q = rw (p, q) refl
 
     regrouped : (a b c d : List Disc) → b ≡ c → (a ++ b) ++ d ≡ a ++ (c ++ d)
     regrouped a b c d p = rw p (append_assoc a c d)
 
     by : (on : Bool) → goes_on placed run ≡ on
-        → string_discs (42 * placed.x) height (font_of placed.mark) (code_of placed.mark ∷ cond on run.string []) ++ flat_map (run_discs height) (cond on runs (run ∷ runs))
-        ≡ map (moved (42 * placed.x) height) (glyph_discs (mark_of (font_of placed.mark) (code_of placed.mark))) ++ (run_discs height run ++ flat_map (run_discs height) runs)
+        → string_discs shapes (42 * placed.x) height (font_of placed.mark) (code_of placed.mark ∷ cond on run.string []) ++ flat_map (run_discs shapes height) (cond on runs (run ∷ runs))
+        ≡ map (moved (42 * placed.x) height) (glyph_discs shapes (mark_of (font_of placed.mark) (code_of placed.mark))) ++ (run_discs shapes height run ++ flat_map (run_discs shapes height) runs)
     by true on =
         let parts = and_parts (font_of placed.mark == run.font) (end_of placed == run.x) on in
         let font : font_of placed.mark ≡ run.font = eqb-true (font_of placed.mark) run.font parts.0 in
         let end : end_of placed ≡ run.x = eqb-true (end_of placed) run.x parts.1 in
-        regrouped (map (moved (42 * placed.x) height) (glyph_discs (mark_of (font_of placed.mark) (code_of placed.mark))))
-        (string_discs (42 * placed.x + 42 * font_columns (font_of placed.mark)) height (font_of placed.mark) run.string) (run_discs height run)
-        (flat_map (run_discs height) runs)
+        regrouped (map (moved (42 * placed.x) height) (glyph_discs shapes (mark_of (font_of placed.mark) (code_of placed.mark))))
+        (string_discs shapes (42 * placed.x + 42 * font_columns (font_of placed.mark)) height (font_of placed.mark) run.string) (run_discs shapes height run)
+        (flat_map (run_discs shapes height) runs)
         (same (42 * placed.x + 42 * font_columns (font_of placed.mark)) (42 * run.x) (font_of placed.mark) run.font run.string (omega (arith, end)) font)
-    by false on = regrouped (map (moved (42 * placed.x) height) (glyph_discs (mark_of (font_of placed.mark) (code_of placed.mark)))) [] [] (run_discs height run ++ flat_map (run_discs height) runs) refl
+    by false on = regrouped (map (moved (42 * placed.x) height) (glyph_discs shapes (mark_of (font_of placed.mark) (code_of placed.mark)))) [] [] (run_discs shapes height run ++ flat_map (run_discs shapes height) runs) refl
 
 -- what the runs of marks draw
-runs_draw : (sheet y : ℕ) (marks : List Placed) → y ≤ 1386 * (sheet + 1)
-    → flat_map (run_discs (height_on sheet y)) (runs_of marks)
-    ≡ map (disc_on sheet) (flat_map (λ p. columns_dots p.x y (columns_of p.mark)) marks)
-runs_draw sheet y [] within = refl
-runs_draw sheet y (placed ∷ marks) within =
-    grind (arith, common_steps, mark_joined (height_on sheet y) placed (runs_of marks), glyph_moved sheet y placed within, runs_draw sheet y marks within)
+runs_draw : (shapes : Shapes) (sheet y : ℕ) (marks : List Placed) → y ≤ 1386 * (sheet + 1)
+    → flat_map (run_discs shapes (height_on sheet y)) (runs_of marks)
+    ≡ map (disc_on sheet) (flat_map (λ p. columns_dots p.x y (columns_of shapes p.mark)) marks)
+runs_draw shapes sheet y [] within = refl
+runs_draw shapes sheet y (placed ∷ marks) within =
+    grind (arith, common_steps, mark_joined shapes (height_on sheet y) placed (runs_of marks), glyph_moved shapes sheet y placed within, runs_draw shapes sheet y marks within)
 
 -- what a row draws
-row_draws : (sheet : ℕ) (row : Row) → is_on sheet row ≡ true → row_discs sheet row ≡ map (disc_on sheet) (row_dots row)
-row_draws sheet row on = runs_draw sheet row.y row.marks (above row sheet on)
+row_draws : (shapes : Shapes) (sheet : ℕ) (row : Row) → is_on sheet row ≡ true → row_discs shapes sheet row ≡ map (disc_on sheet) (row_dots shapes row)
+row_draws shapes sheet row on = runs_draw shapes sheet row.y row.marks (above row sheet on)
 
 -- what a sheet draws
-pub sheets_draw : (rows : List Row) (sheet : ℕ) → sheet_discs rows sheet ≡ map (disc_on sheet) (flat_map row_dots (filter (is_on sheet) rows))
-sheets_draw [] sheet = refl
-sheets_draw (row ∷ rows) sheet = by (is_on sheet row) refl (sheets_draw rows sheet)
+pub sheets_draw : (shapes : Shapes) (rows : List Row) (sheet : ℕ) → sheet_discs shapes rows sheet ≡ map (disc_on sheet) (flat_map (row_dots shapes) (filter (is_on sheet) rows))
+sheets_draw shapes [] sheet = refl
+sheets_draw shapes (row ∷ rows) sheet = by (is_on sheet row) refl (sheets_draw shapes rows sheet)
   where
     by : (on : Bool) → is_on sheet row ≡ on
-        → sheet_discs rows sheet ≡ map (disc_on sheet) (flat_map row_dots (filter (is_on sheet) rows))
-        → flat_map (row_discs sheet) (cond on (row ∷ filter (is_on sheet) rows) (filter (is_on sheet) rows))
-        ≡ map (disc_on sheet) (flat_map row_dots (cond on (row ∷ filter (is_on sheet) rows) (filter (is_on sheet) rows)))
-    by true on rest = grind (arith, common_steps, row_draws sheet row on, rest)
+        → sheet_discs shapes rows sheet ≡ map (disc_on sheet) (flat_map (row_dots shapes) (filter (is_on sheet) rows))
+        → flat_map (row_discs shapes sheet) (cond on (row ∷ filter (is_on sheet) rows) (filter (is_on sheet) rows))
+        ≡ map (disc_on sheet) (flat_map (row_dots shapes) (cond on (row ∷ filter (is_on sheet) rows) (filter (is_on sheet) rows)))
+    by true on rest = grind (arith, common_steps, row_draws shapes sheet row on, rest)
     by false on rest = rest

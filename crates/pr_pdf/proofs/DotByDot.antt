@@ -9,6 +9,7 @@ use Rattle.pr_page.specs.declared.paper.Paper.{Paper}
 use Rattle.pr_page.specs.declared.paper.Placed.{Placed}
 use Rattle.pr_page.specs.declared.paper.Row.{Row}
 use Rattle.pr_dots.specs.Dots.{Dot, bit_dots, column_dots, columns_dots, columns_of, dots_of, has_dot, is_at, row_dots}
+use Rattle.pr_dots.specs.declared.character_sets.Shapes.{Shapes}
 use Rattle.pr_pdf.specs.Drawn.{disc_on, has_disc, is_disc, sheet_discs}
 use Rattle.pr_pdf.specs.Fonts.{Disc}
 use Rattle.pr_dots.specs.Sheets.{first_sheet, is_on, last_sheet}
@@ -49,26 +50,26 @@ columns_off : (sheet x y : ℕ) (vs : List ℕ) → (y / 1386 == sheet || (y + 1
 columns_off sheet x y [] not_on = refl
 columns_off sheet x y (v ∷ vs) not_on = nothing sheet (column_dots x y v) (columns_dots (x + 1) y vs) (column_off sheet x y v not_on) (columns_off sheet (x + 1) y vs not_on)
 
-marks_off : (sheet y : ℕ) (marks : List Placed) → (y / 1386 == sheet || (y + 13) / 1386 == sheet) ≡ false
-    → filter (is_in sheet) (flat_map (λ p. columns_dots p.x y (columns_of p.mark)) marks) ≡ []
-marks_off sheet y [] not_on = refl
-marks_off sheet y (p ∷ ps) not_on =
-    nothing sheet (columns_dots p.x y (columns_of p.mark)) (flat_map (λ p. columns_dots p.x y (columns_of p.mark)) ps)
-    (columns_off sheet p.x y (columns_of p.mark) not_on) (marks_off sheet y ps not_on)
+marks_off : (shapes : Shapes) (sheet y : ℕ) (marks : List Placed) → (y / 1386 == sheet || (y + 13) / 1386 == sheet) ≡ false
+    → filter (is_in sheet) (flat_map (λ p. columns_dots p.x y (columns_of shapes p.mark)) marks) ≡ []
+marks_off shapes sheet y [] not_on = refl
+marks_off shapes sheet y (p ∷ ps) not_on =
+    nothing sheet (columns_dots p.x y (columns_of shapes p.mark)) (flat_map (λ p. columns_dots p.x y (columns_of shapes p.mark)) ps)
+    (columns_off sheet p.x y (columns_of shapes p.mark) not_on) (marks_off shapes sheet y ps not_on)
 
 -- rows that are not on a sheet can be left out
-rows_have : (sheet : ℕ) (rows : List Row) → filter (is_in sheet) (flat_map row_dots (filter (is_on sheet) rows)) ≡ filter (is_in sheet) (flat_map row_dots rows)
-rows_have sheet [] = refl
-rows_have sheet (row ∷ rows) = by (is_on sheet row) refl (rows_have sheet rows)
+rows_have : (shapes : Shapes) (sheet : ℕ) (rows : List Row) → filter (is_in sheet) (flat_map (row_dots shapes) (filter (is_on sheet) rows)) ≡ filter (is_in sheet) (flat_map (row_dots shapes) rows)
+rows_have shapes sheet [] = refl
+rows_have shapes sheet (row ∷ rows) = by (is_on sheet row) refl (rows_have shapes sheet rows)
   where
     by : (on : Bool) → is_on sheet row ≡ on
-        → filter (is_in sheet) (flat_map row_dots (filter (is_on sheet) rows)) ≡ filter (is_in sheet) (flat_map row_dots rows)
-        → filter (is_in sheet) (flat_map row_dots (cond on (row ∷ filter (is_on sheet) rows) (filter (is_on sheet) rows)))
-        ≡ filter (is_in sheet) (row_dots row ++ flat_map row_dots rows)
+        → filter (is_in sheet) (flat_map (row_dots shapes) (filter (is_on sheet) rows)) ≡ filter (is_in sheet) (flat_map (row_dots shapes) rows)
+        → filter (is_in sheet) (flat_map (row_dots shapes) (cond on (row ∷ filter (is_on sheet) rows) (filter (is_on sheet) rows)))
+        ≡ filter (is_in sheet) (row_dots shapes row ++ flat_map (row_dots shapes) rows)
     by true on rest =
-        rw (filter-append (is_in sheet) (row_dots row) (flat_map row_dots (filter (is_on sheet) rows)), filter-append (is_in sheet) (row_dots row) (flat_map row_dots rows), rest) refl
+        rw (filter-append (is_in sheet) (row_dots shapes row) (flat_map (row_dots shapes) (filter (is_on sheet) rows)), filter-append (is_in sheet) (row_dots shapes row) (flat_map (row_dots shapes) rows), rest) refl
     by false on rest =
-        rw (filter-append (is_in sheet) (row_dots row) (flat_map row_dots rows), marks_off sheet row.y row.marks on) rest
+        rw (filter-append (is_in sheet) (row_dots shapes row) (flat_map (row_dots shapes) rows), marks_off shapes sheet row.y row.marks on) rest
 
 -- a dot that is not on a sheet is at no place of it
 elsewhere : (sheet x y a b : ℕ) → y / 1386 ≡ sheet → (b / 1386 == sheet) ≡ false → (a == x && b == y) ≡ false
@@ -106,11 +107,11 @@ any_disc sheet x y on (dot ∷ dots) = both (same_disc sheet x y dot.x dot.y on)
     both {a} {b} {c} {d} p q = rw (p, q) refl
 
 -- of a paper
-pub papers_drawn : (paper : Paper) (sheet x y : ℕ) → y / 1386 ≡ sheet → has_disc sheet x y (sheet_discs paper.rows sheet) ≡ has_dot paper x y
+pub papers_drawn : (shapes : Shapes) (paper : Paper) (sheet x y : ℕ) → y / 1386 ≡ sheet → has_disc sheet x y (sheet_discs shapes paper.rows sheet) ≡ has_dot shapes paper x y
 unfolding has_dot dots_of
-papers_drawn paper sheet x y on =
-    ap (has_disc sheet x y) (sheets_draw paper.rows sheet)
-    ∙ any_disc sheet x y on (flat_map row_dots (filter (is_on sheet) paper.rows))
-    ∙ sym (any_on sheet x y on (flat_map row_dots (filter (is_on sheet) paper.rows)))
-    ∙ ap (list_any (is_at x y)) (rows_have sheet paper.rows)
-    ∙ any_on sheet x y on (flat_map row_dots paper.rows)
+papers_drawn shapes paper sheet x y on =
+    ap (has_disc sheet x y) (sheets_draw shapes paper.rows sheet)
+    ∙ any_disc sheet x y on (flat_map (row_dots shapes) (filter (is_on sheet) paper.rows))
+    ∙ sym (any_on sheet x y on (flat_map (row_dots shapes) (filter (is_on sheet) paper.rows)))
+    ∙ ap (list_any (is_at x y)) (rows_have shapes sheet paper.rows)
+    ∙ any_on sheet x y on (flat_map (row_dots shapes) paper.rows)

@@ -5,6 +5,7 @@ use Rattle.std.specs.List.{concat}
 use Rattle.std.proofs.lemmas.Grind.{common_steps}
 use Rattle.std.proofs.lemmas.List.{map-append}
 use Rattle.std.proofs.lemmas.List.Folds.{concat-append}
+use Rattle.pr_dots.specs.declared.character_sets.Shapes.{Shapes}
 use Rattle.pr_pdf.specs.declared.document.Document.{Document}
 use Rattle.pr_pdf.specs.Linked.{Adds, HasBodies}
 use Rattle.pr_pdf.specs.Fonts.{glyph_pdf, used_among}
@@ -120,6 +121,6 @@ unfolding file_of
 file_is bodies document has = rw (has.text, has.places, places_count bodies) refl
 
 -- a glyph's object
-pub glyph_added : (number : ℕ) (text : List ℕ) {a b : Document} → text ≡ glyph_pdf (number / 256) (number % 256) → Adds (stream_pdf text ∷ []) a b
-    → Adds (glyph_body number ∷ []) a b
-glyph_added number text is adds = rw (sym is) adds
+pub glyph_added : (shapes : Shapes) (number : ℕ) (text : List ℕ) {a b : Document} → text ≡ glyph_pdf shapes (number / 256) (number % 256) → Adds (stream_pdf text ∷ []) a b
+    → Adds (glyph_body shapes number ∷ []) a b
+glyph_added shapes number text is adds = rw (sym is) adds

@@ -2,6 +2,7 @@
 use Rattle.std.proofs.Common.{◌≡◌, ℕ, ◌+◌, ◌*◌, Bool, List, [], ◌∷◌, ◌++◌, length, refl, sym, ap, ◌∙◌, arith, append_assoc}
 use Rattle.std.specs.Prelude.{map}
 use Rattle.pr_page.specs.declared.paper.Row.{Row}
+use Rattle.pr_dots.specs.declared.character_sets.Shapes.{Shapes}
 use Rattle.pr_pdf.specs.declared.document.Document.{Document}
 use Rattle.pr_pdf.specs.Fonts.{font_pdf, used_among, used_before, used_of}
 use Rattle.pr_pdf.specs.Linked.{Adds, HasBodies, bodies_before}
@@ -14,31 +15,31 @@ regrouped : (a b c d e : List (List ℕ)) → ((a ++ b ++ c) ++ d) ++ e ≡ a ++
 regrouped a b c d e = simp append_assoc
 
 -- all objects
-all_bodies : (first pages count : ℕ) (used : List Bool) (sheets : List (List ℕ)) → pages ≡ first + 2 * count → count ≡ length sheets
-    → (bodies_before pages used ++ sheet_bodies pages first sheets) ++ pages_pdf first count ∷ [] ≡ bodies_from first used sheets
-all_bodies first pages count used sheets pages_is count_is =
+all_bodies : (shapes : Shapes) (first pages count : ℕ) (used : List Bool) (sheets : List (List ℕ)) → pages ≡ first + 2 * count → count ≡ length sheets
+    → (bodies_before shapes pages used ++ sheet_bodies pages first sheets) ++ pages_pdf first count ∷ [] ≡ bodies_from shapes first used sheets
+all_bodies shapes first pages count used sheets pages_is count_is =
     rw (pages_is, count_is)
-    (regrouped (first_bodies (first + 2 * length sheets)) (map (font_pdf used) (numbers_from 0 9)) (map glyph_body (used_among used 0 2304))
+    (regrouped (first_bodies (first + 2 * length sheets)) (map (font_pdf used) (numbers_from 0 9)) (map (glyph_body shapes) (used_among used 0 2304))
     (sheet_bodies (first + 2 * length sheets) first sheets) (pages_pdf first (length sheets) ∷ []))
 
 -- the file of all objects
-drawn : (first pages count : ℕ) (used : List Bool) (sheets : List (List ℕ)) (a b c : Document) → pages ≡ first + 2 * count → count ≡ length sheets
-    → HasBodies (bodies_before pages used) a → Adds (sheet_bodies pages first sheets) a b → Adds (pages_pdf first count ∷ []) b c
-    → c.text.items ++ table_pdf c.places.items ++ trailer_pdf (length c.places.items) (length c.text.items) ≡ file_of (bodies_from first used sheets)
-drawn first pages count used sheets a b c pages_is count_is before now last =
-    let has : HasBodies ((bodies_before pages used ++ sheet_bodies pages first sheets) ++ pages_pdf first count ∷ []) c =
-    last.has (bodies_before pages used ++ sheet_bodies pages first sheets) (now.has (bodies_before pages used) before) in
-    file_is ((bodies_before pages used ++ sheet_bodies pages first sheets) ++ pages_pdf first count ∷ []) c has
-    ∙ ap file_of (all_bodies first pages count used sheets pages_is count_is)
+drawn : (shapes : Shapes) (first pages count : ℕ) (used : List Bool) (sheets : List (List ℕ)) (a b c : Document) → pages ≡ first + 2 * count → count ≡ length sheets
+    → HasBodies (bodies_before shapes pages used) a → Adds (sheet_bodies pages first sheets) a b → Adds (pages_pdf first count ∷ []) b c
+    → c.text.items ++ table_pdf c.places.items ++ trailer_pdf (length c.places.items) (length c.text.items) ≡ file_of (bodies_from shapes first used sheets)
+drawn shapes first pages count used sheets a b c pages_is count_is before now last =
+    let has : HasBodies ((bodies_before shapes pages used ++ sheet_bodies pages first sheets) ++ pages_pdf first count ∷ []) c =
+    last.has (bodies_before shapes pages used ++ sheet_bodies pages first sheets) (now.has (bodies_before shapes pages used) before) in
+    file_is ((bodies_before shapes pages used ++ sheet_bodies pages first sheets) ++ pages_pdf first count ∷ []) c has
+    ∙ ap file_of (all_bodies shapes first pages count used sheets pages_is count_is)
 
 -- the file of rows
-pub rows_drawn : (rows4 rows5 : List Row) (first pages count : ℕ) (used : List Bool) (a b c : Document)
+pub rows_drawn : (shapes : Shapes) (rows4 rows5 : List Row) (first pages count : ℕ) (used : List Bool) (a b c : Document)
     → used ≡ used_of (marks_of rows4 ++ marks_of rows5) → first ≡ 19 + used_before used 2304
     → pages ≡ first + 2 * count → count ≡ length (or_empty (sheet_texts rows4 ++ sheet_texts rows5))
-    → HasBodies (bodies_before pages used) a → Adds (sheet_bodies pages first (or_empty (sheet_texts rows4 ++ sheet_texts rows5))) a b
+    → HasBodies (bodies_before shapes pages used) a → Adds (sheet_bodies pages first (or_empty (sheet_texts rows4 ++ sheet_texts rows5))) a b
     → Adds (pages_pdf first count ∷ []) b c
-    → c.text.items ++ table_pdf c.places.items ++ trailer_pdf (length c.places.items) (length c.text.items) ≡ rows_pdf rows4 rows5
-rows_drawn rows4 rows5 first pages count used a b c used_is first_is pages_is count_is before now last =
-    drawn first pages count used (or_empty (sheet_texts rows4 ++ sheet_texts rows5)) a b c pages_is count_is before now last
-    ∙ ap (λ n. file_of (bodies_from n used (or_empty (sheet_texts rows4 ++ sheet_texts rows5)))) first_is
-    ∙ ap (λ (u : List Bool). file_of (bodies_from (19 + used_before u 2304) u (or_empty (sheet_texts rows4 ++ sheet_texts rows5)))) used_is
+    → c.text.items ++ table_pdf c.places.items ++ trailer_pdf (length c.places.items) (length c.text.items) ≡ rows_pdf shapes rows4 rows5
+rows_drawn shapes rows4 rows5 first pages count used a b c used_is first_is pages_is count_is before now last =
+    drawn shapes first pages count used (or_empty (sheet_texts rows4 ++ sheet_texts rows5)) a b c pages_is count_is before now last
+    ∙ ap (λ n. file_of (bodies_from shapes n used (or_empty (sheet_texts rows4 ++ sheet_texts rows5)))) first_is
+    ∙ ap (λ (u : List Bool). file_of (bodies_from shapes (19 + used_before u 2304) u (or_empty (sheet_texts rows4 ++ sheet_texts rows5)))) used_is

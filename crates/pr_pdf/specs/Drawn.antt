@@ -4,6 +4,7 @@ use Rattle.std.specs.Prelude.{ℕ, ◌+◌, ◌-◌, ◌*◌, Bool, List, [], �
 use Rattle.std.specs.List.{list_any}
 use Rattle.pr_page.specs.declared.paper.Row.{Row}
 use Rattle.pr_dots.specs.Dots.{Dot}
+use Rattle.pr_dots.specs.declared.character_sets.Shapes.{Shapes}
 use Rattle.pr_pdf.specs.Fonts.{Disc, font_columns, glyph_discs, mark_of}
 use Rattle.pr_dots.specs.Sheets.{is_on}
 use Rattle.pr_pdf.specs.Sheets.{Run, height_on, runs_of}
@@ -13,23 +14,23 @@ abbrev pub moved : (across up : ℕ) → Disc → Disc
 moved across up disc = record { across = across + disc.across; up = up + disc.up }
 
 -- what a string of a font draws from a place on: each glyph, and the next one after it
-abbrev pub string_discs : (across up font : ℕ) → List ℕ → List Disc
-string_discs across up font [] = []
-string_discs across up font (code ∷ codes) =
-    map (moved across up) (glyph_discs (mark_of font code))
-    ++ string_discs (across + 42 * font_columns font) up font codes
+abbrev pub string_discs : Shapes → (across up font : ℕ) → List ℕ → List Disc
+string_discs shapes across up font [] = []
+string_discs shapes across up font (code ∷ codes) =
+    map (moved across up) (glyph_discs shapes (mark_of font code))
+    ++ string_discs shapes (across + 42 * font_columns font) up font codes
 
 -- what a run draws at a height
-abbrev pub run_discs : ℕ → Run → List Disc
-run_discs height run = string_discs (42 * run.x) height run.font run.string
+abbrev pub run_discs : Shapes → ℕ → Run → List Disc
+run_discs shapes height run = string_discs shapes (42 * run.x) height run.font run.string
 
 -- what a row draws on a sheet
-abbrev pub row_discs : ℕ → Row → List Disc
-row_discs sheet row = flat_map (run_discs (height_on sheet row.y)) (runs_of row.marks)
+abbrev pub row_discs : Shapes → ℕ → Row → List Disc
+row_discs shapes sheet row = flat_map (run_discs shapes (height_on sheet row.y)) (runs_of row.marks)
 
 -- what a sheet draws
-abbrev pub sheet_discs : List Row → ℕ → List Disc
-sheet_discs rows sheet = flat_map (row_discs sheet) (filter (is_on sheet) rows)
+abbrev pub sheet_discs : Shapes → List Row → ℕ → List Disc
+sheet_discs shapes rows sheet = flat_map (row_discs shapes sheet) (filter (is_on sheet) rows)
 
 -- a disc is another
 abbrev pub is_disc : Disc → Disc → Bool

@@ -5,6 +5,7 @@ use Rattle.std.specs.List.{list_any}
 use Rattle.pr_page.specs.declared.paper.Mark.{Mark}
 use Rattle.pr_page.specs.declared.paper.Mark.TheVariants.{Cell, Dots}
 use Rattle.pr_dots.specs.Dots.{Dot, columns_dots, columns_of}
+use Rattle.pr_dots.specs.declared.character_sets.Shapes.{Shapes}
 use Rattle.pr_render.specs.Characters.{character}
 use Rattle.pr_pdf.specs.Parts.{characters_begin, characters_end, dictionary_end, disc_move, disc_stroke, encoding_begin, font_begin, font_characters, font_glyphs, fonts_begin, glyph_box, glyph_strokes, list_end, reference}
 use Rattle.pr_pdf.specs.Words.{bit, hex_2, hex_4, numbers_from}
@@ -48,9 +49,9 @@ pub record Disc : Type 0 where
 abbrev pub glyph_disc : Dot → Disc
 glyph_disc dot = record { across = 42 * dot.x + 21; up = 240 - 20 * dot.y }
 
--- the discs of a mark
-abbrev pub glyph_discs : Mark → List Disc
-glyph_discs mark = map glyph_disc (columns_dots 0 0 (columns_of mark))
+-- the discs of a mark in these shapes
+abbrev pub glyph_discs : Shapes → Mark → List Disc
+glyph_discs shapes mark = map glyph_disc (columns_dots 0 0 (columns_of shapes mark))
 
 -- a disc: a stroke without length, whose ends are round
 unfoldable pub disc_pdf : Disc → List ℕ
@@ -60,10 +61,10 @@ disc_pdf disc =
 
 -- a glyph: its width, the box that holds its discs, strokes a little wider than a dot column with round ends,
 -- and the discs
-unfoldable pub glyph_pdf : (font code : ℕ) → List ℕ
-glyph_pdf font code =
+unfoldable pub glyph_pdf : Shapes → (font code : ℕ) → List ℕ
+glyph_pdf shapes font code =
     decimal (42 * font_columns font) ++ glyph_box ++ decimal (42 * font_columns font + 1) ++ glyph_strokes
-    ++ flat_map disc_pdf (glyph_discs (mark_of font code))
+    ++ flat_map disc_pdf (glyph_discs shapes (mark_of font code))
 
 -- a number for each glyph: its code, and 256 for each font before its own
 abbrev pub number_of : Mark → ℕ

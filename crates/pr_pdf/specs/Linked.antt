@@ -3,6 +3,7 @@ use Rattle.std.specs.Prelude.{◌≡◌, ℕ, ◌≤◌, Bool, true, List, [], �
 use Rattle.pr_page.specs.declared.paper.Mark.{Mark}
 use Rattle.pr_page.specs.declared.paper.Placed.{Placed}
 use Rattle.pr_page.specs.declared.paper.Row.{Row}
+use Rattle.pr_dots.specs.declared.character_sets.Shapes.{Shapes}
 use Rattle.pr_pdf.specs.declared.document.Document.{Document}
 use Rattle.pr_pdf.specs.Fonts.{code_of, font_of, font_pdf, used_among, used_of}
 use Rattle.pr_pdf.specs.Parts.{run_end}
@@ -47,6 +48,6 @@ pub record Adds (more : List (List ℕ)) (old new : Document) : Type 0 where
   pub has : (bodies : List (List ℕ)) → HasBodies bodies old → HasBodies (bodies ++ more) new
 
 -- all objects before the sheets
-abbrev pub bodies_before : (pages : ℕ) → List Bool → List (List ℕ)
-bodies_before pages used =
-    first_bodies pages ++ map (font_pdf used) (numbers_from 0 9) ++ map glyph_body (used_among used 0 2304)
+abbrev pub bodies_before : Shapes → (pages : ℕ) → List Bool → List (List ℕ)
+bodies_before shapes pages used =
+    first_bodies pages ++ map (font_pdf used) (numbers_from 0 9) ++ map (glyph_body shapes) (used_among used 0 2304)

@@ -6,6 +6,7 @@ use Rattle.pr_page.specs.declared.paper.Paper.{Paper}
 use Rattle.pr_page.specs.declared.paper.Row.{Row}
 use Rattle.pr_page.specs.declared.paper.Mark.{Mark}
 use Rattle.pr_serial.specs.declared.Present.{Present}
+use Rattle.pr_dots.specs.declared.character_sets.Shapes.{Shapes}
 use Rattle.pr_pdf.specs.Fonts.{characters_pdf, encoding_pdf, font_pdf, glyph_pdf, resources_pdf, used_among, used_before, used_of, widths_pdf}
 use Rattle.pr_pdf.specs.Parts.{catalog_begin, header, list_end, object_begin, object_end, page_begin, page_content, pages_begin, pages_kids, place_end, reference, reference_end, stream_begin, stream_bytes, stream_end, table_begin, table_free, trailer_begin, trailer_end, trailer_root}
 use Rattle.pr_pdf.specs.Sheets.{sheet_pdf, sheet_texts}
@@ -88,14 +89,14 @@ first_bodies pages =
     ∷ stream_pdf (characters_pdf 0) ∷ stream_pdf (characters_pdf 1) ∷ stream_pdf (characters_pdf 2) ∷ []
 
 -- a glyph's object
-abbrev pub glyph_body : ℕ → List ℕ
-glyph_body number = stream_pdf (glyph_pdf (number / 256) (number % 256))
+abbrev pub glyph_body : Shapes → ℕ → List ℕ
+glyph_body shapes number = stream_pdf (glyph_pdf shapes (number / 256) (number % 256))
 
 -- all objects, of which `first` is the number of the first sheet
-abbrev pub bodies_from : (first : ℕ) → List Bool → List (List ℕ) → List (List ℕ)
-bodies_from first used sheets =
+abbrev pub bodies_from : Shapes → (first : ℕ) → List Bool → List (List ℕ) → List (List ℕ)
+bodies_from shapes first used sheets =
     first_bodies (first + 2 * length sheets) ++ map (font_pdf used) (numbers_from 0 9)
-    ++ map glyph_body (used_among used 0 2304)
+    ++ map (glyph_body shapes) (used_among used 0 2304)
     ++ sheet_bodies (first + 2 * length sheets) first sheets ++ pages_pdf first (length sheets) ∷ []
 
 -- the rows of the printers that are drawn
@@ -112,13 +113,13 @@ or_empty [] = sheet_pdf [] 0 ∷ []
 or_empty (sheet ∷ sheets) = sheet ∷ sheets
 
 -- the file of rows of both printers: the first one's sheets, then the second one's
-abbrev pub rows_pdf : (rows4 rows5 : List Row) → List ℕ
-rows_pdf rows4 rows5 = rows_with (used_of (marks_of rows4 ++ marks_of rows5))
+abbrev pub rows_pdf : Shapes → (rows4 rows5 : List Row) → List ℕ
+rows_pdf shapes rows4 rows5 = rows_with (used_of (marks_of rows4 ++ marks_of rows5))
   where
     rows_with : List Bool → List ℕ
     rows_with used =
-        file_of (bodies_from (19 + used_before used 2304) used (or_empty (sheet_texts rows4 ++ sheet_texts rows5)))
+        file_of (bodies_from shapes (19 + used_before used 2304) used (or_empty (sheet_texts rows4 ++ sheet_texts rows5)))
 
--- papers as a document of sheets. Marks that are held have no place yet, and are left out
-unfoldable pub pdf_of : (paper4 paper5 : Paper) → Present → List ℕ
-pdf_of paper4 paper5 drawn = rows_pdf (rows_if drawn.four paper4) (rows_if drawn.five paper5)
+-- papers that are printed in these shapes, as a document of sheets. Marks that are held have no place yet, and are left out
+unfoldable pub pdf_of : Shapes → (paper4 paper5 : Paper) → Present → List ℕ
+pdf_of shapes paper4 paper5 drawn = rows_pdf shapes (rows_if drawn.four paper4) (rows_if drawn.five paper5)

@@ -20,6 +20,7 @@ use crate::parts::{
 };
 use crate::sheets::{are_ascending, push_sheet, rows_from, sheet_count, skip_before};
 use crate::used::{GLYPHS, Used};
+use pr_dots::Shapes;
 use pr_page::{Paper, Row};
 use pr_serial::Present;
 use std::alloc::{AllocError, Global};
@@ -126,16 +127,17 @@ fn add_fonts(document: &mut Document, alloc: Global, used: &Used) -> Result<(), 
 fn add_glyph(
     document: &mut Document,
     alloc: Global,
+    shapes: &Shapes,
     used: &Used,
     number: usize,
 ) -> Result<(), AllocError>
-    ensures { OnOk result (Adds (map glyph_body (used_among used.now number 1)) document.old document.new) }
+    ensures { OnOk result (Adds (map (glyph_body shapes.now) (used_among used.now number 1)) document.old document.new) }
 {
     if !used.has(number) {
         return Ok(());
     }
     let mut text = Vec::new(alloc);
-    push_glyph(&mut text, number / 256, (number % 256) as u8)?;
+    push_glyph(&mut text, shapes, number / 256, (number % 256) as u8)?;
     document.add_stream(&text)?;
     Ok(())
 }
@@ -144,13 +146,14 @@ fn add_glyph(
 fn add_glyphs(
     document: &mut Document,
     alloc: Global,
+    shapes: &Shapes,
     used: &Used,
     end: usize,
 ) -> Result<(), AllocError>
-    ensures { OnOk result (Adds (map glyph_body (used_among used.now 0 end)) document.old document.new) }
+    ensures { OnOk result (Adds (map (glyph_body shapes.now) (used_among used.now 0 end)) document.old document.new) }
 {
     for number in 0..end {
-        add_glyph(document, alloc, used, number)?;
+        add_glyph(document, alloc, shapes, used, number)?;
     }
     Ok(())
 }
@@ -261,13 +264,13 @@ fn used_by(alloc: Global, rows4: &[Row], rows5: &[Row]) -> Result<Used, AllocErr
 }
 
 /// A document with all objects before the sheets.
-fn begun(alloc: Global, used: &Used, pages: u64) -> Result<Document, AllocError>
-    ensures { IfOk result (λ d. HasBodies (bodies_before pages used.now) d) }
+fn begun(alloc: Global, shapes: &Shapes, used: &Used, pages: u64) -> Result<Document, AllocError>
+    ensures { IfOk result (λ d. HasBodies (bodies_before shapes.now pages used.now) d) }
 {
     let mut document = Document::new(alloc)?;
     add_first(&mut document, alloc, pages)?;
     add_fonts(&mut document, alloc, used)?;
-    add_glyphs(&mut document, alloc, used, GLYPHS)?;
+    add_glyphs(&mut document, alloc, shapes, used, GLYPHS)?;
     Ok(document)
 }
 
@@ -302,15 +305,15 @@ fn all_sheet_count(rows4: &[Row], rows5: &[Row]) -> u64
 }
 
 /// The document of rows of both printers.
-fn draw(alloc: Global, rows4: &[Row], rows5: &[Row]) -> Result<Vec<u8>, AllocError>
-    ensures { IfOk result (λ file. file.items ≡ rows_pdf rows4.now rows5.now) }
+fn draw(alloc: Global, shapes: &Shapes, rows4: &[Row], rows5: &[Row]) -> Result<Vec<u8>, AllocError>
+    ensures { IfOk result (λ file. file.items ≡ rows_pdf shapes.now rows4.now rows5.now) }
 {
     let used = used_by(alloc, rows4, rows5)?;
     let count = all_sheet_count(rows4, rows5);
     let glyphs = used.before(GLYPHS);
     let first = FIRST_GLYPH + glyphs;
     let pages = first + 2 * count;
-    let mut document = begun(alloc, &used, pages)?;
+    let mut document = begun(alloc, shapes, &used, pages)?;
     add_all_sheets(&mut document, alloc, pages, first, rows4, rows5)?;
     add_pages(&mut document, alloc, first, count)?;
     let file = document.finish()?;
@@ -324,7 +327,7 @@ fn rows_if(drawn: bool, paper: &Paper) -> &[Row]
     if drawn { paper.rows.as_slice() } else { &[] }
 }
 
-/// The papers of the printers that are drawn, as a PDF document. Printer 4's sheets come first, then
+/// The papers of the printers that are drawn, printed in these shapes, as a PDF document. Printer 4's sheets come first, then
 /// printer 5's; if neither printed, there is one empty sheet.
 ///
 /// A sheet is 9.5 by 11 inches, with the 480 dot columns in the middle. Each dot is a disc at its
@@ -338,17 +341,18 @@ fn rows_if(drawn: bool, paper: &Paper) -> &[Row]
 #[tactic(auto, unfolding(crate::specs::Pdf::pdf_of))]
 pub fn pdf(
     alloc: Global,
+    shapes: &Shapes,
     paper4: &Paper,
     paper5: &Paper,
     drawn: Present,
 ) -> Result<Vec<u8>, PdfFault>
-    ensures file { IfOk result (λ file. file.items ≡ pdf_of paper4.now paper5.now drawn) }
+    ensures file { IfOk result (λ file. file.items ≡ pdf_of shapes.now paper4.now paper5.now drawn) }
     ensures within { IfOk result (λ file. length file.items ≤ file_limit) }
-    ensures too_large { IfErr result (λ fault. fault ≡ PdfFault.TooLarge → file_limit < length (pdf_of paper4.now paper5.now drawn)) }
+    ensures too_large { IfErr result (λ fault. fault ≡ PdfFault.TooLarge → file_limit < length (pdf_of shapes.now paper4.now paper5.now drawn)) }
 {
     let rows4 = rows_if(drawn.four, paper4);
     let rows5 = rows_if(drawn.five, paper5);
-    let file = draw(alloc, rows4, rows5)?;
+    let file = draw(alloc, shapes, rows4, rows5)?;
     if LIMIT < file.len() as u64 {
         return Err(PdfFault::TooLarge);
     }

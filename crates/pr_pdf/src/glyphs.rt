@@ -12,7 +12,7 @@ use crate::parts::{
     glyph_strokes, reference,
 };
 use crate::used::Used;
-use pr_dots::columns;
+use pr_dots::{Shapes, columns};
 use std::alloc::AllocError;
 
 /// Adds the disc of a dot.
@@ -71,13 +71,18 @@ fn push_columns(text: &mut Vec<u8>, columns: &[u8]) -> Result<(), AllocError>
 
 /// Adds a glyph.
 #[tactic(auto, unfolding(crate::specs::Fonts::glyph_pdf))]
-pub fn push_glyph(text: &mut Vec<u8>, font: usize, code: u8) -> Result<(), AllocError>
-    ensures { OnOk result (text.new.items ≡ text.old.items ++ glyph_pdf font code) }
+pub fn push_glyph(
+    text: &mut Vec<u8>,
+    shapes: &Shapes,
+    font: usize,
+    code: u8,
+) -> Result<(), AllocError>
+    ensures { OnOk result (text.new.items ≡ text.old.items ++ glyph_pdf shapes.now font code) }
 {
     let width = 42 * font_columns(font);
     push_number(text, width)?;
     push_between(text, glyph_box(), width + 1, glyph_strokes())?;
-    push_columns(text, columns(mark_of(font, code)).as_slice())
+    push_columns(text, columns(shapes, mark_of(font, code)).as_slice())
 }
 
 /// The object that says a font's widths.

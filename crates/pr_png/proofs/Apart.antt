@@ -9,6 +9,7 @@ use Rattle.pr_page.specs.declared.paper.Paper.{Paper}
 use Rattle.pr_page.specs.declared.paper.Placed.{Placed}
 use Rattle.pr_page.specs.declared.paper.Row.{Row}
 use Rattle.pr_dots.specs.Dots.{Dot, bit_dots, column_dots, columns_dots, columns_of, dots_of, has_dot, is_at, row_dots}
+use Rattle.pr_dots.specs.declared.character_sets.Shapes.{Shapes}
 use Rattle.pr_png.specs.Laws.{AreApart, PixelsTellDots}
 use Rattle.pr_png.specs.Pixels.{is_dark}
 
@@ -57,74 +58,74 @@ columns-at x y column top (v ∷ values) is =
       | inr there ↦ columns-at x y (column + 1) top values there
     ]
 
-marks-at : (x y top : ℕ) (marks : List Placed)
-    → list_any (is_at x y) (flat_map (λ p. columns_dots p.x top (columns_of p.mark)) marks) ≡ true → IsOfRow top y
-marks-at x y top [] is = absurd (false≢true is)
-marks-at x y top (p ∷ marks) is =
-    elim (in-part (is_at x y) (columns_dots p.x top (columns_of p.mark)) (flat_map (λ p. columns_dots p.x top (columns_of p.mark)) marks) is) [
-      | inl here ↦ columns-at x y p.x top (columns_of p.mark) here
-      | inr there ↦ marks-at x y top marks there
+marks-at : (shapes : Shapes) (x y top : ℕ) (marks : List Placed)
+    → list_any (is_at x y) (flat_map (λ p. columns_dots p.x top (columns_of shapes p.mark)) marks) ≡ true → IsOfRow top y
+marks-at shapes x y top [] is = absurd (false≢true is)
+marks-at shapes x y top (p ∷ marks) is =
+    elim (in-part (is_at x y) (columns_dots p.x top (columns_of shapes p.mark)) (flat_map (λ p. columns_dots p.x top (columns_of shapes p.mark)) marks) is) [
+      | inl here ↦ columns-at x y p.x top (columns_of shapes p.mark) here
+      | inr there ↦ marks-at shapes x y top marks there
     ]
 
-row-at : (x y : ℕ) (r : Row) → list_any (is_at x y) (row_dots r) ≡ true → IsOfRow r.y y
-row-at x y r is = marks-at x y r.y r.marks is
+row-at : (shapes : Shapes) (x y : ℕ) (r : Row) → list_any (is_at x y) (row_dots shapes r) ≡ true → IsOfRow r.y y
+row-at shapes x y r is = marks-at shapes x y r.y r.marks is
 
 -- no dot is above the rows
-rows-low : (from x y : ℕ) (rows : List Row) → AreApart from rows → list_any (is_at x y) (flat_map row_dots rows) ≡ true → from ≤ y
-rows-low from x y [] apart is = absurd (false≢true is)
-rows-low from x y (r ∷ rows) apart is =
-    elim (in-part (is_at x y) (row_dots r) (flat_map row_dots rows) is) [
-      | inl here ↦ let dot = row-at x y r here in let low = apart.0 in omega (arith, dot.at, low)
-      | inr there ↦ let low = apart.0 in let lower = rows-low (r.y + 14) x y rows apart.1 there in omega (arith, low, lower)
+rows-low : (shapes : Shapes) (from x y : ℕ) (rows : List Row) → AreApart from rows → list_any (is_at x y) (flat_map (row_dots shapes) rows) ≡ true → from ≤ y
+rows-low shapes from x y [] apart is = absurd (false≢true is)
+rows-low shapes from x y (r ∷ rows) apart is =
+    elim (in-part (is_at x y) (row_dots shapes r) (flat_map (row_dots shapes) rows) is) [
+      | inl here ↦ let dot = row-at shapes x y r here in let low = apart.0 in omega (arith, dot.at, low)
+      | inr there ↦ let low = apart.0 in let lower = rows-low shapes (r.y + 14) x y rows apart.1 there in omega (arith, low, lower)
     ]
 
 -- no dot is right below another
-apart-dots : (from x y : ℕ) (rows : List Row) → AreApart from rows → list_any (is_at x y) (flat_map row_dots rows) ≡ true
-    → list_any (is_at x (suc y)) (flat_map row_dots rows) ≡ true → ⊥
-apart-dots from x y [] apart upper lower = false≢true upper
-apart-dots from x y (r ∷ rows) apart upper lower =
-    elim (in-part (is_at x y) (row_dots r) (flat_map row_dots rows) upper) [
-      | inl u ↦ elim (in-part (is_at x (suc y)) (row_dots r) (flat_map row_dots rows) lower) [
-        | inl l ↦ let a = row-at x y r u in let b = row-at x (suc y) r l in omega (arith, a.at, b.at)
-        | inr l ↦ let a = row-at x y r u in let b = rows-low (r.y + 14) x (suc y) rows apart.1 l in omega (arith, a.at, a.low, b)
+apart-dots : (shapes : Shapes) (from x y : ℕ) (rows : List Row) → AreApart from rows → list_any (is_at x y) (flat_map (row_dots shapes) rows) ≡ true
+    → list_any (is_at x (suc y)) (flat_map (row_dots shapes) rows) ≡ true → ⊥
+apart-dots shapes from x y [] apart upper lower = false≢true upper
+apart-dots shapes from x y (r ∷ rows) apart upper lower =
+    elim (in-part (is_at x y) (row_dots shapes r) (flat_map (row_dots shapes) rows) upper) [
+      | inl u ↦ elim (in-part (is_at x (suc y)) (row_dots shapes r) (flat_map (row_dots shapes) rows) lower) [
+        | inl l ↦ let a = row-at shapes x y r u in let b = row-at shapes x (suc y) r l in omega (arith, a.at, b.at)
+        | inr l ↦ let a = row-at shapes x y r u in let b = rows-low shapes (r.y + 14) x (suc y) rows apart.1 l in omega (arith, a.at, a.low, b)
       ]
-      | inr u ↦ elim (in-part (is_at x (suc y)) (row_dots r) (flat_map row_dots rows) lower) [
-        | inl l ↦ let a = rows-low (r.y + 14) x y rows apart.1 u in let b = row-at x (suc y) r l in omega (arith, a, b.at, b.low)
-        | inr l ↦ apart-dots (r.y + 14) x y rows apart.1 u l
+      | inr u ↦ elim (in-part (is_at x (suc y)) (row_dots shapes r) (flat_map (row_dots shapes) rows) lower) [
+        | inl l ↦ let a = rows-low shapes (r.y + 14) x y rows apart.1 u in let b = row-at shapes x (suc y) r l in omega (arith, a, b.at, b.low)
+        | inr l ↦ apart-dots shapes (r.y + 14) x y rows apart.1 u l
       ]
     ]
 
 -- so a paper has no dot right below another
-no-touch : (p : Paper) (x y : ℕ) → AreApart 0 p.rows → has_dot p x y ≡ true → has_dot p x (suc y) ≡ false
+no-touch : (shapes : Shapes) (p : Paper) (x y : ℕ) → AreApart 0 p.rows → has_dot shapes p x y ≡ true → has_dot shapes p x (suc y) ≡ false
 unfolding has_dot dots_of
-no-touch p x y apart upper = false_from_ne_true (has_dot p x (suc y)) (λ lower. apart-dots 0 x y p.rows apart upper lower)
+no-touch shapes p x y apart upper = false_from_ne_true (has_dot shapes p x (suc y)) (λ lower. apart-dots shapes 0 x y p.rows apart upper lower)
 
 -- a pixel by the dots of its column
-dark-first : (p : Paper) (x : ℕ) → is_dark p (2 * x) 0 ≡ has_dot p x 0
+dark-first : (shapes : Shapes) (p : Paper) (x : ℕ) → is_dark shapes p (2 * x) 0 ≡ has_dot shapes p x 0
 unfolding is_dark
-dark-first p x =
+dark-first shapes p x =
     let half : 2 * x / 2 ≡ x = omega arith in
-    rw half (same (has_dot p x 0))
+    rw half (same (has_dot shapes p x 0))
   where
     same : (b : Bool) → (b || b) ≡ b
     same true = refl
     same false = refl
 
-dark-next : (p : Paper) (x y : ℕ) → is_dark p (2 * x) (suc y) ≡ (has_dot p x (suc y) || has_dot p x y)
+dark-next : (shapes : Shapes) (p : Paper) (x y : ℕ) → is_dark shapes p (2 * x) (suc y) ≡ (has_dot shapes p x (suc y) || has_dot shapes p x y)
 unfolding is_dark
-dark-next p x y =
+dark-next shapes p x y =
     let half : 2 * x / 2 ≡ x = omega arith in
     let above : suc y - 1 ≡ y = omega arith in
     rw (half, above) refl
 
 pub tell-dots : PixelsTellDots
-tell-dots p q apart-p apart-q same x zero = sym (dark-first p x) ∙ same (2 * x) 0 ∙ dark-first q x
-tell-dots p q apart-p apart-q same x (suc y) =
-    let upper : has_dot p x y ≡ has_dot q x y = tell-dots p q apart-p apart-q same x y in
-    elim (cases_Bool (has_dot p x y)) [
-      | inl is ↦ no-touch p x y apart-p is ∙ sym (no-touch q x y apart-q (sym upper ∙ is))
-      | inr is ↦ sym (alone (has_dot p x (suc y)) (has_dot p x y) is) ∙ sym (dark-next p x y) ∙ same (2 * x) (suc y)
-          ∙ dark-next q x y ∙ alone (has_dot q x (suc y)) (has_dot q x y) (sym upper ∙ is)
+tell-dots shapes p q apart-p apart-q same x zero = sym (dark-first shapes p x) ∙ same (2 * x) 0 ∙ dark-first shapes q x
+tell-dots shapes p q apart-p apart-q same x (suc y) =
+    let upper : has_dot shapes p x y ≡ has_dot shapes q x y = tell-dots shapes p q apart-p apart-q same x y in
+    elim (cases_Bool (has_dot shapes p x y)) [
+      | inl is ↦ no-touch shapes p x y apart-p is ∙ sym (no-touch shapes q x y apart-q (sym upper ∙ is))
+      | inr is ↦ sym (alone (has_dot shapes p x (suc y)) (has_dot shapes p x y) is) ∙ sym (dark-next shapes p x y) ∙ same (2 * x) (suc y)
+          ∙ dark-next shapes q x y ∙ alone (has_dot shapes q x (suc y)) (has_dot shapes q x y) (sym upper ∙ is)
     ]
   where
     alone : (a b : Bool) → b ≡ false → (a || b) ≡ a

@@ -10,6 +10,7 @@ use Rattle.pr_page.specs.declared.paper.Paper.{Paper}
 use Rattle.pr_page.specs.declared.paper.Placed.{Placed}
 use Rattle.pr_page.specs.declared.paper.Row.{Row}
 use Rattle.pr_dots.specs.Dots.{Dot, bit_dots, column_dots, columns_dots, columns_of, dots_of, has_dot, is_at, row_dots}
+use Rattle.pr_dots.specs.declared.character_sets.Shapes.{Shapes}
 use Rattle.pr_png.specs.Marking.{darkened, marked, is_near, ShowsSheet}
 
 -- one number more
@@ -157,18 +158,18 @@ two-lines x y d = ap (λ b. d.x == x && b) (line-above d.y y) ∙ each (d.x == x
     each false p q = refl
 
 -- the dots of a paper on a blank sheet
-pub shows : (paper : Paper) (top : ℕ) (blank dark : List Bool) → length blank ≡ 665280
+pub shows : (shapes : Shapes) (paper : Paper) (top : ℕ) (blank dark : List Bool) → length blank ≡ 665280
     → ((place : ℕ) → slice_index_or blank place false ≡ false)
-    → dark ≡ marked top (flat_map row_dots paper.rows) blank → ShowsSheet paper top dark
+    → dark ≡ marked top (flat_map (row_dots shapes) paper.rows) blank → ShowsSheet shapes paper top dark
 unfolding has_dot dots_of
-shows paper top blank dark whole white made = record {
-  whole = ap length made ∙ marked-length top (flat_map row_dots paper.rows) blank ∙ whole;
+shows shapes paper top blank dark whole white made = record {
+  whole = ap length made ∙ marked-length top (flat_map (row_dots shapes) paper.rows) blank ∙ whole;
   shows = λ x line narrow short.
       ap (λ (d : List Bool). slice_index_or d (line * 480 + x) false) made
-      ∙ marked-at top (flat_map row_dots paper.rows) blank x line whole narrow short
-      ∙ ap (λ b. b || list_any (covers x (top + line)) (flat_map row_dots paper.rows)) (white (line * 480 + x))
+      ∙ marked-at top (flat_map (row_dots shapes) paper.rows) blank x line whole narrow short
+      ∙ ap (λ b. b || list_any (covers x (top + line)) (flat_map (row_dots shapes) paper.rows)) (white (line * 480 + x))
       ∙ any-either (is_at x (top + line)) (is_at x (top + line - 1)) (covers x (top + line)) (two-lines x (top + line))
-      (flat_map row_dots paper.rows);
+      (flat_map (row_dots shapes) paper.rows);
 }
 
 out-of-reach : (top x y z : ℕ) → is_near top y ≡ false → y ≤ z → z ≤ y + 13
@@ -218,16 +219,16 @@ far-columns top x y (v ∷ values) dark far =
     far-append top (column_dots x y v) (columns_dots (x + 1) y values) dark
     (far-column top x y v dark far) (far-columns top (x + 1) y values dark far)
 
-far-marks : (top y : ℕ) (marks : List Placed) (dark : List Bool) → is_near top y ≡ false
-    → marked top (flat_map (λ p. columns_dots p.x y (columns_of p.mark)) marks) dark ≡ dark
-far-marks top y [] dark far = no_dots top dark
-far-marks top y (p ∷ marks) dark far =
-    far-append top (columns_dots p.x y (columns_of p.mark)) (flat_map (λ p. columns_dots p.x y (columns_of p.mark)) marks) dark
-    (far-columns top p.x y (columns_of p.mark) dark far) (far-marks top y marks dark far)
+far-marks : (shapes : Shapes) (top y : ℕ) (marks : List Placed) (dark : List Bool) → is_near top y ≡ false
+    → marked top (flat_map (λ p. columns_dots p.x y (columns_of shapes p.mark)) marks) dark ≡ dark
+far-marks shapes top y [] dark far = no_dots top dark
+far-marks shapes top y (p ∷ marks) dark far =
+    far-append top (columns_dots p.x y (columns_of shapes p.mark)) (flat_map (λ p. columns_dots p.x y (columns_of shapes p.mark)) marks) dark
+    (far-columns top p.x y (columns_of shapes p.mark) dark far) (far-marks shapes top y marks dark far)
 
 -- a row that is not near has no dot on the sheet
-pub far_row : (top : ℕ) (row : Row) (dark : List Bool) → is_near top row.y ≡ false → marked top (row_dots row) dark ≡ dark
-far_row top row dark far = far-marks top row.y row.marks dark far
+pub far_row : (shapes : Shapes) (top : ℕ) (row : Row) (dark : List Bool) → is_near top row.y ≡ false → marked top (row_dots shapes row) dark ≡ dark
+far_row shapes top row dark far = far-marks shapes top row.y row.marks dark far
 
 -- dots in two parts, and rows that have none
 pub ruleset dots_in_parts = (common_steps, no_dots, marked_append, far_row)

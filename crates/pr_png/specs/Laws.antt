@@ -3,6 +3,7 @@ use Rattle.std.specs.Prelude.{◌≡◌, ⊤, ℕ, ◌+◌, ◌≤◌, List, [],
 use Rattle.pr_page.specs.declared.paper.Row.{Row}
 use Rattle.pr_page.specs.declared.paper.Paper.{Paper}
 use Rattle.pr_dots.specs.Dots.{has_dot}
+use Rattle.pr_dots.specs.declared.character_sets.Shapes.{Shapes}
 use Rattle.pr_png.specs.Pixels.{is_dark}
 
 -- rows from a distance on, each at least 14/126 inch below the one before it, as a printer's are
@@ -12,5 +13,5 @@ AreApart from (r ∷ rows) = (from ≤ r.y) × AreApart (r.y + 14) rows
 
 -- papers with the same pixels have the same dots
 abbrev pub PixelsTellDots : Type 0
-PixelsTellDots = (p q : Paper) → AreApart 0 p.rows → AreApart 0 q.rows
-    → ((x y : ℕ) → is_dark p x y ≡ is_dark q x y) → (x y : ℕ) → has_dot p x y ≡ has_dot q x y
+PixelsTellDots = (shapes : Shapes) (p q : Paper) → AreApart 0 p.rows → AreApart 0 q.rows
+    → ((x y : ℕ) → is_dark shapes p x y ≡ is_dark shapes q x y) → (x y : ℕ) → has_dot shapes p x y ≡ has_dot shapes q x y

@@ -3,6 +3,7 @@
 use Rattle.std.specs.Prelude.{◌≡◌, ℕ, ◌+◌, ◌-◌, ◌*◌, ◌<◌, Bool, true, false, ◌&&◌, ◌||◌, List, [], ◌∷◌, length, nat_le, nat_lt, slice_index_or, slice_set, if◌then◌else◌}
 use Rattle.pr_page.specs.declared.paper.Paper.{Paper}
 use Rattle.pr_dots.specs.Dots.{Dot, has_dot}
+use Rattle.pr_dots.specs.declared.character_sets.Shapes.{Shapes}
 
 -- a dot column is dark in a line of pixels, y lines from the paper's top, where the sheet at `top`
 -- has that place
@@ -23,8 +24,8 @@ abbrev pub is_near : (top y : ℕ) → Bool
 is_near top y = nat_le top (y + 13) && nat_lt y (top + 1386)
 
 -- what is dark is what the dots of a paper make dark on the sheet at `top`
-pub record ShowsSheet (paper : Paper) (top : ℕ) (dark : List Bool) : Type 0 where
+pub record ShowsSheet (shapes : Shapes) (paper : Paper) (top : ℕ) (dark : List Bool) : Type 0 where
   pub whole : length dark ≡ 665280
   pub shows : (x line : ℕ) → x < 480 → line < 1386
       → slice_index_or dark (line * 480 + x) false
-      ≡ (has_dot paper x (top + line) || has_dot paper x (top + line - 1))
+      ≡ (has_dot shapes paper x (top + line) || has_dot shapes paper x (top + line - 1))

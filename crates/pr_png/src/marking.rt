@@ -4,7 +4,7 @@ ghost use Rattle.std.specs.Prelude.{◌≡◌, ℕ, ◌<◌, ◌≤◌, false, f
 ghost use Rattle.pr_dots.specs.Dots.{bit_dots, column_dots, columns_dots, columns_of, row_dots};
 ghost use Rattle.pr_png.specs.Marking.{darkened, is_near, marked, ShowsSheet};
 
-use pr_dots::columns;
+use pr_dots::{Shapes, columns};
 use pr_page::{Paper, Placed, Row};
 use std::alloc::{AllocError, Global};
 
@@ -57,13 +57,13 @@ fn mark_column(dark: &mut [bool], top: u128, x: u64, y: u128, value: u8)
 
 /// Puts a mark on a sheet, on a row at a distance.
 #[tactic(auto, using(crate::proofs::OnSheet::dots_in_parts))]
-fn mark_placed(dark: &mut [bool], top: u128, y: u128, placed: Placed)
+fn mark_placed(shapes: &Shapes, dark: &mut [bool], top: u128, y: u128, placed: Placed)
     requires whole { length dark.old ≡ 665280 }
     requires within { y ≤ 18446744073709551615 }
-    ensures { dark.new ≡ marked top (columns_dots placed.x y (columns_of placed.mark)) dark.old }
+    ensures { dark.new ≡ marked top (columns_dots placed.x y (columns_of shapes.now placed.mark)) dark.old }
 {
     let mut x = u64::from(placed.x);
-    for value in columns(placed.mark).as_slice() {
+    for value in columns(shapes, placed.mark).as_slice() {
         mark_column(dark, top, x, y, *value);
         x += 1;
     }
@@ -71,12 +71,12 @@ fn mark_placed(dark: &mut [bool], top: u128, y: u128, placed: Placed)
 
 /// Puts a row on a sheet.
 #[tactic(auto, using(crate::proofs::OnSheet::dots_in_parts))]
-fn mark_row(dark: &mut [bool], top: u128, row: &Row)
+fn mark_row(shapes: &Shapes, dark: &mut [bool], top: u128, row: &Row)
     requires { length dark.old ≡ 665280 }
-    ensures { dark.new ≡ marked top (row_dots row.now) dark.old }
+    ensures { dark.new ≡ marked top (row_dots shapes.now row.now) dark.old }
 {
     for placed in row.marks.as_slice() {
-        mark_placed(dark, top, u128::from(row.y), *placed);
+        mark_placed(shapes, dark, top, u128::from(row.y), *placed);
     }
 }
 
@@ -98,22 +98,27 @@ fn blank_places(alloc: Global, count: usize) -> Result<Vec<bool>, AllocError>
 
 /// The dots of rows on a sheet.
 #[tactic(auto, using(crate::proofs::OnSheet::dots_in_parts))]
-fn mark_rows(dark: &mut [bool], top: u128, rows: &[Row])
+fn mark_rows(shapes: &Shapes, dark: &mut [bool], top: u128, rows: &[Row])
     requires { length dark.old ≡ 665280 }
-    ensures { dark.new ≡ marked top (flat_map row_dots rows.now) dark.old }
+    ensures { dark.new ≡ marked top (flat_map (row_dots shapes.now) rows.now) dark.old }
 {
     for row in rows {
         if is_near(top, u128::from(row.y)) {
-            mark_row(dark, top, row);
+            mark_row(shapes, dark, top, row);
         }
     }
 }
 
 /// The dots of a paper on the sheet whose first line of pixels is at `top`.
-pub fn dots_on_sheet(alloc: Global, paper: &Paper, top: u128) -> Result<Vec<bool>, AllocError>
-    ensures { IfOk result (λ dark. ShowsSheet paper.now top dark.items) }
+pub fn dots_on_sheet(
+    alloc: Global,
+    shapes: &Shapes,
+    paper: &Paper,
+    top: u128,
+) -> Result<Vec<bool>, AllocError>
+    ensures { IfOk result (λ dark. ShowsSheet shapes.now paper.now top dark.items) }
 {
     let mut dark = blank_places(alloc, PLACES)?;
-    mark_rows(&mut dark, top, paper.rows.as_slice());
+    mark_rows(shapes, &mut dark, top, paper.rows.as_slice());
     Ok(dark)
 }

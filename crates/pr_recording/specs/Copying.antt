@@ -2,6 +2,7 @@
 use Rattle.std.specs.Prelude.{◌≡◌, ℕ, ◌<◌, List, length, Option, Some, None, Result, Ok, Err, IfSome}
 use Rattle.std.specs.Io.KnownBytes.{Appends, IsAtEnd, Keeps}
 use Rattle.pr_wire.specs.declared.Edge.{Edge}
+use Rattle.pr_dots.specs.declared.character_sets.Shapes.{Shapes}
 use Rattle.pr_render.specs.declared.format.Format.{Format}
 use Rattle.pr_capture.specs.declared.format.TraceInput.{TraceInput}
 use Rattle.pr_cli.specs.Formats.{text_in}
@@ -35,15 +36,16 @@ HasReadPages left (Ok p) = p.stop ≡ None → IsAtEnd left
 HasReadPages left (Err fault) = Unit {0}
 
 -- what the pages that were printed come to in the writer
-abbrev pub text_of_print : Format → Printed → Result (List ℕ) PictureFault
-text_of_print format p = text_in format p.pages.present (papers_alone p.pages)
+abbrev pub text_of_print : Shapes → Format → Printed → Result (List ℕ) PictureFault
+text_of_print shapes format p = text_in shapes format p.pages.present (papers_alone p.pages)
 
-abbrev pub WritesPrint : Format → Printed → Option (List ℕ) → Option (List ℕ) → Result (Unit {0}) CliFault → Type 0
-WritesPrint format p old new (Ok _) =
-    (text : List ℕ) × (text_of_print format p ≡ Ok text) × (p.stop ≡ None) × Appends old new text
-WritesPrint format p old new (Err NoMemory) = Keeps old new
-WritesPrint format p old new (Err (Picture fault)) = (text_of_print format p ≡ Err fault) × Keeps old new
-WritesPrint format p old new (Err WriteFailed) =
-    (text : List ℕ) × (text_of_print format p ≡ Ok text) × AppendsFront old new text
-WritesPrint format p old new (Err fault) =
-    (text : List ℕ) × (text_of_print format p ≡ Ok text) × (p.stop ≡ Some fault) × Appends old new text
+abbrev pub WritesPrint :
+    Shapes → Format → Printed → Option (List ℕ) → Option (List ℕ) → Result (Unit {0}) CliFault → Type 0
+WritesPrint shapes format p old new (Ok _) =
+    (text : List ℕ) × (text_of_print shapes format p ≡ Ok text) × (p.stop ≡ None) × Appends old new text
+WritesPrint shapes format p old new (Err NoMemory) = Keeps old new
+WritesPrint shapes format p old new (Err (Picture fault)) = (text_of_print shapes format p ≡ Err fault) × Keeps old new
+WritesPrint shapes format p old new (Err WriteFailed) =
+    (text : List ℕ) × (text_of_print shapes format p ≡ Ok text) × AppendsFront old new text
+WritesPrint shapes format p old new (Err fault) =
+    (text : List ℕ) × (text_of_print shapes format p ≡ Ok text) × (p.stop ≡ Some fault) × Appends old new text

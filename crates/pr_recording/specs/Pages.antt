@@ -1,4 +1,5 @@
--- Trusted: what `decode` answers for a recording when its pages are wanted, and what it leaves in the writer.
+-- Trusted: what `decode` answers for a recording when its pages are wanted, and what it leaves in the writer, with characters
+-- of some shapes.
 use Rattle.std.specs.Prelude.{◌≡◌, ℕ, ◌<◌, ◌≤◌, List, [], length, Option, Some, None, Result, Ok, Err}
 use Rattle.std.specs.Io.KnownBytes.{Appends, Keeps}
 use Rattle.pr_wire.specs.declared.Edge.{Edge}
@@ -7,6 +8,7 @@ use Rattle.pr_decode.specs.Readings.{readings_of, settled_of}
 use Rattle.pr_recording.specs.declared.printer_pair.PrintedPages.{PrintedPages}
 use Rattle.pr_recording.specs.PrintedPages.{ArePapers}
 use Rattle.pr_system.specs.declared.outcome.Outcome.{Outcome}
+use Rattle.pr_dots.specs.declared.character_sets.Shapes.{Shapes}
 use Rattle.pr_render.specs.declared.format.Format.{Format}
 use Rattle.pr_capture.specs.declared.format.TraceInput.{TraceInput}
 use Rattle.pr_cli.specs.Formats.{text_in}
@@ -32,50 +34,55 @@ abbrev pub papers_alone : PrintedPages → Outcome
 papers_alone r = record { paper4 = r.paper4; paper5 = r.paper5; statuses = []; stop = None; screen = []; trace = [] }
 
 -- the text of the pages that readings make: those of the printers that hear a byte
-pub record IsPagesOf (format : Format) (readings : List Reading) (text : List ℕ) : Type 0 where
+pub record IsPagesOf (shapes : Shapes) (format : Format) (readings : List Reading) (text : List ℕ) : Type 0 where
   pub reprinted : PrintedPages
   pub are_papers : ArePapers readings reprinted
-  pub is_text : text_in format reprinted.present (papers_alone reprinted) ≡ Ok text
+  pub is_text : text_in shapes format reprinted.present (papers_alone reprinted) ≡ Ok text
 
 -- the pages that readings make can not be shown in this format
-pub record AreUnshown (format : Format) (readings : List Reading) (fault : PictureFault) : Type 0 where
+pub record AreUnshown (shapes : Shapes) (format : Format) (readings : List Reading) (fault : PictureFault)
+    : Type 0 where
   pub reprinted : PrintedPages
   pub are_papers : ArePapers readings reprinted
-  pub is_unshown : text_in format reprinted.present (papers_alone reprinted) ≡ Err fault
+  pub is_unshown : text_in shapes format reprinted.present (papers_alone reprinted) ≡ Err fault
 
 -- these pages were written, or a beginning of them
-abbrev pub WritesPages : Format → List Reading → Option (List ℕ) → Option (List ℕ) → Type 0
-WritesPages format readings old new = (text : List ℕ) × IsPagesOf format readings text × Appends old new text
+abbrev pub WritesPages : Shapes → Format → List Reading → Option (List ℕ) → Option (List ℕ) → Type 0
+WritesPages shapes format readings old new =
+    (text : List ℕ) × IsPagesOf shapes format readings text × Appends old new text
 
-abbrev pub WritesFrontOfPages : Format → List Reading → Option (List ℕ) → Option (List ℕ) → Type 0
-WritesFrontOfPages format readings old new =
-    (text : List ℕ) × IsPagesOf format readings text × AppendsFront old new text
+abbrev pub WritesFrontOfPages : Shapes → Format → List Reading → Option (List ℕ) → Option (List ℕ) → Type 0
+WritesFrontOfPages shapes format readings old new =
+    (text : List ℕ) × IsPagesOf shapes format readings text × AppendsFront old new text
 
 -- what the writer holds with each answer, by the length of the input, why it stops, and the readings that are printed
 abbrev pub LeavesPages :
-    (len : ℕ) → (stop : Option CliFault) → Format → List Reading → Option (List ℕ) → Option (List ℕ)
+    (len : ℕ) → (stop : Option CliFault) → Shapes → Format → List Reading → Option (List ℕ) → Option (List ℕ)
     → Result (Unit {0}) CliFault → Type 0
-LeavesPages len stop format rs old new (Ok _) = (len ≤ print_limit) × (stop ≡ None) × WritesPages format rs old new
-LeavesPages len stop format rs old new (Err (Script fault)) = ⊥
-LeavesPages len stop format rs old new (Err (Trace fault)) = (stop ≡ Some (Trace fault)) × WritesPages format rs old new
-LeavesPages len stop format rs old new (Err (Wave fault)) = (stop ≡ Some (Wave fault)) × WritesPages format rs old new
-LeavesPages len stop format rs old new (Err (Capture fault)) =
-    (stop ≡ Some (Capture fault)) × WritesPages format rs old new
-LeavesPages len stop format rs old new (Err (Picture fault)) = AreUnshown format rs fault × Keeps old new
-LeavesPages len stop format rs old new (Err TooLarge) = (print_limit < len) × Keeps old new
-LeavesPages len stop format rs old new (Err NoMemory) = Keeps old new
-LeavesPages len stop format rs old new (Err ReadFailed) = Keeps old new
-LeavesPages len stop format rs old new (Err WriteFailed) = WritesFrontOfPages format rs old new
+LeavesPages len stop shapes format rs old new (Ok _) =
+    (len ≤ print_limit) × (stop ≡ None) × WritesPages shapes format rs old new
+LeavesPages len stop shapes format rs old new (Err (Script fault)) = ⊥
+LeavesPages len stop shapes format rs old new (Err (Trace fault)) =
+    (stop ≡ Some (Trace fault)) × WritesPages shapes format rs old new
+LeavesPages len stop shapes format rs old new (Err (Wave fault)) =
+    (stop ≡ Some (Wave fault)) × WritesPages shapes format rs old new
+LeavesPages len stop shapes format rs old new (Err (Capture fault)) =
+    (stop ≡ Some (Capture fault)) × WritesPages shapes format rs old new
+LeavesPages len stop shapes format rs old new (Err (Picture fault)) = AreUnshown shapes format rs fault × Keeps old new
+LeavesPages len stop shapes format rs old new (Err TooLarge) = (print_limit < len) × Keeps old new
+LeavesPages len stop shapes format rs old new (Err NoMemory) = Keeps old new
+LeavesPages len stop shapes format rs old new (Err ReadFailed) = Keeps old new
+LeavesPages len stop shapes format rs old new (Err WriteFailed) = WritesFrontOfPages shapes format rs old new
 
 -- the answer, by the text and by what the writer held before and after
-pub record AnswersPages (input : TraceInput) (format : Format) (text : List ℕ) (old new : Option (List ℕ))
-    (result : Result (Unit {0}) CliFault) : Type 0 where
+pub record AnswersPages (shapes : Shapes) (input : TraceInput) (format : Format) (text : List ℕ)
+    (old new : Option (List ℕ)) (result : Result (Unit {0}) CliFault) : Type 0 where
   pub edges : List Edge
   pub own : Option CliFault
   pub says : Says input text edges own
   pub leaves :
       let stop = stop_at (back_in edges) own in
-      LeavesPages (length text) stop format (readings_up_to stop edges) old new result
+      LeavesPages (length text) stop shapes format (readings_up_to stop edges) old new result
 
 -- a fault of pages that are asked for: one of the recording or of their picture
 abbrev pub IsReprintFault : CliFault → Type 0

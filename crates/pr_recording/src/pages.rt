@@ -17,6 +17,7 @@ use pr_capture::TraceInput;
 use pr_cli::{
     BLOCK, CliFault, InputReader, Watched, WriteFault, read_edges_come_first, text_in_format,
 };
+use pr_dots::Shapes;
 use pr_page::Sequence;
 use pr_render::Format;
 use pr_system::Outcome;
@@ -30,6 +31,7 @@ pub const PRINT_LIMIT: usize = 4_000_000_000;
 /// Reads any recording of the bus, in any format, and writes the pages that printers 4 and 5 print of it,
 /// in this format: of the bytes that were acknowledged, those that each of them hears. The sheets are
 /// those of the printers that hear a byte; there are no statuses, no bytes on the screen and no stop.
+/// Pictures draw characters in these shapes.
 ///
 /// The recording may begin anywhere and have any levels. It is read block by block and not kept, and the
 /// whole text is made before the first write.
@@ -55,13 +57,14 @@ pub fn reprint_over<R: Read, W: Write>(
     output: &mut Watched<W>,
     trace: TraceInput<'_>,
     format: Format,
+    shapes: &Shapes,
 ) -> Result<(), CliFault>
     // the caller's part
     requires input { has_failed input.old ≡ false }
     requires output { has_failed output.old ≡ false }
     // what it gives
     ensures pages { IfSome (R.remaining (wrapped input.old)) (λ text.
-        AnswersPages trace.entry format text (W.contents (wrapped output.old)) (W.contents (wrapped output.new)) result) }
+        AnswersPages shapes.now trace.entry format text (W.contents (wrapped output.old)) (W.contents (wrapped output.new)) result) }
     ensures at_end { ReadsAll (R.remaining (wrapped input.new)) result }
     ensures flushed { OnOk result (is_flushed output.new ≡ true) }
     // when it refuses, and what that leaves
@@ -71,7 +74,7 @@ pub fn reprint_over<R: Read, W: Write>(
 {
     read_edges_come_first();
     let printed = print_input(alloc, input, trace, PRINT_LIMIT)?;
-    write_pages(alloc, output, printed, format)
+    write_pages(alloc, output, printed, format, shapes)
 }
 
 /// Prints a recording of at most `limit` bytes, block by block: gives the papers that
@@ -143,12 +146,13 @@ fn write_pages<W: Write>(
     output: &mut Watched<W>,
     printed: Printed,
     format: Format,
+    shapes: &Shapes,
 ) -> Result<(), CliFault>
     // the caller's part
     requires fresh { has_failed output.old ≡ false }
     requires stop { IfSome printed.stop IsStop }
     // what it gives
-    ensures written { WritesPrint format printed (W.contents (wrapped output.old)) (W.contents (wrapped output.new)) result }
+    ensures written { WritesPrint shapes.now format printed (W.contents (wrapped output.old)) (W.contents (wrapped output.new)) result }
     ensures flushed { OnOk result (is_flushed output.new ≡ true) }
     // when it refuses, and what that leaves
     ensures own { IfErr result IsReprintFault }
@@ -156,7 +160,8 @@ fn write_pages<W: Write>(
 {
     let Printed { pages, stop } = printed;
     let present = pages.present;
-    let text = text_in_format(alloc, papers_alone(alloc, pages), present, format)?;
+    let outcome = papers_alone(alloc, pages);
+    let text = text_in_format(alloc, shapes, outcome, present, format)?;
     match text.write_to(output) {
         Ok(()) => {}
         Err(WriteFault) => return Err(CliFault::WriteFailed),

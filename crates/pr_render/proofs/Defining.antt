@@ -6,6 +6,7 @@ use Rattle.std.proofs.lemmas.Grind.{common_steps, get_or-set_at}
 use Rattle.pr_page.specs.declared.paper.Mark.{Mark}
 use Rattle.pr_page.specs.declared.paper.Row.{Row}
 use Rattle.pr_dots.specs.Sheets.{is_on, rows_on}
+use Rattle.pr_dots.specs.declared.character_sets.Shapes.{Shapes}
 use Rattle.pr_render.specs.Defined.{HasDefined, is_new, marks_on, new_definitions}
 use Rattle.pr_render.specs.Svg.{definition_svg, differ, each_once, number_of}
 
@@ -30,54 +31,54 @@ others : (defined : List Bool) (n k : ℕ) → n < length defined
 others defined n k within = grind (arith, common_steps)
 
 -- a mark that has been defined wants no definition
-pub defined_already : (defined : List Bool) (mark : Mark) (rest : List Mark) → slice_index_or defined (number_of mark) false ≡ true
-    → new_definitions defined (mark ∷ rest) ≡ new_definitions defined rest
-defined_already defined mark rest is =
-    rw is (ap (flat_map definition_svg) (filter-both (is_new defined) (differ mark) (is_new defined)
+pub defined_already : (shapes : Shapes) (defined : List Bool) (mark : Mark) (rest : List Mark) → slice_index_or defined (number_of mark) false ≡ true
+    → new_definitions shapes defined (mark ∷ rest) ≡ new_definitions shapes defined rest
+defined_already shapes defined mark rest is =
+    rw is (ap (flat_map (definition_svg shapes)) (filter-both (is_new defined) (differ mark) (is_new defined)
     (λ x. known defined (number_of mark) (number_of x) is) (each_once rest)))
 
 -- a mark that is new wants one
-pub defined_now : (defined : List Bool) (mark : Mark) (rest : List Mark) → number_of mark < length defined
+pub defined_now : (shapes : Shapes) (defined : List Bool) (mark : Mark) (rest : List Mark) → number_of mark < length defined
     → slice_index_or defined (number_of mark) false ≡ false
-    → new_definitions defined (mark ∷ rest) ≡ definition_svg mark ++ new_definitions (slice_set defined (number_of mark) true) rest
-defined_now defined mark rest within is =
-    rw is (ap (λ ms. definition_svg mark ++ flat_map definition_svg ms)
+    → new_definitions shapes defined (mark ∷ rest) ≡ definition_svg shapes mark ++ new_definitions shapes (slice_set defined (number_of mark) true) rest
+defined_now shapes defined mark rest within is =
+    rw is (ap (λ ms. definition_svg shapes mark ++ flat_map (definition_svg shapes) ms)
     (filter-both (is_new defined) (differ mark) (is_new (slice_set defined (number_of mark) true))
     (λ x. others defined (number_of mark) (number_of x) within) (each_once rest)))
 
 -- the same, where the definition has been added
-pub defined_next : (defined view : List Bool) (mark : Mark) (number : ℕ) (rest : List Mark) (text new_text : List ℕ)
+pub defined_next : (shapes : Shapes) (defined view : List Bool) (mark : Mark) (number : ℕ) (rest : List Mark) (text new_text : List ℕ)
     → view ≡ defined → number ≡ number_of mark → number < length defined → slice_index_or defined number false ≡ false
-    → new_text ≡ text ++ definition_svg mark
-    → new_text ++ new_definitions (slice_set defined number true) rest ≡ text ++ new_definitions view (mark ∷ rest)
-defined_next defined view mark number rest text new_text at is within none added =
+    → new_text ≡ text ++ definition_svg shapes mark
+    → new_text ++ new_definitions shapes (slice_set defined number true) rest ≡ text ++ new_definitions shapes view (mark ∷ rest)
+defined_next shapes defined view mark number rest text new_text at is within none added =
     let here : number_of mark < length defined = rw (sym is) within in
     let not_yet : slice_index_or defined (number_of mark) false ≡ false = rw (sym is) none in
-    let step : new_definitions view (mark ∷ rest) ≡ definition_svg mark ++ new_definitions (slice_set defined number true) rest =
-    ap (λ d. new_definitions d (mark ∷ rest)) at
-    ∙ (defined_now defined mark rest here not_yet
-    ∙ ap (λ k. definition_svg mark ++ new_definitions (slice_set defined k true) rest) (sym is)) in
-    ap (λ t. t ++ new_definitions (slice_set defined number true) rest) added
-    ∙ (append_assoc text (definition_svg mark) (new_definitions (slice_set defined number true) rest)
+    let step : new_definitions shapes view (mark ∷ rest) ≡ definition_svg shapes mark ++ new_definitions shapes (slice_set defined number true) rest =
+    ap (λ d. new_definitions shapes d (mark ∷ rest)) at
+    ∙ (defined_now shapes defined mark rest here not_yet
+    ∙ ap (λ k. definition_svg shapes mark ++ new_definitions shapes (slice_set defined k true) rest) (sym is)) in
+    ap (λ t. t ++ new_definitions shapes (slice_set defined number true) rest) added
+    ∙ (append_assoc text (definition_svg shapes mark) (new_definitions shapes (slice_set defined number true) rest)
     ∙ ap (λ t. text ++ t) (sym step))
 
 -- at first each mark wants one
-none-defined : (marks : List Mark) → new_definitions (replicate 2304 false) marks ≡ flat_map definition_svg (each_once marks)
-none-defined marks = ap (flat_map definition_svg) (filter-all (is_new (replicate 2304 false)) (λ x. at-first 2304 (number_of x)) (each_once marks))
+none-defined : (shapes : Shapes) (marks : List Mark) → new_definitions shapes (replicate 2304 false) marks ≡ flat_map (definition_svg shapes) (each_once marks)
+none-defined shapes marks = ap (flat_map (definition_svg shapes)) (filter-all (is_new (replicate 2304 false)) (λ x. at-first 2304 (number_of x)) (each_once marks))
   where
     at-first : (n k : ℕ) → not (slice_index_or (replicate n false) k false) ≡ true
     at-first n k = grind (arith, common_steps)
 
 -- the definitions of the marks of two papers
-pub two-papers : (t1 t2 t3 : List ℕ) (d1 d2 d3 : List Bool) (four five : List Mark) → d1 ≡ replicate 2304 false
-    → HasDefined four t1 d1 t2 d2 → HasDefined five t2 d2 t3 d3 → t3 ≡ t1 ++ flat_map definition_svg (each_once (four ++ five))
-two-papers t1 t2 t3 d1 d2 d3 four five at_first first second =
-    grind (arith, common_steps, second [], first five, at_first, none-defined (four ++ five))
+pub two-papers : (shapes : Shapes) (t1 t2 t3 : List ℕ) (d1 d2 d3 : List Bool) (four five : List Mark) → d1 ≡ replicate 2304 false
+    → HasDefined shapes four t1 d1 t2 d2 → HasDefined shapes five t2 d2 t3 d3 → t3 ≡ t1 ++ flat_map (definition_svg shapes) (each_once (four ++ five))
+two-papers shapes t1 t2 t3 d1 d2 d3 four five at_first first second =
+    grind (arith, common_steps, second [], first five, at_first, none-defined shapes (four ++ five))
 
 -- the definitions of the marks of a sheet
-pub one-sheet : (t1 t2 : List ℕ) (d1 d2 : List Bool) (marks : List Mark) → d1 ≡ replicate 2304 false
-    → HasDefined marks t1 d1 t2 d2 → t2 ≡ t1 ++ flat_map definition_svg (each_once marks)
-one-sheet t1 t2 d1 d2 marks at_first defined = grind (arith, common_steps, defined [], at_first, none-defined marks)
+pub one-sheet : (shapes : Shapes) (t1 t2 : List ℕ) (d1 d2 : List Bool) (marks : List Mark) → d1 ≡ replicate 2304 false
+    → HasDefined shapes marks t1 d1 t2 d2 → t2 ≡ t1 ++ flat_map (definition_svg shapes) (each_once marks)
+one-sheet shapes t1 t2 d1 d2 marks at_first defined = grind (arith, common_steps, defined [], at_first, none-defined shapes marks)
 
 -- the marks of the rows that are on a sheet, with one row more
 pub marks_of_more : (sheet : ℕ) (row : Row) (rows : List Row)

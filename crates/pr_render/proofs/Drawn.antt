@@ -9,6 +9,7 @@ use Rattle.pr_page.specs.declared.paper.Row.{Row}
 use Rattle.pr_page.specs.declared.paper.Paper.{Paper}
 use Rattle.pr_page.specs.declared.paper.Mark.{Mark}
 use Rattle.pr_dots.specs.Dots.{Dot, bit_dots, column_dots, columns_dots, columns_of, dots_of, row_dots}
+use Rattle.pr_dots.specs.declared.character_sets.Shapes.{Shapes}
 use Rattle.pr_render.specs.Laws.{is_of_bytes, moved, paper_discs, used_discs}
 use Rattle.pr_render.specs.Svg.{Disc, differ, disc_of, each_once, mark_discs, marks_of, name_svg, number_of}
 use Rattle.pr_render.proofs.Names.{names-numbers, numbers-tell}
@@ -57,12 +58,12 @@ once f m (n ∷ ms) among = by (number_of n == number_of m) refl (once f m ms)
         rw (is, others) (rest (later (number_of n == number_of m) (list_any (λ n. number_of n == number_of m) ms) is among))
 
 -- what is used by a name, by numbers
-used-chosen : (ds : List Mark) (m : Mark) (across down : ℕ) → list_all is_of_bytes ds ≡ true → is_of_bytes m ≡ true
-    → used_discs ds across down (name_svg m) ≡ chosen (λ d. map (moved across down) (mark_discs d)) m ds
-used-chosen [] m across down all small = refl
-used-chosen (d ∷ ds) m across down all small =
+used-chosen : (shapes : Shapes) (ds : List Mark) (m : Mark) (across down : ℕ) → list_all is_of_bytes ds ≡ true → is_of_bytes m ≡ true
+    → used_discs shapes ds across down (name_svg m) ≡ chosen (λ d. map (moved across down) (mark_discs shapes d)) m ds
+used-chosen shapes [] m across down all small = refl
+used-chosen shapes (d ∷ ds) m across down all small =
     let parts = and_parts (is_of_bytes d) (list_all is_of_bytes ds) all in
-    rw (names-numbers d m parts.0 small, used-chosen ds m across down parts.1 small) refl
+    rw (names-numbers d m parts.0 small, used-chosen shapes ds m across down parts.1 small) refl
 
 -- marks that are left of marks of bytes are of bytes
 bytes-filter : (p : Mark → Bool) (ms : List Mark) → list_all is_of_bytes ms ≡ true → list_all is_of_bytes (filter p ms) ≡ true
@@ -118,28 +119,28 @@ abbrev is_known : List Mark → Mark → Bool
 is_known ms m = list_any (λ n. number_of n == number_of m) ms && is_of_bytes m
 
 -- what an element draws: the dots of its mark
-use-dots : (ms : List Mark) (p : Placed) (y : ℕ) → list_all is_of_bytes ms ≡ true → is_known ms p.mark ≡ true
-    → used_discs (each_once ms) (21 * p.x) (10 * y) (name_svg p.mark) ≡ map disc_of (columns_dots p.x y (columns_of p.mark))
-use-dots ms p y all known =
+use-dots : (shapes : Shapes) (ms : List Mark) (p : Placed) (y : ℕ) → list_all is_of_bytes ms ≡ true → is_known ms p.mark ≡ true
+    → used_discs shapes (each_once ms) (21 * p.x) (10 * y) (name_svg p.mark) ≡ map disc_of (columns_dots p.x y (columns_of shapes p.mark))
+use-dots shapes ms p y all known =
     let parts = and_parts (list_any (λ n. number_of n == number_of p.mark) ms) (is_of_bytes p.mark) known in
-    used-chosen (each_once ms) p.mark (21 * p.x) (10 * y) (bytes-once ms all) parts.1
-    ∙ (once (λ d. map (moved (21 * p.x) (10 * y)) (mark_discs d)) p.mark ms parts.0
-    ∙ columns-moved p.x y 0 p.x (omega arith) (columns_of p.mark))
+    used-chosen shapes (each_once ms) p.mark (21 * p.x) (10 * y) (bytes-once ms all) parts.1
+    ∙ (once (λ d. map (moved (21 * p.x) (10 * y)) (mark_discs shapes d)) p.mark ms parts.0
+    ∙ columns-moved p.x y 0 p.x (omega arith) (columns_of shapes p.mark))
 
 -- lists of discs, one after the other
 discs-append : (a b : List Disc) (c d : List Dot) → a ≡ map disc_of c → b ≡ map disc_of d → a ++ b ≡ map disc_of (c ++ d)
 discs-append a b c d p q = grind (arith, common_steps, p, q)
 
 -- what the elements of a line draw
-line-dots : (ms : List Mark) (y : ℕ) (ps : List Placed) → list_all is_of_bytes ms ≡ true → list_all (is_known ms) (map (λ p. p.mark) ps) ≡ true
-    → flat_map (λ p. used_discs (each_once ms) (21 * p.x) (10 * y) (name_svg p.mark)) ps
-    ≡ map disc_of (flat_map (λ p. columns_dots p.x y (columns_of p.mark)) ps)
-line-dots ms y [] all known = refl
-line-dots ms y (p ∷ ps) all known =
+line-dots : (shapes : Shapes) (ms : List Mark) (y : ℕ) (ps : List Placed) → list_all is_of_bytes ms ≡ true → list_all (is_known ms) (map (λ p. p.mark) ps) ≡ true
+    → flat_map (λ p. used_discs shapes (each_once ms) (21 * p.x) (10 * y) (name_svg p.mark)) ps
+    ≡ map disc_of (flat_map (λ p. columns_dots p.x y (columns_of shapes p.mark)) ps)
+line-dots shapes ms y [] all known = refl
+line-dots shapes ms y (p ∷ ps) all known =
     let parts = and_parts (is_known ms p.mark) (list_all (is_known ms) (map (λ p. p.mark) ps)) known in
-    discs-append (used_discs (each_once ms) (21 * p.x) (10 * y) (name_svg p.mark))
-    (flat_map (λ p. used_discs (each_once ms) (21 * p.x) (10 * y) (name_svg p.mark)) ps) (columns_dots p.x y (columns_of p.mark))
-    (flat_map (λ p. columns_dots p.x y (columns_of p.mark)) ps) (use-dots ms p y all parts.0) (line-dots ms y ps all parts.1)
+    discs-append (used_discs shapes (each_once ms) (21 * p.x) (10 * y) (name_svg p.mark))
+    (flat_map (λ p. used_discs shapes (each_once ms) (21 * p.x) (10 * y) (name_svg p.mark)) ps) (columns_dots p.x y (columns_of shapes p.mark))
+    (flat_map (λ p. columns_dots p.x y (columns_of shapes p.mark)) ps) (use-dots shapes ms p y all parts.0) (line-dots shapes ms y ps all parts.1)
 
 -- a test of two lists of marks
 all-parts : (test : Mark → Bool) (ps qs : List Mark) → list_all test (ps ++ qs) ≡ true → (list_all test ps ≡ true) × (list_all test qs ≡ true)
@@ -155,18 +156,18 @@ marks-append [] qs = refl
 marks-append (p ∷ ps) qs = ap (λ ms. p.mark ∷ ms) (marks-append ps qs)
 
 -- what the elements of rows draw
-rows-dots : (ms : List Mark) (rs : List Row) → list_all is_of_bytes ms ≡ true
+rows-dots : (shapes : Shapes) (ms : List Mark) (rs : List Row) → list_all is_of_bytes ms ≡ true
     → list_all (is_known ms) (map (λ p. p.mark) (flat_map (λ r. r.marks) rs)) ≡ true
-    → flat_map (λ r. flat_map (λ p. used_discs (each_once ms) (21 * p.x) (10 * r.y) (name_svg p.mark)) r.marks) rs
-    ≡ map disc_of (flat_map row_dots rs)
-rows-dots ms [] all known = refl
-rows-dots ms (r ∷ rs) all known =
+    → flat_map (λ r. flat_map (λ p. used_discs shapes (each_once ms) (21 * p.x) (10 * r.y) (name_svg p.mark)) r.marks) rs
+    ≡ map disc_of (flat_map (row_dots shapes) rs)
+rows-dots shapes ms [] all known = refl
+rows-dots shapes ms (r ∷ rs) all known =
     let both : list_all (is_known ms) (map (λ p. p.mark) r.marks ++ map (λ p. p.mark) (flat_map (λ r. r.marks) rs)) ≡ true =
     ap (list_all (is_known ms)) (sym (marks-append r.marks (flat_map (λ r. r.marks) rs))) ∙ known in
     let parts = all-parts (is_known ms) (map (λ p. p.mark) r.marks) (map (λ p. p.mark) (flat_map (λ r. r.marks) rs)) both in
-    discs-append (flat_map (λ p. used_discs (each_once ms) (21 * p.x) (10 * r.y) (name_svg p.mark)) r.marks)
-    (flat_map (λ r. flat_map (λ p. used_discs (each_once ms) (21 * p.x) (10 * r.y) (name_svg p.mark)) r.marks) rs)
-    (row_dots r) (flat_map row_dots rs) (line-dots ms r.y r.marks all parts.0) (rows-dots ms rs all parts.1)
+    discs-append (flat_map (λ p. used_discs shapes (each_once ms) (21 * p.x) (10 * r.y) (name_svg p.mark)) r.marks)
+    (flat_map (λ r. flat_map (λ p. used_discs shapes (each_once ms) (21 * p.x) (10 * r.y) (name_svg p.mark)) r.marks) rs)
+    (row_dots shapes r) (flat_map (row_dots shapes) rs) (line-dots shapes ms r.y r.marks all parts.0) (rows-dots shapes ms rs all parts.1)
 
 -- a mark between others is among them
 any-between : (test : Mark → Bool) (ps : List Mark) (m : Mark) (qs : List Mark) → test m ≡ true → list_any test (ps ++ m ∷ qs) ≡ true
@@ -184,10 +185,10 @@ each-known ps (q ∷ qs) all =
     (ap (λ ms. list_all (is_known ms) qs) (sym (append_assoc ps (q ∷ []) qs)) ∙ each-known (ps ++ q ∷ []) qs parts.1)
 
 -- the elements of a paper draw its dots
-pub discs-dots : (before : List Mark) (paper : Paper) (after : List Mark) → list_all is_of_bytes (before ++ (marks_of paper ++ after)) ≡ true
-    → paper_discs (each_once (before ++ (marks_of paper ++ after))) paper ≡ map disc_of (dots_of paper)
+pub discs-dots : (shapes : Shapes) (before : List Mark) (paper : Paper) (after : List Mark) → list_all is_of_bytes (before ++ (marks_of paper ++ after)) ≡ true
+    → paper_discs shapes (each_once (before ++ (marks_of paper ++ after))) paper ≡ map disc_of (dots_of shapes paper)
 unfolding dots_of
-discs-dots before paper after all =
+discs-dots shapes before paper after all =
     let known = each-known [] (before ++ (marks_of paper ++ after)) all in
     let behind = all-parts (is_known (before ++ (marks_of paper ++ after))) before (marks_of paper ++ after) known in
     let own = all-parts (is_known (before ++ (marks_of paper ++ after))) (marks_of paper) after behind.1 in
@@ -195,4 +196,4 @@ discs-dots before paper after all =
     (map (λ p. p.mark) (flat_map (λ r. r.marks) paper.rows) ++ map (λ p. p.mark) paper.held) ≡ true =
     ap (list_all (is_known (before ++ (marks_of paper ++ after)))) (sym (marks-append (flat_map (λ r. r.marks) paper.rows) paper.held)) ∙ own.0 in
     let rows = all-parts (is_known (before ++ (marks_of paper ++ after))) (map (λ p. p.mark) (flat_map (λ r. r.marks) paper.rows)) (map (λ p. p.mark) paper.held) both in
-    rows-dots (before ++ (marks_of paper ++ after)) paper.rows all rows.0
+    rows-dots shapes (before ++ (marks_of paper ++ after)) paper.rows all rows.0

@@ -8,6 +8,7 @@ use Rattle.pr_page.specs.declared.paper.Row.{Row}
 use Rattle.pr_page.specs.declared.paper.Mark.{Mark}
 use Rattle.pr_page.specs.declared.paper.Mark.TheVariants.{Cell, Dots}
 use Rattle.pr_dots.specs.Dots.{dots_of}
+use Rattle.pr_dots.specs.declared.character_sets.Shapes.{Shapes}
 use Rattle.pr_render.specs.Characters.{character}
 use Rattle.pr_render.specs.Plain.{held_text, rows_text, shown}
 use Rattle.pr_render.specs.Words.{is_blank}
@@ -30,21 +31,21 @@ abbrev pub moved : (across down : ℕ) → Disc → Disc
 moved across down disc = record { across = across + disc.across; down = down + disc.down }
 
 -- what an element draws that uses a name: the discs of every definition of that name, moved
-abbrev pub used_discs : List Mark → (across down : ℕ) → List ℕ → List Disc
-used_discs definitions across down name =
-    flat_map (λ d. if same_text (name_svg d) name then map (moved across down) (mark_discs d) else []) definitions
+abbrev pub used_discs : Shapes → List Mark → (across down : ℕ) → List ℕ → List Disc
+used_discs shapes definitions across down name =
+    flat_map (λ d. if same_text (name_svg d) name then map (moved across down) (mark_discs shapes d) else []) definitions
 
 -- what the elements of a paper's rows draw, each in its row's group
-abbrev pub paper_discs : List Mark → Paper → List Disc
-paper_discs definitions paper =
-    flat_map (λ r. flat_map (λ p. used_discs definitions (21 * p.x) (10 * r.y) (name_svg p.mark)) r.marks) paper.rows
+abbrev pub paper_discs : Shapes → List Mark → Paper → List Disc
+paper_discs shapes definitions paper =
+    flat_map (λ r. flat_map (λ p. used_discs shapes definitions (21 * p.x) (10 * r.y) (name_svg p.mark)) r.marks) paper.rows
 
 -- where the marks of a paper are among those defined, its elements draw a disc for each dot of the paper, and no other disc
 abbrev pub DiscsAreTheDots : Type 0
 DiscsAreTheDots =
-    (before : List Mark) (paper : Paper) (after : List Mark)
+    (shapes : Shapes) (before : List Mark) (paper : Paper) (after : List Mark)
     → list_all is_of_bytes (before ++ (marks_of paper ++ after)) ≡ true
-    → paper_discs (each_once (before ++ (marks_of paper ++ after))) paper ≡ map disc_of (dots_of paper)
+    → paper_discs shapes (each_once (before ++ (marks_of paper ++ after))) paper ≡ map disc_of (dots_of shapes paper)
 
 -- different marks have different names
 abbrev pub NamesTellMarks : Type 0

@@ -5,6 +5,7 @@ use Rattle.pr_page.specs.declared.paper.Row.{Row}
 use Rattle.pr_page.specs.declared.paper.Paper.{Paper}
 use Rattle.pr_page.specs.declared.paper.Mark.{Mark}
 use Rattle.pr_dots.specs.Sheets.{rows_on}
+use Rattle.pr_dots.specs.declared.character_sets.Shapes.{Shapes}
 use Rattle.pr_render.specs.Parts.{document_about, ink_begin, paper_piece, sheet_end, single_begin, single_end, single_marks, single_paper, single_size}
 use Rattle.pr_render.specs.Svg.{definitions_svg, row_svg}
 
@@ -25,11 +26,11 @@ abbrev pub row_marks : List Row → List Mark
 row_marks rows = map (λ p. p.mark) (flat_map (λ r. r.marks) rows)
 
 -- the document of rows on a sheet: each of their marks is defined once, and each row is drawn
-unfoldable pub single_svg : ℕ → List Row → List ℕ
-single_svg top rows =
-    single_head top ++ definitions_svg (row_marks rows) ++ single_sheet top ++ ink_begin ++ flat_map row_svg rows
+unfoldable pub single_svg : Shapes → ℕ → List Row → List ℕ
+single_svg shapes top rows =
+    single_head top ++ definitions_svg shapes (row_marks rows) ++ single_sheet top ++ ink_begin ++ flat_map row_svg rows
     ++ sheet_end ++ single_end
 
 -- a sheet of a paper: the rows that are on it. Marks that are held have no place yet, and are left out
-abbrev pub sheet_svg_of : Paper → ℕ → List ℕ
-sheet_svg_of paper sheet = single_svg (single_top sheet) (rows_on sheet paper.rows)
+abbrev pub sheet_svg_of : Shapes → Paper → ℕ → List ℕ
+sheet_svg_of shapes paper sheet = single_svg shapes (single_top sheet) (rows_on sheet paper.rows)

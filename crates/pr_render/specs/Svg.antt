@@ -11,6 +11,7 @@ use Rattle.pr_serial.specs.declared.Present.{Present}
 use Rattle.pr_channels.specs.declared.faults.Stop.{Stop}
 use Rattle.pr_system.specs.declared.outcome.Outcome.{Outcome}
 use Rattle.pr_dots.specs.Dots.{Dot, columns_dots, columns_of}
+use Rattle.pr_dots.specs.declared.character_sets.Shapes.{Shapes}
 use Rattle.pr_render.specs.Characters.{character}
 use Rattle.pr_render.specs.Words.{either_text, is_blank, stop_name, text_if}
 use Rattle.pr_render.specs.Parts.{definitions_begin, definitions_end, desk, document_about, document_begin, held_begin, held_note, height_begin, ink_begin, letters_fitted, letters_width, mark_begin, mark_path, notes_begin, paper_folds, paper_piece, row_begin, sheet_end, sheet_marks, sheet_name, sheet_paper, status_begin, stop_begin, text_end, units_begin, units_between, use_begin, use_end, use_place}
@@ -35,14 +36,14 @@ name_svg (Cell code lower reverse wide) =
     either_text lower (codes "l") (codes "u") ++ text_if reverse (codes "r") ++ text_if wide (codes "w") ++ decimal code
 name_svg (Dots value) = codes "d" ++ decimal value
 
--- the discs of a mark, as its definition has them
-abbrev pub mark_discs : Mark → List Disc
-mark_discs mark = map disc_of (columns_dots 0 0 (columns_of mark))
+-- the discs of a mark in these shapes, as its definition has them
+abbrev pub mark_discs : Shapes → Mark → List Disc
+mark_discs shapes mark = map disc_of (columns_dots 0 0 (columns_of shapes mark))
 
 -- a mark's definition, under its name
-unfoldable pub definition_svg : Mark → List ℕ
-definition_svg mark =
-    mark_begin ++ name_svg mark ++ mark_path ++ flat_map disc_svg (mark_discs mark) ++ use_end
+unfoldable pub definition_svg : Shapes → Mark → List ℕ
+definition_svg shapes mark =
+    mark_begin ++ name_svg mark ++ mark_path ++ flat_map disc_svg (mark_discs shapes mark) ++ use_end
 
 -- a number for each mark, and no two have the same
 abbrev pub number_of : Mark → ℕ
@@ -268,18 +269,18 @@ drawn_marks outcome drawn =
     (if drawn.four then marks_of outcome.paper4 else []) ++ (if drawn.five then marks_of outcome.paper5 else [])
 
 -- each of these marks, defined once
-unfoldable pub definitions_svg : List Mark → List ℕ
-definitions_svg marks = definitions_begin ++ flat_map definition_svg (each_once marks) ++ definitions_end
+unfoldable pub definitions_svg : Shapes → List Mark → List ℕ
+definitions_svg shapes marks = definitions_begin ++ flat_map (definition_svg shapes) (each_once marks) ++ definitions_end
 
 -- the picture with the sheets of these printers, side by side, and the lines below them
-unfoldable pub picture_svg : Outcome → Present → List ℕ
-picture_svg outcome drawn =
+unfoldable pub picture_svg : Shapes → Outcome → Present → List ℕ
+picture_svg shapes outcome drawn =
     head_svg (width_of drawn) (height_of (sheet_picas outcome) outcome)
-    ++ definitions_svg (drawn_marks outcome drawn)
+    ++ definitions_svg shapes (drawn_marks outcome drawn)
     ++ text_if drawn.four (sheet_svg 4 630 (sheet_picas outcome) outcome.paper4)
     ++ text_if drawn.five (sheet_svg 5 (if drawn.four then 13860 else 630) (sheet_picas outcome) outcome.paper5)
     ++ notes_svg (sheet_picas outcome) outcome ++ codes "</svg>\n"
 
--- the picture of an outcome
-abbrev pub svg_of : Outcome → Present → List ℕ
-svg_of outcome present = picture_svg outcome (drawn_of outcome present)
+-- the picture of an outcome whose marks are printed in these shapes
+abbrev pub svg_of : Shapes → Outcome → Present → List ℕ
+svg_of shapes outcome present = picture_svg shapes outcome (drawn_of outcome present)

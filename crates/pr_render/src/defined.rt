@@ -6,7 +6,7 @@ ghost use Rattle.pr_render.specs.Defined.{HasDefined, marks_on};
 ghost use Rattle.pr_render.specs.Svg.{marks_of};
 
 use crate::uses::{number_of, push_definition};
-use pr_dots::is_on;
+use pr_dots::{Shapes, is_on};
 use pr_page::{Mark, Paper, Placed, Row};
 use std::alloc::{AllocError, Global};
 use std::marker::Model;
@@ -41,46 +41,62 @@ impl Defined {
 
     /// Adds the definition of a mark, unless it has been defined.
     #[tactic(auto, using(crate::proofs::Defining::defined_already))]
-    fn define(&mut self, text: &mut Vec<u8>, mark: Mark) -> Result<(), AllocError>
-        ensures { OnOk result (HasDefined (mark ∷ []) text.old.items self.old text.new.items self.new) }
+    fn define(&mut self, text: &mut Vec<u8>, shapes: &Shapes, mark: Mark) -> Result<(), AllocError>
+        ensures { OnOk result (HasDefined shapes.now (mark ∷ []) text.old.items self.old text.new.items self.new) }
     {
         let number = number_of(mark);
         if self.marks[number] {
             return Ok(());
         }
-        push_definition(text, mark)?;
+        push_definition(text, shapes, mark)?;
         self.marks[number] = true;
         Ok(())
     }
 
     /// Adds the definitions of marks that have not been defined.
-    fn define_all(&mut self, text: &mut Vec<u8>, marks: &[Placed]) -> Result<(), AllocError>
-        ensures { OnOk result (HasDefined (marks_on marks.now) text.old.items self.old text.new.items self.new) }
+    fn define_all(
+        &mut self,
+        text: &mut Vec<u8>,
+        shapes: &Shapes,
+        marks: &[Placed],
+    ) -> Result<(), AllocError>
+        ensures { OnOk result (HasDefined shapes.now (marks_on marks.now) text.old.items self.old text.new.items self.new) }
     {
         for placed in marks {
-            self.define(text, placed.mark)?;
+            self.define(text, shapes, placed.mark)?;
         }
         Ok(())
     }
 
     /// The same of the marks of rows.
-    fn define_rows(&mut self, text: &mut Vec<u8>, rows: &[Row]) -> Result<(), AllocError>
-        ensures { OnOk result (HasDefined (marks_on (flat_map (λ r. r.marks) rows.now)) text.old.items self.old text.new.items self.new) }
+    fn define_rows(
+        &mut self,
+        text: &mut Vec<u8>,
+        shapes: &Shapes,
+        rows: &[Row],
+    ) -> Result<(), AllocError>
+        ensures { OnOk result (HasDefined shapes.now (marks_on (flat_map (λ r. r.marks) rows.now)) text.old.items self.old text.new.items self.new) }
     {
         for row in rows {
-            self.define_all(text, row.marks.as_slice())?;
+            self.define_all(text, shapes, row.marks.as_slice())?;
         }
         Ok(())
     }
 
     /// The same of the marks of a row, if it is on a sheet.
-    fn define_row(&mut self, text: &mut Vec<u8>, sheet: u64, row: &Row) -> Result<(), AllocError>
-        ensures { OnOk result (HasDefined (if is_on sheet row.now then marks_on row.now.marks else []) text.old.items self.old text.new.items self.new) }
+    fn define_row(
+        &mut self,
+        text: &mut Vec<u8>,
+        shapes: &Shapes,
+        sheet: u64,
+        row: &Row,
+    ) -> Result<(), AllocError>
+        ensures { OnOk result (HasDefined shapes.now (if is_on sheet row.now then marks_on row.now.marks else []) text.old.items self.old text.new.items self.new) }
     {
         if !is_on(sheet, row) {
             return Ok(());
         }
-        self.define_all(text, row.marks.as_slice())
+        self.define_all(text, shapes, row.marks.as_slice())
     }
 
     /// The same of the marks of the rows on a sheet.
@@ -88,13 +104,14 @@ impl Defined {
     pub fn define_sheet(
         &mut self,
         text: &mut Vec<u8>,
+        shapes: &Shapes,
         sheet: u64,
         rows: &[Row],
     ) -> Result<(), AllocError>
-        ensures { OnOk result (HasDefined (marks_on (flat_map (λ r. r.marks) (rows_on sheet rows.now))) text.old.items self.old text.new.items self.new) }
+        ensures { OnOk result (HasDefined shapes.now (marks_on (flat_map (λ r. r.marks) (rows_on sheet rows.now))) text.old.items self.old text.new.items self.new) }
     {
         for row in rows {
-            self.define_row(text, sheet, row)?;
+            self.define_row(text, shapes, sheet, row)?;
         }
         Ok(())
     }
@@ -103,15 +120,16 @@ impl Defined {
     pub fn define_paper(
         &mut self,
         text: &mut Vec<u8>,
+        shapes: &Shapes,
         drawn: bool,
         paper: &Paper,
     ) -> Result<(), AllocError>
-        ensures { OnOk result (HasDefined (if drawn then marks_of paper.now else []) text.old.items self.old text.new.items self.new) }
+        ensures { OnOk result (HasDefined shapes.now (if drawn then marks_of paper.now else []) text.old.items self.old text.new.items self.new) }
     {
         if !drawn {
             return Ok(());
         }
-        self.define_rows(text, paper.rows.as_slice())?;
-        self.define_all(text, paper.held.as_slice())
+        self.define_rows(text, shapes, paper.rows.as_slice())?;
+        self.define_all(text, shapes, paper.held.as_slice())
     }
 }

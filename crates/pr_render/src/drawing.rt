@@ -13,6 +13,7 @@ use crate::parts::{
     paper_piece, units_begin, units_between,
 };
 use crate::sheets::{paper_end, push_sheet_if};
+use pr_dots::Shapes;
 use pr_page::{NoMemory, Paper};
 use pr_serial::Present;
 use pr_system::Outcome;
@@ -114,14 +115,15 @@ fn push_head(text: &mut Vec<u8>, width: u64, height: u128) -> Result<(), AllocEr
 fn push_marks(
     text: &mut Vec<u8>,
     alloc: Global,
+    shapes: &Shapes,
     outcome: &Outcome,
     drawn: Present,
 ) -> Result<(), AllocError>
-    ensures { OnOk result (text.new.items ≡ text.old.items ++ flat_map definition_svg (each_once (drawn_marks outcome.now drawn))) }
+    ensures { OnOk result (text.new.items ≡ text.old.items ++ flat_map (definition_svg shapes.now) (each_once (drawn_marks outcome.now drawn))) }
 {
     let mut defined = Defined::new(alloc)?;
-    defined.define_paper(text, drawn.four, &outcome.paper4)?;
-    defined.define_paper(text, drawn.five, &outcome.paper5)?;
+    defined.define_paper(text, shapes, drawn.four, &outcome.paper4)?;
+    defined.define_paper(text, shapes, drawn.five, &outcome.paper5)?;
     Ok(())
 }
 
@@ -130,13 +132,14 @@ fn push_marks(
 fn push_definitions(
     text: &mut Vec<u8>,
     alloc: Global,
+    shapes: &Shapes,
     outcome: &Outcome,
     drawn: Present,
 ) -> Result<(), AllocError>
-    ensures { OnOk result (text.new.items ≡ text.old.items ++ definitions_svg (drawn_marks outcome.now drawn)) }
+    ensures { OnOk result (text.new.items ≡ text.old.items ++ definitions_svg shapes.now (drawn_marks outcome.now drawn)) }
 {
     text.extend_from_slice(definitions_begin())?;
-    push_marks(text, alloc, outcome, drawn)?;
+    push_marks(text, alloc, shapes, outcome, drawn)?;
     text.extend_from_slice(definitions_end())
 }
 
@@ -145,15 +148,16 @@ fn push_definitions(
 fn push_picture(
     text: &mut Vec<u8>,
     alloc: Global,
+    shapes: &Shapes,
     outcome: &Outcome,
     drawn: Present,
 ) -> Result<(), AllocError>
-    ensures { OnOk result (text.new.items ≡ text.old.items ++ picture_svg outcome.now drawn) }
+    ensures { OnOk result (text.new.items ≡ text.old.items ++ picture_svg shapes.now outcome.now drawn) }
 {
     let picas = sheet_picas(outcome);
     let five = if drawn.four { 13860 } else { 630 };
     push_head(text, width_of(drawn), height_of(picas, outcome))?;
-    push_definitions(text, alloc, outcome, drawn)?;
+    push_definitions(text, alloc, shapes, outcome, drawn)?;
     push_sheet_if(text, alloc, drawn.four, 4, 630, picas, &outcome.paper4)?;
     push_sheet_if(text, alloc, drawn.five, 5, five, picas, &outcome.paper5)?;
     push_notes(text, picas, outcome)?;
@@ -164,17 +168,27 @@ fn push_picture(
 /// printed, side by side, with their names above, and below them the stop and the first statuses
 /// that are not 0. If no printer has printed, the sheets of all that are present are drawn.
 ///
-/// Each dot is a disc at its place. The shapes of characters are this project's own drawing; their
-/// letters can be searched and copied. Marks that are held are drawn pale, below a line that says
-/// so.
+/// Each dot is a disc at its place, and the characters have these shapes; their letters can be
+/// searched and copied. Marks that are held are drawn pale, below a line that says so.
 ///
 /// # Errors
 ///
 /// [`NoMemory`] where memory was refused.
-pub fn svg(alloc: Global, outcome: &Outcome, present: Present) -> Result<Vec<u8>, NoMemory>
-    ensures { IfOk result (λ text. text.items ≡ svg_of outcome.now present) }
+pub fn svg(
+    alloc: Global,
+    shapes: &Shapes,
+    outcome: &Outcome,
+    present: Present,
+) -> Result<Vec<u8>, NoMemory>
+    ensures { IfOk result (λ text. text.items ≡ svg_of shapes.now outcome.now present) }
 {
     let mut text = Vec::new(alloc);
-    push_picture(&mut text, alloc, outcome, drawn_of(outcome, present))?;
+    push_picture(
+        &mut text,
+        alloc,
+        shapes,
+        outcome,
+        drawn_of(outcome, present),
+    )?;
     Ok(text)
 }

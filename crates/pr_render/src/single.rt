@@ -12,7 +12,7 @@ use crate::parts::{
     single_begin, single_end, single_marks, single_paper, single_size,
 };
 use crate::sheets::push_row;
-use pr_dots::is_on;
+use pr_dots::{Shapes, is_on};
 use pr_page::{NoMemory, Paper, Row};
 use std::alloc::{AllocError, Global};
 
@@ -39,11 +39,17 @@ fn push_sheet(text: &mut Vec<u8>, top: u128) -> Result<(), AllocError>
 }
 
 /// Adds the definition of each mark of the rows on a sheet.
-fn push_marks(text: &mut Vec<u8>, alloc: Global, sheet: u64, rows: &[Row]) -> Result<(), AllocError>
-    ensures { OnOk result (text.new.items ≡ text.old.items ++ flat_map definition_svg (each_once (row_marks (rows_on sheet rows.now)))) }
+fn push_marks(
+    text: &mut Vec<u8>,
+    alloc: Global,
+    shapes: &Shapes,
+    sheet: u64,
+    rows: &[Row],
+) -> Result<(), AllocError>
+    ensures { OnOk result (text.new.items ≡ text.old.items ++ flat_map (definition_svg shapes.now) (each_once (row_marks (rows_on sheet rows.now)))) }
 {
     let mut defined = Defined::new(alloc)?;
-    defined.define_sheet(text, sheet, rows)?;
+    defined.define_sheet(text, shapes, sheet, rows)?;
     Ok(())
 }
 
@@ -52,13 +58,14 @@ fn push_marks(text: &mut Vec<u8>, alloc: Global, sheet: u64, rows: &[Row]) -> Re
 fn push_definitions(
     text: &mut Vec<u8>,
     alloc: Global,
+    shapes: &Shapes,
     sheet: u64,
     rows: &[Row],
 ) -> Result<(), AllocError>
-    ensures { OnOk result (text.new.items ≡ text.old.items ++ definitions_svg (row_marks (rows_on sheet rows.now))) }
+    ensures { OnOk result (text.new.items ≡ text.old.items ++ definitions_svg shapes.now (row_marks (rows_on sheet rows.now))) }
 {
     text.extend_from_slice(definitions_begin())?;
-    push_marks(text, alloc, sheet, rows)?;
+    push_marks(text, alloc, shapes, sheet, rows)?;
     text.extend_from_slice(definitions_end())
 }
 
@@ -79,14 +86,15 @@ fn push_rows(text: &mut Vec<u8>, alloc: Global, sheet: u64, rows: &[Row]) -> Res
 fn push_single(
     text: &mut Vec<u8>,
     alloc: Global,
+    shapes: &Shapes,
     sheet: u64,
     top: u128,
     rows: &[Row],
 ) -> Result<(), AllocError>
-    ensures { OnOk result (text.new.items ≡ text.old.items ++ single_svg top (rows_on sheet rows.now)) }
+    ensures { OnOk result (text.new.items ≡ text.old.items ++ single_svg shapes.now top (rows_on sheet rows.now)) }
 {
     push_head(text, top)?;
-    push_definitions(text, alloc, sheet, rows)?;
+    push_definitions(text, alloc, shapes, sheet, rows)?;
     push_sheet(text, top)?;
     text.extend_from_slice(ink_begin())?;
     push_rows(text, alloc, sheet, rows)?;
@@ -101,11 +109,16 @@ fn push_single(
 /// # Errors
 ///
 /// [`NoMemory`] where memory was refused.
-pub fn sheet_svg(alloc: Global, paper: &Paper, sheet: u64) -> Result<Vec<u8>, NoMemory>
-    ensures { IfOk result (λ text. text.items ≡ sheet_svg_of paper.now sheet) }
+pub fn sheet_svg(
+    alloc: Global,
+    shapes: &Shapes,
+    paper: &Paper,
+    sheet: u64,
+) -> Result<Vec<u8>, NoMemory>
+    ensures { IfOk result (λ text. text.items ≡ sheet_svg_of shapes.now paper.now sheet) }
 {
     let mut text = Vec::new(alloc);
     let top = 13_860 * u128::from(sheet) + 630;
-    push_single(&mut text, alloc, sheet, top, paper.rows.as_slice())?;
+    push_single(&mut text, alloc, shapes, sheet, top, paper.rows.as_slice())?;
     Ok(text)
 }

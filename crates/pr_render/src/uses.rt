@@ -6,7 +6,7 @@ ghost use Rattle.pr_render.specs.Svg.{definition_svg, disc_of, disc_svg, name_sv
 
 use crate::adding::{push_if, push_small};
 use crate::parts::{mark_begin, mark_path, use_begin, use_end, use_place};
-use pr_dots::columns;
+use pr_dots::{Shapes, columns};
 use pr_page::{Mark, Placed};
 use std::alloc::AllocError;
 
@@ -89,13 +89,13 @@ fn push_columns(text: &mut Vec<u8>, columns: &[u8]) -> Result<(), AllocError>
 
 /// Adds a mark's definition.
 #[tactic(auto, unfolding(crate::specs::Svg::definition_svg))]
-pub fn push_definition(text: &mut Vec<u8>, mark: Mark) -> Result<(), AllocError>
-    ensures { OnOk result (text.new.items ≡ text.old.items ++ definition_svg mark) }
+pub fn push_definition(text: &mut Vec<u8>, shapes: &Shapes, mark: Mark) -> Result<(), AllocError>
+    ensures { OnOk result (text.new.items ≡ text.old.items ++ definition_svg shapes.now mark) }
 {
     text.extend_from_slice(mark_begin())?;
     push_name(text, mark)?;
     text.extend_from_slice(mark_path())?;
-    push_columns(text, columns(mark).as_slice())?;
+    push_columns(text, columns(shapes, mark).as_slice())?;
     text.extend_from_slice(use_end())
 }
 

@@ -1,6 +1,7 @@
 //! Documents of papers, worked out by hand.
 
 use crate::picture::paper;
+use pr_dots::Shapes;
 use pr_page::{Mark, Paper, Placed};
 use pr_pdf::{LIMIT, PdfFault, pdf, sheets_draw_dots, sheets_draw_papers};
 use pr_serial::Present;
@@ -83,7 +84,7 @@ fn has_parts(
     drawn: Present,
     parts: &[&str],
 ) {
-    let document = pdf(rt.alloc(), four, five, drawn).expect(rt, "memory");
+    let document = pdf(rt.alloc(), &Shapes::own(), four, five, drawn).expect(rt, "memory");
     let text = str::from_utf8(document.as_slice()).expect(rt, "text");
     for part in parts {
         assert!(rt; text.contains(*part), "{part}");

@@ -1,6 +1,6 @@
 //! The dots of papers, counted by hand.
 
-use pr_dots::{columns, has_dot, place_of_code};
+use pr_dots::{Shapes, columns, has_dot, place_of_code};
 use pr_page::{Mark, Paper, Placed, Row, Sequence};
 use std::process::Abort;
 
@@ -27,7 +27,7 @@ fn row_of(rt: &(impl Abort + AllocGlobal), y: u64, marks: &[Placed]) -> Paper {
 
 /// A mark has these columns.
 fn has_columns(rt: &impl Abort, mark: Mark, wanted: &[u8]) {
-    assert!(rt; columns(mark).as_slice() == wanted);
+    assert!(rt; columns(&Shapes::own(), mark).as_slice() == wanted);
 }
 
 /// The `T` of both sets, a `t`, a blank and a graphic column; codes that are printed as others.
@@ -52,6 +52,11 @@ fn columns_of_marks(rt: HostRuntime) {
     assert!(&rt; place_of_code(255) == place_of_code(222) && place_of_code(223) == 127);
 }
 
+/// Whether a paper with this project's own characters has a dot here.
+fn is_dot(paper: &Paper, x: u64, y: u128) -> bool {
+    has_dot(&Shapes::own(), paper, x, y)
+}
+
 /// A `T` at dot column 6 with a graphic column over its last one, 21/126 inch down.
 #[test]
 fn dots_of_a_row(rt: HostRuntime) {
@@ -64,10 +69,10 @@ fn dots_of_a_row(rt: HostRuntime) {
         mark: Mark::Dots(64),
     };
     let paper = row_of(&rt, 21, &[letter, OVER]);
-    let bar = (6..11_u64).all(|x| has_dot(&paper, x, 21));
-    let stem = (0..7_u128).all(|bit| has_dot(&paper, 8, 21 + 2 * bit));
-    assert!(&rt; bar && stem && has_dot(&paper, 11, 33));
-    assert!(&rt; !has_dot(&paper, 11, 21) && !has_dot(&paper, 5, 21) && !has_dot(&paper, 12, 21));
-    assert!(&rt; !has_dot(&paper, 8, 22) && !has_dot(&paper, 8, 35) && !has_dot(&paper, 8, 20));
-    assert!(&rt; !has_dot(&paper, 7, 23));
+    let bar = (6..11_u64).all(|x| is_dot(&paper, x, 21));
+    let stem = (0..7_u128).all(|bit| is_dot(&paper, 8, 21 + 2 * bit));
+    assert!(&rt; bar && stem && is_dot(&paper, 11, 33));
+    assert!(&rt; !is_dot(&paper, 11, 21) && !is_dot(&paper, 5, 21) && !is_dot(&paper, 12, 21));
+    assert!(&rt; !is_dot(&paper, 8, 22) && !is_dot(&paper, 8, 35) && !is_dot(&paper, 8, 20));
+    assert!(&rt; !is_dot(&paper, 7, 23));
 }

@@ -1,6 +1,8 @@
-//! Tests of forms: dots, pages as pictures, their sheets, documents, recordings in the formats of other tools, what recordings say, and stories.
+//! Tests of forms: dots, characters from a file, pages as pictures, their sheets, documents, recordings in the formats of other tools, what recordings say, and stories.
 #![tactic(auto)]
 
+#[cfg(test)]
+mod characters;
 #[cfg(test)]
 mod decoder;
 #[cfg(test)]

@@ -1,5 +1,6 @@
 //! Pictures and lines of papers that no run of the program gives.
 
+use pr_dots::Shapes;
 use pr_page::{Mark, Paper, Placed, Row, Sequence};
 use pr_render::laws::{discs_are_the_dots, lines_show_each_cell, names_tell_marks};
 use pr_render::{svg, text};
@@ -32,7 +33,7 @@ const BEGIN: &str = "<svg xmlns=\"http://www.w3.org/2000/svg\" version=\"1.1\" "
 
 /// What is between its size and the definitions of marks.
 const ABOUT: &str =
-    ">\n<desc>Pages of VIC-1525 printers. Each dot is where a needle strikes; the shapes of characters are this project's own.</desc>\n<pattern id=\"paper\" width=\"12600\" height=\"630\" patternUnits=\"userSpaceOnUse\"><rect width=\"12600\" height=\"630\" fill=\"#fff\"/><g fill=\"#e9e6df\" stroke=\"#b4afa2\" stroke-width=\"10\"><circle cx=\"315\" cy=\"315\" r=\"100\"/><circle cx=\"12285\" cy=\"315\" r=\"100\"/><path stroke-dasharray=\"35\" d=\"M630 0v630M11970 0v630\"/></g></pattern>\n<pattern id=\"folds\" y=\"7560\" width=\"12600\" height=\"13860\" patternUnits=\"userSpaceOnUse\"><path stroke=\"#b4afa2\" stroke-width=\"10\" stroke-dasharray=\"70\" d=\"M0 6930h12600\"/></pattern>\n<rect width=\"100%\" height=\"100%\" fill=\"#e9e6df\"/>\n<defs>\n";
+    ">\n<desc>Pages of VIC-1525 printers. Each dot is where a needle strikes.</desc>\n<pattern id=\"paper\" width=\"12600\" height=\"630\" patternUnits=\"userSpaceOnUse\"><rect width=\"12600\" height=\"630\" fill=\"#fff\"/><g fill=\"#e9e6df\" stroke=\"#b4afa2\" stroke-width=\"10\"><circle cx=\"315\" cy=\"315\" r=\"100\"/><circle cx=\"12285\" cy=\"315\" r=\"100\"/><path stroke-dasharray=\"35\" d=\"M630 0v630M11970 0v630\"/></g></pattern>\n<pattern id=\"folds\" y=\"7560\" width=\"12600\" height=\"13860\" patternUnits=\"userSpaceOnUse\"><path stroke=\"#b4afa2\" stroke-width=\"10\" stroke-dasharray=\"70\" d=\"M0 6930h12600\"/></pattern>\n<rect width=\"100%\" height=\"100%\" fill=\"#e9e6df\"/>\n<defs>\n";
 
 /// The definition of `A`.
 pub const DEFINED_A: &str =
@@ -141,7 +142,7 @@ fn holding(rt: &impl AllocGlobal, held: Sequence<Placed>) -> Paper {
 }
 
 /// What a run leaves that printed on these papers alone.
-fn printed(rt: &impl AllocGlobal, paper4: Paper, held5: Sequence<Placed>) -> Outcome {
+pub fn printed(rt: &impl AllocGlobal, paper4: Paper, held5: Sequence<Placed>) -> Outcome {
     Outcome {
         paper4,
         paper5: holding(rt, held5),
@@ -164,7 +165,7 @@ fn shows(
     for part in parts {
         wanted.push_str(part).expect(rt, "memory");
     }
-    let drawn = svg(rt.alloc(), outcome, present).expect(rt, "memory");
+    let drawn = svg(rt.alloc(), &Shapes::own(), outcome, present).expect(rt, "memory");
     let said = text(rt.alloc(), outcome, present).expect(rt, "memory");
     let is_well = drawn.as_slice() == wanted.as_bytes() && said.as_slice() == lines.as_bytes();
     assert!(rt; is_well, "{lines}");
@@ -315,7 +316,7 @@ fn laws(_rt: HostRuntime) {
 
 /// How many calls are refused memory. Each other one gives what it gives with ample memory.
 fn refusals(rt: &(impl Abort + AllocGlobal), outcome: &Outcome) -> usize {
-    let drawn = svg(rt.alloc(), outcome, FOUR);
+    let drawn = svg(rt.alloc(), &Shapes::own(), outcome, FOUR);
     let said = text(rt.alloc(), outcome, FOUR);
     let mut refused = 0;
     match drawn {

@@ -1,6 +1,7 @@
 //! The calls of the program's library over readers and writers in memory.
 
 mod calls;
+mod characters;
 mod growths;
 mod limits;
 mod pictures;

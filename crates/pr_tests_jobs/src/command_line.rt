@@ -181,6 +181,65 @@ fn fault_texts(rt: HostRuntime) {
     assert!(rt; JobFault::NoMemory.values().is_none());
 }
 
+/// Whether words ask for a job that draws the characters of this file.
+fn has_characters<'a>(alloc: Global, words: &'a [&'a str], characters: Option<&str>) -> bool {
+    match read_task(alloc, words) {
+        Ok(task) => task.characters == characters,
+        Err(_fault) => false,
+    }
+}
+
+/// The file of characters is the one that words name, whatever its name.
+#[test]
+fn characters_of_tasks(rt: HostRuntime) {
+    const ROWS: [(&[&str], Option<&str>); 7] = [
+        (&["print1525", "pages", "--as", "svg"], None),
+        (&["print1525", "pages"], None),
+        (
+            &[
+                "print1525",
+                "pages",
+                "--as",
+                "svg",
+                "--characters",
+                "rom.txt",
+            ],
+            Some("rom.txt"),
+        ),
+        (
+            &["print1525", "raw", "-o", "a.pdf", "--characters=-"],
+            Some("-"),
+        ),
+        (
+            &["print1525", "decode", "--characters", "", "--as=png"],
+            Some(""),
+        ),
+        (&["print1525", "bus"], None),
+        (&["print1525", "check"], None),
+    ];
+    for (words, characters) in ROWS {
+        assert!(&rt; has_characters(rt.alloc(), words, characters), "{words:?}");
+    }
+}
+
+/// Lines and lists draw no characters.
+#[test]
+fn characters_without_a_picture(rt: HostRuntime) {
+    const ROWS: [&[&str]; 4] = [
+        &["print1525", "pages", "--characters", "rom.txt"],
+        &["print1525", "raw", "--as=text", "--characters", "rom.txt"],
+        &["print1525", "decode", "--characters", "rom.txt"],
+        &["print1525", "pages", "-o", "a.txt", "--characters", "a"],
+    ];
+    for words in ROWS {
+        let is_well = match read_task(rt.alloc(), words) {
+            Ok(_task) => false,
+            Err(fault) => matches!(fault, JobFault::NoPicture),
+        };
+        assert!(&rt; is_well, "{words:?}");
+    }
+}
+
 /// Whether words ask for a job that reads and writes these files.
 fn has_files<'a>(
     alloc: Global,

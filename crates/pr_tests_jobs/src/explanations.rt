@@ -1,5 +1,5 @@
 //! Explanations as callers of the library get them: of errors at any statement, of names that are no text, of what has no
-//! fault, and in want of memory. The lines that the program prints are in tests/explained.
+//! fault, and in want of memory. The lines that the program prints are in tests/cases/explained.
 
 use crate::refusals::most_refusals;
 use pr_basic::StatusMode;
@@ -52,7 +52,7 @@ const ROWS: [StopRow; 22] = [
         NONE,
         Stop::DeviceNotPresent,
         3,
-        "?DEVICE NOT PRESENT  ERROR IN 20 (statement 3)\n  line 2: 20 OPEN 7,7:PRINT#7,\"A:B\":REM :\n  device 7 does not answer; --present says which printers there are\n",
+        "?DEVICE NOT PRESENT  ERROR IN 20 (statement 3)\n  line 2: 20 OPEN 7,7:PRINT#7,\"A:B\":REM :\n  device 7 does not answer; --present sets which of printers 4 and 5 are connected\n",
     ),
     (
         "OPEN 4,4\r\n\r\nPRINT#5,\"X\"",
@@ -60,7 +60,7 @@ const ROWS: [StopRow; 22] = [
         NONE,
         Stop::FileNotOpen,
         2,
-        "?FILE NOT OPEN  ERROR (statement 2)\n  line 3: PRINT#5,\"X\"\n  the file is not open\n",
+        "?FILE NOT OPEN  ERROR (statement 2)\n  line 3: PRINT#5,\"X\"\n  the file is not open; open it first\n",
     ),
     (
         "  63999  OPEN 4,4:OPEN 4,4\n",
@@ -68,7 +68,7 @@ const ROWS: [StopRow; 22] = [
         NONE,
         Stop::FileOpen,
         2,
-        "?FILE OPEN  ERROR IN 63999 (statement 2)\n  line 1:   63999  OPEN 4,4:OPEN 4,4\n  the file is open already\n",
+        "?FILE OPEN  ERROR IN 63999 (statement 2)\n  line 1:   63999  OPEN 4,4:OPEN 4,4\n  the file is already open; close it first\n",
     ),
     (
         "OPEN 4,4\nOPEN 5,5\nPRINT#5,\"A\"\nPRINT#4,\"B\"\n",
@@ -76,7 +76,7 @@ const ROWS: [StopRow; 22] = [
         NONE,
         Stop::DeviceNotPresent,
         4,
-        "?DEVICE NOT PRESENT  ERROR (statement 4)\n  line 4: PRINT#4,\"B\"\n  no printer has answered, here or at a statement before (--status kept); --present says which printers there are\n",
+        "?DEVICE NOT PRESENT  ERROR (statement 4)\n  line 4: PRINT#4,\"B\"\n  no printer answered, here or at an earlier statement (--status kept); --present sets which of printers 4 and 5 are connected\n",
     ),
     (
         "OPEN 4,4,7:OPEN 5,5:CMD 4:CLOSE 4:PRINT \"X\":CMD 5\n",
@@ -84,7 +84,7 @@ const ROWS: [StopRow; 22] = [
         BOTH,
         Stop::DeviceNotPresent,
         6,
-        "?DEVICE NOT PRESENT  ERROR (statement 6)\n  line 1: OPEN 4,4,7:OPEN 5,5:CMD 4:CLOSE 4:PRINT \"X\":CMD 5\n  no printer was listening to a byte that went out here or at a statement before (--status kept)\n",
+        "?DEVICE NOT PRESENT  ERROR (statement 6)\n  line 1: OPEN 4,4,7:OPEN 5,5:CMD 4:CLOSE 4:PRINT \"X\":CMD 5\n  no printer was listening to a byte sent here or at an earlier statement (--status kept)\n",
     ),
     (
         "0030 CLOSE 4:PRINT#4",
@@ -92,7 +92,7 @@ const ROWS: [StopRow; 22] = [
         NONE,
         Stop::FileNotOpen,
         2,
-        "?FILE NOT OPEN  ERROR IN 30 (statement 2)\n  line 1: 0030 CLOSE 4:PRINT#4\n  the file is not open\n",
+        "?FILE NOT OPEN  ERROR IN 30 (statement 2)\n  line 1: 0030 CLOSE 4:PRINT#4\n  the file is not open; open it first\n",
     ),
     (
         "000PRINT#4",
@@ -100,7 +100,7 @@ const ROWS: [StopRow; 22] = [
         NONE,
         Stop::FileNotOpen,
         1,
-        "?FILE NOT OPEN  ERROR IN 0 (statement 1)\n  line 1: 000PRINT#4\n  the file is not open\n",
+        "?FILE NOT OPEN  ERROR IN 0 (statement 1)\n  line 1: 000PRINT#4\n  the file is not open; open it first\n",
     ),
     (
         DEVICES,
@@ -108,7 +108,7 @@ const ROWS: [StopRow; 22] = [
         NONE,
         Stop::DeviceNotPresent,
         5,
-        "?DEVICE NOT PRESENT  ERROR (statement 5)\n  line 4: CMD 1\n  device 5 does not answer; --present says which printers there are\n",
+        "?DEVICE NOT PRESENT  ERROR (statement 5)\n  line 4: CMD 1\n  device 5 does not answer; --present sets which of printers 4 and 5 are connected\n",
     ),
     (
         DEVICES,
@@ -116,7 +116,7 @@ const ROWS: [StopRow; 22] = [
         NONE,
         Stop::DeviceNotPresent,
         6,
-        "?DEVICE NOT PRESENT  ERROR (statement 6)\n  line 5: PRINT#2\n  device 30 does not answer; --present says which printers there are\n",
+        "?DEVICE NOT PRESENT  ERROR (statement 6)\n  line 5: PRINT#2\n  device 30 does not answer; --present sets which of printers 4 and 5 are connected\n",
     ),
     (
         DEVICES,
@@ -124,7 +124,7 @@ const ROWS: [StopRow; 22] = [
         NONE,
         Stop::DeviceNotPresent,
         7,
-        "?DEVICE NOT PRESENT  ERROR (statement 7)\n  line 6: OPEN 2,9\n  device 9 does not answer; --present says which printers there are\n",
+        "?DEVICE NOT PRESENT  ERROR (statement 7)\n  line 6: OPEN 2,9\n  device 9 does not answer; --present sets which of printers 4 and 5 are connected\n",
     ),
     (
         DEVICES,
@@ -132,7 +132,7 @@ const ROWS: [StopRow; 22] = [
         NONE,
         Stop::DeviceNotPresent,
         8,
-        "?DEVICE NOT PRESENT  ERROR (statement 8)\n  line 7: PRINT#3\n  no printer has answered; --present says which printers there are\n",
+        "?DEVICE NOT PRESENT  ERROR (statement 8)\n  line 7: PRINT#3\n  no printer answers; --present sets which of printers 4 and 5 are connected\n",
     ),
     (
         DEVICES,
@@ -140,7 +140,7 @@ const ROWS: [StopRow; 22] = [
         NONE,
         Stop::DeviceNotPresent,
         9,
-        "?DEVICE NOT PRESENT  ERROR (statement 9)\n  line 8: REM\n  no printer has answered; --present says which printers there are\n",
+        "?DEVICE NOT PRESENT  ERROR (statement 9)\n  line 8: REM\n  no printer answers; --present sets which of printers 4 and 5 are connected\n",
     ),
     (
         HELD_BACK,
@@ -148,7 +148,7 @@ const ROWS: [StopRow; 22] = [
         BOTH,
         Stop::DeviceNotPresent,
         7,
-        "?DEVICE NOT PRESENT  ERROR (statement 7)\n  line 3: PRINT#5,\"Y\"\n  no printer was listening to the byte printed last before this statement, which goes out only here\n",
+        "?DEVICE NOT PRESENT  ERROR (statement 7)\n  line 3: PRINT#5,\"Y\"\n  no printer was listening to the last byte printed before this statement, which is sent only now\n",
     ),
     (
         HELD_BACK,
@@ -156,7 +156,7 @@ const ROWS: [StopRow; 22] = [
         ONLY_FIVE,
         Stop::DeviceNotPresent,
         7,
-        "?DEVICE NOT PRESENT  ERROR (statement 7)\n  line 3: PRINT#5,\"Y\"\n  no printer was listening to the byte printed last before this statement, which goes out only here\n",
+        "?DEVICE NOT PRESENT  ERROR (statement 7)\n  line 3: PRINT#5,\"Y\"\n  no printer was listening to the last byte printed before this statement, which is sent only now\n",
     ),
     (
         HELD_BACK,
@@ -164,7 +164,7 @@ const ROWS: [StopRow; 22] = [
         ONLY_FOUR,
         Stop::DeviceNotPresent,
         7,
-        "?DEVICE NOT PRESENT  ERROR (statement 7)\n  line 3: PRINT#5,\"Y\"\n  no printer was listening to the byte printed last before this statement, which goes out only here; nor is device 5 there: --present says which printers there are\n",
+        "?DEVICE NOT PRESENT  ERROR (statement 7)\n  line 3: PRINT#5,\"Y\"\n  no printer was listening to the last byte printed before this statement, which is sent only now; device 5 is not connected either: --present sets which of printers 4 and 5 are connected\n",
     ),
     (
         HELD_BACK,
@@ -172,7 +172,7 @@ const ROWS: [StopRow; 22] = [
         BOTH,
         Stop::DeviceNotPresent,
         9,
-        "?DEVICE NOT PRESENT  ERROR (statement 9)\n  line 5: PRINT#9\n  no printer was listening to the byte printed last before this statement, which goes out only here; nor is device 9 there: --present says which printers there are\n",
+        "?DEVICE NOT PRESENT  ERROR (statement 9)\n  line 5: PRINT#9\n  no printer was listening to the last byte printed before this statement, which is sent only now; device 9 is not connected either: --present sets which of printers 4 and 5 are connected\n",
     ),
     (
         HELD_BACK,
@@ -180,7 +180,7 @@ const ROWS: [StopRow; 22] = [
         BOTH,
         Stop::DeviceNotPresent,
         10,
-        "?DEVICE NOT PRESENT  ERROR (statement 10)\n  line 6: PRINT#3\n  no printer was listening to the byte printed last before this statement, which goes out only here\n",
+        "?DEVICE NOT PRESENT  ERROR (statement 10)\n  line 6: PRINT#3\n  no printer was listening to the last byte printed before this statement, which is sent only now\n",
     ),
     (
         "REM",
@@ -188,7 +188,7 @@ const ROWS: [StopRow; 22] = [
         NONE,
         Stop::TooManyFiles,
         1,
-        "?TOO MANY FILES  ERROR (statement 1)\n  line 1: REM\n  ten files are open already\n",
+        "?TOO MANY FILES  ERROR (statement 1)\n  line 1: REM\n  ten files are already open; close one first\n",
     ),
     (
         "REM",
@@ -196,7 +196,7 @@ const ROWS: [StopRow; 22] = [
         NONE,
         Stop::FileOpen,
         1,
-        "?FILE OPEN  ERROR (statement 1)\n  line 1: REM\n  the file is open already\n",
+        "?FILE OPEN  ERROR (statement 1)\n  line 1: REM\n  the file is already open; close it first\n",
     ),
     (
         "REM",
@@ -204,7 +204,7 @@ const ROWS: [StopRow; 22] = [
         NONE,
         Stop::FileNotOpen,
         1,
-        "?FILE NOT OPEN  ERROR (statement 1)\n  line 1: REM\n  the file is not open\n",
+        "?FILE NOT OPEN  ERROR (statement 1)\n  line 1: REM\n  the file is not open; open it first\n",
     ),
     (
         "REM",
@@ -212,7 +212,7 @@ const ROWS: [StopRow; 22] = [
         NONE,
         Stop::DeviceNotPresent,
         1,
-        "?DEVICE NOT PRESENT  ERROR (statement 1)\n  line 1: REM\n  no printer has answered; --present says which printers there are\n",
+        "?DEVICE NOT PRESENT  ERROR (statement 1)\n  line 1: REM\n  no printer answers; --present sets which of printers 4 and 5 are connected\n",
     ),
     (
         "REM",
@@ -220,7 +220,7 @@ const ROWS: [StopRow; 22] = [
         NONE,
         Stop::NotInputFile,
         1,
-        "?NOT INPUT FILE  ERROR (statement 1)\n  line 1: REM\n  file 0 cannot be opened\n",
+        "?NOT INPUT FILE  ERROR (statement 1)\n  line 1: REM\n  file 0 cannot be opened; use 1 to 255\n",
     ),
 ];
 
@@ -257,10 +257,9 @@ fn names_that_are_no_text(rt: HostRuntime) {
         signals: signals(b"D\xff"),
         start: 0,
     };
-    let wanted =
-        b"  line 1: t,ATN,D1,DATA\n  CLOCK is looked for as D\\xFF, and no signal has that name\n  \
-        the first column, called t, is the time in seconds\n  the recording has the signals ATN, D1, DATA\n  \
-        --names tells which signals are ATN, CLOCK and DATA, as in --names ATN,CLOCK,DATA\n";
+    let wanted = b"  line 1: t,ATN,D1,DATA\n  found no signal named D\\xFF for the CLOCK line\n  \
+        the first column is named t\n  the recording has the signals ATN, D1, DATA\n  \
+        name the signals of ATN, CLOCK and DATA with --names, such as --names D0,D1,D2\n";
     let told = explain_trace(rt.alloc(), b"t,ATN,D1,DATA\n", input);
     assert!(rt; told.is_ok_and(|told| told.text.as_bytes() == wanted.as_slice()));
 }
@@ -428,7 +427,7 @@ fn nothing_to_explain(rt: HostRuntime) {
 
 /// A script, a trace or a recording, and the end of its explanation.
 const EXPLAINED: [(&[u8], Option<Source>, &[u8]); 4] = [
-    (b"20 PRINT+", None, b"REM and CHR$\n"),
+    (b"20 PRINT+", None, b"write the result\n"),
     (
         b"0 111\n0 001\n?\n",
         Some(Source::Text),
@@ -484,7 +483,7 @@ fn refusals(rt: &(impl Abort + AllocGlobal)) -> usize {
         Ok(told) => assert!(rt;
             told.text
                 .as_bytes()
-                .ends_with(b"which printers there are\n")
+                .ends_with(b"printers 4 and 5 are connected\n")
         ),
         Err(_refused) => refused = refused.saturating_add(1),
     }

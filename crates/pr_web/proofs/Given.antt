@@ -1,12 +1,31 @@
 -- What is made in memory, and handed to the page.
-use Rattle.std.proofs.Common.{ℕ, List, [], Some}
+use Rattle.std.proofs.Common.{◌≡◌, ℕ, List, [], Option, Some, Bool, Result, Ok, Err, subst, inl, inr}
+use Rattle.pr_wire.specs.declared.Edge.{Edge}
+use Rattle.pr_basic.specs.Faults.{IsFirstFault}
+use Rattle.pr_basic.specs.Grammar.{IsScript}
+use Rattle.pr_basic.specs.declared.fault.ScriptFault.{ScriptFault}
+use Rattle.pr_basic.specs.declared.statement.Statement.{Statement}
+use Rattle.pr_base.specs.Lines.{lines_of}
+use Rattle.pr_cli.specs.Pages.{AnswersPages as AnswersRun, Start}
+use Rattle.pr_cli.specs.Raw.{AnswersRaw}
+use Rattle.pr_cli.specs.Report.{AnswersReport, Says}
+use Rattle.pr_cli.specs.declared.fault.CliFault.{CliFault}
+use Rattle.pr_cli.specs.declared.fault.CliFault.TheVariants.{Script}
+use Rattle.pr_cli.specs.declared.pages.Ending.{Ending}
 use Rattle.pr_cli.specs.Check.{trace_limit}
 use Rattle.pr_render.specs.declared.format.Format.{Format}
 use Rattle.pr_capture.specs.declared.format.TraceInput.{TraceInput}
 use Rattle.pr_recording.specs.Decoded.{AnswersDecode}
-use Rattle.pr_recording.specs.Pages.{AnswersPages}
-use Rattle.pr_web.specs.Giving.{Gives, GivesPages, GivesReadings, Made}
+use Rattle.pr_dots.specs.Shapes.{own_shapes}
+use Rattle.pr_recording.specs.Pages.{AnswersPages, readings_up_to}
+use Rattle.pr_report.specs.declared.report.Report.{Report}
+use Rattle.pr_report.specs.declared.reading_line.Preceding.TheVariants.{Nothing}
+use Rattle.pr_web.specs.Giving.{Gives, GivesEdges, GivesFault, GivesLines, GivesPages, GivesRaw, GivesReadings, GivesReport, GivesRows, GivesRun, Made, made_of, without_ending}
+use Rattle.pr_web.specs.Numbers.{AreLineNumbers, IsFaultRow, edge_numbers, reading_rows}
+use Rattle.pr_web.specs.Rows.{EndsRows}
 use Rattle.pr_web.specs.declared.answer.Told.{Told}
+use Rattle.pr_web.specs.declared.answer.Told.TheVariants.{Refused}
+use Rattle.pr_web.specs.declared.rows.Ended.{Ended}
 
 -- what a recording says is handed over
 pub gives-readings : (input : TraceInput) (bytes text old new : List ℕ) (made : Made) (told : Told)
@@ -15,5 +34,48 @@ gives-readings input bytes text old new made told a g = (made, text, a, g)
 
 -- so are its pages
 pub gives-pages : (input : TraceInput) (format : Format) (bytes text old new : List ℕ) (made : Made) (told : Told)
-    → AnswersPages input format bytes (Some []) (Some text) made → Gives made text old new told → GivesPages input format bytes old new told
+    → AnswersPages own_shapes input format bytes (Some []) (Some text) made → Gives made text old new told → GivesPages input format bytes old new told
 gives-pages input format bytes text old new made told a g = (made, text, a, g)
+
+-- so is a report on a trace
+pub gives-report : (input : TraceInput) (report : Report) (bytes text old new : List ℕ) (made : Made) (told : Told)
+    → AnswersReport input report bytes (Some []) (Some text) made → Gives made text old new told → GivesReport input report bytes old new told
+gives-report input report bytes text old new made told a g = (made, text, a, g)
+
+-- so are the pages of a run
+pub gives-run : (start : Start) (format : Format) (script text old new : List ℕ) (made : Result Ending CliFault) (told : Told)
+    → AnswersRun own_shapes start format script (Some []) (Some text) made → Gives (without_ending made) text old new told → GivesRun start format script old new told
+gives-run start format script text old new made told a g = (made, text, a, g)
+
+-- and the page of a printer's bytes
+pub gives-raw : (is_lower : Bool) (format : Format) (bytes text old new : List ℕ) (made : Made) (told : Told)
+    → AnswersRaw own_shapes is_lower format bytes (Some []) (Some text) made → Gives made text old new told → GivesRaw is_lower format bytes old new told
+gives-raw is_lower format bytes text old new made told a g = (made, text, a, g)
+
+-- so are edges
+pub gives-edges : (input : TraceInput) (bytes : List ℕ) (edges : List Edge) (own : Option CliFault) (numbers old new : List ℕ) (told : Told)
+    → Says input bytes edges own → numbers ≡ edge_numbers edges → Gives (made_of own) numbers old new told → GivesEdges input bytes old new told
+gives-edges input bytes edges own numbers old new told says are g =
+    let Q : List ℕ → Type 0 = λ l. Gives (made_of own) l old new told in
+    inl (edges, own, says, subst Q are g)
+
+-- so are the rows of readings
+pub gives-rows : (input : TraceInput) (bytes : List ℕ) (edges : List Edge) (own : Option CliFault) (ended : Ended) (old new : List ℕ) (told : Told)
+    → Says input bytes edges own → EndsRows edges own ended → Gives (made_of ended.stop) ended.rows.items old new told → GivesRows input bytes old new told
+gives-rows input bytes edges own ended old new told says ends g =
+    let P : Option CliFault → Type 0 = λ s. Gives (made_of s) (reading_rows Nothing (readings_up_to s edges)) old new told in
+    let Q : List ℕ → Type 0 = λ l. Gives (made_of ended.stop) l old new told in
+    inl (edges, own, says, subst P ends.stop (subst Q ends.rows g))
+
+-- so are the lines of statements, or a script's fault
+pub gives-lines : (script : List ℕ) (statements : List Statement) (numbers old new : List ℕ) (told : Told)
+    → IsScript script statements → AreLineNumbers 1 (lines_of script) numbers → Gives (Ok tt) numbers old new told → GivesLines script old new told
+gives-lines script statements numbers old new told is are g = inl (statements, numbers, is, are, g)
+
+pub gives-refusal : (script : List ℕ) (fault : ScriptFault) (old new : List ℕ) (told : Told)
+    → IsFirstFault script fault → told ≡ Refused (Script fault) → new ≡ old → GivesLines script old new told
+gives-refusal script fault old new told is refused same = inr (inl (fault, is, refused, same))
+
+-- and the place of a fault
+pub gives-fault : (script numbers old new : List ℕ) (told : Told) → IsFaultRow script numbers → Gives (Ok tt) numbers old new told → GivesFault script old new told
+gives-fault script numbers old new told is g = inl (numbers, is, g)

@@ -1,6 +1,6 @@
 -- Trusted: what a call of the page answers for the settings and the bytes that it passes, and what
 -- it leaves in the buffer.
-use Rattle.std.specs.Prelude.{◌≡◌, ◌⊎◌, ℕ, List, [], Option, Some, None}
+use Rattle.std.specs.Prelude.{◌≡◌, ◌⊎◌, ℕ, Bool, List, [], Option, Some, None, Ok}
 use Rattle.std.specs.Option.{option_map_or}
 use Rattle.pr_channels.specs.declared.faults.Stop.{Stop}
 use Rattle.pr_explain.specs.ScriptPlaces.{IsScriptPlace}
@@ -9,9 +9,14 @@ use Rattle.pr_explain.specs.TracePlaces.{IsReadingPlace, IsTracePlace, nowhere}
 use Rattle.pr_serial.specs.declared.Present.{Present}
 use Rattle.pr_capture.specs.declared.format.Source.{Source}
 use Rattle.pr_capture.specs.declared.format.TraceInput.{TraceInput}
+use Rattle.pr_basic.specs.declared.session.StatusMode.{StatusMode}
+use Rattle.pr_cli.specs.Pages.{Start}
+use Rattle.pr_render.specs.declared.format.Format.{Format}
+use Rattle.pr_report.specs.declared.report.Report.{Report}
 use Rattle.pr_web.specs.Answers.{answer_of, number_read, place_of_trace, plain, refusal}
-use Rattle.pr_web.specs.Giving.{GivesPages, GivesReadings, Hands}
-use Rattle.pr_web.specs.Settings.{IsInput, is_yes, page_format_of}
+use Rattle.pr_web.specs.Giving.{Gives, GivesEdges, GivesFault, GivesLines, GivesPages, GivesRaw, GivesReadings, GivesReport, GivesRows, GivesRun, HasNoMemory, Hands}
+use Rattle.pr_web.specs.Numbers.{bounds_numbers}
+use Rattle.pr_web.specs.Settings.{IsInput, is_yes}
 use Rattle.pr_web.specs.declared.answer.Answer.{Answer}
 use Rattle.pr_web.specs.declared.answer.Told.{Told}
 
@@ -29,12 +34,63 @@ TellsReadings (Some source) atn clock line inverted start bytes old new answer =
 
 -- the pages that printers print of a recording
 abbrev pub TellsReprint :
-    Option Source → (atn clock line : List ℕ) → (inverted start picture : ℕ) → List ℕ → (old new : List ℕ) → Answer
-    → Type 0
-TellsReprint None atn clock line inverted start picture bytes old new answer = Refuses 29 old new answer
-TellsReprint (Some source) atn clock line inverted start picture bytes old new answer =
+    Option Source → (atn clock line : List ℕ) → (inverted start : ℕ) → Option Format → List ℕ → (old new : List ℕ)
+    → Answer → Type 0
+TellsReprint None atn clock line inverted start format bytes old new answer = Refuses 29 old new answer
+TellsReprint (Some source) atn clock line inverted start None bytes old new answer = Refuses 24 old new answer
+TellsReprint (Some source) atn clock line inverted start (Some format) bytes old new answer =
     (input : TraceInput) × IsInput source atn clock line (is_yes inverted) start input
-    × (told : Told) × GivesPages input (page_format_of picture) bytes old new told × (answer ≡ answer_of told)
+    × (told : Told) × GivesPages input format bytes old new told × (answer ≡ answer_of told)
+
+-- a report on a trace
+abbrev pub TellsReport :
+    Option Source → (atn clock line : List ℕ) → (inverted start : ℕ) → Report → List ℕ → (old new : List ℕ) → Answer
+    → Type 0
+TellsReport None atn clock line inverted start report bytes old new answer = Refuses 29 old new answer
+TellsReport (Some source) atn clock line inverted start report bytes old new answer =
+    (input : TraceInput) × IsInput source atn clock line (is_yes inverted) start input
+    × (told : Told) × GivesReport input report bytes old new told × (answer ≡ answer_of told)
+
+-- the edges of a recording
+abbrev pub TellsEdges : Option Source → (atn clock line : List ℕ) → (inverted start : ℕ) → List ℕ
+    → (old new : List ℕ) → Answer → Type 0
+TellsEdges None atn clock line inverted start bytes old new answer = Refuses 29 old new answer
+TellsEdges (Some source) atn clock line inverted start bytes old new answer =
+    (input : TraceInput) × IsInput source atn clock line (is_yes inverted) start input
+    × (told : Told) × GivesEdges input bytes old new told × (answer ≡ answer_of told)
+
+-- a row for each reading of a recording
+abbrev pub TellsRows : Option Source → (atn clock line : List ℕ) → (inverted start : ℕ) → List ℕ
+    → (old new : List ℕ) → Answer → Type 0
+TellsRows None atn clock line inverted start bytes old new answer = Refuses 29 old new answer
+TellsRows (Some source) atn clock line inverted start bytes old new answer =
+    (input : TraceInput) × IsInput source atn clock line (is_yes inverted) start input
+    × (told : Told) × GivesRows input bytes old new told × (answer ≡ answer_of told)
+
+-- the bounds of the delays
+abbrev pub TellsBounds : (old new : List ℕ) → Answer → Type 0
+TellsBounds old new answer =
+    (told : Told) × (Gives (Ok tt) bounds_numbers old new told ⊎ HasNoMemory old new told) × (answer ≡ answer_of told)
+
+-- the pages of a script's run, or a part of them
+abbrev pub TellsRun : Option Format → Start → (script : List ℕ) → (old new : List ℕ) → Answer → Type 0
+TellsRun None start script old new answer = Refuses 24 old new answer
+TellsRun (Some format) start script old new answer =
+    (told : Told) × (GivesRun start format script old new told ⊎ HasNoMemory old new told) × (answer ≡ answer_of told)
+
+-- the page of a printer's bytes, or a part of it
+abbrev pub TellsRaw : Option Format → (is_lower : Bool) → List ℕ → (old new : List ℕ) → Answer → Type 0
+TellsRaw None is_lower bytes old new answer = Refuses 24 old new answer
+TellsRaw (Some format) is_lower bytes old new answer =
+    (told : Told) × GivesRaw is_lower format bytes old new told × (answer ≡ answer_of told)
+
+-- the line of each statement of a script
+abbrev pub TellsLines : (script : List ℕ) → (old new : List ℕ) → Answer → Type 0
+TellsLines script old new answer = (told : Told) × GivesLines script old new told × (answer ≡ answer_of told)
+
+-- the place of a script's first fault
+abbrev pub TellsFault : (script : List ℕ) → (old new : List ℕ) → Answer → Type 0
+TellsFault script old new answer = (told : Told) × GivesFault script old new told × (answer ≡ answer_of told)
 
 -- the text of an explanation is in the buffer, and the answer has its place's number; or memory for
 -- it was refused. Where there is no place there is no text

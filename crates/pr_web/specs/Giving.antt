@@ -1,13 +1,27 @@
 -- Trusted: what the page's buffer holds after a call, for the text that was made.
-use Rattle.std.specs.Prelude.{◌≡◌, ℕ, ◌<◌, ◌≤◌, Bool, true, false, List, [], ◌++◌, length, drop, Option, Some, None, Result, Ok, Err}
+use Rattle.std.specs.Prelude.{◌≡◌, ◌⊎◌, ℕ, ◌<◌, ◌≤◌, Bool, true, false, List, [], ◌++◌, length, drop, Option, Some, None, Result, Ok, Err}
+use Rattle.pr_wire.specs.declared.Edge.{Edge}
+use Rattle.pr_base.specs.Lines.{lines_of}
+use Rattle.pr_basic.specs.Faults.{IsFirstFault}
+use Rattle.pr_basic.specs.Grammar.{IsScript}
+use Rattle.pr_basic.specs.declared.fault.ScriptFault.{ScriptFault}
+use Rattle.pr_basic.specs.declared.statement.Statement.{Statement}
 use Rattle.pr_cli.specs.Check.{trace_limit}
+use Rattle.pr_cli.specs.Pages.{AnswersPages as AnswersRun, Start}
+use Rattle.pr_cli.specs.Raw.{AnswersRaw}
+use Rattle.pr_cli.specs.Report.{AnswersReport, Says}
+use Rattle.pr_cli.specs.declared.pages.Ending.{Ending}
 use Rattle.pr_cli.specs.declared.fault.CliFault.{CliFault}
-use Rattle.pr_cli.specs.declared.fault.CliFault.TheVariants.{Trace, Wave, Capture}
+use Rattle.pr_cli.specs.declared.fault.CliFault.TheVariants.{Script, Trace, Wave, Capture, NoMemory}
 use Rattle.pr_render.specs.declared.format.Format.{Format}
 use Rattle.pr_capture.specs.declared.format.TraceInput.{TraceInput}
-use Rattle.pr_recording.specs.Decoded.{AnswersDecode}
-use Rattle.pr_recording.specs.Pages.{AnswersPages}
+use Rattle.pr_dots.specs.Shapes.{own_shapes}
+use Rattle.pr_recording.specs.Decoded.{AnswersDecode, back_in, stop_at}
+use Rattle.pr_recording.specs.Pages.{AnswersPages, readings_up_to}
+use Rattle.pr_report.specs.declared.reading_line.Preceding.TheVariants.{Nothing}
+use Rattle.pr_report.specs.declared.report.Report.{Report}
 use Rattle.pr_web.specs.Answers.{answer_of}
+use Rattle.pr_web.specs.Numbers.{AreLineNumbers, IsFaultRow, edge_numbers, reading_rows}
 use Rattle.pr_web.specs.declared.answer.Answer.{Answer}
 use Rattle.pr_web.specs.declared.answer.Told.{Told}
 use Rattle.pr_web.specs.declared.answer.Told.TheVariants.{Written, TooSmall, Refused}
@@ -23,6 +37,11 @@ is_of_input (Wave fault) = true
 is_of_input (Capture fault) = true
 is_of_input _ = false
 
+-- an input that was read to its end, or to this fault
+abbrev pub made_of : Option CliFault → Made
+made_of None = Ok tt
+made_of (Some fault) = Err fault
+
 -- there is a text: it is whole, or ends at this fault of the input
 abbrev pub HasText : Made → Option CliFault → Type 0
 HasText made None = made ≡ Ok tt
@@ -34,7 +53,7 @@ FindsText made (Ok stop) = HasText made stop
 FindsText made (Err fault) = (made ≡ Err fault) × (is_of_input fault ≡ false)
 
 -- the text is at the front of the buffer, and the rest is as it was; or the buffer is too small; or there is no text
-abbrev pub Gives : Made → List ℕ → (old new : List ℕ) → Told → Type 0
+abbrev pub Gives : {X : Type 0} → Made → List X → (old new : List X) → Told → Type 0
 Gives made text old new (Written stop n) =
     HasText made stop × (n ≡ length text) × (n ≤ length old) × (new ≡ text ++ drop n old)
 Gives made text old new (TooSmall n) =
@@ -50,8 +69,64 @@ GivesReadings input bytes old new told =
 -- the buffer gets the pages that printers print of a recording
 abbrev pub GivesPages : TraceInput → Format → List ℕ → (old new : List ℕ) → Told → Type 0
 GivesPages input format bytes old new told =
-    (made : Made) × (text : List ℕ) × AnswersPages input format bytes (Some []) (Some text) made
+    (made : Made) × (text : List ℕ) × AnswersPages own_shapes input format bytes (Some []) (Some text) made
     × Gives made text old new told
+
+-- the buffer gets a report on a trace
+abbrev pub GivesReport : TraceInput → Report → List ℕ → (old new : List ℕ) → Told → Type 0
+GivesReport input report bytes old new told =
+    (made : Made) × (text : List ℕ) × AnswersReport input report bytes (Some []) (Some text) made
+    × Gives made text old new told
+
+-- what was made, however the run ended
+abbrev pub without_ending : Result Ending CliFault → Made
+without_ending (Ok ending) = Ok tt
+without_ending (Err fault) = Err fault
+
+-- the buffer gets the pages of a script's run
+abbrev pub GivesRun : Start → Format → List ℕ → (old new : List ℕ) → Told → Type 0
+GivesRun start format script old new told =
+    (made : Result Ending CliFault) × (text : List ℕ) × AnswersRun own_shapes start format script (Some []) (Some text) made
+    × Gives (without_ending made) text old new told
+
+-- the buffer gets the page of a printer's bytes
+abbrev pub GivesRaw : (is_lower : Bool) → Format → List ℕ → (old new : List ℕ) → Told → Type 0
+GivesRaw is_lower format bytes old new told =
+    (made : Made) × (text : List ℕ) × AnswersRaw own_shapes is_lower format bytes (Some []) (Some text) made
+    × Gives made text old new told
+
+-- memory was refused, and the buffer is as it was
+abbrev pub HasNoMemory : (old new : List ℕ) → Told → Type 0
+HasNoMemory old new told = (told ≡ Refused NoMemory) × (new ≡ old)
+
+-- the buffer gets the edges of a recording, up to its fault if it has one
+abbrev pub GivesEdges : TraceInput → List ℕ → (old new : List ℕ) → Told → Type 0
+GivesEdges input bytes old new told =
+    ((edges : List Edge) × (own : Option CliFault) × Says input bytes edges own
+    × Gives (made_of own) (edge_numbers edges) old new told)
+    ⊎ HasNoMemory old new told
+
+-- the buffer gets a row for each reading of a recording, up to where it stops
+abbrev pub GivesRows : TraceInput → List ℕ → (old new : List ℕ) → Told → Type 0
+GivesRows input bytes old new told =
+    ((edges : List Edge) × (own : Option CliFault) × Says input bytes edges own
+    × Gives (made_of (stop_at (back_in edges) own))
+    (reading_rows Nothing (readings_up_to (stop_at (back_in edges) own) edges)) old new told)
+    ⊎ HasNoMemory old new told
+
+-- the buffer gets the line of each statement of a script
+abbrev pub GivesLines : (script : List ℕ) → (old new : List ℕ) → Told → Type 0
+GivesLines script old new told =
+    ((statements : List Statement) × (numbers : List ℕ) × IsScript script statements
+    × AreLineNumbers 1 (lines_of script) numbers × Gives (Ok tt) numbers old new told)
+    ⊎ ((fault : ScriptFault) × IsFirstFault script fault × (told ≡ Refused (Script fault)) × (new ≡ old))
+    ⊎ HasNoMemory old new told
+
+-- the buffer gets the place of a script's first fault; nothing, where it has none
+abbrev pub GivesFault : (script : List ℕ) → (old new : List ℕ) → Told → Type 0
+GivesFault script old new told =
+    ((numbers : List ℕ) × IsFaultRow script numbers × Gives (Ok tt) numbers old new told)
+    ⊎ HasNoMemory old new told
 
 -- the buffer gets an explanation, and the answer has its place
 abbrev pub Hands : (place : ℕ) → (text : List ℕ) → (old new : List ℕ) → Answer → Type 0

@@ -5,11 +5,16 @@ use Rattle.pr_basic.specs.declared.session.StatusMode.TheVariants as mode
 use Rattle.pr_channels.specs.declared.faults.Stop.{Stop}
 use Rattle.pr_channels.specs.declared.faults.Stop.TheVariants as stop
 use Rattle.pr_render.specs.declared.format.Format.{Format}
+use Rattle.pr_render.specs.declared.format.Device.{Device}
+use Rattle.pr_render.specs.declared.format.Device.TheVariants.{Four, Five}
 use Rattle.pr_render.specs.declared.format.Format.TheVariants as format
-use Rattle.pr_render.specs.Showing.{whole}
+use Rattle.pr_render.specs.Showing.{showing, whole}
+use Rattle.pr_report.specs.declared.report.Report.{Report}
+use Rattle.pr_report.specs.declared.report.Report.TheVariants as report
 use Rattle.pr_capture.specs.declared.format.Source.{Source}
 use Rattle.pr_capture.specs.declared.format.Source.TheVariants as source
 use Rattle.pr_capture.specs.declared.format.TraceInput.{TraceInput}
+use Rattle.pr_serial.specs.Bus.{DelayNumbers}
 use Rattle.pr_serial.specs.declared.Present.{Present}
 
 -- the format of a recording: a trace text, a Value Change Dump, a table of comma separated values
@@ -39,11 +44,41 @@ abbrev pub mode_of : (is_kept : Bool) → StatusMode
 mode_of false = mode.Each
 mode_of true = mode.Kept
 
--- the format of pages: lines of 80 columns, the first sheet as a PNG file, a PDF document, or an SVG document
-abbrev pub page_format_of : ℕ → Format
-page_format_of number =
-    if number == 0 then format.Lines
-    else (if number == 2 then format.Png whole else (if number == 3 then format.Pdf None else format.Svg whole))
+-- the numbers of the delays: those of the computer, of printer 4 and of printer 5
+abbrev pub delays_of : (computer four five : List ℕ) → DelayNumbers
+delays_of computer four five = record { computer = computer; four = four; five = five }
+
+-- the format of pages: the page text, lines of 80 columns, an SVG document, a sheet as a PNG file, or a PDF document
+abbrev pub format_of : ℕ → Option Format
+format_of number =
+    if number == 0 then Some format.List
+    else (if number == 1 then Some format.Lines
+    else (if number == 2 then Some (format.Svg whole)
+    else (if number == 3 then Some (format.Png whole) else (if number == 4 then Some (format.Pdf None) else None))))
+
+-- the printers whose pages are shown: all, or one
+abbrev pub device_of : ℕ → Option (Option Device)
+device_of number =
+    if number == 0 then Some None
+    else (if number == 4 then Some (Some Four) else (if number == 5 then Some (Some Five) else None))
+
+-- the sheet that is shown: all, or one
+abbrev pub sheet_of : ℕ → Option ℕ
+sheet_of number = if number == 0 then None else Some number
+
+-- a format that shows this part of the pages, if it can
+abbrev pub shown_in : Option Format → Option (Option Device) → (sheet : Option ℕ) → Option Format
+shown_in None device sheet = None
+shown_in (Some format) None sheet = None
+shown_in (Some format) (Some device) sheet = showing format (record { device = device; sheet = sheet })
+
+abbrev pub shown_of : (format device sheet : ℕ) → Option Format
+shown_of format device sheet = shown_in (format_of format) (device_of device) (sheet_of sheet)
+
+-- what is written of a trace: its frames, or their story
+abbrev pub report_of : (is_story : Bool) → Report
+report_of false = report.Frames
+report_of true = report.Story
 
 -- a recording with these names of its signals, with levels as they are or inverted, which starts at this microsecond
 pub record IsInput (source : Source) (atn clock line : List ℕ) (is_inverted : Bool) (start : ℕ)

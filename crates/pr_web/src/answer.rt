@@ -1,14 +1,15 @@
 //! What a call answers the page.
 
 ghost use Rattle.std.specs.Prelude.{◌≡◌, length};
-ghost use Rattle.pr_web.specs.Answers.{answer_of, capture_numbers, fault_numbers, refusal, signal_number};
-ghost use Rattle.pr_web.specs.Giving.{FindsText, Gives, is_of_input};
+ghost use Rattle.pr_web.specs.Answers.{answer_of, capture_numbers, fault_numbers, picture_numbers, refusal, script_numbers, signal_number, wave_numbers};
+ghost use Rattle.pr_web.specs.Giving.{FindsText, Gives, is_of_input, made_of};
 
+use pr_basic::ScriptFault;
 use pr_capture::{CaptureFault, Wire};
-use pr_cli::CliFault;
+use pr_cli::{CliFault, PictureFault};
 use pr_wire::{TraceFault, WaveFault};
 
-/// What came of a call.
+/// What came of a call that gives a text, or numbers.
 #[derive(Clone, Copy, Debug, PartialEq, Eq)]
 pub enum Told {
     /// The text is at the front of the buffer, and has this many bytes. Of an input that can not be
@@ -26,31 +27,42 @@ pub enum Told {
 pub struct Answer {
     /// 0 done, 2 refused, 3 out of memory, 4 the buffer is too small.
     pub code: usize,
-    /// With code 2 the number of the fault: 8 a bad line of a trace text, 9 too large, 12 an edge that
-    /// comes before the one in front of it, 29 and 30 a number that means no setting, 31 to 49 those
-    /// of a recording. Else 0.
+    /// With code 2 the number of the fault: 1 to 7 those of a script, 8 a bad line of a trace text, 9 too
+    /// large, 11 to 16 those of edges (12: an edge is earlier than the one before it), 24, 29 and 30 a
+    /// number that means no setting, 31 to 49 and 70 to 77 those of a recording, 50 a sheet that there
+    /// is not, 51 a document that is too large. Else 0.
     pub fault: usize,
-    /// The line of the fault, from 1, or the index of its edge; or 0.
+    /// The line of the fault, from 1, or the index of its edge; with 50 how many sheets there are; or 0.
     pub place: usize,
-    /// The number of the text's bytes, or 0.
+    /// The number of the text's bytes, or how many numbers there are, or 0.
     pub length: usize,
 }
 
-/// Hands a text that was made to the page, also where its input has a fault.
-pub fn give(made: Result<(), CliFault>, text: &[u8], out: &mut [u8]) -> Told
-    ensures gives { Gives made text.now out.old out.new result }
+/// Hands a text or numbers that were made to the page, also where their input has a fault.
+pub fn give<T: Copy>(made: Result<(), CliFault>, items: &[T], out: &mut [T]) -> Told
+    ensures gives { Gives made items.now out.old out.new result }
     ensures length { length out.new ≡ length out.old }
 {
     let stop = match stop_in(made) {
         Ok(stop) => stop,
         Err(fault) => return Told::Refused(fault),
     };
-    let size = text.len();
+    let size = items.len();
     if size > out.len() {
         return Told::TooSmall(size);
     }
-    out[..size].copy_from_slice(text);
+    out[..size].copy_from_slice(items);
     Told::Written(stop, size)
+}
+
+/// An input that was read to its end, or to this fault.
+pub fn ended(fault: Option<CliFault>) -> Result<(), CliFault>
+    ensures { result ≡ made_of fault }
+{
+    match fault {
+        None => Ok(()),
+        Some(fault) => Err(fault),
+    }
 }
 
 /// Where the text of an input ends, if it ends before the input; or why there is none.
@@ -100,6 +112,8 @@ pub fn numbered(told: Told) -> Answer
                 length: size,
             };
         }
+        Told::Refused(CliFault::Script(fault)) => return of_script(fault),
+        Told::Refused(CliFault::Picture(fault)) => return of_picture(fault),
         Told::Refused(CliFault::TooLarge) => return refused(9, 0),
         Told::Written(None, size) => (0, size),
         Told::Refused(_) => (3, 0),
@@ -113,15 +127,56 @@ pub fn numbered(told: Told) -> Answer
     }
 }
 
+/// A script's fault.
+fn of_script(fault: ScriptFault) -> Answer
+    ensures { result ≡ refusal (script_numbers fault) 0 }
+{
+    match fault {
+        ScriptFault::UnknownWord(line) => refused(1, line),
+        ScriptFault::BadNumber(line) => refused(2, line),
+        ScriptFault::BadDevice(line) => refused(3, line),
+        ScriptFault::BadSecond(line) => refused(4, line),
+        ScriptFault::BadByte(line) => refused(5, line),
+        ScriptFault::TooLong(line) => refused(6, line),
+        ScriptFault::TooMany(line) => refused(7, line),
+        ScriptFault::NoMemory => refused(0, 0),
+    }
+}
+
+/// A picture's fault.
+fn of_picture(fault: PictureFault) -> Answer
+    ensures { result ≡ refusal (picture_numbers fault) 0 }
+{
+    match fault {
+        PictureFault::NoSuchSheet(sheets) => refused(50, sheets as usize),
+        PictureFault::TooLarge => refused(51, 0),
+    }
+}
+
 /// The number of a fault of an input, and its place.
 fn numbers_of(fault: CliFault) -> (usize, usize)
     ensures { result ≡ fault_numbers fault }
 {
     match fault {
         CliFault::Trace(TraceFault::BadLine(line)) => (8, line),
-        CliFault::Wave(WaveFault::Order(edge)) => (12, edge),
+        CliFault::Wave(fault) => numbers_of_wave(fault),
         CliFault::Capture(fault) => numbers_of_capture(fault),
         _ => (0, 0),
+    }
+}
+
+/// The number of a fault of edges, and the index of the edge.
+fn numbers_of_wave(fault: WaveFault) -> (usize, usize)
+    ensures { result ≡ wave_numbers fault }
+{
+    match fault {
+        WaveFault::Start(at) => (11, at),
+        WaveFault::Order(at) => (12, at),
+        WaveFault::TooEarly(at) => (13, at),
+        WaveFault::TooLate(at) => (14, at),
+        WaveFault::Shape(at) => (15, at),
+        WaveFault::Truncated(at) => (16, at),
+        WaveFault::NoMemory => (0, 0),
     }
 }
 

@@ -1,16 +1,18 @@
-//! What a recording says.
+//! What a recording says, as text.
 
 ghost use Rattle.std.specs.Prelude.{◌≡◌, ◌≢◌, length};
-ghost use Rattle.pr_web.specs.Asked.{TellsReadings, TellsReprint};
-ghost use Rattle.pr_web.specs.Giving.{GivesPages, GivesReadings};
-ghost use Rattle.pr_web.specs.Settings.{page_format_of, source_of};
+ghost use Rattle.pr_web.specs.Asked.{TellsReadings, TellsReport, TellsReprint};
+ghost use Rattle.pr_web.specs.Giving.{GivesPages, GivesReadings, GivesReport};
+ghost use Rattle.pr_web.specs.Settings.{is_yes, report_of, shown_of, source_of};
 
 use crate::answer::{Answer, Told, give, numbered, refused};
-use crate::settings::{input_for, page_format_for, source_for};
+use crate::settings::{input_for, report_for, shown_for, source_for};
 use pr_capture::TraceInput;
-use pr_cli::Watched;
+use pr_cli::{Watched, check_as_over};
+use pr_dots::Shapes;
 use pr_recording::{decode_over, reprint_over};
 use pr_render::Format;
+use pr_report::Report;
 use std::alloc::Global;
 
 /// Reads a recording, and puts what it says at the front of a buffer.
@@ -37,7 +39,31 @@ fn reprint(
 {
     let mut reader = Watched::new(bytes);
     let mut output = Watched::new(Vec::new(alloc));
-    let made = reprint_over(alloc, &mut reader, &mut output, input, format);
+    let made = reprint_over(
+        alloc,
+        &mut reader,
+        &mut output,
+        input,
+        format,
+        &Shapes::own(),
+    );
+    give(made, &output.into_inner(), out)
+}
+
+/// Reads a trace, and puts a report on it at the front of a buffer.
+fn report(
+    alloc: Global,
+    bytes: &[u8],
+    input: TraceInput<'_>,
+    report: Report,
+    out: &mut [u8],
+) -> Told
+    ensures told { GivesReport input.entry report bytes.now out.old out.new result }
+    ensures length { length out.new ≡ length out.old }
+{
+    let mut reader = Watched::new(bytes);
+    let mut output = Watched::new(Vec::new(alloc));
+    let made = check_as_over(alloc, &mut reader, &mut output, input, report);
     give(made, &output.into_inner(), out)
 }
 
@@ -78,9 +104,14 @@ pub extern "C" fn print1525_readings(
 }
 
 /// Reads a recording, and puts the pages that printers 4 and 5 print of it at the front of the
-/// page's buffer, as lines (0) or as an SVG document. The recording is passed as to
-/// [`print1525_readings`], with its refusals: of a recording that cannot be read to its end, the
-/// pages of what comes before the fault are in the buffer.
+/// page's buffer. The recording is passed as to [`print1525_readings`], with its refusals: of a
+/// recording that cannot be read to its end, the pages of what comes before the fault are in the
+/// buffer.
+///
+/// `format` is 0 for the page text, 1 for lines of 80 columns, 2 for an SVG document, 3 for a sheet
+/// as a PNG file, 4 for a PDF document. `device` is 4 or 5 for the pages of one printer, `sheet` is
+/// the number of one sheet from 1; 0 means all of them. Numbers that mean no such format are
+/// refused, and so are a sheet that there is not and a document that is too large.
 #[unsafe(no_mangle)]
 pub extern "C" fn print1525_reprint(
     alloc: Global,
@@ -91,11 +122,51 @@ pub extern "C" fn print1525_reprint(
     line: &[u8],
     inverted: u8,
     start: u64,
-    picture: u8,
+    format: u8,
+    device: u8,
+    sheet: u64,
     out: &mut [u8],
     answer: &mut Answer,
 )
-    ensures tells { TellsReprint (source_of source) atn.now clock.now line.now inverted start picture bytes.now out.old out.new answer.new }
+    ensures tells { TellsReprint (source_of source) atn.now clock.now line.now inverted start (shown_of format device sheet) bytes.now out.old out.new
+        answer.new }
+    ensures length { length out.new ≡ length out.old }
+{
+    let Some(source) = source_for(source) else {
+        *answer = refused(29, 0);
+        return;
+    };
+    let Some(format) = shown_for(format, device, sheet) else {
+        *answer = refused(24, 0);
+        return;
+    };
+    let input = input_for(source, atn, clock, line, inverted != 0, start);
+    *answer = numbered(reprint(alloc, bytes, input, format, out));
+}
+
+/// Reads a trace, and puts its frames, or their story, as `print1525 check` writes them, at the
+/// front of the page's buffer. The trace is passed as to [`print1525_readings`]; `story` is whether
+/// the story is wanted (0 for no).
+///
+/// It is refused with the faults of [`pr_cli::check_as_over`] but for reads and writes, for a number
+/// that means no format of a recording, and where the text has more bytes than the buffer has room
+/// for. The story of a trace that is refused is in the buffer up to the fault, with code 2.
+#[unsafe(no_mangle)]
+pub extern "C" fn print1525_report(
+    alloc: Global,
+    bytes: &[u8],
+    source: u8,
+    atn: &[u8],
+    clock: &[u8],
+    line: &[u8],
+    inverted: u8,
+    start: u64,
+    story: u8,
+    out: &mut [u8],
+    answer: &mut Answer,
+)
+    ensures tells { TellsReport (source_of source) atn.now clock.now line.now inverted start (report_of (is_yes story)) bytes.now out.old out.new
+        answer.new }
     ensures length { length out.new ≡ length out.old }
 {
     let Some(source) = source_for(source) else {
@@ -103,6 +174,5 @@ pub extern "C" fn print1525_reprint(
         return;
     };
     let input = input_for(source, atn, clock, line, inverted != 0, start);
-    let format = page_format_for(picture);
-    *answer = numbered(reprint(alloc, bytes, input, format, out));
+    *answer = numbered(report(alloc, bytes, input, report_for(story != 0), out));
 }

@@ -1,12 +1,13 @@
 //! What the numbers and bytes that the page passes mean.
 
 ghost use Rattle.std.specs.Prelude.{◌≡◌};
-ghost use Rattle.pr_web.specs.Settings.{IsInput, mode_of, page_format_of, source_of, stop_of};
+ghost use Rattle.pr_web.specs.Settings.{IsInput, device_of, format_of, mode_of, report_of, sheet_of, shown_of, source_of, stop_of};
 
 use pr_basic::StatusMode;
 use pr_capture::{Signals, Source, TraceInput};
 use pr_channels::Stop;
-use pr_render::{Format, Part};
+use pr_render::{Device, Format, Part};
+use pr_report::Report;
 
 /// The format of a recording: 0 a trace text, 1 a Value Change Dump, 2 a table of comma separated values.
 pub fn source_for(number: u8) -> Option<Source>
@@ -45,16 +46,68 @@ pub fn mode_for(is_kept: bool) -> StatusMode
     }
 }
 
-/// The format of pages: 0 lines of 80 columns, 2 the first sheet as a PNG file, 3 a PDF document, another number an SVG
+/// The format of pages: 0 the page text, 1 lines of 80 columns, 2 an SVG document, 3 a sheet as a PNG file, 4 a PDF
 /// document.
-pub fn page_format_for(picture: u8) -> Format
-    ensures { result ≡ page_format_of picture }
+fn format_for(number: u8) -> Option<Format>
+    ensures { result ≡ format_of number }
 {
-    match picture {
-        0 => Format::Lines,
-        2 => Format::Png(Part::whole()),
-        3 => Format::Pdf(None),
-        _ => Format::Svg(Part::whole()),
+    match number {
+        0 => Some(Format::List),
+        1 => Some(Format::Lines),
+        2 => Some(Format::Svg(Part::whole())),
+        3 => Some(Format::Png(Part::whole())),
+        4 => Some(Format::Pdf(None)),
+        _ => None,
+    }
+}
+
+/// The printer whose pages are shown: 0 all printers, or 4 or 5; `None` for another number.
+fn device_for(number: u8) -> Option<Option<Device>>
+    ensures { result ≡ device_of number }
+{
+    match number {
+        0 => Some(None),
+        4 => Some(Some(Device::Four)),
+        5 => Some(Some(Device::Five)),
+        _ => None,
+    }
+}
+
+/// The sheet that is shown, from 1; 0 for all of them.
+fn sheet_for(number: u64) -> Option<u64>
+    ensures { result ≡ sheet_of number }
+{
+    match number {
+        0 => None,
+        sheet => Some(sheet),
+    }
+}
+
+/// The format of pages and what of them it shows: one printer or all (0), one sheet or all (0). `None` where a number
+/// means no such setting, or the format cannot show this part.
+pub fn shown_for(format: u8, device: u8, sheet: u64) -> Option<Format>
+    ensures { result ≡ shown_of format device sheet }
+{
+    let Some(format) = format_for(format) else {
+        return None;
+    };
+    let Some(device) = device_for(device) else {
+        return None;
+    };
+    format.showing(Part {
+        device,
+        sheet: sheet_for(sheet),
+    })
+}
+
+/// What is written of a trace: its frames, or their story.
+pub fn report_for(is_story: bool) -> Report
+    ensures { result ≡ report_of is_story }
+{
+    if is_story {
+        Report::Story
+    } else {
+        Report::Frames
     }
 }
 

@@ -1,7 +1,9 @@
 use crate::answer::Answer;
 use crate::{
-    print1525_explain_reading, print1525_explain_script, print1525_explain_stop,
-    print1525_explain_trace, print1525_readings, print1525_reprint,
+    print1525_bounds, print1525_edges, print1525_explain_reading, print1525_explain_script,
+    print1525_explain_stop, print1525_explain_trace, print1525_part_of_pages,
+    print1525_part_of_raw, print1525_reading_rows, print1525_readings, print1525_report,
+    print1525_reprint, print1525_script_fault, print1525_statement_lines,
 };
 use std::alloc::Global;
 
@@ -65,12 +67,161 @@ fn pages_of_a_recording(rt: HostRuntime) {
         line,
         0,
         0,
-        1,
+        2,
+        0,
+        0,
         &mut out,
         &mut answer,
     );
     assert!(rt; answer.code == 0);
     assert!(rt; out.starts_with(b"<svg "));
+}
+
+/// The first byte of a lawful trace: printer 4 is called, and nothing follows.
+const CALL: &[u8] = b"0 111\n100 011\n200 010\n1000 000\n1100 010\n1150 011\n1190 001\n";
+
+#[test]
+fn edges_and_readings_as_numbers(rt: HostRuntime) {
+    let mut out = [7u64; 40];
+    let mut answer = NOTHING;
+    let (atn, clock, line) = NAMES;
+    print1525_edges(
+        rt.alloc(),
+        b"0 111\n100 011\n",
+        0,
+        atn,
+        clock,
+        line,
+        0,
+        0,
+        &mut out,
+        &mut answer,
+    );
+    assert!(rt; answer.code == 0 && answer.length == 4);
+    assert!(rt; out.starts_with(&[0, 7, 100, 3, 7]));
+    print1525_edges(
+        rt.alloc(),
+        CALL,
+        0,
+        atn,
+        clock,
+        line,
+        0,
+        0,
+        &mut out[..3],
+        &mut answer,
+    );
+    assert!(rt; answer.code == 4 && answer.length == 14);
+    // CLOCK is released at 1100, DATA at 1150, CLOCK is pulled at 1190, and the recording ends: a byte without a bit.
+    print1525_reading_rows(
+        rt.alloc(),
+        CALL,
+        0,
+        atn,
+        clock,
+        line,
+        0,
+        0,
+        &mut out,
+        &mut answer,
+    );
+    assert!(rt; answer.code == 0 && answer.length == 17);
+    assert!(rt; out.starts_with(&[4, 0, 0, 0, 1, 1100, 1150, 0, 0, 0, 1190, 1190, 0, 0, 0, 0]));
+    print1525_bounds(rt.alloc(), &mut out, &mut answer);
+    assert!(rt; answer.code == 0 && answer.length == 30);
+    assert!(rt;
+        out.starts_with(&[
+            100, 1000, 1000, 2000, 1, 199, 1, 60, 20, 200, 20, 200, 100, 200, 100, 200
+        ])
+    );
+    assert!(rt;
+        out[16..].starts_with(&[1, 1000, 1, 10000, 200, 250, 80, 200, 1, 80, 1, 60, 80, 250])
+    );
+}
+
+#[test]
+fn reports_on_a_trace(rt: HostRuntime) {
+    let mut out = [7u8; 99];
+    let mut answer = NOTHING;
+    let (atn, clock, line) = NAMES;
+    print1525_report(
+        rt.alloc(),
+        b"0 111\n",
+        0,
+        atn,
+        clock,
+        line,
+        0,
+        0,
+        1,
+        &mut out,
+        &mut answer,
+    );
+    assert!(rt; answer.code == 0 && answer.length == 7);
+    assert!(rt; out.starts_with(b"lawful\n"));
+    print1525_report(
+        rt.alloc(),
+        b"0 111\n5 110\n",
+        0,
+        atn,
+        clock,
+        line,
+        0,
+        0,
+        0,
+        &mut out,
+        &mut answer,
+    );
+    assert!(rt; answer.code == 2 && answer.fault == 15 && answer.place == 1);
+}
+
+#[test]
+fn parts_of_pages(rt: HostRuntime) {
+    let mut out = [7u8; 9999];
+    let mut answer = NOTHING;
+    print1525_part_of_pages(
+        rt.alloc(),
+        b"OPEN 5,5:PRINT#5",
+        1,
+        1,
+        0,
+        &[],
+        &[],
+        &[],
+        2,
+        5,
+        0,
+        &mut out,
+        &mut answer,
+    );
+    assert!(rt; answer.code == 0);
+    assert!(rt; out.starts_with(b"<svg "));
+    // A PDF document has no single sheet, and there is no second one.
+    print1525_part_of_raw(rt.alloc(), b"A\r", 0, 4, 0, 1, &mut out, &mut answer);
+    assert!(rt; answer.code == 2 && answer.fault == 24);
+    print1525_part_of_raw(rt.alloc(), b"A\r", 0, 3, 0, 2, &mut out, &mut answer);
+    assert!(rt; answer.code == 2 && answer.fault == 50 && answer.place == 1);
+}
+
+#[test]
+fn lines_and_faults_of_scripts(rt: HostRuntime) {
+    let mut out = [7u64; 9];
+    let mut answer = NOTHING;
+    print1525_statement_lines(
+        rt.alloc(),
+        b"OPEN 4,4:PRINT#4\n\n10 CLOSE 4",
+        &mut out,
+        &mut answer,
+    );
+    assert!(rt; answer.code == 0 && answer.length == 3);
+    assert!(rt; out.starts_with(&[1, 1, 3, 7]));
+    print1525_statement_lines(rt.alloc(), b"\nPRUNT", &mut out, &mut answer);
+    assert!(rt; answer.code == 2 && answer.fault == 1 && answer.place == 2);
+    print1525_script_fault(rt.alloc(), b"\n10 OPEN 256,4", &mut out, &mut answer);
+    assert!(rt; answer.code == 0 && answer.length == 4);
+    assert!(rt; out.starts_with(&[2, 9, 11, 3]));
+    print1525_script_fault(rt.alloc(), b"REM", &mut out, &mut answer);
+    assert!(rt; answer.code == 0 && answer.length == 0);
 }
 
 #[test]

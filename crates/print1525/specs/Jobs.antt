@@ -1,12 +1,13 @@
 -- Trusted: what the program answers for each job, and what it leaves in the reader and in the
 -- writer. The answer uses the printers present, the delays, the mode, the input, the character set
--- and the format of the job.
+-- and the format of the job, and the shapes of characters that it is given.
 use Rattle.std.specs.Prelude.{ℕ, List, Option, Result, Ok, Err}
 use Rattle.pr_capture.specs.declared.format.Source.{Source}
 use Rattle.pr_capture.specs.declared.format.Source.TheVariants as source
 use Rattle.pr_capture.specs.declared.format.TraceInput.{TraceInput}
 use Rattle.pr_report.specs.declared.report.Report.{Report}
 use Rattle.pr_report.specs.declared.report.Report.TheVariants as report
+use Rattle.pr_dots.specs.declared.character_sets.Shapes.{Shapes}
 use Rattle.pr_render.specs.declared.format.Format.{Format}
 use Rattle.pr_render.specs.declared.format.Format.TheVariants as format
 use Rattle.pr_options.specs.declared.command_line.Job.{Job}
@@ -32,13 +33,13 @@ AnswersTrace input source.Text report.Frames text old new result = AnswersCheck 
 AnswersTrace input _ r text old new result = AnswersReport input r text old new result
 
 -- what `decode` answers: the lines of a recording, byte by byte, or the pages that printers print of it
--- it
 abbrev pub AnswersRecording :
-    TraceInput → Format → List ℕ → Option (List ℕ) → Option (List ℕ) → Result (Unit {0}) CliFault
-    → Type 0
-AnswersRecording input format.List text old new result =
+    Shapes → TraceInput → Format → List ℕ → Option (List ℕ) → Option (List ℕ)
+    → Result (Unit {0}) CliFault → Type 0
+AnswersRecording shapes input format.List text old new result =
     AnswersDecode trace_limit input text old new result
-AnswersRecording input f text old new result = reprint.AnswersPages input f text old new result
+AnswersRecording shapes input f text old new result =
+    reprint.AnswersPages shapes input f text old new result
 
 -- a job that no BASIC error can stop: it is done, or has a fault
 abbrev pub IsDone : (Result (Unit {0}) CliFault → Type 0) → Result Ending CliFault → Type 0
@@ -50,16 +51,17 @@ IsDone answers (Err fault) = answers (Err fault)
 -- they are the bytes of a script text, also where the listing has another form; the format of a
 -- recording is the input's, also where it was found in the first bytes
 abbrev pub AnswersJob :
-    Job → List ℕ → Option (List ℕ) → Option (List ℕ) → Result Ending CliFault → Type 0
-AnswersJob (Pages form present delays mode f) text old new result =
-    AnswersPages (start_of present delays mode) f text old new result
-AnswersJob (Bus form present delays mode f) text old new result =
+    Shapes → Job → List ℕ → Option (List ℕ) → Option (List ℕ) → Result Ending CliFault → Type 0
+AnswersJob shapes (Pages form present delays mode f) text old new result =
+    AnswersPages shapes (start_of present delays mode) f text old new result
+AnswersJob shapes (Bus form present delays mode f) text old new result =
     AnswersBus (start_of present delays mode) f text old new result
-AnswersJob (Check input r) text old new result =
+AnswersJob shapes (Check input r) text old new result =
     IsDone (AnswersTrace input input.source r text old new) result
-AnswersJob (Decode is_found input f) text old new result =
-    IsDone (AnswersRecording input f text old new) result
-AnswersJob (Raw lower f) text old new result = IsDone (AnswersRaw lower f text old new) result
+AnswersJob shapes (Decode is_found input f) text old new result =
+    IsDone (AnswersRecording shapes input f text old new) result
+AnswersJob shapes (Raw lower f) text old new result =
+    IsDone (AnswersRaw shapes lower f text old new) result
 
 -- Whatever the reader gives.
 

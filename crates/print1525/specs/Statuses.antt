@@ -9,6 +9,8 @@ use Rattle.pr_options.specs.declared.command_line.JobFault.{JobFault}
 use Rattle.pr_options.specs.declared.command_line.JobFault.TheVariants as job
 use Rattle.pr_cli.specs.declared.fault.CliFault.{CliFault}
 use Rattle.pr_cli.specs.declared.fault.CliFault.TheVariants.{Script, Trace, Wave, Capture, Picture, TooLarge, NoMemory, ReadFailed, WriteFailed}
+use Rattle.pr_cli.specs.declared.characters.ShapesFault.{ShapesFault}
+use Rattle.pr_cli.specs.declared.characters.ShapesFault.TheVariants as shapes
 use Rattle.pr_cli.specs.declared.pages.Ending.{Ending}
 use Rattle.pr_cli.specs.declared.pages.Ending.TheVariants.{Done, Stopped}
 
@@ -47,3 +49,10 @@ text_status (listing.Listing fault) = 2
 text_status listing.TooLarge = 2
 text_status listing.ReadFailed = 3
 text_status listing.NoMemory = 3
+
+-- 2 when a file of characters is refused, 3 when memory was refused, or a read failed
+abbrev pub characters_status : ShapesFault → ℕ
+characters_status (shapes.Characters fault) = 2
+characters_status shapes.TooLarge = 2
+characters_status shapes.ReadFailed = 3
+characters_status shapes.NoMemory = 3

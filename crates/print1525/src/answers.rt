@@ -3,6 +3,7 @@
 ghost use Rattle.std.specs.Prelude.{◌≡◌};
 ghost use Rattle.print1525.specs.Statuses.{fault_status, text_status};
 
+use crate::characters::shapes_for;
 use crate::jobs::do_job;
 use crate::progress::{Progress, clear};
 use crate::shown::Shown;
@@ -10,6 +11,7 @@ use crate::statuses::{FAILED, ending_status, fault_status, is_answered, text_sta
 use crate::told::{subject_of, tell_listing, tell_more};
 use pr_capture::TraceInput;
 use pr_cli::{CliFault, SCRIPT_LIMIT, TeeReader, Watched};
+use pr_dots::Shapes;
 use pr_files::{Noting, save};
 use pr_listing::{ListingForm, TextFault, read_text};
 use pr_options::{Job, Task, found_source};
@@ -29,6 +31,13 @@ const FIRST: usize = 4096;
 struct Names<'a> {
     input: Option<&'a str>,
     output: Option<&'a str>,
+}
+
+/// A job, and the shapes in which it draws characters.
+#[derive(Drop)]
+struct Work<'a> {
+    job: Job<'a>,
+    shapes: &'a Shapes,
 }
 
 /// How a task is done, beside its job.
@@ -53,13 +62,27 @@ struct Aside<'a> {
     is_shown: &'a Cell<bool>,
 }
 
-/// Opens the files that a task names, does its job and gives the exit status.
+/// Opens the files that a task names, does its job and gives the exit status. The file of characters is read first: where it
+/// has none, no other file is opened, and nothing is read.
 pub fn answer_task(
     rt: &(impl Files + Clock + Input + Print + Eprint + AllocGlobal),
     task: Task<'_>,
     manner: Manner,
 ) -> u8 {
-    let Task { job, input, output } = task;
+    let Task {
+        job,
+        input,
+        output,
+        characters,
+    } = task;
+    let shapes = match shapes_for(rt, characters) {
+        Ok(shapes) => shapes,
+        Err(status) => return status,
+    };
+    let work = Work {
+        job,
+        shapes: &shapes,
+    };
     let names = Names {
         input,
         output: output.filter(|name| !is_standard_output(name)),
@@ -72,15 +95,15 @@ pub fn answer_task(
     let is_apart = manner.is_watched && (names.output.is_some() || !manner.is_seen);
     let Some(name) = input else {
         if manner.is_typed {
-            tell_waiting(rt, &job);
+            tell_waiting(rt, &work.job);
         }
         let reader = Progress::new(rt, rt.reader(), is_apart && !manner.is_typed, &is_shown);
-        return answer_from(rt, reader, names, job, aside);
+        return answer_from(rt, reader, names, work, aside);
     };
     match File::open(rt, name) {
         Ok(file) => {
             let reader = Progress::new(rt, file, is_apart, &is_shown);
-            answer_from(rt, reader, names, job, aside)
+            answer_from(rt, reader, names, work, aside)
         }
         Err(error) => tell_file(rt, name, &error),
     }
@@ -110,18 +133,18 @@ fn answer_from<R: Read + Drop>(
     rt: &(impl Files + Print + Eprint + AllocGlobal),
     reader: R,
     names: Names<'_>,
-    job: Job<'_>,
+    work: Work<'_>,
     aside: Aside<'_>,
 ) -> u8 {
     let Some(name) = names.output else {
-        let (status, _output) = answer_job(rt, reader, io::writer(rt), names, job, aside);
+        let (status, _output) = answer_job(rt, reader, io::writer(rt), names, work, aside);
         return status;
     };
     let saving = match save(rt, name) {
         Ok(saving) => saving,
         Err(error) => return tell_file(rt, name, &error),
     };
-    let (status, saving) = answer_job(rt, reader, saving, names, job, aside);
+    let (status, saving) = answer_job(rt, reader, saving, names, work, aside);
     if is_answered(status) {
         match saving.keep(rt) {
             Ok(()) => status,
@@ -140,22 +163,22 @@ fn answer_job<R: Read + Drop, W: Write + Drop>(
     reader: R,
     writer: W,
     names: Names<'_>,
-    job: Job<'_>,
+    work: Work<'_>,
     aside: Aside<'_>,
 ) -> (u8, W) {
-    if let Some(reading) = reading_to_find(&job) {
+    if let Some(reading) = reading_to_find(&work) {
         return answer_recording(rt, reader, writer, names, reading, aside);
     }
-    let form = form_of(&job);
+    let form = form_of(&work.job);
     if form == ListingForm::Text {
-        return answer_over(rt, reader, writer, names, job, aside);
+        return answer_over(rt, reader, writer, names, work, aside);
     }
-    answer_listing(rt, reader, writer, names, form, job, aside)
+    answer_listing(rt, reader, writer, names, form, work, aside)
 }
 
 /// The recording of which a job has to find the format.
-fn reading_to_find<'a>(job: &Job<'a>) -> Option<Reading<'a>> {
-    match job {
+fn reading_to_find<'a>(work: &Work<'a>) -> Option<Reading<'a>> {
+    match &work.job {
         Job::Decode {
             is_found: true,
             input,
@@ -163,16 +186,18 @@ fn reading_to_find<'a>(job: &Job<'a>) -> Option<Reading<'a>> {
         } => Some(Reading {
             input: *input,
             format: *format,
+            shapes: work.shapes,
         }),
         _ => None,
     }
 }
 
-/// A recording whose format is to be found, and the format of what is written.
+/// A recording whose format is to be found, the format of what is written, and the shapes of its characters.
 #[derive(Clone, Copy)]
 struct Reading<'a> {
     input: TraceInput<'a>,
     format: Format,
+    shapes: &'a Shapes,
 }
 
 /// Does a job of `decode` in the format that the first bytes show.
@@ -197,8 +222,12 @@ fn answer_recording<R: Read + Drop, W: Write + Drop>(
                 },
                 format: reading.format,
             };
+            let work = Work {
+                job,
+                shapes: reading.shapes,
+            };
             let whole = first.as_slice().chain(input.into_inner());
-            answer_over(rt, whole, writer, names, job, aside)
+            answer_over(rt, whole, writer, names, work, aside)
         }
         Err(CliFault::ReadFailed) => {
             let error = input.into_inner().error();
@@ -241,13 +270,13 @@ fn answer_listing<R: Read + Drop, W: Write + Drop>(
     writer: W,
     names: Names<'_>,
     form: ListingForm,
-    job: Job<'_>,
+    work: Work<'_>,
     aside: Aside<'_>,
 ) -> (u8, W) {
     let kept = TeeReader::new(rt.alloc(), reader, aside.is_explained);
     let mut input = Watched::new(Noting::new(kept));
     match read_text(rt.alloc(), &mut input, form, SCRIPT_LIMIT) {
-        Ok(text) => answer_over(rt, text.as_slice(), writer, names, job, aside),
+        Ok(text) => answer_over(rt, text.as_slice(), writer, names, work, aside),
         Err(fault) => {
             let input = input.into_inner();
             clear(rt, aside.is_shown);
@@ -275,14 +304,15 @@ fn answer_over<R: Read + Drop, W: Write + Drop>(
     reader: R,
     writer: W,
     names: Names<'_>,
-    job: Job<'_>,
+    work: Work<'_>,
     aside: Aside<'_>,
 ) -> (u8, W) {
+    let Work { job, shapes } = work;
     let subject = subject_of(&job);
     let kept = TeeReader::new(rt.alloc(), reader, aside.is_explained);
     let mut input = Watched::new(Noting::new(kept));
     let mut output = Watched::new(Noting::new(writer));
-    let answer = do_job(rt.alloc(), &mut input, &mut output, job);
+    let answer = do_job(rt.alloc(), &mut input, &mut output, job, shapes);
     clear(rt, aside.is_shown);
     let input = input.into_inner();
     let output = output.into_inner();
@@ -334,7 +364,7 @@ fn tell_failed(rt: &impl Eprint, fault: CliFault, name: Option<&str>, error: Opt
 
 /// Tells in one line on standard error why a file cannot be opened, read or written, and gives the
 /// exit status.
-fn tell_file(rt: &impl Eprint, name: &str, error: &Error) -> u8
+pub fn tell_file(rt: &impl Eprint, name: &str, error: &Error) -> u8
     ensures { result ≡ 3 }
 {
     let name = Shown(name);

@@ -10,6 +10,7 @@ use pr_capture::{Source, TraceInput};
 use pr_cli::{
     CliFault, Ending, Watched, bus_as_over, check_as_over, check_over, pages_as_over, raw_over,
 };
+use pr_dots::Shapes;
 use pr_options::Job;
 use pr_recording::{decode_over, reprint_over};
 use pr_render::Format;
@@ -19,7 +20,8 @@ use std::io::{Read, Write};
 
 /// Does a job: reads the input and writes what the job's own fields ask for. The input of `pages` and
 /// `bus` is a script's text, whatever form the listing has: `answers` gives the text of a listing in
-/// another form. So it gives the format of a recording where it is to be found.
+/// another form. So it gives the format of a recording where it is to be found. Pictures draw characters in
+/// these shapes.
 ///
 /// It takes the whole [`Job`]: only the form of a listing, and whether a recording's format is to be
 /// found, is read from it elsewhere, so every use of a format, a set or a delay is proved.
@@ -38,13 +40,14 @@ pub fn do_job<R: Read, W: Write>(
     input: &mut Watched<R>,
     output: &mut Watched<W>,
     job: Job<'_>,
+    shapes: &Shapes,
 ) -> Result<Ending, CliFault>
     // the caller's part
     requires input { has_failed input.old ≡ false }
     requires output { has_failed output.old ≡ false }
     // what it gives
     ensures job { IfSome (R.remaining (wrapped input.old)) (λ text.
-        AnswersJob job.entry text (W.contents (wrapped output.old)) (W.contents (wrapped output.new)) result) }
+        AnswersJob shapes.now job.entry text (W.contents (wrapped output.old)) (W.contents (wrapped output.new)) result) }
     ensures at_end { ReadsInput job.entry (R.remaining (wrapped input.new)) result }
     // when it refuses, and what that leaves
     ensures nothing { KeepsOutput job.entry (W.contents (wrapped output.old)) (W.contents (wrapped output.new)) result }
@@ -54,7 +57,7 @@ pub fn do_job<R: Read, W: Write>(
 {
     match job {
         Job::Pages(_, present, delays, mode, format) => {
-            pages_as_over(alloc, input, output, present, delays, mode, format)
+            pages_as_over(alloc, input, output, present, delays, mode, format, shapes)
         }
         Job::Bus(_, present, delays, mode, format) => {
             bus_as_over(alloc, input, output, present, delays, mode, format)
@@ -68,11 +71,11 @@ pub fn do_job<R: Read, W: Write>(
             format,
             ..
         } => {
-            decode_recording(alloc, input, output, trace, format)?;
+            decode_recording(alloc, input, output, trace, format, shapes)?;
             Ok(Ending::Done)
         }
         Job::Raw { lower, format } => {
-            raw_over(alloc, input, output, lower, format)?;
+            raw_over(alloc, input, output, lower, format, shapes)?;
             Ok(Ending::Done)
         }
     }
@@ -113,13 +116,14 @@ fn decode_recording<R: Read, W: Write>(
     output: &mut Watched<W>,
     trace: TraceInput<'_>,
     format: Format,
+    shapes: &Shapes,
 ) -> Result<(), CliFault>
     // the caller's part
     requires input { has_failed input.old ≡ false }
     requires output { has_failed output.old ≡ false }
     // what it gives
     ensures recording { IfSome (R.remaining (wrapped input.old)) (λ text.
-        AnswersRecording trace.entry format text
+        AnswersRecording shapes.now trace.entry format text
         (W.contents (wrapped output.old)) (W.contents (wrapped output.new)) result) }
     ensures at_end { decode.ReadsAll (R.remaining (wrapped input.new)) result }
     // when it refuses, and what that leaves
@@ -130,7 +134,7 @@ fn decode_recording<R: Read, W: Write>(
     match format {
         Format::List => decode_over(alloc, input, output, trace),
         Format::Lines | Format::Svg(_) | Format::Png(_) | Format::Pdf(_) => reprint_over(
-            alloc, input, output, trace, format,
+            alloc, input, output, trace, format, shapes,
         ),
     }
 }

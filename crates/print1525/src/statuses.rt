@@ -1,9 +1,9 @@
 //! The exit statuses.
 
 ghost use Rattle.std.specs.Prelude.{◌≡◌};
-ghost use Rattle.print1525.specs.Statuses.{ending_status, fault_status, refusal_status, text_status};
+ghost use Rattle.print1525.specs.Statuses.{characters_status, ending_status, fault_status, refusal_status, text_status};
 
-use pr_cli::{CliFault, Ending};
+use pr_cli::{CliFault, Ending, ShapesFault};
 use pr_listing::TextFault;
 use pr_options::JobFault;
 
@@ -57,6 +57,16 @@ pub fn text_status(fault: TextFault) -> u8
     match fault {
         TextFault::Listing(_) | TextFault::TooLarge => REFUSED,
         TextFault::ReadFailed | TextFault::NoMemory => FAILED,
+    }
+}
+
+/// Returns the exit status where a file has no shapes of characters. It takes no memory.
+pub fn characters_status(fault: ShapesFault) -> u8
+    ensures { result ≡ characters_status fault }
+{
+    match fault {
+        ShapesFault::Characters(_) | ShapesFault::TooLarge => REFUSED,
+        ShapesFault::ReadFailed | ShapesFault::NoMemory => FAILED,
     }
 }
 

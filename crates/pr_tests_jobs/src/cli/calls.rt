@@ -10,6 +10,7 @@ use pr_capture::{Signals, Source, TraceFormat, TraceInput, write_vcd};
 use pr_cli::{
     CliFault, Ending, Watched, bus_as_over, check_as_over, check_over, pages_as_over, raw_over,
 };
+use pr_dots::Shapes;
 use pr_render::{Format, Part};
 use pr_report::Report;
 use pr_serial::Present;
@@ -245,7 +246,16 @@ impl Call {
         let mode = StatusMode::Each;
         match self {
             Call::Pages(present, format) => {
-                pages_as_over(alloc, input, output, present, typical(alloc), mode, format)
+                pages_as_over(
+                    alloc,
+                    input,
+                    output,
+                    present,
+                    typical(alloc),
+                    mode,
+                    format,
+                    &Shapes::own(),
+                )
             }
             Call::Bus(format) => {
                 bus_as_over(alloc, input, output, BOTH, typical(alloc), mode, format)
@@ -254,7 +264,14 @@ impl Call {
             Call::CheckAs(source, report) => {
                 done(check_as_over(alloc, input, output, usual(source), report))
             }
-            Call::Raw(format) => done(raw_over(alloc, input, output, false, format)),
+            Call::Raw(format) => done(raw_over(
+                alloc,
+                input,
+                output,
+                false,
+                format,
+                &Shapes::own(),
+            )),
         }
     }
 

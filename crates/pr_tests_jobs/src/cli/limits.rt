@@ -16,11 +16,11 @@ use std::process::Abort;
 
 /// Gives zeros without end: to `check` they are an unfinished line, to a printer bytes like others.
 #[derive(Drop)]
-struct Endless {
+pub struct Endless {
     /// The most bytes that a call gives.
-    most: usize,
+    pub most: usize,
     /// The bytes given so far.
-    given: usize,
+    pub given: usize,
 }
 
 impl Read for Endless {

@@ -3,6 +3,7 @@
 use crate::cli::calls::{BOTH, Call, HI, NONE, SVG, typical};
 use pr_basic::{StatusMode, read_script};
 use pr_cli::{CliFault, Ending, PictureFault, pages_text};
+use pr_dots::Shapes;
 use pr_page::Sequence;
 use pr_png::png;
 use pr_render::{Device, Format, Part, sheet_svg};
@@ -31,13 +32,13 @@ fn outcome(alloc: Global, script: &str, present: Present) -> Option<Outcome> {
 /// The picture of a script's pages.
 pub fn drawn(alloc: Global, script: &str, present: Present) -> Option<Vec<u8>> {
     let outcome = outcome(alloc, script, present)?;
-    pr_render::svg(alloc, &outcome, present).ok()
+    pr_render::svg(alloc, &Shapes::own(), &outcome, present).ok()
 }
 
 /// The picture of a script's page of printer 4, and of nothing else of its outcome.
 pub fn sheet_alone(alloc: Global, script: &str) -> Option<Vec<u8>> {
     let outcome = only_paper(alloc, outcome(alloc, script, BOTH)?);
-    pr_render::svg(alloc, &outcome, FOUR).ok()
+    pr_render::svg(alloc, &Shapes::own(), &outcome, FOUR).ok()
 }
 
 /// The paper of an outcome, and nothing else of it.
@@ -112,10 +113,11 @@ fn parts_of_pages(rt: HostRuntime) {
     let outcome = outcome(alloc, FIVE_LETTERS, BOTH).expect(&rt, "memory");
     let five = Some(Device::Five);
     let four = Some(Device::Four);
-    let printed = sheet_svg(alloc, &outcome.paper5, 0).expect(&rt, "memory");
-    let empty = sheet_svg(alloc, &outcome.paper4, 0).expect(&rt, "memory");
-    let bitmap = png(alloc, &outcome.paper5, 0).expect(&rt, "memory");
-    let blank = png(alloc, &outcome.paper4, 0).expect(&rt, "memory");
+    let shapes = Shapes::own();
+    let printed = sheet_svg(alloc, &shapes, &outcome.paper5, 0).expect(&rt, "memory");
+    let empty = sheet_svg(alloc, &shapes, &outcome.paper4, 0).expect(&rt, "memory");
+    let bitmap = png(alloc, &shapes, &outcome.paper5, 0).expect(&rt, "memory");
+    let blank = png(alloc, &shapes, &outcome.paper4, 0).expect(&rt, "memory");
     let all = drawn(alloc, FIVE_LETTERS, BOTH).expect(&rt, "memory");
     for (format, wanted) in [
         (Format::Svg(part(None, Some(1))), &printed),

@@ -7,5 +7,5 @@ use Rattle.pr_dots.proofs.dots.row_has_dot.Given as goal
 -- the marks that are left have the dot exactly if the row has it
 abbrev pub invariant-loop-placed : goal.invariant-loop-placed
 invariant-loop-placed l =
-    list_any (is_at l.x l.y) (flat_map (λ p. columns_dots p.x l.row.y (columns_of p.mark)) (drop l.placed-index l.row.marks))
-    ≡ list_any (is_at l.x l.y) (flat_map (λ p. columns_dots p.x l.row.y (columns_of p.mark)) l.row.marks)
+    list_any (is_at l.x l.y) (flat_map (λ p. columns_dots p.x l.row.y (columns_of l.shapes p.mark)) (drop l.placed-index l.row.marks))
+    ≡ list_any (is_at l.x l.y) (flat_map (λ p. columns_dots p.x l.row.y (columns_of l.shapes p.mark)) l.row.marks)

@@ -9,6 +9,6 @@ use Rattle.pr_dots.proofs.mark_columns.cell_columns.Given as goal
 abbrev pub invariant-loop-column : goal.invariant-loop-column
 invariant-loop-column l = record {
   columns : l.columns.items ++ flat_map (printed_columns l.reverse l.wide) (drop l.column-index l.column-items)
-      ≡ flat_map (printed_columns l.reverse l.wide) (shape l.lower l.code);
+      ≡ flat_map (printed_columns l.reverse l.wide) (shape l.shapes l.lower l.code);
   few : array_vec_len l.columns ≤ 2 * l.column-index;
 }

@@ -1,12 +1,12 @@
 use Rattle.std.proofs.Common.{ap, ◌∙◌}
 use Rattle.clap.specs.Words.{App, with_rule}
-use Rattle.pr_options.specs.CommandLine.{value_rule}
+use Rattle.pr_options.specs.CommandLine.{file_rule, value_rule}
 use Rattle.pr_options.specs.OptionNames as option
 use Rattle.pr_options.proofs.clap_command.pages_command.Goals as goal
 
--- a command with what of the pages is shown
+-- a command with what of the pages is shown, and in which characters
 abbrev drawn : App → App
-drawn a = with_rule (with_rule a (value_rule option.device)) (value_rule option.sheet)
+drawn a = with_rule (with_rule (with_rule a (value_rule option.device)) (value_rule option.sheet)) (file_rule option.characters)
 
 pub returns-clause-app : goal.returns-clause-app
 returns-clause-app c = c.in_ok-whole.ensures.app ∙ ap drawn c.in_ok-command.ensures.app

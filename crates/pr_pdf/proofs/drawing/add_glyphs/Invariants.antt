@@ -6,4 +6,4 @@ use Rattle.pr_pdf.specs.Pdf.{glyph_body}
 use Rattle.pr_pdf.proofs.drawing.add_glyphs.Given as goal
 
 abbrev pub invariant-loop-number : goal.invariant-loop-number
-invariant-loop-number l = Adds (map glyph_body (used_among l.used 0 l.number)) l.fn.document l.document
+invariant-loop-number l = Adds (map (glyph_body l.shapes) (used_among l.used 0 l.number)) l.fn.document l.document

@@ -7,5 +7,5 @@ use Rattle.pr_png.proofs.marking.mark_row.Given as goal
 -- the sheet so far with the marks that are left is the sheet with the row
 abbrev pub invariant-loop-placed : goal.invariant-loop-placed
 invariant-loop-placed l =
-    marked l.top (flat_map (λ p. columns_dots p.x l.row.y (columns_of p.mark)) (drop l.placed-index l.row.marks)) l.dark
-    ≡ marked l.top (row_dots l.row) l.fn.dark
+    marked l.top (flat_map (λ p. columns_dots p.x l.row.y (columns_of l.shapes p.mark)) (drop l.placed-index l.row.marks)) l.dark
+    ≡ marked l.top (row_dots l.shapes l.row) l.fn.dark

@@ -7,4 +7,4 @@ use Rattle.pr_png.proofs.marking.mark_rows.Given as goal
 -- the sheet so far with the rows that are left is the sheet with all rows
 abbrev pub invariant-loop-row : goal.invariant-loop-row
 invariant-loop-row l =
-    marked l.top (flat_map row_dots (drop l.row-index l.rows)) l.dark ≡ marked l.top (flat_map row_dots l.rows) l.fn.dark
+    marked l.top (flat_map (row_dots l.shapes) (drop l.row-index l.rows)) l.dark ≡ marked l.top (flat_map (row_dots l.shapes) l.rows) l.fn.dark

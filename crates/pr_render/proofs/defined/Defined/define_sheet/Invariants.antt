@@ -8,5 +8,5 @@ use Rattle.pr_render.proofs.defined.Defined.define_sheet.Given as goal
 -- whatever marks follow: the text so far and the definitions that are still wanted make the whole
 abbrev pub invariant-loop-row : goal.invariant-loop-row
 invariant-loop-row l =
-    (rest : List Mark) → l.text.items ++ new_definitions l.self (marks_on (flat_map (λ r. r.marks) (rows_on l.sheet (drop l.row-index l.rows))) ++ rest)
-    ≡ l.fn.text.items ++ new_definitions l.fn.self (marks_on (flat_map (λ r. r.marks) (rows_on l.sheet l.rows)) ++ rest)
+    (rest : List Mark) → l.text.items ++ new_definitions l.shapes l.self (marks_on (flat_map (λ r. r.marks) (rows_on l.sheet (drop l.row-index l.rows))) ++ rest)
+    ≡ l.fn.text.items ++ new_definitions l.shapes l.fn.self (marks_on (flat_map (λ r. r.marks) (rows_on l.sheet l.rows)) ++ rest)

@@ -1,0 +1,6 @@
+pub mod Drawn
+pub mod Elements
+pub mod FirstBad
+pub mod Named
+pub mod OneAnswer
+pub mod Signs

@@ -1,0 +1,5 @@
+use Rattle.pr_characters.proofs.OneAnswer.{one_answer}
+use Rattle.pr_characters.proofs.laws.texts_have_one_answer.Goals as goal
+
+pub returns : goal.returns
+returns c = one_answer

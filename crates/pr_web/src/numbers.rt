@@ -1,0 +1,223 @@
+//! A recording as numbers: its edges, and what they say; and the bounds of the delays.
+
+ghost use Rattle.std.specs.Prelude.{◌≡◌, ◌+◌, ◌-◌, ◌<◌, ◌≤◌, ◌++◌, ◌∷◌, [], List, length, IfErr, IfOk, IfSome, OnOk};
+ghost use Rattle.pr_wire.specs.Delays.{bounds_of};
+ghost use Rattle.pr_cli.specs.Report.{IsOwnFault, Says};
+ghost use Rattle.pr_report.specs.Intervals.{longest_answer};
+ghost use Rattle.pr_web.specs.Asked.{TellsBounds, TellsEdges, TellsRows};
+ghost use Rattle.pr_web.specs.Giving.{GivesEdges, GivesRows};
+ghost use Rattle.pr_web.specs.Numbers.{bounds_numbers, edge_numbers, kind_numbers, level_number};
+ghost use Rattle.pr_web.specs.Rows.{EndsRows};
+ghost use Rattle.pr_web.specs.Settings.{source_of};
+
+use crate::answer::{Answer, Told, ended, give, numbered, refused};
+use crate::rows::{Ended, RecordingRows, flag};
+use crate::settings::{input_for, source_for};
+use pr_capture::TraceInput;
+use pr_cli::{CliFault, EdgeReader, LastEdges};
+use pr_wire::{Edge, Kind, Levels, NoMemory, bounds};
+use std::alloc::Global;
+
+/// The kinds of delay, in the order of their rows.
+const KINDS: [Kind; 14] = [
+    Kind::Bb,
+    Kind::Aw,
+    Kind::Ne,
+    Kind::Ry,
+    Kind::S,
+    Kind::V,
+    Kind::R,
+    Kind::Cr,
+    Kind::At,
+    Kind::H,
+    Kind::Ye,
+    Kind::Ei,
+    Kind::F,
+    Kind::Dr,
+];
+
+/// Reads an input to its end, or to its first fault: the edges that it says up to there, and that
+/// fault, if it has one.
+fn read_input(alloc: Global, bytes: &[u8], input: TraceInput<'_>) -> Result<LastEdges, NoMemory>
+    ensures says { IfOk result (λ said. Says input.entry bytes.now said.edges.items said.fault) }
+    ensures own { IfOk result (λ said. IfSome said.fault IsOwnFault) }
+{
+    let mut reader = EdgeReader::new(alloc, input);
+    let _goes_on = reader.take_block(bytes)?;
+    Ok(reader.finish()?)
+}
+
+/// Levels as a number: 4 for ATN, 2 for CLOCK and 1 for DATA, where they are released.
+fn level_number(levels: Levels) -> u64
+    ensures { result ≡ level_number levels }
+{
+    4 * flag(levels.atn) + 2 * flag(levels.clock) + flag(levels.line)
+}
+
+/// The numbers of edges: the moment of each, and its levels.
+fn numbers_of(alloc: Global, edges: &[Edge]) -> Result<Vec<u64>, NoMemory>
+    ensures { IfOk result (λ numbers. numbers.items ≡ edge_numbers edges.now) }
+{
+    let mut numbers = Vec::new(alloc);
+    for edge in edges {
+        numbers.extend_from_slice(&[edge.time, level_number(edge.levels)])?;
+    }
+    Ok(numbers)
+}
+
+/// The rows of the readings of edges whose input has this fault, if it has one, and why there are no more.
+fn rows_of(alloc: Global, edges: &[Edge], own: Option<CliFault>) -> Result<Ended, NoMemory>
+    ensures { IfOk result (λ ended. EndsRows edges.now own ended) }
+{
+    let mut rows = RecordingRows::new(alloc);
+    rows.take_all(edges)?;
+    rows.finish(own)
+}
+
+/// Reads a recording, and puts the numbers of its edges at the front of a buffer.
+fn edges(alloc: Global, bytes: &[u8], input: TraceInput<'_>, out: &mut [u64]) -> Told
+    ensures told { GivesEdges input.entry bytes.now out.old out.new result }
+    ensures length { length out.new ≡ length out.old }
+{
+    let Ok(said) = read_input(alloc, bytes, input) else {
+        return Told::Refused(CliFault::NoMemory);
+    };
+    let Ok(numbers) = numbers_of(alloc, said.edges.as_slice()) else {
+        return Told::Refused(CliFault::NoMemory);
+    };
+    give(ended(said.fault), numbers.as_slice(), out)
+}
+
+/// Reads a recording, and puts a row for each of its readings at the front of a buffer.
+fn rows(alloc: Global, bytes: &[u8], input: TraceInput<'_>, out: &mut [u64]) -> Told
+    ensures told { GivesRows input.entry bytes.now out.old out.new result }
+    ensures length { length out.new ≡ length out.old }
+{
+    let Ok(said) = read_input(alloc, bytes, input) else {
+        return Told::Refused(CliFault::NoMemory);
+    };
+    let Ok(made) = rows_of(alloc, said.edges.as_slice(), said.fault) else {
+        return Told::Refused(CliFault::NoMemory);
+    };
+    give(ended(made.stop), made.rows.as_slice(), out)
+}
+
+/// Adds the least and the greatest delay of each of some kinds.
+fn push_kinds(numbers: &mut Vec<u64>, kinds: &[Kind]) -> Result<(), NoMemory>
+    ensures { OnOk result (numbers.new.items ≡ numbers.old.items ++ kind_numbers kinds.now) }
+{
+    for kind in kinds {
+        let (least, _, greatest) = bounds(*kind);
+        numbers.extend_from_slice(&[u64::from(least), u64::from(greatest)])?;
+    }
+    Ok(())
+}
+
+/// How long DATA is pulled at most in answer to end-or-identify, if two listeners pull it as one.
+fn longest_answer() -> u64
+    ensures { result ≡ longest_answer }
+{
+    let (earliest, _, latest) = bounds(Kind::Ye);
+    let (_, _, greatest) = bounds(Kind::Ei);
+    u64::from(latest) + u64::from(greatest) - u64::from(earliest)
+}
+
+/// The bounds of the delays.
+fn bounds_of_delays(alloc: Global) -> Result<Vec<u64>, NoMemory>
+    ensures { IfOk result (λ numbers. numbers.items ≡ bounds_numbers) }
+{
+    let mut numbers = Vec::new(alloc);
+    push_kinds(&mut numbers, &KINDS)?;
+    let (least, _, _) = bounds(Kind::Ei);
+    numbers.extend_from_slice(&[u64::from(least), longest_answer()])?;
+    Ok(numbers)
+}
+
+/// Reads a recording, and puts its edges at the front of the page's buffer, as two numbers each: the
+/// moment in microseconds, and the levels (4 for ATN, 2 for CLOCK and 1 for DATA, where they are
+/// released). The recording is passed as to [`crate::print1525_readings`].
+///
+/// Of a recording that cannot be read to its end, the edges before its fault are in the buffer, with
+/// code 2. It is refused where a number means no format, where memory was refused, and where there
+/// are more numbers than the buffer has room for, with their count. The buffer is then as it was.
+#[unsafe(no_mangle)]
+pub extern "C" fn print1525_edges(
+    alloc: Global,
+    bytes: &[u8],
+    source: u8,
+    atn: &[u8],
+    clock: &[u8],
+    line: &[u8],
+    inverted: u8,
+    start: u64,
+    out: &mut [u64],
+    answer: &mut Answer,
+)
+    ensures tells { TellsEdges (source_of source) atn.now clock.now line.now inverted start bytes.now out.old out.new answer.new }
+    ensures length { length out.new ≡ length out.old }
+{
+    let Some(source) = source_for(source) else {
+        *answer = refused(29, 0);
+        return;
+    };
+    let input = input_for(source, atn, clock, line, inverted != 0, start);
+    *answer = numbered(edges(alloc, bytes, input, out));
+}
+
+/// Reads a recording, and puts a row of seventeen numbers for each of its readings at the front of
+/// the page's buffer: those readings whose lines [`crate::print1525_readings`] gives. All moments and
+/// lengths are microseconds.
+///
+/// - What ended the byte: 0 its acknowledgement, 1 that nobody acknowledged it, 2 ATN's pull, 3
+///   CLOCK's release for too long, 4 the recording's end; and when, or 0 for the recording's end.
+/// - How many bits came whole, 8 of a whole byte; their number, the lowest bit first; whether it is
+///   a command.
+/// - Ready to send, and ready for data.
+/// - Whether end-or-identify is given, and when DATA is pulled and released for it, or 0.
+/// - CLOCK's first pull, and its last.
+/// - How long CLOCK is pulled in a bit, the shortest and the longest; and how long it is released.
+/// - How many bytes the reading's lines have.
+///
+/// The recording is passed as to [`crate::print1525_readings`], with the refusals of
+/// [`print1525_edges`], and the fault where an edge is earlier than the one before it.
+#[unsafe(no_mangle)]
+pub extern "C" fn print1525_reading_rows(
+    alloc: Global,
+    bytes: &[u8],
+    source: u8,
+    atn: &[u8],
+    clock: &[u8],
+    line: &[u8],
+    inverted: u8,
+    start: u64,
+    out: &mut [u64],
+    answer: &mut Answer,
+)
+    ensures tells { TellsRows (source_of source) atn.now clock.now line.now inverted start bytes.now out.old out.new answer.new }
+    ensures length { length out.new ≡ length out.old }
+{
+    let Some(source) = source_for(source) else {
+        *answer = refused(29, 0);
+        return;
+    };
+    let input = input_for(source, atn, clock, line, inverted != 0, start);
+    *answer = numbered(rows(alloc, bytes, input, out));
+}
+
+/// Puts the bounds of the profile's delays at the front of the page's buffer, the least and the
+/// greatest of each in microseconds: of the kinds `Bb`, `Aw`, `Ne`, `Ry`, `S`, `V`, `R` and `Cr` of
+/// the computer, `At`, `H`, `Ye`, `Ei`, `F` and `Dr` of a printer, and of an answer to end-or-identify
+/// that two listeners make together.
+///
+/// It is refused where memory was refused, and where the buffer has less room than for 30 numbers.
+#[unsafe(no_mangle)]
+pub extern "C" fn print1525_bounds(alloc: Global, out: &mut [u64], answer: &mut Answer)
+    ensures tells { TellsBounds out.old out.new answer.new }
+    ensures length { length out.new ≡ length out.old }
+{
+    let told = match bounds_of_delays(alloc) {
+        Ok(numbers) => give(Ok(()), numbers.as_slice(), out),
+        Err(_) => Told::Refused(CliFault::NoMemory),
+    };
+    *answer = numbered(told);
+}

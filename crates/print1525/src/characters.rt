@@ -1,0 +1,65 @@
+//! The shapes in which a task draws characters.
+
+ghost use Rattle.std.specs.Prelude.{◌≡◌, None, Ok, IfSome};
+ghost use Rattle.pr_dots.specs.Shapes.{own_shapes};
+ghost use Rattle.print1525.specs.Characters.{GivesShapes};
+ghost use Rattle.print1525.specs.Statuses.{characters_status};
+
+use crate::answers::tell_file;
+use crate::shown::Shown;
+use crate::statuses::characters_status;
+use pr_cli::{ShapesFault, Watched, read_characters};
+use pr_dots::Shapes;
+use pr_files::Noting;
+use std::fs::{File, Files};
+use std::io::{Error, Read};
+
+/// Returns the shapes of the file of this name, or this project's own where there is none. A file without shapes is told of in
+/// one line on standard error; the answer is then the exit status.
+pub fn shapes_for(
+    rt: &(impl Files + Eprint + AllocGlobal),
+    name: Option<&str>,
+) -> Result<Shapes, u8>
+    ensures own { name ≡ None → result ≡ Ok own_shapes }
+{
+    let Some(name) = name else {
+        return Ok(Shapes::own());
+    };
+    match File::open(rt, name) {
+        Ok(file) => shapes_from(rt, file, name),
+        Err(error) => Err(tell_file(rt, name, &error)),
+    }
+}
+
+/// Reads the shapes of a file of this name.
+fn shapes_from<R: Read + Drop>(
+    rt: &(impl Eprint + AllocGlobal),
+    file: R,
+    name: &str,
+) -> Result<Shapes, u8>
+    ensures { IfSome (R.remaining file.entry) (λ text. GivesShapes text result) }
+{
+    let mut input = Watched::new(Noting::new(file));
+    match read_characters(rt.alloc(), &mut input) {
+        Ok(shapes) => Ok(shapes),
+        Err(fault) => Err(refuse_characters(rt, fault, name, input.into_inner().error())),
+    }
+}
+
+/// Tells in one line on standard error why a file has no shapes, and gives the exit status.
+fn refuse_characters(rt: &impl Eprint, fault: ShapesFault, name: &str, error: Option<Error>) -> u8
+    ensures { result ≡ characters_status fault }
+{
+    match (fault, error) {
+        (ShapesFault::ReadFailed, Some(error)) => tell_file(rt, name, &error),
+        (ShapesFault::Characters(_) | ShapesFault::TooLarge, _) => {
+            let name = Shown(name);
+            let _ = rt.eprintln(format_args!("print1525: {name}: {fault}"));
+            characters_status(fault)
+        }
+        _ => {
+            let _ = rt.eprintln(format_args!("print1525: {fault}"));
+            characters_status(fault)
+        }
+    }
+}
