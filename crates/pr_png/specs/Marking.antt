@@ -1,5 +1,5 @@
--- Machine steps: what the code keeps of a sheet: for each line of pixels, whether each of its 480 dot
--- columns is dark.
+-- What the code keeps of a sheet: for each line of pixels, whether each of its 480 dot columns is
+-- dark. No reader needs to believe it.
 use Rattle.std.specs.Prelude.{◌≡◌, ℕ, ◌+◌, ◌-◌, ◌*◌, ◌<◌, Bool, true, false, ◌&&◌, ◌||◌, List, [], ◌∷◌, length, nat_le, nat_lt, slice_index_or, slice_set, if◌then◌else◌}
 use Rattle.pr_page.specs.declared.paper.Paper.{Paper}
 use Rattle.pr_dots.specs.Dots.{Dot, has_dot}
