@@ -6,6 +6,7 @@ import { ATN, CLOCK, DATA, edgeAt, frameAt, intervalsBetween, intervalsIn } from
 
 const WIRES = [{ name: 'ATN', bit: ATN }, { name: 'CLOCK', bit: CLOCK }, { name: 'DATA', bit: DATA }];
 const NAMES_WIDTH = 58, RIGHT = 10;
+const NAME_WIDTH = 64;         // pixels: what the name of a frame needs
 
 /** A number with thin spaces between its thousands. */
 export const spaced = number => String(number).replace(/\B(?=(\d{3})+$)/g, '\u2009');
@@ -55,10 +56,10 @@ export class Wave {
 
   /** The beginning of a long wave, or all of a short one. */
   front() {
-    // (a frame's name wants some 70 pixels)
-    const room = Math.min(Math.max(Math.floor(this.width / 70), 3), 14), some = this.frames[Math.min(room - 2, 9, this.frames.length - 1)];
+    // The shortest of the first frames has room for its name.
+    const lengths = this.frames.slice(0, 10).filter(({ end, byte }) => byte !== null && Number.isFinite(end)).map(({ look, end }) => end - look);
     this.moved = false;
-    this.see(this.begin, this.frames.length > room ? Math.min(some.end + 400, this.end) : this.end, false);
+    this.see(this.begin, Math.min(this.begin + Math.min(...lengths) * Math.max(this.width / NAME_WIDTH, 1), this.end), false);
   }
 
   all() { this.see(this.begin, this.end); }
