@@ -6,6 +6,7 @@ import { ATN, CLOCK, DATA, edgeAt, frameAt, intervalsBetween, intervalsIn } from
 
 const WIRES = [{ name: 'ATN', bit: ATN }, { name: 'CLOCK', bit: CLOCK }, { name: 'DATA', bit: DATA }];
 const NAMES_WIDTH = 58, RIGHT = 10;
+const LEAST_WIDTH = 28;        // pixels: what a letter between its marks needs
 const NAME_WIDTH = 64;         // pixels: what the name of a frame needs
 
 /** A number with thin spaces between its thousands. */
@@ -86,7 +87,9 @@ export class Wave {
     const frame = this.frames[index];
     if (frame) {
       const end = Number.isFinite(frame.end) ? frame.end : frame.look + 1000, long = end - frame.look;
-      if (this.to - this.from > long * 60 || this.to - this.from < long * 1.2) this.see(frame.look - long * 1.5, end + long * 1.5);
+      // (where the frame is too narrow for its name, or wider than what is seen)
+      const seen = this.to - this.from, around = long * Math.max(this.width / NAME_WIDTH - 1, 3) / 2;
+      if (seen > long * Math.max(this.width / LEAST_WIDTH, 4) || seen < long * 1.2) this.see(frame.look - around, end + around);
       else if (frame.look < this.from || end > this.to) this.see(frame.look + (long - this.to + this.from) / 2, frame.look + (long + this.to - this.from) / 2);
     }
     this.draw();
