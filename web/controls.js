@@ -209,13 +209,11 @@ $('sheets').addEventListener('keydown', event => {
     '=': () => paper.zoom(1.25),
     '-': () => paper.zoom(1 / 1.25),
     0: () => paper.fit(),
-    Escape: () => wave.choose(-1),
-    n: () => wave.key(event),
-    p: () => wave.key(event),
   };
   const act = keys[event.key];
   if (act) { event.preventDefault(); act(); }
 });
+for (const id of ['sheets', 'frames']) $(id).addEventListener('keydown', event => { if (/^([np]|Escape)$/i.test(event.key)) wave.key(event); });
 $('wave-smaller').onclick = () => wave.zoom(1 / 1.6);
 $('wave-larger').onclick = () => wave.zoom(1.6);
 $('wave-fit').onclick = () => wave.all();
