@@ -5,8 +5,8 @@
 # make edits        tries each wrong idea of tests/ideas and writes down what refuses it: hours; tools/edits CRATE of one crate
 # make bench        speed and peak memory beside `wc -l`, with the aim of each
 # make peer         small inputs with one byte replaced, in some 200,000 runs (two minutes); traces and pictures of runs, read by
-#                   others: sigrok's decoder of the bus (sigrok-cli and libsigrokdecode4), xmllint and rsvg-convert (libxml2-utils,
-#                   librsvg2-bin and netpbm); and the calls for C watched by valgrind and by cc's sanitizer of addresses
+#                   others: sigrok's decoder of the bus (sigrok-cli and libsigrokdecode4), xmllint, rsvg-convert, qpdf, pdftoppm and
+#                   pngcheck (libxml2-utils, librsvg2-bin, netpbm, qpdf, poppler-utils, pngcheck); and the calls for C watched by valgrind and by cc's sanitizer of addresses
 # make lib          proves and builds libprint1525.a, the library for C programs (docs/C.md)
 # make web          makes web/print1525.html, the page in a browser, with its WebAssembly module of proved crates (web/README.md says
 #                   how; it wants wasm-opt, Debian's package binaryen), and tells whether the committed file is another one
