@@ -219,6 +219,7 @@ fn answer_recording<R: Read + Drop, W: Write + Drop>(
                     source,
                     signals: reading.input.signals,
                     start: reading.input.start,
+                    rate: reading.input.rate,
                 },
                 format: reading.format,
             };
