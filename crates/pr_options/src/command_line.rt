@@ -428,6 +428,7 @@ fn input_of<'a>(source: Source, options: &ArgMatches<'a>) -> Result<TraceInput<'
         source,
         signals,
         start,
+        rate: None,
     })
 }
 
