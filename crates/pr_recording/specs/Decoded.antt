@@ -7,10 +7,11 @@ use Rattle.pr_wire.specs.declared.text.TraceFault.TheVariants as trace
 use Rattle.pr_wire.specs.Table.{fault_of}
 use Rattle.pr_capture.specs.declared.fault.CaptureFault.TheVariants as capture
 use Rattle.pr_decode.specs.Readings.{readings_of, settled_of}
+use Rattle.pr_report.specs.declared.detail.Detail.{Detail}
 use Rattle.pr_report.specs.declared.reading_line.Preceding.TheVariants.{Nothing}
 use Rattle.pr_report.specs.ReadingText.{all_lines}
 use Rattle.pr_report.specs.Summary.{summary}
-use Rattle.pr_report.specs.Verdict.{verdict_text}
+use Rattle.pr_report.specs.Outside.{conclusion}
 use Rattle.pr_report.specs.Oddities.{oddities_of, oddities_text}
 use Rattle.pr_capture.specs.declared.format.TraceInput.{TraceInput}
 use Rattle.pr_input.specs.PartlyWritten.{AppendsFront}
@@ -41,14 +42,14 @@ stop_at (Some n) own = Some (Wave (wave.Order n))
 
 -- What is written.
 
--- for a whole recording the lines of its readings, their summary, whether it is lawful, and what is odd
--- about it; for any other the lines of what its edges settle up to where it stops
-abbrev pub told_of : (stop : Option CliFault) → List Edge → List ℕ
-told_of None edges =
-    all_lines Nothing (readings_of edges)
-    ++ (summary (readings_of edges)
-    ++ (verdict_text (fault_of edges) ++ oddities_text (oddities_of edges (readings_of edges))))
-told_of (Some fault) edges = all_lines Nothing (settled_of (in_front (back_in edges) edges))
+-- for a whole recording the lines of its readings, their summary, the verdict, and what is odd about it;
+-- for any other the lines of what its edges settle up to where it stops
+abbrev pub told_of : Detail → (stop : Option CliFault) → List Edge → List ℕ
+told_of d None edges =
+    all_lines d Nothing (readings_of edges)
+    ++ (summary d.bounds (readings_of edges)
+    ++ (conclusion d.bounds (fault_of edges) (readings_of edges) ++ oddities_text (oddities_of edges (readings_of edges))))
+told_of d (Some fault) edges = all_lines d Nothing (settled_of (in_front (back_in edges) edges))
 
 -- what the writer holds with each answer, by the limit and the length of the input, why it stops, and the text for it
 abbrev pub Leaves :
@@ -66,14 +67,14 @@ Leaves limit len stop told old new (Err NoMemory) = AppendsFront old new told
 Leaves limit len stop told old new (Err ReadFailed) = AppendsFront old new told
 Leaves limit len stop told old new (Err WriteFailed) = AppendsFront old new told
 
--- the answer, by the text and by what the writer held before and after
-pub record AnswersDecode (limit : ℕ) (input : TraceInput) (text : List ℕ) (old new : Option (List ℕ))
+-- the answer, by how readings are written, by the text and by what the writer held before and after
+pub record AnswersDecode (limit : ℕ) (d : Detail) (input : TraceInput) (text : List ℕ) (old new : Option (List ℕ))
     (result : Result (Unit {0}) CliFault) : Type 0 where
   pub edges : List Edge
   pub own : Option CliFault
   pub says : Says input text edges own
   pub leaves : Leaves limit (length text) (stop_at (back_in edges) own)
-      (told_of (stop_at (back_in edges) own) edges) old new result
+      (told_of d (stop_at (back_in edges) own) edges) old new result
 
 -- the input has been read to its end where all of it is answered
 abbrev pub ReadsAll : Option (List ℕ) → Result (Unit {0}) CliFault → Type 0

@@ -9,6 +9,7 @@ use Rattle.pr_wire.specs.declared.follower.TraceFollower.{TraceFollower}
 use Rattle.pr_wire.specs.Following.{HasFollowed}
 use Rattle.pr_decode.specs.declared.reading.Reading.{Reading}
 use Rattle.pr_decode.specs.Taking.{HasReadings, last_time}
+use Rattle.pr_report.specs.declared.detail.Detail.{Detail}
 use Rattle.pr_report.specs.declared.reading_line.Preceding.TheVariants.{Nothing}
 use Rattle.pr_report.specs.ReadingText.{all_lines, behind_all}
 use Rattle.pr_report.specs.Oddities.{is_acknowledged}
@@ -32,12 +33,13 @@ IsFollowed edges f = (frames : List Frame) × HasFollowed edges frames f
 
 -- Logs of readings.
 
--- the lines of these readings were made, and this text of them was given up
-pub record HasAccounted (given : List Reading) (written : List ℕ) (a : ReadingLog) : Type 0 where
-  pub surveyed : survey.HasSurveyed given a.survey
+-- the lines of these readings were made so, and this text of them was given up
+pub record HasAccounted (d : Detail) (given : List Reading) (written : List ℕ) (a : ReadingLog) : Type 0 where
+  pub detail : a.detail ≡ d
+  pub surveyed : survey.HasSurveyed d.bounds given a.survey
   pub behind : a.behind ≡ behind_all Nothing given
   pub byte : a.has_byte ≡ list_any is_acknowledged given
-  pub lines : written ++ a.lines.items ≡ all_lines Nothing given
+  pub lines : written ++ a.lines.items ≡ all_lines d Nothing given
 
 -- how many readings an log has
 abbrev pub readings_told : ReadingLog → ℕ
@@ -45,8 +47,8 @@ readings_told a = survey.number_taken a.survey
 
 -- with more readings
 abbrev pub AccountsMore : List Reading → (old new : ReadingLog) → Type 0
-AccountsMore more old new = (given : List Reading) (written : List ℕ) → HasAccounted given written old
-    → HasAccounted (given ++ more) written new
+AccountsMore more old new = (d : Detail) (given : List Reading) (written : List ℕ) → HasAccounted d given written old
+    → HasAccounted d (given ++ more) written new
 
 -- Reports on edges.
 
@@ -60,19 +62,19 @@ time_of [] = None
 time_of (e ∷ es) = Some (time_after e.time es)
 
 -- edges in time order were taken, and their lines were made
-pub record HasHeeded (edges : List Edge) (written : List ℕ) (n : DecodeReport) : Type 0 where
+pub record HasHeeded (d : Detail) (edges : List Edge) (written : List ℕ) (n : DecodeReport) : Type 0 where
   pub given : List Reading
   pub read : HasReadings edges given n.decoder
   pub last : last_time n.decoder ≡ time_of edges
   pub followed : IsFollowed edges n.follower
   pub seen : survey.HasSeen edges n.seen
-  pub accounted : HasAccounted given written n.log
+  pub accounted : HasAccounted d given written n.log
   pub taken : n.taken ≡ length edges
 
 -- edges were taken, up to where time goes back
-pub record HasNarrated (edges : List Edge) (written : List ℕ) (n : DecodeReport) : Type 0 where
+pub record HasNarrated (d : Detail) (edges : List Edge) (written : List ℕ) (n : DecodeReport) : Type 0 where
   pub back : n.back ≡ back_in edges
-  pub heeded : HasHeeded (in_front (back_in edges) edges) written n
+  pub heeded : HasHeeded d (in_front (back_in edges) edges) written n
 
 -- how many edges and readings were taken, by all that count them
 abbrev pub load : DecodeReport → ℕ
@@ -81,12 +83,13 @@ load n = n.taken + (n.follower.taken + readings_told n.log)
 -- with more edges
 abbrev pub NarratesMore : List Edge → (old new : DecodeReport) → Type 0
 NarratesMore more old new =
-    (edges : List Edge) (written : List ℕ) → HasNarrated edges written old → HasNarrated (edges ++ more) written new
+    (d : Detail) (edges : List Edge) (written : List ℕ) → HasNarrated d edges written old
+    → HasNarrated d (edges ++ more) written new
 
 -- the end of edges whose input has this fault, if it has one: why they stop, and the lines that were not given up before
-pub record EndsEdges (edges : List Edge) (written : List ℕ) (own : Option CliFault) (t : Ended) : Type 0 where
+pub record EndsEdges (d : Detail) (edges : List Edge) (written : List ℕ) (own : Option CliFault) (t : Ended) : Type 0 where
   pub stop : t.stop ≡ stop_at (back_in edges) own
-  pub lines : written ++ t.lines.items ≡ told_of t.stop edges
+  pub lines : written ++ t.lines.items ≡ told_of d t.stop edges
 
 -- the lines that were not given up yet
 abbrev pub lines_in : DecodeReport → List ℕ
@@ -95,14 +98,14 @@ lines_in n = n.log.lines.items
 -- the lines so far are given up
 abbrev pub GivesUp : (old new : DecodeReport) → Type 0
 GivesUp old new =
-    (edges : List Edge) (written : List ℕ) → HasNarrated edges written old
-    → HasNarrated edges (written ++ lines_in old) new
+    (d : Detail) (edges : List Edge) (written : List ℕ) → HasNarrated d edges written old
+    → HasNarrated d edges (written ++ lines_in old) new
 
 -- the end of an input of which the edges before the last block were told
 abbrev pub EndsNarrated : InputReader → DecodeReport → Ended → Type 0
 EndsNarrated r n e =
-    (written : List ℕ)
-    → EndsReading r (λ edges. HasNarrated edges written n) (λ edges own. EndsEdges edges written own e)
+    (d : Detail) (written : List ℕ)
+    → EndsReading r (λ edges. HasNarrated d edges written n) (λ edges own. EndsEdges d edges written own e)
 
 -- why no more is told of an input: time goes back, or it has a fault of its own
 abbrev pub IsStop : CliFault → Type 0

@@ -4,6 +4,7 @@ ghost use Rattle.std.specs.Prelude.{◌≡◌, ◌+◌, ◌*◌, ◌^◌, ◌<�
 ghost use Rattle.pr_wire.specs.declared.Edge.{Edge};
 ghost use Rattle.pr_wire.specs.declared.Frame.{Frame};
 ghost use Rattle.pr_wire.specs.Following.{HasFollowed};
+ghost use Rattle.pr_report.specs.declared.detail.Detail.{Detail};
 ghost use Rattle.pr_report.specs.Taking.{HasSeen};
 ghost use Rattle.pr_recording.specs.Decoded.{stop_at};
 ghost use Rattle.pr_recording.specs.Narrated.{EndsEdges, GivesUp, HasNarrated, IsFollowed, NarratesMore, lines_in, load};
@@ -11,7 +12,7 @@ ghost use Rattle.pr_recording.specs.Narrated.{EndsEdges, GivesUp, HasNarrated, I
 use crate::reading_log::ReadingLog;
 use pr_cli::CliFault;
 use pr_decode::{Decoder, GoesBack, readings_add_up};
-use pr_report::LinesSeen;
+use pr_report::{Detail, LinesSeen};
 use pr_wire::{Edge, TraceFollower, WaveFault};
 use std::alloc::{AllocError, Global};
 
@@ -38,22 +39,22 @@ pub struct DecodeReport {
 }
 
 impl DecodeReport {
-    /// A report that has taken no edge.
-    pub fn new(alloc: Global) -> Result<DecodeReport, AllocError>
-        ensures narrated { IfOk result (λ report. HasNarrated [] [] report) }
+    /// A report that has taken no edge, and writes readings so.
+    pub fn new(alloc: Global, detail: Detail) -> Result<DecodeReport, AllocError>
+        ensures narrated { IfOk result (λ report. HasNarrated detail [] [] report) }
         ensures load { IfOk result (λ report. load report ≡ 0) }
     {
         Ok(DecodeReport {
             decoder: Decoder::new(),
             follower: TraceFollower::new(),
             seen: LinesSeen::new(),
-            log: ReadingLog::new(alloc)?,
+            log: ReadingLog::new(alloc, detail)?,
             taken: 0,
             back: None,
         })
     }
 
-    /// Takes the next edge. Preceding one at which time goes back it takes none.
+    /// Takes the next edge. After one at which time goes back it takes none.
     fn take(&mut self, edge: Edge) -> Result<(), AllocError>
         requires room { load self.old + 3 < 2 ^ 64 }
         ensures narrated { OnOk result (NarratesMore (edge ∷ []) self.old self.new) }
@@ -107,8 +108,8 @@ impl DecodeReport {
     /// cuts, the summary, the verdict and what is odd are told.
     pub fn finish(mut self, own: Option<CliFault>) -> Result<Ended, AllocError>
         requires room { load self + 3 < 2 ^ 64 }
-        ensures { IfOk result (λ ended. (edges : List Edge) (written : List ℕ) → HasNarrated edges written self →
-            EndsEdges edges written own ended) }
+        ensures { IfOk result (λ ended. (detail : Detail) (edges : List Edge) (written : List ℕ) →
+            HasNarrated detail edges written self → EndsEdges detail edges written own ended) }
     {
         readings_add_up();
         let stop = stop_at(self.back, own);
@@ -118,8 +119,8 @@ impl DecodeReport {
         }
         let cut = self.decoder.finish();
         self.log.push_if(cut)?;
-        let verdict = self.follower.finish().err();
-        let lines = self.log.finish(verdict, self.seen)?;
+        let fault = self.follower.finish().err();
+        let lines = self.log.finish(fault, self.seen)?;
         Ok(Ended { lines, stop: None })
     }
 }

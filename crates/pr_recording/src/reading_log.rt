@@ -4,17 +4,18 @@ ghost use Rattle.std.specs.Prelude.{◌≡◌, ◌+◌, ◌^◌, ◌<◌, ◌≤
 ghost use Rattle.std.specs.Option.{option_to_list};
 ghost use Rattle.pr_wire.specs.declared.Edge.{Edge};
 ghost use Rattle.pr_decode.specs.declared.reading.Reading.{Reading};
+ghost use Rattle.pr_report.specs.declared.detail.Detail.{Detail};
 ghost use Rattle.pr_report.specs.declared.reading_line.Preceding.TheVariants.{Nothing};
 ghost use Rattle.pr_report.specs.ReadingText.{all_lines};
 ghost use Rattle.pr_report.specs.Summary.{summary};
 ghost use Rattle.pr_report.specs.Oddities.{is_acknowledged, oddities_of, oddities_text};
 ghost use Rattle.pr_report.specs.Taking.{HasSeen};
-ghost use Rattle.pr_report.specs.Verdict.{verdict_text};
+ghost use Rattle.pr_report.specs.Outside.{conclusion};
 ghost use Rattle.pr_recording.specs.Narrated.{AccountsMore, HasAccounted, readings_told};
 
 use pr_decode::Reading;
 use pr_report::{
-    LinesSeen, Preceding, Survey, is_acknowledged, push_oddities, push_reading, push_verdict,
+    Detail, LinesSeen, Preceding, Survey, is_acknowledged, push_oddities, push_reading,
 };
 use pr_wire::WaveFault;
 use std::alloc::{AllocError, Global};
@@ -22,6 +23,8 @@ use std::alloc::{AllocError, Global};
 /// The lines of the readings so far that are not written yet, and a survey of all of them.
 #[derive(Drop)]
 pub struct ReadingLog {
+    /// How readings are written.
+    detail: Detail,
     /// What comes before the next reading.
     behind: Preceding,
     /// Some reading is an acknowledged byte.
@@ -38,15 +41,16 @@ fn with_byte(before: bool, reading: &Reading) -> bool
 }
 
 impl ReadingLog {
-    /// A log of no reading.
-    pub fn new(alloc: Global) -> Result<ReadingLog, AllocError>
-        ensures accounted { IfOk result (λ log. HasAccounted [] [] log) }
+    /// A log of no reading, which writes readings so.
+    pub fn new(alloc: Global, detail: Detail) -> Result<ReadingLog, AllocError>
+        ensures accounted { IfOk result (λ log. HasAccounted detail [] [] log) }
         ensures count { IfOk result (λ log. readings_told log ≡ 0) }
     {
         Ok(ReadingLog {
+            detail,
             behind: Preceding::Nothing,
             has_byte: false,
-            survey: Survey::new(alloc)?,
+            survey: Survey::new(alloc, detail.bounds)?,
             lines: Vec::new(alloc),
         })
     }
@@ -57,7 +61,7 @@ impl ReadingLog {
         ensures accounted { OnOk result (AccountsMore (reading.now ∷ []) self.old self.new) }
         ensures count { OnOk result (readings_told self.new ≤ readings_told self.old + 1) }
     {
-        push_reading(&mut self.lines, self.behind, reading)?;
+        push_reading(&mut self.lines, self.behind, reading, self.detail)?;
         self.behind = self.behind.after(reading);
         self.has_byte = with_byte(self.has_byte, reading);
         self.survey.take(reading);
@@ -86,8 +90,8 @@ impl ReadingLog {
 
     /// Gives up these lines, once they are written.
     pub fn clear(&mut self)
-        ensures cleared { (given : List Reading) (written : List ℕ) → HasAccounted given written self.old →
-            HasAccounted given (written ++ self.old.lines.items) self.new }
+        ensures cleared { (detail : Detail) (given : List Reading) (written : List ℕ) → HasAccounted detail given written self.old →
+            HasAccounted detail given (written ++ self.old.lines.items) self.new }
         ensures count { readings_told self.new ≡ readings_told self.old }
     {
         self.lines.clear();
@@ -101,15 +105,16 @@ impl ReadingLog {
     }
 
     /// Ends the readings: gives the lines that are not written yet, the summary of all readings, the
-    /// verdict, and what is odd about the edges that were seen.
-    pub fn finish(self, verdict: Option<WaveFault>, seen: LinesSeen) -> Result<Vec<u8>, AllocError>
-        ensures { IfOk result (λ text. (edges : List Edge) (given : List Reading) (written : List ℕ) → HasSeen edges seen →
-            HasAccounted given written self → written ++ text.items ≡ all_lines Nothing given
-            ++ (summary given ++ (verdict_text verdict ++ oddities_text (oddities_of edges given)))) }
+    /// verdict on them by the fault of their edges, and what is odd about the edges that were seen.
+    pub fn finish(self, fault: Option<WaveFault>, seen: LinesSeen) -> Result<Vec<u8>, AllocError>
+        ensures { IfOk result (λ text. (detail : Detail) (edges : List Edge) (given : List Reading) (written : List ℕ) →
+            HasSeen edges seen → HasAccounted detail given written self → written ++ text.items ≡ all_lines detail Nothing given
+            ++ (summary detail.bounds given
+            ++ (conclusion detail.bounds fault given ++ oddities_text (oddities_of edges given)))) }
     {
         let mut lines = self.lines;
         self.survey.push_summary(&mut lines)?;
-        push_verdict(&mut lines, verdict)?;
+        self.survey.push_conclusion(&mut lines, fault)?;
         push_oddities(&mut lines, seen.oddities(self.has_byte))?;
         Ok(lines)
     }

@@ -7,7 +7,7 @@ use Rattle.std.proofs.lemmas.Bool.Decides.{nat_tests}
 use Rattle.pr_base.specs.Bytes as command
 use Rattle.pr_wire.specs.declared.bus_state.ByteRole.{ByteRole}
 use Rattle.pr_wire.specs.declared.bus_state.ByteRole.TheVariants as sending
-use Rattle.pr_wire.specs.Pieces.{AreLawful, Between, EoiAnswer, FrameTimes, IsFrame, IsPiece, IsSecond, IsWithin, Piece, SecondFrame, after_piece, byte_sent, has_pulse}
+use Rattle.pr_wire.specs.Pieces.{AreLawful, Between, EoiAnswer, FrameTimes, IsFrame, IsPiece, IsSecond, Piece, SecondFrame, after_piece, byte_sent, has_pulse}
 use Rattle.pr_wire.specs.Pieces.Between.{Resting}
 use Rattle.pr_wire.specs.Pieces.Piece.{Attention, DataByte, Dropped, Unanswered}
 use Rattle.pr_report.specs.declared.timed_frame.TimedFrame.{TimedFrame}
@@ -22,59 +22,61 @@ use Rattle.pr_decode.specs.declared.reading.Reading.TheVariants.{Frame, Incomple
 use Rattle.pr_decode.specs.Laws.{TracesSayTheirPieces}
 use Rattle.pr_decode.specs.PieceReadings.{frame_read, piece_read, pieces_read, pulse_read, second_read}
 use Rattle.pr_decode.specs.Readings.{readings_of}
+use Rattle.pr_report.specs.declared.detail.Bounds.{Bounds}
+use Rattle.pr_report.specs.declared.detail.Bounds.TheVariants.{Profile}
+use Rattle.pr_report.specs.declared.detail.Detail.{Detail}
 use Rattle.pr_report.specs.declared.interval.Interval.{Interval}
 use Rattle.pr_report.specs.declared.reading_line.Preceding.{Preceding}
 use Rattle.pr_report.specs.declared.reading_line.Preceding.TheVariants as behind
-use Rattle.pr_report.specs.Intervals.{highest_of, intervals, length_of, lowest_of}
-use Rattle.pr_report.specs.ReadingLaws.{AreUsual, AreWithin, LawfulTracesAreTold, UsualTracesAreStories}
-use Rattle.pr_report.specs.ReadingText.{after_frame, after_reading, all_lines, is_behind_data, outside_line, outside_lines, outside_text, reading_lines, sending_of, story_frame}
-use Rattle.pr_report.proofs.Lawful.{frame-within}
+use Rattle.pr_report.specs.Intervals.{intervals, length_of, lowest_of, profile_greatest}
+use Rattle.pr_report.specs.ReadingLaws.{AreUsual, LawfulTracesAreTold, UsualTracesAreStories}
+use Rattle.pr_report.specs.ReadingText.{after_frame, after_reading, all_lines, is_behind_data, lines_if, outside_line, outside_lines, outside_text, reading_lines, sending_of, story_frame}
+use Rattle.pr_report.proofs.Lawful.{AreWithin, frame-within, inside}
 
--- an interval within its bounds has no line
-inside : (low high n : ℕ) → IsWithin n low high → (nat_lt n low || nat_lt high n) ≡ false
-inside low high n h =
-    let from : low ≤ n = h.from in
-    let to : n ≤ high = h.to in
-    ap (λ t. t || nat_lt high n) (le-ltb n low from) ∙ le-ltb high n to
+-- an interval within the profile's bounds has no line
+no-line : (b : Bounds) (i : Interval) (o : Option ℕ) → AreWithin (lowest_of Profile i) (profile_greatest i) (option_to_list o) → outside_line b i o ≡ []
+no-line b i None h = refl
+no-line b i (Some n) h = ap (λ t. if t then outside_text b i n else []) (inside b i n h.0)
 
-no-line : (i : Interval) (o : Option ℕ) → AreWithin (lowest_of i) (highest_of i) (option_to_list o) → outside_line i o ≡ []
-no-line i None h = refl
-no-line i (Some n) h = ap (λ t. if t then outside_text i n else []) (inside (lowest_of i) (highest_of i) n h.0)
+no-lines : (b : Bounds) (is : List Interval) (r : Reading)
+    → ((i : Interval) → AreWithin (lowest_of Profile i) (profile_greatest i) (option_to_list (length_of i r))) → outside_lines b is r ≡ []
+no-lines b [] r h = refl
+no-lines b (i ∷ is) r h = ap (λ x. x ++ outside_lines b is r) (no-line b i (length_of i r) (h i)) ∙ no-lines b is r h
 
-no-lines : (is : List Interval) (r : Reading)
-    → ((i : Interval) → AreWithin (lowest_of i) (highest_of i) (option_to_list (length_of i r))) → outside_lines is r ≡ []
-no-lines [] r h = refl
-no-lines (i ∷ is) r h = ap (λ x. x ++ outside_lines is r) (no-line i (length_of i r) (h i)) ∙ no-lines is r h
+none-listed : (asked : Bool) (b : Bounds) (r : Reading)
+    → ((i : Interval) → AreWithin (lowest_of Profile i) (profile_greatest i) (option_to_list (length_of i r))) → lines_if asked b r ≡ []
+none-listed true b r h = no-lines b intervals r h
+none-listed false b r h = refl
 
 -- an acknowledged byte whose intervals have no lines
-abbrev IsQuiet : Reading → Type 0
-IsQuiet (Frame t (Acknowledged k)) = outside_lines intervals (Frame t (Acknowledged k)) ≡ []
-IsQuiet r = ⊥
+abbrev IsQuiet : Detail → Reading → Type 0
+IsQuiet d (Frame t (Acknowledged k)) = lines_if d.intervals d.bounds (Frame t (Acknowledged k)) ≡ []
+IsQuiet d r = ⊥
 
-abbrev AreQuiet : List Reading → Type 0
-AreQuiet [] = Unit {0}
-AreQuiet (r ∷ rs) = IsQuiet r × AreQuiet rs
+abbrev AreQuiet : Detail → List Reading → Type 0
+AreQuiet d [] = Unit {0}
+AreQuiet d (r ∷ rs) = IsQuiet d r × AreQuiet d rs
 
-quiet-more : (rs ss : List Reading) → AreQuiet rs → AreQuiet ss → AreQuiet (rs ++ ss)
-quiet-more [] ss a b = b
-quiet-more (r ∷ rs) ss a b = (a.0, quiet-more rs ss a.1 b)
+quiet-more : (d : Detail) (rs ss : List Reading) → AreQuiet d rs → AreQuiet d ss → AreQuiet d (rs ++ ss)
+quiet-more d [] ss a b = b
+quiet-more d (r ∷ rs) ss a b = (a.0, quiet-more d rs ss a.1 b)
 
-quiet-frame : (x : Bool) (look : ℕ) (f : FrameTimes) → IsFrame x look f → IsQuiet (frame_read x look f)
-quiet-frame x look f h = no-lines intervals (frame_read x look f) (λ i. frame-within i x look f h)
+quiet-frame : (d : Detail) (x : Bool) (look : ℕ) (f : FrameTimes) → IsFrame x look f → IsQuiet d (frame_read x look f)
+quiet-frame d x look f h = none-listed d.intervals d.bounds (frame_read x look f) (λ i. frame-within i x look f h)
 
-quiet-second : (k : ℕ) (m : Option SecondFrame) → IsSecond k m → AreQuiet (second_read m)
-quiet-second k None h = tt
-quiet-second k (Some m) h = (quiet-frame false m.look m.sent h.1, tt)
+quiet-second : (d : Detail) (k : ℕ) (m : Option SecondFrame) → IsSecond k m → AreQuiet d (second_read m)
+quiet-second d k None h = tt
+quiet-second d k (Some m) h = (quiet-frame d false m.look m.sent h.1, tt)
 
-quiet-piece : (b : Between) (p : Piece) → IsPiece b p → AreQuiet (piece_read p)
-quiet-piece b (Unanswered a release) h = tt
-quiet-piece b (Attention a answer look first second end) h = (quiet-frame false look first h.2, quiet-second first.ack second h.3)
-quiet-piece b (DataByte look sent) h = (quiet-frame true look sent h.1, tt)
-quiet-piece b (Dropped look) h = tt
+quiet-piece : (d : Detail) (b : Between) (p : Piece) → IsPiece b p → AreQuiet d (piece_read p)
+quiet-piece d b (Unanswered a release) h = tt
+quiet-piece d b (Attention a answer look first second end) h = (quiet-frame d false look first h.2, quiet-second d first.ack second h.3)
+quiet-piece d b (DataByte look sent) h = (quiet-frame d true look sent h.1, tt)
+quiet-piece d b (Dropped look) h = tt
 
-quiet-pieces : (b : Between) (ps : List Piece) → AreLawful b ps → AreQuiet (pieces_read ps)
-quiet-pieces b [] h = tt
-quiet-pieces b (p ∷ ps) h = quiet-more (piece_read p) (pieces_read ps) (quiet-piece b p h.0) (quiet-pieces (after_piece p) ps h.1)
+quiet-pieces : (d : Detail) (b : Between) (ps : List Piece) → AreLawful b ps → AreQuiet d (pieces_read ps)
+quiet-pieces d b [] h = tt
+quiet-pieces d b (p ∷ ps) h = quiet-more d (piece_read p) (pieces_read ps) (quiet-piece d b p h.0) (quiet-pieces d (after_piece p) ps h.1)
 
 -- the acknowledged bytes as frames of the story
 abbrev frames_told : Preceding → List Reading → List TimedFrame
@@ -95,21 +97,21 @@ data-behind sending.Second byte = refl
 data-behind sending.Data byte = refl
 
 -- the lines are those of these frames
-lines-told : (b : Preceding) (rs : List Reading) → AreQuiet rs → all_lines b rs ≡ story_lines (is_behind_data b) (frames_told b rs)
+lines-told : (d : Detail) (b : Preceding) (rs : List Reading) → AreQuiet d rs → all_lines d b rs ≡ story_lines (is_behind_data b) (frames_told b rs)
 unfolding reading_lines
-lines-told b [] h = refl
-lines-told b (Frame t (Acknowledged k) ∷ rs) h =
+lines-told d b [] h = refl
+lines-told d b (Frame t (Acknowledged k) ∷ rs) h =
     let s : ByteRole = sending_of b t.opening.command t.byte in
     let next : Preceding = after_frame s t.byte in
     let line : List ℕ = story_line (is_behind_data b) (story_frame b t k) in
-    let rest : all_lines next rs ≡ story_lines (is_behind_data next) (frames_told next rs) = lines-told next rs h.1 in
-    ap (λ (z : List ℕ). (line ++ z) ++ all_lines next rs) h.0
-    ∙ (ap (λ (z : List ℕ). z ++ all_lines next rs) (append-nil line)
+    let rest : all_lines d next rs ≡ story_lines (is_behind_data next) (frames_told next rs) = lines-told d next rs h.1 in
+    ap (λ (z : List ℕ). (line ++ z) ++ all_lines d next rs) h.0
+    ∙ (ap (λ (z : List ℕ). z ++ all_lines d next rs) (append-nil line)
     ∙ (ap (λ (z : List ℕ). line ++ z) rest
-    ∙ ap (λ d. line ++ story_lines d (frames_told next rs)) (data-behind s t.byte)))
-lines-told b (Frame t (Unacknowledged k) ∷ rs) h = absurd h.0
-lines-told b (Frame t Cut ∷ rs) h = absurd h.0
-lines-told b (IncompleteByte t end ∷ rs) h = absurd h.0
+    ∙ ap (λ h. line ++ story_lines h (frames_told next rs)) (data-behind s t.byte)))
+lines-told d b (Frame t (Unacknowledged k) ∷ rs) h = absurd h.0
+lines-told d b (Frame t Cut ∷ rs) h = absurd h.0
+lines-told d b (IncompleteByte t end ∷ rs) h = absurd h.0
 
 -- a frame by its parts
 abbrev made : (look acknowledged : ℕ) → ByteRole → (byte : ℕ) → Bool → TimedFrame
@@ -166,12 +168,12 @@ same-lines b (DataByte look sent ∷ ps) = cons-same _ _ _ _ (data-line look sen
 same-lines b (Dropped look ∷ ps) = same-lines b ps
 
 pub lawful-told : TracesSayTheirPieces → TracesTellTheirMoments → LawfulTracesAreTold
-lawful-told says tells edges (pieces, cut) =
+lawful-told says tells d edges (pieces, cut) =
     let rs : List Reading = pieces_read pieces in
     let read : readings_of edges ≡ rs = says edges pieces cut in
     let timed : timed_frames edges ≡ pieces_timed pieces = tells edges pieces cut in (
       frames_told behind.Nothing rs,
-      ap (all_lines behind.Nothing) read ∙ lines-told behind.Nothing rs (quiet-pieces (Resting 0) pieces cut.lawful),
+      ap (all_lines d behind.Nothing) read ∙ lines-told d behind.Nothing rs (quiet-pieces d (Resting 0) pieces cut.lawful),
       same-lines behind.Nothing pieces ∙ ap (map frame_line) (sym timed),
     )
 
@@ -226,10 +228,10 @@ same-frames before b (DataByte look sent ∷ ps) h =
 same-frames before b (Dropped look ∷ ps) h = same-frames before b ps h
 
 pub usual-told : TracesSayTheirPieces → TracesTellTheirMoments → UsualTracesAreStories
-usual-told says tells edges (pieces, cut) usual =
+usual-told says tells d edges (pieces, cut) usual =
     let rs : List Reading = pieces_read pieces in
     let read : readings_of edges ≡ rs = says edges pieces cut in
     let timed : timed_frames edges ≡ pieces_timed pieces = tells edges pieces cut in
-    ap (all_lines behind.Nothing) read
-    ∙ (lines-told behind.Nothing rs (quiet-pieces (Resting 0) pieces cut.lawful)
+    ap (all_lines d behind.Nothing) read
+    ∙ (lines-told d behind.Nothing rs (quiet-pieces d (Resting 0) pieces cut.lawful)
     ∙ ap (story_lines false) (same-frames 0 behind.Nothing pieces (subst (AreUsual 0) timed usual) ∙ sym timed))

@@ -8,6 +8,7 @@ pub mod Intervals
 pub mod ReadingText
 pub mod Summary
 pub mod Oddities
+pub mod Outside
 pub mod Steps
 pub mod Taking
 pub mod ReadingLaws

@@ -1,4 +1,5 @@
--- Trusted: the text of readings: a line for each, and below it a line for each interval outside the profile's bounds.
+-- Trusted: the text of readings: a line for each, and below it, if they are asked for, a line for each interval outside
+-- its bounds.
 use Rattle.std.specs.Prelude.{ℕ, ◌==◌, nat_lt, Bool, true, false, List, [], ◌∷◌, ◌++◌, Option, Some, None, is_some, codes, if◌then◌else◌}
 use Rattle.pr_base.specs.Bytes as command
 use Rattle.pr_wire.specs.declared.bus_state.ByteRole.{ByteRole}
@@ -12,10 +13,12 @@ use Rattle.pr_decode.specs.declared.reading.IncompleteEnd.{IncompleteEnd}
 use Rattle.pr_decode.specs.declared.reading.IncompleteEnd.TheVariants as glitch
 use Rattle.pr_decode.specs.declared.reading.Reading.{Reading}
 use Rattle.pr_decode.specs.declared.reading.Reading.TheVariants.{Frame, IncompleteByte}
+use Rattle.pr_report.specs.declared.detail.Bounds.{Bounds}
+use Rattle.pr_report.specs.declared.detail.Detail.{Detail}
 use Rattle.pr_report.specs.declared.interval.Interval.{Interval}
 use Rattle.pr_report.specs.declared.reading_line.Preceding.{Preceding}
 use Rattle.pr_report.specs.declared.reading_line.Preceding.TheVariants as behind
-use Rattle.pr_report.specs.Intervals.{bounds_after, intervals, is_outside, length_of, name_of}
+use Rattle.pr_report.specs.Intervals.{intervals, is_outside, length_of, measure}
 use Rattle.pr_report.specs.Numbers.{numbered}
 
 -- which byte of the bus a frame is: after a command that began an attention, a secondary address or
@@ -81,23 +84,26 @@ abbrev pub line_of : Preceding → Reading → List ℕ
 line_of b (Frame t end) = frame_text b t end
 line_of b (IncompleteByte t end) = incomplete_place t ++ incomplete_end end
 
--- the line of an interval, if it is outside the profile's bounds
-abbrev pub outside_text : Interval → ℕ → List ℕ
-outside_text i n =
-    codes "    " ++ name_of i ++ numbered (codes " ") n
-    ++ bounds_after (codes " us, the profile has ") i ++ codes "\n"
+-- the line of an interval, if it is outside these bounds
+abbrev pub outside_text : Bounds → Interval → ℕ → List ℕ
+outside_text bounds i n = codes "    " ++ measure bounds i n
 
-abbrev pub outside_line : Interval → Option ℕ → List ℕ
-outside_line i None = []
-outside_line i (Some n) = if is_outside i n then outside_text i n else []
+abbrev pub outside_line : Bounds → Interval → Option ℕ → List ℕ
+outside_line bounds i None = []
+outside_line bounds i (Some n) = if is_outside bounds i n then outside_text bounds i n else []
 
-abbrev pub outside_lines : List Interval → Reading → List ℕ
-outside_lines [] r = []
-outside_lines (i ∷ is) r = outside_line i (length_of i r) ++ outside_lines is r
+abbrev pub outside_lines : Bounds → List Interval → Reading → List ℕ
+outside_lines bounds [] r = []
+outside_lines bounds (i ∷ is) r = outside_line bounds i (length_of i r) ++ outside_lines bounds is r
+
+-- those of a reading, if they are asked for
+abbrev pub lines_if : Bool → Bounds → Reading → List ℕ
+lines_if true bounds r = outside_lines bounds intervals r
+lines_if false bounds r = []
 
 -- the lines of a reading
-unfoldable pub reading_lines : Preceding → Reading → List ℕ
-reading_lines b r = line_of b r ++ outside_lines intervals r
+unfoldable pub reading_lines : Detail → Preceding → Reading → List ℕ
+reading_lines d b r = line_of b r ++ lines_if d.intervals d.bounds r
 
 -- what comes before the byte after an acknowledged one: an attention has at most two commands, and
 -- UNLISTEN is always its last
@@ -113,9 +119,9 @@ after_reading b (Frame t (frame.Acknowledged k)) =
 after_reading b r = b
 
 -- the lines of readings
-abbrev pub all_lines : Preceding → List Reading → List ℕ
-all_lines b [] = []
-all_lines b (r ∷ rs) = reading_lines b r ++ all_lines (after_reading b r) rs
+abbrev pub all_lines : Detail → Preceding → List Reading → List ℕ
+all_lines d b [] = []
+all_lines d b (r ∷ rs) = reading_lines d b r ++ all_lines d (after_reading b r) rs
 
 -- what comes before the reading after these
 abbrev pub behind_all : Preceding → List Reading → Preceding

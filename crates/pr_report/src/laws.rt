@@ -31,7 +31,8 @@ pub fn middles_are_least()
     ensures { MiddlesAreLeast }
 {}
 
-/// A law: in a lawful trace each interval lies within the profile's bounds.
+/// A law: in a lawful trace each interval lies within the profile's bounds, and within the guide's, since no bound
+/// of the guide is closer.
 pub fn lawful_traces_are_within()
     ensures { LawfulTracesAreWithin }
 {

@@ -12,7 +12,8 @@
 //!   to come. A timer that refuses an edge is as it was.
 //! - `story_line` writes the line of an acknowledged byte, in a story and in a recording's report; `story` the
 //!   story of a whole list of edges; `reading_line` the other lines of a recording.
-//! - `interval` has the intervals of a byte, with their names, and their bounds from pr_wire's one table.
+//! - `interval` has the intervals of a byte, with their names and bounds; `detail` says which bounds are meant;
+//!   `outside` finds the first interval outside.
 //! - `tally` keeps one interval, with a counter for each length below 16384 microseconds, so that neither
 //!   memory nor the time for a reading grows with the recording; `counts` how many readings of each kind
 //!   there are; `survey` has both, with the relation `HasTaken` in its contracts.
@@ -24,11 +25,13 @@
 #![tactic(auto)]
 
 mod counts;
+mod detail;
 mod frame_timer;
 mod interval;
 mod laws;
 mod numbers;
 mod oddities;
+mod outside;
 mod reading_line;
 mod report;
 mod story;
@@ -38,6 +41,7 @@ mod tally;
 mod timed_frame;
 mod verdict;
 
+pub use detail::{Bounds, Detail};
 pub use frame_timer::FrameTimer;
 pub use laws::{
     frames_are_told, lawful_traces_are_told, lawful_traces_are_within, lines_add_up,

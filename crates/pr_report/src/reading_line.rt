@@ -6,8 +6,9 @@
 
 ghost use Rattle.std.specs.Prelude.{◌≡◌, ◌++◌, OnOk};
 ghost use Rattle.pr_report.specs.Intervals.{length_of};
-ghost use Rattle.pr_report.specs.ReadingText.{after_frame, after_reading, byte_place, byte_word, cut_end, frame_text, incomplete_end, incomplete_place, is_behind_data, line_of, moment_end, outside_line, outside_lines, outside_text, reading_lines, sending_of, story_frame};
+ghost use Rattle.pr_report.specs.ReadingText.{after_frame, after_reading, byte_place, byte_word, cut_end, frame_text, incomplete_end, incomplete_place, is_behind_data, line_of, lines_if, moment_end, outside_line, outside_lines, outside_text, reading_lines, sending_of, story_frame};
 
+use crate::detail::{Bounds, Detail};
 use crate::interval::{INTERVALS, Interval};
 use crate::numbers::push_numbered;
 use crate::story_line::push_story_line;
@@ -104,7 +105,7 @@ fn after_frame(sending: ByteRole, byte: u8) -> Preceding
 }
 
 /// The word for a command or a data byte.
-fn byte_word(command: bool) -> &'static [u8]
+pub(crate) fn byte_word(command: bool) -> &'static [u8]
     ensures { result.now ≡ byte_word command }
 {
     if command { b"command " } else { b"byte " }
@@ -121,7 +122,7 @@ fn push_byte_place(text: &mut Vec<u8>, transfer: Transfer) -> Result<(), NoMemor
 }
 
 /// Adds the look of an incomplete byte, and how many bits came.
-fn push_incomplete_place(text: &mut Vec<u8>, transfer: Transfer) -> Result<(), NoMemory>
+pub(crate) fn push_incomplete_place(text: &mut Vec<u8>, transfer: Transfer) -> Result<(), NoMemory>
     ensures { OnOk result (text.new.items ≡ text.old.items ++ incomplete_place transfer) }
 {
     push_numbered(text, b"glitch at ", transfer.opening.ready_to_send)?;
@@ -197,55 +198,69 @@ fn push_line(text: &mut Vec<u8>, behind: Preceding, reading: &Reading) -> Result
     }
 }
 
-/// Adds the line of an interval that lies outside the profile's bounds.
-fn push_outside(text: &mut Vec<u8>, interval: Interval, length: u64) -> Result<(), NoMemory>
-    ensures { OnOk result (text.new.items ≡ text.old.items ++ outside_text interval length) }
+/// Adds the line of an interval that lies outside these bounds.
+fn push_outside(
+    text: &mut Vec<u8>,
+    bounds: Bounds,
+    interval: Interval,
+    length: u64,
+) -> Result<(), NoMemory>
+    ensures { OnOk result (text.new.items ≡ text.old.items ++ outside_text bounds interval length) }
 {
     text.extend_from_slice(b"    ")?;
-    text.extend_from_slice(interval.name())?;
-    push_numbered(text, b" ", length)?;
-    interval.push_bounds(text, b" us, the profile has ")?;
-    text.extend_from_slice(b"\n")?;
-    Ok(())
+    interval.push_measure(text, bounds, length)
 }
 
-/// Adds the line of an interval, where a reading has it and it lies outside the profile's bounds.
+/// Adds the line of an interval, where a reading has it and it lies outside these bounds.
 fn push_if_outside(
     text: &mut Vec<u8>,
+    bounds: Bounds,
     interval: Interval,
     reading: &Reading,
 ) -> Result<(), NoMemory>
-    ensures { OnOk result (text.new.items ≡ text.old.items ++ outside_line interval (length_of interval reading.now)) }
+    ensures { OnOk result (text.new.items ≡ text.old.items ++ outside_line bounds interval (length_of interval reading.now)) }
 {
     let Some(length) = interval.length(reading) else {
         return Ok(());
     };
-    if interval.is_outside(length) {
-        push_outside(text, interval, length)
+    if interval.is_outside(bounds, length) {
+        push_outside(text, bounds, interval, length)
     } else {
         Ok(())
     }
 }
 
-/// Adds the lines of those of some intervals of a reading that lie outside the profile's bounds.
+/// Adds the lines of those of some intervals of a reading that lie outside these bounds.
 fn push_all_outside(
     text: &mut Vec<u8>,
+    bounds: Bounds,
     intervals: &[Interval],
     reading: &Reading,
 ) -> Result<(), NoMemory>
-    ensures { OnOk result (text.new.items ≡ text.old.items ++ outside_lines intervals.now reading.now) }
+    ensures { OnOk result (text.new.items ≡ text.old.items ++ outside_lines bounds intervals.now reading.now) }
 {
     for interval in intervals {
-        push_if_outside(text, *interval, reading)?;
+        push_if_outside(text, bounds, *interval, reading)?;
     }
     Ok(())
+}
+
+/// Adds the lines of a reading's intervals, if they are asked for.
+fn push_intervals(text: &mut Vec<u8>, detail: Detail, reading: &Reading) -> Result<(), NoMemory>
+    ensures { OnOk result (text.new.items ≡ text.old.items ++ lines_if detail.intervals detail.bounds reading.now) }
+{
+    if detail.intervals {
+        push_all_outside(text, detail.bounds, &INTERVALS, reading)
+    } else {
+        Ok(())
+    }
 }
 
 /// Adds the lines of a reading to a text. An acknowledged byte has the line that it has in a story:
 /// the moments of its look and of its acknowledgement in microseconds, the byte in hexadecimal and
 /// what it says. An unacknowledged byte and an incomplete one have lines of their own, with the
-/// look, and what ended them and when. A line follows for each interval that lies outside the
-/// profile's bounds, with its length and these bounds. `behind` is what comes before;
+/// look, and what ended them and when. If intervals are asked for, a line follows for each that lies
+/// outside its bounds, with its length and these bounds. `behind` is what comes before;
 /// [`Preceding::after`] gives it for the next reading.
 ///
 /// # Errors
@@ -256,9 +271,10 @@ pub fn push_reading(
     text: &mut Vec<u8>,
     behind: Preceding,
     reading: &Reading,
+    detail: Detail,
 ) -> Result<(), NoMemory>
-    ensures { OnOk result (text.new.items ≡ text.old.items ++ reading_lines behind reading.now) }
+    ensures { OnOk result (text.new.items ≡ text.old.items ++ reading_lines detail behind reading.now) }
 {
     push_line(text, behind, reading)?;
-    push_all_outside(text, &INTERVALS, reading)
+    push_intervals(text, detail, reading)
 }
