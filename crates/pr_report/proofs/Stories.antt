@@ -1,6 +1,6 @@
 -- The lines of a lawful trace are the story's.
 use Rattle.std.proofs.Common.{◌≡◌, ℕ, ◌<◌, ◌≤◌, Bool, true, false, List, [], ◌∷◌, ◌++◌, Option, Some, None, if◌then◌else◌, refl, sym, ap, ◌∙◌, subst, arith, append-nil}
-use Rattle.std.specs.Prelude.{◌≢◌, ◌==◌, ◌||◌, nat_lt, is_some, map, codes}
+use Rattle.std.specs.Prelude.{◌≢◌, ◌==◌, nat_lt, is_some, map, codes}
 use Rattle.std.specs.Option.{option_to_list}
 use Rattle.std.proofs.lemmas.Bool.{le-ltb, lt-ltb}
 use Rattle.std.proofs.lemmas.Bool.Decides.{nat_tests}

@@ -6,7 +6,7 @@ use Rattle.pr_wire.specs.declared.bus_state.ByteRole.{ByteRole}
 use Rattle.pr_wire.specs.declared.bus_state.ByteRole.TheVariants.{First, Second, Data}
 use Rattle.pr_decode.specs.declared.reading.FrameEnd.TheVariants as frame
 use Rattle.pr_decode.specs.declared.reading.Reading.{Reading}
-use Rattle.pr_decode.specs.declared.reading.Reading.TheVariants.{Frame, IncompleteByte}
+use Rattle.pr_decode.specs.declared.reading.Reading.TheVariants.{Frame}
 use Rattle.pr_report.specs.declared.context.Context.{Context}
 use Rattle.pr_report.specs.declared.context.Preceding.{Preceding}
 use Rattle.pr_report.specs.declared.context.Preceding.TheVariants as behind
