@@ -56,7 +56,7 @@ GUIDE = {
 }
 CODES = {
     8: "graphic mode", 10: "line feed", 13: "return", 14: "double width", 15: "standard width", 16: "column", 17: "lower case",
-    18: "reverse on", 26: "repeat", 27: "escape", 39: '"\'"', 145: "upper case", 146: "reverse off",
+    18: "reverse on", 26: "repeat", 27: "escape", 145: "upper case", 146: "reverse off",
 }
 
 
@@ -208,31 +208,58 @@ def command_words(byte):
     return f"command {byte}"
 
 
-def data_words(byte):
-    if byte in CODES:
-        return CODES[byte]
-    return f"'{chr(byte)}'" if 32 <= byte <= 126 else f"byte {byte}"
+def data_words(byte, is_printed):
+    if byte == 39:
+        return '"\'"'
+    if 32 <= byte <= 126:
+        return f"'{chr(byte)}'"
+    return CODES[byte] if is_printed and byte in CODES else f"byte {byte}"
 
 
-def line_of(before, reading):
-    """The lines of a reading, after `command`, `data` or nothing, and what comes before the next then."""
+class Context:
+    """What the acknowledged bytes so far come to: the last of them, whether a printer listens, and who talks."""
+
+    def __init__(self):
+        self.last, self.printer_listens, self.asked, self.talker = "", False, None, None
+
+    def take(self, reading, byte):
+        if not reading.is_command:
+            self.last = "data"
+        elif self.last == "command" and byte >= 96:
+            self.last = ""
+            if self.asked is not None:
+                self.talker, self.asked = self.asked, None
+        else:
+            self.last = "" if byte == 63 else "command"
+            self.asked = None
+            if byte in (36, 37, 63):
+                self.printer_listens = byte != 63
+            if 64 <= byte <= 95:
+                self.talker, self.asked = None, byte - 64 if byte < 95 else None
+
+
+def line_of(context, reading):
+    """The lines of a reading in a context, which then takes it."""
     if not reading.is_whole():
         ends = {"ATN": "ended by ATN at", "silence": "CLOCK released too long at"}
         end = "cut by the recording's end" if reading.end == "cut" else f"{ends[reading.end]} {reading.ended} us"
-        return f"glitch at {reading.look} us, bits {len(reading.bits)}, {end}", before
+        return f"glitch at {reading.look} us, bits {len(reading.bits)}, {end}"
     byte = reading.byte()
     if reading.end != "acknowledged":
         end = "cut by the recording's end"
         if reading.end != "cut":
             end = f"not acknowledged, given up at {reading.given_up} us"
-        return f"{'command' if reading.is_command else 'byte'} {byte} at {reading.look} us, {end}", before
-    says = command_words(byte) if reading.is_command else data_words(byte)
+        return f"{'command' if reading.is_command else 'byte'} {byte} at {reading.look} us, {end}"
+    says = command_words(byte) if reading.is_command else data_words(byte, context.printer_listens)
     line = f"{reading.look:12} {reading.acknowledged:12}  ${byte:02X}  {says}{', end-or-identify' if reading.is_eoi else ''}"
+    heading = "attention\n"
     if not reading.is_command:
-        return (line if before == "data" else f"data\n{line}"), "data"
-    if before == "command" and byte >= 96:
-        return line, ""
-    return f"attention\n{line}", "" if byte == 63 else "command"
+        sender = "data" if context.talker is None else f"data from {context.talker}"
+        heading = "" if context.last == "data" else sender + "\n"
+    elif context.last == "command" and byte >= 96:
+        heading = ""
+    context.take(reading, byte)
+    return heading + line
 
 
 def is_outside(length, bounds):
@@ -267,10 +294,9 @@ def guide_verdict(readings):
 
 
 def tell(readings, bounds, has_intervals):
-    before = ""
+    context = Context()
     for reading in readings:
-        line, before = line_of(before, reading)
-        print(line)
+        print(line_of(context, reading))
         if has_intervals:
             for measure in measures_of(reading, bounds):
                 print("    " + measure)

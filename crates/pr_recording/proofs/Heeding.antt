@@ -8,27 +8,22 @@ use Rattle.pr_wire.specs.Table.{fault_of}
 use Rattle.pr_decode.specs.declared.reading.Reading.{Reading}
 use Rattle.pr_decode.specs.Readings.{readings_of}
 use Rattle.pr_decode.specs.Taking.{GivenAreSettled, HasReadings, IsBefore, StandsBefore, last_time}
-use Rattle.pr_report.specs.declared.detail.Detail.{Detail}
-use Rattle.pr_report.specs.declared.reading_line.Preceding.TheVariants.{Nothing}
-use Rattle.pr_report.specs.ReadingText.{all_lines}
-use Rattle.pr_report.specs.Summary.{summary}
-use Rattle.pr_report.specs.Outside.{conclusion}
-use Rattle.pr_report.specs.Oddities.{oddities_of, oddities_text}
 use Rattle.pr_report.specs.Taking as survey
 use Rattle.pr_cli.specs.declared.fault.CliFault.{CliFault}
+use Rattle.pr_recording.specs.declared.wording.Wording.{Wording}
 use Rattle.pr_recording.specs.declared.reading_log.ReadingLog.{ReadingLog}
 use Rattle.pr_recording.specs.declared.decode_report.Ended.{Ended}
 use Rattle.pr_recording.specs.declared.decode_report.DecodeReport.{DecodeReport}
-use Rattle.pr_recording.specs.Decoded.{back_in, in_front, stop_at, told_of}
+use Rattle.pr_recording.specs.Decoded.{back_in, in_front, last_lines, readings_text, stop_at, told_of}
 use Rattle.pr_recording.specs.Narrated.{AccountsMore, EndsEdges, HasAccounted, HasHeeded, HasNarrated, IsFollowed, NarratesMore, time_of}
 use Rattle.pr_recording.proofs.Backs.{back_stays, front_back, front_stays, goes_back, goes_on, time_of_one}
 
 -- no edge
-pub narrated_none : (d : Detail) (n : DecodeReport) → n.back ≡ None → HasReadings [] [] n.decoder → last_time n.decoder ≡ None → IsFollowed [] n.follower → survey.HasSeen [] n.seen → HasAccounted d [] [] n.log → n.taken ≡ 0 → HasNarrated d [] [] n
-narrated_none d n b r l j s a t = record { back = b; heeded = record { given = []; read = r; last = l; followed = j; seen = s; accounted = a; taken = t } }
+pub narrated_none : (w : Wording) (n : DecodeReport) → n.back ≡ None → HasReadings [] [] n.decoder → last_time n.decoder ≡ None → IsFollowed [] n.follower → survey.HasSeen [] n.seen → HasAccounted w [] [] n.log → n.taken ≡ 0 → HasNarrated w [] [] n
+narrated_none w n b r l j s a t = record { back = b; heeded = record { given = []; read = r; last = l; followed = j; seen = s; accounted = a; taken = t } }
 
 -- other parts alone are changed
-heeded_as : (f : Detail) (edges : List Edge) (written : List ℕ) (old new : DecodeReport) → new.decoder ≡ old.decoder → new.follower ≡ old.follower → new.seen ≡ old.seen → new.log ≡ old.log → new.taken ≡ old.taken
+heeded_as : (f : Wording) (edges : List Edge) (written : List ℕ) (old new : DecodeReport) → new.decoder ≡ old.decoder → new.follower ≡ old.follower → new.seen ≡ old.seen → new.log ≡ old.log → new.taken ≡ old.taken
     → HasHeeded f edges written old → HasHeeded f edges written new
 heeded_as f edges written old new d j s a t h = record {
   given = h.given;
@@ -71,7 +66,7 @@ all_front : (edges : List Edge) → back_in edges ≡ None → in_front (back_in
 all_front edges h = ap (λ v. in_front v edges) h
 
 -- what is known of edges in front, of all
-of_front : (f : Detail) (edges : List Edge) (written : List ℕ) (n : DecodeReport) → back_in edges ≡ None → HasHeeded f (in_front (back_in edges) edges) written n → HasHeeded f edges written n
+of_front : (f : Wording) (edges : List Edge) (written : List ℕ) (n : DecodeReport) → back_in edges ≡ None → HasHeeded f (in_front (back_in edges) edges) written n → HasHeeded f edges written n
 of_front f edges written n none h = let P : List Edge → Type 0 = λ l. HasHeeded f l written n in subst P (all_front edges none) h
 
 -- time goes back at an edge
@@ -115,7 +110,7 @@ narrates_one old new e r was later same reads last follows sees accounts taken =
 
 -- lines are given up
 pub narrated_cleared : (old new : DecodeReport) → new.back ≡ old.back → new.decoder ≡ old.decoder → new.follower ≡ old.follower → new.seen ≡ old.seen → new.taken ≡ old.taken
-    → ((f : Detail) (given : List Reading) (written : List ℕ) → HasAccounted f given written old.log → HasAccounted f given (written ++ old.log.lines.items) new.log) → (f : Detail) (edges : List Edge) (written : List ℕ)
+    → ((f : Wording) (given : List Reading) (written : List ℕ) → HasAccounted f given written old.log → HasAccounted f given (written ++ old.log.lines.items) new.log) → (f : Wording) (edges : List Edge) (written : List ℕ)
     → HasNarrated f edges written old → HasNarrated f edges (written ++ old.log.lines.items) new
 narrated_cleared old new b d j s t clears = λ f edges written h.
     let k = h.heeded in
@@ -133,20 +128,20 @@ narrated_cleared old new b d j s t clears = λ f edges written h.
     }
 
 -- the end of edges that stop
-ends_stopped : GivenAreSettled → (n : DecodeReport) (own : Option CliFault) (f : CliFault) (e : Ended) → stop_at n.back own ≡ Some f → e.stop ≡ Some f → e.lines ≡ n.log.lines → (d : Detail) (edges : List Edge) (written : List ℕ)
-    → HasNarrated d edges written n → EndsEdges d edges written own e
-ends_stopped settled n own f e is stop lines = λ d edges written h.
+ends_stopped : GivenAreSettled → (n : DecodeReport) (own : Option CliFault) (f : CliFault) (e : Ended) → stop_at n.back own ≡ Some f → e.stop ≡ Some f → e.lines ≡ n.log.lines → (w : Wording) (edges : List Edge) (written : List ℕ)
+    → HasNarrated w edges written n → EndsEdges w edges written own e
+ends_stopped settled n own f e is stop lines = λ w edges written h.
     let k = h.heeded in
     record {
       stop = stop ∙ (sym is ∙ ap (λ v. stop_at v own) h.back);
       lines =
           ap (λ v. written ++ v.items) lines
           ∙ (k.accounted.lines
-          ∙ (ap (λ rs. all_lines d Nothing rs) (sym (settled (in_front (back_in edges) edges) k.given n.decoder k.read)) ∙ sym (ap (λ s. told_of d s edges) stop)));
+          ∙ (ap (λ rs. readings_text w rs) (sym (settled (in_front (back_in edges) edges) k.given n.decoder k.read)) ∙ sym (ap (λ s. told_of w s edges) stop)));
     }
 
 pub ends_told : GivenAreSettled → (n : DecodeReport) (own : Option CliFault) (v : Option CliFault) (e : Ended) → v ≡ stop_at n.back own → is_some v ≡ true → e.stop ≡ v → e.lines ≡ n.log.lines
-    → (d : Detail) (edges : List Edge) (written : List ℕ) → HasNarrated d edges written n → EndsEdges d edges written own e
+    → (w : Wording) (edges : List Edge) (written : List ℕ) → HasNarrated w edges written n → EndsEdges w edges written own e
 ends_told settled n own None e is some stop lines = absurd (cc)
 ends_told settled n own (Some f) e is some stop lines = ends_stopped settled n own f e (sym is) stop lines
 
@@ -159,17 +154,17 @@ no_back (Some n) own h = absurd (cc)
 pub ends_whole : (n : DecodeReport) (own : Option CliFault) (cut : Option Reading) (a : ReadingLog) (v : Option WaveFault) (e : Ended) → stop_at n.back own ≡ None → e.stop ≡ None
     → ((edges : List Edge) (given : List Reading) → HasReadings edges given n.decoder → readings_of edges ≡ given ++ option_to_list cut) → ((edges : List Edge) → IsFollowed edges n.follower → v ≡ fault_of edges)
     → AccountsMore (option_to_list cut) n.log a
-    → ((d : Detail) (edges : List Edge) (given : List Reading) (written : List ℕ) → survey.HasSeen edges n.seen → HasAccounted d given written a
-    → written ++ e.lines.items ≡ all_lines d Nothing given ++ (summary d.bounds given ++ (conclusion d.bounds v given ++ oddities_text (oddities_of edges given)))) → (d : Detail) (edges : List Edge) (written : List ℕ)
-    → HasNarrated d edges written n → EndsEdges d edges written own e
-ends_whole n own cut a v e is stop reads follows accounts ends = λ d edges written h.
+    → ((w : Wording) (edges : List Edge) (given : List Reading) (written : List ℕ) → survey.HasSeen edges n.seen → HasAccounted w given written a
+    → written ++ e.lines.items ≡ readings_text w given ++ last_lines w v edges given) → (w : Wording) (edges : List Edge) (written : List ℕ)
+    → HasNarrated w edges written n → EndsEdges w edges written own e
+ends_whole n own cut a v e is stop reads follows accounts ends = λ w edges written h.
     let none : back_in edges ≡ None = sym h.back ∙ no_back n.back own is in
-    let k = of_front d edges written n none h.heeded in
+    let k = of_front w edges written n none h.heeded in
     let all = reads edges k.given k.read in
     record {
       stop = stop ∙ (sym is ∙ ap (λ v. stop_at v own) h.back);
       lines =
-          ends d edges (k.given ++ option_to_list cut) written k.seen (accounts d k.given written k.accounted)
-          ∙ (ap (λ rs. all_lines d Nothing rs ++ (summary d.bounds rs ++ (conclusion d.bounds v rs ++ oddities_text (oddities_of edges rs)))) (sym all)
-          ∙ (ap (λ w. all_lines d Nothing (readings_of edges) ++ (summary d.bounds (readings_of edges) ++ (conclusion d.bounds w (readings_of edges) ++ oddities_text (oddities_of edges (readings_of edges))))) (follows edges k.followed) ∙ sym (ap (λ s. told_of d s edges) stop)));
+          ends w edges (k.given ++ option_to_list cut) written k.seen (accounts w k.given written k.accounted)
+          ∙ (ap (λ rs. readings_text w rs ++ last_lines w v edges rs) (sym all)
+          ∙ (ap (λ x. readings_text w (readings_of edges) ++ last_lines w x edges (readings_of edges)) (follows edges k.followed) ∙ sym (ap (λ s. told_of w s edges) stop)));
     }

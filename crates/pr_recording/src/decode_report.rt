@@ -4,15 +4,16 @@ ghost use Rattle.std.specs.Prelude.{◌≡◌, ◌+◌, ◌*◌, ◌^◌, ◌<�
 ghost use Rattle.pr_wire.specs.declared.Edge.{Edge};
 ghost use Rattle.pr_wire.specs.declared.Frame.{Frame};
 ghost use Rattle.pr_wire.specs.Following.{HasFollowed};
-ghost use Rattle.pr_report.specs.declared.detail.Detail.{Detail};
 ghost use Rattle.pr_report.specs.Taking.{HasSeen};
+ghost use Rattle.pr_recording.specs.declared.wording.Wording.{Wording};
 ghost use Rattle.pr_recording.specs.Decoded.{stop_at};
 ghost use Rattle.pr_recording.specs.Narrated.{EndsEdges, GivesUp, HasNarrated, IsFollowed, NarratesMore, lines_in, load};
 
 use crate::reading_log::ReadingLog;
+use crate::wording::Wording;
 use pr_cli::CliFault;
 use pr_decode::{Decoder, GoesBack, readings_add_up};
-use pr_report::{Detail, LinesSeen};
+use pr_report::LinesSeen;
 use pr_wire::{Edge, TraceFollower, WaveFault};
 use std::alloc::{AllocError, Global};
 
@@ -40,15 +41,15 @@ pub struct DecodeReport {
 
 impl DecodeReport {
     /// A report that has taken no edge, and writes readings so.
-    pub fn new(alloc: Global, detail: Detail) -> Result<DecodeReport, AllocError>
-        ensures narrated { IfOk result (λ report. HasNarrated detail [] [] report) }
+    pub fn new(alloc: Global, wording: Wording) -> Result<DecodeReport, AllocError>
+        ensures narrated { IfOk result (λ report. HasNarrated wording [] [] report) }
         ensures load { IfOk result (λ report. load report ≡ 0) }
     {
         Ok(DecodeReport {
             decoder: Decoder::new(),
             follower: TraceFollower::new(),
             seen: LinesSeen::new(),
-            log: ReadingLog::new(alloc, detail)?,
+            log: ReadingLog::new(alloc, wording)?,
             taken: 0,
             back: None,
         })
@@ -108,8 +109,8 @@ impl DecodeReport {
     /// cuts, the summary, the verdict and what is odd are told.
     pub fn finish(mut self, own: Option<CliFault>) -> Result<Ended, AllocError>
         requires room { load self + 3 < 2 ^ 64 }
-        ensures { IfOk result (λ ended. (detail : Detail) (edges : List Edge) (written : List ℕ) →
-            HasNarrated detail edges written self → EndsEdges detail edges written own ended) }
+        ensures { IfOk result (λ ended. (wording : Wording) (edges : List Edge) (written : List ℕ) →
+            HasNarrated wording edges written self → EndsEdges wording edges written own ended) }
     {
         readings_add_up();
         let stop = stop_at(self.back, own);

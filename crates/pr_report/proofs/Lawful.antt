@@ -1,7 +1,7 @@
 -- The intervals of a lawful trace lie within the profile's bounds, and so within the guide's.
 use Rattle.std.proofs.Common.{◌≡◌, ℕ, ◌+◌, ◌-◌, ◌≤◌, Bool, true, false, min, max, List, [], ◌∷◌, ◌++◌, length, Option, Some, None, refl, sym, ap, ◌∙◌, subst, arith}
 use Rattle.std.specs.Option.{option_map, option_to_list}
-use Rattle.std.specs.Prelude.{nat_lt, ◌||◌}
+use Rattle.std.specs.Prelude.{◌||◌}
 use Rattle.std.proofs.lemmas.Bool.{le-ltb}
 use Rattle.std.proofs.lemmas.List.{append_assoc}
 use Rattle.pr_wire.specs.Pieces.{AreClocked, AreLawful, Between, BitTimes, EoiAnswer, FrameTimes, IsFrame, IsOpened, IsPiece, IsSecond, IsWithin, Piece, SecondFrame, after_piece}

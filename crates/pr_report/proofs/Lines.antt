@@ -2,7 +2,8 @@
 use Rattle.std.proofs.Common.{[], ◌∷◌, ◌++◌, sym, ap, ◌∙◌, append-nil, refl}
 use Rattle.std.proofs.lemmas.List.{append_assoc}
 use Rattle.pr_report.specs.ReadingLaws.{LinesAddUp}
-use Rattle.pr_report.specs.ReadingText.{after_reading, all_lines, behind_all, reading_lines}
+use Rattle.pr_report.specs.Contexts.{after_reading, behind_all}
+use Rattle.pr_report.specs.ReadingText.{all_lines, reading_lines}
 
 pub lines-more : LinesAddUp
 lines-more d b [] r = (append-nil (reading_lines d b r), refl)

@@ -5,7 +5,9 @@ pub mod StoryText
 pub mod FrameTiming
 pub mod StoryLaws
 pub mod Intervals
+pub mod Contexts
 pub mod ReadingText
+pub mod JsonText
 pub mod Summary
 pub mod Oddities
 pub mod Outside
