@@ -1,4 +1,4 @@
-use Rattle.std.proofs.Common.{◌≡◌, ◌≤◌, List, ◌++◌, arith, length, subst, take}
+use Rattle.std.proofs.Common.{◌≤◌, List, ◌++◌, arith, length, subst, take}
 use Rattle.std.proofs.lemmas.List.{take_all}
 use Rattle.pr_wire.specs.declared.Edge.{Edge}
 use Rattle.pr_recording.specs.Captured.{HasCaptured}

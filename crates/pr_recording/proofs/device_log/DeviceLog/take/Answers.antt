@@ -1,4 +1,4 @@
-use Rattle.std.proofs.Common.{refl, rules}
+use Rattle.std.proofs.Common.{refl}
 use Rattle.pr_recording.specs.declared.device_log.Ear.{Ear}
 use Rattle.pr_recording.proofs.Logging.{hears_input, hears_no_input, hears_none}
 use Rattle.pr_recording.proofs.device_log.DeviceLog.take.Goals as goal

@@ -1,5 +1,4 @@
 use Rattle.pr_recording.proofs.RunLogging.{ends_run}
-use Rattle.pr_recording.specs.Logged.{HasHeard}
 use Rattle.std.proofs.Common.{◌++◌}
 use Rattle.std.specs.Option.{option_to_list}
 use Rattle.pr_recording.proofs.run_log.RunLog.finish.Goals as goal
