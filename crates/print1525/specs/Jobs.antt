@@ -1,7 +1,7 @@
 -- Trusted: what the program answers for each job, and what it leaves in the reader and in the
 -- writer. The answer uses the printers present, the delays, the mode, the input, the character set
 -- and the format of the job, and the shapes of characters that it is given.
-use Rattle.std.specs.Prelude.{ℕ, List, Option, Result, Ok, Err}
+use Rattle.std.specs.Prelude.{ℕ, true, false, List, Option, Result, Ok, Err}
 use Rattle.pr_capture.specs.declared.format.Source.{Source}
 use Rattle.pr_capture.specs.declared.format.Source.TheVariants as source
 use Rattle.pr_capture.specs.declared.format.TraceInput.{TraceInput}
@@ -12,6 +12,7 @@ use Rattle.pr_render.specs.declared.format.Format.{Format}
 use Rattle.pr_render.specs.declared.format.Format.TheVariants as format
 use Rattle.pr_options.specs.declared.command_line.Job.{Job}
 use Rattle.pr_options.specs.declared.command_line.Job.TheVariants.{Pages, Bus, Check, Decode, Raw}
+use Rattle.pr_options.specs.Found.{found_source}
 use Rattle.pr_cli.specs.declared.fault.CliFault.{CliFault}
 use Rattle.pr_cli.specs.declared.pages.Ending.{Ending}
 use Rattle.pr_cli.specs.declared.pages.Ending.TheVariants.{Done, Stopped}
@@ -24,6 +25,11 @@ use Rattle.pr_cli.specs.Raw.{AnswersRaw, IsRawFault}
 use Rattle.pr_recording.specs.Decoded.{AnswersDecode, IsDecodeFault}
 use Rattle.pr_recording.specs.Decoded as decode
 use Rattle.pr_recording.specs.Pages as reprint
+
+-- a job whose recording's format is to be found, with the format that the first bytes show; all else of it stays
+abbrev pub found_job : (first : List ℕ) → Job → Job
+found_job first (Decode true input f) = Decode false (record input { source = found_source input.source first }) f
+found_job first job = job
 
 -- what `check` answers: the frames of a trace text, or else a report on an input of any format
 abbrev pub AnswersTrace :

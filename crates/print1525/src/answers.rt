@@ -4,18 +4,16 @@ ghost use Rattle.std.specs.Prelude.{◌≡◌};
 ghost use Rattle.print1525.specs.Statuses.{fault_status, text_status};
 
 use crate::characters::shapes_for;
-use crate::jobs::do_job;
+use crate::jobs::{do_job, found_job};
 use crate::progress::{Progress, clear};
 use crate::shown::Shown;
 use crate::statuses::{FAILED, ending_status, fault_status, is_answered, text_status};
 use crate::told::{subject_of, tell_listing, tell_more};
-use pr_capture::TraceInput;
 use pr_cli::{CliFault, SCRIPT_LIMIT, TeeReader, Watched};
 use pr_dots::Shapes;
 use pr_files::{Noting, save};
 use pr_listing::{ListingForm, TextFault, read_text};
-use pr_options::{Job, Task, found_source};
-use pr_render::Format;
+use pr_options::{Job, Task};
 use std::alloc::Global;
 use std::cell::Cell;
 use std::fs::{File, Files};
@@ -166,8 +164,8 @@ fn answer_job<R: Read + Drop, W: Write + Drop>(
     work: Work<'_>,
     aside: Aside<'_>,
 ) -> (u8, W) {
-    if let Some(reading) = reading_to_find(&work) {
-        return answer_recording(rt, reader, writer, names, reading, aside);
+    if is_to_find(&work.job) {
+        return answer_recording(rt, reader, writer, names, work, aside);
     }
     let form = form_of(&work.job);
     if form == ListingForm::Text {
@@ -176,28 +174,9 @@ fn answer_job<R: Read + Drop, W: Write + Drop>(
     answer_listing(rt, reader, writer, names, form, work, aside)
 }
 
-/// The recording of which a job has to find the format.
-fn reading_to_find<'a>(work: &Work<'a>) -> Option<Reading<'a>> {
-    match &work.job {
-        Job::Decode {
-            is_found: true,
-            input,
-            format,
-        } => Some(Reading {
-            input: *input,
-            format: *format,
-            shapes: work.shapes,
-        }),
-        _ => None,
-    }
-}
-
-/// A recording whose format is to be found, the format of what is written, and the shapes of its characters.
-#[derive(Clone, Copy)]
-struct Reading<'a> {
-    input: TraceInput<'a>,
-    format: Format,
-    shapes: &'a Shapes,
+/// Whether a job has to find the format of its recording.
+fn is_to_find(job: &Job<'_>) -> bool {
+    matches!(job, Job::Decode { is_found: true, .. })
 }
 
 /// Does a job of `decode` in the format that the first bytes show.
@@ -206,25 +185,15 @@ fn answer_recording<R: Read + Drop, W: Write + Drop>(
     reader: R,
     writer: W,
     names: Names<'_>,
-    reading: Reading<'_>,
+    work: Work<'_>,
     aside: Aside<'_>,
 ) -> (u8, W) {
     let mut input = Watched::new(Noting::new(reader));
     match read_first(rt.alloc(), &mut input) {
         Ok(first) => {
-            let source = found_source(reading.input.source, first.as_slice());
-            let job = Job::Decode {
-                is_found: false,
-                input: TraceInput {
-                    source,
-                    signals: reading.input.signals,
-                    start: reading.input.start,
-                },
-                format: reading.format,
-            };
             let work = Work {
-                job,
-                shapes: reading.shapes,
+                job: found_job(work.job, first.as_slice()),
+                shapes: work.shapes,
             };
             let whole = first.as_slice().chain(input.into_inner());
             answer_over(rt, whole, writer, names, work, aside)

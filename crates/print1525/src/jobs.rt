@@ -4,19 +4,41 @@ ghost use Rattle.std.specs.Prelude.{◌≡◌, ◌↔◌, false, true, IfErr, If
 ghost use Rattle.pr_cli.specs.Report.{IsReportFault, ReadsAll, WritesNoReport};
 ghost use Rattle.pr_input.specs.Watched.{has_failed, wrapped};
 ghost use Rattle.pr_recording.specs.Decoded as decode;
-ghost use Rattle.print1525.specs.Jobs.{AnswersJob, AnswersRecording, AnswersTrace, IsJobFault, IsRecordingFault, KeepsOutput, ReadsInput};
+ghost use Rattle.print1525.specs.Jobs.{AnswersJob, AnswersRecording, AnswersTrace, IsJobFault, IsRecordingFault, KeepsOutput, ReadsInput, found_job};
 
 use pr_capture::{Source, TraceInput};
 use pr_cli::{
     CliFault, Ending, Watched, bus_as_over, check_as_over, check_over, pages_as_over, raw_over,
 };
 use pr_dots::Shapes;
-use pr_options::Job;
+use pr_options::{Job, found_source};
 use pr_recording::{decode_over, reprint_over};
 use pr_render::Format;
 use pr_report::Report;
 use std::alloc::Global;
 use std::io::{Read, Write};
+
+/// Returns the job with the format that the first bytes of its recording show, where it has to be found; every other job
+/// as it is. All else that the job says stays.
+pub fn found_job<'a>(job: Job<'a>, first: &[u8]) -> Job<'a>
+    ensures { result ≡ found_job first.now job }
+{
+    match job {
+        Job::Decode {
+            is_found: true,
+            input,
+            format,
+        } => Job::Decode {
+            is_found: false,
+            input: TraceInput {
+                source: found_source(input.source, first),
+                ..input
+            },
+            format,
+        },
+        _ => job,
+    }
+}
 
 /// Does a job: reads the input and writes what the job's own fields ask for. The input of `pages` and
 /// `bus` is a script's text, whatever form the listing has: `answers` gives the text of a listing in
