@@ -7,12 +7,17 @@ use Rattle.clap.specs.declared.error.Error.{Error}
 use Rattle.clap.specs.declared.error.kind.ErrorKind.TheVariants.{OutOfMemory}
 use Rattle.pr_capture.specs.declared.format.Source.{Source}
 use Rattle.pr_capture.specs.declared.format.Source.TheVariants as source
+use Rattle.pr_render.specs.Showing.{showing}
 use Rattle.pr_render.specs.declared.format.Format.{Format}
 use Rattle.pr_render.specs.declared.format.Format.TheVariants as format
 use Rattle.pr_options.specs.CommandLine.{print1525}
-use Rattle.pr_options.specs.Given.{file_in}
-use Rattle.pr_options.specs.Jobs.{◌>>=◌, IsRefused, JobView, RunView, TaskView, asked, decode_output, fitting, heard, is_picture, pages_output, shown, unless_found, unmeasured, wanted, wanted_bus, wanted_check, wanted_decode, wanted_detail, wanted_input, wanted_pages, wanted_part, wanted_raw, wanted_run, wanted_task, wants_readings, wants_recording, wants_table}
+use Rattle.pr_options.specs.DelayLists.{delays_of}
+use Rattle.pr_options.specs.Given.{file_in, value_in}
+use Rattle.pr_options.specs.Jobs.{◌>>=◌, IsRefused, JobView, RunView, TaskView, asked, decode_output, fitting, heard, is_picture, pages_output, read, shown, unless_found, unmeasured, wanted, wanted_bus, wanted_check, wanted_decode, wanted_detail, wanted_input, wanted_pages, wanted_part, wanted_raw, wanted_run, wanted_task, wants_readings, wants_recording, wants_table}
+use Rattle.pr_options.specs.OptionNames.{ValueOption}
 use Rattle.pr_options.specs.OptionNames as option
+use Rattle.pr_options.specs.Options.{bounds_of, decode_output_of, device_of, form_of, format_of, mode_of, pages_output_of, present_of, rate_of, reading_source_of, report_of, set_of, sheet_of, source_of, start_of, trace_format_of}
+use Rattle.pr_options.specs.SignalNames.{names_of}
 use Rattle.pr_options.specs.Steps.{IsOfClap, Met, wanted_of}
 use Rattle.pr_options.specs.declared.command_line.Task.{Task}
 use Rattle.pr_options.specs.declared.command_line.JobFault.{JobFault}
@@ -39,10 +44,14 @@ abbrev task_with_files : List Row → JobView → TaskView
 task_with_files rows job =
     record { job = job; input = file_in option.input rows; output = file_in option.output rows; characters = first_of option.characters rows }
 
--- none of a value that is read
-read_no_line : {A : Type 0} (o : Option A) (f : JobFault) → ¬ IsLine f → NoLine (ok_or o f)
-read_no_line None f h = h
-read_no_line (Some x) f h = tt
+-- none of a value that is read, and of what follows it
+read_no_line : {A B : Type 0} (o : ValueOption) (meaning : Text → Option A) (bad : JobFault) (rows : List Row) (next : A → Result B JobFault)
+    → ¬ IsLine bad → ((x : A) → NoLine (next x)) → NoLine (read o meaning bad rows >>= next)
+read_no_line o meaning bad rows next h k = by (meaning (value_in o rows))
+  where
+    by : (v : Option _) → NoLine (ok_or v bad >>= next)
+    by None = h
+    by (Some x) = k x
 
 -- none of two steps
 then_no_line : {A B : Type 0} (r : Result A JobFault) (next : A → Result B JobFault) → NoLine r → ((x : A) → NoLine (next x)) → NoLine (r >>= next)
@@ -57,9 +66,9 @@ if_no_line false r s h k = k
 -- none of how a script is run
 run_no_line : (rows : List Row) → NoLine (wanted_run rows)
 run_no_line rows =
-    then_no_line _ _ (read_no_line _ _ (λ h. h)) (λ present.
-    then_no_line _ _ (read_no_line _ _ (λ h. h)) (λ delays.
-    then_no_line _ _ (read_no_line _ _ (λ h. h)) (λ mode. tt)))
+    read_no_line option.present present_of fault.BadPresent rows _ (λ h. h) (λ present.
+    read_no_line option.delays delays_of fault.BadDelays rows _ (λ h. h) (λ delays.
+    read_no_line option.status mode_of fault.BadStatus rows _ (λ h. h) (λ mode. tt)))
 
 -- none of options that do not fit the source
 fitting_no_line : (source : Source) (rows : List Row) → NoLine (fitting source rows)
@@ -70,87 +79,92 @@ fitting_no_line source.Csv rows = tt
 -- none of how a trace is read
 input_no_line : (source : Source) (rows : List Row) → NoLine (wanted_input source rows)
 input_no_line source rows =
-    then_no_line _ _ (read_no_line _ _ (λ h. h)) (λ names.
-    then_no_line _ _ (read_no_line _ _ (λ h. h)) (λ start.
-    then_no_line _ _ (read_no_line _ _ (λ h. h)) (λ rate.
-    then_no_line _ _ (fitting_no_line source rows) (λ fits. tt))))
+    read_no_line option.names names_of fault.BadNames rows _ (λ h. h) (λ names.
+    read_no_line option.from_time start_of fault.BadStart rows _ (λ h. h) (λ start.
+    read_no_line option.rate rate_of fault.BadRate rows _ (λ h. h) (λ rate.
+    then_no_line (fitting source rows) _ (fitting_no_line source rows) (λ fits. tt))))
+
+-- none of a format that shows a part, and of what follows it
+shows_no_line : {B : Type 0} (o : Option Format) (next : Format → Result B JobFault) → ((x : Format) → NoLine (next x)) → NoLine (ok_or o fault.NoPart >>= next)
+shows_no_line None next k = λ h. h
+shows_no_line (Some x) next k = k x
 
 -- none of what of the pages is shown
 part_no_line : (rows : List Row) → NoLine (wanted_part rows)
 part_no_line rows =
-    then_no_line _ _ (read_no_line _ _ (λ h. h)) (λ device.
-    then_no_line _ _ (read_no_line _ _ (λ h. h)) (λ sheet. tt))
+    read_no_line option.device device_of fault.BadDevice rows _ (λ h. h) (λ device.
+    read_no_line option.sheet sheet_of fault.BadSheet rows _ (λ h. h) (λ sheet. tt))
 
 shown_no_line : (format : Format) (rows : List Row) → NoLine (shown format rows)
 shown_no_line format rows =
-    then_no_line _ _ (part_no_line rows) (λ part.
-    then_no_line _ _ (read_no_line _ _ (λ h. h)) (λ shown.
+    then_no_line (wanted_part rows) _ (part_no_line rows) (λ part.
+    shows_no_line (showing format part) _ (λ shown.
     if_no_line (is_picture shown || is_none (first_of option.characters rows)) _ _ tt (λ h. h)))
 
 -- none of whose bytes are written
 heard_no_line : (rows : List Row) → NoLine (heard rows)
 heard_no_line rows =
-    then_no_line _ _ (part_no_line rows) (λ part.
+    then_no_line (wanted_part rows) _ (part_no_line rows) (λ part.
     if_no_line (is_some part.sheet) _ _ (λ h. h) (if_no_line (is_some (first_of option.characters rows)) _ _ (λ h. h) tt))
 
 -- none of how readings are written
 detail_no_line : (rows : List Row) → NoLine (wanted_detail rows)
 detail_no_line rows =
-    then_no_line _ _ (shown_no_line format.List rows) (λ whole.
-    then_no_line _ _ (read_no_line _ _ (λ h. h)) (λ bounds. tt))
+    then_no_line (shown format.List rows) _ (shown_no_line format.List rows) (λ whole.
+    read_no_line option.bounds bounds_of fault.BadBounds rows _ (λ h. h) (λ bounds. tt))
 
 unmeasured_no_line : (rows : List Row) → NoLine (unmeasured rows)
 unmeasured_no_line rows =
-    then_no_line _ _ (read_no_line _ _ (λ h. h)) (λ bounds. if_no_line (wants_readings rows) _ _ (λ h. h) tt)
+    read_no_line option.bounds bounds_of fault.BadBounds rows _ (λ h. h) (λ bounds. if_no_line (wants_readings rows) _ _ (λ h. h) tt)
 
 -- none of what is written
 pages_output_no_line : (plain : PagesOutput) (rows : List Row) → NoLine (pages_output plain rows)
-pages_output_no_line (pages.Pages format) rows = then_no_line _ _ (shown_no_line format rows) (λ shown. tt)
-pages_output_no_line (pages.Bytes four) rows = then_no_line _ _ (heard_no_line rows) (λ device. tt)
+pages_output_no_line (pages.Pages format) rows = then_no_line (shown format rows) _ (shown_no_line format rows) (λ shown. tt)
+pages_output_no_line (pages.Bytes plain) rows = then_no_line (heard rows) _ (heard_no_line rows) (λ device. tt)
 
 decode_output_no_line : (plain : DecodeOutput) (rows : List Row) → NoLine (decode_output plain rows)
-decode_output_no_line (reading.Readings plain) rows = then_no_line _ _ (detail_no_line rows) (λ detail. tt)
-decode_output_no_line (reading.Json plain) rows = then_no_line _ _ (detail_no_line rows) (λ detail. tt)
-decode_output_no_line (reading.Bytes four) rows =
-    then_no_line _ _ (heard_no_line rows) (λ device. then_no_line _ _ (unmeasured_no_line rows) (λ none. tt))
+decode_output_no_line (reading.Readings plain) rows = then_no_line (wanted_detail rows) _ (detail_no_line rows) (λ detail. tt)
+decode_output_no_line (reading.Json plain) rows = then_no_line (wanted_detail rows) _ (detail_no_line rows) (λ detail. tt)
+decode_output_no_line (reading.Bytes plain) rows =
+    then_no_line (heard rows) _ (heard_no_line rows) (λ device. then_no_line (unmeasured rows) _ (unmeasured_no_line rows) (λ none. tt))
 decode_output_no_line (reading.Pages format) rows =
-    then_no_line _ _ (shown_no_line format rows) (λ shown. then_no_line _ _ (unmeasured_no_line rows) (λ none. tt))
+    then_no_line (shown format rows) _ (shown_no_line format rows) (λ shown. then_no_line (unmeasured rows) _ (unmeasured_no_line rows) (λ none. tt))
 
 -- none of a subcommand's job
 check_no_line : (rows : List Row) → NoLine (wanted_check rows)
 check_no_line rows =
-    then_no_line _ _ (read_no_line _ _ (λ h. h)) (λ source.
-    then_no_line _ _ (input_no_line source rows) (λ input.
-    then_no_line _ _ (read_no_line _ _ (λ h. h)) (λ report. tt)))
+    read_no_line option.from source_of fault.BadFrom rows _ (λ h. h) (λ source.
+    then_no_line (wanted_input source rows) _ (input_no_line source rows) (λ input.
+    read_no_line option.report_as report_of fault.BadReportAs rows _ (λ h. h) (λ report. tt)))
 
 decode_no_line : (rows : List Row) → NoLine (wanted_decode rows)
 decode_no_line rows =
-    then_no_line _ _ (read_no_line _ _ (λ h. h)) (λ source.
-    then_no_line _ _ (input_no_line (unwrap_or source (unless_found rows)) rows) (λ input.
-    then_no_line _ _ (read_no_line _ _ (λ h. h)) (λ plain.
-    then_no_line _ _ (decode_output_no_line plain rows) (λ output. tt))))
+    read_no_line option.reading_from reading_source_of fault.BadReadingFrom rows _ (λ h. h) (λ source.
+    then_no_line (wanted_input (unwrap_or source (unless_found rows)) rows) _ (input_no_line (unwrap_or source (unless_found rows)) rows) (λ input.
+    read_no_line option.reading_as decode_output_of fault.BadReadingAs rows _ (λ h. h) (λ plain.
+    then_no_line (decode_output plain rows) _ (decode_output_no_line plain rows) (λ output. tt))))
 
 bus_no_line : (run : RunView) (rows : List Row) → NoLine (wanted_bus run rows)
 bus_no_line run rows =
-    then_no_line _ _ (read_no_line _ _ (λ h. h)) (λ form.
-    then_no_line _ _ (read_no_line _ _ (λ h. h)) (λ format. tt))
+    read_no_line option.listing_from form_of fault.BadForm rows _ (λ h. h) (λ form.
+    read_no_line option.trace_as trace_format_of fault.BadTraceAs rows _ (λ h. h) (λ format. tt))
 
 raw_no_line : (lower : Bool) (rows : List Row) → NoLine (wanted_raw lower rows)
 raw_no_line lower rows =
-    then_no_line _ _ (read_no_line _ _ (λ h. h)) (λ format.
-    then_no_line _ _ (shown_no_line format rows) (λ shown. tt))
+    read_no_line option.raw_as format_of fault.BadRawAs rows _ (λ h. h) (λ format.
+    then_no_line (shown format rows) _ (shown_no_line format rows) (λ shown. tt))
 
 pages_no_line : (run : RunView) (rows : List Row) → NoLine (wanted_pages run rows)
 pages_no_line run rows =
-    then_no_line _ _ (read_no_line _ _ (λ h. h)) (λ form.
-    then_no_line _ _ (read_no_line _ _ (λ h. h)) (λ plain.
-    then_no_line _ _ (pages_output_no_line plain rows) (λ output. tt)))
+    read_no_line option.listing_from form_of fault.BadForm rows _ (λ h. h) (λ form.
+    read_no_line option.page_as pages_output_of fault.BadPageAs rows _ (λ h. h) (λ plain.
+    then_no_line (pages_output plain rows) _ (pages_output_no_line plain rows) (λ output. tt)))
 
 -- none of what a subcommand asks for
 wanted_no_line : (name : Text) (rows : List Row) → NoLine (wanted name rows)
 wanted_no_line name rows =
-    then_no_line _ _ (run_no_line rows) (λ run.
-    then_no_line _ _ (read_no_line _ _ (λ h. h)) (λ lower.
+    then_no_line (wanted_run rows) _ (run_no_line rows) (λ run.
+    read_no_line option.set set_of fault.BadSet rows _ (λ h. h) (λ lower.
     if_no_line (bytes_eq name (codes "check")) _ _ (check_no_line rows)
     (if_no_line (bytes_eq name (codes "decode")) _ _ (decode_no_line rows)
     (if_no_line (bytes_eq name (codes "bus")) _ _ (bus_no_line run rows)

@@ -203,12 +203,12 @@ unmeasured rows =
 -- what is written, as the other options say
 abbrev pub pages_output : PagesOutput → List Row → Result PagesOutput JobFault
 pages_output (pages.Pages format) rows = shown format rows >>= λ shown. Ok (pages.Pages shown)
-pages_output (pages.Bytes four) rows = heard rows >>= λ device. Ok (pages.Bytes device)
+pages_output (pages.Bytes plain) rows = heard rows >>= λ device. Ok (pages.Bytes device)
 
 abbrev pub decode_output : DecodeOutput → List Row → Result DecodeOutput JobFault
 decode_output (reading.Readings plain) rows = wanted_detail rows >>= λ detail. Ok (reading.Readings detail)
 decode_output (reading.Json plain) rows = wanted_detail rows >>= λ detail. Ok (reading.Json detail.bounds)
-decode_output (reading.Bytes four) rows =
+decode_output (reading.Bytes plain) rows =
     heard rows >>= λ device. unmeasured rows >>= λ none. Ok (reading.Bytes device)
 decode_output (reading.Pages format) rows =
     shown format rows >>= λ shown. unmeasured rows >>= λ none. Ok (reading.Pages shown)
