@@ -505,34 +505,34 @@ unit-read Microseconds = refl
 unit-read Nanoseconds = refl
 unit-read Picoseconds = refl
 
-names-read : (p : Separator) (u : TimeUnit) (s : Signals) → IsAsWritten s
-    → layout_of s no_remarks 1 (csv_names (separator_byte p) u) ≡ Ok (layout p u)
-names-read p u s h =
+names-read : (p : Separator) (u : TimeUnit) (s : Signals) (rate : Option ℕ) → IsAsWritten s
+    → layout_of s (no_remarks rate) 1 (csv_names (separator_byte p) u) ≡ Ok (layout p u)
+names-read p u s rate h =
     let sep : ℕ = separator_byte p in
     let n = names-are p u in
     let fs : List (List ℕ) = codes "ATN" ∷ codes "CLOCK" ∷ codes "DATA" ∷ [] in
     let atn : column_of s.atn.now 1 fs ≡ Some 1 = ap (λ v. column_of v 1 fs) h.atn in
     let clock : clock_column s 1 fs ≡ Some 2 = ap (λ v. first_some (column_of v 1 fs) (column_of (second_name s) 1 fs)) h.clock in
     let line : column_of s.line.now 1 fs ≡ Some 3 = ap (λ v. column_of v 1 fs) h.line in
-    ap (λ b. layout_in s no_remarks 1 b (fields_of b false (csv_names sep u))) n.separator
-    ∙ (ap (layout_in s no_remarks 1 sep) n.fields
-    ∙ (ap (λ o. layout_by s no_remarks 1 sep o (time_name u ∷ fs)) (unit-read u)
+    ap (λ b. layout_in s (no_remarks rate) 1 b (fields_of b false (csv_names sep u))) n.separator
+    ∙ (ap (layout_in s (no_remarks rate) 1 sep) n.fields
+    ∙ (ap (λ o. layout_by s (no_remarks rate) 1 sep o (time_name u ∷ fs)) (unit-read u)
     ∙ rw (atn, clock, line) refl))
 
 -- the first line names the columns
-first-line : (p : Separator) (u : TimeUnit) (s : Signals) (ls : List (List ℕ)) → IsAsWritten s
-    → first_contents s 1 (csv_names (separator_byte p) u ∷ ls) ≡ row_contents (layout p u) false 2 first_moment ls
-first-line p u s ls h =
+first-line : (p : Separator) (u : TimeUnit) (s : Signals) (rate : Option ℕ) (ls : List (List ℕ)) → IsAsWritten s
+    → first_contents s rate 1 (csv_names (separator_byte p) u ∷ ls) ≡ row_contents (layout p u) false 2 first_moment ls
+first-line p u s rate ls h =
     let n = names-are p u in
-    rw (n.opens, n.loud, names-read p u s h, h.straight) refl
+    rw (n.opens, n.loud, names-read p u s rate h, h.straight) refl
 
-pub samples-back : (p : Separator) (u : TimeUnit) (s : Signals) (es : List Edge) → IsAsWritten s → InOrder 0 es
-    → csv_contents s (csv_of p u es) ≡ record { samples = es; fault = None }
+pub samples-back : (p : Separator) (u : TimeUnit) (s : Signals) (rate : Option ℕ) (es : List Edge) → IsAsWritten s → InOrder 0 es
+    → csv_contents s rate (csv_of p u es) ≡ record { samples = es; fault = None }
 unfolding csv_contents
-samples-back p u s es h k =
+samples-back p u s rate es h k =
     let sep : ℕ = separator_byte p in
-    ap (first_contents s 1) (inner-line (csv_names sep u) (csv_rows sep u es) (names-are p u).inner)
-    ∙ (first-line p u s (lines_of (csv_rows sep u es)) h ∙ rows-read p u 2 0 None es (inl refl) k)
+    ap (first_contents s rate 1) (inner-line (csv_names sep u) (csv_rows sep u es) (names-are p u).inner)
+    ∙ (first-line p u s rate (lines_of (csv_rows sep u es)) h ∙ rows-read p u 2 0 None es (inl refl) k)
 
 -- Edges.
 

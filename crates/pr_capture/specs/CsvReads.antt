@@ -15,14 +15,14 @@ use Rattle.pr_capture.specs.Samples.{listed}
 -- the reader has taken these bytes after those before, and has given this sample, if there is one
 abbrev pub ReadsMore : (bytes : List ℕ) → Option Edge → (old new : CsvReader) → Type 0
 ReadsMore bytes sample old new =
-    (s : Signals) (text : List ℕ) (samples : List Edge) → HasReadTable s text samples old
-    → HasReadTable s (text ++ bytes) (samples ++ listed sample) new
+    (s : Signals) (rate : Option ℕ) (text : List ℕ) (samples : List Edge) → HasReadTable s rate text samples old
+    → HasReadTable s rate (text ++ bytes) (samples ++ listed sample) new
 
 -- the fault of every text that begins with the bytes taken before and these
 abbrev pub FaultsIn : (bytes : List ℕ) → (old : CsvReader) → CaptureFault → Type 0
 FaultsIn bytes old f =
-    (s : Signals) (text : List ℕ) (samples : List Edge) → HasReadTable s text samples old
-    → (more : List ℕ) → csv_contents s ((text ++ bytes) ++ more) ≡ with_samples samples (refused f)
+    (s : Signals) (rate : Option ℕ) (text : List ℕ) (samples : List Edge) → HasReadTable s rate text samples old
+    → (more : List ℕ) → csv_contents s rate ((text ++ bytes) ++ more) ≡ with_samples samples (refused f)
 
 -- such a fault, or want of memory
 abbrev pub RefusesTable : (bytes : List ℕ) → (old : CsvReader) → CaptureFault → Type 0
@@ -31,8 +31,8 @@ RefusesTable bytes old f = (f ≡ NoMemory) ⊎ FaultsIn bytes old f
 -- what a reader answers at the text's end
 abbrev pub EndsText : CsvReader → Result (Option Edge) CaptureFault → Type 0
 EndsText r (Ok sample) =
-    (s : Signals) (text : List ℕ) (samples : List Edge) → HasReadTable s text samples r
-    → csv_contents s text ≡ with_samples (samples ++ listed sample) ended
+    (s : Signals) (rate : Option ℕ) (text : List ℕ) (samples : List Edge) → HasReadTable s rate text samples r
+    → csv_contents s rate text ≡ with_samples (samples ++ listed sample) ended
 EndsText r (Err f) =
-    (s : Signals) (text : List ℕ) (samples : List Edge) → HasReadTable s text samples r
-    → csv_contents s text ≡ with_samples samples (refused f)
+    (s : Signals) (rate : Option ℕ) (text : List ℕ) (samples : List Edge) → HasReadTable s rate text samples r
+    → csv_contents s rate text ≡ with_samples samples (refused f)

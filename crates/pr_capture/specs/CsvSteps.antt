@@ -30,7 +30,7 @@ is_inner b = not (b == 10)
 
 -- what lines tell from a place on
 abbrev pub contents_from : Signals → RowPlace → (number : ℕ) → List (List ℕ) → CaptureContents
-contents_from s First number ls = first_contents s number ls
+contents_from s (First given) number ls = first_contents s given number ls
 contents_from s (Names r) number ls = line_contents s r number ls
 contents_from s (Rows y m) number ls = row_contents y s.is_inverted number m ls
 
@@ -45,7 +45,7 @@ NamesAreRefused s r number line f = (more : List (List ℕ)) → line_contents s
 
 -- no row can come before the line of the names
 abbrev pub HasNoRows : RowPlace → Type 0
-HasNoRows First = Unit {0}
+HasNoRows (First given) = Unit {0}
 HasNoRows (Names r) = Unit {0}
 HasNoRows (Rows y m) = ⊥
 
@@ -62,25 +62,25 @@ ReadsLine s number line old (Err f) new = (more : List (List ℕ)) → contents_
 abbrev pub contents_left : CsvReader → (more : List ℕ) → CaptureContents
 contents_left r more = contents_from r.signals r.place r.number (lines_of (r.line.items ++ more))
 
--- the reader has taken a text, and has given these samples
-pub record HasReadTable (s : Signals) (text : List ℕ) (samples : List Edge) (r : CsvReader) : Type 0 where
+-- the reader has taken a text, with the rate that the caller gives, and has given these samples
+pub record HasReadTable (s : Signals) (rate : Option ℕ) (text : List ℕ) (samples : List Edge) (r : CsvReader) : Type 0 where
   pub signals : r.signals ≡ s
   pub inner : list_all is_inner r.line.items ≡ true
-  pub told : (more : List ℕ) → csv_contents s (text ++ more) ≡ with_samples samples (contents_left r more)
+  pub told : (more : List ℕ) → csv_contents s rate (text ++ more) ≡ with_samples samples (contents_left r more)
 
 -- the reader has taken these bytes too, after whatever it had taken
 abbrev pub HoldsMore : (bytes : List ℕ) → (old new : CsvReader) → Type 0
-HoldsMore bytes old new = (s : Signals) (text : List ℕ) (samples : List Edge) → HasReadTable s text samples old
-    → HasReadTable s (text ++ bytes) samples new
+HoldsMore bytes old new = (s : Signals) (rate : Option ℕ) (text : List ℕ) (samples : List Edge) → HasReadTable s rate text samples old
+    → HasReadTable s rate (text ++ bytes) samples new
 
 -- what a reader answers if a text ends here, of which these samples were given, and which ends with a whole line
 abbrev pub AnswersEnd : CsvReader → (last : Option Edge) → Result (Option Edge) CaptureFault → Type 0
 AnswersEnd r last (Ok sample) =
-    (sample ≡ last) × ((s : Signals) (text : List ℕ) (samples : List Edge) → HasReadTable s text samples r
-    → csv_contents s text ≡ with_samples samples ended)
+    (sample ≡ last) × ((s : Signals) (rate : Option ℕ) (text : List ℕ) (samples : List Edge) → HasReadTable s rate text samples r
+    → csv_contents s rate text ≡ with_samples samples ended)
 AnswersEnd r last (Err f) =
-    (last ≡ None) × ((s : Signals) (text : List ℕ) (samples : List Edge) → HasReadTable s text samples r
-    → csv_contents s text ≡ with_samples samples (refused f))
+    (last ≡ None) × ((s : Signals) (rate : Option ℕ) (text : List ℕ) (samples : List Edge) → HasReadTable s rate text samples r
+    → csv_contents s rate text ≡ with_samples samples (refused f))
 
 -- how many lines have ended, with the one that has begun
 abbrev pub line_number : CsvReader → ℕ
@@ -89,5 +89,5 @@ line_number r = r.number
 -- whatever follows the text that a reader has taken, the samples that it has given come first
 abbrev pub GivenSamplesComeFirst : Type 0
 GivenSamplesComeFirst =
-    (s : Signals) (text more : List ℕ) (given : List Edge) (r : CsvReader) → HasReadTable s text given r
-    → (later : List Edge) × ((csv_contents s (text ++ more)).samples ≡ given ++ later)
+    (s : Signals) (rate : Option ℕ) (text more : List ℕ) (given : List Edge) (r : CsvReader) → HasReadTable s rate text given r
+    → (later : List Edge) × ((csv_contents s rate (text ++ more)).samples ≡ given ++ later)

@@ -208,17 +208,18 @@ fn columns_in(
     Ok(Columns { atn, clock, line })
 }
 
-/// The rate of samples, where the first column is another than one of times.
+/// The rate of samples, where the first column is another than one of times, or has the name of one but no
+/// times.
 fn rate_beside(remarks: Remarks, first: Option<&[u8]>) -> Option<u64>
     ensures { result ≡ rate_beside remarks (option_copied first.entry) }
 {
     match first {
-        None => remarks.rate,
+        None => remarks.rate_known(),
         Some(name) => {
             if is_time_alone(name) {
-                None
+                remarks.given
             } else {
-                remarks.rate
+                remarks.rate_known()
             }
         }
     }
@@ -489,8 +490,8 @@ fn opened(line: &[u8]) -> Result<&[u8], CaptureFault>
 /// Which lines come next.
 #[derive(Drop)]
 enum RowPlace {
-    /// The first, and those up to that of the names.
-    First,
+    /// The first, and those up to that of the names, with the rate that the caller gives.
+    First(Option<u64>),
     /// Some that say nothing of the bus, and that of the names, after these remarks.
     Names(Remarks),
     /// Rows, after this moment.
@@ -531,9 +532,10 @@ impl RowPlace {
         ensures names { IfOk result (λ sample. HasNoRows self.new → sample ≡ None) }
     {
         match self {
-            RowPlace::First => {
+            RowPlace::First(given) => {
+                let given = *given;
                 let line = opened(line)?;
-                self.take_names(signals, Remarks::new(), number, line)?;
+                self.take_names(signals, Remarks::new(given), number, line)?;
                 Ok(None)
             }
             RowPlace::Names(remarks) => {
@@ -577,15 +579,17 @@ pub struct CsvReader<'a> {
 }
 
 impl<'a> CsvReader<'a> {
-    /// Makes a reader that has taken nothing of a text. It takes no memory.
-    pub fn new(alloc: Global, signals: Signals<'a>) -> CsvReader<'a>
-        ensures read { HasReadTable signals.entry [] [] result }
+    /// Makes a reader that has taken nothing of a text, with the rate of samples, in samples a second, that
+    /// the caller gives: a table whose first column has no times is read at it, whatever its remarks say. It
+    /// takes no memory.
+    pub fn new(alloc: Global, signals: Signals<'a>, rate: Option<u64>) -> CsvReader<'a>
+        ensures read { HasReadTable signals.entry rate [] [] result }
         ensures number { line_number result ≡ 1 }
     {
         CsvReader {
             signals,
             number: 1,
-            place: RowPlace::First,
+            place: RowPlace::First(rate),
             line: Vec::new(alloc),
         }
     }
@@ -629,7 +633,7 @@ impl<'a> CsvReader<'a> {
         ensures { AnswersEnd self.now last result }
     {
         match self.place {
-            RowPlace::First => Err(CaptureFault::NoSignal(self.number, Wire::Atn)),
+            RowPlace::First(_) => Err(CaptureFault::NoSignal(self.number, Wire::Atn)),
             RowPlace::Names(_) => Err(CaptureFault::NoSignal(self.number, Wire::Atn)),
             RowPlace::Rows(_, _) => Ok(last),
         }

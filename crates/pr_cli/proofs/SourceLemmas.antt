@@ -44,8 +44,8 @@ text_more old new bytes e more = λ input t samples h. (h.0, more t samples h.1)
 
 pub csv_more : (old new : CsvReader) (bytes : List ℕ) (e : Option Edge) → csv.ReadsMore bytes e old new → GivesMore bytes e (reader.Csv old) (reader.Csv new)
 csv_more old new bytes e more = λ input t samples h.
-    let P : List Edge → Type 0 = λ l. csv_steps.HasReadTable input.signals (t ++ bytes) (samples ++ l) new in
-    (h.0, subst P (listed_is e) (more input.signals t samples h.1))
+    let P : List Edge → Type 0 = λ l. csv_steps.HasReadTable input.signals input.rate (t ++ bytes) (samples ++ l) new in
+    (h.0, subst P (listed_is e) (more input.signals input.rate t samples h.1))
 
 pub vcd_more : (old new : VcdReader) (bytes : List ℕ) (e : Option Edge) → vcd.ReadsMore bytes e old new → GivesMore bytes e (reader.Vcd old) (reader.Vcd new)
 vcd_more old new bytes e more = λ input t samples h.
@@ -104,7 +104,7 @@ csv_refused old bytes f (inr h) = by (own_fault f)
     by (inr o) = inr (
       o.0,
       λ input t samples k more.
-          in_format input source.Csv ((t ++ bytes) ++ more) samples (Some (fault_of_capture f)) k.0 (told_refused _ samples f (fault_of_capture f) (h input.signals t samples k.1 more) o.1),
+          in_format input source.Csv ((t ++ bytes) ++ more) samples (Some (fault_of_capture f)) k.0 (told_refused _ samples f (fault_of_capture f) (h input.signals input.rate t samples k.1 more) o.1),
     )
 
 pub vcd_refused : (old : VcdReader) (bytes : List ℕ) (f : CaptureFault) → vcd.RefusesDump bytes old f → RefusesInput bytes (reader.Vcd old) (fault_of_capture f)
@@ -125,7 +125,7 @@ text_ends r e h = λ input t samples k. in_format input source.Text t (samples +
 
 pub csv_ends : (r : CsvReader) (e : Option Edge) → csv.EndsText r (Ok e) → EndsInput (reader.Csv r) (Ok e)
 csv_ends r e h = λ input t samples k.
-    in_format input source.Csv t (samples ++ option_to_list e) None k.0 (told_whole _ samples e (h input.signals t samples k.1))
+    in_format input source.Csv t (samples ++ option_to_list e) None k.0 (told_whole _ samples e (h input.signals input.rate t samples k.1))
 
 pub vcd_ends : (r : VcdReader) (e : Option Edge) → vcd.EndsText r (Ok e) → EndsInput (reader.Vcd r) (Ok e)
 vcd_ends r e h = λ input t samples k.
@@ -148,7 +148,7 @@ csv_end_refused r f h = by (own_fault f)
     by (inr o) = inr (
       o.0,
       λ input t samples k.
-          in_format input source.Csv t samples (Some (fault_of_capture f)) k.0 (told_refused _ samples f (fault_of_capture f) (h input.signals t samples k.1) o.1),
+          in_format input source.Csv t samples (Some (fault_of_capture f)) k.0 (told_refused _ samples f (fault_of_capture f) (h input.signals input.rate t samples k.1) o.1),
     )
 
 pub vcd_end_refused : (r : VcdReader) (f : CaptureFault) → vcd.EndsText r (Err f) → EndsInput (reader.Vcd r) (Err (fault_of_capture f))
@@ -187,7 +187,7 @@ given_first texts dumps tables = λ input t more given samples fault r h says. b
         (f.0, sym k.0 ∙ f.1)
     by input t more given samples fault (reader.Csv r) h says =
         let k : SaysSamples input source.Csv (t ++ more) samples fault = rw h.0 at says in
-        let f = tables input.signals t more given r h.1 in
+        let f = tables input.signals input.rate t more given r h.1 in
         (f.0, sym k.0 ∙ f.1)
 
 -- each text says something
@@ -198,5 +198,5 @@ each_says some = λ input t. by input t input.source
     by input t source.Text =
         let e = some t in
         (e.0, option_map (λ n. Trace (trace.BadLine n)) e.1, (e.1, e.2, refl))
-    by input t source.Csv = let told = csv_contents input.signals t in (told.samples, option_map (λ f. Capture f) told.fault, (refl, refl))
+    by input t source.Csv = let told = csv_contents input.signals input.rate t in (told.samples, option_map (λ f. Capture f) told.fault, (refl, refl))
     by input t source.Vcd = let told = vcd_contents input.signals t in (told.samples, option_map (λ f. Capture f) told.fault, (refl, refl))

@@ -28,7 +28,7 @@ lines_read (reader.Csv r) = csv.line_number r
 abbrev pub HasGiven : TraceInput → (text : List ℕ) → (samples : List Edge) → SourceReader → Type 0
 HasGiven input t samples (reader.Text r) = (input.source ≡ source.Text) × text.HasReadTrace t samples r
 HasGiven input t samples (reader.Vcd r) = (input.source ≡ source.Vcd) × vcd.HasReadDump input.signals t samples r
-HasGiven input t samples (reader.Csv r) = (input.source ≡ source.Csv) × csv.HasReadTable input.signals t samples r
+HasGiven input t samples (reader.Csv r) = (input.source ≡ source.Csv) × csv.HasReadTable input.signals input.rate t samples r
 
 -- whatever follows the text that a reader has taken, the samples that it has given come first
 abbrev pub GivenSamplesComeFirst : Type 0

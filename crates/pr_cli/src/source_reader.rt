@@ -26,7 +26,7 @@ impl<'a> SourceReader<'a> {
         match input.source {
             Source::Text => SourceReader::Text(TraceReader::new()),
             Source::Vcd => SourceReader::Vcd(VcdReader::new(alloc, input.signals)),
-            Source::Csv => SourceReader::Csv(CsvReader::new(alloc, input.signals)),
+            Source::Csv => SourceReader::Csv(CsvReader::new(alloc, input.signals, input.rate)),
         }
     }
 

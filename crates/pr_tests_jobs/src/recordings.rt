@@ -13,6 +13,7 @@ const TEXT: TraceInput<'_> = TraceInput {
         is_inverted: false,
     },
     start: 0,
+    rate: None,
 };
 
 /// What is written for no byte.
