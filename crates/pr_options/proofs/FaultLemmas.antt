@@ -124,7 +124,8 @@ pages_output_no_line (pages.Bytes plain) rows = then_no_line (heard rows) _ (hea
 
 decode_output_no_line : (plain : DecodeOutput) (rows : List Row) → NoLine (decode_output plain rows)
 decode_output_no_line (reading.Readings plain) rows = then_no_line (wanted_detail rows) _ (detail_no_line rows) (λ detail. tt)
-decode_output_no_line (reading.Json plain) rows = then_no_line (wanted_detail rows) _ (detail_no_line rows) (λ detail. tt)
+decode_output_no_line reading.Json rows =
+    then_no_line (shown format.List rows) _ (shown_no_line format.List rows) (λ whole. then_no_line (unmeasured rows) _ (unmeasured_no_line rows) (λ none. tt))
 decode_output_no_line (reading.Bytes plain) rows =
     then_no_line (heard rows) _ (heard_no_line rows) (λ device. then_no_line (unmeasured rows) _ (unmeasured_no_line rows) (λ none. tt))
 decode_output_no_line (reading.Pages format) rows =

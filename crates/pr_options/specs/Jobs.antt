@@ -190,11 +190,11 @@ wanted_detail rows =
     read option.bounds bounds_of fault.BadBounds rows >>= λ bounds.
     Ok (record { intervals = is_given option.intervals rows; bounds = bounds })
 
--- an option is given that only readings can have
+-- an option is given that only a list of readings can have: JSON has all intervals, and no bounds
 abbrev pub wants_readings : List Row → Bool
 wants_readings rows = is_given option.intervals rows || is_given option.bounds.name rows
 
--- no option of readings is given
+-- no option of a list of readings is given
 abbrev pub unmeasured : List Row → Result (Unit {0}) JobFault
 unmeasured rows =
     read option.bounds bounds_of fault.BadBounds rows >>= λ bounds.
@@ -207,7 +207,7 @@ pages_output (pages.Bytes plain) rows = heard rows >>= λ device. Ok (pages.Byte
 
 abbrev pub decode_output : DecodeOutput → List Row → Result DecodeOutput JobFault
 decode_output (reading.Readings plain) rows = wanted_detail rows >>= λ detail. Ok (reading.Readings detail)
-decode_output (reading.Json plain) rows = wanted_detail rows >>= λ detail. Ok (reading.Json detail.bounds)
+decode_output reading.Json rows = shown format.List rows >>= λ whole. unmeasured rows >>= λ none. Ok reading.Json
 decode_output (reading.Bytes plain) rows =
     heard rows >>= λ device. unmeasured rows >>= λ none. Ok (reading.Bytes device)
 decode_output (reading.Pages format) rows =

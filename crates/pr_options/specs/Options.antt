@@ -63,11 +63,11 @@ pages_output_of text =
     if bytes_eq text (codes "bytes") then Some (pages.Bytes device.Four) else option_map (λ format. pages.Pages format) (format_of text)
 
 -- the output of `decode`: its readings as a list or as json, the bytes that a printer hears, or a format of the pages;
--- of readings without their intervals, by this project's bounds, and of printer 4's bytes if no option says more
+-- a list without intervals, by this project's bounds, and bytes of printer 4, if no option says more
 abbrev pub decode_output_of : Text → Option DecodeOutput
 decode_output_of text =
     if bytes_eq text (codes "list") then Some (reading.Readings (record { intervals = false; bounds = Profile }))
-    else (if bytes_eq text (codes "json") then Some (reading.Json Profile)
+    else (if bytes_eq text (codes "json") then Some reading.Json
     else (if bytes_eq text (codes "bytes") then Some (reading.Bytes device.Four)
     else option_map (λ format. reading.Pages format) (format_of text)))
 

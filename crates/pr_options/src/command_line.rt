@@ -156,8 +156,8 @@ pub enum JobFault {
     /// The value of `--bounds` is not `profile` or `guide`.
     #[error("bad --bounds")]
     BadBounds,
-    /// `--intervals` or `--bounds` is given where no readings are written.
-    #[error("--intervals and --bounds go with --as list or json")]
+    /// `--intervals` or `--bounds` is given where no list of readings is written.
+    #[error("--intervals and --bounds go with --as list")]
     NoReadings,
     /// Memory was refused.
     #[error("out of memory")]

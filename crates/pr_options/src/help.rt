@@ -132,10 +132,11 @@ recording.
 Output: a line for each byte, as in a story of `print1525 check`;
 unacknowledged and incomplete bytes (glitches); a summary of all intervals;
 and whether the recording is lawful. --intervals adds a line for each interval
-outside the bounds; with --bounds guide these are the Programmer's Reference
-Guide's, for real hardware. With --as json all of this is lines of JSON. Or the
-pages that printers 4 and 5 print of the bytes; or with --as bytes the bytes
-that printer 4 hears, or the one of --device, for `print1525 raw`.
+outside the bounds. With --bounds guide these are the Programmer's Reference
+Guide's, for real hardware, and the last line says whether they are kept. Both
+go with the list alone; json has a line for each byte with all its intervals.
+Or the pages that printers 4 and 5 print of the bytes; or with --as bytes the
+bytes that printer 4 hears, or the one of --device, for `print1525 raw`.
 A recording that cannot be read is refused at its first fault, after the lines
 of what comes before it.
 

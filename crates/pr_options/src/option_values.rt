@@ -93,8 +93,8 @@ pub fn read_pages_output(text: &str) -> Option<PagesOutput>
 }
 
 /// The output of `decode`: its readings as a `list` or as `json`, the `bytes` that a printer hears, or a format of the
-/// pages (profile); of readings without their intervals, by this project's bounds, and of printer 4's bytes if no
-/// option says more. None for any other text.
+/// pages (profile); a list without intervals, by this project's bounds, and bytes of printer 4, if no option says
+/// more. None for any other text.
 pub fn read_decode_output(text: &str) -> Option<DecodeOutput>
     ensures { result ≡ decode_output_of text.now }
 {
@@ -103,7 +103,7 @@ pub fn read_decode_output(text: &str) -> Option<DecodeOutput>
             intervals: false,
             bounds: Bounds::Profile,
         })),
-        "json" => Some(DecodeOutput::Json(Bounds::Profile)),
+        "json" => Some(DecodeOutput::Json),
         "bytes" => Some(DecodeOutput::Bytes(Device::Four)),
         _ => {
             let format = read_format(text)?;

@@ -1,7 +1,7 @@
 //! What `pages` and `decode` write.
 
 use pr_render::{Device, Format};
-use pr_report::{Bounds, Detail};
+use pr_report::Detail;
 
 /// What `pages` writes of a run.
 #[derive(Clone, Copy, Debug, PartialEq, Eq)]
@@ -15,10 +15,10 @@ pub enum PagesOutput {
 /// What `decode` writes of a recording.
 #[derive(Clone, Copy, Debug, PartialEq, Eq)]
 pub enum DecodeOutput {
-    /// The readings as lines, with these of their intervals.
+    /// The readings as lines, and what is said of their intervals.
     Readings(Detail),
-    /// The readings as lines of JSON, with the intervals outside these bounds marked.
-    Json(Bounds),
+    /// The readings as lines of JSON, with all their intervals.
+    Json,
     /// The bytes that this printer hears.
     Bytes(Device),
     /// The pages that the bytes print, in this format.

@@ -255,9 +255,10 @@ pub fn decode_output_in(
             let detail = detail_in(options)?;
             Ok(DecodeOutput::Readings(detail))
         }
-        DecodeOutput::Json(_) => {
-            let detail = detail_in(options)?;
-            Ok(DecodeOutput::Json(detail.bounds))
+        DecodeOutput::Json => {
+            shown_in(Format::List, options)?;
+            unmeasured(options)?;
+            Ok(DecodeOutput::Json)
         }
         DecodeOutput::Bytes(_) => {
             let device = heard_in(options)?;
@@ -291,7 +292,7 @@ fn bounds_in(options: &ArgMatches<'_>) -> Result<Bounds, JobFault>
     read_bounds(value_in(options, BOUNDS)).ok_or(JobFault::BadBounds)
 }
 
-/// Refuses what is given and goes with readings alone.
+/// Refuses what is given and goes with a list of readings alone.
 fn unmeasured(options: &ArgMatches<'_>) -> Result<(), JobFault>
     ensures { result ≡ unmeasured (rows_of (found_of options.now)) }
 {
@@ -302,7 +303,7 @@ fn unmeasured(options: &ArgMatches<'_>) -> Result<(), JobFault>
     Ok(())
 }
 
-/// Whether anything is given that goes with readings alone.
+/// Whether anything is given that goes with a list of readings alone: JSON has all intervals, and no bounds.
 fn wants_readings(options: &ArgMatches<'_>) -> bool
     ensures { result ≡ wants_readings (rows_of (found_of options.now)) }
 {

@@ -288,21 +288,8 @@ fn outputs_of_decode(rt: HostRuntime) {
                 bounds: Bounds::Guide,
             }),
         ),
-        (
-            &["print1525", "decode", "--as", "json"],
-            DecodeOutput::Json(Bounds::Profile),
-        ),
-        (
-            &[
-                "print1525",
-                "decode",
-                "-o",
-                "a.JSON",
-                "--intervals",
-                "--bounds=guide",
-            ],
-            DecodeOutput::Json(Bounds::Guide),
-        ),
+        (&["print1525", "decode", "--as", "json"], DecodeOutput::Json),
+        (&["print1525", "decode", "-o", "a.JSON"], DecodeOutput::Json),
         (
             &["print1525", "decode", "--as", "bytes"],
             DecodeOutput::Bytes(Device::Four),
@@ -425,7 +412,7 @@ fn refuses(rt: &(impl Abort + AllocGlobal), words: &[&str], wanted: &str) {
 fn options_without_use(rt: HostRuntime) {
     const PART: &str = "--device goes with --as svg, png, pdf or bytes, --sheet with svg or png";
     const PICTURE: &str = "--characters goes with --as svg, png or pdf";
-    const READINGS: &str = "--intervals and --bounds go with --as list or json";
+    const READINGS: &str = "--intervals and --bounds go with --as list";
     const TABLE: &str = "--rate goes with --from csv";
     const ROWS: [(&[&str], &str); 16] = [
         (&["print1525", "decode", "--device", "4"], PART),

@@ -25,10 +25,10 @@ use Rattle.pr_cli.specs.Report.{AnswersReport, IsReportFault, WritesNoReport}
 use Rattle.pr_cli.specs.Report as check
 use Rattle.pr_cli.specs.Raw.{AnswersRaw, IsRawFault}
 use Rattle.pr_recording.specs.declared.byte_log.Heard.{Heard}
+use Rattle.pr_recording.specs.declared.wording.Wording.TheVariants.{Json, Lines}
 use Rattle.pr_recording.specs.Bytes.{AnswersBytes, HasReadBytes}
 use Rattle.pr_recording.specs.Decoded.{AnswersDecode, IsDecodeFault}
 use Rattle.pr_recording.specs.Decoded as decode
-use Rattle.pr_recording.specs.Json.{AnswersJson}
 use Rattle.pr_recording.specs.Pages as reprint
 use Rattle.pr_recording.specs.RunBytes.{AnswersRunBytes}
 use Rattle.print1525.specs.declared.jobs.Answer.{Answer}
@@ -80,9 +80,9 @@ AnswersRun shapes start (output.Bytes device) text old new result = IsHeard (Ans
 abbrev pub AnswersRecording :
     Shapes → TraceInput → DecodeOutput → List ℕ → Option (List ℕ) → Option (List ℕ) → Result Answer CliFault → Type 0
 AnswersRecording shapes input (reading.Readings detail) text old new result =
-    IsDone (AnswersDecode trace_limit detail input text old new) result
-AnswersRecording shapes input (reading.Json bounds) text old new result =
-    IsDone (AnswersJson trace_limit bounds input text old new) result
+    IsDone (AnswersDecode trace_limit (Lines detail) input text old new) result
+AnswersRecording shapes input reading.Json text old new result =
+    IsDone (AnswersDecode trace_limit Json input text old new) result
 AnswersRecording shapes input (reading.Bytes device) text old new result =
     IsHeardToEnd (AnswersBytes input device text old new) result
 AnswersRecording shapes input (reading.Pages f) text old new result =

@@ -14,7 +14,7 @@ use pr_cli::{
 };
 use pr_dots::Shapes;
 use pr_options::{DecodeOutput, Job, PagesOutput, found_source};
-use pr_recording::{Heard, bytes_over, decode_over, json_over, reprint_over, run_bytes_over};
+use pr_recording::{Heard, Wording, bytes_over, decode_over, reprint_over, run_bytes_over};
 use pr_report::Report;
 use pr_serial::Present;
 use std::alloc::Global;
@@ -65,7 +65,7 @@ pub fn found_job<'a>(job: Job<'a>, first: &[u8]) -> Job<'a>
 ///
 /// Those of the job's call: [`pr_cli::pages_as_over`] or, for bytes, [`pr_recording::run_bytes_over`];
 /// [`pr_cli::bus_as_over`]; [`pr_cli::check_over`] for the frames of a trace text and else
-/// [`pr_cli::check_as_over`]; [`pr_recording::decode_over`] for a list, [`pr_recording::json_over`],
+/// [`pr_cli::check_as_over`]; [`pr_recording::decode_over`] for a list and for JSON,
 /// [`pr_recording::bytes_over`], and [`pr_recording::reprint_over`] for pages; [`pr_cli::raw_over`]. They leave
 /// what they leave there. A read failed exactly if the input has failed, and a write exactly if the output has.
 pub fn do_job<R: Read, W: Write>(
@@ -205,11 +205,11 @@ fn decode_recording<R: Read, W: Write>(
 {
     match wanted {
         DecodeOutput::Readings(detail) => {
-            decode_over(alloc, input, output, trace, detail)?;
+            decode_over(alloc, input, output, trace, Wording::Lines(detail))?;
             Ok(Answer::Ended(Ending::Done))
         }
-        DecodeOutput::Json(bounds) => {
-            json_over(alloc, input, output, trace, bounds)?;
+        DecodeOutput::Json => {
+            decode_over(alloc, input, output, trace, Wording::Json)?;
             Ok(Answer::Ended(Ending::Done))
         }
         DecodeOutput::Bytes(device) => {
