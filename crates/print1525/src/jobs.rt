@@ -32,7 +32,7 @@ pub enum Answer {
 /// Returns the job with the format that the first bytes of its recording show, where it has to be found; every other job
 /// as it is. All else that the job says stays.
 pub fn found_job<'a>(job: Job<'a>, first: &[u8]) -> Job<'a>
-    ensures { result ≡ found_job first.now job }
+    ensures { result ≡ found_job first.now job.entry }
 {
     match job {
         Job::Decode {
