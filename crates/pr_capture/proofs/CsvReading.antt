@@ -17,7 +17,7 @@ use Rattle.pr_capture.specs.declared.fault.Wire.TheVariants.{Atn}
 use Rattle.pr_capture.specs.declared.signals.Signals.{Signals}
 use Rattle.pr_capture.specs.Csv.{csv_contents}
 use Rattle.pr_capture.specs.CsvReads.{EndsText, FaultsIn, ReadsMore}
-use Rattle.pr_capture.specs.CsvSteps.{is_inner, contents_from, AnswersEnd, HasReadTable, HoldsMore}
+use Rattle.pr_capture.specs.CsvSteps.{is_inner, contents_from, AnswersEnd, HasReadTable, HoldsMore, KnowsLast}
 use Rattle.pr_capture.specs.Recording.{ended, refused, with_samples, CaptureContents}
 use Rattle.pr_capture.specs.Samples.{listed}
 
@@ -61,14 +61,15 @@ end-refused r (Err x) f h p = rw h p
 -- nothing was taken
 pub read-none : (s : Signals) (rate : Option ℕ) (r : CsvReader) → r.signals ≡ s → r.number ≡ 1 → r.place ≡ First rate → r.line.items ≡ [] → HasReadTable s rate [] [] r
 unfolding csv_contents
-read-none s rate r a b c d = record { signals = a; inner = rw d refl; told = λ more. rw (a, b, c, d) refl }
+read-none s rate r a b c d = record { signals = a; inner = rw d refl; last = rw c tt; told = λ more. rw (a, b, c, d) refl }
 
 -- a line goes on
 pub held-more : (old new : CsvReader) (bytes : List ℕ) → new.signals ≡ old.signals → new.number ≡ old.number → new.place ≡ old.place
-    → new.line.items ≡ old.line.items ++ bytes → list_all is_inner bytes ≡ true → HoldsMore bytes old new
-held-more old new bytes a b c d i = λ s rate text samples h. record {
+    → new.line.items ≡ old.line.items ++ bytes → new.last ≡ old.last → list_all is_inner bytes ≡ true → HoldsMore bytes old new
+held-more old new bytes a b c d e i = λ s rate text samples h. record {
   signals = a ∙ h.signals;
   inner = rw d (inner-append old.line.items bytes h.inner i);
+  last = rw (a, c, e) h.last;
   told = λ more.
       ap (csv_contents s rate) (append_assoc text bytes more)
       ∙ (h.told (bytes ++ more)
@@ -87,10 +88,12 @@ line-told s rate r line text samples e h more =
 pub read-line : (old new : CsvReader) (sample : Option Edge) (line : List ℕ) → line ≡ old.line.items
     → ((more : List (List ℕ)) → contents_from old.signals old.place old.number (line ∷ more)
     ≡ with_samples (listed sample) (contents_from old.signals new.place (old.number + 1) more))
-    → new.signals ≡ old.signals → new.number ≡ old.number + 1 → new.line.items ≡ [] → ReadsMore (10 ∷ []) sample old new
-read-line old new sample line e r a b d = λ s rate text samples h. record {
+    → new.signals ≡ old.signals → new.number ≡ old.number + 1 → new.line.items ≡ [] → (list_all is_inner old.line.items ≡ true → KnowsLast old.signals.is_inverted new.place new.last)
+    → ReadsMore (10 ∷ []) sample old new
+read-line old new sample line e r a b d k = λ s rate text samples h. record {
   signals = a ∙ h.signals;
   inner = rw d refl;
+  last = rw a (k h.inner);
   told = λ more.
       line-told s rate old line text samples e h more
       ∙ (ap (with_samples samples) (r (lines_of more))
