@@ -26,9 +26,11 @@ mod laws;
 mod pages;
 mod printer_pair;
 mod reading_log;
+mod wording;
 
 pub use capture_printer::Printed;
 pub use decode::{decode_input, decode_over};
 pub use laws::{readings_are_heard_in_turn, traces_are_heard_as_spelled};
 pub use pages::{PRINT_LIMIT, print_input, reprint_over};
 pub use printer_pair::{PrintedPages, PrinterPair};
+pub use wording::Wording;
