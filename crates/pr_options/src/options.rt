@@ -291,9 +291,9 @@ pub const PAGE_AS: ValueOption = ValueOption {
 };
 
 /// What the values of [`DEVICE`] are.
-const DEVICE_HELP: &str = "4 or 5: the printer that svg, png and pdf draw, or\n\
-     whose bytes are written [default: all, the first\n\
-     with a page for png, or 4 for bytes]";
+const DEVICE_HELP: &str = "4 or 5: the printer that svg, png and pdf draw\n\
+     or whose bytes are written [default: all, the\n\
+     first with a page for png, 4 for bytes]";
 
 /// The values of [`DEVICE`] in a few words.
 pub const DEVICE_VALUES: &str = "4 or 5";
@@ -364,8 +364,8 @@ pub const REPORT_AS: ValueOption = ValueOption {
 };
 
 /// What the values of [`READING_AS`] are.
-const READING_AS_HELP: &str = "list (each byte with its times), json (the same\n\
-     for programs), bytes (what a printer hears, for\n\
+const READING_AS_HELP: &str = "list (each byte with its times), json (for\n\
+     programs), bytes (what a printer hears, for\n\
      raw), or the pages that they print: text, svg,\n\
      png or pdf";
 
@@ -457,9 +457,9 @@ pub const FROM_TIME: ValueOption = ValueOption {
 };
 
 /// What the values of [`RATE`] are.
-const RATE_HELP: &str = "The samples in a second of a table without times:\n\
-     a whole number, also with k, M or G after it\n\
-     [default: the one in the table's remarks]";
+const RATE_HELP: &str = "The samples in a second of a table that has no\n\
+     times: a whole number, also with k, M or G\n\
+     [default: what the table's remarks say]";
 
 /// The values of [`RATE`] in a few words.
 pub const RATE_VALUES: &str = "samples in a second, as in 4M, 500k or 1000000";
@@ -476,8 +476,9 @@ pub const RATE: ValueOption = ValueOption {
 };
 
 /// What the values of [`BOUNDS`] are.
-const BOUNDS_HELP: &str = "The bounds of intervals: profile (this project's)\n\
-     or guide (the Programmer's Reference Guide's)";
+const BOUNDS_HELP: &str = "Bounds of intervals: profile (this project's)\n\
+     or guide (those of the Programmer's Reference\n\
+     Guide)";
 
 /// The values of [`BOUNDS`] in a few words.
 pub const BOUNDS_VALUES: &str = "profile or guide";
