@@ -397,4 +397,5 @@ def main():
             print(reading.ready, reading.last_pull, kind, reading.byte(), *["eoi"] * reading.is_eoi)
 
 
-main()
+if __name__ == "__main__":
+    main()
