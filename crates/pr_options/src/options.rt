@@ -346,11 +346,11 @@ pub const TRACE_AS: ValueOption = ValueOption {
 };
 
 /// What the values of [`REPORT_AS`] are.
-const REPORT_AS_HELP: &str = "frames (a line for each), story (with their\n\
-     times and meaning) or json (for programs)";
+const REPORT_AS_HELP: &str = "frames (a line for each) or story (with\n\
+     their times and meaning)";
 
 /// The values of [`REPORT_AS`] in a few words.
-pub const REPORT_AS_VALUES: &str = "frames, story or json";
+pub const REPORT_AS_VALUES: &str = "frames or story";
 
 /// What is written of a trace that is checked.
 pub const REPORT_AS: ValueOption = ValueOption {
