@@ -220,8 +220,8 @@ leaves_end w limit len edges written own e old now new v short ends is_own wrote
     by (Err TooLarge) w = absurd (known TooLarge w.0)
     by (Err NoMemory) w = absurd (known NoMemory w.0)
     by (Err ReadFailed) w = absurd (known ReadFailed w.0)
-    by (Err WriteFailed) w =
-        front_behind old now new written e.lines.items (told_of w (stop_at (back_in edges) own) edges) [] (sym told ∙ sym (append-nil (written ++ e.lines.items))) wrote w
+    by (Err WriteFailed) k =
+        front_behind old now new written e.lines.items (told_of w (stop_at (back_in edges) own) edges) [] (sym told ∙ sym (append-nil (written ++ e.lines.items))) wrote k
 
 -- a stop is no failed write
 pub no_write : (v : Option CliFault) → IfSome v IsStop → v ≡ Some WriteFailed → ⊥

@@ -6,12 +6,12 @@ use Rattle.pr_recording.proofs.reading_log.ReadingLog.finish.Goals as goal
 pub returns-in-Lines : goal.returns-in-Lines
 returns-in-Lines c = λ w edges given written sees h.
     accounts_end w c.args.self given written c.push_summing_up.new.text.items _ h
-    (c.in_ok-push_summing_up.ensures (bounds_in w) given h.surveyed
+    (c.in_ok-push_summing_up-in-Lines.ensures (bounds_in w) given h.surveyed
     ∙ ap (λ (z : List ℕ). c.args.self.lines.items ++ z)
     (last_in_lines w _ c.args.fault edges given c.oddities-odd.result (sym h.wording ∙ c.in-Lines.is) (c.oddities-odd.ensures edges given sees h.byte)))
 
-pub returns-in-Json : goal.returns-in-Json
-returns-in-Json c = λ w edges given written sees h.
+pub returns : goal.returns
+returns c = λ w edges given written sees h.
     accounts_end w c.args.self given written c.push_json_verdict.new.text.items _ h
-    (c.in_ok-push_json_verdict.ensures
+    (c.in_ok-push_json_verdict-in-Json.ensures
     ∙ ap (λ (z : List ℕ). c.args.self.lines.items ++ z) (last_in_json w c.args.fault edges given (sym h.wording ∙ c.in-Json.is)))
