@@ -1,6 +1,6 @@
 -- What is answered for an input, by what was told of it.
-use Rattle.std.proofs.Common.{◌≡◌, ◌≤◌, ℕ, ◌<◌, List, [], ◌++◌, length, refl, ap, sym, subst, ◌∙◌, append-nil, Option, Some, None, Result, Ok, Err}
-use Rattle.std.specs.Prelude.{IfErr, IfSome, IsErrAnd}
+use Rattle.std.proofs.Common.{◌≡◌, ◌≤◌, ℕ, ◌<◌, Bool, List, [], ◌++◌, length, refl, ap, sym, subst, ◌∙◌, append-nil, Option, Some, None, Result, Ok, Err}
+use Rattle.std.specs.Prelude.{◌↔◌, IfErr, IfSome, IsErrAnd, IsErrOf}
 use Rattle.std.specs.Io.KnownBytes.{Appends, IsAtEnd}
 use Rattle.std.proofs.KnownBytes.{Appends-nil, Appends-trans}
 use Rattle.pr_wire.specs.declared.Edge.{Edge}
@@ -312,3 +312,10 @@ reading_fault (Err x) f e none = rw e (by f none)
 pub reading_no_write : (v : Result (Unit {0}) CliFault) (f : CliFault) → IsErrAnd v (λ x. x ≡ f) → IsNoReading f → v ≡ Err WriteFailed → ⊥
 reading_no_write (Ok u) f e none is = absurd e
 reading_no_write (Err x) f e none is = let k : f ≡ WriteFailed = cc in let P : CliFault → Type 0 = λ y. IsNoReading y in subst P k none
+
+-- a fault that is handed on has the meaning that it had: it is a failed read exactly if the input has failed
+pub failed_read : (v : Result (Unit {0}) CliFault) (r : Result Bool CliFault) (f : CliFault) (b : Type 0) → IsErrAnd v (λ x. x ≡ f) → r ≡ Err f → (IsErrOf r ReadFailed ↔ b) → (IsErrOf v ReadFailed ↔ b)
+failed_read (Ok u) r f b e is k = absurd e
+failed_read (Err x) r f b e is k =
+    (λ h. k.0 (let q : f ≡ ReadFailed = cc (h, e) in is ∙ ap (λ (y : CliFault). Err y) q),
+    λ h. let q : f ≡ ReadFailed = cc (k.1 h, is) in ap (λ (y : CliFault). Err y) (e ∙ q))

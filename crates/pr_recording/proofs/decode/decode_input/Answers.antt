@@ -2,7 +2,8 @@ use Rattle.std.proofs.Common.{◌≡◌, ap, arith, false, length, refl, rules, 
 use Rattle.pr_cli.specs.Inputs.{edges_read}
 use Rattle.pr_cli.specs.InputReads.{StopsWell}
 use Rattle.pr_recording.specs.Narrated.{NarratesMore}
-use Rattle.pr_recording.proofs.Answering.{at_first, at_last, last_stop, no_write, partly, reading_fault, refused, told_all, told_before, told_none, told_written, unwritten}
+use Rattle.pr_cli.specs.declared.fault.CliFault.TheVariants.{NoMemory}
+use Rattle.pr_recording.proofs.Answering.{at_first, at_last, failed_read, last_stop, no_write, partly, reading_fault, refused, told_all, told_before, told_none, told_written, unwritten}
 use Rattle.pr_recording.proofs.Coming.{Laws}
 use Rattle.pr_recording.proofs.decode.decode_input.Goals as goal
 
@@ -138,3 +139,11 @@ returns-in_err-write_lines-clause-decode g c =
     let told = told_all c.args.wording c.args.limit start now old mid c.args.trace c.read_block.new.self c.pieces.report c.take_all.new.self before takes in
     partly laws c.read_edges_come_first.ensures.first c.args.wording c.args.limit start now old mid (g.W.Write.contents c.write_lines.new.output.inner) c.args.trace c.read_block.new.self c.take_all.new.self
     c.from_residual-in_err-write_lines.result c.in_err-write_lines.field-0.0 told c.from_residual-in_err-write_lines.ensures.1 c.in_err-write_lines.ensures.own c.in_err-write_lines.ensures.err
+
+pub returns-in_err-read_block-clause-read_failed : goal.returns-in_err-read_block-clause-read_failed
+returns-in_err-read_block-clause-read_failed g c =
+    failed_read c.from_residual-in_err-read_block.result c.read_block.result c.in_err-read_block.field-0.0 _ c.from_residual-in_err-read_block.ensures.1 c.in_err-read_block.was c.read_block.ensures.failed
+
+pub returns-in_err-take_all-clause-own : goal.returns-in_err-take_all-clause-own
+returns-in_err-take_all-clause-own g c =
+    reading_fault c.from_residual-in_err-take_all.result NoMemory c.from_residual-in_err-take_all.ensures.1 tt
