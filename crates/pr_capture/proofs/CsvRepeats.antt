@@ -1,7 +1,7 @@
 -- A row that goes on as the last row does: what it says without its fields.
 use Rattle.std.proofs.Common.{◌≡◌, ℕ, zero, suc, ◌+◌, ◌-◌, ◌<◌, ◌≤◌, ◌==◌, Bool, true, false, List, [], ◌∷◌, ◌++◌, length, take, drop, get_or, refl, ap, sym, subst, ◌∙◌, arith, append_assoc, append-nil, length-append, nat_lt, if◌then◌else◌, Option, Some, None}
 use Rattle.std.proofs.Math.Seq.{take-append_seam, take-add}
-use Rattle.std.specs.Prelude.{◌&&◌, ◌||◌, not, IfSome, Result, Ok, Err}
+use Rattle.std.specs.Prelude.{◌&&◌, ◌||◌, not, Result, Ok, Err}
 use Rattle.std.specs.List.{list_all, prefix_len}
 use Rattle.std.proofs.lemmas.Grind.{common_steps}
 use Rattle.std.proofs.lemmas.List.{length-take-le, take-append-drop, take_more}
@@ -28,16 +28,14 @@ use Rattle.pr_capture.specs.declared.times.Instant.{Instant}
 use Rattle.pr_capture.specs.declared.fault.CaptureFault.TheVariants.{BadLevel, Floating, Unknown}
 use Rattle.pr_capture.specs.declared.fault.Wire.{Wire}
 use Rattle.pr_capture.specs.declared.fault.Wire.TheVariants.{Atn, Clock, Data}
-use Rattle.pr_capture.specs.declared.signals.Signals.{Signals}
 use Rattle.pr_capture.specs.Csv.{behind_point, csv_contents, field_at, fields_of, instant_of_row, is_silent, level_of, level_or, moment_at, moment_next, moment_of, row_contents, row_of, sample_of}
-use Rattle.pr_capture.specs.CsvReads.{HasSkipped, ReadsMore, SkipsRows, TakesRepeats}
+use Rattle.pr_capture.specs.CsvReads.{ReadsMore, SkipsRows, TakesRepeats}
 use Rattle.pr_capture.specs.Gathers.{AllHave}
 use Rattle.pr_capture.specs.CsvSteps.{are_behind, contents_from, decimals_len, field_len, is_inner, line_number, is_plain, tail_at, row_at, row_if, tail_by, with_len, HasLevels, HasReadTable, IsFront, IsPlainTime, IsRepeat, IsRowOf, KnowsLevels}
 use Rattle.pr_capture.specs.Numbers.{decimals_in}
 use Rattle.pr_capture.specs.TableTimes.{instant_in, instant_of, micros_of, time_at_rate}
 use Rattle.pr_capture.specs.Words.{is_space}
 use Rattle.pr_capture.specs.Recording.{◌>>=◌, is_framing, level_in, with_samples, without_front}
-use Rattle.pr_capture.specs.Samples.{listed}
 use Rattle.pr_capture.proofs.CsvFields.{field-ended}
 use Rattle.pr_capture.proofs.CsvReading.{behind-behind, inner-line}
 use Rattle.pr_capture.proofs.CsvTimes.{IsTail, behind_start, digits-read, field-first, is_inside, tail-of-none, tail-of-point}

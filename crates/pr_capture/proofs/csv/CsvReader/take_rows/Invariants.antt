@@ -1,4 +1,4 @@
-use Rattle.std.proofs.Common.{◌≡◌, ◌+◌, ◌≤◌, length, Some}
+use Rattle.std.proofs.Common.{◌≡◌, ◌+◌, ◌≤◌, length}
 use Rattle.pr_capture.specs.CsvSteps.{line_number}
 use Rattle.pr_capture.proofs.CsvRepeats.{SkipsFront}
 use Rattle.pr_capture.proofs.csv.CsvReader.take_rows.Given as goal
