@@ -1,31 +1,28 @@
 -- A table that holds samples is read back as these samples.
-use Rattle.std.proofs.Common.{◌≡◌, ℕ, zero, suc, ◌+◌, ◌-◌, ◌*◌, ◌/◌, ◌%◌, ◌<◌, ◌≤◌, ◌==◌, Bool, true, false, List, [], ◌∷◌, ◌++◌, length, take, drop, refl, ap, sym, subst, ◌∙◌, arith, append_assoc, append-nil, length-append, nat_lt, Option, Some, None, inl, inr, lit<}
+use Rattle.std.proofs.Common.{◌≡◌, ℕ, zero, suc, ◌+◌, ◌-◌, ◌*◌, ◌/◌, ◌%◌, ◌<◌, ◌≤◌, ◌==◌, Bool, true, false, List, [], ◌∷◌, ◌++◌, length, take, refl, ap, sym, subst, ◌∙◌, arith, append_assoc, append-nil, length-append, nat_lt, Option, Some, None, inl, inr, lit<}
 use Rattle.std.proofs.Math.Seq.{take-append_seam}
-use Rattle.std.specs.Prelude.{◌⊎◌, ◌&&◌, ◌||◌, not, codes, nat_le, Ok}
-use Rattle.std.specs.List.{list_all, prefix_len}
+use Rattle.std.specs.Prelude.{◌⊎◌, codes, nat_le, Ok}
+use Rattle.std.specs.List.{list_all}
 use Rattle.std.proofs.lemmas.Grind.{common_steps}
 use Rattle.std.proofs.lemmas.List.{take_all}
 use Rattle.std.proofs.lemmas.List.Folds.{list_all-append}
 use Rattle.pr_wire.specs.declared.Edge.{Edge}
 use Rattle.pr_wire.specs.Levels.{edge_at}
 use Rattle.pr_base.specs.Digits.{is_digit}
-use Rattle.pr_base.specs.Lines.{lines_of, onto_first}
+use Rattle.pr_base.specs.Lines.{lines_of}
 use Rattle.pr_capture.specs.declared.csv.Columns.{Columns}
 use Rattle.pr_capture.specs.declared.csv.Layout.{Layout}
 use Rattle.pr_capture.specs.declared.csv.Moment.{Moment}
 use Rattle.pr_capture.specs.declared.csv.Scale.TheVariants.{Timed}
-use Rattle.pr_capture.specs.declared.times.Exponent.{Exponent}
-use Rattle.pr_capture.specs.declared.times.Instant.{Instant}
 use Rattle.pr_capture.specs.declared.signals.Signals.{Signals}
 use Rattle.pr_capture.specs.Csv.{clock_column, column_of, csv_contents, fields_of, first_contents, first_moment, is_in_front, is_silent, layout_by, layout_in, layout_of, moment_at, opened, row_contents, row_of, sample_of, separator_of}
-use Rattle.pr_capture.specs.Numbers.{behind_decimals, behind_digits, decimals_in, digits_in, number_from, number_of_first, onward, with_zeros}
-use Rattle.pr_capture.specs.TableTimes.{behind_sign_of, exponent_in, instant_by, instant_in, instant_or, is_minus, behind_plus_minus, dated_in, micros_of, no_remarks, start_of, time_unit, unsigned_in}
+use Rattle.pr_capture.specs.Numbers.{number_from, number_of_first, onward, with_zeros}
+use Rattle.pr_capture.specs.TableTimes.{instant_in, micros_of, no_remarks, start_of, time_unit}
 use Rattle.pr_capture.specs.CsvLaws.{InOrder, csv_names, csv_of, csv_row, csv_rows, digits_of, level_byte, separator_byte, time_field, time_name, Separator, TimeUnit}
 use Rattle.pr_capture.specs.CsvLaws.Separator.{Comma, Semicolon, Tab}
 use Rattle.pr_capture.specs.CsvLaws.TimeUnit.{Seconds, Milliseconds, Microseconds, Nanoseconds, Picoseconds}
 use Rattle.pr_capture.specs.CsvSteps.{is_inner}
-use Rattle.pr_capture.specs.Words.{is_space}
-use Rattle.pr_capture.specs.Recording.{◌>>=◌, first_some, is_framing, second_name, with_samples, without_front}
+use Rattle.pr_capture.specs.Recording.{◌>>=◌, first_some, second_name, with_samples, without_front}
 use Rattle.pr_capture.specs.Samples.{changes_after, edges_of, last_at_each}
 use Rattle.pr_capture.specs.VcdReadingLaws.{IsAsWritten, RunsOn}
 use Rattle.pr_capture.proofs.CsvReading.{inner-line}

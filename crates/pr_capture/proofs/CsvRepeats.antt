@@ -1,10 +1,10 @@
 -- A row that goes on as the last row does: what it says without its fields.
 use Rattle.std.proofs.Common.{◌≡◌, ℕ, zero, suc, ◌+◌, ◌-◌, ◌<◌, ◌≤◌, ◌==◌, Bool, true, false, List, [], ◌∷◌, ◌++◌, length, take, drop, get_or, refl, ap, sym, subst, ◌∙◌, arith, append_assoc, append-nil, length-append, nat_lt, if◌then◌else◌, Option, Some, None}
 use Rattle.std.proofs.Math.Seq.{take-append_seam, take-add}
-use Rattle.std.specs.Prelude.{◌&&◌, ◌||◌, not, IfSome, Result, Ok, Err}
+use Rattle.std.specs.Prelude.{◌&&◌, ◌||◌, not, Result, Ok, Err}
 use Rattle.std.specs.List.{list_all, prefix_len}
 use Rattle.std.proofs.lemmas.Grind.{common_steps}
-use Rattle.std.proofs.lemmas.List.{take-append-drop, take_more}
+use Rattle.std.proofs.lemmas.List.{length-take-le, take-append-drop, take_more}
 use Rattle.std.proofs.lemmas.Slice.Eq.{bytes_eq-Decides}
 use Rattle.std.specs.Str.{bytes_eq}
 use Rattle.std.proofs.lemmas.List.Folds.{list_all-append, length-prefix_len}
@@ -28,15 +28,14 @@ use Rattle.pr_capture.specs.declared.times.Instant.{Instant}
 use Rattle.pr_capture.specs.declared.fault.CaptureFault.TheVariants.{BadLevel, Floating, Unknown}
 use Rattle.pr_capture.specs.declared.fault.Wire.{Wire}
 use Rattle.pr_capture.specs.declared.fault.Wire.TheVariants.{Atn, Clock, Data}
-use Rattle.pr_capture.specs.declared.signals.Signals.{Signals}
 use Rattle.pr_capture.specs.Csv.{behind_point, csv_contents, field_at, fields_of, instant_of_row, is_silent, level_of, level_or, moment_at, moment_next, moment_of, row_contents, row_of, sample_of}
-use Rattle.pr_capture.specs.CsvReads.{ReadsMore}
-use Rattle.pr_capture.specs.CsvSteps.{are_behind, contents_from, decimals_len, field_len, is_inner, is_plain, tail_at, row_at, row_if, tail_by, HasLevels, HasReadTable, IsFront, IsPlainTime, IsRepeat, IsRowOf, KnowsLevels}
+use Rattle.pr_capture.specs.CsvReads.{ReadsMore, SkipsRows, TakesRepeats}
+use Rattle.pr_capture.specs.Gathers.{AllHave}
+use Rattle.pr_capture.specs.CsvSteps.{are_behind, contents_from, decimals_len, field_len, is_inner, line_number, is_plain, tail_at, row_at, row_if, tail_by, with_len, HasLevels, HasReadTable, IsFront, IsPlainTime, IsRepeat, IsRowOf, KnowsLevels}
 use Rattle.pr_capture.specs.Numbers.{decimals_in}
 use Rattle.pr_capture.specs.TableTimes.{instant_in, instant_of, micros_of, time_at_rate}
 use Rattle.pr_capture.specs.Words.{is_space}
 use Rattle.pr_capture.specs.Recording.{◌>>=◌, is_framing, level_in, with_samples, without_front}
-use Rattle.pr_capture.specs.Samples.{listed}
 use Rattle.pr_capture.proofs.CsvFields.{field-ended}
 use Rattle.pr_capture.proofs.CsvReading.{behind-behind, inner-line}
 use Rattle.pr_capture.proofs.CsvTimes.{IsTail, behind_start, digits-read, field-first, is_inside, tail-of-none, tail-of-point}
@@ -453,3 +452,77 @@ read-repeat old new bytes y m row repeats p e q d a n l = λ s rate text samples
         ap (λ v. lines_of (v ++ (bytes ++ more))) e
         ∙ (ap (λ v. lines_of (v ++ more)) r.ends ∙ (ap lines_of (append_assoc r.line (10 ∷ []) more) ∙ inner-line r.line more r.inner)) in
         ap (contents_from old.signals old.place old.number) lines ∙ rw (p, r.loud, r.reads) refl
+
+-- Several rows.
+
+-- no row was taken, or some that have these levels
+abbrev pub Repeats : (bytes : List ℕ) → Levels → (last : Option Edge) → (old new : CsvReader) → Type 0
+Repeats bytes levels None old new = (bytes ≡ []) × (new ≡ old)
+Repeats bytes levels (Some e) old new = (0 < length bytes) × (e.levels ≡ levels) × SkipsRows bytes e old new
+
+-- those of a front of a block
+pub record SkipsFront (block rest : List ℕ) (levels : Levels) (last : Option Edge) (old new : CsvReader) : Type 0 where
+  pub front : List ℕ
+  pub whole : block ≡ front ++ rest
+  pub known : Repeats front levels last old new
+
+pub skip-none : (block : List ℕ) (levels : Levels) (r : CsvReader) → SkipsFront block block levels None r r
+skip-none block levels r = record { front = []; whole = refl; known = (refl, refl) }
+
+have-more : (l : Levels) (es : List Edge) (e : Edge) → AllHave l es → e.levels ≡ l → AllHave l (es ++ e ∷ [])
+have-more l [] e h k = (k, tt)
+have-more l (x ∷ es) e h k = (h.0, have-more l es e h.1 k)
+
+-- one row more
+pub skip-more : (block rest : List ℕ) (levels : Levels) (last : Option Edge) (old mid new : CsvReader) (len : ℕ) (e : Edge) → SkipsFront block rest levels last old mid → e.levels ≡ levels
+    → ReadsMore (take len rest) (Some e) mid new → 0 < len → len ≤ length rest → SkipsFront block (drop len rest) levels (Some e) old new
+skip-more block rest levels last old mid new len e f same reads some within = record {
+  front = f.front ++ take len rest;
+  whole = f.whole ∙ (ap (λ l. f.front ++ l) (sym (take-append-drop len rest)) ∙ sym (append_assoc f.front (take len rest) (drop len rest)));
+  known = (omega (arith, length-append f.front (take len rest), length-take-le len rest within, some), same, by last f.known);
+}
+  where
+    by : (last : Option Edge) → Repeats f.front levels last old mid → SkipsRows (f.front ++ take len rest) e old new
+    by None k = λ s rate text samples h.
+        let P : CsvReader → Type 0 = λ r. HasReadTable s rate text samples r in
+        let Q : List ℕ → Type 0 = λ l. HasReadTable s rate (text ++ l) ((samples ++ []) ++ e ∷ []) new in
+        let R : List Edge → Type 0 = λ l. HasReadTable s rate (text ++ take len rest) (l ++ e ∷ []) new in
+        record {
+          between = [];
+          same = tt;
+          read = subst Q (ap (λ v. v ++ take len rest) (sym k.0)) (subst R (sym (append-nil samples)) (reads s rate text samples (subst P (sym k.1) h)));
+        }
+    by (Some l) k = λ s rate text samples h.
+        let t = k.2 s rate text samples h in
+        let Q : List ℕ → Type 0 = λ v. HasReadTable s rate v ((samples ++ (t.between ++ l ∷ [])) ++ e ∷ []) new in
+        let R : List Edge → Type 0 = λ v. HasReadTable s rate ((text ++ f.front) ++ take len rest) (v ++ e ∷ []) new in
+        let own : l.levels ≡ e.levels = k.1 ∙ sym same in
+        record {
+          between = t.between ++ l ∷ [];
+          same = subst (λ v. AllHave v (t.between ++ l ∷ [])) own (have-more l.levels t.between l t.same refl);
+          read = subst Q (append_assoc text f.front (take len rest))
+              (subst R (append_assoc samples t.between (l ∷ [])) (reads s rate (text ++ f.front) ((samples ++ t.between) ++ l ∷ []) t.read));
+        }
+
+-- what was taken in all
+pub all-skipped : (block rest : List ℕ) (levels : Levels) (last : Option Edge) (old new : CsvReader) (n : ℕ) → SkipsFront block rest levels last old new → n ≡ length block - length rest
+    → line_number new + length rest ≤ line_number old + length block → TakesRepeats block levels old new (with_len n last)
+all-skipped block rest levels last old new n f count lines =
+    let whole : length block ≡ length f.front + length rest = ap length f.whole ∙ length-append f.front rest in
+    let long : n ≡ length f.front = omega (arith, count, whole) in
+    let front : take n block ≡ f.front = ap (λ i. take i block) long ∙ (ap (take (length f.front)) f.whole ∙ take-append_seam f.front rest) in
+    by last f.known (omega (arith, long, whole)) (omega (arith, long, whole, lines)) long front
+  where
+    by : (last : Option Edge) → Repeats f.front levels last old new → n ≤ length block → line_number new ≤ line_number old + n → n ≡ length f.front → take n block ≡ f.front
+        → TakesRepeats block levels old new (with_len n last)
+    by None k within number long front = record { read = tt; alike = tt; some = tt; within = tt; number = tt; same = λ e. k.1 }
+    by (Some e) k within number long front =
+        let P : List ℕ → Type 0 = λ v. SkipsRows v e old new in
+        record {
+          read = subst P (sym front) k.2;
+          alike = k.1;
+          some = omega (arith, long, k.0);
+          within = within;
+          number = number;
+          same = λ none. absurd (cc);
+        }

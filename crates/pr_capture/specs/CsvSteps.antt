@@ -146,6 +146,11 @@ abbrev pub row_if : Result Moment CaptureFault → Levels → Option Row
 row_if (Ok m) levels = Some (row_at m levels)
 row_if (Err f) levels = None
 
+-- how many bytes were taken, and the last sample that they have, if they have one
+abbrev pub with_len : ℕ → Option Edge → Option (ℕ × Edge)
+with_len n None = None
+with_len n (Some e) = Some (n, e)
+
 -- these bytes are a row and its end, which make this of a moment
 pub record IsRepeat (inverted : Bool) (y : Layout) (number : ℕ) (m : Moment) (bytes : List ℕ) (row : Row) : Type 0 where
   pub line : List ℕ

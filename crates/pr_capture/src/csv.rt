@@ -7,8 +7,8 @@
 ghost use Rattle.std.specs.Prelude.{◌≡◌, ◌+◌, ◌^◌, ◌<◌, ◌≤◌, ◌∷◌, [], false, true, None, Err, IfErr, IfOk, Ok, drop, length, option_copied, take, IfSome, Some};
 ghost use Rattle.std.specs.List.{list_all, prefix_len};
 ghost use Rattle.pr_capture.specs.Csv.{behind_point, clock_column, column_of, columns_in, field_at, fields_of, first_moment, is_archive, is_in_front, is_separator, is_silent, is_wide, layout_by, layout_of, level_of, level_or, moment_at, moment_next, moment_of, opened, rate_beside, row_of, sample_of, separator_of, without_space, without_zeros};
-ghost use Rattle.pr_capture.specs.CsvReads.{EndsText, FaultsIn, ReadsMore, RefusesTable};
-ghost use Rattle.pr_capture.specs.CsvSteps.{field_len, fields_left, is_inner, line_number, AnswersEnd, HasNoRows, HasReadTable, HoldsMore, IsRowOf, NamesAreRefused, NamesLeadTo, ReadsLine};
+ghost use Rattle.pr_capture.specs.CsvReads.{EndsText, FaultsIn, ReadsMore, RefusesTable, SkipsRows, TakesRepeats};
+ghost use Rattle.pr_capture.specs.CsvSteps.{field_len, fields_left, is_inner, line_number, with_len, AnswersEnd, HasNoRows, HasReadTable, HoldsMore, IsRowOf, NamesAreRefused, NamesLeadTo, ReadsLine};
 ghost use Rattle.pr_capture.specs.TableTimes.{time_at_rate};
 ghost use Rattle.pr_capture.specs.declared.fault.CaptureFault.TheVariants.{NoMemory};
 
@@ -570,6 +570,16 @@ fn line_len(text: &[u8]) -> usize
     text.len()
 }
 
+/// How many bytes were taken, and the last sample that they have, if they have one.
+fn with_len(len: usize, last: Option<Edge>) -> Option<(usize, Edge)>
+    ensures { result ≡ with_len len last }
+{
+    match last {
+        None => None,
+        Some(sample) => Some((len, sample)),
+    }
+}
+
 /// Reads a table of comma separated values that comes in blocks. It keeps no more of the text than the line
 /// that has begun and the last row.
 #[derive(Drop)]
@@ -640,7 +650,9 @@ impl<'a> CsvReader<'a> {
         ensures some { IfSome result (λ r. 0 < r.0) }
         ensures within { IfSome result (λ r. r.0 ≤ length block.now) }
         ensures number { line_number self.new ≤ line_number self.old + 1 }
-        // what it leaves where it gives nothing
+        ensures levels { IfSome result (λ r. self.old.last.levels ≡ Some r.1.levels) }
+        // what stays the same, and what it leaves where it gives nothing
+        ensures last { self.new.last ≡ self.old.last }
         ensures same { result ≡ None → self.new ≡ self.old }
     {
         if !self.line.is_empty() {
@@ -655,6 +667,26 @@ impl<'a> CsvReader<'a> {
                 Some((len, row.sample))
             }
         }
+    }
+
+    /// Takes the rows in front of a block that go on as the last row does, which has these levels.
+    fn take_rows(&mut self, block: &[u8], levels: Levels) -> Option<(usize, Edge)>
+        requires few { line_number self.old + length block.now + 1 < 2 ^ 64 }
+        requires levels { self.old.last.levels ≡ Some levels }
+        ensures { TakesRepeats block.now levels self.old self.new result }
+    {
+        let mut rest = block;
+        let mut last = None;
+        while !rest.is_empty() {
+            match self.take_repeat(rest) {
+                Some((len, sample)) => {
+                    rest = &rest[len..];
+                    last = Some(sample);
+                }
+                None => return with_len(block.len() - rest.len(), last),
+            }
+        }
+        with_len(block.len() - rest.len(), last)
     }
 
     /// The answer for a text that ends with a whole line, if it ends here; the sample is that of its
@@ -702,6 +734,30 @@ impl<'a> CsvReader<'a> {
         }
         let sample = self.end_line()?;
         Ok((len + 1, sample))
+    }
+
+    /// Takes the rows in front of a block that go on as the last row does, as many as are whole there, if that row
+    /// has these levels. Gives how many bytes, at least one, and the last of their samples: all have these levels.
+    /// None where there is no such row; then nothing was taken. It takes no memory.
+    ///
+    /// It is a quick way for a caller to whom only the last of such samples counts, as [`EdgeDetector::skip`]; rows
+    /// that it does not take are there for [`take_front`](CsvReader::take_front).
+    pub fn take_repeats(&mut self, block: &[u8], levels: Levels) -> Option<(usize, Edge)>
+        // the caller's part
+        requires few { line_number self.old + length block.now + 1 < 2 ^ 64 }
+        // what it gives
+        ensures read { IfSome result (λ r. SkipsRows (take r.0 block.now) r.1 self.old self.new) }
+        ensures levels { IfSome result (λ r. r.1.levels ≡ levels) }
+        ensures some { IfSome result (λ r. 0 < r.0) }
+        ensures within { IfSome result (λ r. r.0 ≤ length block.now) }
+        ensures number { IfSome result (λ r. line_number self.new ≤ line_number self.old + r.0) }
+        // what it leaves where it gives nothing
+        ensures same { result ≡ None → self.new ≡ self.old }
+    {
+        if !self.last.has_levels(levels) {
+            return None;
+        }
+        self.take_rows(block, levels)
     }
 
     /// Ends the text, whose last line may lack its end, and gives the sample of that line, if it

@@ -1,7 +1,7 @@
 //! The last row of a table, by which rows are read that have its levels, as most have where nothing changes: it
 //! is enough that their bytes after the time are its own.
 
-ghost use Rattle.std.specs.Prelude.{◌≡◌, ◌+◌, ◌<◌, ◌≤◌, ◌∷◌, ◌++◌, [], Bool, None, IfSome, IsTrue, length, take, true};
+ghost use Rattle.std.specs.Prelude.{◌≡◌, ◌+◌, ◌<◌, ◌≤◌, ◌∷◌, ◌++◌, [], Bool, None, IfSome, Some, IsTrue, length, take, true};
 ghost use Rattle.std.specs.List.{list_all};
 ghost use Rattle.pr_capture.specs.CsvSteps.{IsRepeat, IsRowOf, KnowsLast, KnowsLevels, are_behind, is_inner, row_if, tail_at};
 
@@ -109,6 +109,18 @@ impl LastRow {
         self.levels = Some(sample.levels);
     }
 
+    /// Whether it has these levels.
+    pub fn has_levels(&self, levels: Levels) -> bool
+        ensures { IsTrue result → self.now.levels ≡ Some levels }
+    {
+        match self.levels {
+            None => false,
+            Some(own) => {
+                own.atn == levels.atn && own.clock == levels.clock && own.line == levels.line
+            }
+        }
+    }
+
     /// The row in front of a block, with the length of its line and the line's end, if a whole row is there,
     /// its time is plain, and it goes on as the last row does.
     pub fn repeat(
@@ -122,6 +134,7 @@ impl LastRow {
             IfSome result (λ r. IsRepeat inverted layout number moment (take r.0 block.now) r.1) }
         ensures some { IfSome result (λ r. 0 < r.0) }
         ensures within { IfSome result (λ r. r.0 ≤ length block.now) }
+        ensures levels { IfSome result (λ r. self.now.levels ≡ Some r.1.sample.levels) }
     {
         let levels = self.levels?;
         let tail = behind_first(self.bytes.as_slice(), self.from);

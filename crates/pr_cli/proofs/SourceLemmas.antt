@@ -26,7 +26,7 @@ use Rattle.pr_capture.specs.declared.format.Source.TheVariants as source
 use Rattle.pr_capture.specs.declared.format.TraceInput.{TraceInput}
 use Rattle.pr_cli.specs.Faults.{fault_of_capture, fault_of_trace}
 use Rattle.pr_cli.specs.Report.{IsTold, SaysSamples, IsOwnFault}
-use Rattle.pr_cli.specs.InputReads.{EndsInput, GivesMore, RefusesInput}
+use Rattle.pr_cli.specs.InputReads.{EndsInput, GivesMore, GivesRepeats, RefusesInput}
 use Rattle.pr_cli.specs.Sources.{EachTextSaysSamples, GivenSamplesComeFirst, HasGiven}
 use Rattle.pr_cli.specs.declared.source_reader.SourceReader.{SourceReader}
 use Rattle.pr_cli.specs.declared.source_reader.SourceReader.TheVariants as reader
@@ -51,6 +51,11 @@ pub vcd_more : (old new : VcdReader) (bytes : List ℕ) (e : Option Edge) → vc
 vcd_more old new bytes e more = λ input t samples h.
     let P : List Edge → Type 0 = λ l. vcd_steps.HasReadDump input.signals (t ++ bytes) (samples ++ l) new in
     (h.0, subst P (listed_is e) (more input.signals t samples h.1))
+
+-- rows with the levels of the last one
+pub csv_repeats : (old new : CsvReader) (bytes : List ℕ) (last : Edge) → csv.SkipsRows bytes last old new → GivesRepeats bytes last (reader.Csv old) (reader.Csv new)
+csv_repeats old new bytes last skips = λ input t samples h.
+    let k = skips input.signals input.rate t samples h.1 in (k.between, k.same, (h.0, k.read))
 
 -- the format is known
 in_format : (input : TraceInput) (s : Source) (t : List ℕ) (samples : List Edge) (fault : Option CliFault) → input.source ≡ s → SaysSamples input s t samples fault
