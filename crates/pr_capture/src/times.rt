@@ -97,6 +97,7 @@ fn exponent_in(text: &[u8]) -> Option<Exponent>
 
 /// The whole microseconds of a number whose point moves to the right by this many places, and then to the
 /// left.
+#[inline(always)]
 fn micros_of(right: usize, left: usize, whole: &[u8], decimals: &[u8]) -> Option<u64>
     ensures { result ≡ micros_of right left whole.now decimals.now }
 {
@@ -307,12 +308,12 @@ pub fn plain_in(text: &[u8]) -> Option<PlainTime<'_>>
     if whole.is_empty() {
         return None;
     }
-    let decimals = decimals_in(&text[count..]);
-    let len = count + decimals_len(&text[count..]);
+    let behind = &text[count..];
+    let len = decimals_len(behind);
     Some(PlainTime {
-        len,
+        len: count + len,
         whole,
-        decimals,
+        decimals: behind_first(&behind[..len], 1),
     })
 }
 
