@@ -8,7 +8,6 @@ use crate::signals::behind_letter;
 use pr_base::{digit_count, is_digit};
 
 /// The number that digits spell after those that spell another, as long as it is below 2^64.
-#[inline(always)]
 pub fn number_from(front: u64, digits: &[u8]) -> Option<u64>
     ensures { result ≡ number_from front digits.now }
 {
@@ -58,7 +57,6 @@ pub fn behind_first(bytes: &[u8], count: usize) -> &[u8]
 
 /// The number that the first so many of digits spell, after those that spell another; those that lack
 /// are zeros.
-#[inline(always)]
 pub fn number_of_first(front: u64, count: usize, digits: &[u8]) -> Option<u64>
     ensures { result ≡ number_of_first front count digits.now }
 {

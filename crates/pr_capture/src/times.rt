@@ -97,7 +97,6 @@ fn exponent_in(text: &[u8]) -> Option<Exponent>
 
 /// The whole microseconds of a number whose point moves to the right by this many places, and then to the
 /// left.
-#[inline(always)]
 fn micros_of(right: usize, left: usize, whole: &[u8], decimals: &[u8]) -> Option<u64>
     ensures { result ≡ micros_of right left whole.now decimals.now }
 {
