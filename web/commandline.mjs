@@ -224,6 +224,8 @@ function jobOf(name, level, isExplained) {
   if ((job.device && !['svg', 'png', 'pdf'].includes(job.as)) || (job.sheet && !['svg', 'png'].includes(job.as))) {
     throw new NoJob(2, 'print1525: --device goes with --as svg, png or pdf, --sheet with svg or png\n');
   }
+  job.characters = level.given.get('characters') ?? null;
+  if (job.characters !== null && !['svg', 'png', 'pdf'].includes(job.as)) throw new NoJob(2, 'print1525: --characters goes with --as svg, png or pdf\n');
   const file = option => (level.given.has(option) && level.given.get(option) !== '-' ? level.given.get(option) : null);
   return { ...job, isExplained, input: file('file'), output: file('output') };
 }

@@ -15,7 +15,7 @@ export function readLists() {
     return parts.every(part => /^\d{1,5}$/.test(part) && Number(part) <= 65535) ? Uint16Array.from(parts, Number) : null;
   });
   const bad = lists.indexOf(null);
-  $('lists-fault').textContent = bad < 0 ? '' : `The list of ${names[bad]} is not numbers of 0 to 65535 with commas between them.`;
+  $('lists-fault').textContent = bad < 0 ? '' : `The list of ${names[bad]} must be numbers from 0 to 65535, separated by commas.`;
   return bad < 0 ? lists : null;
 }
 
@@ -175,7 +175,7 @@ async function copyText(text, made) {
   try {
     await navigator.clipboard.writeText(text);
   } catch {
-    tellOnce('link', 'The browser does not let this page copy: use Save.');
+    tellOnce('link', 'The browser does not let this page copy. Use Save.');
     return;
   }
   made.textContent = 'Copied';
@@ -209,16 +209,15 @@ $('sheets').addEventListener('keydown', event => {
     '=': () => paper.zoom(1.25),
     '-': () => paper.zoom(1 / 1.25),
     0: () => paper.fit(),
-    Escape: () => wave.choose(-1),
-    n: () => wave.key(event),
-    p: () => wave.key(event),
   };
   const act = keys[event.key];
   if (act) { event.preventDefault(); act(); }
 });
+for (const id of ['sheets', 'frames']) $(id).addEventListener('keydown', event => { if (/^([np]|Escape)$/i.test(event.key)) wave.key(event); });
 $('wave-smaller').onclick = () => wave.zoom(1 / 1.6);
 $('wave-larger').onclick = () => wave.zoom(1.6);
 $('wave-fit').onclick = () => wave.all();
+$('show-line').onclick = () => editor.chooseOwn();
 $('codes-box').querySelector('tbody').append(...CODES.map(([bytes, words]) => {
   const row = document.createElement('tr'), name = document.createElement('th');
   name.scope = 'row';
@@ -240,15 +239,15 @@ $('file').onchange = () => {
   if (file) takeFile(file);
 };
 $('link').onclick = async () => {
-  if (state.source) return tellOnce('link', `A link carries a listing and its choices, not a file: send ${state.source.name} itself beside this page.`);
+  if (state.source) return tellOnce('link', `A link carries a listing and its choices, but no file. Send ${state.source.name} itself.`);
   const plain = await save(), link = location.href;
-  if (!plain) return notice('link', 'This listing is too long for an address: save it as a file.', [button('Close', () => notice('link', ''))]);
+  if (!plain) return notice('link', 'This listing is too long for a link. Save it as a file.', [button('Close', () => notice('link', ''))]);
   try {
     await navigator.clipboard.writeText(link);
     $('link').textContent = 'Copied';
     setTimeout(() => { $('link').textContent = 'Copy link'; }, 1600);
   } catch {
-    notice('link', 'The address of this page now holds the listing: copy it from the address bar.', [button('Close', () => notice('link', ''))]);
+    notice('link', 'The browser does not let this page copy. The address bar now has the link.', [button('Close', () => notice('link', ''))]);
   }
 };
 

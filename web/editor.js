@@ -28,9 +28,9 @@ export class Editor {
     this.area.addEventListener('keydown', event => {
       if (event.key !== 'Enter' || !(event.ctrlKey || event.metaKey)) return;
       event.preventDefault();
-      const at = this.area.selectionStart, line = this.starts.findIndex(start => start > at);
-      onLine((line < 0 ? this.starts.length : line) - 1);
+      this.chooseOwn();
     });
+    this.onLine = onLine;
     this.area.addEventListener('pointermove', event => this.tellUnder(event));
     new ResizeObserver(() => this.draw()).observe(this.area);
     this.measure();
@@ -82,6 +82,12 @@ export class Editor {
     const height = parseFloat(getComputedStyle(this.area).lineHeight), top = line * height, { scrollTop, clientHeight } = this.area;
     if (line >= 0 && (top < scrollTop || top + 2 * height > scrollTop + clientHeight)) this.area.scrollTop = top - clientHeight / 3;
     this.draw();
+  }
+
+  /** Chooses the line on which the cursor is. */
+  chooseOwn() {
+    const at = this.area.selectionStart, line = this.starts.findIndex(start => start > at);
+    this.onLine((line < 0 ? this.starts.length : line) - 1);
   }
 
   /** Puts the cursor at a place and shows it. */

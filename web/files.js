@@ -49,8 +49,8 @@ async function takeProgram(bytes, name) {
   state.form = answer.isSame ? 'petcat' : 'text';
   showChoices();
   editor.replace(answer.isSame ? listing : answer.script);
-  tellOnce('file', answer.isSame ? `${name} is a saved program: here as petcat writes it, with names for codes and shifted characters.`
-    : `${name} is a saved program: here as a script, since it has something that petcat's text does not tell apart.`);
+  tellOnce('file', answer.isSame ? `${name} is a saved program. It is shown as petcat writes it, with names for codes and shifted characters.`
+    : `${name} is a saved program. It is shown as a script, since petcat's text of it would run as another program.`);
   return listingChanged();
 }
 
@@ -67,9 +67,9 @@ export function take(bytes, name, kind) {
       text = new TextDecoder('utf-8', { fatal: true }).decode(bytes);
     } catch {
       text = new TextDecoder('latin1').decode(bytes);
-      words = 'The file has bytes above 127 that are no UTF-8: each is shown here as the Latin-1 character with its number. ';
+      words = 'The file has bytes above 127 that are not UTF-8; each is shown as the Latin-1 character of that number. ';
     }
-    if (/\r(?!\n)/.test(text)) words += 'The file had carriage returns alone between lines; they are line ends here.';
+    if (/\r(?!\n)/.test(text)) words += 'The file has carriage returns without line feeds; they are shown as line ends.';
     editor.replace(text);
     tellOnce('lines', words);
     return listingChanged();
@@ -104,8 +104,8 @@ function signalFields(source) {
   ['ATN', 'CLOCK', 'DATA'].forEach((name, line) => {
     field(`${name} is`, source.names[line], input => { source.names[line] = input.value.trim() || name; });
   });
-  field('inverted', source.inverted, input => { source.inverted = input.checked; }, 'checkbox');
-  field('from', source.start, input => { source.start = Math.max(Math.floor(Number(input.value)) || 0, 0); });
+  field('inverted levels', source.inverted, input => { source.inverted = input.checked; }, 'checkbox');
+  field('starts at', source.start, input => { source.start = Math.max(Math.floor(Number(input.value)) || 0, 0); });
   fields.append('µs');
   return fields;
 }
@@ -178,12 +178,12 @@ export function leaveSource() {
 export function showSource(answer) {
   const { source } = state;
   document.body.classList.remove('stale');
-  const why = answer.code === 2 ? `It cannot be read to its end: ${answer.words}.` : answer.code > 2 ? 'There was no memory for it.' : '';
+  const why = answer.code === 2 ? `It cannot be read to its end: ${answer.words}.` : answer.code > 2 ? 'Memory ran out.' : '';
   const told = (answer.told || '').split('\n').map(line => line.trim()).filter(line => line && !/^[\^~]+$/.test(line));
   const verdict = !answer.verdict ? '' : answer.verdict === 'lawful' ? 'It is lawful.' : `${answer.verdict[0].toUpperCase()}${answer.verdict.slice(1)}.`;
   tellSource(why || verdict, told.length ? answer.told.replace(/\n$/, '') : '');
   if (answer.svg) showPaper(decode(answer.svg)); else clearPaper();
-  if (source.kind === 'raw') { showWire(null); cover('A printer\'s bytes alone: nothing is known of the wire.'); return; }
+  if (source.kind === 'raw') { showWire(null); cover('A printer\'s bytes have no trace.'); return; }
   cover('');
   showWire(answer);
 }

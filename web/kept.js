@@ -53,7 +53,7 @@ export function save() {
   const { form, printers, status, delays, lists } = state, listing = { text: editor.text, form, printers, status, delays, lists };
   const kept = store.set('listing', listing);
   own.set(listing);
-  notice('kept', kept ? '' : 'This listing is too long to be kept by the browser: save it as a file.');
+  notice('kept', kept ? '' : 'This listing is too long for the browser to keep. Save it as a file.');
   const turn = ++saves;
   return address().then(hash => {
     const plain = hash.length <= LINK_LIMIT ? hash : '';
@@ -114,7 +114,7 @@ export async function readAddress(hash) {
       delays: isWord ? delays : 'lists', lists: isWord ? ['', '', ''] : [...delays.split('/'), '', ''].slice(0, 3),
     };
   } catch {
-    tellOnce('link', 'The address holds a listing that cannot be read: a part of the link may be missing.');
+    tellOnce('link', 'The listing in this address cannot be read. A part of the link may be missing.');
     return null;
   }
 }

@@ -165,7 +165,7 @@ export const loadPrint1525 = (() => {
     25: 'no such character set', 28: 'no such input', 29: 'no such source', 30: 'no such stop', 31: 'no signal ATN', 32: 'no signal CLOCK',
     33: 'no signal DATA', 34: 'no level of ATN', 35: 'no level of CLOCK', 36: 'no level of DATA', 41: 'bad word', 42: 'no $end',
     43: 'no $enddefinitions', 44: 'no timescale', 45: 'bad time', 46: 'time goes back', 47: 'level x', 48: 'level z',
-    49: 'bad level', 50: 'no such sheet', 51: 'document too large', 60: 'no such form', 61: 'not a saved program', 62: 'cut off',
+    49: 'bad level', 50: 'no such sheet', 51: 'document too large', 52: 'bad character line', 60: 'no such form', 61: 'not a saved program', 62: 'cut off',
     63: 'unknown name', 64: 'bad byte', 70: 'bad timescale', 71: 'no time', 72: 'UTF-16 text', 73: 'zip archive',
     75: 'another signal ATN', 76: 'another signal CLOCK', 77: 'another signal DATA',
   };
@@ -188,7 +188,7 @@ export const loadPrint1525 = (() => {
   }
 
   const isEdge = fault => fault >= 11 && fault <= 16;
-  const isLine = fault => (fault >= 1 && fault <= 8) || (fault >= 31 && fault <= 49) || (fault >= 62 && ![72, 73].includes(fault));
+  const isLine = fault => (fault >= 1 && fault <= 8) || (fault >= 31 && fault <= 49) || fault === 52 || (fault >= 62 && ![72, 73].includes(fault));
   const isOfListing = fault => fault >= 60 && fault <= 64;
 
   function words({ code, fault, line, column, edge }) {
@@ -213,6 +213,13 @@ export const loadPrint1525 = (() => {
   // A format, and what of the pages it shows: one printer or all, one sheet or all.
   const partWords = ({ format = 'list', device = 0, sheet = 0 }) => [pageFormat(format), Number(device), BigInt(sheet)];
   const isPart = ({ device, sheet }) => Boolean(device || sheet);
+
+  // The call that draws a file of characters, and its further argument; an empty file means the module's own characters.
+  function drawing(name, { characters, device, sheet }) {
+    const file = characters ? bytesOf(characters) : new Uint8Array(0);
+    if (file.length && isPart({ device, sheet })) throw new Error('print1525: a device or a sheet alone is drawn with the module\'s own characters');
+    return file.length ? [`${name}_with`, [file]] : [name, []];
+  }
 
   // How many numbers there may be: as many as the lines of a text have room for.
   function roomOf(bytes, perLine) {
@@ -282,10 +289,11 @@ export const loadPrint1525 = (() => {
       words,
       // Which printers are present: 0 none, 1 printer 4, 2 printer 5, 3 both; whether the status is kept from statement to
       // statement (1) or not (0); the numbers of the delays of the computer, of printer 4 and of printer 5.
-      // `device` (4 or 5) and `sheet` (from 1) show a part of the pages, where the format can.
+      // `device` (4 or 5) and `sheet` (from 1) show a part of the pages, where the format can. `characters` is a file of the
+      // shapes of characters that pictures draw.
       pages(asked) {
-        const [script, , , ...delays] = scriptWords(asked), { printers = 3, status = 0 } = asked;
-        const whole = format => call('print1525_pages', [script, printers, status, ...delays, pageFormat(format)]);
+        const [script, , , ...delays] = scriptWords(asked), { printers = 3, status = 0 } = asked, [name, characters] = drawing('print1525_pages', asked);
+        const whole = format => call(name, [script, printers, status, ...delays, pageFormat(format), ...characters]);
         if (!isPart(asked)) return whole(asked.format || 'list');
         const ended = whole('list');
         if (ended.code > 1) return ended;
@@ -297,11 +305,14 @@ export const loadPrint1525 = (() => {
       listing: ({ bytes, form = 'text' }) => call('print1525_listing', [bytesOf(bytes), numberOf(form, ['text', 'prg', 'petcat'], 'form')]),
       // The bytes that a printer gets, and the character set before them: 0 graphic/upper case, 1 lower/upper case.
       raw: asked => {
-        const { bytes, set = 0, format = 'list' } = asked;
-        return isPart(asked) ? call('print1525_part_of_raw', [bytesOf(bytes), set, ...partWords(asked)]) : call('print1525_raw', [bytesOf(bytes), set, pageFormat(format)]);
+        const { bytes, set = 0, format = 'list' } = asked, [name, characters] = drawing('print1525_raw', asked);
+        return isPart(asked) ? call('print1525_part_of_raw', [bytesOf(bytes), set, ...partWords(asked)]) : call(name, [bytesOf(bytes), set, pageFormat(format), ...characters]);
       },
       // What a printer hears: 0 to 255 a byte, 256 and 257 the selection of the graphic/upper case or the lower/upper case set.
-      print: ({ inputs, format = 'list' }) => call('print1525_print', [Uint16Array.from(inputs), pageFormat(format)]),
+      print: asked => {
+        const { inputs, format = 'list' } = asked, [name, characters] = drawing('print1525_print', asked);
+        return call(name, [Uint16Array.from(inputs), pageFormat(format), ...characters]);
+      },
       check: ({ text }) => call('print1525_check', [bytesOf(text)]),
       // The frames of a trace in any format, or their story. With code 2 a story is what comes before the fault.
       report: asked => call('print1525_report', [...recordingWords(asked), asked.story ? 1 : 0]),

@@ -213,8 +213,8 @@ function showPrinters(printers, chosen) {
 
 /** What is written where there is no sheet. */
 function emptyWords() {
-  if (state.source) return 'No printer hears a byte of this.';
-  return editor.text.trim() ? 'No printer is on the bus: no sheet.' : 'Type a listing, open an example, or drop a file: what it prints is here.';
+  if (state.source) return 'No printer hears a byte of this file.';
+  return editor.text.trim() ? 'No printer is on the bus, so there is no sheet.' : 'Type a listing, or open an example or a file. Its pages appear here.';
 }
 
 let texts = 0;     // how often a text of the tabs became another one
@@ -269,7 +269,7 @@ function showScript(answer) {
   editor.area.setAttribute('aria-invalid', String(answer.code === 2));
   $('listing-facts').textContent = `${answer.milliseconds.toFixed(answer.milliseconds < 10 ? 1 : 0)} ms`;
   if (answer.code === 2) tellRefusal(answer, words);
-  else if (answer.code > 2) words('first', 'There was no memory for this.');
+  else if (answer.code > 2) words('first', 'Memory ran out.');
   else tellStatuses(answer, words);
   showScreen(answer.code <= 1 ? answer.screen : new Uint8Array(0));
   speakSoon();
@@ -288,15 +288,16 @@ function tellRefusal({ words: why, line, column, told, place, inPetcat }, words)
     const text = editor.line(line - 1), from = charactersOf(text, column - 1), brace = text[from] === '{' ? text.indexOf('}', from) : -1;
     return editor.tell(signs, titles, { line: line - 1, from, to: Math.max(brace, from) + 1, words: name, kind: 'refused' });
   }
-  // The explanation is the line, a caret, then the place with what is there and what can be there, then hints.
+  // The explanation is the line, a caret, then the place with what was expected and what is there, then hints.
   const [, , found, ...hints] = told.split('\n'), number = place.line - 1, text = editor.line(number);
   const from = inPetcat ? inPetcat.from : charactersOf(text, place.column - 1), isQuoted = (text.slice(0, from).split('"').length - 1) % 2 === 1;
   const width = isQuoted ? 1 : Math.max(place.width, /^[a-z]*/i.exec(text.slice(from))[0].length, 1), there = found.slice(found.indexOf(': ') + 2);
-  const expected = there.startsWith('"') ? there.slice(there.indexOf('": ') + 3) : there;
+  const [expected] = there.split(', found ');
   const first = words('first', `${upper} in line ${place.line}, column ${inPetcat ? from + 1 : place.column}`);
   first.append(' ', button('go there', () => editor.goTo(number, from)));
-  words('', there);
+  words('', `${there[0].toUpperCase()}${there.slice(1)}`);
   hints.filter(hint => hint.trim()).forEach(hint => words('', hint.trim()));
+  if (paper.picture) words('', 'The paper and the wire still show the run before.');
   signs[number] = 'refused';
   titles[number] = expected;
   editor.tell(signs, titles, { line: number, from, to: Math.min(from + width, Math.max(text.length, from + 1)), words: expected, kind: 'refused' });
@@ -329,7 +330,7 @@ function tellStatuses(answer, words) {
       note = { line, from: text.length - text.trimStart().length, to: text.trimEnd().length, words: name, kind: 'stopped' };
     }
   } else if (statuses.length) words('first', `${counted(statuses.length, 'statement')} done`);
-  else words('first', 'Nothing to do yet: type a listing, choose an example, or drop a file.');
+  else words('first', 'Nothing to print yet');
   const places = unanswered.slice(0, 4).map(index => isKnown ? `${index + 1} (line ${lines[index] + 1})` : index + 1).join(', ');
   const others = unanswered.length > 4 ? ` and ${spaced(unanswered.length - 4)} more` : '';
   if (unanswered.length) words('', `Status 128, no device answered: statement ${places}${others}`);
@@ -340,7 +341,7 @@ function tellStatuses(answer, words) {
 /** Where strings of a script have small letters or names in braces: what they print, and the reading that has them as typed. */
 function tellTyped(words) {
   if (state.form !== 'text' || !hasTyped(editor.text)) return;
-  const hint = 'Small letters print the printer\'s own code, and a name in braces prints its letters.';
+  const hint = 'Small letters print as graphics (as capitals in the lower/upper case set), and a name in braces as its letters.';
   words('', hint).append(' ', button('Read it as petcat\'s text', () => chooseForm('petcat')));
 }
 

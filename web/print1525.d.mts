@@ -45,6 +45,12 @@ export interface Part {
   sheet?: number | bigint;
 }
 
+/** What characters are drawn in svg, png and pdf. */
+export interface Drawn {
+  /** a file of the shapes of characters, as of the option --characters; without one, or with an empty one, the module's own. Not with a part of the pages */
+  characters?: Bytes;
+}
+
 export interface Recording {
   bytes: Bytes;
   /** a trace as `print1525 bus` writes it (the default), a Value Change Dump, or a table of samples */
@@ -93,15 +99,15 @@ export type Delay = 'Bb' | 'Aw' | 'Ne' | 'Ry' | 'S' | 'V' | 'R' | 'Cr' | 'At' | 
 
 export interface Print1525 {
   /** the pages of a script's run, or a part of them */
-  pages(asked: Run & Part): TextAnswer;
+  pages(asked: Run & Part & Drawn): TextAnswer;
   /** the trace of a script's run */
   bus(asked: Run & { format?: 'text' | 'vcd' }): TextAnswer;
   /** the text of the script that a listing says: the text itself, a saved program, or petcat's text */
   listing(asked: { bytes: Bytes; form?: 'text' | 'prg' | 'petcat' }): TextAnswer;
   /** the page of a printer's bytes, or a part of it; `set` 0 is graphic/upper case (the default), 1 lower/upper case */
-  raw(asked: { bytes: Bytes; set?: 0 | 1 } & Part): TextAnswer;
+  raw(asked: { bytes: Bytes; set?: 0 | 1 } & Part & Drawn): TextAnswer;
   /** the page of what a printer hears: bytes, and 256 and 257, which select the graphic/upper case or the lower/upper case set */
-  print(asked: { inputs: ArrayLike<number>; format?: PageFormat }): TextAnswer;
+  print(asked: { inputs: ArrayLike<number>; format?: PageFormat } & Drawn): TextAnswer;
   /** the frames of a trace text, if it is lawful */
   check(asked: { text: Bytes }): TextAnswer;
   /** the frames of a trace in any format, or their story; with code 2 a story is what comes before the fault */

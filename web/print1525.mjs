@@ -94,6 +94,7 @@ function foundSource(bytes, otherwise) {
   return front === ';' || front === '#' || /^[^,\n]*,/.test(text) ? 'csv' : otherwise;
 }
 
+const CHARACTERS_LIMIT = 65536;      // bytes of a file of characters
 const partOf = job => ({ device: job.device || 0, sheet: job.sheet || 0 });
 const runOf = job => ({ printers: job.present, status: job.status, delays: job.delays });
 const recordingOf = job => ({ input: job.from, names: job.names, inverted: job.inverted, start: job['from-time'] });
@@ -104,10 +105,24 @@ function explained(answer, call) {
   return answer.fault === 51 ? '' : Buffer.from(call().text).toString('latin1');
 }
 
+/** The file of characters that a job names, or throws the line that says why it has none. No other file is opened before. */
+function charactersOf(module, job, files) {
+  const { characters: name } = job;
+  if (name === null) return undefined;
+  if (job.name === 'decode' || job.device || job.sheet) {
+    throw new NoJob(2, 'print1525: here --characters goes with pages and raw, without --device and --sheet\n');
+  }
+  const bytes = trying(() => files.readAll(files.open(name), CHARACTERS_LIMIT), error => failedFile(name, error));
+  if (bytes.length > CHARACTERS_LIMIT) throw new NoJob(2, `print1525: ${shown(name)}: too large for a file of characters\n`);
+  const answer = bytes.length ? module.print({ inputs: [], characters: bytes }) : { code: 2, fault: 52, line: 1 };
+  if (answer.code) throw new NoJob(answer.code, `print1525: ${shown(name)}: ${module.words(answer)}\n`);
+  return bytes;
+}
+
 /** Calls the module for a job over an input: the answer, and what --explain says of it. */
-function answerOf(module, job, bytes) {
+function answerOf(module, job, bytes, characters) {
   if (job.name === 'raw') {
-    const answer = module.raw({ bytes, set: job.set, format: job.as, ...partOf(job) });
+    const answer = module.raw({ bytes, set: job.set, format: job.as, characters, ...partOf(job) });
     const hints = answer.code ? [] : isSaved(bytes) ? [SAVED_BYTES] : isDisk(bytes) ? [DISK_BYTES] : [];
     return { answer, explain: () => explained(answer, () => ({ text: '' })), hints };
   }
@@ -124,7 +139,7 @@ function answerOf(module, job, bytes) {
   const listing = job.from === 'text' ? { code: 0, text: bytes } : module.listing({ bytes, form: job.from });
   if (listing.code) return { answer: listing, explain: () => '', hints: hintsOnListing(listing, bytes) };
   const asked = { script: listing.text, ...runOf(job) }, { script } = asked;
-  const answer = job.name === 'pages' ? module.pages({ ...asked, format: job.as, ...partOf(job) }) : module.bus({ ...asked, format: job.as });
+  const answer = job.name === 'pages' ? module.pages({ ...asked, format: job.as, characters, ...partOf(job) }) : module.bus({ ...asked, format: job.as });
   const why = () => answer.code === 1 ? module.explainStop({ ...asked, stop: answer.fault, statement: answer.statement }) : module.explainScript({ script });
   return { answer, explain: () => explained(answer, why), hints: job.from === 'text' ? hintsOnScript(answer, bytes) : [] };
 }
@@ -145,9 +160,11 @@ async function makeFiles() {
     }
   }
 
-  function readAll(file) {
+  /** Reads a file to its end, or until it has more than some bytes. */
+  function readAll(file, limit = Infinity) {
     const parts = [], block = Buffer.allocUnsafe(65536);
-    for (let n; (n = whenReady(() => fs.readSync(file, block))) > 0;) parts.push(Buffer.from(block.subarray(0, n)));
+    let length = 0;
+    for (let n; length <= limit && (n = whenReady(() => fs.readSync(file, block))) > 0; length += n) parts.push(Buffer.from(block.subarray(0, n)));
     return new Uint8Array(Buffer.concat(parts));
   }
 
@@ -205,14 +222,15 @@ async function run(words, files) {
   const tell = text => { try { files.writeAll(2, Buffer.from(text)); } catch { /* there is nowhere to tell it */ } };
   const job = readJob(words, process.env.PRINT1525_EXPLAIN === '1');
   const inputFailed = error => (job.input === null ? failed('read failed') : failedFile(job.input, error));
+  const module = await openPrint1525(), characters = charactersOf(module, job, files);
   const outputFailed = error => (job.output === null || STANDARD_OUTPUT.includes(job.output) ? failed('write failed') : failedFile(job.output, error));
   if (job.input === null && process.stdin.isTTY) tell(`print1525: reading ${WAITS_FOR[job.name]} from the terminal; Ctrl-D on a new line ends it\n`);
   const input = job.input === null ? 0 : trying(() => files.open(job.input), inputFailed);
   const standard = { write: bytes => files.writeAll(1, bytes), keep() {}, discard() {} };
   const output = job.output === null || STANDARD_OUTPUT.includes(job.output) ? standard : trying(() => files.save(job.output), outputFailed);
   try {
-    const bytes = trying(() => files.readAll(input), inputFailed), module = await openPrint1525();
-    const { answer, explain, hints } = answerOf(module, job, bytes);
+    const bytes = trying(() => files.readAll(input), inputFailed);
+    const { answer, explain, hints } = answerOf(module, job, bytes, characters);
     trying(() => output.write(answer.text), outputFailed);
     if (answer.code > 1) tell(`print1525: ${module.words(answer)}\n`);
     if (job.isExplained) tell((answer.code && answer.code < 3 ? explain() : '') + hints.map(hint => `  ${hint}\n`).join(''));

@@ -29,9 +29,11 @@ function printedSheet(svg, { sheet, index }) {
 function printedPages(svg, picture) {
   const sheets = printedSheets(picture), shapes = /<defs>[^]*?<\/defs>/.exec(svg)?.[0] || '';
   const more = sheets.length - MOST_PAGES;
-  const words = more > 0 ? `<p>${more} more sheets are not printed from here: save the pages as a PDF or a picture.</p>` : '';
+  const words = more > 0 ? `<p>${more} more sheets are not printed from here. Save the pages as a PDF document and print that.</p>` : '';
   return `<svg class="shapes">${shapes}</svg>${sheets.slice(0, MOST_PAGES).map(one => printedSheet(svg, one)).join('')}${words}`;
 }
 
-addEventListener('beforeprint', () => { if (paper.picture) $('printed').innerHTML = printedPages(paper.text, paper.picture); });
+addEventListener('beforeprint', () => {
+  $('printed').innerHTML = paper.picture?.sheets.length ? printedPages(paper.text, paper.picture) : '<p>There is no sheet to print.</p>';
+});
 addEventListener('afterprint', () => { $('printed').replaceChildren(); });

@@ -3,7 +3,7 @@
 export const HIGHEST = 15e6;         // pixels: the highest element that browsers lay out
 
 export class Reader {
-  /** Shows texts in an element that scrolls. `onLine` gets the index of a line that is clicked or chosen with Enter. */
+  /** Shows texts in an element that scrolls. `onLine` gets the index of a line that is clicked. */
   constructor(element, onLine = null) {
     this.element = element;
     this.onLine = onLine;

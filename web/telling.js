@@ -21,8 +21,8 @@ export function traceSoon(version, length) {
   offerWire(false);
   if (length > AUTOMATIC) {
     showWire(null);
-    const make = button('Make it', () => { cover('Making the trace …'); trace(version); });
-    return cover(`The trace of this listing is long (some ${counted(Math.round(length * 3e-4), 'megabyte')}).`, [make]);
+    const make = button('Make the trace', () => { cover('Making the trace …'); trace(version); });
+    return cover(`The trace of this listing is long (about ${counted(Math.round(length * 3e-4), 'megabyte')}).`, [make]);
   }
   waitingTrace = setTimeout(() => trace(version), 90);
 }
@@ -44,7 +44,7 @@ async function trace(version) {
     state.taken = answer.delays;
     cover('');
     if (answer.code <= 1) showWire(answer);
-    else { showWire(null); cover(answer.code === 3 ? 'There was no memory for the trace.' : 'There is no trace.'); }
+    else { showWire(null); cover(answer.code === 3 ? 'Memory ran out, so there is no trace.' : 'There is no trace.'); }
   } catch (error) {
     tellFailed(error);
   }
@@ -92,7 +92,7 @@ function showIntervals(answer) {
       line.append(made);
     });
   };
-  row('th', ['Interval, in µs', 'bytes', 'least', 'middle', 'greatest', 'the profile has', 'outside']);
+  row('th', ['Interval, in µs', 'bytes', 'least', 'middle', 'greatest', 'allowed', 'outside']);
   for (const { name, count, least, middle, greatest, from, to, outside } of answer.intervals) {
     if (!count) { row('td', [name, '–', '', '', '', '', '']); continue; }
     const bounds = `${from} to ${to}`, beyond = outside ? spaced(outside) : '–';
@@ -109,11 +109,13 @@ function showIntervals(answer) {
 const boundsWords = bounds => bounds ? ` (${bounds[0]} to ${bounds[1]})` : '';
 const named = ({ name, bit }) => bit ? `${name} of bit ${bit - 1}` : name;
 
+const HINTS = ['Point at the wave for its intervals; click a frame for its marks.', 'Tap a frame for its marks.'];
+
 /** Shows what is under the pointer on the wave. */
 export function tellUnder(under) {
   const line = $('under');
   line.className = '';
-  if (!under) { line.textContent = wave.frames.length ? 'Point at the wave for its intervals; click a frame for its marks.' : ''; return; }
+  if (!under) { line.textContent = wave.frames.length ? HINTS[Number(matchMedia('(pointer: coarse)').matches)] : ''; return; }
   const moment = `${spaced(Math.round(under.moment))} µs`, { part, level, wire } = under;
   if (part) {
     const long = part.to - part.from, bad = part.bounds && (long < part.bounds[0] || long > part.bounds[1]);

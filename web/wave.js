@@ -6,6 +6,8 @@ import { ATN, CLOCK, DATA, edgeAt, frameAt, intervalsBetween, intervalsIn } from
 
 const WIRES = [{ name: 'ATN', bit: ATN }, { name: 'CLOCK', bit: CLOCK }, { name: 'DATA', bit: DATA }];
 const NAMES_WIDTH = 58, RIGHT = 10;
+const LEAST_WIDTH = 28;        // pixels: what a letter between its marks needs
+const NAME_WIDTH = 64;         // pixels: what the name of a frame needs
 
 /** A number with thin spaces between its thousands. */
 export const spaced = number => String(number).replace(/\B(?=(\d{3})+$)/g, '\u2009');
@@ -55,10 +57,10 @@ export class Wave {
 
   /** The beginning of a long wave, or all of a short one. */
   front() {
-    // (a frame's name wants some 70 pixels)
-    const room = Math.min(Math.max(Math.floor(this.width / 70), 3), 14), some = this.frames[Math.min(room - 2, 9, this.frames.length - 1)];
+    // The shortest of the first frames has room for its name.
+    const lengths = this.frames.slice(0, 10).filter(({ end, byte }) => byte !== null && Number.isFinite(end)).map(({ look, end }) => end - look);
     this.moved = false;
-    this.see(this.begin, this.frames.length > room ? Math.min(some.end + 400, this.end) : this.end, false);
+    this.see(this.begin, Math.min(this.begin + Math.min(...lengths) * Math.max(this.width / NAME_WIDTH, 1), this.end), false);
   }
 
   all() { this.see(this.begin, this.end); }
@@ -85,7 +87,9 @@ export class Wave {
     const frame = this.frames[index];
     if (frame) {
       const end = Number.isFinite(frame.end) ? frame.end : frame.look + 1000, long = end - frame.look;
-      if (this.to - this.from > long * 60 || this.to - this.from < long * 1.2) this.see(frame.look - long * 1.5, end + long * 1.5);
+      // (where the frame is too narrow for its name, or wider than what is seen)
+      const seen = this.to - this.from, around = long * Math.max(this.width / NAME_WIDTH - 1, 3) / 2;
+      if (seen > long * Math.max(this.width / LEAST_WIDTH, 4) || seen < long * 1.2) this.see(frame.look - around, end + around);
       else if (frame.look < this.from || end > this.to) this.see(frame.look + (long - this.to + this.from) / 2, frame.look + (long + this.to - this.from) / 2);
     }
     this.draw();

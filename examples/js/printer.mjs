@@ -9,8 +9,10 @@ const GRAPHIC = 256, LOWER = 257;      // what a LISTEN selects: the graphic/upp
 
 /** A VIC-1525 on an emulator's bus. */
 export class Printer {
-  constructor(module) {
+  /** `characters` is a file of the shapes of characters, as of the option --characters; without one the module's own are drawn. */
+  constructor(module, characters = new Uint8Array(0)) {
     this.module = module;
+    this.characters = characters;
     this.inputs = [];
   }
 
@@ -22,7 +24,7 @@ export class Printer {
 
   /** What is on its paper: 'svg' and 'png' for a screen, 'pdf' to be printed, 'text' for a terminal. */
   paper(format = 'svg') {
-    const answer = this.module.print({ inputs: this.inputs, format });
+    const answer = this.module.print({ inputs: this.inputs, format, characters: this.characters });
     if (answer.code) throw new Error(`print1525: ${this.module.words(answer)}`);
     return answer.text;
   }
@@ -31,7 +33,9 @@ export class Printer {
   tear() { this.inputs = []; }
 }
 
-if (typeof process === 'object' && process.argv[1] === new URL(import.meta.url).pathname) {
+const isProgram = async () => typeof process === 'object' && process.argv[1] && (await import('node:url')).pathToFileURL(process.argv[1]).href === import.meta.url;
+
+if (await isProgram()) {
   const { readFileSync, writeFileSync } = await import('node:fs');
   const printer = new Printer(await openPrint1525());
   printer.listen(0);

@@ -82,6 +82,15 @@ fn with_bar() -> Shapes {
     shapes
 }
 
+/// The first bytes of a text, or all where there are fewer.
+fn front(text: &[u8], count: usize) -> &[u8] {
+    if count < text.len() {
+        &text[..count]
+    } else {
+        text
+    }
+}
+
 /// Whether a file gives these shapes.
 fn gives(text: &[u8], wanted: &Shapes) -> bool {
     match read_shapes(text) {
@@ -97,7 +106,7 @@ fn files_of_shapes(rt: HostRuntime) {
         let text = file_of(rt.alloc(), &shapes).expect(&rt, "memory");
         assert!(&rt; text.len() == 14_976);
         assert!(&rt; gives(text.as_slice(), &shapes));
-        assert!(&rt; gives(&text[..14_975], &shapes));
+        assert!(&rt; gives(front(text.as_slice(), 14_975), &shapes));
     }
 }
 
@@ -178,7 +187,7 @@ fn bad_lines(rt: HostRuntime) {
 fn lines_missing_and_more(rt: HostRuntime) {
     let mut text = file_of(rt.alloc(), &Shapes::own()).expect(&rt, "memory");
     assert!(&rt; text.len() == 14_976);
-    assert!(&rt; is_bad(&text[..14_969], 2048));
+    assert!(&rt; is_bad(front(text.as_slice(), 14_969), 2048));
     text.push(b'\n').expect(&rt, "memory");
     assert!(&rt; is_bad(text.as_slice(), 2049));
     let said = format!(in rt.alloc(); "{}", CharactersFault::BadLine(268)).expect(&rt, "memory");

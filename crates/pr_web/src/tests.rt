@@ -231,7 +231,7 @@ fn explanations(rt: HostRuntime) {
     let (atn, clock, line) = NAMES;
     print1525_explain_script(rt.alloc(), b"OPEN 4,4\nPRUNT", &mut out, &mut answer);
     assert!(rt; answer.code == 0 && answer.place == 2);
-    assert!(rt; out.starts_with(b"  PRUNT\n  ^\n  line 2, column 1: \"PRUNT\": "));
+    assert!(rt; out.starts_with(b"  PRUNT\n  ^\n  line 2, column 1: expected "));
     print1525_explain_stop(rt.alloc(), b"PRINT#5", 0, 3, 1, 1, 1, &mut out, &mut answer);
     assert!(rt; answer.code == 0 && answer.place == 1);
     assert!(rt; out.starts_with(b"?FILE NOT OPEN  ERROR (statement 1)\n  line 1: PRINT#5\n"));

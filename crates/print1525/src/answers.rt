@@ -1,21 +1,19 @@
 //! A task done: its files opened, its job done over them, and what there is to tell on standard error.
 
 ghost use Rattle.std.specs.Prelude.{◌≡◌};
-ghost use Rattle.print1525.specs.Statuses.{fault_status, text_status};
+ghost use Rattle.print1525.specs.Statuses.{answer_status, fault_status, text_status};
 
 use crate::characters::shapes_for;
-use crate::jobs::do_job;
+use crate::jobs::{Answer, do_job, found_job};
 use crate::progress::{Progress, clear};
 use crate::shown::Shown;
 use crate::statuses::{FAILED, ending_status, fault_status, is_answered, text_status};
-use crate::told::{subject_of, tell_listing, tell_more};
-use pr_capture::TraceInput;
-use pr_cli::{CliFault, SCRIPT_LIMIT, TeeReader, Watched};
+use crate::told::{heard_told, subject_of, tell_listing, tell_more};
+use pr_cli::{CliFault, Ending, SCRIPT_LIMIT, TeeReader, Watched};
 use pr_dots::Shapes;
 use pr_files::{Noting, save};
 use pr_listing::{ListingForm, TextFault, read_text};
-use pr_options::{Job, Task, found_source};
-use pr_render::Format;
+use pr_options::{Job, Task};
 use std::alloc::Global;
 use std::cell::Cell;
 use std::fs::{File, Files};
@@ -166,8 +164,8 @@ fn answer_job<R: Read + Drop, W: Write + Drop>(
     work: Work<'_>,
     aside: Aside<'_>,
 ) -> (u8, W) {
-    if let Some(reading) = reading_to_find(&work) {
-        return answer_recording(rt, reader, writer, names, reading, aside);
+    if is_to_find(&work.job) {
+        return answer_recording(rt, reader, writer, names, work, aside);
     }
     let form = form_of(&work.job);
     if form == ListingForm::Text {
@@ -176,28 +174,9 @@ fn answer_job<R: Read + Drop, W: Write + Drop>(
     answer_listing(rt, reader, writer, names, form, work, aside)
 }
 
-/// The recording of which a job has to find the format.
-fn reading_to_find<'a>(work: &Work<'a>) -> Option<Reading<'a>> {
-    match &work.job {
-        Job::Decode {
-            is_found: true,
-            input,
-            format,
-        } => Some(Reading {
-            input: *input,
-            format: *format,
-            shapes: work.shapes,
-        }),
-        _ => None,
-    }
-}
-
-/// A recording whose format is to be found, the format of what is written, and the shapes of its characters.
-#[derive(Clone, Copy)]
-struct Reading<'a> {
-    input: TraceInput<'a>,
-    format: Format,
-    shapes: &'a Shapes,
+/// Whether a job has to find the format of its recording.
+fn is_to_find(job: &Job<'_>) -> bool {
+    matches!(job, Job::Decode { is_found: true, .. })
 }
 
 /// Does a job of `decode` in the format that the first bytes show.
@@ -206,26 +185,15 @@ fn answer_recording<R: Read + Drop, W: Write + Drop>(
     reader: R,
     writer: W,
     names: Names<'_>,
-    reading: Reading<'_>,
+    work: Work<'_>,
     aside: Aside<'_>,
 ) -> (u8, W) {
     let mut input = Watched::new(Noting::new(reader));
     match read_first(rt.alloc(), &mut input) {
         Ok(first) => {
-            let source = found_source(reading.input.source, first.as_slice());
-            let job = Job::Decode {
-                is_found: false,
-                input: TraceInput {
-                    source,
-                    signals: reading.input.signals,
-                    start: reading.input.start,
-                    rate: reading.input.rate,
-                },
-                format: reading.format,
-            };
             let work = Work {
-                job,
-                shapes: reading.shapes,
+                job: found_job(work.job, first.as_slice()),
+                shapes: work.shapes,
             };
             let whole = first.as_slice().chain(input.into_inner());
             answer_over(rt, whole, writer, names, work, aside)
@@ -318,7 +286,7 @@ fn answer_over<R: Read + Drop, W: Write + Drop>(
     let input = input.into_inner();
     let output = output.into_inner();
     let status = match answer {
-        Ok(ending) => ending_status(ending),
+        Ok(answer) => tell_answer(rt, answer),
         Err(CliFault::ReadFailed) => tell_failed(
             rt,
             CliFault::ReadFailed,
@@ -331,9 +299,33 @@ fn answer_over<R: Read + Drop, W: Write + Drop>(
         Err(fault) => tell(rt, fault),
     };
     if let Some(bytes) = input.into_inner().into_bytes() {
-        tell_more(rt, bytes.as_slice(), subject, answer);
+        tell_more(rt, bytes.as_slice(), subject, ending_of(answer));
     }
     (status, output.into_inner())
+}
+
+/// How a job ended, or its fault.
+fn ending_of(answer: Result<Answer, CliFault>) -> Result<Ending, CliFault> {
+    match answer {
+        Ok(Answer::Ended(ending) | Answer::Heard(ending, _)) => Ok(ending),
+        Err(fault) => Err(fault),
+    }
+}
+
+/// Gives the exit status of a job that ended so. Where its bytes do not say in which character set a printer prints
+/// them, tells that in one line on standard error.
+fn tell_answer(rt: &impl Eprint, answer: Answer) -> u8
+    ensures { result ≡ answer_status answer }
+{
+    match answer {
+        Answer::Ended(ending) => ending_status(ending),
+        Answer::Heard(ending, heard) => {
+            if let Some(line) = heard_told(heard) {
+                let _ = rt.eprintln(format_args!("print1525: {line}"));
+            }
+            ending_status(ending)
+        }
+    }
 }
 
 /// Tells in one line on standard error why a listing has no text, and gives the exit status.

@@ -20,7 +20,7 @@ pub fn shapes_for(
     rt: &(impl Files + Eprint + AllocGlobal),
     name: Option<&str>,
 ) -> Result<Shapes, u8>
-    ensures own { name ≡ None → result ≡ Ok own_shapes }
+    ensures own { name.entry ≡ None → result ≡ Ok own_shapes }
 {
     let Some(name) = name else {
         return Ok(Shapes::own());
@@ -37,7 +37,7 @@ fn shapes_from<R: Read + Drop>(
     file: R,
     name: &str,
 ) -> Result<Shapes, u8>
-    ensures { IfSome (R.remaining file.entry) (λ text. GivesShapes text result) }
+    ensures { IfSome (R.remaining file) (λ text. GivesShapes text result) }
 {
     let mut input = Watched::new(Noting::new(file));
     match read_characters(rt.alloc(), &mut input) {

@@ -6,5 +6,5 @@ use Rattle.pr_recording.proofs.pages.write_pages.Goals as goal
 pub returns-in-Err-clause-written : goal.returns-in-Err-clause-written
 returns-in-Err-clause-written g c =
     let e : text_of_print c.args.shapes.now c.args.format c.args.printed ≡ Ok c.in_ok-text.text =
-    sym (ap (λ o. text_in c.args.shapes.now c.args.format c.args.printed.pages.present o) c.papers_alone.ensures) ∙ c.in_ok-text.ensures in
+    sym (ap (λ o. text_in c.args.shapes.now c.args.format c.args.printed.pages.present o) c.papers_alone-outcome.ensures) ∙ c.in_ok-text.ensures in
     (c.in_ok-text.text, e, c.in-Err.ensures.err)
