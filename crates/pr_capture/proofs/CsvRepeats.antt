@@ -95,12 +95,12 @@ record IsFrontPart (behind : List ℕ) : Type 0 where
   rest : List ℕ
   all : behind ≡ front ++ rest
   long : length front ≡ decimals_len behind
-  is : parts ≡ decimals_in behind
+  cut : drop 1 front ≡ parts
   plain : list_all is_plain front ≡ true
   tail : IsTail parts front
 
 front-part : (behind : List ℕ) → IsFrontPart behind
-front-part [] = record { front = []; parts = []; rest = []; all = refl; long = refl; is = refl; plain = refl; tail = tail-of-none }
+front-part [] = record { front = []; parts = []; rest = []; all = refl; long = refl; cut = refl; plain = refl; tail = tail-of-none }
 front-part (b ∷ bs) = by (b == 46) refl
   where
     by : (t : Bool) → (b == 46) ≡ t → IsFrontPart (b ∷ bs)
@@ -117,14 +117,14 @@ front-part (b ∷ bs) = by (b == 46) refl
           rest = drop places bs;
           all = ap (λ v. v ∷ bs) point ∙ ap (λ v. 46 ∷ v) (sym (take-append-drop places bs));
           long = rw e long;
-          is = rw e refl;
+          cut = refl;
           plain = all-of is_digit is_plain digit-is-plain parts decimals;
           tail = tail-of-point parts decimals;
         }
-    by false e = record { front = []; parts = []; rest = b ∷ bs; all = refl; long = rw e refl; is = rw e refl; plain = refl; tail = tail-of-none }
+    by false e = record { front = []; parts = []; rest = b ∷ bs; all = refl; long = rw e refl; cut = refl; plain = refl; tail = tail-of-none }
 
 -- digits in front of a text, and what follows them
-pub plain-front : (len count : ℕ) (text decimals : List ℕ) → count ≡ prefix_len is_digit text → 0 < length (take count text) → decimals ≡ decimals_in (drop count text)
+pub plain-front : (len count : ℕ) (text decimals : List ℕ) → count ≡ prefix_len is_digit text → 0 < length (take count text) → decimals ≡ drop 1 (take (decimals_len (drop count text)) (drop count text))
     → len ≡ count + decimals_len (drop count text) → IsPlainTime (take len text) (take count text) decimals
 plain-front len count text decimals c some d l =
     let whole : List ℕ = take count text in
@@ -138,7 +138,9 @@ plain-front len count text decimals c some d l =
     ap (λ i. take i text) n ∙ (ap (take (length (whole ++ p.front))) all ∙ take-append_seam (whole ++ p.front) p.rest) in
     let P : List ℕ → Type 0 = λ v. IsPlainTime v whole p.parts in
     let Q : List ℕ → Type 0 = λ v. IsPlainTime (take len text) whole v in
-    subst Q (p.is ∙ sym d) (subst P (sym front) (plain-read whole p.parts p.front digits p.plain some p.tail))
+    let own : take (decimals_len (drop count text)) (drop count text) ≡ p.front =
+    ap (λ i. take i (drop count text)) (sym p.long) ∙ (ap (take (length p.front)) p.all ∙ take-append_seam p.front p.rest) in
+    subst Q (sym (d ∙ (ap (drop 1) own ∙ p.cut))) (subst P (sym front) (plain-read whole p.parts p.front digits p.plain some p.tail))
 
 -- Rows.
 

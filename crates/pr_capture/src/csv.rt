@@ -387,6 +387,7 @@ impl Moment {
     }
 
     /// That of a row with this time.
+    #[inline(always)]
     pub fn at(self, number: usize, time: Option<Instant>) -> Result<Moment, CaptureFault>
         ensures { result ≡ moment_at number self time }
     {
@@ -404,6 +405,7 @@ impl Moment {
     }
 
     /// That of the next row at a rate.
+    #[inline(always)]
     pub fn next(self, number: usize, rate: u64) -> Result<Moment, CaptureFault>
         ensures { result ≡ moment_next number self (time_at_rate rate self.count) }
     {
@@ -642,6 +644,7 @@ impl<'a> CsvReader<'a> {
     /// Takes the row in front of a block, if no line has begun, a whole row is there and it goes on as the last
     /// row does: a quick way for most rows where nothing changes. Gives its length, with the end of its line,
     /// and its sample. It takes no memory.
+    #[inline(always)]
     fn take_repeat(&mut self, block: &[u8]) -> Option<(usize, Edge)>
         // the caller's part
         requires few { line_number self.old + 1 < 2 ^ 64 }

@@ -50,6 +50,7 @@ fn tail_at(layout: Layout, line: &[u8]) -> Option<usize>
 }
 
 /// Whether these bytes and the end of a line are in front of a text.
+#[inline(always)]
 fn leads(tail: &[u8], text: &[u8]) -> bool
     ensures front { IsTrue result → take (length tail.now + 1) text.now ≡ tail.now ++ 10 ∷ [] }
     ensures within { IsTrue result → length tail.now + 1 ≤ length text.now }
@@ -64,6 +65,7 @@ fn leads(tail: &[u8], text: &[u8]) -> bool
 }
 
 /// The row of a moment, if there is one, and levels.
+#[inline(always)]
 fn row_if(moment: Result<Moment, CaptureFault>, levels: Levels) -> Option<Row>
     ensures { result ≡ row_if moment levels }
 {
@@ -123,6 +125,7 @@ impl LastRow {
 
     /// The row in front of a block, with the length of its line and the line's end, if a whole row is there,
     /// its time is plain, and it goes on as the last row does.
+    #[inline(always)]
     pub fn repeat(
         &self,
         layout: Layout,

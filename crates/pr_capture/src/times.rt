@@ -307,12 +307,12 @@ pub fn plain_in(text: &[u8]) -> Option<PlainTime<'_>>
     if whole.is_empty() {
         return None;
     }
-    let decimals = decimals_in(&text[count..]);
-    let len = count + decimals_len(&text[count..]);
+    let behind = &text[count..];
+    let len = decimals_len(behind);
     Some(PlainTime {
-        len,
+        len: count + len,
         whole,
-        decimals,
+        decimals: behind_first(&behind[..len], 1),
     })
 }
 

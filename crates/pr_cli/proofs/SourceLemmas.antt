@@ -1,6 +1,6 @@
 -- A reader of a trace in any format, by the readers of each.
 use Rattle.std.proofs.Common.{◌≡◌, ◌⊎◌, inl, inr, ℕ, List, ◌++◌, refl, ap, sym, subst, ◌∙◌, append-nil, Option, Some, None, Result, Ok, Err}
-use Rattle.std.specs.Prelude.{IfErr, IsErrAnd, option_map}
+use Rattle.std.specs.Prelude.{IfErr, IfSome, IsErrAnd, option_map, take}
 use Rattle.std.specs.Option.{option_to_list}
 use Rattle.pr_wire.specs.declared.Edge.{Edge}
 use Rattle.pr_wire.specs.declared.reader.TraceReader.{TraceReader}
@@ -56,6 +56,12 @@ vcd_more old new bytes e more = λ input t samples h.
 pub csv_repeats : (old new : CsvReader) (bytes : List ℕ) (last : Edge) → csv.SkipsRows bytes last old new → GivesRepeats bytes last (reader.Csv old) (reader.Csv new)
 csv_repeats old new bytes last skips = λ input t samples h.
     let k = skips input.signals input.rate t samples h.1 in (k.between, k.same, (h.0, k.read))
+
+-- if there are some
+pub csv_repeats_if : (old new : CsvReader) (r : SourceReader) (block : List ℕ) (o : Option (ℕ × Edge)) → r ≡ reader.Csv old → IfSome o (λ v. csv.SkipsRows (take v.0 block) v.1 old new)
+    → IfSome o (λ v. GivesRepeats (take v.0 block) v.1 r (reader.Csv new))
+csv_repeats_if old new r block None is h = tt
+csv_repeats_if old new r block (Some v) is h = rw is (csv_repeats old new (take v.0 block) v.1 h)
 
 -- the format is known
 in_format : (input : TraceInput) (s : Source) (t : List ℕ) (samples : List Edge) (fault : Option CliFault) → input.source ≡ s → SaysSamples input s t samples fault
