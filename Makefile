@@ -62,6 +62,7 @@ outside: build lib $(TESTS)
 	@cases/run $(PROGRAM) cases tests/cases
 	@tests/documents $(PROGRAM)
 	@tests/listings.py $(PROGRAM)
+	@tests/recordings.py $(PROGRAM) 300
 	@cases/made --check
 	@cases/reach --check
 
@@ -94,6 +95,7 @@ peer: build lib
 	@tests/replaced $(PROGRAM)
 	@tests/watched $(LIBRARY)
 	@tests/peer $(PROGRAM)
+	@tests/recordings.py $(PROGRAM) 10000 301
 	@tests/pictures $(PROGRAM)
 	@tests/printed $(PROGRAM)
 

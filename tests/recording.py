@@ -286,4 +286,5 @@ def main():
         print(time, levels)
 
 
-main()
+if __name__ == "__main__":
+    main()

@@ -11,3 +11,8 @@ pub mod Adding
 pub mod BusPrinting
 pub mod Taken
 pub mod Traces
+pub mod Logging
+pub mod Capturing
+pub mod Overhearing
+pub mod RunLogging
+pub mod RunAnswering

@@ -6,3 +6,8 @@ pub mod Copying
 pub mod Laws
 pub mod PrintedPages
 pub mod Taking
+pub mod Bytes
+pub mod Logged
+pub mod Captured
+pub mod RunBytes
+pub mod RunLogged

@@ -5,10 +5,12 @@ ghost use Rattle.pr_wire.specs.declared.Edge.{Edge};
 ghost use Rattle.pr_wire.specs.declared.Frame.{Frame};
 ghost use Rattle.pr_wire.specs.Following.{HasFollowed};
 ghost use Rattle.pr_report.specs.Taking.{HasSeen};
+ghost use Rattle.pr_recording.specs.declared.wording.Wording.{Wording};
 ghost use Rattle.pr_recording.specs.Decoded.{stop_at};
 ghost use Rattle.pr_recording.specs.Narrated.{EndsEdges, GivesUp, HasNarrated, IsFollowed, NarratesMore, lines_in, load};
 
 use crate::reading_log::ReadingLog;
+use crate::wording::Wording;
 use pr_cli::CliFault;
 use pr_decode::{Decoder, GoesBack, readings_add_up};
 use pr_report::LinesSeen;
@@ -38,22 +40,22 @@ pub struct DecodeReport {
 }
 
 impl DecodeReport {
-    /// A report that has taken no edge.
-    pub fn new(alloc: Global) -> Result<DecodeReport, AllocError>
-        ensures narrated { IfOk result (λ report. HasNarrated [] [] report) }
+    /// A report that has taken no edge, and writes readings so.
+    pub fn new(alloc: Global, wording: Wording) -> Result<DecodeReport, AllocError>
+        ensures narrated { IfOk result (λ report. HasNarrated wording [] [] report) }
         ensures load { IfOk result (λ report. load report ≡ 0) }
     {
         Ok(DecodeReport {
             decoder: Decoder::new(),
             follower: TraceFollower::new(),
             seen: LinesSeen::new(),
-            log: ReadingLog::new(alloc)?,
+            log: ReadingLog::new(alloc, wording)?,
             taken: 0,
             back: None,
         })
     }
 
-    /// Takes the next edge. Preceding one at which time goes back it takes none.
+    /// Takes the next edge. After one at which time goes back it takes none.
     fn take(&mut self, edge: Edge) -> Result<(), AllocError>
         requires room { load self.old + 3 < 2 ^ 64 }
         ensures narrated { OnOk result (NarratesMore (edge ∷ []) self.old self.new) }
@@ -107,8 +109,8 @@ impl DecodeReport {
     /// cuts, the summary, the verdict and what is odd are told.
     pub fn finish(mut self, own: Option<CliFault>) -> Result<Ended, AllocError>
         requires room { load self + 3 < 2 ^ 64 }
-        ensures { IfOk result (λ ended. (edges : List Edge) (written : List ℕ) → HasNarrated edges written self →
-            EndsEdges edges written own ended) }
+        ensures { IfOk result (λ ended. (wording : Wording) (edges : List Edge) (written : List ℕ) →
+            HasNarrated wording edges written self → EndsEdges wording edges written own ended) }
     {
         readings_add_up();
         let stop = stop_at(self.back, own);
@@ -118,8 +120,8 @@ impl DecodeReport {
         }
         let cut = self.decoder.finish();
         self.log.push_if(cut)?;
-        let verdict = self.follower.finish().err();
-        let lines = self.log.finish(verdict, self.seen)?;
+        let fault = self.follower.finish().err();
+        let lines = self.log.finish(fault, self.seen)?;
         Ok(Ended { lines, stop: None })
     }
 }

@@ -132,5 +132,6 @@ pub fn input_for<'a>(
             is_inverted,
         },
         start,
+        rate: None,
     }
 }

@@ -2,17 +2,18 @@ use Rattle.std.proofs.Common.{◌≡◌, ap, arith, false, length, refl, rules, 
 use Rattle.pr_cli.specs.Inputs.{edges_read}
 use Rattle.pr_cli.specs.InputReads.{StopsWell}
 use Rattle.pr_recording.specs.Narrated.{NarratesMore}
-use Rattle.pr_recording.proofs.Answering.{at_first, at_last, last_stop, no_write, partly, reading_fault, refused, told_all, told_before, told_none, told_written, unwritten}
+use Rattle.pr_cli.specs.declared.fault.CliFault.TheVariants.{NoMemory}
+use Rattle.pr_recording.proofs.Answering.{at_first, at_last, failed_read, last_stop, no_write, partly, reading_fault, refused, told_all, told_before, told_none, told_written, unwritten}
 use Rattle.pr_recording.proofs.Coming.{Laws}
 use Rattle.pr_recording.proofs.decode.decode_input.Goals as goal
 
 pub returns-in_err-report-clause-decode : goal.returns-in_err-report-clause-decode
 returns-in_err-report-clause-decode g c =
-    at_first c.read_edges_come_first.ensures.some c.args.limit (g.R.Read.remaining c.args.input.now.inner) (g.W.Write.contents c.args.output.now.inner) c.args.trace c.from_residual.result c.from_residual.ensures.1
+    at_first c.read_edges_come_first.ensures.some c.args.wording c.args.limit (g.R.Read.remaining c.args.input.now.inner) (g.W.Write.contents c.args.output.now.inner) c.args.trace c.from_residual.result c.from_residual.ensures.1
 
 pub pieces-init : goal.pieces-init
 pieces-init g c = record {
-  read = told_none c.args.limit (g.R.Read.remaining c.args.input.now.inner) (g.W.Write.contents c.args.output.now.inner) c.args.trace c.new-reader.result c.in_ok-report.report
+  read = told_none c.args.wording c.args.limit (g.R.Read.remaining c.args.input.now.inner) (g.W.Write.contents c.args.output.now.inner) c.args.trace c.new-reader.result c.in_ok-report.report
       (c.new-reader.ensures.read (g.R.Read.remaining c.args.input.now.inner)) c.new-reader.ensures.edges c.in_ok-report.ensures.narrated;
   faultless = c.new-reader.ensures.open;
   lines = c.new-reader.ensures.lines;
@@ -25,7 +26,7 @@ pieces-init g c = record {
 pub returns-in_err-read_block-clause-decode : goal.returns-in_err-read_block-clause-decode
 returns-in_err-read_block-clause-decode g c =
     let laws : Laws = record { more = c.readings_add_up.ensures.more; cut = c.readings_add_up.ensures.cut; given = c.readings_add_up.ensures.given } in
-    unwritten laws c.read_edges_come_first.ensures.first c.args.limit (g.R.Read.remaining c.args.input.now.inner) (g.R.Read.remaining c.pieces.input.inner) (g.W.Write.contents c.args.output.now.inner)
+    unwritten laws c.read_edges_come_first.ensures.first c.args.wording c.args.limit (g.R.Read.remaining c.args.input.now.inner) (g.R.Read.remaining c.pieces.input.inner) (g.W.Write.contents c.args.output.now.inner)
     (g.W.Write.contents c.pieces.output.inner) c.args.trace c.pieces.reader c.pieces.report c.from_residual-in_err-read_block.result c.in_err-read_block.field-0.0 c.pieces.invariant.read
     c.from_residual-in_err-read_block.ensures.1 c.in_err-read_block.ensures.own (λ is. c.in_err-read_block.ensures.large (rw is refl))
 
@@ -36,13 +37,13 @@ returns-in_err-read_block-clause-own g c =
 pub returns-in_err-end_input-clause-decode : goal.returns-in_err-end_input-clause-decode
 returns-in_err-end_input-clause-decode g c =
     let laws : Laws = record { more = c.readings_add_up.ensures.more; cut = c.readings_add_up.ensures.cut; given = c.readings_add_up.ensures.given } in
-    refused laws c.read_edges_come_first.ensures.first c.args.limit (g.R.Read.remaining c.args.input.now.inner) (g.R.Read.remaining c.pieces.input.inner) (g.W.Write.contents c.args.output.now.inner)
+    refused laws c.read_edges_come_first.ensures.first c.args.wording c.args.limit (g.R.Read.remaining c.args.input.now.inner) (g.R.Read.remaining c.pieces.input.inner) (g.W.Write.contents c.args.output.now.inner)
     (g.W.Write.contents c.pieces.output.inner) c.args.trace c.pieces.reader c.pieces.report c.from_residual-in_err-end_input.result c.pieces.invariant.read c.from_residual-in_err-end_input.ensures.1
 
 pub returns-in_err-take_all-clause-decode : goal.returns-in_err-take_all-clause-decode
 returns-in_err-take_all-clause-decode g c =
     let laws : Laws = record { more = c.readings_add_up.ensures.more; cut = c.readings_add_up.ensures.cut; given = c.readings_add_up.ensures.given } in
-    refused laws c.read_edges_come_first.ensures.first c.args.limit (g.R.Read.remaining c.args.input.now.inner) (g.R.Read.remaining c.pieces.input.inner) (g.W.Write.contents c.args.output.now.inner)
+    refused laws c.read_edges_come_first.ensures.first c.args.wording c.args.limit (g.R.Read.remaining c.args.input.now.inner) (g.R.Read.remaining c.pieces.input.inner) (g.W.Write.contents c.args.output.now.inner)
     (g.W.Write.contents c.pieces.output.inner) c.args.trace c.pieces.reader c.pieces.report c.from_residual-in_err-take_all.result c.pieces.invariant.read c.from_residual-in_err-take_all.ensures.1
 
 pub write_end-requires-clause-stop : goal.write_end-requires-clause-stop
@@ -51,8 +52,8 @@ write_end-requires-clause-stop g c =
     let now = g.R.Read.remaining c.read_block.new.input.inner in
     let old = g.W.Write.contents c.args.output.now.inner in
     let mid = g.W.Write.contents c.pieces.output.inner in
-    let before = told_before c.args.limit start (g.R.Read.remaining c.pieces.input.inner) now old mid c.args.trace c.pieces.reader c.read_block.new.self c.pieces.report c.pieces.invariant.read c.in_ok-read_block.ensures.read in
-    no_write c.in_ok-end_input.field-0.stop (last_stop c.args.limit start now old mid c.args.trace c.read_block.new.self c.pieces.report c.in_ok-end_input.field-0 before c.in_ok-end_input.ensures)
+    let before = told_before c.args.wording c.args.limit start (g.R.Read.remaining c.pieces.input.inner) now old mid c.args.trace c.pieces.reader c.read_block.new.self c.pieces.report c.pieces.invariant.read c.in_ok-read_block.ensures.read in
+    no_write c.in_ok-end_input.field-0.stop (last_stop c.args.wording c.args.limit start now old mid c.args.trace c.read_block.new.self c.pieces.report c.in_ok-end_input.field-0 before c.in_ok-end_input.ensures)
 
 pub returns-then-not-branch-clause-decode : goal.returns-then-not-branch-clause-decode
 returns-then-not-branch-clause-decode g c =
@@ -62,8 +63,8 @@ returns-then-not-branch-clause-decode g c =
     let mid = g.W.Write.contents c.pieces.output.inner in
     let ended : c.in_ok-read_block.field-0 ≡ false = search rules in
     let stops : StopsWell false now c.read_block.new.self = rw ended at c.in_ok-read_block.ensures.stops in
-    let before = told_before c.args.limit start (g.R.Read.remaining c.pieces.input.inner) now old mid c.args.trace c.pieces.reader c.read_block.new.self c.pieces.report c.pieces.invariant.read c.in_ok-read_block.ensures.read in
-    (at_last c.args.limit start now old mid (g.W.Write.contents c.write_end.new.output.inner) c.args.trace c.read_block.new.self c.pieces.report c.in_ok-end_input.field-0 c.write_end.result before stops c.in_ok-end_input.ensures
+    let before = told_before c.args.wording c.args.limit start (g.R.Read.remaining c.pieces.input.inner) now old mid c.args.trace c.pieces.reader c.read_block.new.self c.pieces.report c.pieces.invariant.read c.in_ok-read_block.ensures.read in
+    (at_last c.args.wording c.args.limit start now old mid (g.W.Write.contents c.write_end.new.output.inner) c.args.trace c.read_block.new.self c.pieces.report c.in_ok-end_input.field-0 c.write_end.result before stops c.in_ok-end_input.ensures
     c.write_end.ensures.written).decode
 
 pub returns-then-not-branch-clause-at_end : goal.returns-then-not-branch-clause-at_end
@@ -74,8 +75,8 @@ returns-then-not-branch-clause-at_end g c =
     let mid = g.W.Write.contents c.pieces.output.inner in
     let ended : c.in_ok-read_block.field-0 ≡ false = search rules in
     let stops : StopsWell false now c.read_block.new.self = rw ended at c.in_ok-read_block.ensures.stops in
-    let before = told_before c.args.limit start (g.R.Read.remaining c.pieces.input.inner) now old mid c.args.trace c.pieces.reader c.read_block.new.self c.pieces.report c.pieces.invariant.read c.in_ok-read_block.ensures.read in
-    (at_last c.args.limit start now old mid (g.W.Write.contents c.write_end.new.output.inner) c.args.trace c.read_block.new.self c.pieces.report c.in_ok-end_input.field-0 c.write_end.result before stops c.in_ok-end_input.ensures
+    let before = told_before c.args.wording c.args.limit start (g.R.Read.remaining c.pieces.input.inner) now old mid c.args.trace c.pieces.reader c.read_block.new.self c.pieces.report c.pieces.invariant.read c.in_ok-read_block.ensures.read in
+    (at_last c.args.wording c.args.limit start now old mid (g.W.Write.contents c.write_end.new.output.inner) c.args.trace c.read_block.new.self c.pieces.report c.in_ok-end_input.field-0 c.write_end.result before stops c.in_ok-end_input.ensures
     c.write_end.ensures.written).at_end
 
 pub returns-then-not-branch-clause-own : goal.returns-then-not-branch-clause-own
@@ -86,8 +87,8 @@ returns-then-not-branch-clause-own g c =
     let mid = g.W.Write.contents c.pieces.output.inner in
     let ended : c.in_ok-read_block.field-0 ≡ false = search rules in
     let stops : StopsWell false now c.read_block.new.self = rw ended at c.in_ok-read_block.ensures.stops in
-    let before = told_before c.args.limit start (g.R.Read.remaining c.pieces.input.inner) now old mid c.args.trace c.pieces.reader c.read_block.new.self c.pieces.report c.pieces.invariant.read c.in_ok-read_block.ensures.read in
-    (at_last c.args.limit start now old mid (g.W.Write.contents c.write_end.new.output.inner) c.args.trace c.read_block.new.self c.pieces.report c.in_ok-end_input.field-0 c.write_end.result before stops c.in_ok-end_input.ensures
+    let before = told_before c.args.wording c.args.limit start (g.R.Read.remaining c.pieces.input.inner) now old mid c.args.trace c.pieces.reader c.read_block.new.self c.pieces.report c.pieces.invariant.read c.in_ok-read_block.ensures.read in
+    (at_last c.args.wording c.args.limit start now old mid (g.W.Write.contents c.write_end.new.output.inner) c.args.trace c.read_block.new.self c.pieces.report c.in_ok-end_input.field-0 c.write_end.result before stops c.in_ok-end_input.ensures
     c.write_end.ensures.written).own
 
 pub returns-then-not-branch-clause-read_failed : goal.returns-then-not-branch-clause-read_failed
@@ -99,8 +100,8 @@ returns-then-not-branch-clause-read_failed g c =
     let ended : c.in_ok-read_block.field-0 ≡ false = search rules in
     let unfailed : c.read_block.new.input.failed ≡ false = search rules in
     let stops : StopsWell false now c.read_block.new.self = rw ended at c.in_ok-read_block.ensures.stops in
-    let before = told_before c.args.limit start (g.R.Read.remaining c.pieces.input.inner) now old mid c.args.trace c.pieces.reader c.read_block.new.self c.pieces.report c.pieces.invariant.read c.in_ok-read_block.ensures.read in
-    let last = at_last c.args.limit start now old mid (g.W.Write.contents c.write_end.new.output.inner) c.args.trace c.read_block.new.self c.pieces.report c.in_ok-end_input.field-0 c.write_end.result before stops
+    let before = told_before c.args.wording c.args.limit start (g.R.Read.remaining c.pieces.input.inner) now old mid c.args.trace c.pieces.reader c.read_block.new.self c.pieces.report c.pieces.invariant.read c.in_ok-read_block.ensures.read in
+    let last = at_last c.args.wording c.args.limit start now old mid (g.W.Write.contents c.write_end.new.output.inner) c.args.trace c.read_block.new.self c.pieces.report c.in_ok-end_input.field-0 c.write_end.result before stops
     c.in_ok-end_input.ensures c.write_end.ensures.written in
     (λ k. absurd (last.reading k), λ k. absurd (cc (k, unfailed)))
 
@@ -113,10 +114,10 @@ pieces-preserved g c =
     let going : c.in_ok-read_block.field-0 ≡ true = search rules in
     let stops : StopsWell true now c.read_block.new.self = rw going at c.in_ok-read_block.ensures.stops in
     let takes : NarratesMore (edges_read c.read_block.new.self) c.pieces.report c.take_all.new.self = rw c.edges.ensures at c.in_ok-take_all.ensures.narrated in
-    let before = told_before c.args.limit start (g.R.Read.remaining c.pieces.input.inner) now old mid c.args.trace c.pieces.reader c.read_block.new.self c.pieces.report c.pieces.invariant.read c.in_ok-read_block.ensures.read in
-    let told = told_all c.args.limit start now old mid c.args.trace c.read_block.new.self c.pieces.report c.take_all.new.self before takes in
+    let before = told_before c.args.wording c.args.limit start (g.R.Read.remaining c.pieces.input.inner) now old mid c.args.trace c.pieces.reader c.read_block.new.self c.pieces.report c.pieces.invariant.read c.in_ok-read_block.ensures.read in
+    let told = told_all c.args.wording c.args.limit start now old mid c.args.trace c.read_block.new.self c.pieces.report c.take_all.new.self before takes in
     record {
-      read = told_written c.args.limit start now old mid (g.W.Write.contents c.write_lines.new.output.inner) c.args.trace c.read_block.new.self c.take_all.new.self c.write_lines.new.report told
+      read = told_written c.args.wording c.args.limit start now old mid (g.W.Write.contents c.write_lines.new.output.inner) c.args.trace c.read_block.new.self c.take_all.new.self c.write_lines.new.report told
           c.in_ok-write_lines.ensures.ok c.in_ok-write_lines.ensures.given;
       faultless = stops;
       lines = omega (arith, c.in_ok-read_block.ensures.lines, c.pieces.invariant.lines);
@@ -134,7 +135,15 @@ returns-in_err-write_lines-clause-decode g c =
     let old = g.W.Write.contents c.args.output.now.inner in
     let mid = g.W.Write.contents c.pieces.output.inner in
     let takes : NarratesMore (edges_read c.read_block.new.self) c.pieces.report c.take_all.new.self = rw c.edges.ensures at c.in_ok-take_all.ensures.narrated in
-    let before = told_before c.args.limit start (g.R.Read.remaining c.pieces.input.inner) now old mid c.args.trace c.pieces.reader c.read_block.new.self c.pieces.report c.pieces.invariant.read c.in_ok-read_block.ensures.read in
-    let told = told_all c.args.limit start now old mid c.args.trace c.read_block.new.self c.pieces.report c.take_all.new.self before takes in
-    partly laws c.read_edges_come_first.ensures.first c.args.limit start now old mid (g.W.Write.contents c.write_lines.new.output.inner) c.args.trace c.read_block.new.self c.take_all.new.self
+    let before = told_before c.args.wording c.args.limit start (g.R.Read.remaining c.pieces.input.inner) now old mid c.args.trace c.pieces.reader c.read_block.new.self c.pieces.report c.pieces.invariant.read c.in_ok-read_block.ensures.read in
+    let told = told_all c.args.wording c.args.limit start now old mid c.args.trace c.read_block.new.self c.pieces.report c.take_all.new.self before takes in
+    partly laws c.read_edges_come_first.ensures.first c.args.wording c.args.limit start now old mid (g.W.Write.contents c.write_lines.new.output.inner) c.args.trace c.read_block.new.self c.take_all.new.self
     c.from_residual-in_err-write_lines.result c.in_err-write_lines.field-0.0 told c.from_residual-in_err-write_lines.ensures.1 c.in_err-write_lines.ensures.own c.in_err-write_lines.ensures.err
+
+pub returns-in_err-read_block-clause-read_failed : goal.returns-in_err-read_block-clause-read_failed
+returns-in_err-read_block-clause-read_failed g c =
+    failed_read c.from_residual-in_err-read_block.result c.read_block.result c.in_err-read_block.field-0.0 _ c.from_residual-in_err-read_block.ensures.1 c.in_err-read_block.was c.read_block.ensures.failed
+
+pub returns-in_err-take_all-clause-own : goal.returns-in_err-take_all-clause-own
+returns-in_err-take_all-clause-own g c =
+    reading_fault c.from_residual-in_err-take_all.result NoMemory c.from_residual-in_err-take_all.ensures.1 tt

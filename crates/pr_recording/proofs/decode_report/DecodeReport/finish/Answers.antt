@@ -14,5 +14,5 @@ pub returns : goal.returns
 returns c =
     let none : is_some c.stop_at-stop.result ≡ false = search rules in
     let ended : Ended = record { lines = c.in_ok-lines.lines; stop = None } in
-    ends_whole c.args.self c.args.own c.finish-cut.result c.push_if.new.self c.err-verdict.result ended (sym c.stop_at-stop.ensures ∙ not_some c.stop_at-stop.result none) refl c.finish-cut.ensures.read (λ es k. c.err-verdict.ensures.value ∙ c.finish.ensures.fault es k.0 k.1)
+    ends_whole c.args.self c.args.own c.finish-cut.result c.push_if.new.self c.err-fault.result ended (sym c.stop_at-stop.ensures ∙ not_some c.stop_at-stop.result none) refl c.finish-cut.ensures.read (λ es k. c.err-fault.ensures.value ∙ c.finish.ensures.fault es k.0 k.1)
     c.in_ok-push_if.ensures.accounted c.in_ok-lines.ensures

@@ -1,0 +1,26 @@
+//! What `pages` and `decode` write.
+
+use pr_render::{Device, Format};
+use pr_report::Detail;
+
+/// What `pages` writes of a run.
+#[derive(Clone, Copy, Debug, PartialEq, Eq)]
+pub enum PagesOutput {
+    /// The pages, in this format.
+    Pages(Format),
+    /// The bytes that this printer hears.
+    Bytes(Device),
+}
+
+/// What `decode` writes of a recording.
+#[derive(Clone, Copy, Debug, PartialEq, Eq)]
+pub enum DecodeOutput {
+    /// The readings as lines, and what is said of their intervals.
+    Readings(Detail),
+    /// The readings as lines of JSON, with all their intervals.
+    Json,
+    /// The bytes that this printer hears.
+    Bytes(Device),
+    /// The pages that the bytes print, in this format.
+    Pages(Format),
+}
