@@ -8,6 +8,6 @@ loop-edge-preserved c =
     let inv = c.loop-edge.invariant in
     let i = c.loop-edge.edge-index in
     record {
-      rows = λ edges h. more_at (λ l. HasTaken l c.take.new.self) edges c.args.edges.now i _ c.loop-edge-test.true (c.in_ok-take.ensures.rows (edges ++ take i c.args.edges.now) (inv.rows edges h));
+      rows = λ detail edges h. more_at (λ l. HasTaken detail l c.take.new.self) edges c.args.edges.now i _ c.loop-edge-test.true (c.in_ok-take.ensures.rows detail (edges ++ take i c.args.edges.now) (inv.rows detail edges h));
       edges = omega (arith, inv.edges, c.in_ok-take.ensures.edges);
     }
