@@ -95,13 +95,7 @@ fn edges(alloc: Global, bytes: &[u8], input: TraceInput<'_>, out: &mut [u64]) ->
 }
 
 /// Reads a recording, and puts a row for each of its readings at the front of a buffer.
-fn rows(
-    alloc: Global,
-    bytes: &[u8],
-    input: TraceInput<'_>,
-    detail: Detail,
-    out: &mut [u64],
-) -> Told
+fn rows(alloc: Global, bytes: &[u8], input: TraceInput<'_>, detail: Detail, out: &mut [u64]) -> Told
     ensures told { GivesRows input.entry detail bytes.now out.old out.new result }
     ensures length { length out.new ≡ length out.old }
 {

@@ -6,8 +6,8 @@ ghost use Rattle.pr_web.specs.Settings.{IsInput, detail_of, device_of, format_of
 use pr_basic::StatusMode;
 use pr_capture::{Signals, Source, TraceInput};
 use pr_channels::Stop;
-use pr_render::{Device, Format, Part};
 use pr_recording::Wording;
+use pr_render::{Device, Format, Part};
 use pr_report::{Bounds, Detail, Report};
 
 /// The format of a recording: 0 a trace text, 1 a Value Change Dump, 2 a table of comma separated values.
