@@ -2,9 +2,10 @@
 """tests/recordings.py PROGRAM COUNT [FIRST]: made recordings in the forms of many tools, read by `decode` and by a decoder written apart.
 
 A recording of tests/recording.py, the next seed each, is written as a trace text, or as a dump or a table as other tools write them: units,
-separators, scopes, names of several words, bits of a vector, inverted levels, a trigger before 0. `decode` of it is held to
-tests/readings.py, which goes by docs/DEFINITIONS.md alone: the list with and without --intervals, with either bounds, and JSON. The
-line of the profile's verdict is not compared: `check` has its own tests. Prints what differs, with the command to try it again."""
+separators, exponents, instants, scopes, names of several words, bits of a vector, inverted levels, a trigger after the start. `decode` of
+it is held to tests/readings.py, which goes by docs/DEFINITIONS.md alone: the list with and without --intervals, with either bounds, and
+JSON. The line of the profile's verdict is not compared: `check` has its own tests. Prints what differs, with the command to try it
+again."""
 
 import contextlib
 import io
@@ -60,16 +61,28 @@ def dump_of(edges, choice):
 def time_text(time, decimals, choice):
     """A time of whole microseconds in a unit with so many decimals of a second."""
     if decimals >= 6:
-        return str(time * 10 ** (decimals - 6))
+        return str(time * 10 ** (decimals - 6)) if choice.randrange(8) else f"{time}E+{decimals - 6}"
+    if choice.randrange(8) == 0:
+        return f"{time}e{decimals - 6:+03d}"
     digits = 6 - decimals
     sign = "-" if time < 0 else ""
     text = f"{sign}{abs(time) // 10**digits}.{abs(time) % 10**digits:0{digits}d}"
     return text + "0" * choice.randrange(4)
 
 
+def instant_text(time):
+    """An instant of ISO 8601, some seconds before midnight and after it, with more decimals than microseconds have."""
+    day, micros = divmod(time + 86395_000_000, 86400_000_000)
+    seconds, micros = divmod(micros, 1_000_000)
+    return f"2024-02-{28 + day}T{seconds // 3600:02d}:{seconds // 60 % 60:02d}:{seconds % 60:02d}.{micros:06d}789+00:00"
+
+
 def table_of(edges, choice):
-    """A table with a time in each row: its unit, separator, blanks, order of columns, and a trigger after the first row."""
+    """A table with a time in each row: its unit, separator, blanks, order of columns, and a trigger after the first row.
+
+    Some have instants for times."""
     name, decimals = choice.choice(UNITS)
+    has_instants = name == "Time [s]" and choice.randrange(2) == 0 and edges[-1][0] < 86400_000_000
     by = choice.choice((",", ";", "\t", ", "))
     order = choice.sample(range(3), 3)
     trigger = choice.choice((0, 0, edges[-1][0] // 2))
@@ -78,7 +91,8 @@ def table_of(edges, choice):
     lines = [by.join([name, *(NAMES[n] for n in order)])]
     for time, levels in edges:
         fields = [high if levels[n] == "1" else low for n in order]
-        lines.append(by.join([time_text(time - trigger, decimals, choice), *fields]))
+        moment = instant_text(time) if has_instants else time_text(time - trigger, decimals, choice)
+        lines.append(by.join([moment, *fields]))
         if choice.randrange(10) == 0:
             lines.append(lines[-1])
     end = choice.choice(("\n", "\r\n"))
