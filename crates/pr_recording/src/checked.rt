@@ -48,5 +48,13 @@ pub fn check_json_over<R: Read, W: Write>(
     ensures read_failed { IsErrOf result CliFault.ReadFailed ↔ (has_failed input.new ≡ true) }
     ensures write_failed { IsErrOf result CliFault.WriteFailed ↔ (has_failed output.new ≡ true) }
 {
-    tell_input(alloc, input, output, trace, Wording::Json, true, CHECK_LIMIT)
+    tell_input(
+        alloc,
+        input,
+        output,
+        trace,
+        Wording::Json,
+        true,
+        CHECK_LIMIT,
+    )
 }
