@@ -1,4 +1,4 @@
-use Rattle.std.proofs.Common.{◌≡◌, true, false, refl, rules, sym, ◌∙◌}
+use Rattle.std.proofs.Common.{◌≡◌, true, false, rules, sym, ◌∙◌}
 use Rattle.std.specs.Prelude.{is_some}
 use Rattle.pr_recording.specs.declared.decode_report.Ended.{Ended}
 use Rattle.pr_recording.proofs.Heeding.{ends_told, ends_whole, not_some}
