@@ -2,9 +2,10 @@
 """tests/recordings.py PROGRAM COUNT [FIRST]: made recordings in the forms of many tools, read by `decode` and by a decoder written apart.
 
 A recording of tests/recording.py, the next seed each, is written as a trace text, or as a dump or a table as other tools write them: units,
-separators, scopes, names of several words, bits of a vector, inverted levels, a trigger before 0. `decode` of it is held to
-tests/readings.py, which goes by docs/DEFINITIONS.md alone: the list with and without --intervals, with either bounds, and JSON. The
-line of the profile's verdict is not compared: `check` has its own tests. Prints what differs, with the command to try it again."""
+separators, exponents, instants, scopes, names of several words, bits of a vector, inverted levels, a trigger after the start. `decode` of
+it is held to tests/readings.py, which goes by docs/DEFINITIONS.md alone: the list with and without --intervals, with either bounds, and
+JSON. The line of the profile's verdict is not compared: `check` has its own tests. Prints what differs, with the command to try it
+again. Then 20 recordings that keep the Programmer's Reference Guide's bounds are judged by them, whole and with an interval outside."""
 
 import contextlib
 import io
@@ -60,16 +61,28 @@ def dump_of(edges, choice):
 def time_text(time, decimals, choice):
     """A time of whole microseconds in a unit with so many decimals of a second."""
     if decimals >= 6:
-        return str(time * 10 ** (decimals - 6))
+        return str(time * 10 ** (decimals - 6)) if choice.randrange(8) else f"{time}E+{decimals - 6}"
+    if choice.randrange(8) == 0:
+        return f"{time}e{decimals - 6:+03d}"
     digits = 6 - decimals
     sign = "-" if time < 0 else ""
     text = f"{sign}{abs(time) // 10**digits}.{abs(time) % 10**digits:0{digits}d}"
     return text + "0" * choice.randrange(4)
 
 
+def instant_text(time):
+    """An instant of ISO 8601, some seconds before midnight and after it, with more decimals than microseconds have."""
+    day, micros = divmod(time + 86395_000_000, 86400_000_000)
+    seconds, micros = divmod(micros, 1_000_000)
+    return f"2024-02-{28 + day}T{seconds // 3600:02d}:{seconds // 60 % 60:02d}:{seconds % 60:02d}.{micros:06d}789+00:00"
+
+
 def table_of(edges, choice):
-    """A table with a time in each row: its unit, separator, blanks, order of columns, and a trigger after the first row."""
+    """A table with a time in each row: its unit, separator, blanks, order of columns, and a trigger after the first row.
+
+    Some have instants for times."""
     name, decimals = choice.choice(UNITS)
+    has_instants = name == "Time [s]" and choice.randrange(2) == 0 and edges[-1][0] < 86400_000_000
     by = choice.choice((",", ";", "\t", ", "))
     order = choice.sample(range(3), 3)
     trigger = choice.choice((0, 0, edges[-1][0] // 2))
@@ -78,7 +91,8 @@ def table_of(edges, choice):
     lines = [by.join([name, *(NAMES[n] for n in order)])]
     for time, levels in edges:
         fields = [high if levels[n] == "1" else low for n in order]
-        lines.append(by.join([time_text(time - trigger, decimals, choice), *fields]))
+        moment = instant_text(time) if has_instants else time_text(time - trigger, decimals, choice)
+        lines.append(by.join([moment, *fields]))
         if choice.randrange(10) == 0:
             lines.append(lines[-1])
     end = choice.choice(("\n", "\r\n"))
@@ -98,10 +112,14 @@ FORMS = (text_of, dump_of, dump_of, table_of, table_of, table_of)
 WAYS = ([], [], ["--intervals"], ["--bounds", "guide"], ["--intervals", "--bounds", "guide"], ["--as", "json"])
 
 
+def readings_in(edges):
+    return readings.readings_of([readings.Edge(f"{time} {levels}") for time, levels in edges], ())
+
+
 def wanted_of(edges, way):
     """What is to be written of these edges, without the line of the profile's verdict."""
+    found = readings_in(edges)
     edges = [readings.Edge(f"{time} {levels}") for time, levels in edges]
-    found = readings.readings_of(edges, ())
     with contextlib.redirect_stdout(io.StringIO()) as text:
         if "json" in way:
             readings.tell_json(found)
@@ -141,6 +159,76 @@ def differs(program, seed):
     return f"{' '.join(command)} < {file.name}\n  says   {first[0]}\n  wanted {first[1]}\n  {ran.stderr.decode().strip()} ({ran.returncode})"
 
 
+# Lengths outside the guide's bounds by 1 microsecond. None is below a bound of 0, and the longest halves have the bound of the shortest.
+OUTSIDE = {"first pull": (0, 201), "answer": (199,), "answer length": (59,), "pull after answer": (61,), "shortest low half": (19,),
+           "shortest high half": (19,), "acknowledgement": (1001,)}
+
+
+def span_of(reading, name):
+    """When an interval of a reading begins and ends; of the halves, the first bit's."""
+    low = (reading.pull, reading.pull + reading.lows[0]) if reading.lows else None
+    spans = {"first pull": (reading.ready, reading.pull), "shortest low half": low}
+    if reading.highs:
+        spans["shortest high half"] = (low[1], low[1] + reading.highs[0])
+    if reading.pulse is not None:
+        pulled, released = reading.pulse
+        spans |= {"answer": (reading.ready, pulled), "answer length": (pulled, released), "pull after answer": (released, reading.pull)}
+    if reading.acknowledged is not None:
+        spans["acknowledgement"] = (reading.last_pull, reading.acknowledged)
+    return spans[name]
+
+
+def with_length(edges, begin, end, length):
+    """The edges with another length of an interval: what comes after it moves, and what is inside stays inside."""
+    return [(time + begin + length - end if time >= end else min(time, begin + length) if time > begin else time, levels)
+            for time, levels in edges]
+
+
+def verdict_by(program, edges):
+    """The verdict of the program by the guide's bounds, and that of the definitions."""
+    text = "".join(f"{time} {levels}\n" for time, levels in edges)
+    ran = subprocess.run([program, "decode", "--bounds", "guide"], input=text.encode(), stdout=subprocess.PIPE, check=False)
+    found = [line for line in ran.stdout.decode().splitlines() if "the guide's bounds" in line]
+    return (ran.returncode, found), (0, [readings.guide_verdict(readings_in(edges))])
+
+
+def guide_differs(program, seed, broken):
+    """Why a made recording that keeps the guide's bounds is judged otherwise, whole or with one interval outside, or None.
+
+    No byte in it is given up. The intervals that are tried are added to `broken`."""
+    session = recording.Session(seed, 20)
+    session.is_flawed = False
+    edges = session.part(session.run())
+    found = readings_in(edges)
+    said, wanted = verdict_by(program, edges)
+    if said != wanted or wanted != (0, ["within the guide's bounds"]):
+        return f"says {said}, wanted {wanted}"
+    for name, length in ((name, length) for name, lengths in OUTSIDE.items() for length in lengths):
+        for reading in (reading for reading in found if name in reading.lengths()):
+            said, wanted = verdict_by(program, with_length(edges, *span_of(reading, name), length))
+            if said != wanted:
+                return f"with {name} {length}: says {said}, wanted {wanted}"
+            if f", {name} {length} us, " in wanted[1][0]:
+                broken.add((name, length))
+                break
+    return None
+
+
+def guide_failures(program, count):
+    """How many recordings of KERNAL-like buses, or bounds that none of them breaks, are not as the guide's bounds want them."""
+    broken, failed = set(), 0
+    for seed in range(1, count + 1):
+        why = guide_differs(program, seed, broken)
+        if why:
+            failed += 1
+            print(f"FAILED: recording {seed} --guide: {why}", file=sys.stderr)
+    for missing in {(name, length) for name, lengths in OUTSIDE.items() for length in lengths} - broken:
+        failed += 1
+        print(f"FAILED: no recording with {missing[0]} {missing[1]}", file=sys.stderr)
+    print(f"recordings within the guide's bounds, and with one interval outside: {count} tried, {failed} failed")
+    return failed
+
+
 def main():
     program, count = sys.argv[1], int(sys.argv[2])
     first = int(sys.argv[3]) if len(sys.argv) > 3 else 1
@@ -152,6 +240,7 @@ def main():
             if failed <= 5:
                 print(f"FAILED: recording {seed}: {why}", file=sys.stderr)
     print(f"recordings by other tools' forms: {count - failed} passed, {failed} failed")
+    failed += guide_failures(program, 20)
     return 1 if failed else 0
 
 
