@@ -610,7 +610,7 @@ static void try_settings(void) {
     static const print1525_settings defaults = PRINT1525_SETTINGS_INIT;
     static job j;
     const guarded input = guard(7), buffer = guard(99), bad = guard(9);
-    size_t row, field;
+    size_t row, change;
     memcpy(input.bytes, "NO WORD", 7);
     memcpy(bad.bytes, "upper 33\n", 9);
     j.numbers = no_input;
@@ -647,13 +647,13 @@ static void try_settings(void) {
     }
     /* Settings of another size, as memory that nobody began, and bytes that are not used yet. */
     for (row = 0; row < sizeof all / sizeof *all; row++)
-        for (field = 0; field < 5; field++) {
+        for (change = 0; change < 5; change++) {
             j.name = all[row];
             j.settings = defaults;
-            if (field == 0) memset(&j.settings, 0, sizeof j.settings);
-            if (field == 1) j.settings.size--;
-            if (field == 2) j.settings.size++;
-            if (field > 2) j.settings.reserved[field - 3] = 1;
+            if (change == 0) memset(&j.settings, 0, sizeof j.settings);
+            if (change == 1) j.settings.size--;
+            if (change == 2) j.settings.size++;
+            if (change > 2) j.settings.reserved[change - 3] = 1;
             if (!is_answer(call(&j, buffer.bytes, buffer.size), PRINT1525_REFUSED, PRINT1525_FAULT_BAD_SETTINGS, 0, 0) ||
                 !is_untouched(buffer.bytes, buffer.size))
                 is_wrong("settings of another size, call", row);
@@ -692,7 +692,6 @@ static void try_pointers(void) {
     uint8_t *const bytes = (uint8_t *)(void *)shared;
     size_t name, at;
     for (name = 0; name < sizeof names / sizeof *names; name++) {
-        const int is_print = strcmp(names[name], "print") == 0;
         print1525_details given, other;
         j.name = names[name];
         j.settings = defaults;
@@ -738,7 +737,6 @@ static void try_pointers(void) {
             if ((given.fault == PRINT1525_FAULT_OVERLAP) != overlaps || (overlaps && (!is_answer(given, PRINT1525_REFUSED, PRINT1525_FAULT_OVERLAP, 0, 0) || !is_untouched(bytes, sizeof shared))))
                 is_wrong("memory that overlaps, call and row", 100 * name + at);
         }
-        (void)is_print;
     }
 }
 

@@ -172,6 +172,7 @@ static void try_text(uint8_t *memories[6]) {
     const size_t call = below(6);
     const print1525_settings drawn_settings = made_settings(memories);
     print1525_settings settings = drawn_settings;
+    const print1525_settings *const with = below(30) ? &settings : NULL;
     print1525_details details, again;
     size_t length, size, capacity, overlap = below(40);
     const void *input;
@@ -195,18 +196,17 @@ static void try_text(uint8_t *memories[6]) {
         if (memcmp(before, input, size) != 0) is_wrong(names[call], "an input beside an overlap");
         return;
     }
-    status = make(call, input, length, below(30) ? &settings : NULL, buffer, capacity, &details);
+    status = make(call, input, length, with, buffer, capacity, &details);
     test_details(names[call], status, &details, capacity);
     if (live != 0) is_wrong(names[call], "memory");
     if (size && memcmp(before, input, size) != 0) is_wrong(names[call], "the input");
     if (memcmp(&settings, &drawn_settings, sizeof settings) != 0) is_wrong(names[call], "the settings");
+    size = length;
     length = status <= PRINT1525_STOPPED ? details.length : 0;
     if (!is_untouched(memories[5], ROOM - capacity) || !is_untouched(memories[5] + ROOM - capacity + length, capacity - length)) is_wrong(names[call], "the buffer");
     if (refused_one || buffer == NULL) return;
-    /* (With NULL in the place of settings the second answer is another one.) */
     memcpy(text, buffer, length);
-    if (make(call, input, call == 5 ? size / 2 : size, &settings, buffer, capacity, &again) == status && again.fault == details.fault &&
-        (again.length != details.length || again.place != details.place) && settings.page == 0 && settings.from == 0 && settings.present == 3)
+    if (make(call, input, size, with, buffer, capacity, &again) != status || memcmp(&again, &details, sizeof again) != 0 || memcmp(text, buffer, length) != 0)
         is_wrong(names[call], "another answer");
 }
 
