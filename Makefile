@@ -80,10 +80,10 @@ $(TESTS): $(SOURCES)
 
 # The library for C programs, an archive and a shared library: the archives of two crates, the part of the toolchain's that calls
 # malloc, and the functions of the header.
-lib: $(LIBRARY)
+lib: $(LIBRARY) $(LIBRARY:.a=.so)
 
-$(LIBRARY): $(PARTS) tools/archive $(wildcard include/*.[ch])
-	@tools/archive $@ $(PART_CRATES)
+$(LIBRARY) $(LIBRARY:.a=.so) &: $(PARTS) tools/archive $(wildcard include/*.[ch])
+	@tools/archive $(LIBRARY) $(PART_CRATES)
 
 $(PARTS) &: $(SOURCES) tools/crates.py tools/library
 	@tools/library $(PART_CRATES)
