@@ -10,7 +10,8 @@
  *
  *     Edges of the serial bus; these calls take no memory
  *     print1525_decoder_..        what any recording of the bus says, edge by edge              decode
- *     print1525_strict_..         what a device receives by this project's own timing, edge by edge, or in a list
+ *     print1525_receiver_..       what comes to a device on any bus, edge by edge
+ *     print1525_strict_..         the same by this project's own timing alone, edge by edge, or in a list
  *
  *     Words
  *     print1525_strerror          what a fault says, as the program says it
@@ -126,9 +127,6 @@ enum print1525_fault {
     PRINT1525_FAULT_NO_SUCH_STATUS = 23,
     PRINT1525_FAULT_NO_SUCH_FORMAT = 24,
     PRINT1525_FAULT_NO_SUCH_SET = 25,
-    /* refused: numbers that no receiver or no decoder has, as in memory that was never begun; `place` is 0 */
-    PRINT1525_FAULT_NO_RECEIVER = 26,
-    PRINT1525_FAULT_NO_DECODER = 27,
     /* refused: a number that means no input of a printer; `place` is its index, from 0 */
     PRINT1525_FAULT_NO_SUCH_INPUT = 28,
     /* refused: a sheet that the pages do not have; `place` is how many they have */
@@ -336,15 +334,11 @@ typedef struct {
     uint8_t kind; /* one of enum print1525_kind */
 } print1525_reading;
 
-/* A decoder: what the library keeps of a recording between two edges. The numbers are the library's own. Before a
- * call uses them it tests each: before the first edge they are 0; after it there are two edges, and those at which
- * DATA has turned, to and fro from the level that CLOCK does not have; a byte that has begun has at most eight bits and
- * no greater number than these make, its halves in order, and where CLOCK is pulled, its last pull is the first edge.
- * It refuses other numbers (27). It does not test whether a recording has just these times and ATN's levels: numbers
- * that pass, but that no edges made, are taken as they are. Then nothing is promised of the answers, but the call
- * returns and writes nothing else. */
+/* A decoder: what the library keeps of a recording between two edges. Memory of zeros is a decoder just begun. The
+ * numbers are the library's own, but all numbers mean some decoder: more than four `turns` are four, and a `begun`,
+ * `called`, `sent`, `command` or `eoi` that is not 1 is 0. So a damaged decoder gives nonsense, and no harm. */
 typedef struct {
-    print1525_edge first;                      /* since when CLOCK has its level; each level 0 or 1 */
+    print1525_edge first;                      /* since when CLOCK has its level */
     print1525_edge last;                       /* the last edge taken */
     print1525_edge turn1, turn2, turn3, turn4; /* the edges from `first` on at which DATA has turned, first to the level
                                                 * that CLOCK does not have; `first` counts if it has that level */
@@ -366,16 +360,59 @@ PRINT1525_CALL int print1525_decoder_begin(print1525_decoder *decoder);
  *
  * Reads: a decoder that was begun, and edges whose times do not go back; several may have one time.
  * Gives: `length` 1 and the reading, or 0 and PRINT1525_NO_READING.
- * Refuses, with the decoder as it was and PRINT1525_NO_READING: NULL (80), with nothing written but details; numbers
- * that are no decoder (27); and an edge earlier than the one before it (12). */
+ * Refuses, with the decoder as it was: NULL (80), with nothing written but details; and an edge earlier than the one
+ * before it (12), with PRINT1525_NO_READING. */
 PRINT1525_CALL int print1525_decoder_edge(print1525_decoder *decoder, const print1525_edge *edge,
                                           print1525_reading *reading, print1525_details *details);
 
 /* Answers with the reading that the end of a recording cuts, if it cuts one. The decoder may be given more edges.
  *
- * Refuses: NULL (80), and numbers that are no decoder (27). */
+ * Refuses: NULL (80). */
 PRINT1525_CALL int print1525_decoder_end(const print1525_decoder *decoder, print1525_reading *reading,
                                          print1525_details *details);
+
+/* ---------------------------------------------------------------------------------------------- receivers -- */
+
+/* `kind` of what comes to a device. */
+enum print1525_received_kind {
+    PRINT1525_NOTHING_RECEIVED = 0,
+    PRINT1525_RECEIVED_BYTE = 1,    /* a data byte, while the device listens */
+    PRINT1525_RECEIVED_SELECT = 2,  /* a secondary address directly after LISTEN to the device: to a VIC-1525 number 7
+                                     * selects the lower/upper case set */
+    PRINT1525_RECEIVED_LISTEN = 3,  /* LISTEN to the device: to a VIC-1525 it selects the graphic/upper case set */
+    PRINT1525_RECEIVED_UNLISTEN = 4 /* UNLISTEN, while the device listens */
+};
+
+/* What comes to a device. */
+typedef struct {
+    uint8_t kind; /* one of enum print1525_received_kind */
+    uint8_t byte; /* the byte, or the number of the secondary address; else 0 */
+    uint8_t eoi;  /* 1: a byte with end-or-identify, the last of its sender; else 0 */
+} print1525_received;
+
+/* A receiver: what the library keeps of a device on any bus between two edges, one for each device. All numbers mean
+ * some receiver, as those of a decoder: a `device` above 30 is 30, a `listens` or `called` that is not 1 is 0. */
+typedef struct {
+    print1525_decoder decoder;
+    uint8_t device;
+    uint8_t listens; /* 1: it was called, and no UNLISTEN has come since */
+    uint8_t called;  /* 1: the last acknowledged byte called it */
+} print1525_receiver;
+
+/* Begins a receiver for a device of 4 to 30, before its first edge.
+ *
+ * Refuses, with the receiver as it was: NULL (80), and the device (21). */
+PRINT1525_CALL int print1525_receiver_begin(print1525_receiver *receiver, uint8_t device);
+
+/* Gives a receiver the next edge of a bus, wherever its edges begin, and answers with what comes to the device: with
+ * the edge that acknowledges a byte. Later edges take no more time than earlier ones.
+ *
+ * Reads: a receiver that was begun, and edges whose times do not go back; several may have one time.
+ * Gives: `length` 1 and what came, or 0 and PRINT1525_NOTHING_RECEIVED.
+ * Refuses, with the receiver as it was: NULL (80), with nothing written but details; and an edge earlier than the one
+ * before it (12), with PRINT1525_NOTHING_RECEIVED. */
+PRINT1525_CALL int print1525_receiver_edge(print1525_receiver *receiver, const print1525_edge *edge,
+                                           print1525_received *received, print1525_details *details);
 
 /* ------------------------------------------------------------------------------ receivers of this very timing -- */
 
@@ -395,16 +432,11 @@ typedef struct {
 } print1525_strict_place;
 
 /* A receiver that accepts lawful traces alone, and no other bus: what the library keeps of a device between two edges,
- * one for each device. The numbers are the library's own. Before a call uses them it tests each: a device of 4 to 30;
- * `called` only with `listens`; before the first edge nothing else but the fault 11; after it levels of 0 or 1, a place
- * to which the last edge can lead by the table with the numbers of this place and no others, the fault 0 or 12 to 15,
- * and `taken` + 98 at most the time of the last edge (with one edge: at 0). It refuses other numbers (26). It does not
- * test whether a trace has just these times, this count, this byte and a device that listens: numbers that pass, but
- * that no edges made, are taken as they are. Then nothing is promised of the answers, but the call returns, writes
- * nothing else, and leaves numbers that pass. */
+ * one for each device. The numbers are the library's own, but all numbers mean some receiver: a `device` above 30 is
+ * 30, more than eight bits are none, and a number that means nothing is the last of those that do, or 0. */
 typedef struct {
     size_t taken;        /* how many edges were accepted */
-    print1525_edge last; /* the last of them, each level 0 or 1 */
+    print1525_edge last; /* the last of them */
     print1525_strict_place place;
     uint8_t begun;       /* 1: an edge was accepted */
     uint8_t refused;     /* 0, or the fault of the edge that was refused (11 if none was accepted) */
@@ -423,14 +455,14 @@ PRINT1525_CALL int print1525_strict_begin(print1525_strict *strict, uint8_t devi
  *
  * Reads: a receiver that was begun, and edges in order, the first of them at 0 with all lines released.
  * Gives: `length` 1 and the input, as print1525_print takes it, or 0, and then the input stays as it was.
- * Refuses: NULL (80) and numbers that are no receiver (26), with the receiver as it was; and an edge that no lawful
- * trace has there (11 to 15) with its index. Each later edge is refused with the same fault; begin anew to go on. */
+ * Refuses: NULL (80), with the receiver as it was; and an edge that no lawful trace has there (11 to 15) with its
+ * index. Each later edge is refused with the same fault; begin anew to go on. */
 PRINT1525_CALL int print1525_strict_edge(print1525_strict *strict, const print1525_edge *edge, uint16_t *input,
                                          print1525_details *details);
 
 /* Says whether the edges that a strict receiver was given are a whole lawful trace. It may be given more.
  *
- * Refuses: NULL (80), numbers that are no receiver (26), and edges that are none by their first fault (11 to 16). */
+ * Refuses: NULL (80), and edges that are no lawful trace by their first fault (11 to 16). */
 PRINT1525_CALL int print1525_strict_end(const print1525_strict *strict, print1525_details *details);
 
 /* Gives what a device receives of a whole lawful trace.
@@ -461,6 +493,8 @@ PRINT1525_OWN_SIZE(print1525_edge, 16);
 PRINT1525_OWN_SIZE(print1525_byte, 88);
 PRINT1525_OWN_SIZE(print1525_reading, 104);
 PRINT1525_OWN_SIZE(print1525_decoder, 192);
+PRINT1525_OWN_SIZE(print1525_received, 3);
+PRINT1525_OWN_SIZE(print1525_receiver, 200);
 PRINT1525_OWN_SIZE(print1525_strict_place, 24);
 PRINT1525_OWN_SIZE(print1525_strict, 56);
 #undef PRINT1525_OWN_SIZE
@@ -473,10 +507,6 @@ typedef struct {
     size_t place;
     size_t length; /* with the faults 63 and 64 the column */
 } print1525_plain_answer;
-typedef struct {
-    size_t code, fault, place;
-    size_t heard, input; /* 1 and the input, or 0 and 0 */
-} print1525_plain_ear_answer;
 
 void print1525_plain_pages_with(const uint8_t *script, size_t script_length, uint8_t printers, uint8_t status,
                                 const uint16_t *computer, size_t computer_length, const uint16_t *four,
@@ -497,11 +527,15 @@ void print1525_plain_print_with(const uint16_t *inputs, size_t inputs_length, ui
                                 print1525_plain_answer *answer);
 void print1525_plain_check(const uint8_t *text, size_t text_length, uint8_t *buffer, size_t capacity,
                            print1525_plain_answer *answer);
-void print1525_plain_hear(uint8_t device, const print1525_edge *edges, size_t edges_length, uint16_t *buffer,
-                          size_t capacity, print1525_plain_answer *answer);
-void print1525_plain_ear_begin(print1525_strict *ear, uint8_t device, print1525_plain_ear_answer *answer);
-void print1525_plain_ear_edge(print1525_strict *ear, const print1525_edge *edge, print1525_plain_ear_answer *answer);
-void print1525_plain_ear_end(const print1525_strict *ear, print1525_plain_ear_answer *answer);
+void print1525_plain_receiver_begin(print1525_receiver *receiver, uint8_t device, print1525_plain_answer *answer);
+void print1525_plain_receiver_edge(print1525_receiver *receiver, const print1525_edge *edge,
+                                   print1525_received *received, print1525_plain_answer *answer);
+void print1525_plain_receive(uint8_t device, const print1525_edge *edges, size_t edges_length, uint16_t *buffer,
+                             size_t capacity, print1525_plain_answer *answer);
+void print1525_plain_strict_begin(print1525_strict *strict, uint8_t device, print1525_plain_answer *answer);
+void print1525_plain_strict_edge(print1525_strict *strict, const print1525_edge *edge, uint16_t *input,
+                                 print1525_plain_answer *answer);
+void print1525_plain_strict_end(const print1525_strict *strict, print1525_plain_answer *answer);
 void print1525_plain_decode_begin(print1525_decoder *decoder);
 void print1525_plain_decode_edge(print1525_decoder *decoder, const print1525_edge *edge, print1525_reading *reading,
                                  print1525_plain_answer *answer);
@@ -540,8 +574,6 @@ PRINT1525_CALL const char *print1525_strerror(int fault) {
     case PRINT1525_FAULT_NO_SUCH_STATUS: return "no such status";
     case PRINT1525_FAULT_NO_SUCH_FORMAT: return "no such format";
     case PRINT1525_FAULT_NO_SUCH_SET: return "no such character set";
-    case PRINT1525_FAULT_NO_RECEIVER: return "no receiver";
-    case PRINT1525_FAULT_NO_DECODER: return "no decoder";
     case PRINT1525_FAULT_NO_SUCH_INPUT: return "no such input";
     case PRINT1525_FAULT_NO_SUCH_SHEET: return "no such sheet";
     case PRINT1525_FAULT_DOCUMENT_TOO_LARGE: return "document too large";
@@ -848,36 +880,51 @@ PRINT1525_CALL int print1525_decoder_end(const print1525_decoder *decoder, print
     return print1525_own_answer(details, answer);
 }
 
-/* Tells what a proved call answered of a strict receiver. */
-PRINT1525_OWN int print1525_own_ear_answer(print1525_details *details, print1525_plain_ear_answer answer) {
-    const int status = answer.code == 0 ? PRINT1525_DONE : PRINT1525_REFUSED;
-    return print1525_own_tell(details, status, PRINT1525_OWN_AS(int, answer.fault), answer.place, 0, answer.heard);
+PRINT1525_CALL int print1525_receiver_begin(print1525_receiver *receiver, uint8_t device) {
+    print1525_plain_answer answer;
+    if (receiver == NULL) return PRINT1525_REFUSED;
+    print1525_plain_receiver_begin(receiver, device, &answer);
+    return print1525_own_answer(NULL, answer);
+}
+
+PRINT1525_CALL int print1525_receiver_edge(print1525_receiver *receiver, const print1525_edge *edge,
+                                           print1525_received *received, print1525_details *details) {
+    print1525_edge read;
+    print1525_received came;
+    print1525_plain_answer answer;
+    if (receiver == NULL || edge == NULL || received == NULL)
+        return print1525_own_refuse(details, PRINT1525_FAULT_NULL_POINTER);
+    read = *edge;
+    print1525_plain_receiver_edge(receiver, &read, &came, &answer);
+    *received = came;
+    return print1525_own_answer(details, answer);
 }
 
 PRINT1525_CALL int print1525_strict_begin(print1525_strict *strict, uint8_t device) {
-    print1525_plain_ear_answer answer;
+    print1525_plain_answer answer;
     if (strict == NULL) return PRINT1525_REFUSED;
-    print1525_plain_ear_begin(strict, device, &answer);
-    return print1525_own_ear_answer(NULL, answer);
+    print1525_plain_strict_begin(strict, device, &answer);
+    return print1525_own_answer(NULL, answer);
 }
 
 PRINT1525_CALL int print1525_strict_edge(print1525_strict *strict, const print1525_edge *edge, uint16_t *input,
                                          print1525_details *details) {
     print1525_edge read;
-    print1525_plain_ear_answer answer;
+    uint16_t came;
+    print1525_plain_answer answer;
     if (strict == NULL || edge == NULL || input == NULL)
         return print1525_own_refuse(details, PRINT1525_FAULT_NULL_POINTER);
     read = *edge;
-    print1525_plain_ear_edge(strict, &read, &answer);
-    if (answer.heard) *input = PRINT1525_OWN_AS(uint16_t, answer.input);
-    return print1525_own_ear_answer(details, answer);
+    print1525_plain_strict_edge(strict, &read, &came, &answer);
+    if (answer.length == 1) *input = came;
+    return print1525_own_answer(details, answer);
 }
 
 PRINT1525_CALL int print1525_strict_end(const print1525_strict *strict, print1525_details *details) {
-    print1525_plain_ear_answer answer;
+    print1525_plain_answer answer;
     if (strict == NULL) return print1525_own_refuse(details, PRINT1525_FAULT_NULL_POINTER);
-    print1525_plain_ear_end(strict, &answer);
-    return print1525_own_ear_answer(details, answer);
+    print1525_plain_strict_end(strict, &answer);
+    return print1525_own_answer(details, answer);
 }
 
 PRINT1525_CALL int print1525_strict_edges(uint8_t device, const print1525_edge *edges, size_t length, uint16_t *inputs,
@@ -887,8 +934,8 @@ PRINT1525_CALL int print1525_strict_edges(uint8_t device, const print1525_edge *
     uint16_t nothing[1];
     print1525_plain_answer answer;
     if (fault != PRINT1525_FAULT_NONE) return print1525_own_refuse(details, fault);
-    print1525_plain_hear(device, edges == NULL ? &no_edge : edges, length, inputs == NULL ? nothing : inputs, capacity,
-                         &answer);
+    print1525_plain_receive(device, edges == NULL ? &no_edge : edges, length, inputs == NULL ? nothing : inputs,
+                            capacity, &answer);
     return print1525_own_answer(details, answer);
 }
 

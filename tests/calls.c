@@ -304,50 +304,6 @@ static uint64_t other_number(uint64_t old, size_t index) {
     }
 }
 
-/* The numbers are those of a place to which the last edge can lead, in the order of the places in pr_wire. */
-static int is_place(const print1525_edge *last, const print1525_strict_place *p) {
-    /* the levels of ATN, CLOCK and DATA: s as the byte sent has ATN, b as the bit, n not as the bit; then the numbers that the place has */
-    static const char *const rows[] = {"111", "00n b", "s10 s", "s11 s", "110 r", "111", "s0b secyb", "s1b secyb", "s01 secy", "s00 sy", "10b bu"};
-    const uint8_t levels[3] = {last->atn, last->clock, last->data};
-    const char *row;
-    int index, released;
-    if (p->place > 10 || p->sending > 2 || p->eoi > 1 || p->bit > 1 || p->unlistened > 1) return 0;
-    row = rows[p->place];
-    for (index = 0; index < 3; index++) {
-        released = row[index] == 's' ? p->sending == 2 : row[index] == 'b' ? p->bit : row[index] == 'n' ? !p->bit : row[index] == '1';
-        if (levels[index] != released) return 0;
-    }
-    row += 3;
-    if ((p->released && !strchr(row, 'r')) || (p->sending && !strchr(row, 's')) || (p->eoi && !strchr(row, 'e')) ||
-        (p->count && !strchr(row, 'c')) || (p->byte && !strchr(row, 'y')) || (p->bit && !strchr(row, 'b')) ||
-        (p->unlistened && !strchr(row, 'u')))
-        return 0;
-    if (p->place == 8 ? p->count != 8 : p->count > 7) return 0;
-    if (p->place != 9 && p->byte >= 1 << p->count) return 0;
-    if (p->eoi && p->sending != 2) return 0;
-    if (p->place == 4 && (p->since < p->released || p->since - p->released < 200 || p->since - p->released > 250)) return 0;
-    if (p->place == 1 && p->bit) return p->since <= last->time && last->time - p->since <= 1000;
-    if (p->place == 10 && p->bit) return p->since < last->time && last->time - p->since <= 60;
-    return p->since == last->time;
-}
-
-/* The numbers are those of a strict receiver, as crates/pr_ear/specs/EarNumbers.antt says. */
-static int is_strict(const print1525_strict *strict) {
-    const print1525_edge *const last = &strict->last;
-    static const print1525_strict none = {0, {0, 0, 0, 0}, {0, 0, 0, 0, 0, 0, 0, 0, 0}, 0, 0, 0, 0, 0};
-    if (strict->device < 4 || strict->device > 30 || strict->listens > 1 || strict->called > strict->listens) return 0;
-    if (strict->begun == 0) {
-        print1525_strict other = *strict;
-        other.device = 0;
-        other.refused = 0;
-        return (strict->refused == 0 || strict->refused == PRINT1525_FAULT_BAD_START) && are_same(&other, &none, strict_fields, STRICT_FIELDS);
-    }
-    if (strict->begun != 1 || strict->taken == 0 || last->atn > 1 || last->clock > 1 || last->data > 1) return 0;
-    if (strict->taken == 1 ? last->time != 0 || strict->place.place != 0 : last->time < 98 || strict->taken > last->time - 98) return 0;
-    if (strict->refused != 0 && (strict->refused < PRINT1525_FAULT_BAD_ORDER || strict->refused > PRINT1525_FAULT_BAD_SHAPE)) return 0;
-    return is_place(last, &strict->place);
-}
-
 /* What the input is before a call. */
 #define NO_INPUT 999
 
@@ -402,16 +358,19 @@ static int is_refused_with(placed_strict at, int fault, size_t place) {
     return is_answer(*at.details, PRINT1525_REFUSED, fault, place, 0) && *at.input == NO_INPUT;
 }
 
-/* Numbers that are no receiver are refused with nothing changed, and those of one are not and stay those of one. */
+/* Whatever numbers a receiver has, it gives an answer that a receiver can give, and a copy gives the same. */
 static void try_numbers(placed_strict at, const print1525_edge *edge, size_t number) {
-    const print1525_strict before = *at.strict;
-    const int is_one = is_strict(at.strict);
+    print1525_strict other = *at.strict;
+    print1525_details told;
+    uint16_t input = NO_INPUT;
     end(at);
-    if (is_one ? !may_be_answered(at) || at.details->length : !is_refused_with(at, PRINT1525_FAULT_NO_RECEIVER, 0))
-        is_wrong("an end for numbers, field", number);
+    if (!may_be_answered(at) || at.details->length) is_wrong("an end for numbers, field", number);
+    if (memcmp(&other, at.strict, sizeof other) != 0) is_wrong("an end changes numbers, field", number);
     give(at, edge);
-    if (is_one ? !may_be_answered(at) : !is_refused_with(at, PRINT1525_FAULT_NO_RECEIVER, 0)) is_wrong("an edge for numbers, field", number);
-    if (is_one ? !is_strict(at.strict) : memcmp(&before, at.strict, sizeof before) != 0) is_wrong("numbers behind an edge, field", number);
+    if (!may_be_answered(at)) is_wrong("an edge for numbers, field", number);
+    print1525_strict_edge(&other, edge, &input, &told);
+    if (!are_details(told, *at.details) || input != *at.input || !are_same(&other, at.strict, strict_fields, STRICT_FIELDS))
+        is_wrong("a copy of numbers, field", number);
 }
 
 /* Each number of a strict receiver in turn is another. */
@@ -473,7 +432,6 @@ static void try_strict(uint8_t device, const print1525_edge *edges, size_t count
         return;
     }
     for (index = 0; index < count && at.details->status == PRINT1525_DONE; index++) {
-        if (!is_strict(at.strict)) is_wrong("a receiver's numbers at edge", index);
         if (index % step_of(count) == 0) try_other_numbers(others, at.strict, &edges[index]);
         try_copy(others, at.strict, &edges[index]);
         give(at, &edges[index]);
@@ -483,7 +441,7 @@ static void try_strict(uint8_t device, const print1525_edge *edges, size_t count
         received += at.details->length;
     }
     if (at.details->status == PRINT1525_DONE) end(at);
-    else if (is_strict(at.strict)) {
+    else {
         try_fault_again(at, edges, count);
         try_other_numbers(others, at.strict, &edges[0]);
     }
@@ -508,7 +466,7 @@ static void try_devices(placed_strict at) {
             try_numbers(at, &first, device);
             continue;
         }
-        if (status != PRINT1525_DONE || !is_strict(at.strict) || at.strict->device != device) is_wrong("a device's receiver", device);
+        if (status != PRINT1525_DONE || at.strict->device != device) is_wrong("a device's receiver", device);
         end(at);
         if (!is_refused_with(at, PRINT1525_FAULT_BAD_START, 0)) is_wrong("an end before the first edge", device);
         give(at, &first);
@@ -521,30 +479,47 @@ static void try_devices(placed_strict at) {
     }
 }
 
-/* Numbers that no receiver has behind the first edge, or before it; each other number is that of the receiver. */
+/* Numbers that no edges make, behind the first edge and before it. */
 static void try_receivers(void) {
     static const print1525_edge first = {0, 1, 1, 1};
-    static const struct {
-        size_t index;
-        uint64_t number;
-    } rows[] = {
-        {0, 0}, {0, 2}, {0, 77}, {1, 1}, {2, 0}, {2, 2}, {3, 255}, {4, 0}, {5, 1}, {6, 1}, {7, 1}, {7, 5}, {7, 11}, {8, 1}, {8, 3}, {9, 1}, {10, 1},
-        {10, 9}, {11, 1}, {12, 1}, {13, 1}, {14, 0}, {14, 2}, {15, 1}, {15, 11}, {15, 16}, {16, 3}, {16, 31}, {17, 2}, {18, 1}, {18, 255},
-    };
     const placed_strict at = place_strict();
-    size_t row;
+    size_t field_index, other;
     try_devices(at);
-    for (row = 0; row < sizeof rows / sizeof *rows; row++) {
-        begin(at, 4);
-        give(at, &first);
-        put_number(at.strict, strict_fields[rows[row].index], rows[row].number);
-        if (is_strict(at.strict)) is_wrong("numbers of no receiver behind the first edge, row", row);
-        try_numbers(at, &first, row);
-        begin(at, 4);
-        put_number(at.strict, strict_fields[rows[row].index], rows[row].index == 14 ? 1 : rows[row].number ? rows[row].number : 9);
-        if (is_strict(at.strict) != (rows[row].index == 15 && rows[row].number == 11)) is_wrong("numbers before the first edge, row", row);
-        try_numbers(at, &first, row);
+    for (field_index = 0; field_index < STRICT_FIELDS; field_index++)
+        for (other = 0; other < OTHERS; other++) {
+            begin(at, 4);
+            put_number(at.strict, strict_fields[field_index], other_number(0, other));
+            try_numbers(at, &first, field_index);
+            begin(at, 4);
+            give(at, &first);
+            put_number(at.strict, strict_fields[field_index], other_number(0, other));
+            try_numbers(at, &first, field_index);
+        }
+}
+
+/* A receiver on any bus gets of a lawful trace what a strict one gets: LISTEN selects the one set, secondary address 7 the other. */
+static void try_any_bus(uint8_t device, const print1525_edge *edges, size_t count, print1525_details whole, const uint16_t *inputs) {
+    print1525_receiver *const receiver = (print1525_receiver *)(void *)guard(sizeof *receiver).bytes;
+    print1525_received *const came = (print1525_received *)(void *)guard(sizeof *came).bytes;
+    print1525_details details;
+    size_t index, got = 0;
+    memset(receiver, UNTOUCHED, sizeof *receiver);
+    if (print1525_receiver_begin(receiver, device) != (device < 4 || device > 30 ? PRINT1525_REFUSED : PRINT1525_DONE)) is_wrong("a device's receiver", device);
+    if (whole.status != PRINT1525_DONE) return;
+    for (index = 0; index < count; index++) {
+        unsigned input = NO_INPUT;
+        memset(came, UNTOUCHED, sizeof *came);
+        if (print1525_receiver_edge(receiver, &edges[index], came, &details) != PRINT1525_DONE || details.length != (came->kind != PRINT1525_NOTHING_RECEIVED))
+            is_wrong("a receiver's answer at edge", index);
+        if (came->kind > PRINT1525_RECEIVED_UNLISTEN || came->eoi > 1) is_wrong("what came with edge", index);
+        if (came->kind == PRINT1525_RECEIVED_BYTE) input = came->byte;
+        if (came->kind == PRINT1525_RECEIVED_LISTEN) input = PRINT1525_SELECT_UPPER;
+        if (came->kind == PRINT1525_RECEIVED_SELECT && came->byte == 7) input = PRINT1525_SELECT_LOWER;
+        if (input == NO_INPUT) continue;
+        if (got >= whole.length || inputs[got] != input) is_wrong("a receiver on any bus gets another input at edge", index);
+        got++;
     }
+    if (got != whole.length) is_wrong("a receiver on any bus gets so many inputs", got);
 }
 
 /* What a device receives: the whole list at once with buffers of all sizes, and edge by edge. */
@@ -573,6 +548,7 @@ static print1525_details receive(uint8_t device, guarded text) {
         if (inputs[index] != (UNTOUCHED << 8 | UNTOUCHED)) is_wrong("an input behind those received is written", index);
     if (answer.status != PRINT1525_DONE && answer.status != PRINT1525_REFUSED) is_wrong("an answer of print1525_strict_edges", (size_t)answer.status);
     try_strict(device, edges, count, answer, inputs);
+    try_any_bus(device, edges, count, answer, inputs);
     if (taken != 0) is_wrong("a strict receiver takes memory", (size_t)taken);
     for (index = 0; answer.status == PRINT1525_DONE && index < answer.length; index++) printf("%u\n", (unsigned)inputs[index]);
     return answer;
@@ -797,41 +773,16 @@ static const field byte_fields[] = {
 
 static const print1525_byte no_byte = {0, 0, 0, 0, 0, 0, 0, 0, 0, 0, 0, 0, 0, 0};
 
-static int is_edge(const print1525_edge *edge) { return edge->atn <= 1 && edge->clock <= 1 && edge->data <= 1; }
-
-static int is_no_edge(const print1525_edge *edge) { return !edge->time && !edge->atn && !edge->clock && !edge->data; }
-
-/* The numbers are those of a byte that goes on in the decoder's stretch. */
-static int is_byte(const print1525_decoder *decoder) {
-    const print1525_byte *const byte = &decoder->byte;
-    if (byte->command > 1 || byte->eoi > 1 || (!byte->eoi && (byte->answered || byte->answer_ended))) return 0;
-    if (byte->bits > 8 || byte->byte >= 1 << byte->bits || byte->shortest_low > byte->longest_low || byte->shortest_high > byte->longest_high) return 0;
-    if (byte->bits == 0 && (byte->longest_low || byte->longest_high || byte->last_pull != byte->pull)) return 0;
-    if (decoder->called || (!decoder->first.clock && byte->last_pull != decoder->first.time)) return 0;
-    return byte->bits != 8 || (!decoder->first.clock && decoder->turns <= 1);
+/* A reading that a decoder can tell of a recording. */
+static int is_lawful(const print1525_reading *reading) {
+    return (reading->byte.bits == 8) == (reading->kind <= PRINT1525_BYTE_LAST) && reading->byte.bits <= 8 && reading->byte.byte < 1 << reading->byte.bits;
 }
 
-/* The numbers are those of a decoder, as crates/pr_ear/specs/DecoderNumbers.antt says. */
-static int is_decoder(const print1525_decoder *decoder) {
-    const print1525_edge *const turns[] = {&decoder->turn1, &decoder->turn2, &decoder->turn3, &decoder->turn4}, *const first = &decoder->first;
-    size_t index;
-    if (decoder->begun > 1 || decoder->called > decoder->begun || decoder->sent > decoder->begun || decoder->turns > 4) return 0;
-    if (!is_edge(first) || !is_edge(&decoder->last)) return 0;
-    for (index = 0; index < 4; index++)
-        if (index < decoder->turns ? !is_edge(turns[index]) || turns[index]->data == (first->clock + index) % 2 : !is_no_edge(turns[index])) return 0;
-    if (first->data != first->clock && (decoder->turn1.time != first->time || decoder->turn1.atn != first->atn || decoder->turn1.clock != first->clock ||
-                                        decoder->turn1.data != first->data))
-        return 0;
-    if (!decoder->begun && !(is_no_edge(first) && is_no_edge(&decoder->last) && !decoder->turns)) return 0;
-    return decoder->sent ? is_byte(decoder) : are_same(&decoder->byte, &no_byte, byte_fields, BYTE_FIELDS);
-}
-
-/* A reading is one that a decoder can tell. */
+/* A reading that a decoder can tell, whatever its numbers are. */
 static int may_be_read(const print1525_reading *reading, print1525_details answer) {
     if (!is_answer(answer, PRINT1525_DONE, 0, 0, reading->kind != PRINT1525_NO_READING)) return 0;
     if (reading->kind == PRINT1525_NO_READING) return !reading->end && are_same(&reading->byte, &no_byte, byte_fields, BYTE_FIELDS);
-    return reading->kind <= PRINT1525_INCOMPLETE_END && reading->byte.bits <= 8 && (reading->byte.bits == 8) == (reading->kind <= PRINT1525_BYTE_LAST) &&
-           reading->byte.byte < 1 << reading->byte.bits && reading->byte.command <= 1 && reading->byte.eoi <= 1;
+    return reading->kind <= PRINT1525_INCOMPLETE_END && reading->byte.command <= 1 && reading->byte.eoi <= 1;
 }
 
 static int is_refused(const print1525_reading *reading, print1525_details answer, int fault) {
@@ -854,18 +805,16 @@ static placed_decoder place_decoder(void) {
     return made;
 }
 
-/* Numbers that are no decoder are refused with nothing changed, and those of one are not. */
+/* Whatever numbers a decoder has, it refuses nothing but an edge that goes back, and then nothing is changed. */
 static void try_decoder_numbers(placed_decoder at, const print1525_edge *edge, size_t number) {
     const print1525_decoder before = *at.decoder;
-    const int is_one = is_decoder(at.decoder), goes_back = before.begun && edge->time < before.last.time;
+    const int goes_back = before.begun == 1 && edge->time < before.last.time;
     print1525_decoder_end(at.decoder, at.reading, at.answer);
-    if (is_one ? !may_be_read(at.reading, *at.answer) : !is_refused(at.reading, *at.answer, PRINT1525_FAULT_NO_DECODER))
-        is_wrong("an end for a decoder's numbers, field", number);
+    if (!may_be_read(at.reading, *at.answer)) is_wrong("an end for a decoder's numbers, field", number);
     print1525_decoder_edge(at.decoder, edge, at.reading, at.answer);
-    if (!is_one ? !is_refused(at.reading, *at.answer, PRINT1525_FAULT_NO_DECODER)
-                : goes_back ? !is_refused(at.reading, *at.answer, PRINT1525_FAULT_BAD_ORDER) : !may_be_read(at.reading, *at.answer))
+    if (goes_back ? !is_refused(at.reading, *at.answer, PRINT1525_FAULT_BAD_ORDER) : !may_be_read(at.reading, *at.answer))
         is_wrong("an edge for a decoder's numbers, field", number);
-    if ((!is_one || goes_back) && memcmp(&before, at.decoder, sizeof before) != 0) is_wrong("a refused decoder is changed, field", number);
+    if (goes_back && memcmp(&before, at.decoder, sizeof before) != 0) is_wrong("a refused decoder is changed, field", number);
 }
 
 /* Each number of a decoder in turn is another. */
@@ -896,7 +845,7 @@ static void try_decoder_copy(placed_decoder at, const print1525_decoder *decoder
     if (memcmp(&before, decoder, sizeof before) != 0) is_wrong("a decoder changes with its copy, behind edges", count);
 }
 
-/* A decoder refuses numbers that are none, and an edge that stands before the one taken last, with nothing changed; a byte that the
+/* Memory of zeros is a decoder just begun. A decoder refuses an edge that stands before the one taken last, with nothing changed; a byte that the
  * recording's end cuts is told by the end alone, as often as it is asked for. */
 static void try_decoder(void) {
     static const char levels[] = "100110111101111101";
@@ -905,14 +854,10 @@ static void try_decoder(void) {
     print1525_reading reading;
     print1525_details answer;
     size_t index;
+    memset(&before, 0, sizeof before);
     memset(&decoder, UNTOUCHED, sizeof decoder);
-    before = decoder;
-    print1525_decoder_edge(&decoder, &later, &reading, &answer);
-    if (!is_answer(answer, PRINT1525_REFUSED, PRINT1525_FAULT_NO_DECODER, 0, 0) || reading.kind != PRINT1525_NO_READING)
-        is_wrong("an edge for numbers that are no decoder", (size_t)answer.fault);
-    print1525_decoder_end(&decoder, &reading, &answer);
-    if (!is_answer(answer, PRINT1525_REFUSED, PRINT1525_FAULT_NO_DECODER, 0, 0)) is_wrong("an end for no decoder", (size_t)answer.fault);
-    if (memcmp(&before, &decoder, sizeof decoder) != 0) is_wrong("a refused decoder is changed", 0);
+    print1525_decoder_begin(&decoder);
+    if (!are_same(&before, &decoder, decoder_fields, DECODER_FIELDS)) is_wrong("a decoder just begun", 0);
     print1525_decoder_begin(&decoder);
     print1525_decoder_edge(&decoder, &later, &reading, &answer);
     before = decoder;
@@ -1062,12 +1007,12 @@ static int readings(guarded text) {
     taken = 0;
     print1525_decoder_begin(decoder);
     for (index = 0; index < count; index++) {
-        if (!is_decoder(decoder)) is_wrong("a decoder's numbers at edge", index);
         if (index % step_of(count) == 0) try_other_decoders(others, decoder, &edges[index]);
         try_decoder_copy(others, decoder, &edges[index], index);
         print1525_decoder_edge(decoder, &edges[index], reading, answer);
         if (answer->status != PRINT1525_DONE || answer->length != (reading->kind != PRINT1525_NO_READING))
             is_wrong("an answer of a decoder at edge", index);
+        if (answer->length && !is_lawful(reading)) is_wrong("a reading at edge", index);
         if (answer->length) tell_reading(reading);
     }
     print1525_decoder_end(decoder, reading, answer);

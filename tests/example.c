@@ -67,10 +67,6 @@ static void refusals_of_receivers(void) {
     strict.last = first;
     before = strict;
     CHECK(print1525_strict_begin(&strict, 31) == PRINT1525_REFUSED);
-    print1525_strict_edge(&strict, &first, &input, &answer);
-    CHECK(answers(answer, PRINT1525_REFUSED, PRINT1525_FAULT_NO_RECEIVER, 0, 0));
-    print1525_strict_end(&strict, &answer);
-    CHECK(answers(answer, PRINT1525_REFUSED, PRINT1525_FAULT_NO_RECEIVER, 0, 0));
     CHECK(memcmp(&strict, &before, sizeof strict) == 0);
     CHECK(print1525_strict_begin(&strict, 30) == PRINT1525_DONE);
     print1525_strict_end(&strict, &answer);
@@ -109,21 +105,12 @@ static void example_decoded(void) {
     CHECK(memcmp(&reading, &none, sizeof reading) == 0);
 }
 
-/* A decoder that was never begun, in which DATA has turned nine times, and an edge that goes back. */
+/* An edge that goes back. */
 static void refusals_of_decoders(void) {
     static const print1525_edge later = {9, 1, 2, 255};
     print1525_decoder decoder, before;
     print1525_reading reading;
     print1525_details answer;
-    memset(&decoder, 0, sizeof decoder);
-    decoder.first = decoder.last = decoder.turn1 = decoder.turn2 = decoder.turn3 = decoder.turn4 = first;
-    decoder.turns = 9;
-    before = decoder;
-    print1525_decoder_edge(&decoder, &first, &reading, &answer);
-    CHECK(answers(answer, PRINT1525_REFUSED, PRINT1525_FAULT_NO_DECODER, 0, 0));
-    CHECK(memcmp(&decoder, &before, sizeof decoder) == 0);
-    print1525_decoder_end(&decoder, &reading, &answer);
-    CHECK(answers(answer, PRINT1525_REFUSED, PRINT1525_FAULT_NO_DECODER, 0, 0));
     CHECK(print1525_decoder_begin(&decoder) == PRINT1525_DONE);
     print1525_decoder_edge(&decoder, &later, &reading, &answer);
     CHECK(answers(answer, PRINT1525_DONE, 0, 0, 0));
@@ -131,6 +118,38 @@ static void refusals_of_decoders(void) {
     print1525_decoder_edge(&decoder, &first, &reading, &answer);
     CHECK(answers(answer, PRINT1525_REFUSED, PRINT1525_FAULT_BAD_ORDER, 0, 0));
     CHECK(memcmp(&decoder, &before, sizeof decoder) == 0);
+}
+
+/* What comes to printer 4, to the computer's disk drive and to nobody, as any bus says it. */
+static void example_received(void) {
+    static const struct {
+        unsigned kind, byte, eoi;
+    } wanted[] = {{PRINT1525_RECEIVED_LISTEN, 0, 0},
+                  {PRINT1525_RECEIVED_BYTE, 72, 0},
+                  {PRINT1525_RECEIVED_BYTE, 73, 0},
+                  {PRINT1525_RECEIVED_BYTE, 13, 1},
+                  {PRINT1525_RECEIVED_UNLISTEN, 0, 0}};
+    print1525_receiver receiver;
+    print1525_received came;
+    print1525_details answer;
+    unsigned device;
+    size_t index, count;
+    CHECK(print1525_receiver_begin(&receiver, 3) == PRINT1525_REFUSED && print1525_receiver_begin(&receiver, 31) == PRINT1525_REFUSED);
+    CHECK(print1525_receiver_begin(NULL, 4) == PRINT1525_REFUSED);
+    for (device = 4; device <= 30; device++) {
+        CHECK(print1525_receiver_begin(&receiver, (uint8_t)device) == PRINT1525_DONE);
+        for (index = count = 0; index < EDGES; index++) {
+            CHECK(print1525_receiver_edge(&receiver, &edges[index], &came, &answer) == PRINT1525_DONE);
+            CHECK(answers(answer, PRINT1525_DONE, 0, 0, came.kind != PRINT1525_NOTHING_RECEIVED));
+            if (answer.length == 0) continue;
+            CHECK(device == 4 && count < 5 && came.kind == wanted[count].kind && came.byte == wanted[count].byte && came.eoi == wanted[count].eoi);
+            count++;
+        }
+        CHECK(count == (device == 4 ? 5 : 0));
+        CHECK(print1525_receiver_edge(&receiver, &edges[0], &came, &answer) == PRINT1525_REFUSED);
+        CHECK(answers(answer, PRINT1525_REFUSED, PRINT1525_FAULT_BAD_ORDER, 0, 0) && came.kind == PRINT1525_NOTHING_RECEIVED);
+        CHECK(print1525_receiver_edge(&receiver, &edges[0], NULL, &answer) == PRINT1525_REFUSED && answer.fault == PRINT1525_FAULT_NULL_POINTER);
+    }
 }
 
 int main(void) {
@@ -148,6 +167,7 @@ int main(void) {
     example_edge_by_edge();
     refusals_of_receivers();
     example_decoded();
+    example_received();
     refusals_of_decoders();
     return failed;
 }

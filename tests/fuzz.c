@@ -256,6 +256,30 @@ static void try_decoder(uint8_t *memories[6]) {
     }
 }
 
+static void try_receiver(uint8_t *memories[6]) {
+    print1525_receiver *const receiver = (print1525_receiver *)(void *)(memories[0] + ROOM - sizeof *receiver);
+    print1525_received *const came = (print1525_received *)(void *)(memories[1] + ROOM - sizeof *came);
+    print1525_details *const details = (print1525_details *)(void *)(memories[2] + ROOM - sizeof *details);
+    print1525_edge *const edge = (print1525_edge *)(void *)(memories[3] + ROOM - sizeof *edge);
+    const uint8_t device = (uint8_t)(below(9) ? 4 + below(2) : drawn());
+    uint64_t time = below(1000);
+    size_t count;
+    if (print1525_receiver_begin(receiver, device) != (device >= 4 && device <= 30 ? PRINT1525_DONE : PRINT1525_REFUSED)) is_wrong("receiver_begin", "the device");
+    for (count = below(60); count > 0; count--) {
+        print1525_receiver before, other;
+        print1525_received again;
+        print1525_details told;
+        if (below(30) == 0) damage(receiver, sizeof *receiver);
+        *edge = made_edge(&time);
+        before = other = *receiver;
+        test_details("receiver_edge", print1525_receiver_edge(receiver, edge, came, details), details, 1);
+        if (details->status != PRINT1525_DONE && memcmp(&before, receiver, sizeof before) != 0) is_wrong("receiver_edge", "a receiver that refuses");
+        if ((details->length == 1) != (came->kind != PRINT1525_NOTHING_RECEIVED) || came->kind > PRINT1525_RECEIVED_UNLISTEN || came->eoi > 1) is_wrong("receiver_edge", "what came");
+        print1525_receiver_edge(&other, edge, &again, &told);
+        if (memcmp(&told, details, sizeof told) != 0 || memcmp(&again, came, sizeof again) != 0) is_wrong("receiver_edge", "another answer");
+    }
+}
+
 static void try_strict(uint8_t *memories[6]) {
     print1525_strict *const strict = (print1525_strict *)(void *)(memories[0] + ROOM - sizeof *strict);
     uint16_t *const input = (uint16_t *)(void *)(memories[1] + ROOM - sizeof *input);
@@ -290,9 +314,10 @@ int main(int words, char **word) {
     state = (words > 1 ? strtoul(word[1], NULL, 10) : 1) * 0x9E3779B97F4A7C15u | 1;
     for (index = 0; index < 6; index++) memories[index] = guard();
     for (round_now = 0; round_now < rounds; round_now++) {
-        switch (below(8)) {
+        switch (below(9)) {
         case 0: try_decoder(memories); break;
         case 1: try_strict(memories); break;
+        case 2: try_receiver(memories); break;
         default: try_text(memories); break;
         }
     }
