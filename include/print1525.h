@@ -31,9 +31,9 @@
  *
  * POINTERS. A pointer may be NULL where its length is 0. With another length NULL is refused (NULL_POINTER). A buffer
  * that overlaps what the call reads is refused (OVERLAP). Settings and details may be NULL: the settings of
- * PRINT1525_SETTINGS_INIT, and nobody wants the details. A structure is read before any is written, details last, so
- * structures may overlap. What cannot be tested is the caller's part: at least `length` items can be read there, or
- * `capacity` items of a buffer written; a pointer to numbers is aligned for them; and during a call no other thread
+ * PRINT1525_SETTINGS_INIT, and nobody wants the details. Structures may overlap: each is read before one is written,
+ * and details are written last. What cannot be tested is the caller's part: at least `length` items can be read there,
+ * or `capacity` items of a buffer written; a pointer to numbers is aligned for them; and during a call no other thread
  * writes what the call reads, or touches what it writes.
  *
  * OWNERSHIP. The caller owns all memory that it passes. No call keeps a pointer or hands out memory; what a call takes
