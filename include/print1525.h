@@ -113,13 +113,15 @@ enum print1525_fault {
     PRINT1525_FAULT_BAD_LINE = 8,
     /* refused: of any input; `place` is 0 */
     PRINT1525_FAULT_TOO_LARGE = 9,
-    /* refused: of edges; `place` is the edge's index, from 0 (a decoder counts no edges: 0) */
+    /* refused: of a lawful trace's edges; `place` is the edge's index, from 0 */
     PRINT1525_FAULT_BAD_START = 11,
     PRINT1525_FAULT_BAD_ORDER = 12,
     PRINT1525_FAULT_TOO_EARLY = 13,
     PRINT1525_FAULT_TOO_LATE = 14,
     PRINT1525_FAULT_BAD_SHAPE = 15,
     PRINT1525_FAULT_TRUNCATED = 16,
+    /* refused: of an edge of any bus, earlier than the one before it; `place` is 0, since nobody counts them */
+    PRINT1525_FAULT_GOES_BACK = 17,
     /* refused: a number that means no device or no setting; `place` is 0 */
     PRINT1525_FAULT_NO_SUCH_DEVICE = 21,
     PRINT1525_FAULT_NO_SUCH_PRINTERS = 22,
@@ -367,7 +369,7 @@ PRINT1525_CALL int print1525_decoder_begin(print1525_decoder *decoder);
  * Reads: a decoder that was begun, and edges whose times do not go back; several may have one time.
  * Gives: `length` 1 and the reading, or 0 and PRINT1525_NO_READING.
  * Refuses, with the decoder as it was and PRINT1525_NO_READING: NULL (80), with nothing written but details; numbers
- * that are no decoder (27); and an edge earlier than the one before it (12). */
+ * that are no decoder (27); and an edge earlier than the one before it (17). */
 PRINT1525_CALL int print1525_decoder_edge(print1525_decoder *decoder, const print1525_edge *edge,
                                           print1525_reading *reading, print1525_details *details);
 
@@ -535,6 +537,7 @@ PRINT1525_CALL const char *print1525_strerror(int fault) {
     case PRINT1525_FAULT_TOO_LATE: return "too late";
     case PRINT1525_FAULT_BAD_SHAPE: return "bad shape";
     case PRINT1525_FAULT_TRUNCATED: return "truncated";
+    case PRINT1525_FAULT_GOES_BACK: return "time goes back";
     case PRINT1525_FAULT_NO_SUCH_DEVICE: return "no such device";
     case PRINT1525_FAULT_NO_SUCH_PRINTERS: return "no such printers";
     case PRINT1525_FAULT_NO_SUCH_STATUS: return "no such status";
@@ -819,6 +822,12 @@ PRINT1525_CALL int print1525_check(const void *trace, size_t length, const print
     return print1525_own_answer(details, answer);
 }
 
+/* Tells what a proved call answered that takes the edges of any bus, of which it refuses nothing but their order. */
+PRINT1525_OWN int print1525_own_bus_answer(print1525_details *details, print1525_plain_answer answer) {
+    if (answer.fault == PRINT1525_FAULT_BAD_ORDER) answer.fault = PRINT1525_FAULT_GOES_BACK;
+    return print1525_own_answer(details, answer);
+}
+
 PRINT1525_CALL int print1525_decoder_begin(print1525_decoder *decoder) {
     if (decoder == NULL) return PRINT1525_REFUSED;
     print1525_plain_decode_begin(decoder);
@@ -835,7 +844,7 @@ PRINT1525_CALL int print1525_decoder_edge(print1525_decoder *decoder, const prin
     read = *edge;
     print1525_plain_decode_edge(decoder, &read, &settled, &answer);
     *reading = settled;
-    return print1525_own_answer(details, answer);
+    return print1525_own_bus_answer(details, answer);
 }
 
 PRINT1525_CALL int print1525_decoder_end(const print1525_decoder *decoder, print1525_reading *reading,

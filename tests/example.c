@@ -129,7 +129,7 @@ static void refusals_of_decoders(void) {
     CHECK(answers(answer, PRINT1525_DONE, 0, 0, 0));
     before = decoder;
     print1525_decoder_edge(&decoder, &first, &reading, &answer);
-    CHECK(answers(answer, PRINT1525_REFUSED, PRINT1525_FAULT_BAD_ORDER, 0, 0));
+    CHECK(answers(answer, PRINT1525_REFUSED, PRINT1525_FAULT_GOES_BACK, 0, 0));
     CHECK(memcmp(&decoder, &before, sizeof decoder) == 0);
 }
 
