@@ -32,9 +32,9 @@
  *
  * POINTERS. A pointer may be NULL where its length is 0. With another length NULL is refused (NULL_POINTER). A buffer
  * that overlaps what the call reads is refused (OVERLAP). Settings and details may be NULL: the settings of
- * PRINT1525_SETTINGS_INIT, and nobody wants the details. A structure is read before any is written, details last, so
- * structures may overlap. What cannot be tested is the caller's part: at least `length` items can be read there, or
- * `capacity` items of a buffer written; a pointer to numbers is aligned for them; and during a call no other thread
+ * PRINT1525_SETTINGS_INIT, and nobody wants the details. Structures may overlap: each is read before one is written,
+ * and details are written last. What cannot be tested is the caller's part: at least `length` items can be read there,
+ * or `capacity` items of a buffer written; a pointer to numbers is aligned for them; and during a call no other thread
  * writes what the call reads, or touches what it writes.
  *
  * OWNERSHIP. The caller owns all memory that it passes. No call keeps a pointer or hands out memory; what a call takes
@@ -114,13 +114,15 @@ enum print1525_fault {
     PRINT1525_FAULT_BAD_LINE = 8,
     /* refused: of any input; `place` is 0 */
     PRINT1525_FAULT_TOO_LARGE = 9,
-    /* refused: of edges; `place` is the edge's index, from 0 (a decoder counts no edges: 0) */
+    /* refused: of a lawful trace's edges; `place` is the edge's index, from 0 */
     PRINT1525_FAULT_BAD_START = 11,
     PRINT1525_FAULT_BAD_ORDER = 12,
     PRINT1525_FAULT_TOO_EARLY = 13,
     PRINT1525_FAULT_TOO_LATE = 14,
     PRINT1525_FAULT_BAD_SHAPE = 15,
     PRINT1525_FAULT_TRUNCATED = 16,
+    /* refused: of an edge of any bus, earlier than the one before it; `place` is 0, since nobody counts them */
+    PRINT1525_FAULT_GOES_BACK = 17,
     /* refused: a number that means no device or no setting; `place` is 0 */
     PRINT1525_FAULT_NO_SUCH_DEVICE = 21,
     PRINT1525_FAULT_NO_SUCH_PRINTERS = 22,
@@ -361,7 +363,7 @@ PRINT1525_CALL int print1525_decoder_begin(print1525_decoder *decoder);
  * Reads: a decoder that was begun, and edges whose times do not go back; several may have one time.
  * Gives: `length` 1 and the reading, or 0 and PRINT1525_NO_READING.
  * Refuses, with the decoder as it was: NULL (80), with nothing written but details; and an edge earlier than the one
- * before it (12), with PRINT1525_NO_READING. */
+ * before it (17), with PRINT1525_NO_READING. */
 PRINT1525_CALL int print1525_decoder_edge(print1525_decoder *decoder, const print1525_edge *edge,
                                           print1525_reading *reading, print1525_details *details);
 
@@ -410,7 +412,7 @@ PRINT1525_CALL int print1525_receiver_begin(print1525_receiver *receiver, uint8_
  * Reads: a receiver that was begun, and edges whose times do not go back; several may have one time.
  * Gives: `length` 1 and what came, or 0 and PRINT1525_NOTHING_RECEIVED.
  * Refuses, with the receiver as it was: NULL (80), with nothing written but details; and an edge earlier than the one
- * before it (12), with PRINT1525_NOTHING_RECEIVED. */
+ * before it (17), with PRINT1525_NOTHING_RECEIVED. */
 PRINT1525_CALL int print1525_receiver_edge(print1525_receiver *receiver, const print1525_edge *edge,
                                            print1525_received *received, print1525_details *details);
 
@@ -569,6 +571,7 @@ PRINT1525_CALL const char *print1525_strerror(int fault) {
     case PRINT1525_FAULT_TOO_LATE: return "too late";
     case PRINT1525_FAULT_BAD_SHAPE: return "bad shape";
     case PRINT1525_FAULT_TRUNCATED: return "truncated";
+    case PRINT1525_FAULT_GOES_BACK: return "time goes back";
     case PRINT1525_FAULT_NO_SUCH_DEVICE: return "no such device";
     case PRINT1525_FAULT_NO_SUCH_PRINTERS: return "no such printers";
     case PRINT1525_FAULT_NO_SUCH_STATUS: return "no such status";
@@ -851,6 +854,12 @@ PRINT1525_CALL int print1525_check(const void *trace, size_t length, const print
     return print1525_own_answer(details, answer);
 }
 
+/* Tells what a proved call answered that takes the edges of any bus, of which it refuses nothing but their order. */
+PRINT1525_OWN int print1525_own_bus_answer(print1525_details *details, print1525_plain_answer answer) {
+    if (answer.fault == PRINT1525_FAULT_BAD_ORDER) answer.fault = PRINT1525_FAULT_GOES_BACK;
+    return print1525_own_answer(details, answer);
+}
+
 PRINT1525_CALL int print1525_decoder_begin(print1525_decoder *decoder) {
     if (decoder == NULL) return PRINT1525_REFUSED;
     print1525_plain_decode_begin(decoder);
@@ -867,7 +876,7 @@ PRINT1525_CALL int print1525_decoder_edge(print1525_decoder *decoder, const prin
     read = *edge;
     print1525_plain_decode_edge(decoder, &read, &settled, &answer);
     *reading = settled;
-    return print1525_own_answer(details, answer);
+    return print1525_own_bus_answer(details, answer);
 }
 
 PRINT1525_CALL int print1525_decoder_end(const print1525_decoder *decoder, print1525_reading *reading,
@@ -897,7 +906,7 @@ PRINT1525_CALL int print1525_receiver_edge(print1525_receiver *receiver, const p
     read = *edge;
     print1525_plain_receiver_edge(receiver, &read, &came, &answer);
     *received = came;
-    return print1525_own_answer(details, answer);
+    return print1525_own_bus_answer(details, answer);
 }
 
 PRINT1525_CALL int print1525_strict_begin(print1525_strict *strict, uint8_t device) {

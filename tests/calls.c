@@ -812,7 +812,7 @@ static void try_decoder_numbers(placed_decoder at, const print1525_edge *edge, s
     print1525_decoder_end(at.decoder, at.reading, at.answer);
     if (!may_be_read(at.reading, *at.answer)) is_wrong("an end for a decoder's numbers, field", number);
     print1525_decoder_edge(at.decoder, edge, at.reading, at.answer);
-    if (goes_back ? !is_refused(at.reading, *at.answer, PRINT1525_FAULT_BAD_ORDER) : !may_be_read(at.reading, *at.answer))
+    if (goes_back ? !is_refused(at.reading, *at.answer, PRINT1525_FAULT_GOES_BACK) : !may_be_read(at.reading, *at.answer))
         is_wrong("an edge for a decoder's numbers, field", number);
     if (goes_back && memcmp(&before, at.decoder, sizeof before) != 0) is_wrong("a refused decoder is changed, field", number);
 }
@@ -862,7 +862,7 @@ static void try_decoder(void) {
     print1525_decoder_edge(&decoder, &later, &reading, &answer);
     before = decoder;
     print1525_decoder_edge(&decoder, &earlier, &reading, &answer);
-    if (!is_answer(answer, PRINT1525_REFUSED, PRINT1525_FAULT_BAD_ORDER, 0, 0) || memcmp(&before, &decoder, sizeof decoder) != 0)
+    if (!is_answer(answer, PRINT1525_REFUSED, PRINT1525_FAULT_GOES_BACK, 0, 0) || memcmp(&before, &decoder, sizeof decoder) != 0)
         is_wrong("an edge that goes back", (size_t)answer.fault);
     print1525_decoder_begin(&decoder);
     for (index = 0; index < 6; index++) {

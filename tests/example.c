@@ -116,7 +116,7 @@ static void refusals_of_decoders(void) {
     CHECK(answers(answer, PRINT1525_DONE, 0, 0, 0));
     before = decoder;
     print1525_decoder_edge(&decoder, &first, &reading, &answer);
-    CHECK(answers(answer, PRINT1525_REFUSED, PRINT1525_FAULT_BAD_ORDER, 0, 0));
+    CHECK(answers(answer, PRINT1525_REFUSED, PRINT1525_FAULT_GOES_BACK, 0, 0));
     CHECK(memcmp(&decoder, &before, sizeof decoder) == 0);
 }
 
@@ -147,7 +147,7 @@ static void example_received(void) {
         }
         CHECK(count == (device == 4 ? 5 : 0));
         CHECK(print1525_receiver_edge(&receiver, &edges[0], &came, &answer) == PRINT1525_REFUSED);
-        CHECK(answers(answer, PRINT1525_REFUSED, PRINT1525_FAULT_BAD_ORDER, 0, 0) && came.kind == PRINT1525_NOTHING_RECEIVED);
+        CHECK(answers(answer, PRINT1525_REFUSED, PRINT1525_FAULT_GOES_BACK, 0, 0) && came.kind == PRINT1525_NOTHING_RECEIVED);
         CHECK(print1525_receiver_edge(&receiver, &edges[0], NULL, &answer) == PRINT1525_REFUSED && answer.fault == PRINT1525_FAULT_NULL_POINTER);
     }
 }

@@ -41,7 +41,7 @@ int main(void) {
     while ((got = next_edge(&edge)) > 0) {
         status = print1525_decoder_edge(&decoder, &edge, &reading, &details);
         if (status != PRINT1525_DONE) {
-            fprintf(stderr, "%s\n", print1525_strerror(details.fault));
+            fprintf(stderr, "%s\n", print1525_strerror(details.fault)); /* time goes back */
             return status;
         }
         tell(&reading);
