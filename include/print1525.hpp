@@ -127,6 +127,24 @@ private:
     print1525_decoder state{}; // a decoder just begun
 };
 
+// A receiver of a device on any bus: what comes to it with an edge, if anything does.
+class receiver {
+public:
+    explicit receiver(std::uint8_t device) {
+        if (print1525_receiver_begin(&state, device) != PRINT1525_DONE)
+            throw error({PRINT1525_REFUSED, PRINT1525_FAULT_NO_SUCH_DEVICE, 0, 0, 0});
+    }
+    std::optional<print1525_received> edge(const print1525_edge &next) {
+        print1525_details details{};
+        print1525_received received{};
+        if (print1525_receiver_edge(&state, &next, &received, &details) != PRINT1525_DONE) throw error(details);
+        return details.length ? std::optional(received) : std::nullopt;
+    }
+
+private:
+    print1525_receiver state{};
+};
+
 } // namespace print1525
 
 #endif

@@ -62,14 +62,20 @@ static void printers(const char *name) {
 static void recordings() {
     const std::string trace(std::istreambuf_iterator<char>(std::cin), {});
     print1525::decoder decoder;
-    std::string bytes;
+    print1525::receiver receiver(4);
+    std::string bytes, received;
     for (std::size_t at = 0; at < trace.size(); at = trace.find('\n', at) + 1) {
         const std::size_t levels = trace.find(' ', at) + 1;
         const auto level = [&](std::size_t line) { return static_cast<std::uint8_t>(trace[levels + line] == '1'); };
-        const auto reading = decoder.edge({std::stoull(trace.substr(at)), level(0), level(1), level(2)});
+        const print1525_edge edge = {std::stoull(trace.substr(at)), level(0), level(1), level(2)};
+        const auto reading = decoder.edge(edge);
+        const auto came = receiver.edge(edge);
+        if (came && came->kind == PRINT1525_RECEIVED_BYTE) received += static_cast<char>(came->byte);
         if (reading && reading->kind == PRINT1525_BYTE_ACKNOWLEDGED && !reading->byte.command) bytes += static_cast<char>(reading->byte.byte);
     }
-    CHECK(bytes == "HI\r" && !decoder.end());
+    CHECK(bytes == "HI\r" && received == "HI\r" && !decoder.end());
+    CHECK(message_of([&] { receiver.edge({0, 1, 1, 1}); }) == "time goes back");
+    CHECK(message_of([] { print1525::receiver(31); }) == "no such device");
     CHECK(message_of([&] { decoder.edge({0, 1, 1, 1}); }) == "time goes back");
 }
 
