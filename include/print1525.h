@@ -38,8 +38,8 @@
  * writes what the call reads, or touches what it writes.
  *
  * OWNERSHIP. The caller owns all memory that it passes. No call keeps a pointer or hands out memory; what a call takes
- * by malloc it frees before it returns. A buffer's bytes need not be initialised. All structures are plain: copy, save
- * and load them freely; their sizes and numbers are the same in all versions 1.
+ * by malloc it frees before it returns. A buffer's bytes need not be initialised. All structures are plain: copy them
+ * freely, and save and load those without pointers.
  *
  * WHAT A CALLER CARRIES.
  * - Threads: no call keeps any state, so several threads may make calls at once.
@@ -48,11 +48,12 @@
  *   PRINT1525_FAULT_NO_MEMORY and has freed what it took.
  * - Signal handlers: the calls for edges and words, which take no memory, and no others.
  * - fork: a child may make calls where it may call malloc.
- * - Errors of the processor, errno, locales, files and the time: no call touches them.
+ * - No call touches files, streams, locales, the time or the state of floating point; errno only where malloc does.
  *
  * STABLE in all versions 1: the names, numbers and structures above the line `The header's own code`, and what calls
- * give. A later version may add calls, numbers of faults, and settings at the end of print1525_settings; `size` tells
- * which it has. Not stable: names that begin with print1525_plain_ or print1525_own_. */
+ * give. A later version may add calls, numbers of faults, and settings at the end of print1525_settings, whose `size`
+ * tells which there are. Not stable: names that begin with print1525_own_, and those that begin with print1525_plain_
+ * but for programs that are compiled already. */
 #ifndef PRINT1525_H
 #define PRINT1525_H
 

@@ -39,17 +39,119 @@ struct RawSettings {
     characters_length: usize,
 }
 
-const _: () = assert!(size_of::<Details>() == 32 && size_of::<RawSettings>() == 80);
+/// An edge of the bus: from this microsecond on the lines have these levels, 0 for pulled.
+#[repr(C)]
+#[derive(Clone, Copy, Debug, Default, PartialEq, Eq)]
+pub struct Edge {
+    pub time: u64,
+    pub atn: u8,
+    pub clock: u8,
+    pub data: u8,
+}
 
-type Call<Item> = unsafe extern "C" fn(*const Item, usize, *const RawSettings, *mut c_void, usize, *mut Details) -> c_int;
+/// A byte on the wires as far as it came, with its times in microseconds, as `print1525_byte`.
+#[repr(C)]
+#[derive(Clone, Copy, Debug, Default, PartialEq, Eq)]
+pub struct Byte {
+    pub look: u64,
+    pub ready: u64,
+    pub answered: u64,
+    pub answer_ended: u64,
+    pub pull: u64,
+    pub shortest_low: u64,
+    pub longest_low: u64,
+    pub shortest_high: u64,
+    pub longest_high: u64,
+    pub last_pull: u64,
+    pub command: u8,
+    pub eoi: u8,
+    pub bits: u8,
+    pub byte: u8,
+}
+
+/// What a recording says at one place: how the byte ended is `kind`, a number of `print1525_kind`.
+#[repr(C)]
+#[derive(Clone, Copy, Debug, Default, PartialEq, Eq)]
+pub struct Reading {
+    pub byte: Byte,
+    pub end: u64,
+    pub kind: u8,
+}
+
+/// A decoder of a recording of any bus. The default is one just begun.
+#[repr(C)]
+#[derive(Clone, Copy, Debug, Default, PartialEq, Eq)]
+pub struct Decoder {
+    edges: [Edge; 6],
+    byte: Byte,
+    begun: u8,
+    called: u8,
+    turns: u8,
+    sent: u8,
+}
+
+const _: () = assert!(size_of::<Details>() == 32 && size_of::<RawSettings>() == 80);
+const _: () = assert!(size_of::<Edge>() == 16 && size_of::<Reading>() == 104 && size_of::<Decoder>() == 192);
+
+type Call<Item> =
+    unsafe extern "C" fn(*const Item, usize, *const RawSettings, *mut c_void, usize, *mut Details) -> c_int;
 
 unsafe extern "C" {
-    fn print1525_pages(script: *const u8, length: usize, s: *const RawSettings, to: *mut c_void, room: usize, d: *mut Details) -> c_int;
-    fn print1525_bus(script: *const u8, length: usize, s: *const RawSettings, to: *mut c_void, room: usize, d: *mut Details) -> c_int;
-    fn print1525_listing(bytes: *const u8, length: usize, s: *const RawSettings, to: *mut c_void, room: usize, d: *mut Details) -> c_int;
-    fn print1525_raw(bytes: *const u8, length: usize, s: *const RawSettings, to: *mut c_void, room: usize, d: *mut Details) -> c_int;
-    fn print1525_print(inputs: *const u16, length: usize, s: *const RawSettings, to: *mut c_void, room: usize, d: *mut Details) -> c_int;
-    fn print1525_check(trace: *const u8, length: usize, s: *const RawSettings, to: *mut c_void, room: usize, d: *mut Details) -> c_int;
+    fn print1525_pages(
+        script: *const u8,
+        length: usize,
+        s: *const RawSettings,
+        to: *mut c_void,
+        room: usize,
+        d: *mut Details,
+    ) -> c_int;
+    fn print1525_bus(
+        script: *const u8,
+        length: usize,
+        s: *const RawSettings,
+        to: *mut c_void,
+        room: usize,
+        d: *mut Details,
+    ) -> c_int;
+    fn print1525_listing(
+        bytes: *const u8,
+        length: usize,
+        s: *const RawSettings,
+        to: *mut c_void,
+        room: usize,
+        d: *mut Details,
+    ) -> c_int;
+    fn print1525_raw(
+        bytes: *const u8,
+        length: usize,
+        s: *const RawSettings,
+        to: *mut c_void,
+        room: usize,
+        d: *mut Details,
+    ) -> c_int;
+    fn print1525_print(
+        inputs: *const u16,
+        length: usize,
+        s: *const RawSettings,
+        to: *mut c_void,
+        room: usize,
+        d: *mut Details,
+    ) -> c_int;
+    fn print1525_check(
+        trace: *const u8,
+        length: usize,
+        s: *const RawSettings,
+        to: *mut c_void,
+        room: usize,
+        d: *mut Details,
+    ) -> c_int;
+    fn print1525_decoder_edge(
+        decoder: *mut Decoder,
+        edge: *const Edge,
+        reading: *mut Reading,
+        d: *mut Details,
+    ) -> c_int;
+    fn print1525_decoder_end(decoder: *const Decoder, reading: *mut Reading, d: *mut Details) -> c_int;
     fn print1525_message(details: *const Details, text: *mut c_char, capacity: usize) -> usize;
     fn print1525_version() -> *const c_char;
 }
@@ -207,6 +309,26 @@ pub fn raw(bytes: &[u8], settings: &Settings) -> Result<Printed, Error> {
 /// The frames that a trace text spells.
 pub fn check(trace: &[u8], settings: &Settings) -> Result<Printed, Error> {
     text_of(print1525_check, trace, settings)
+}
+
+impl Decoder {
+    /// Takes the next edge, and gives the reading that it settles; refuses an edge that goes back.
+    pub fn edge(&mut self, edge: Edge) -> Result<Option<Reading>, Error> {
+        let (mut reading, mut details) = (Reading::default(), Details::default());
+        // SAFETY: the structures live as long as the call.
+        match unsafe { print1525_decoder_edge(self, &edge, &mut reading, &mut details) } {
+            0 => Ok((details.length > 0).then_some(reading)),
+            _ => Err(Error(details)),
+        }
+    }
+
+    /// The reading that the end of the recording cuts, if it cuts one.
+    pub fn end(&self) -> Option<Reading> {
+        let (mut reading, mut details) = (Reading::default(), Details::default());
+        // SAFETY: as above.
+        unsafe { print1525_decoder_end(self, &mut reading, &mut details) };
+        (details.length > 0).then_some(reading)
+    }
 }
 
 /// A printer: it keeps what it receives, and gives its page when that is wanted.
