@@ -40,6 +40,9 @@ pub use decoding::{
     print1525_decode_end,
 };
 pub use numbers::{PlaceNumbers, StrictReceiver, standings_come_back};
+use pr_page::Input;
+use pr_receiver::{Receiver, inputs_add_up, traces_give_what_is_heard};
+use pr_wire::{Edge, Levels, WaveFault, allowed_traces, lawful_traces};
 pub use receiving::{
     Received, WireReceived, WireReceiver, begin_receiver, print1525_receiver_begin,
     print1525_receiver_edge, receive_edge, receivers_hear_what_is_printed,
@@ -48,9 +51,6 @@ pub use strict::{
     begin_strict, end_strict, first_faults_stay, print1525_strict_begin, print1525_strict_edge,
     print1525_strict_end, strict_edge, strict_receivers_hear_the_same,
 };
-use pr_page::Input;
-use pr_receiver::{Receiver, inputs_add_up, traces_give_what_is_heard};
-use pr_wire::{Edge, Levels, WaveFault, allowed_traces, lawful_traces};
 
 /// The greatest number of a device: LISTEN 31 would be UNLISTEN.
 const LAST_DEVICE: u8 = 30;
@@ -249,11 +249,7 @@ fn refused(fault: usize, place: usize) -> Answer
 fn begun(exists: bool) -> Answer
     ensures { result ≡ begin_answer_of exists }
 {
-    if exists {
-        plain(0, 0)
-    } else {
-        refused(21, 0)
-    }
+    if exists { plain(0, 0) } else { refused(21, 0) }
 }
 
 /// The answer, as numbers.

@@ -152,7 +152,10 @@ pub fn begin_receiver(receiver: &mut WireReceiver, device: u8) -> Result<(), NoS
 ///
 /// [`GoesBack`] exactly where the edge is earlier than the one taken last. The receiver is then as it
 /// was.
-pub fn receive_edge(receiver: &mut WireReceiver, edge: WireEdge) -> Result<Option<Received>, GoesBack>
+pub fn receive_edge(
+    receiver: &mut WireReceiver,
+    edge: WireEdge,
+) -> Result<Option<Received>, GoesBack>
     ensures tells { (device : ℕ) (edges : List WireEdge) → HasReceived device edges receiver.old → TellsReceived device edges edge result }
     ensures takes { (device : ℕ) (edges : List WireEdge) → HasReceived device edges receiver.old →
         ReceiverLeaves device edges edge result receiver.old receiver.new }

@@ -12,7 +12,10 @@ ghost use Rattle.pr_ear.specs.Strict.{FirstFaultsStay, StrictReceiversHearTheSam
 
 use crate::numbers::{StrictReceiver, restore, store};
 use crate::standing::Standing;
-use crate::{Answer, NoSuchDevice, WireEdge, begun, edge_for, is_device, number_for, numbers_of, plain, refused};
+use crate::{
+    Answer, NoSuchDevice, WireEdge, begun, edge_for, is_device, number_for, numbers_of, plain,
+    refused,
+};
 use pr_page::Input;
 use pr_receiver::{fronts_are_allowed, traces_give_what_is_heard};
 use pr_wire::{WaveFault, allowed_traces};
@@ -43,7 +46,10 @@ pub fn begin_strict(receiver: &mut StrictReceiver, device: u8) -> Result<(), NoS
 ///
 /// The first fault of all edges given, exactly if they have one. The receiver has then taken this edge
 /// too, so the next call returns the same fault.
-pub fn strict_edge(receiver: &mut StrictReceiver, edge: WireEdge) -> Result<Option<Input>, WaveFault>
+pub fn strict_edge(
+    receiver: &mut StrictReceiver,
+    edge: WireEdge,
+) -> Result<Option<Input>, WaveFault>
     ensures tells { (device : ℕ) (edges : List WireEdge) → HasTaken device edges receiver.old → TellsEdge device edges edge result }
     ensures taken { (device : ℕ) (edges : List WireEdge) → HasTaken device edges receiver.old → HasTaken device (edges ++ edge ∷ []) receiver.new }
     ensures memory { IfErr result (λ fault. fault ≢ NoMemory) }

@@ -14,7 +14,7 @@ returns-clause-tells c = λ device edges h.
     let told = c.in_ok-reading.ensures.tells edges h.given h.decoded in
     let came = c.hear-received.ensures device (acknowledged_frames h.given) (next-given device edges c.args.receiver.now c.listener_for-listener.result h c.listener_for-listener.ensures) in (
       received-next device edges (edges ++ c.args.edge ∷ []) h.given c.in_ok-reading.reading c.hear-received.result
-      (c.readings_add_up.ensures.given (map edge_of edges) h.given h.decoded.decoder h.decoded.read) told.0 came.0,
+          (c.readings_add_up.ensures.given (map edge_of edges) h.given h.decoded.decoder h.decoded.read) told.0 came.0,
       told.1,
     )
 
