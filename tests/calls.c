@@ -361,7 +361,7 @@ typedef struct {
 /* An answer that a receiver can give, whatever edges it was given. */
 static int may_be_answered(placed_strict at) {
     const print1525_details *const told = at.details;
-    if ((told->length == 1) != (*at.input < 258) || (told->length == 0) != (*at.input == NO_INPUT)) return 0;
+    if ((told->length == 1) != (*at.input < 258) || (told->length == 0) != (*at.input == PRINT1525_NO_INPUT)) return 0;
     if (told->status == PRINT1525_DONE) return is_answer(*told, PRINT1525_DONE, PRINT1525_FAULT_NONE, 0, told->length);
     return is_answer(*told, PRINT1525_REFUSED, told->fault, told->place, 0) && told->fault >= PRINT1525_FAULT_BAD_START &&
            told->fault <= PRINT1525_FAULT_TRUNCATED;
@@ -393,13 +393,13 @@ static void give(placed_strict at, const print1525_edge *edge) {
 static void end(placed_strict at) {
     int status;
     memset(at.details, UNTOUCHED, sizeof *at.details);
-    *at.input = NO_INPUT;
+    *at.input = PRINT1525_NO_INPUT;
     status = print1525_strict_end(at.strict, at.details);
     if (status != at.details->status) is_wrong("another status than the details have", (size_t)status);
 }
 
 static int is_refused_with(placed_strict at, int fault, size_t place) {
-    return is_answer(*at.details, PRINT1525_REFUSED, fault, place, 0) && *at.input == NO_INPUT;
+    return is_answer(*at.details, PRINT1525_REFUSED, fault, place, 0) && *at.input == PRINT1525_NO_INPUT;
 }
 
 /* Numbers that are no receiver are refused with nothing changed, and those of one are not and stay those of one. */
@@ -452,7 +452,7 @@ static void try_fault_again(placed_strict at, const print1525_edge *edges, size_
     size_t index;
     for (index = 0; index < count && index < 20; index++) {
         give(at, &edges[index]);
-        if (!are_details(fault, *at.details) || *at.input != NO_INPUT) is_wrong("a fault is not told again at edge", index);
+        if (!are_details(fault, *at.details) || *at.input != PRINT1525_NO_INPUT) is_wrong("a fault is not told again at edge", index);
         end(at);
         if (!are_details(fault, *at.details)) is_wrong("a fault is not told at an end behind edge", index);
     }
