@@ -271,8 +271,8 @@ PRINT1525_CALL int print1525_listing(const void *listing, size_t length, const p
 PRINT1525_CALL int print1525_raw(const void *bytes, size_t length, const print1525_settings *settings, void *buffer,
                                  size_t capacity, print1525_details *details);
 
-/* An input of a printer that is no byte (0 to 255): the selection of the one set or of the other. */
-enum print1525_input { PRINT1525_SELECT_UPPER = 256, PRINT1525_SELECT_LOWER = 257 };
+/* An input of a printer that is no byte (0 to 255): the selection of the one set or of the other; and no input. */
+enum print1525_input { PRINT1525_SELECT_UPPER = 256, PRINT1525_SELECT_LOWER = 257, PRINT1525_NO_INPUT = 65535 };
 
 /* Prints what a printer receives: bytes, and between them selections of a character set.
  *
@@ -457,8 +457,8 @@ PRINT1525_CALL int print1525_strict_begin(print1525_strict *strict, uint8_t devi
  * than earlier ones.
  *
  * Reads: a receiver that was begun, and edges in order, the first of them at 0 with all lines released.
- * Gives: `length` 1 and the input, as print1525_print takes it, or 0, and then the input stays as it was.
- * Refuses: NULL (80), with the receiver as it was; and an edge that no lawful trace has there (11 to 15) with its
+ * Gives: `length` 1 and the input, as print1525_print takes it, or 0 and PRINT1525_NO_INPUT, as with a refusal.
+ * Refuses: NULL (80), with nothing written but details; and an edge that no lawful trace has there (11 to 15) with its
  * index. Each later edge is refused with the same fault; begin anew to go on. */
 PRINT1525_CALL int print1525_strict_edge(print1525_strict *strict, const print1525_edge *edge, uint16_t *input,
                                          print1525_details *details);
@@ -926,7 +926,7 @@ PRINT1525_CALL int print1525_strict_edge(print1525_strict *strict, const print15
         return print1525_own_refuse(details, PRINT1525_FAULT_NULL_POINTER);
     read = *edge;
     print1525_plain_strict_edge(strict, &read, &came, &answer);
-    if (answer.length == 1) *input = came;
+    *input = PRINT1525_OWN_AS(uint16_t, answer.length == 1 ? came : PRINT1525_NO_INPUT);
     return print1525_own_answer(details, answer);
 }
 

@@ -317,7 +317,7 @@ typedef struct {
 /* An answer that a receiver can give, whatever edges it was given. */
 static int may_be_answered(placed_strict at) {
     const print1525_details *const told = at.details;
-    if ((told->length == 1) != (*at.input < 258) || (told->length == 0) != (*at.input == NO_INPUT)) return 0;
+    if ((told->length == 1) != (*at.input < 258) || (told->length == 0) != (*at.input == PRINT1525_NO_INPUT)) return 0;
     if (told->status == PRINT1525_DONE) return is_answer(*told, PRINT1525_DONE, PRINT1525_FAULT_NONE, 0, told->length);
     return is_answer(*told, PRINT1525_REFUSED, told->fault, told->place, 0) && told->fault >= PRINT1525_FAULT_BAD_START &&
            told->fault <= PRINT1525_FAULT_TRUNCATED;
@@ -349,13 +349,13 @@ static void give(placed_strict at, const print1525_edge *edge) {
 static void end(placed_strict at) {
     int status;
     memset(at.details, UNTOUCHED, sizeof *at.details);
-    *at.input = NO_INPUT;
+    *at.input = PRINT1525_NO_INPUT;
     status = print1525_strict_end(at.strict, at.details);
     if (status != at.details->status) is_wrong("another status than the details have", (size_t)status);
 }
 
 static int is_refused_with(placed_strict at, int fault, size_t place) {
-    return is_answer(*at.details, PRINT1525_REFUSED, fault, place, 0) && *at.input == NO_INPUT;
+    return is_answer(*at.details, PRINT1525_REFUSED, fault, place, 0) && *at.input == PRINT1525_NO_INPUT;
 }
 
 /* Whatever numbers a receiver has, it gives an answer that a receiver can give, and a copy gives the same. */
@@ -411,7 +411,7 @@ static void try_fault_again(placed_strict at, const print1525_edge *edges, size_
     size_t index;
     for (index = 0; index < count && index < 20; index++) {
         give(at, &edges[index]);
-        if (!are_details(fault, *at.details) || *at.input != NO_INPUT) is_wrong("a fault is not told again at edge", index);
+        if (!are_details(fault, *at.details) || *at.input != PRINT1525_NO_INPUT) is_wrong("a fault is not told again at edge", index);
         end(at);
         if (!are_details(fault, *at.details)) is_wrong("a fault is not told at an end behind edge", index);
     }
@@ -507,7 +507,7 @@ static void try_any_bus(uint8_t device, const print1525_edge *edges, size_t coun
     if (print1525_receiver_begin(receiver, device) != (device < 4 || device > 30 ? PRINT1525_REFUSED : PRINT1525_DONE)) is_wrong("a device's receiver", device);
     if (whole.status != PRINT1525_DONE) return;
     for (index = 0; index < count; index++) {
-        unsigned input = NO_INPUT;
+        unsigned input = PRINT1525_NO_INPUT;
         memset(came, UNTOUCHED, sizeof *came);
         if (print1525_receiver_edge(receiver, &edges[index], came, &details) != PRINT1525_DONE || details.length != (came->kind != PRINT1525_NOTHING_RECEIVED))
             is_wrong("a receiver's answer at edge", index);
@@ -515,7 +515,7 @@ static void try_any_bus(uint8_t device, const print1525_edge *edges, size_t coun
         if (came->kind == PRINT1525_RECEIVED_BYTE) input = came->byte;
         if (came->kind == PRINT1525_RECEIVED_LISTEN) input = PRINT1525_SELECT_UPPER;
         if (came->kind == PRINT1525_RECEIVED_SELECT && came->byte == 7) input = PRINT1525_SELECT_LOWER;
-        if (input == NO_INPUT) continue;
+        if (input == PRINT1525_NO_INPUT) continue;
         if (got >= whole.length || inputs[got] != input) is_wrong("a receiver on any bus gets another input at edge", index);
         got++;
     }

@@ -52,7 +52,7 @@ static void example_edge_by_edge(void) {
         CHECK(received < 4 && index == received_at[received] && input == inputs[received]);
         received++;
     }
-    CHECK(received == 4 && input == 13);
+    CHECK(received == 4 && input == PRINT1525_NO_INPUT);
     CHECK(print1525_strict_end(&strict, &answer) == PRINT1525_DONE);
     CHECK(answers(answer, PRINT1525_DONE, 0, 0, 0));
 }
@@ -76,7 +76,7 @@ static void refusals_of_receivers(void) {
         print1525_strict_edge(&strict, &first, &input, &answer);
         CHECK(answers(answer, PRINT1525_REFUSED, PRINT1525_FAULT_BAD_ORDER, 1, 0));
     }
-    CHECK(input == 7);
+    CHECK(input == PRINT1525_NO_INPUT);
 }
 
 static void example_decoded(void) {

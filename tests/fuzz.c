@@ -297,7 +297,7 @@ static void try_strict(uint8_t *memories[6]) {
         if (below(30) == 0) damage(strict, sizeof *strict);
         *input = 999;
         test_details("strict_edge", print1525_strict_edge(strict, &edges[index], input, details), details, 1);
-        if ((details->length == 1) != (*input < 258) || (details->length == 0) != (*input == 999)) is_wrong("strict_edge", "the input");
+        if ((details->length == 1) != (*input < 258) || (details->length == 0) != (*input == PRINT1525_NO_INPUT)) is_wrong("strict_edge", "the input");
         test_details("strict_end", print1525_strict_end(strict, details), details, 0);
     }
     memset(memories[5], UNTOUCHED, ROOM);

@@ -37,7 +37,7 @@ int main(int words, char **word) {
     status = PRINT1525_DONE;
     while (status == PRINT1525_DONE && (got = next_edge(&edge)) > 0) {
         status = print1525_strict_edge(&receiver, &edge, &input, &details);
-        if (details.length > 0 && input < 256) {
+        if (input < 256) {
             putchar(input);
             fflush(stdout);
         }
