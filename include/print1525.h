@@ -926,7 +926,8 @@ PRINT1525_CALL int print1525_strict_edge(print1525_strict *strict, const print15
         return print1525_own_refuse(details, PRINT1525_FAULT_NULL_POINTER);
     read = *edge;
     print1525_plain_strict_edge(strict, &read, &came, &answer);
-    *input = PRINT1525_OWN_AS(uint16_t, answer.length == 1 ? came : PRINT1525_NO_INPUT);
+    *input = PRINT1525_NO_INPUT;
+    if (answer.length == 1) *input = came;
     return print1525_own_answer(details, answer);
 }
 
