@@ -880,7 +880,8 @@ PRINT1525_CALL int print1525_strict_edge(print1525_strict *strict, const print15
         return print1525_own_refuse(details, PRINT1525_FAULT_NULL_POINTER);
     read = *edge;
     print1525_plain_ear_edge(strict, &read, &answer);
-    *input = PRINT1525_OWN_AS(uint16_t, answer.heard ? answer.input : PRINT1525_NO_INPUT);
+    *input = PRINT1525_NO_INPUT;
+    if (answer.heard == 1) *input = PRINT1525_OWN_AS(uint16_t, answer.input);
     return print1525_own_ear_answer(details, answer);
 }
 
