@@ -211,6 +211,15 @@ function read(level, name, isExplained) {
 
 const RECORDING = ['names', 'invert', 'from-time'];
 
+/** Refuses what this program for Node does not do yet, so that nothing asked for is left out silently. */
+function refuseLater(job, level) {
+  const option = ['rate', 'intervals', 'bounds'].find(it => level.given.has(it));
+  if (option) throw new NoJob(2, `print1525: --${option} is not in the program for Node yet\n`);
+  if (job.as === 'bytes' || (job.name === 'check' && job.as === 'json')) {
+    throw new NoJob(2, `print1525: ${job.name} --as ${job.as} is not in the program for Node yet\n`);
+  }
+}
+
 /** The job of words that name a command, in the order in which the program reads their values. */
 function jobOf(name, level, isExplained) {
   const job = { name }, isGiven = RECORDING.some(option => level.given.has(option));
@@ -221,6 +230,7 @@ function jobOf(name, level, isExplained) {
   }
   job.inverted = level.given.has('invert');
   for (const option of ['as', 'device', 'sheet']) job[option] = read(level, option, isExplained);
+  refuseLater(job, level);
   if ((job.device && !['svg', 'png', 'pdf'].includes(job.as)) || (job.sheet && !['svg', 'png'].includes(job.as))) {
     throw new NoJob(2, 'print1525: --device goes with --as svg, png or pdf, --sheet with svg or png\n');
   }
