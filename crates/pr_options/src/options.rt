@@ -352,8 +352,8 @@ pub const TRACE_AS: ValueOption = ValueOption {
 };
 
 /// What the values of [`REPORT_AS`] are.
-const REPORT_AS_HELP: &str = "frames (a line for each), story (with their\n\
-     times and meaning) or json (for programs)";
+const REPORT_AS_HELP: &str = "frames (a line for each), story (times and\n\
+     meaning) or json";
 
 /// The values of [`REPORT_AS`] in a few words.
 pub const REPORT_AS_VALUES: &str = "frames, story or json";
