@@ -7,7 +7,7 @@
 # make peer         small inputs with one byte replaced, in some 200,000 runs (two minutes); traces and pictures of runs, read by
 #                   others: sigrok's decoder of the bus (sigrok-cli and libsigrokdecode4), xmllint, rsvg-convert, qpdf, pdftoppm and
 #                   pngcheck (libxml2-utils, librsvg2-bin, netpbm, qpdf, poppler-utils, pngcheck); and the calls for C watched by valgrind and by cc's sanitizer of addresses
-# make lib          proves and builds libprint1525.a, the library for C programs (docs/C.md)
+# make lib          proves and builds libprint1525.a and libprint1525.so, the library for C programs (docs/C.md)
 # make web          makes web/print1525.html, the page in a browser, with its WebAssembly module of proved crates (web/README.md says
 #                   how; it wants wasm-opt, Debian's package binaryen), and tells whether the committed file is another one
 # make web-test     tests that page in Chromium, Firefox and WebKitGTK beside the built program, and print1525.mjs in Node
@@ -24,10 +24,18 @@ PROGRAM := crates/print1525/out/print1525
 LIBRARY := libprint1525.a
 MODULE := out/print1525.wasm
 VERSION := 0.1.0
+# The library's own version, and the names of the shared one, of which programs want the second.
+LIBRARY_VERSION := $(shell sed -n 's/^.define PRINT1525_VERSION "\(.*\)"/\1/p' include/print1525.h)
+SHARED := libprint1525.so.$(LIBRARY_VERSION)
+SONAME := libprint1525.so.$(firstword $(subst ., ,$(LIBRARY_VERSION)))
 
 # The tests that go on after a refused allocation (tests/growths).
 TEST_CRATES := pr_tests_core pr_tests_wires pr_tests_forms pr_tests_jobs
 TESTS := $(foreach crate,$(TEST_CRATES),crates/$(crate)/out/$(crate)_tests)
+
+# The static libraries that the library for C is made of.
+PART_CRATES := pr_ear pr_c
+PARTS := $(foreach crate,$(PART_CRATES),crates/$(crate)/out/lib$(crate).a)
 
 # What the program and the tests are built from.
 SOURCES := crates.txt $(shell find crates -path '*/out' -prune -o \( -name '*.rt' -o -name '*.antt' \) -print)
@@ -62,6 +70,7 @@ outside: build lib $(TESTS)
 	@cases/run $(PROGRAM) cases tests/cases
 	@tests/documents $(PROGRAM)
 	@tests/listings.py $(PROGRAM)
+	@tests/recordings.py $(PROGRAM) 300
 	@cases/made --check
 	@cases/reach --check
 
@@ -69,12 +78,16 @@ outside: build lib $(TESTS)
 $(TESTS): $(SOURCES)
 	@cd $(@D)/.. && rt test > out.log 2>&1 || { cat out.log; exit 1; }; rm -f out.log
 
-# The library for C programs: the archives of two crates and the part of the toolchain's that calls malloc, in one.
-lib: $(LIBRARY)
+# The library for C programs, an archive and a shared library: the archives of two crates, the part of the toolchain's that calls
+# malloc, and the functions of the header.
+lib: $(LIBRARY) $(LIBRARY:.a=.so)
 
-$(LIBRARY): $(SOURCES) tools/crates.py tools/library tools/archive
-	@tools/library pr_ear pr_c
-	@tools/archive $@ pr_ear pr_c
+$(LIBRARY) $(LIBRARY:.a=.so) &: $(PARTS) tools/archive $(wildcard include/*.[ch])
+	@tools/archive $(LIBRARY) $(PART_CRATES)
+
+$(PARTS) &: $(SOURCES) tools/crates.py tools/library
+	@tools/library $(PART_CRATES)
+	@touch $(PARTS)
 
 # What differs shows in `git diff`.
 cases: build
@@ -94,6 +107,7 @@ peer: build lib
 	@tests/replaced $(PROGRAM)
 	@tests/watched $(LIBRARY)
 	@tests/peer $(PROGRAM)
+	@tests/recordings.py $(PROGRAM) 10000 301
 	@tests/pictures $(PROGRAM)
 	@tests/printed $(PROGRAM)
 
@@ -120,14 +134,18 @@ install: build lib
 	install -d $(DESTDIR)$(PREFIX)/share/bash-completion/completions $(DESTDIR)$(PREFIX)/share/zsh/site-functions
 	install -d $(DESTDIR)$(PREFIX)/share/fish/vendor_completions.d
 	install $(PROGRAM) $(DESTDIR)$(PREFIX)/bin/print1525
-	install -m 644 include/print1525.h $(DESTDIR)$(PREFIX)/include/print1525.h
+	install -m 644 include/print1525.h include/print1525.hpp $(DESTDIR)$(PREFIX)/include
 	install -m 644 $(LIBRARY) $(DESTDIR)$(PREFIX)/lib/libprint1525.a
+	install $(LIBRARY:.a=.so) $(DESTDIR)$(PREFIX)/lib/$(SHARED)
+	ln -sf $(SHARED) $(DESTDIR)$(PREFIX)/lib/$(SONAME)
+	ln -sf $(SONAME) $(DESTDIR)$(PREFIX)/lib/libprint1525.so
 	install -m 644 docs/print1525.1 $(DESTDIR)$(PREFIX)/share/man/man1/print1525.1
 	install -m 644 completions/print1525.bash $(DESTDIR)$(PREFIX)/share/bash-completion/completions/print1525
 	install -m 644 completions/_print1525 $(DESTDIR)$(PREFIX)/share/zsh/site-functions/_print1525
 	install -m 644 completions/print1525.fish $(DESTDIR)$(PREFIX)/share/fish/vendor_completions.d/print1525.fish
-	sed -e 's|@PREFIX@|$(PREFIX)|' -e 's|@VERSION@|$(VERSION)|' include/print1525.pc.in > $(DESTDIR)$(PREFIX)/lib/pkgconfig/print1525.pc
+	sed -e 's|@PREFIX@|$(PREFIX)|' -e 's|@VERSION@|$(LIBRARY_VERSION)|' include/print1525.pc.in > $(DESTDIR)$(PREFIX)/lib/pkgconfig/print1525.pc
 	chmod 644 $(DESTDIR)$(PREFIX)/lib/pkgconfig/print1525.pc
+	@[ -n "$(DESTDIR)" ] || ldconfig 2> /dev/null || echo 'Run ldconfig, or set LD_LIBRARY_PATH, for the shared library.'
 
 manual:
 	@tools/manual

@@ -20,7 +20,7 @@ _print1525() {
         pages/--present) words='none 4 5 both' ;;
         pages/--delays) return ;;
         pages/--status) words='each kept' ;;
-        pages/--as) words='list text svg png pdf' ;;
+        pages/--as) words='list text svg png pdf bytes' ;;
         pages/--device) words='4 5' ;;
         pages/--sheet) return ;;
         bus/--from) words='text prg petcat' ;;
@@ -31,13 +31,16 @@ _print1525() {
         check/--from) words='text vcd csv' ;;
         check/--names) return ;;
         check/--from-time) return ;;
-        check/--as) words='frames story' ;;
+        check/--rate) return ;;
+        check/--as) words='frames story json' ;;
         decode/--from) words='auto text vcd csv' ;;
         decode/--names) return ;;
         decode/--from-time) return ;;
-        decode/--as) words='list text svg png pdf' ;;
+        decode/--rate) return ;;
+        decode/--as) words='list text svg png pdf json bytes' ;;
         decode/--device) words='4 5' ;;
         decode/--sheet) return ;;
+        decode/--bounds) words='profile guide' ;;
         raw/--set) words='upper lower' ;;
         raw/--as) words='list text svg png pdf' ;;
         raw/--device) words='4 5' ;;
@@ -48,8 +51,8 @@ _print1525() {
                 case $command in
                 pages) words='-o --output --from --present --delays --status --as --explain --device --sheet --characters -h --help' ;;
                 bus) words='-o --output --from --present --delays --status --as --explain -h --help' ;;
-                check) words='-o --output --from --names --invert --from-time --as --explain -h --help' ;;
-                decode) words='-o --output --from --names --invert --from-time --as --explain --device --sheet --characters -h --help' ;;
+                check) words='-o --output --from --names --invert --from-time --rate --as --explain -h --help' ;;
+                decode) words='-o --output --from --names --invert --from-time --rate --as --explain --device --sheet --characters --intervals --bounds -h --help' ;;
                 raw) words='-o --output --set --as --explain --device --sheet --characters -h --help' ;;
                 esac
             fi

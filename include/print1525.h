@@ -1,320 +1,426 @@
-/* libprint1525: what a Commodore 64 prints on VIC-1525 printers, for C and C++ programs.
+/* libprint1525 1.0: what a Commodore 64 prints on VIC-1525 printers, for C (C99 and later) and C++ (C++11 and later).
  *
- *     call                    gives                                                         as the subcommand
- *     print1525_pages         the pages of a script: a list, lines, SVG, PNG or PDF         pages
- *     print1525_bus           the trace of a script's run: a text or a Value Change Dump    bus
- *     print1525_listing       a saved program or petcat's text as the text of a script      pages --from
- *     print1525_raw           the page of the bytes that a printer gets                     raw
- *     print1525_print         the page of bytes and of selections of a character set
- *     print1525_.._with       the same three, with characters of your own                   --characters
- *     print1525_check         the frames that a trace text spells, or its first fault       check
- *     print1525_hear          what a device hears of a list of edges
- *     print1525_ear_..        the same, edge by edge
- *     print1525_decode_..     what any recording of the bus says, edge by edge              decode
+ *     Texts                       give                                                          as the subcommand
+ *     print1525_pages             the pages of a script: a list, lines, SVG, PNG or PDF         pages
+ *     print1525_bus               the trace of a script's run: a text or a Value Change Dump    bus
+ *     print1525_listing           a saved program or petcat's text as the text of a script      pages --from
+ *     print1525_raw               the page of the bytes that a printer gets                     raw
+ *     print1525_print             the page of bytes and of selections of a character set
+ *     print1525_check             the frames that a trace text spells, or its first fault       check
  *
- * The last three take no memory. docs/C.md shows how to build and link, and a program for each purpose.
+ *     Edges of the serial bus; these calls take no memory
+ *     print1525_decoder_..        what any recording of the bus says, edge by edge              decode
+ *     print1525_receiver_..       what comes to a device on any bus, edge by edge
+ *     print1525_strict_..         the same by this project's own timing alone, edge by edge, or in a list
  *
- * The calls are proved: each gives exactly what its definition says (docs/C.md says where the
- * definitions are), reads nothing but what it is passed, writes nothing but the caller's buffer,
- * ear, decoder, reading and answer, and returns. The proofs hold where the caller keeps these rules:
+ *     Words
+ *     print1525_strerror          what a fault says, as the program says it
+ *     print1525_message           the same with its place: `line 3, column 9: unknown name`
+ *     print1525_version           the version of the library that is linked
  *
- * - No pointer is NULL, not even with a length of 0 (pass any other pointer of its type). A pointer
- *   is aligned for its type. At least `length` items can be read there, or `capacity` items of a
- *   buffer read and written.
- * - The buffer, the ear, the decoder, the reading and the answer overlap nothing else that the call
- *   is passed.
- * - During a call no other thread writes what the call reads, or touches what it writes.
- * - malloc, realloc and free belong to one allocator. A signal handler makes only calls that take no
- *   memory.
+ * This file is the manual. docs/C.md shows how to build and link, and a program for each purpose. include/print1525.hpp
+ * wraps the calls for C++17; examples/ has wrappers for Python and Rust.
  *
- * Ownership. The caller owns all memory that it passes. No call keeps a pointer or hands out memory;
- * what a call takes by malloc it frees before it returns.
+ * The calls are proved: each gives exactly what its definition says (docs/C.md says where the definitions are). Not
+ * proved is what stands at the end of this file: the functions that unpack settings, refuse pointers and call them.
  *
- * Threads. No call keeps any state: several threads may make calls at once.
+ * ANSWERS. A call returns an exit status of the program print1525 (enum print1525_status), and writes all of its
+ * details, unless they are NULL. A text is at the front of the buffer, without a zero byte behind it; the rest of the
+ * buffer stays as it was. With every status but 0 and 1 the whole buffer does. No text is cut: if the buffer is too
+ * small, the call fails with PRINT1525_FAULT_TOO_SMALL, and `length` is the size that the text needs. So a caller may
+ * ask for the size with a NULL buffer of size 0, or guess, and ask again where `length` is more than the buffer has.
  *
- * Sizes. A text is at the front of the buffer, without a zero byte after it; the rest of the buffer
- * stays as it was. With every code but 0 and 1 the whole buffer does. No text is cut: if the buffer is
- * too small (code 4), `length` is the size that the text needs. So call with a capacity of 0 first, and
- * then with a buffer of that length. */
+ * POINTERS. A pointer may be NULL where its length is 0. With another length NULL is refused (NULL_POINTER). A buffer
+ * that overlaps what the call reads is refused (OVERLAP). Settings and details may be NULL: the settings of
+ * PRINT1525_SETTINGS_INIT, and nobody wants the details. Structures may overlap: each is read before one is written,
+ * and details are written last. What cannot be tested is the caller's part: at least `length` items can be read there,
+ * or `capacity` items of a buffer written; a pointer to numbers is aligned for them; and during a call no other thread
+ * writes what the call reads, or touches what it writes.
+ *
+ * OWNERSHIP. The caller owns all memory that it passes. No call keeps a pointer or hands out memory; what a call takes
+ * by malloc it frees before it returns. A buffer's bytes need not be initialised. All structures are plain: copy them
+ * freely, and save and load those without pointers.
+ *
+ * WHAT A CALLER CARRIES.
+ * - Threads: no call keeps any state, so several threads may make calls at once.
+ * - Stack: a call for texts takes up to PRINT1525_STACK bytes of it, a call for edges or words 4096.
+ * - Memory: malloc, realloc and free of one allocator, aligned as C demands. Where they give none, a call fails with
+ *   PRINT1525_FAULT_NO_MEMORY and has freed what it took.
+ * - Signal handlers: the calls for edges and words, which take no memory, and no others.
+ * - fork: a child may make calls where it may call malloc.
+ * - No call touches files, streams, locales, the time or the state of floating point; errno only where malloc does.
+ *
+ * STABLE in all versions 1: the names, numbers and structures above the line `The header's own code`, and what calls
+ * give. A later version may add calls, numbers of faults, and settings at the end of print1525_settings, whose `size`
+ * tells which there are. Not stable: names that begin with print1525_own_, and those that begin with print1525_plain_
+ * but for programs that are compiled already. */
 #ifndef PRINT1525_H
 #define PRINT1525_H
 
 #include <stddef.h>
 #include <stdint.h>
+#include <stdlib.h>
+
+/* The version of this header: a text, and a number that grows. */
+#define PRINT1525_VERSION "1.0.0"
+#define PRINT1525_VERSION_NUMBER 10000
+
+/* As many bytes of stack at most a call takes. */
+#define PRINT1525_STACK 98304
 
 #ifdef __cplusplus
 extern "C" {
 #endif
 
-/* How a call ended: `code` of an answer. 0 to 3 are the exit statuses of the program print1525. */
-enum print1525_code {
-    PRINT1525_DONE = 0,      /* the buffer has the text, or what else the call gives */
-    PRINT1525_STOPPED = 1,   /* the same, and a BASIC error stopped the run: `fault` is its number */
-    PRINT1525_REFUSED = 2,   /* the call refuses what it was passed: `fault` says why, `place` where */
-    PRINT1525_NO_MEMORY = 3, /* malloc or realloc gave none */
-    PRINT1525_TOO_SMALL = 4  /* the text has `length` bytes, and the buffer fewer */
+/* Each call is a function of this header. The library has them too, for programs in other languages. */
+#ifndef PRINT1525_CALL
+#ifdef __cplusplus
+#define PRINT1525_CALL inline
+#else
+#define PRINT1525_CALL static inline
+#endif
+#endif
+
+/* ------------------------------------------------------------------------------------------------- answers -- */
+
+/* What a call returns: the exit statuses of the program print1525. */
+enum print1525_status {
+    PRINT1525_DONE = 0,    /* the buffer has the text, or what else the call gives */
+    PRINT1525_STOPPED = 1, /* the same, and a BASIC error stopped the run: the fault says which */
+    PRINT1525_REFUSED = 2, /* the call refuses what it was passed: the fault says why */
+    PRINT1525_FAILED = 3   /* there is no memory, or no room in the buffer: the fault says which */
 };
 
-/* Why a call refused: `fault` beside PRINT1525_REFUSED. */
-enum print1525_fault {
-    PRINT1525_NO_FAULT = 0,
-    /* of a script; `place` is the line, from 1 */
-    PRINT1525_UNKNOWN_WORD = 1,
-    PRINT1525_BAD_NUMBER = 2,
-    PRINT1525_BAD_DEVICE = 3,
-    PRINT1525_BAD_SECOND = 4,
-    PRINT1525_BAD_BYTE = 5,
-    PRINT1525_TOO_LONG = 6,
-    PRINT1525_TOO_MANY = 7,
-    /* of a trace text; `place` is the line, from 1 */
-    PRINT1525_BAD_LINE = 8,
-    /* of any input; `place` is 0 */
-    PRINT1525_TOO_LARGE = 9,
-    /* of edges; `place` is the edge's index, from 0 (of print1525_decode_edge 0: it counts no edges) */
-    PRINT1525_START = 11,
-    PRINT1525_ORDER = 12,
-    PRINT1525_TOO_EARLY = 13,
-    PRINT1525_TOO_LATE = 14,
-    PRINT1525_SHAPE = 15,
-    PRINT1525_TRUNCATED = 16,
-    /* of a number that means no setting; `place` is 0 */
-    PRINT1525_NO_SUCH_DEVICE = 21,
-    PRINT1525_NO_SUCH_PRINTERS = 22,
-    PRINT1525_NO_SUCH_STATUS = 23,
-    PRINT1525_NO_SUCH_FORMAT = 24,
-    PRINT1525_NO_SUCH_SET = 25,
-    /* of numbers that no ear or no decoder has, as in memory that was never begun or a damaged file;
-     * `place` is 0. Memory of zeros is no ear, but it is a decoder just begun */
-    PRINT1525_NO_EAR = 26,
-    PRINT1525_NO_DECODER = 27,
-    /* of a number that means no input of a printer; `place` is its index, from 0 */
-    PRINT1525_NO_SUCH_INPUT = 28,
-    /* of a sheet that the pages do not have; `place` is how many they have */
-    PRINT1525_NO_SUCH_SHEET = 50,
-    /* of a document that is longer than its format allows; `place` is 0 */
-    PRINT1525_DOCUMENT_TOO_LARGE = 51,
-    /* of a file of characters; `place` is the line, from 1 */
-    PRINT1525_BAD_CHARACTER_LINE = 52,
-    /* of a number that means no form of a listing; `place` is 0 */
-    PRINT1525_NO_SUCH_FORM = 60,
-    /* of a listing: it has no load address (`place` is 0); it ends within a line; in a string of petcat's text
-     * a brace has no name that petcat writes, or a byte is one that petcat does not write. `place` is the line,
-     * from 1; `length` of the last two is the column, from 1 */
-    PRINT1525_NOT_SAVED = 61,
-    PRINT1525_CUT_OFF = 62,
-    PRINT1525_UNKNOWN_NAME = 63,
-    PRINT1525_BAD_CHARACTER = 64
-};
-
-/* The BASIC error that stopped a run: `fault` beside PRINT1525_STOPPED. `place` is the statement that
- * it stopped, from 1. */
-enum print1525_stop {
-    PRINT1525_TOO_MANY_FILES = 1,
-    PRINT1525_FILE_OPEN = 2,
-    PRINT1525_FILE_NOT_OPEN = 3,
-    PRINT1525_DEVICE_NOT_PRESENT = 5,
-    PRINT1525_NOT_INPUT_FILE = 6
-};
-
-/* What a call answers. Each call writes all of it and reads none of it. */
+/* What a call tells beside its status. */
 typedef struct {
-    size_t code;   /* one of enum print1525_code */
-    size_t fault;  /* with code 1 one of enum print1525_stop, with code 2 of enum print1525_fault, else 0 */
-    size_t place;  /* with codes 1 and 2 the statement, line, edge or input that those enums name, else 0 */
-    size_t length; /* with codes 0, 1 and 4 how many bytes the text has (of print1525_hear how many inputs, of
-                    * a decoder how many readings, 0 or 1), with the faults 63 and 64 the column, else 0 */
-} print1525_answer;
+    int32_t status; /* what it returned */
+    int32_t fault;  /* one of enum print1525_fault; PRINT1525_FAULT_NONE with status 0 */
+    size_t place;   /* the statement, line, edge or input that the fault names, else 0 */
+    size_t column;  /* with UNKNOWN_NAME and BAD_CHARACTER the column of that line, from 1, else 0 */
+    size_t length;  /* with statuses 0 and 1, and with TOO_SMALL, how many items the text or list has; else 0 */
+} print1525_details;
 
-/* What a code says. */
-static inline const char *print1525_code_text(size_t code) {
-    switch (code) {
-    case PRINT1525_DONE: return "done";
-    case PRINT1525_STOPPED: return "stopped";
-    case PRINT1525_REFUSED: return "refused";
-    case PRINT1525_NO_MEMORY: return "out of memory";
-    case PRINT1525_TOO_SMALL: return "buffer too small";
-    default: return "no code";
-    }
-}
+/* Why a call does not return 0. */
+enum print1525_fault {
+    PRINT1525_FAULT_NONE = 0,
+    /* refused: of a script; `place` is the line, from 1 */
+    PRINT1525_FAULT_UNKNOWN_WORD = 1,
+    PRINT1525_FAULT_BAD_NUMBER = 2,
+    PRINT1525_FAULT_BAD_DEVICE = 3,
+    PRINT1525_FAULT_BAD_SECOND = 4,
+    PRINT1525_FAULT_BAD_BYTE = 5,
+    PRINT1525_FAULT_TOO_LONG = 6,
+    PRINT1525_FAULT_TOO_MANY = 7,
+    /* refused: of a trace text; `place` is the line, from 1 */
+    PRINT1525_FAULT_BAD_LINE = 8,
+    /* refused: of any input; `place` is 0 */
+    PRINT1525_FAULT_TOO_LARGE = 9,
+    /* refused: of a lawful trace's edges; `place` is the edge's index, from 0 */
+    PRINT1525_FAULT_BAD_START = 11,
+    PRINT1525_FAULT_BAD_ORDER = 12,
+    PRINT1525_FAULT_TOO_EARLY = 13,
+    PRINT1525_FAULT_TOO_LATE = 14,
+    PRINT1525_FAULT_BAD_SHAPE = 15,
+    PRINT1525_FAULT_TRUNCATED = 16,
+    /* refused: of an edge of any bus, earlier than the one before it; `place` is 0, since nobody counts them */
+    PRINT1525_FAULT_GOES_BACK = 17,
+    /* refused: a number that means no device or no setting; `place` is 0 */
+    PRINT1525_FAULT_NO_SUCH_DEVICE = 21,
+    PRINT1525_FAULT_NO_SUCH_PRINTERS = 22,
+    PRINT1525_FAULT_NO_SUCH_STATUS = 23,
+    PRINT1525_FAULT_NO_SUCH_FORMAT = 24,
+    PRINT1525_FAULT_NO_SUCH_SET = 25,
+    /* refused: a number that means no input of a printer; `place` is its index, from 0 */
+    PRINT1525_FAULT_NO_SUCH_INPUT = 28,
+    /* refused: a sheet that the pages do not have; `place` is how many they have */
+    PRINT1525_FAULT_NO_SUCH_SHEET = 50,
+    /* refused: a document that is longer than its format allows; `place` is 0 */
+    PRINT1525_FAULT_DOCUMENT_TOO_LARGE = 51,
+    /* refused: of a file of characters; `place` is the line, from 1 */
+    PRINT1525_FAULT_BAD_CHARACTER_LINE = 52,
+    /* refused: a number that means no form of a listing; `place` is 0 */
+    PRINT1525_FAULT_NO_SUCH_FORM = 60,
+    /* refused: of a listing. It has no load address (`place` is 0); it ends within a line; in a string of petcat's
+     * text a brace has no name that petcat writes, or a byte is one that petcat does not write. `place` is the line,
+     * from 1, and `column` of the last two the column, from 1 */
+    PRINT1525_FAULT_NOT_SAVED = 61,
+    PRINT1525_FAULT_CUT_OFF = 62,
+    PRINT1525_FAULT_UNKNOWN_NAME = 63,
+    PRINT1525_FAULT_BAD_CHARACTER = 64,
+    /* refused: of what the call was passed; `place` is 0 */
+    PRINT1525_FAULT_NULL_POINTER = 80,
+    PRINT1525_FAULT_OVERLAP = 81,
+    PRINT1525_FAULT_BAD_SETTINGS = 82, /* their `size` or `reserved` is wrong: begin with PRINT1525_SETTINGS_INIT */
+    /* failed; `place` is 0 */
+    PRINT1525_FAULT_NO_MEMORY = 90,
+    PRINT1525_FAULT_TOO_SMALL = 91, /* the buffer; `length` is what it needs */
+    /* stopped: 100 and the number of the BASIC error; `place` is the statement that it stopped, from 1 */
+    PRINT1525_STOP_TOO_MANY_FILES = 101,
+    PRINT1525_STOP_FILE_OPEN = 102,
+    PRINT1525_STOP_FILE_NOT_OPEN = 103,
+    PRINT1525_STOP_DEVICE_NOT_PRESENT = 105,
+    PRINT1525_STOP_NOT_INPUT_FILE = 106
+};
 
-/* What a fault says, in the program's words. The program writes `line 3: unknown word` for the faults 1 to 8,
- * 52 and 62, `edge 5: too early` for 11 to 16, and `line 3, column 9: unknown name` for 63 and 64. */
-static inline const char *print1525_fault_text(size_t fault) {
-    switch (fault) {
-    case PRINT1525_UNKNOWN_WORD: return "unknown word";
-    case PRINT1525_BAD_NUMBER: return "bad number";
-    case PRINT1525_BAD_DEVICE: return "bad device";
-    case PRINT1525_BAD_SECOND: return "bad secondary address";
-    case PRINT1525_BAD_BYTE: return "bad byte";
-    case PRINT1525_TOO_LONG: return "too long";
-    case PRINT1525_TOO_MANY: return "too many statements";
-    case PRINT1525_BAD_LINE: return "bad trace line";
-    case PRINT1525_TOO_LARGE: return "input too large";
-    case PRINT1525_START: return "bad start";
-    case PRINT1525_ORDER: return "bad order";
-    case PRINT1525_TOO_EARLY: return "too early";
-    case PRINT1525_TOO_LATE: return "too late";
-    case PRINT1525_SHAPE: return "bad shape";
-    case PRINT1525_TRUNCATED: return "truncated";
-    case PRINT1525_NO_SUCH_DEVICE: return "no such device";
-    case PRINT1525_NO_SUCH_PRINTERS: return "no such printers";
-    case PRINT1525_NO_SUCH_STATUS: return "no such status";
-    case PRINT1525_NO_SUCH_FORMAT: return "no such format";
-    case PRINT1525_NO_SUCH_SET: return "no such character set";
-    case PRINT1525_NO_EAR: return "no ear";
-    case PRINT1525_NO_DECODER: return "no decoder";
-    case PRINT1525_NO_SUCH_INPUT: return "no such input";
-    case PRINT1525_NO_SUCH_SHEET: return "no such sheet";
-    case PRINT1525_DOCUMENT_TOO_LARGE: return "document too large";
-    case PRINT1525_BAD_CHARACTER_LINE: return "bad character line";
-    case PRINT1525_NO_SUCH_FORM: return "no such form";
-    case PRINT1525_NOT_SAVED: return "not a saved program";
-    case PRINT1525_CUT_OFF: return "cut off";
-    case PRINT1525_UNKNOWN_NAME: return "unknown name";
-    case PRINT1525_BAD_CHARACTER: return "bad byte";
-    default: return "no fault";
-    }
-}
+/* What a fault says, in the program's words (of a BASIC error its name); "no fault" of any other number. */
+PRINT1525_CALL const char *print1525_strerror(int fault);
 
-/* The BASIC error with a number, as the computer shows it after a question mark. */
-static inline const char *print1525_stop_text(size_t stop) {
-    switch (stop) {
-    case PRINT1525_TOO_MANY_FILES: return "TOO MANY FILES";
-    case PRINT1525_FILE_OPEN: return "FILE OPEN";
-    case PRINT1525_FILE_NOT_OPEN: return "FILE NOT OPEN";
-    case PRINT1525_DEVICE_NOT_PRESENT: return "DEVICE NOT PRESENT";
-    case PRINT1525_NOT_INPUT_FILE: return "NOT INPUT FILE";
-    default: return "NO ERROR";
-    }
-}
+/* Writes what the program writes of these details, as `line 3: unknown word`, `edge 5: too early`, `out of memory` or
+ * `?FILE NOT OPEN  ERROR (statement 3)`: at most capacity - 1 bytes of it, and a zero byte if there is room for one.
+ * Returns the length of all of it, as snprintf does. Of NULL and of status 0 this is 0. */
+PRINT1525_CALL size_t print1525_message(const print1525_details *details, char *text, size_t capacity);
 
-/* `printers`: which are on the bus. */
-enum { PRINT1525_NO_PRINTER = 0, PRINT1525_FOUR = 1, PRINT1525_FIVE = 2, PRINT1525_BOTH = 3 };
-/* `status`: cleared before each statement, or kept. */
-enum { PRINT1525_EACH = 0, PRINT1525_KEPT = 1 };
-/* `format` of a page: a line for each row and mark, lines of 80 columns, an SVG document, a sheet of eleven
- * inches as a PNG file (the first of the first printer that printed), or a PDF document of all sheets. */
-enum { PRINT1525_LIST = 0, PRINT1525_TEXT = 1, PRINT1525_SVG = 2, PRINT1525_PNG = 3, PRINT1525_PDF = 4 };
-/* `format` of a trace: a line for each edge, or a Value Change Dump. */
-enum { PRINT1525_TRACE = 0, PRINT1525_VCD = 1 };
+/* PRINT1525_VERSION of the library that is linked. */
+const char *print1525_version(void);
+
+/* ------------------------------------------------------------------------------------------------ settings -- */
+
+/* `present`: the printers on the bus. */
+enum print1525_present {
+    PRINT1525_PRESENT_NONE = 0,
+    PRINT1525_PRESENT_4 = 1,
+    PRINT1525_PRESENT_5 = 2,
+    PRINT1525_PRESENT_BOTH = 3
+};
+/* `mode`: the status is cleared before each statement, or kept. */
+enum print1525_mode { PRINT1525_MODE_EACH = 0, PRINT1525_MODE_KEPT = 1 };
+/* `from`: what a script is: its text, a saved program (a `.prg` file), or petcat's text of one. */
+enum print1525_from { PRINT1525_FROM_TEXT = 0, PRINT1525_FROM_PRG = 1, PRINT1525_FROM_PETCAT = 2 };
+/* `page`: a line for each row and mark, lines of 80 columns, an SVG document, a sheet of eleven inches as a PNG file
+ * (the first of the first printer that printed), or a PDF document of all sheets. */
+enum print1525_page {
+    PRINT1525_PAGE_LIST = 0,
+    PRINT1525_PAGE_TEXT = 1,
+    PRINT1525_PAGE_SVG = 2,
+    PRINT1525_PAGE_PNG = 3,
+    PRINT1525_PAGE_PDF = 4
+};
+/* `trace`: a line for each edge, or a Value Change Dump. */
+enum print1525_trace { PRINT1525_TRACE_TEXT = 0, PRINT1525_TRACE_VCD = 1 };
 /* `set`: the graphic/upper case or the lower/upper case characters. */
-enum { PRINT1525_UPPER = 0, PRINT1525_LOWER = 1 };
-/* An input of a printer that is no byte: the selection of the one set or of the other. */
-enum { PRINT1525_SELECT_UPPER = 256, PRINT1525_SELECT_LOWER = 257 };
+enum print1525_set { PRINT1525_SET_UPPER = 0, PRINT1525_SET_LOWER = 1 };
 
-/* `form` of a listing: the text of a script, a saved program (a `.prg` file), or petcat's text of one. */
-enum { PRINT1525_SCRIPT = 0, PRINT1525_PROGRAM = 1, PRINT1525_PETCAT = 2 };
+/* The delay numbers of a party, as in the option --delays. After a list's end each delay is the typical one. */
+typedef struct {
+    const uint16_t *numbers;
+    size_t length;
+} print1525_delays;
 
-/* Gives the text of the script that a listing says, for the calls that run scripts.
- *
- * Asks: a listing of any length, and its form.
- * Gives: the text that `print1525 pages --from prg` and `--from petcat` run: a line for each line of the
- * listing, of the same number. A listing that is the text of a script is itself.
- * Refuses, with the buffer as it was: form (60); then a listing that has no text, by its first fault (61 to
- * 64). The calls that run the text say whether it is a script: its faults are those of the listing's lines. */
-void print1525_listing(const uint8_t *bytes, size_t bytes_length, uint8_t form,
-                       uint8_t *buffer, size_t capacity, print1525_answer *answer);
+/* What the options of the program say. Begin with PRINT1525_SETTINGS_INIT, the program's own defaults, and change what
+ * you want; each call says which settings it reads. */
+typedef struct {
+    size_t size;                      /* sizeof(print1525_settings) */
+    uint8_t present;                  /* --present: enum print1525_present */
+    uint8_t mode;                     /* --status: enum print1525_mode */
+    uint8_t from;                     /* --from: enum print1525_from */
+    uint8_t page;                     /* --as of pages: enum print1525_page */
+    uint8_t trace;                    /* --as of bus: enum print1525_trace */
+    uint8_t set;                      /* --set: enum print1525_set */
+    uint8_t reserved[2];              /* 0 */
+    print1525_delays computer_delays; /* --delays: those of the computer, of printer 4 and of printer 5 */
+    print1525_delays printer4_delays;
+    print1525_delays printer5_delays;
+    const void *characters;           /* --characters: the bytes of such a file; an empty one: this project's own */
+    size_t characters_length;
+} print1525_settings;
+
+#define PRINT1525_SETTINGS_INIT                                                                                     \
+    {                                                                                                               \
+        sizeof(print1525_settings), PRINT1525_PRESENT_BOTH, PRINT1525_MODE_EACH, PRINT1525_FROM_TEXT,               \
+            PRINT1525_PAGE_LIST, PRINT1525_TRACE_TEXT, PRINT1525_SET_UPPER, {0, 0}, {NULL, 0}, {NULL, 0}, {NULL, 0}, \
+            NULL, 0                                                                                                 \
+    }
+
+/* ------------------------------------------------------------------------------------------- calls for texts -- */
 
 /* Runs a script and gives its pages.
  *
- * Asks: a script of at most 16,777,216 bytes; printers, status and format of the enums above; and the
- * delay numbers of the computer, of printer 4 and of printer 5, as in the option --delays (after a list's
- * end, so always with a length of 0, each delay is the typical one; delays change no page).
- * Gives: the text that `print1525 pages` writes. Code 1 comes with the BASIC error that stopped the run;
- * what was printed until then is in the text. A script that stopped runs twice, the second time to find
- * the error.
- * Refuses, with the buffer as it was: printers (22), status (23) and format (24), in this order; then
- * a script above the limit (9), or by its first fault (1 to 7) with its line. */
-void print1525_pages(const uint8_t *script, size_t script_length, uint8_t printers, uint8_t status,
-                     const uint16_t *computer, size_t computer_length,
-                     const uint16_t *four, size_t four_length,
-                     const uint16_t *five, size_t five_length,
-                     uint8_t format, uint8_t *buffer, size_t capacity, print1525_answer *answer);
+ * Reads: a script of at most 16,777,216 bytes; present, mode, from, page, the delays (which change no page) and
+ * characters.
+ * Gives: the text that `print1525 pages` writes. Status 1 comes with the BASIC error that stopped the run; what was
+ * printed until then is in the text. A script that stopped runs twice, the second time to find the error.
+ * Refuses: printers (22), status (23) and format (24), in this order; characters, by their first bad line (52); from
+ * (60) and a listing, as print1525_listing; a script above the limit (9), or by its first fault (1 to 7). */
+PRINT1525_CALL int print1525_pages(const void *script, size_t length, const print1525_settings *settings, void *buffer,
+                                   size_t capacity, print1525_details *details);
 
 /* Runs a script and gives the trace of its run on the serial bus.
  *
- * Asks: what print1525_pages asks, with a format of a trace.
- * Gives: the text that `print1525 bus` writes, a trace text or a Value Change Dump. Code 1 comes with
- * the BASIC error that stopped the run.
+ * Reads: what print1525_pages reads, with trace in the place of page and characters.
+ * Gives: the text that `print1525 bus` writes. Status 1 comes with the BASIC error that stopped the run.
  * Refuses: as print1525_pages. */
-void print1525_bus(const uint8_t *script, size_t script_length, uint8_t printers, uint8_t status,
-                   const uint16_t *computer, size_t computer_length,
-                   const uint16_t *four, size_t four_length,
-                   const uint16_t *five, size_t five_length,
-                   uint8_t format, uint8_t *buffer, size_t capacity, print1525_answer *answer);
+PRINT1525_CALL int print1525_bus(const void *script, size_t length, const print1525_settings *settings, void *buffer,
+                                 size_t capacity, print1525_details *details);
+
+/* Gives the text of the script that a listing says.
+ *
+ * Reads: a listing of any length; from.
+ * Gives: the text that `print1525 pages --from prg` and `--from petcat` run: a line for each line of the listing, of
+ * the same number. A listing that is the text of a script is itself.
+ * Refuses: from (60); then a listing that has no text, by its first fault (61 to 64). The calls that run the text say
+ * whether it is a script: its faults are those of the listing's lines. */
+PRINT1525_CALL int print1525_listing(const void *listing, size_t length, const print1525_settings *settings,
+                                     void *buffer, size_t capacity, print1525_details *details);
 
 /* Prints the bytes that a printer gets.
  *
- * Asks: at most 4,294,967,295 bytes, the character set that is selected before them, and a format of
- * a page.
+ * Reads: at most 4,294,967,295 bytes; set, page and characters.
  * Gives: the text that `print1525 raw` writes, the page as that of printer 4.
- * Refuses, with the buffer as it was: set (25) and format (24), in this order; then bytes above the
+ * Refuses: set (25) and format (24), in this order; characters, by their first bad line (52); then bytes above the
  * limit (9). */
-void print1525_raw(const uint8_t *bytes, size_t bytes_length, uint8_t set, uint8_t format,
-                   uint8_t *buffer, size_t capacity, print1525_answer *answer);
+PRINT1525_CALL int print1525_raw(const void *bytes, size_t length, const print1525_settings *settings, void *buffer,
+                                 size_t capacity, print1525_details *details);
 
-/* Prints what a printer hears: bytes, and between them selections of a character set.
- *
- * Asks: at most 4,294,967,296 inputs, each a number as print1525_hear and an ear give it: 0 to 255 a byte,
- * 256 the selection of the graphic/upper case set, 257 that of the lower/upper case set; and a format of a
- * page. An emulator gives 256 for each LISTEN to the printer, and 257 directly after it if secondary address
- * 7 follows, as for a file opened by OPEN 4,4,7. Before the first selection the graphic/upper case set is
- * selected.
- * Gives: the text of the page, as that of printer 4. Of a selection and bytes after it this is what
- * print1525_raw gives for that set and these bytes.
- * Refuses, with the buffer as it was: format (24); inputs above the limit (9); then the first number above
- * 257 (28) with its index, before any memory is taken. */
-void print1525_print(const uint16_t *inputs, size_t inputs_length, uint8_t format,
-                     uint8_t *buffer, size_t capacity, print1525_answer *answer);
+/* An input of a printer that is no byte (0 to 255): the selection of the one set or of the other; and no input. */
+enum print1525_input { PRINT1525_SELECT_UPPER = 256, PRINT1525_SELECT_LOWER = 257, PRINT1525_NO_INPUT = 65535 };
 
-/* The same as print1525_pages, print1525_raw and print1525_print, with characters of your own.
+/* Prints what a printer receives: bytes, and between them selections of a character set.
  *
- * Asks: what those ask, and a file of characters as of the option --characters, of any length; an empty one
- * stands for the characters that those draw, which are this project's own.
- * Gives: what those give; a picture draws the file's characters.
- * Refuses: as those; directly after the settings a file without characters, by its first bad line (52). */
-void print1525_pages_with(const uint8_t *script, size_t script_length, uint8_t printers, uint8_t status,
-                          const uint16_t *computer, size_t computer_length,
-                          const uint16_t *four, size_t four_length,
-                          const uint16_t *five, size_t five_length,
-                          uint8_t format, const uint8_t *characters, size_t characters_length,
-                          uint8_t *buffer, size_t capacity, print1525_answer *answer);
-void print1525_raw_with(const uint8_t *bytes, size_t bytes_length, uint8_t set, uint8_t format,
-                        const uint8_t *characters, size_t characters_length,
-                        uint8_t *buffer, size_t capacity, print1525_answer *answer);
-void print1525_print_with(const uint16_t *inputs, size_t inputs_length, uint8_t format,
-                          const uint8_t *characters, size_t characters_length,
-                          uint8_t *buffer, size_t capacity, print1525_answer *answer);
+ * Reads: at most 4,294,967,296 inputs; page and characters. An emulator gives PRINT1525_SELECT_UPPER for each LISTEN
+ * to the printer, and PRINT1525_SELECT_LOWER directly after it if secondary address 7 follows, as for a file opened by
+ * OPEN 4,4,7. Before the first selection the graphic/upper case set is selected.
+ * Gives: the text of the page, as that of printer 4. Of a selection and bytes after it this is what print1525_raw
+ * gives for that set and these bytes.
+ * Refuses: format (24); characters, by their first bad line (52); inputs above the limit (9); then the first number
+ * above 257 (28) with its index, before any memory is taken. */
+PRINT1525_CALL int print1525_print(const uint16_t *inputs, size_t length, const print1525_settings *settings,
+                                   void *buffer, size_t capacity, print1525_details *details);
 
 /* Checks a trace text.
  *
- * Asks: a text of at most 1,099,511,627,776 bytes, as print1525_bus writes it.
- * Gives: the text that `print1525 check` writes: a line for each frame that the trace spells, and
- * `lawful`.
- * Refuses, with the buffer as it was: a text above the limit (9), or by its first fault: a bad line
- * (8) with its number, or an edge (11 to 16) with its index. */
-void print1525_check(const uint8_t *text, size_t text_length,
-                     uint8_t *buffer, size_t capacity, print1525_answer *answer);
+ * Reads: a text of at most 1,099,511,627,776 bytes, as print1525_bus writes it; no setting yet.
+ * Gives: the text that `print1525 check` writes: a line for each frame that the trace spells, and `lawful`.
+ * Refuses: a text above the limit (9), or by its first fault: a bad line (8) with its number, or an edge (11 to 16)
+ * with its index. */
+PRINT1525_CALL int print1525_check(const void *trace, size_t length, const print1525_settings *settings, void *buffer,
+                                   size_t capacity, print1525_details *details);
 
-/* An edge of the serial bus: from this microsecond on the lines have these levels, each 0 for
- * pulled and any other number for released. */
+/* --------------------------------------------------------------------------------------- edges and recordings -- */
+
+/* An edge of the serial bus: from this microsecond on the lines have these levels, each 0 for pulled and any other
+ * number for released. */
 typedef struct {
     uint64_t time;
     uint8_t atn, clock, data;
 } print1525_edge;
 
-/* Gives what a device hears of a trace. Takes no memory.
- *
- * Asks: a device of 4 to 30, and edges, the first of them at 0 with all lines released.
- * Gives: for each input a number, 0 to 255 a byte, 256 the selection of the graphic/upper case set,
- * 257 that of the lower/upper case set. `capacity` and `length` count numbers.
- * Refuses, with the buffer as it was: the device (21), then the edges by their first fault (11 to 16)
- * with its index. */
-void print1525_hear(uint8_t device, const print1525_edge *edges, size_t edges_length,
-                    uint16_t *buffer, size_t capacity, print1525_answer *answer);
+/* A byte on the wires as far as it came, with its times in microseconds; what did not come is 0. */
+typedef struct {
+    uint64_t look;                        /* CLOCK is released and DATA is pulled */
+    uint64_t ready;                       /* DATA is released */
+    uint64_t answered, answer_ended;      /* with end-or-identify DATA is pulled, and released again */
+    uint64_t pull;                        /* CLOCK's first pull */
+    uint64_t shortest_low, longest_low;   /* for how long CLOCK is pulled in its bits */
+    uint64_t shortest_high, longest_high; /* for how long CLOCK is released in them */
+    uint64_t last_pull;                   /* CLOCK's last pull */
+    uint8_t command;                      /* 1: a command; 0: a data byte */
+    uint8_t eoi;                          /* 1: with end-or-identify */
+    uint8_t bits;                         /* how many bits came whole, at most eight */
+    uint8_t byte;                         /* their number, the lowest bit first */
+} print1525_byte;
 
-/* The place that an ear's edges have reached in the table of lawful traces (docs/DEFINITIONS.md), and what the
- * ear keeps of a byte. Each number belongs to the places named with it, and is 0 in all others. */
+/* `kind` of a reading: how a whole byte ends, or what ended an incomplete one. */
+enum print1525_kind {
+    PRINT1525_NO_READING = 0,
+    PRINT1525_BYTE_ACKNOWLEDGED = 1,   /* a whole byte, at whose end DATA is pulled */
+    PRINT1525_BYTE_UNACKNOWLEDGED = 2, /* a whole byte, at whose end CLOCK is released or ATN pulled */
+    PRINT1525_BYTE_LAST = 3,           /* a whole byte, after which the recording ends */
+    PRINT1525_INCOMPLETE_ATN = 4,      /* ATN is pulled within the byte */
+    PRINT1525_INCOMPLETE_SILENCE = 5,  /* CLOCK is released for more than 1000 microseconds within it */
+    PRINT1525_INCOMPLETE_END = 6       /* the recording ends within it */
+};
+
+/* What a recording says at one place. */
+typedef struct {
+    print1525_byte byte;
+    uint64_t end; /* when it ended; 0 where the recording ends before */
+    uint8_t kind; /* one of enum print1525_kind */
+} print1525_reading;
+
+/* A decoder: what the library keeps of a recording between two edges. Memory of zeros is a decoder just begun. The
+ * numbers are the library's own, but all numbers mean some decoder: more than four `turns` are four, and a `begun`,
+ * `called`, `sent`, `command` or `eoi` that is not 1 is 0. So a damaged decoder gives nonsense, and no harm. */
+typedef struct {
+    print1525_edge first;                      /* since when CLOCK has its level */
+    print1525_edge last;                       /* the last edge taken */
+    print1525_edge turn1, turn2, turn3, turn4; /* the edges from `first` on at which DATA has turned, first to the level
+                                                * that CLOCK does not have; `first` counts if it has that level */
+    print1525_byte byte;                       /* the byte that has begun; `last_pull` is the time of `first` if that
+                                                * pulls CLOCK, as it does after eight bits */
+    uint8_t begun;                             /* 1: an edge was taken */
+    uint8_t called;                            /* 1: `first` pulls ATN; then no byte has begun */
+    uint8_t turns;                             /* how many turns are kept, at most four, after eight bits one */
+    uint8_t sent;                              /* 1: a byte has begun */
+} print1525_decoder;
+
+/* Begins a decoder of a recording of any bus, wherever the recording begins.
+ *
+ * Refuses: NULL (80). */
+PRINT1525_CALL int print1525_decoder_begin(print1525_decoder *decoder);
+
+/* Gives a decoder the next edge, and answers with the reading that it settles. Later edges take no more time than
+ * earlier ones.
+ *
+ * Reads: a decoder that was begun, and edges whose times do not go back; several may have one time.
+ * Gives: `length` 1 and the reading, or 0 and PRINT1525_NO_READING.
+ * Refuses, with the decoder as it was: NULL (80), with nothing written but details; and an edge earlier than the one
+ * before it (17), with PRINT1525_NO_READING. */
+PRINT1525_CALL int print1525_decoder_edge(print1525_decoder *decoder, const print1525_edge *edge,
+                                          print1525_reading *reading, print1525_details *details);
+
+/* Answers with the reading that the end of a recording cuts, if it cuts one. The decoder may be given more edges.
+ *
+ * Refuses: NULL (80). */
+PRINT1525_CALL int print1525_decoder_end(const print1525_decoder *decoder, print1525_reading *reading,
+                                         print1525_details *details);
+
+/* ---------------------------------------------------------------------------------------------- receivers -- */
+
+/* `kind` of what comes to a device. */
+enum print1525_received_kind {
+    PRINT1525_NOTHING_RECEIVED = 0,
+    PRINT1525_RECEIVED_BYTE = 1,    /* a data byte, while the device listens */
+    PRINT1525_RECEIVED_SELECT = 2,  /* a secondary address directly after LISTEN to the device: to a VIC-1525 number 7
+                                     * selects the lower/upper case set */
+    PRINT1525_RECEIVED_LISTEN = 3,  /* LISTEN to the device: to a VIC-1525 it selects the graphic/upper case set */
+    PRINT1525_RECEIVED_UNLISTEN = 4 /* UNLISTEN, while the device listens */
+};
+
+/* What comes to a device. */
+typedef struct {
+    uint8_t kind; /* one of enum print1525_received_kind */
+    uint8_t byte; /* the byte, or the number of the secondary address; else 0 */
+    uint8_t eoi;  /* 1: a byte with end-or-identify, the last of its sender; else 0 */
+} print1525_received;
+
+/* A receiver: what the library keeps of a device on any bus between two edges, one for each device. All numbers mean
+ * some receiver, as those of a decoder: a `device` above 30 is 30, a `listens` or `called` that is not 1 is 0. */
+typedef struct {
+    print1525_decoder decoder;
+    uint8_t device;
+    uint8_t listens; /* 1: it was called, and no UNLISTEN has come since */
+    uint8_t called;  /* 1: the last acknowledged byte called it */
+} print1525_receiver;
+
+/* Begins a receiver for a device of 4 to 30, before its first edge.
+ *
+ * Refuses, with the receiver as it was: NULL (80), and the device (21). */
+PRINT1525_CALL int print1525_receiver_begin(print1525_receiver *receiver, uint8_t device);
+
+/* Gives a receiver the next edge of a bus, wherever its edges begin, and answers with what comes to the device: with
+ * the edge that acknowledges a byte. Later edges take no more time than earlier ones.
+ *
+ * Reads: a receiver that was begun, and edges whose times do not go back; several may have one time.
+ * Gives: `length` 1 and what came, or 0 and PRINT1525_NOTHING_RECEIVED.
+ * Refuses, with the receiver as it was: NULL (80), with nothing written but details; and an edge earlier than the one
+ * before it (17), with PRINT1525_NOTHING_RECEIVED. */
+PRINT1525_CALL int print1525_receiver_edge(print1525_receiver *receiver, const print1525_edge *edge,
+                                           print1525_received *received, print1525_details *details);
+
+/* ------------------------------------------------------------------------------ receivers of this very timing -- */
+
+/* The place that a strict receiver's edges have reached in the table of lawful traces (docs/DEFINITIONS.md), and what
+ * it keeps of a byte. Each number belongs to the places named with it, and is 0 in all others. */
 typedef struct {
     uint64_t since;     /* when the place began: the time of the last edge, but 0 to 1000 before it in a call (1) with
                          * DATA pulled, and 1 to 60 before it after an attention (10) with DATA released */
@@ -326,128 +432,523 @@ typedef struct {
     uint8_t byte;       /* 6 to 8: the number that they make, the lowest bit first; 9: the byte */
     uint8_t bit;        /* 6, 7: the bit that is set; 1: 1 if DATA is pulled; 10: 1 if DATA is released */
     uint8_t unlistened; /* 10: 1: the last command was UNLISTEN */
-} print1525_ear_place;
+} print1525_strict_place;
 
-/* An ear on the wire: what the library keeps of a device between two edges, one ear for each device. It is a
- * plain struct: copy, save and load it freely; copies are independent. The numbers are the library's own.
- * Before a call uses them it tests each: a device of 4 to 30; `called` only with `listens`; before the first
- * edge nothing else but the fault 11; after it levels of 0 or 1, a place to which the last edge can lead by
- * the table with the numbers of this place and no others, the fault 0 or 12 to 15, and `taken` + 98 at most
- * the time of the last edge (with one edge: at 0). It refuses other numbers (26). It does not test whether a
- * trace has just these times, this count, this byte and a device that listens: numbers that pass, but that
- * no edges made, are taken as they are. Then nothing is promised of the answers, but the call returns, writes
- * nothing else, and leaves numbers that pass. */
+/* A receiver that accepts lawful traces alone, and no other bus: what the library keeps of a device between two edges,
+ * one for each device. The numbers are the library's own, but all numbers mean some receiver: a `device` above 30 is
+ * 30, more than eight bits are none, and a number that means nothing is the last of those that do, or 0. */
 typedef struct {
-    size_t taken;              /* how many edges were accepted */
-    print1525_edge last;       /* the last of them, each level 0 or 1 */
-    print1525_ear_place place;
-    uint8_t begun;             /* 1: an edge was accepted */
-    uint8_t refused;           /* 0, or the fault of the edge that was refused (11 if none was accepted) */
+    size_t taken;        /* how many edges were accepted */
+    print1525_edge last; /* the last of them */
+    print1525_strict_place place;
+    uint8_t begun;       /* 1: an edge was accepted */
+    uint8_t refused;     /* 0, or the fault of the edge that was refused (11 if none was accepted) */
     uint8_t device;
-    uint8_t listens;           /* 1: it was called, and no UNLISTEN has come since */
-    uint8_t called;            /* 1: the last frame called it */
-} print1525_ear;
+    uint8_t listens;     /* 1: it was called, and no UNLISTEN has come since */
+    uint8_t called;      /* 1: the last frame called it */
+} print1525_strict;
 
-/* What an ear answers. Each call writes all of it. */
+/* Begins a strict receiver for a device of 4 to 30, before its first edge.
+ *
+ * Refuses, with the receiver as it was: NULL (80), and the device (21). */
+PRINT1525_CALL int print1525_strict_begin(print1525_strict *strict, uint8_t device);
+
+/* Gives a strict receiver the next edge, and answers with the input that comes with it. Later edges take no more time
+ * than earlier ones.
+ *
+ * Reads: a receiver that was begun, and edges in order, the first of them at 0 with all lines released.
+ * Gives: `length` 1 and the input, as print1525_print takes it, or 0 and PRINT1525_NO_INPUT, as with a refusal.
+ * Refuses: NULL (80), with nothing written but details; and an edge that no lawful trace has there (11 to 15) with its
+ * index. Each later edge is refused with the same fault; begin anew to go on. */
+PRINT1525_CALL int print1525_strict_edge(print1525_strict *strict, const print1525_edge *edge, uint16_t *input,
+                                         print1525_details *details);
+
+/* Says whether the edges that a strict receiver was given are a whole lawful trace. It may be given more.
+ *
+ * Refuses: NULL (80), and edges that are no lawful trace by their first fault (11 to 16). */
+PRINT1525_CALL int print1525_strict_end(const print1525_strict *strict, print1525_details *details);
+
+/* Gives what a device receives of a whole lawful trace.
+ *
+ * Reads: a device of 4 to 30, and edges, the first of them at 0 with all lines released.
+ * Gives: the inputs, as print1525_print takes them. `capacity` and `length` count inputs.
+ * Refuses, with the inputs as they were: the device (21), then the edges by their first fault (11 to 16) with its
+ * index. */
+PRINT1525_CALL int print1525_strict_edges(uint8_t device, const print1525_edge *edges, size_t length, uint16_t *inputs,
+                                          size_t capacity, print1525_details *details);
+
+/* ------------------------------------------------------------------------------------------------------------ */
+/* The header's own code. No caller has to read on.                                                             */
+/* ------------------------------------------------------------------------------------------------------------ */
+
+/* The size of each structure, on the one kind of machine that the library is for. */
+#if defined(__cplusplus)
+#define PRINT1525_OWN_SIZE(type, bytes) static_assert(sizeof(type) == (bytes), #type)
+#elif defined(__STDC_VERSION__) && __STDC_VERSION__ >= 201112L
+#define PRINT1525_OWN_SIZE(type, bytes) _Static_assert(sizeof(type) == (bytes), #type)
+#else
+#define PRINT1525_OWN_SIZE(type, bytes) typedef char type##_has_its_size[sizeof(type) == (bytes) ? 1 : -1]
+#endif
+PRINT1525_OWN_SIZE(print1525_details, 32);
+PRINT1525_OWN_SIZE(print1525_delays, 16);
+PRINT1525_OWN_SIZE(print1525_settings, 80);
+PRINT1525_OWN_SIZE(print1525_edge, 16);
+PRINT1525_OWN_SIZE(print1525_byte, 88);
+PRINT1525_OWN_SIZE(print1525_reading, 104);
+PRINT1525_OWN_SIZE(print1525_decoder, 192);
+PRINT1525_OWN_SIZE(print1525_received, 3);
+PRINT1525_OWN_SIZE(print1525_receiver, 200);
+PRINT1525_OWN_SIZE(print1525_strict_place, 24);
+PRINT1525_OWN_SIZE(print1525_strict, 56);
+#undef PRINT1525_OWN_SIZE
+
+/* The proved calls, as the library names them (tools/archive). Each slice is a pointer, which is not NULL, and a
+ * length; what is written overlaps nothing else. */
 typedef struct {
-    size_t code;  /* PRINT1525_DONE or PRINT1525_REFUSED */
-    size_t fault; /* with code 2 one of enum print1525_fault, else 0 */
-    size_t place; /* with the faults 11 to 16 the index of the edge, from 0, else 0 */
-    size_t heard; /* 1: an input came with the edge; else 0 */
-    size_t input; /* that input, a number as of print1525_hear; else 0 */
-} print1525_ear_answer;
+    size_t code;   /* 0 done, 1 stopped, 2 refused, 3 out of memory, 4 the buffer is too small */
+    size_t fault;  /* of code 1 the number of the BASIC error, of code 2 one of enum print1525_fault */
+    size_t place;
+    size_t length; /* with the faults 63 and 64 the column */
+} print1525_plain_answer;
 
-/* Begins an ear for a device of 4 to 30, before its first edge. Takes no memory.
- *
- * Refuses, with the ear as it was: the device (21). */
-void print1525_ear_begin(print1525_ear *ear, uint8_t device, print1525_ear_answer *answer);
+void print1525_plain_pages_with(const uint8_t *script, size_t script_length, uint8_t printers, uint8_t status,
+                                const uint16_t *computer, size_t computer_length, const uint16_t *four,
+                                size_t four_length, const uint16_t *five, size_t five_length, uint8_t format,
+                                const uint8_t *characters, size_t characters_length, uint8_t *buffer, size_t capacity,
+                                print1525_plain_answer *answer);
+void print1525_plain_bus(const uint8_t *script, size_t script_length, uint8_t printers, uint8_t status,
+                         const uint16_t *computer, size_t computer_length, const uint16_t *four, size_t four_length,
+                         const uint16_t *five, size_t five_length, uint8_t format, uint8_t *buffer, size_t capacity,
+                         print1525_plain_answer *answer);
+void print1525_plain_listing(const uint8_t *bytes, size_t bytes_length, uint8_t form, uint8_t *buffer, size_t capacity,
+                             print1525_plain_answer *answer);
+void print1525_plain_raw_with(const uint8_t *bytes, size_t bytes_length, uint8_t set, uint8_t format,
+                              const uint8_t *characters, size_t characters_length, uint8_t *buffer, size_t capacity,
+                              print1525_plain_answer *answer);
+void print1525_plain_print_with(const uint16_t *inputs, size_t inputs_length, uint8_t format, const uint8_t *characters,
+                                size_t characters_length, uint8_t *buffer, size_t capacity,
+                                print1525_plain_answer *answer);
+void print1525_plain_check(const uint8_t *text, size_t text_length, uint8_t *buffer, size_t capacity,
+                           print1525_plain_answer *answer);
+void print1525_plain_receiver_begin(print1525_receiver *receiver, uint8_t device, print1525_plain_answer *answer);
+void print1525_plain_receiver_edge(print1525_receiver *receiver, const print1525_edge *edge,
+                                   print1525_received *received, print1525_plain_answer *answer);
+void print1525_plain_receive(uint8_t device, const print1525_edge *edges, size_t edges_length, uint16_t *buffer,
+                             size_t capacity, print1525_plain_answer *answer);
+void print1525_plain_strict_begin(print1525_strict *strict, uint8_t device, print1525_plain_answer *answer);
+void print1525_plain_strict_edge(print1525_strict *strict, const print1525_edge *edge, uint16_t *input,
+                                 print1525_plain_answer *answer);
+void print1525_plain_strict_end(const print1525_strict *strict, print1525_plain_answer *answer);
+void print1525_plain_decode_begin(print1525_decoder *decoder);
+void print1525_plain_decode_edge(print1525_decoder *decoder, const print1525_edge *edge, print1525_reading *reading,
+                                 print1525_plain_answer *answer);
+void print1525_plain_decode_end(const print1525_decoder *decoder, print1525_reading *reading,
+                                print1525_plain_answer *answer);
 
-/* Gives an ear the next edge, and answers with the input that comes with it. Takes no memory; later edges take
- * no more time than earlier ones.
- *
- * Asks: an ear that was begun, and edges in order, the first of them at 0 with all lines released.
- * Gives: edge by edge the inputs that print1525_hear gives for all edges.
- * Refuses: numbers that are no ear (26), with the ear as it was; and an edge that no lawful trace has
- * there (11 to 15) with its index. Each later edge is refused with the same fault; begin the ear anew
- * to go on. */
-void print1525_ear_edge(print1525_ear *ear, const print1525_edge *edge, print1525_ear_answer *answer);
+#ifdef __cplusplus
+#define PRINT1525_OWN inline
+#define PRINT1525_OWN_AS(type, value) static_cast<type>(value)
+#define PRINT1525_OWN_ADDRESS(pointer) reinterpret_cast<uintptr_t>(pointer)
+#else
+#define PRINT1525_OWN static inline
+#define PRINT1525_OWN_AS(type, value) ((type)(value))
+#define PRINT1525_OWN_ADDRESS(pointer) ((uintptr_t)(pointer))
+#endif
 
-/* Says whether the edges that an ear was given are a whole lawful trace. The ear may be given more.
- *
- * Refuses: numbers that are no ear (26), and edges that are none by their first fault (11 to 16). */
-void print1525_ear_end(const print1525_ear *ear, print1525_ear_answer *answer);
+PRINT1525_CALL const char *print1525_strerror(int fault) {
+    switch (fault) {
+    case PRINT1525_FAULT_UNKNOWN_WORD: return "unknown word";
+    case PRINT1525_FAULT_BAD_NUMBER: return "bad number";
+    case PRINT1525_FAULT_BAD_DEVICE: return "bad device";
+    case PRINT1525_FAULT_BAD_SECOND: return "bad secondary address";
+    case PRINT1525_FAULT_BAD_BYTE: return "bad byte";
+    case PRINT1525_FAULT_TOO_LONG: return "too long";
+    case PRINT1525_FAULT_TOO_MANY: return "too many statements";
+    case PRINT1525_FAULT_BAD_LINE: return "bad trace line";
+    case PRINT1525_FAULT_TOO_LARGE: return "input too large";
+    case PRINT1525_FAULT_BAD_START: return "bad start";
+    case PRINT1525_FAULT_BAD_ORDER: return "bad order";
+    case PRINT1525_FAULT_TOO_EARLY: return "too early";
+    case PRINT1525_FAULT_TOO_LATE: return "too late";
+    case PRINT1525_FAULT_BAD_SHAPE: return "bad shape";
+    case PRINT1525_FAULT_TRUNCATED: return "truncated";
+    case PRINT1525_FAULT_GOES_BACK: return "time goes back";
+    case PRINT1525_FAULT_NO_SUCH_DEVICE: return "no such device";
+    case PRINT1525_FAULT_NO_SUCH_PRINTERS: return "no such printers";
+    case PRINT1525_FAULT_NO_SUCH_STATUS: return "no such status";
+    case PRINT1525_FAULT_NO_SUCH_FORMAT: return "no such format";
+    case PRINT1525_FAULT_NO_SUCH_SET: return "no such character set";
+    case PRINT1525_FAULT_NO_SUCH_INPUT: return "no such input";
+    case PRINT1525_FAULT_NO_SUCH_SHEET: return "no such sheet";
+    case PRINT1525_FAULT_DOCUMENT_TOO_LARGE: return "document too large";
+    case PRINT1525_FAULT_BAD_CHARACTER_LINE: return "bad character line";
+    case PRINT1525_FAULT_NO_SUCH_FORM: return "no such form";
+    case PRINT1525_FAULT_NOT_SAVED: return "not a saved program";
+    case PRINT1525_FAULT_CUT_OFF: return "cut off";
+    case PRINT1525_FAULT_UNKNOWN_NAME: return "unknown name";
+    case PRINT1525_FAULT_BAD_CHARACTER: return "bad byte";
+    case PRINT1525_FAULT_NULL_POINTER: return "null pointer";
+    case PRINT1525_FAULT_OVERLAP: return "overlapping memory";
+    case PRINT1525_FAULT_BAD_SETTINGS: return "bad settings";
+    case PRINT1525_FAULT_NO_MEMORY: return "out of memory";
+    case PRINT1525_FAULT_TOO_SMALL: return "buffer too small";
+    case PRINT1525_STOP_TOO_MANY_FILES: return "TOO MANY FILES";
+    case PRINT1525_STOP_FILE_OPEN: return "FILE OPEN";
+    case PRINT1525_STOP_FILE_NOT_OPEN: return "FILE NOT OPEN";
+    case PRINT1525_STOP_DEVICE_NOT_PRESENT: return "DEVICE NOT PRESENT";
+    case PRINT1525_STOP_NOT_INPUT_FILE: return "NOT INPUT FILE";
+    default: return "no fault";
+    }
+}
 
-/* A byte on the wires as far as it came, with its times in microseconds; what did not come is 0. */
+/* A text that is written with no more bytes than there is room for, and its whole length. */
 typedef struct {
-    uint64_t look;                          /* CLOCK is released and DATA is pulled */
-    uint64_t ready;                         /* DATA is released */
-    uint64_t answered, answer_ended;        /* with end-or-identify DATA is pulled, and released again */
-    uint64_t pull;                          /* CLOCK's first pull */
-    uint64_t shortest_low, longest_low;     /* for how long CLOCK is pulled in its bits */
-    uint64_t shortest_high, longest_high;   /* for how long CLOCK is released in them */
-    uint64_t last_pull;                     /* CLOCK's last pull */
-    uint8_t command;                        /* 1: a command; 0: a data byte */
-    uint8_t eoi;                            /* 1: with end-or-identify */
-    uint8_t bits;                           /* how many bits came whole, at most eight */
-    uint8_t byte;                           /* their number, the lowest bit first */
-} print1525_byte;
+    char *text;
+    size_t capacity, length;
+} print1525_own_text;
 
-/* `kind` of a reading: how a whole byte ends, or what ended an incomplete one. */
-enum print1525_kind {
-    PRINT1525_NOTHING = 0,
-    PRINT1525_ACKNOWLEDGED = 1,     /* a whole byte, at whose end DATA is pulled */
-    PRINT1525_UNACKNOWLEDGED = 2,   /* a whole byte, at whose end CLOCK is released or ATN pulled */
-    PRINT1525_CUT = 3,              /* a whole byte, after which the recording ends */
-    PRINT1525_ATTENTION = 4,        /* ATN is pulled within the byte */
-    PRINT1525_SILENCE = 5,          /* CLOCK is released for more than 1000 microseconds within it */
-    PRINT1525_CUT_WITHIN = 6        /* the recording ends within it */
-};
+PRINT1525_OWN void print1525_own_add(print1525_own_text *to, const char *words) {
+    for (; *words; words++, to->length++)
+        if (to->length + 1 < to->capacity) to->text[to->length] = *words;
+}
 
-/* What a recording says at one place. */
+PRINT1525_OWN void print1525_own_add_number(print1525_own_text *to, size_t number) {
+    char digits[24];
+    size_t at = sizeof digits - 1;
+    digits[at] = '\0';
+    do digits[--at] = "0123456789"[number % 10];
+    while (number /= 10);
+    print1525_own_add(to, digits + at);
+}
+
+/* What a fault's place counts, or NULL. */
+PRINT1525_OWN const char *print1525_own_counted(int fault) {
+    if (fault >= PRINT1525_FAULT_UNKNOWN_WORD && fault <= PRINT1525_FAULT_BAD_LINE) return "line ";
+    if (fault >= PRINT1525_FAULT_BAD_START && fault <= PRINT1525_FAULT_TRUNCATED) return "edge ";
+    if (fault >= PRINT1525_FAULT_CUT_OFF && fault <= PRINT1525_FAULT_BAD_CHARACTER) return "line ";
+    if (fault == PRINT1525_FAULT_BAD_CHARACTER_LINE) return "line ";
+    return fault == PRINT1525_FAULT_NO_SUCH_INPUT ? "input " : NULL;
+}
+
+PRINT1525_CALL size_t print1525_message(const print1525_details *details, char *text, size_t capacity) {
+    print1525_own_text to = {text, capacity, 0};
+    if (text == NULL) to.capacity = 0;
+    if (details != NULL && details->status == PRINT1525_STOPPED) {
+        print1525_own_add(&to, "?");
+        print1525_own_add(&to, print1525_strerror(details->fault));
+        print1525_own_add(&to, "  ERROR (statement ");
+        print1525_own_add_number(&to, details->place);
+        print1525_own_add(&to, ")");
+    } else if (details != NULL && details->status != PRINT1525_DONE) {
+        const char *const counted = print1525_own_counted(details->fault);
+        if (counted != NULL) {
+            print1525_own_add(&to, counted);
+            print1525_own_add_number(&to, details->place);
+            if (details->column > 0) {
+                print1525_own_add(&to, ", column ");
+                print1525_own_add_number(&to, details->column);
+            }
+            print1525_own_add(&to, ": ");
+        }
+        print1525_own_add(&to, print1525_strerror(details->fault));
+    }
+    if (to.capacity > 0) to.text[to.length < to.capacity ? to.length : to.capacity - 1] = '\0';
+    return to.length;
+}
+
+/* Writes the details, if they are wanted, and gives the status. */
+PRINT1525_OWN int print1525_own_tell(print1525_details *details, int status, int fault, size_t place, size_t column,
+                                     size_t length) {
+    if (details != NULL) {
+        details->status = status;
+        details->fault = fault;
+        details->place = place;
+        details->column = column;
+        details->length = length;
+    }
+    return status;
+}
+
+PRINT1525_OWN int print1525_own_refuse(print1525_details *details, int fault) {
+    return print1525_own_tell(details, PRINT1525_REFUSED, fault, 0, 0, 0);
+}
+
+/* Tells what a proved call answered. */
+PRINT1525_OWN int print1525_own_answer(print1525_details *details, print1525_plain_answer answer) {
+    const int fault = PRINT1525_OWN_AS(int, answer.fault);
+    const int is_column = fault == PRINT1525_FAULT_UNKNOWN_NAME || fault == PRINT1525_FAULT_BAD_CHARACTER;
+    switch (answer.code) {
+    case 0: return print1525_own_tell(details, PRINT1525_DONE, PRINT1525_FAULT_NONE, 0, 0, answer.length);
+    case 1: return print1525_own_tell(details, PRINT1525_STOPPED, 100 + fault, answer.place, 0, answer.length);
+    case 2:
+        return print1525_own_tell(details, PRINT1525_REFUSED, fault, answer.place, is_column ? answer.length : 0, 0);
+    case 4: return print1525_own_tell(details, PRINT1525_FAILED, PRINT1525_FAULT_TOO_SMALL, 0, 0, answer.length);
+    default: return print1525_own_tell(details, PRINT1525_FAILED, PRINT1525_FAULT_NO_MEMORY, 0, 0, 0);
+    }
+}
+
+/* Whether two pieces of memory have a byte in common. */
+PRINT1525_OWN int print1525_own_overlap(const void *a, size_t a_size, const void *b, size_t b_size) {
+    const uintptr_t from_a = PRINT1525_OWN_ADDRESS(a), from_b = PRINT1525_OWN_ADDRESS(b);
+    if (a_size == 0 || b_size == 0) return 0;
+    return from_a < from_b ? from_b - from_a < a_size : from_a - from_b < b_size;
+}
+
+/* Why a call may not read this memory and write this buffer, or 0. */
+PRINT1525_OWN int print1525_own_refused(const void *input, size_t size, const void *buffer, size_t capacity) {
+    if ((input == NULL && size > 0) || (buffer == NULL && capacity > 0)) return PRINT1525_FAULT_NULL_POINTER;
+    return print1525_own_overlap(input, size, buffer, capacity) ? PRINT1525_FAULT_OVERLAP : PRINT1525_FAULT_NONE;
+}
+
+/* What the proved calls are passed: the settings, and pointers that are not NULL. */
 typedef struct {
-    print1525_byte byte;
-    uint64_t end; /* when it ended; 0 where the recording ends before */
-    uint8_t kind; /* one of enum print1525_kind */
-} print1525_reading;
+    print1525_settings settings;
+    const void *input, *characters;
+    void *buffer;
+    int fault; /* why the call is refused, or 0 */
+    uint16_t nothing[1];
+} print1525_own_call;
 
-/* A decoder: what the library keeps of a recording between two edges. It is a plain struct, as an ear is. Before
- * a call uses its numbers it tests each: before the first edge they are 0; after it there are two edges, and
- * those at which DATA has turned, to and fro from the level that CLOCK does not have; a byte that has begun has
- * at most eight bits and no greater number than these make, its halves in order, and where CLOCK is pulled,
- * its last pull is the first edge. It refuses other numbers (27). It does not test whether a recording has just
- * these times and ATN's levels: numbers that pass, but that no edges made, are taken as they are. Then nothing
- * is promised of the answers, but the call returns and writes nothing else. */
-typedef struct {
-    print1525_edge first;                      /* since when CLOCK has its level; each level 0 or 1 */
-    print1525_edge last;                       /* the last edge taken */
-    print1525_edge turn1, turn2, turn3, turn4; /* the edges from `first` on at which DATA has turned, first to the
-                                                * level that CLOCK does not have; `first` counts if it has that level */
-    print1525_byte byte;                       /* the byte that has begun; `last_pull` is the time of `first` if that
-                                                * pulls CLOCK, as it does after eight bits */
-    uint8_t begun;                             /* 1: an edge was taken */
-    uint8_t called;                            /* 1: `first` pulls ATN; then no byte has begun */
-    uint8_t turns;                             /* how many turns are kept, at most four, after eight bits one */
-    uint8_t sent;                              /* 1: a byte has begun */
-} print1525_decoder;
+/* The same for a list of numbers: why a call may not read it is kept, and NULL stands for no numbers. */
+PRINT1525_OWN const void *print1525_own_input(print1525_own_call *call, const void *input, size_t size,
+                                              const void *buffer, size_t capacity) {
+    if (call->fault == PRINT1525_FAULT_NONE) call->fault = print1525_own_refused(input, size, buffer, capacity);
+    return input == NULL ? call->nothing : input;
+}
 
-/* Begins a decoder of a recording of any bus, wherever the recording begins. Takes no memory. */
-void print1525_decode_begin(print1525_decoder *decoder);
+PRINT1525_OWN void print1525_own_delays(print1525_own_call *call, print1525_delays *list, const void *buffer,
+                                        size_t capacity) {
+    const size_t size = list->length * sizeof *list->numbers;
+    list->numbers =
+        PRINT1525_OWN_AS(const uint16_t *, print1525_own_input(call, list->numbers, size, buffer, capacity));
+}
 
-/* Gives a decoder the next edge, and answers with the reading that it settles. Takes no memory; later edges take
- * no more time than earlier ones.
- *
- * Asks: a decoder that was begun, and edges whose times do not go back; several may have one time.
- * Gives: `length` 1 and the reading, or 0 and one that is PRINT1525_NOTHING.
- * Refuses, with the decoder as it was and PRINT1525_NOTHING: numbers that are no decoder (27), and an edge
- * earlier than the one before it (12; `place` is 0, since a decoder counts no edges). */
-void print1525_decode_edge(print1525_decoder *decoder, const print1525_edge *edge,
-                           print1525_reading *reading, print1525_answer *answer);
+/* Unpacks what a call for a text is passed, an input of so many bytes. */
+PRINT1525_OWN print1525_own_call *print1525_own_begin(print1525_own_call *call, const void *input, size_t size,
+                                                      const print1525_settings *settings, void *buffer,
+                                                      size_t capacity) {
+    const print1525_settings defaults = PRINT1525_SETTINGS_INIT;
+    print1525_settings *const s = &call->settings;
+    int is_known = settings == NULL || settings->size == sizeof defaults;
+    *s = settings != NULL && is_known ? *settings : defaults;
+    is_known = is_known && s->reserved[0] == 0 && s->reserved[1] == 0;
+    call->fault = is_known ? PRINT1525_FAULT_NONE : PRINT1525_FAULT_BAD_SETTINGS;
+    call->nothing[0] = 0;
+    call->input = print1525_own_input(call, input, size, buffer, capacity);
+    call->characters = print1525_own_input(call, s->characters, s->characters_length, buffer, capacity);
+    print1525_own_delays(call, &s->computer_delays, buffer, capacity);
+    print1525_own_delays(call, &s->printer4_delays, buffer, capacity);
+    print1525_own_delays(call, &s->printer5_delays, buffer, capacity);
+    call->buffer = buffer == NULL ? call->nothing : buffer;
+    return call;
+}
 
-/* Answers with the reading that the end of a recording cuts, if it cuts one. The decoder may be given more edges.
- *
- * Refuses: numbers that are no decoder (27). */
-void print1525_decode_end(const print1525_decoder *decoder, print1525_reading *reading,
-                          print1525_answer *answer);
+/* Runs the text of a script: its pages, or its trace. */
+PRINT1525_OWN print1525_plain_answer print1525_own_run(print1525_own_call *call, int is_bus, const void *script,
+                                                       size_t length, size_t capacity) {
+    const print1525_settings *const s = &call->settings;
+    const uint8_t *const text = PRINT1525_OWN_AS(const uint8_t *, script);
+    uint8_t *const buffer = PRINT1525_OWN_AS(uint8_t *, call->buffer);
+    print1525_plain_answer answer;
+    if (is_bus)
+        print1525_plain_bus(text, length, s->present, s->mode, s->computer_delays.numbers, s->computer_delays.length,
+                            s->printer4_delays.numbers, s->printer4_delays.length, s->printer5_delays.numbers,
+                            s->printer5_delays.length, s->trace, buffer, capacity, &answer);
+    else
+        print1525_plain_pages_with(text, length, s->present, s->mode, s->computer_delays.numbers,
+                                   s->computer_delays.length, s->printer4_delays.numbers, s->printer4_delays.length,
+                                   s->printer5_delays.numbers, s->printer5_delays.length, s->page,
+                                   PRINT1525_OWN_AS(const uint8_t *, call->characters), s->characters_length, buffer,
+                                   capacity, &answer);
+    return answer;
+}
+
+/* Runs what a listing says, by the text that print1525_plain_listing gives. Settings are refused before the listing is:
+ * they are those of an empty script. */
+PRINT1525_OWN print1525_plain_answer print1525_own_run_listing(print1525_own_call *call, int is_bus, size_t length,
+                                                               size_t capacity) {
+    const uint8_t *const listing = PRINT1525_OWN_AS(const uint8_t *, call->input);
+    const uint8_t from = call->settings.from;
+    print1525_plain_answer answer = print1525_own_run(call, is_bus, call->nothing, 0, 0);
+    uint8_t nothing[1], *text;
+    if (answer.code == 2 || answer.code == 3) return answer;
+    print1525_plain_listing(listing, length, from, nothing, 0, &answer);
+    if (answer.code == 2 || answer.code == 3) return answer;
+    text = PRINT1525_OWN_AS(uint8_t *, malloc(answer.length > 0 ? answer.length : 1));
+    if (text == NULL) {
+        answer.code = 3;
+        return answer;
+    }
+    print1525_plain_listing(listing, length, from, text, answer.length, &answer);
+    if (answer.code == 0) answer = print1525_own_run(call, is_bus, text, answer.length, capacity);
+    free(text);
+    return answer;
+}
+
+/* Runs a script. */
+PRINT1525_OWN int print1525_own_script(int is_bus, const void *script, size_t length,
+                                       const print1525_settings *settings, void *buffer, size_t capacity,
+                                       print1525_details *details) {
+    print1525_own_call call;
+    if (print1525_own_begin(&call, script, length, settings, buffer, capacity)->fault != PRINT1525_FAULT_NONE)
+        return print1525_own_refuse(details, call.fault);
+    return print1525_own_answer(details, call.settings.from == PRINT1525_FROM_TEXT
+                                             ? print1525_own_run(&call, is_bus, call.input, length, capacity)
+                                             : print1525_own_run_listing(&call, is_bus, length, capacity));
+}
+
+PRINT1525_CALL int print1525_pages(const void *script, size_t length, const print1525_settings *settings, void *buffer,
+                                   size_t capacity, print1525_details *details) {
+    return print1525_own_script(0, script, length, settings, buffer, capacity, details);
+}
+
+PRINT1525_CALL int print1525_bus(const void *script, size_t length, const print1525_settings *settings, void *buffer,
+                                 size_t capacity, print1525_details *details) {
+    return print1525_own_script(1, script, length, settings, buffer, capacity, details);
+}
+
+PRINT1525_CALL int print1525_listing(const void *listing, size_t length, const print1525_settings *settings,
+                                     void *buffer, size_t capacity, print1525_details *details) {
+    print1525_own_call call;
+    print1525_plain_answer answer;
+    if (print1525_own_begin(&call, listing, length, settings, buffer, capacity)->fault != PRINT1525_FAULT_NONE)
+        return print1525_own_refuse(details, call.fault);
+    print1525_plain_listing(PRINT1525_OWN_AS(const uint8_t *, call.input), length, call.settings.from,
+                            PRINT1525_OWN_AS(uint8_t *, call.buffer), capacity, &answer);
+    return print1525_own_answer(details, answer);
+}
+
+PRINT1525_CALL int print1525_raw(const void *bytes, size_t length, const print1525_settings *settings, void *buffer,
+                                 size_t capacity, print1525_details *details) {
+    print1525_own_call call;
+    print1525_plain_answer answer;
+    if (print1525_own_begin(&call, bytes, length, settings, buffer, capacity)->fault != PRINT1525_FAULT_NONE)
+        return print1525_own_refuse(details, call.fault);
+    print1525_plain_raw_with(PRINT1525_OWN_AS(const uint8_t *, call.input), length, call.settings.set,
+                             call.settings.page, PRINT1525_OWN_AS(const uint8_t *, call.characters),
+                             call.settings.characters_length, PRINT1525_OWN_AS(uint8_t *, call.buffer), capacity,
+                             &answer);
+    return print1525_own_answer(details, answer);
+}
+
+PRINT1525_CALL int print1525_print(const uint16_t *inputs, size_t length, const print1525_settings *settings,
+                                   void *buffer, size_t capacity, print1525_details *details) {
+    const size_t size = length * sizeof *inputs;
+    print1525_own_call call;
+    print1525_plain_answer answer;
+    if (print1525_own_begin(&call, inputs, size, settings, buffer, capacity)->fault != PRINT1525_FAULT_NONE)
+        return print1525_own_refuse(details, call.fault);
+    print1525_plain_print_with(PRINT1525_OWN_AS(const uint16_t *, call.input), length, call.settings.page,
+                               PRINT1525_OWN_AS(const uint8_t *, call.characters), call.settings.characters_length,
+                               PRINT1525_OWN_AS(uint8_t *, call.buffer), capacity, &answer);
+    return print1525_own_answer(details, answer);
+}
+
+PRINT1525_CALL int print1525_check(const void *trace, size_t length, const print1525_settings *settings, void *buffer,
+                                   size_t capacity, print1525_details *details) {
+    print1525_own_call call;
+    print1525_plain_answer answer;
+    if (print1525_own_begin(&call, trace, length, settings, buffer, capacity)->fault != PRINT1525_FAULT_NONE)
+        return print1525_own_refuse(details, call.fault);
+    print1525_plain_check(PRINT1525_OWN_AS(const uint8_t *, call.input), length,
+                          PRINT1525_OWN_AS(uint8_t *, call.buffer), capacity, &answer);
+    return print1525_own_answer(details, answer);
+}
+
+/* Tells what a proved call answered that takes the edges of any bus, of which it refuses nothing but their order. */
+PRINT1525_OWN int print1525_own_bus_answer(print1525_details *details, print1525_plain_answer answer) {
+    if (answer.fault == PRINT1525_FAULT_BAD_ORDER) answer.fault = PRINT1525_FAULT_GOES_BACK;
+    return print1525_own_answer(details, answer);
+}
+
+PRINT1525_CALL int print1525_decoder_begin(print1525_decoder *decoder) {
+    if (decoder == NULL) return PRINT1525_REFUSED;
+    print1525_plain_decode_begin(decoder);
+    return PRINT1525_DONE;
+}
+
+PRINT1525_CALL int print1525_decoder_edge(print1525_decoder *decoder, const print1525_edge *edge,
+                                          print1525_reading *reading, print1525_details *details) {
+    print1525_edge read;
+    print1525_reading settled;
+    print1525_plain_answer answer;
+    if (decoder == NULL || edge == NULL || reading == NULL)
+        return print1525_own_refuse(details, PRINT1525_FAULT_NULL_POINTER);
+    read = *edge;
+    print1525_plain_decode_edge(decoder, &read, &settled, &answer);
+    *reading = settled;
+    return print1525_own_bus_answer(details, answer);
+}
+
+PRINT1525_CALL int print1525_decoder_end(const print1525_decoder *decoder, print1525_reading *reading,
+                                         print1525_details *details) {
+    print1525_reading cut;
+    print1525_plain_answer answer;
+    if (decoder == NULL || reading == NULL) return print1525_own_refuse(details, PRINT1525_FAULT_NULL_POINTER);
+    print1525_plain_decode_end(decoder, &cut, &answer);
+    *reading = cut;
+    return print1525_own_answer(details, answer);
+}
+
+PRINT1525_CALL int print1525_receiver_begin(print1525_receiver *receiver, uint8_t device) {
+    print1525_plain_answer answer;
+    if (receiver == NULL) return PRINT1525_REFUSED;
+    print1525_plain_receiver_begin(receiver, device, &answer);
+    return print1525_own_answer(NULL, answer);
+}
+
+PRINT1525_CALL int print1525_receiver_edge(print1525_receiver *receiver, const print1525_edge *edge,
+                                           print1525_received *received, print1525_details *details) {
+    print1525_edge read;
+    print1525_received came;
+    print1525_plain_answer answer;
+    if (receiver == NULL || edge == NULL || received == NULL)
+        return print1525_own_refuse(details, PRINT1525_FAULT_NULL_POINTER);
+    read = *edge;
+    print1525_plain_receiver_edge(receiver, &read, &came, &answer);
+    *received = came;
+    return print1525_own_bus_answer(details, answer);
+}
+
+PRINT1525_CALL int print1525_strict_begin(print1525_strict *strict, uint8_t device) {
+    print1525_plain_answer answer;
+    if (strict == NULL) return PRINT1525_REFUSED;
+    print1525_plain_strict_begin(strict, device, &answer);
+    return print1525_own_answer(NULL, answer);
+}
+
+PRINT1525_CALL int print1525_strict_edge(print1525_strict *strict, const print1525_edge *edge, uint16_t *input,
+                                         print1525_details *details) {
+    print1525_edge read;
+    uint16_t came;
+    print1525_plain_answer answer;
+    if (strict == NULL || edge == NULL || input == NULL)
+        return print1525_own_refuse(details, PRINT1525_FAULT_NULL_POINTER);
+    read = *edge;
+    print1525_plain_strict_edge(strict, &read, &came, &answer);
+    *input = PRINT1525_NO_INPUT;
+    if (answer.length == 1) *input = came;
+    return print1525_own_answer(details, answer);
+}
+
+PRINT1525_CALL int print1525_strict_end(const print1525_strict *strict, print1525_details *details) {
+    print1525_plain_answer answer;
+    if (strict == NULL) return print1525_own_refuse(details, PRINT1525_FAULT_NULL_POINTER);
+    print1525_plain_strict_end(strict, &answer);
+    return print1525_own_answer(details, answer);
+}
+
+PRINT1525_CALL int print1525_strict_edges(uint8_t device, const print1525_edge *edges, size_t length, uint16_t *inputs,
+                                          size_t capacity, print1525_details *details) {
+    const int fault = print1525_own_refused(edges, length * sizeof *edges, inputs, capacity * sizeof *inputs);
+    print1525_edge no_edge = {0, 0, 0, 0};
+    uint16_t nothing[1];
+    print1525_plain_answer answer;
+    if (fault != PRINT1525_FAULT_NONE) return print1525_own_refuse(details, fault);
+    print1525_plain_receive(device, edges == NULL ? &no_edge : edges, length, inputs == NULL ? nothing : inputs,
+                            capacity, &answer);
+    return print1525_own_answer(details, answer);
+}
 
 #ifdef __cplusplus
 }

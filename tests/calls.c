@@ -1,29 +1,29 @@
 /* The calls of include/print1525.h over standard input, as a test of them: calls CALL SETTING..
  *
- *     calls pages PRINTERS STATUS FORMAT DELAYS       (the header's names by their index: no printer, 4, 5, both; each, kept;
- *                                                      list, text, svg, png, pdf; DELAYS as of --delays)
- *     calls bus PRINTERS STATUS FORMAT DELAYS
- *     calls raw SET FORMAT
- *     calls print FORMAT                              (inputs, a number each line)
- *     calls listing FORM                              (the text of a listing: 0 a script, 1 a saved program, 2 petcat's text)
+ *     calls pages PRINTERS MODE PAGE DELAYS [FROM]    (the header's names by their index: no printer, 4, 5, both; each, kept;
+ *                                                      list, text, svg, png, pdf; DELAYS as of --delays; FROM as of listing)
+ *     calls bus PRINTERS MODE TRACE DELAYS [FROM]
+ *     calls raw SET PAGE
+ *     calls print PAGE                                (inputs, a number each line)
+ *     calls listing FROM                              (the text of a listing: 0 a script, 1 a saved program, 2 petcat's text)
  *     calls check
- *     calls hear DEVICE                               (a trace text; the inputs that the device hears, a number each line)
+ *     calls strict DEVICE                             (a trace text; the inputs that the device receives, a number each line)
  *     calls settings                                  (numbers that stand for no setting; no input)
- *     calls stops                                     (the number and the text of each BASIC error; no input)
- *     calls ears                                      (an ear's answers and refusals; no input)
+ *     calls pointers                                  (pointers that are NULL, and memory that overlaps; no input)
+ *     calls words                                     (the number and the words of each fault, and messages; no input)
+ *     calls receivers                                 (a strict receiver's answers and refusals; no input)
  *     calls decoder                                   (a decoder's answers and refusals; no input)
  *     calls readings                                  (a recording; each reading with all that is told of it, a line each)
  *
- * Writes the text to standard output, and a line to standard error as print1525 does, and ends with the answer's
- * code. Before that the call is made with buffers of all sizes from 0 to what is needed, and with each allocation
+ * Writes the text to standard output, and a line to standard error as print1525 does, and ends with the
+ * status. Before that the call is made with buffers of all sizes from 0 to what is needed, and with each allocation
  * refused in turn. Some are left out above MOST_SIZES and MOST_REFUSALS; with CALLS=all in the environment only above
  * MOST_OF_ALL sizes, as of a PNG file; CALLS=once leaves all of them out. With CHARACTERS=FILE in it pages, raw and print
  * are called with the characters of this file. (So are edges above MOST_PLACES of those at which numbers are changed.)
  * Input and buffer end where memory ends, so a byte read or written beyond them is a fault. Each answer has to be as the
  * header says, all memory has to be given back, and a refusal
  * may change nothing; else a line beginning with WRONG is told, and the status is 99. Behind each edge each number of
- * an ear and of a decoder is changed to others: which are still an ear or a decoder is told by `is_ear` and `is_decoder`
- * here, as docs/DEFINITIONS.md says, and all others have to be refused. Linked with -Wl,--wrap=malloc,--wrap=realloc,--wrap=free. */
+ * a strict receiver and of a decoder is changed to others: which are still one is told by `is_strict` and `is_decoder` here, as docs/DEFINITIONS.md says, and all others have to be refused. Linked with -Wl,--wrap=malloc,--wrap=realloc,--wrap=free. */
 #define _DEFAULT_SOURCE
 #include "print1525.h"
 #include <stddef.h>
@@ -99,26 +99,25 @@ static guarded guard(size_t size) {
 /* One call with all that it is passed but the buffer. */
 typedef struct {
     const char *name;
-    uint8_t first, second, format;
+    print1525_settings settings;
     const uint8_t *input;
     size_t length;
     const uint16_t *numbers;
     size_t count;
     uint16_t delays[3][200];
-    size_t counts[3];
-    const uint8_t *characters; /* NULL: the call without them */
-    size_t characters_length;
 } job;
 
 /* The lists of a value of --delays. */
 static void read_delays(job *j, const char *text) {
+    print1525_delays *const lists[3] = {&j->settings.computer_delays, &j->settings.printer4_delays, &j->settings.printer5_delays};
     int list = 0;
     while (*text) {
         if (*text == '/') list++, text++;
         else if (*text == ',') text++;
         else {
             char *end;
-            j->delays[list][j->counts[list]++] = (uint16_t)strtoul(text, &end, 10);
+            j->delays[list][lists[list]->length++] = (uint16_t)strtoul(text, &end, 10);
+            lists[list]->numbers = j->delays[list];
             text = end;
         }
     }
@@ -141,33 +140,20 @@ static void read_numbers(job *j) {
 }
 
 /* Makes the call. No more memory may be taken after it than before. */
-static print1525_answer call(const job *j, uint8_t *buffer, size_t capacity) {
-    print1525_answer answer;
+static print1525_details call(const job *j, uint8_t *buffer, size_t capacity) {
+    print1525_details details;
     const long before = live;
-    memset(&answer, UNTOUCHED, sizeof answer);
-    if (j->characters && strcmp(j->name, "pages") == 0)
-        print1525_pages_with(j->input, j->length, j->first, j->second, j->delays[0], j->counts[0], j->delays[1], j->counts[1],
-                             j->delays[2], j->counts[2], j->format, j->characters, j->characters_length, buffer, capacity, &answer);
-    else if (j->characters && strcmp(j->name, "raw") == 0)
-        print1525_raw_with(j->input, j->length, j->first, j->format, j->characters, j->characters_length, buffer, capacity, &answer);
-    else if (j->characters && strcmp(j->name, "print") == 0)
-        print1525_print_with(j->numbers, j->count, j->format, j->characters, j->characters_length, buffer, capacity, &answer);
-    else if (strcmp(j->name, "pages") == 0)
-        print1525_pages(j->input, j->length, j->first, j->second, j->delays[0], j->counts[0], j->delays[1], j->counts[1],
-                        j->delays[2], j->counts[2], j->format, buffer, capacity, &answer);
-    else if (strcmp(j->name, "bus") == 0)
-        print1525_bus(j->input, j->length, j->first, j->second, j->delays[0], j->counts[0], j->delays[1], j->counts[1],
-                      j->delays[2], j->counts[2], j->format, buffer, capacity, &answer);
-    else if (strcmp(j->name, "raw") == 0)
-        print1525_raw(j->input, j->length, j->first, j->format, buffer, capacity, &answer);
-    else if (strcmp(j->name, "listing") == 0)
-        print1525_listing(j->input, j->length, j->first, buffer, capacity, &answer);
-    else if (strcmp(j->name, "print") == 0)
-        print1525_print(j->numbers, j->count, j->format, buffer, capacity, &answer);
-    else
-        print1525_check(j->input, j->length, buffer, capacity, &answer);
+    int status;
+    memset(&details, UNTOUCHED, sizeof details);
+    if (strcmp(j->name, "pages") == 0) status = print1525_pages(j->input, j->length, &j->settings, buffer, capacity, &details);
+    else if (strcmp(j->name, "bus") == 0) status = print1525_bus(j->input, j->length, &j->settings, buffer, capacity, &details);
+    else if (strcmp(j->name, "raw") == 0) status = print1525_raw(j->input, j->length, &j->settings, buffer, capacity, &details);
+    else if (strcmp(j->name, "listing") == 0) status = print1525_listing(j->input, j->length, &j->settings, buffer, capacity, &details);
+    else if (strcmp(j->name, "print") == 0) status = print1525_print(j->numbers, j->count, &j->settings, buffer, capacity, &details);
+    else status = print1525_check(j->input, j->length, &j->settings, buffer, capacity, &details);
+    if (status != details.status) is_wrong("another status than the details have", (size_t)status);
     if (live != before) is_wrong("memory is not given back", (size_t)(live - before));
-    return answer;
+    return details;
 }
 
 static int is_untouched(const uint8_t *bytes, size_t count) {
@@ -177,40 +163,39 @@ static int is_untouched(const uint8_t *bytes, size_t count) {
     return 1;
 }
 
-static int is_answer(print1525_answer answer, size_t code, size_t fault, size_t place, size_t length) {
-    return answer.code == code && answer.fault == fault && answer.place == place && answer.length == length;
+static int is_answer(print1525_details answer, int status, int fault, size_t place, size_t length) {
+    return answer.status == status && answer.fault == fault && answer.place == place && answer.length == length &&
+           (answer.column > 0) == (fault == PRINT1525_FAULT_UNKNOWN_NAME || fault == PRINT1525_FAULT_BAD_CHARACTER);
 }
 
-/* What `length` is beside a refusal: the column of what petcat does not write, else 0. */
-static size_t column_of(print1525_answer answer) {
-    return answer.fault == PRINT1525_UNKNOWN_NAME || answer.fault == PRINT1525_BAD_CHARACTER ? answer.length : 0;
+static int are_details(print1525_details a, print1525_details b) {
+    return is_answer(a, b.status, b.fault, b.place, b.length) && a.column == b.column;
 }
 
 /* The answer to a call with this capacity is the same text, or that it has no room, or the same refusal. */
-static void try_size(const job *j, guarded buffer, size_t capacity, print1525_answer true_answer, const uint8_t *text) {
+static void try_size(const job *j, guarded buffer, size_t capacity, print1525_details true_answer, const uint8_t *text) {
     uint8_t *const front = buffer.bytes + buffer.size - capacity;
-    print1525_answer answer;
+    print1525_details answer;
     memset(buffer.bytes, UNTOUCHED, buffer.size);
     answer = call(j, front, capacity);
     if (!is_untouched(buffer.bytes, buffer.size - capacity)) is_wrong("bytes before the buffer are written", capacity);
-    if (true_answer.code <= PRINT1525_STOPPED && true_answer.length <= capacity) {
-        if (!is_answer(answer, true_answer.code, true_answer.fault, true_answer.place, true_answer.length) ||
-            memcmp(front, text, answer.length) != 0)
+    if (true_answer.status <= PRINT1525_STOPPED && true_answer.length <= capacity) {
+        if (!are_details(answer, true_answer) || memcmp(front, text, answer.length) != 0)
             is_wrong("another text in a buffer of size", capacity);
         if (!is_untouched(front + true_answer.length, capacity - true_answer.length))
             is_wrong("bytes behind the text are written, size", capacity);
         return;
     }
     if (!is_untouched(front, capacity)) is_wrong("the buffer is written, size", capacity);
-    if (true_answer.code <= PRINT1525_STOPPED
-            ? !is_answer(answer, PRINT1525_TOO_SMALL, 0, 0, true_answer.length)
-            : !is_answer(answer, true_answer.code, true_answer.fault, true_answer.place, column_of(true_answer)))
+    if (true_answer.status <= PRINT1525_STOPPED
+            ? !is_answer(answer, PRINT1525_FAILED, PRINT1525_FAULT_TOO_SMALL, 0, true_answer.length)
+            : !are_details(answer, true_answer))
         is_wrong("another answer to a buffer of size", capacity);
 }
 
 /* With an allocation refused the answer is want of memory with an untouched buffer, or where the C library's refusal
  * does not matter, the same as ever. */
-static size_t try_refusals(const job *j, guarded buffer, size_t capacity, print1525_answer true_answer, const uint8_t *text) {
+static size_t try_refusals(const job *j, guarded buffer, size_t capacity, print1525_details true_answer, const uint8_t *text) {
     uint8_t *const front = buffer.bytes + buffer.size - capacity;
     size_t told = 0;
     long all, step, number;
@@ -219,27 +204,26 @@ static size_t try_refusals(const job *j, guarded buffer, size_t capacity, print1
     all = taken;
     step = is_all ? 1 : all / MOST_REFUSALS + 1;
     for (number = 1; number <= all; number += step) {
-        print1525_answer answer;
+        print1525_details answer;
         memset(buffer.bytes, UNTOUCHED, buffer.size);
         taken = 0;
         refused_one = number;
         answer = call(j, front, capacity);
         refused_one = 0;
-        if (answer.code == PRINT1525_NO_MEMORY) {
+        if (answer.status == PRINT1525_FAILED) {
             told++;
-            if (!is_answer(answer, PRINT1525_NO_MEMORY, 0, 0, 0) || !is_untouched(front, capacity))
+            if (!is_answer(answer, PRINT1525_FAILED, PRINT1525_FAULT_NO_MEMORY, 0, 0) || !is_untouched(front, capacity))
                 is_wrong("what a refused allocation leaves", (size_t)number);
-        } else if (!is_answer(answer, true_answer.code, true_answer.fault, true_answer.place, true_answer.length) ||
-                   (true_answer.code <= PRINT1525_STOPPED && memcmp(front, text, true_answer.length) != 0))
+        } else if (!are_details(answer, true_answer) || (true_answer.status <= PRINT1525_STOPPED && memcmp(front, text, true_answer.length) != 0))
             is_wrong("another answer with a refused allocation", (size_t)number);
     }
     if (all > 0 && told == 0) is_wrong("no refused allocation is told", (size_t)all);
-    if (all > 0 && true_answer.fault == PRINT1525_NO_SUCH_INPUT) is_wrong("memory is taken of a number that is no input", (size_t)all);
+    if (all > 0 && true_answer.fault == PRINT1525_FAULT_NO_SUCH_INPUT) is_wrong("memory is taken of a number that is no input", (size_t)all);
     return told;
 }
 
 /* The call with sizes from 0 to what is needed and beyond. */
-static void try_sizes(const job *j, guarded buffer, print1525_answer true_answer, const uint8_t *text) {
+static void try_sizes(const job *j, guarded buffer, print1525_details true_answer, const uint8_t *text) {
     const size_t needed = true_answer.length, most = is_all ? MOST_OF_ALL : MOST_SIZES;
     const size_t step = needed <= most ? 1 : needed / 50;
     size_t capacity;
@@ -273,16 +257,16 @@ typedef struct {
 
 #define FIELD(type, name) {offsetof(type, name), sizeof(((type *)0)->name)}
 
-static const field ear_fields[] = {
-    FIELD(print1525_ear, taken),          FIELD(print1525_ear, last.time),      FIELD(print1525_ear, last.atn),
-    FIELD(print1525_ear, last.clock),     FIELD(print1525_ear, last.data),      FIELD(print1525_ear, place.since),
-    FIELD(print1525_ear, place.released), FIELD(print1525_ear, place.place),    FIELD(print1525_ear, place.sending),
-    FIELD(print1525_ear, place.eoi),      FIELD(print1525_ear, place.count),    FIELD(print1525_ear, place.byte),
-    FIELD(print1525_ear, place.bit),      FIELD(print1525_ear, place.unlistened), FIELD(print1525_ear, begun),
-    FIELD(print1525_ear, refused),        FIELD(print1525_ear, device),         FIELD(print1525_ear, listens),
-    FIELD(print1525_ear, called),
+static const field strict_fields[] = {
+    FIELD(print1525_strict, taken),          FIELD(print1525_strict, last.time),      FIELD(print1525_strict, last.atn),
+    FIELD(print1525_strict, last.clock),     FIELD(print1525_strict, last.data),      FIELD(print1525_strict, place.since),
+    FIELD(print1525_strict, place.released), FIELD(print1525_strict, place.place),    FIELD(print1525_strict, place.sending),
+    FIELD(print1525_strict, place.eoi),      FIELD(print1525_strict, place.count),    FIELD(print1525_strict, place.byte),
+    FIELD(print1525_strict, place.bit),      FIELD(print1525_strict, place.unlistened), FIELD(print1525_strict, begun),
+    FIELD(print1525_strict, refused),        FIELD(print1525_strict, device),         FIELD(print1525_strict, listens),
+    FIELD(print1525_strict, called),
 };
-#define EAR_FIELDS (sizeof ear_fields / sizeof *ear_fields)
+#define STRICT_FIELDS (sizeof strict_fields / sizeof *strict_fields)
 
 static uint64_t number_at(const void *numbers, field f) {
     const uint8_t *const bytes = (const uint8_t *)numbers + f.at;
@@ -320,221 +304,229 @@ static uint64_t other_number(uint64_t old, size_t index) {
     }
 }
 
-/* The numbers are those of a place to which the last edge can lead, in the order of the places in pr_wire. */
-static int is_place(const print1525_edge *last, const print1525_ear_place *p) {
-    /* the levels of ATN, CLOCK and DATA: s as the byte sent has ATN, b as the bit, n not as the bit; then the numbers that the place has */
-    static const char *const rows[] = {"111", "00n b", "s10 s", "s11 s", "110 r", "111", "s0b secyb", "s1b secyb", "s01 secy", "s00 sy", "10b bu"};
-    const uint8_t levels[3] = {last->atn, last->clock, last->data};
-    const char *row;
-    int index, released;
-    if (p->place > 10 || p->sending > 2 || p->eoi > 1 || p->bit > 1 || p->unlistened > 1) return 0;
-    row = rows[p->place];
-    for (index = 0; index < 3; index++) {
-        released = row[index] == 's' ? p->sending == 2 : row[index] == 'b' ? p->bit : row[index] == 'n' ? !p->bit : row[index] == '1';
-        if (levels[index] != released) return 0;
-    }
-    row += 3;
-    if ((p->released && !strchr(row, 'r')) || (p->sending && !strchr(row, 's')) || (p->eoi && !strchr(row, 'e')) ||
-        (p->count && !strchr(row, 'c')) || (p->byte && !strchr(row, 'y')) || (p->bit && !strchr(row, 'b')) ||
-        (p->unlistened && !strchr(row, 'u')))
-        return 0;
-    if (p->place == 8 ? p->count != 8 : p->count > 7) return 0;
-    if (p->place != 9 && p->byte >= 1 << p->count) return 0;
-    if (p->eoi && p->sending != 2) return 0;
-    if (p->place == 4 && (p->since < p->released || p->since - p->released < 200 || p->since - p->released > 250)) return 0;
-    if (p->place == 1 && p->bit) return p->since <= last->time && last->time - p->since <= 1000;
-    if (p->place == 10 && p->bit) return p->since < last->time && last->time - p->since <= 60;
-    return p->since == last->time;
-}
+/* What the input is before a call. */
+#define NO_INPUT 999
 
-/* The numbers are those of an ear, as crates/pr_ear/specs/EarNumbers.antt says. */
-static int is_ear(const print1525_ear *ear) {
-    const print1525_edge *const last = &ear->last;
-    static const print1525_ear none = {0, {0, 0, 0, 0}, {0, 0, 0, 0, 0, 0, 0, 0, 0}, 0, 0, 0, 0, 0};
-    if (ear->device < 4 || ear->device > 30 || ear->listens > 1 || ear->called > ear->listens) return 0;
-    if (ear->begun == 0) {
-        print1525_ear other = *ear;
-        other.device = 0;
-        other.refused = 0;
-        return (ear->refused == 0 || ear->refused == PRINT1525_START) && are_same(&other, &none, ear_fields, EAR_FIELDS);
-    }
-    if (ear->begun != 1 || ear->taken == 0 || last->atn > 1 || last->clock > 1 || last->data > 1) return 0;
-    if (ear->taken == 1 ? last->time != 0 || ear->place.place != 0 : last->time < 98 || ear->taken > last->time - 98) return 0;
-    if (ear->refused != 0 && (ear->refused < PRINT1525_ORDER || ear->refused > PRINT1525_SHAPE)) return 0;
-    return is_place(last, &ear->place);
-}
-
-static int is_ear_answer(print1525_ear_answer answer, size_t code, size_t fault, size_t place) {
-    return answer.code == code && answer.fault == fault && answer.place == place && answer.heard == 0 && answer.input == 0;
-}
-
-/* An answer that an ear can give, whatever edges it was given. */
-static int may_be_answered(print1525_ear_answer answer) {
-    if (answer.code == PRINT1525_DONE)
-        return answer.fault == 0 && answer.place == 0 && (answer.heard == 1 ? answer.input < 258 : answer.heard == 0 && answer.input == 0);
-    return is_ear_answer(answer, PRINT1525_REFUSED, answer.fault, answer.place) && answer.fault >= PRINT1525_START &&
-           answer.fault <= PRINT1525_TRUNCATED;
-}
-
-/* An ear and an answer, each ending where memory ends. */
+/* A receiver, an input and details, each ending where memory ends. */
 typedef struct {
-    print1525_ear *ear;
-    print1525_ear_answer *answer;
-} placed_ear;
+    print1525_strict *strict;
+    uint16_t *input;
+    print1525_details *details;
+} placed_strict;
+
+/* An answer that a receiver can give, whatever edges it was given. */
+static int may_be_answered(placed_strict at) {
+    const print1525_details *const told = at.details;
+    if ((told->length == 1) != (*at.input < 258) || (told->length == 0) != (*at.input == PRINT1525_NO_INPUT)) return 0;
+    if (told->status == PRINT1525_DONE) return is_answer(*told, PRINT1525_DONE, PRINT1525_FAULT_NONE, 0, told->length);
+    return is_answer(*told, PRINT1525_REFUSED, told->fault, told->place, 0) && told->fault >= PRINT1525_FAULT_BAD_START &&
+           told->fault <= PRINT1525_FAULT_TRUNCATED;
+}
 
 /* At each how many of so many edges numbers are changed. */
 static size_t step_of(size_t count) { return is_all ? 1 : count / MOST_PLACES + 1; }
 
-static placed_ear place_ear(void) {
-    placed_ear made;
-    made.ear = (print1525_ear *)(void *)guard(sizeof *made.ear).bytes;
-    made.answer = (print1525_ear_answer *)(void *)guard(sizeof *made.answer).bytes;
+static placed_strict place_strict(void) {
+    placed_strict made;
+    made.strict = (print1525_strict *)(void *)guard(sizeof *made.strict).bytes;
+    made.input = (uint16_t *)(void *)guard(sizeof *made.input).bytes;
+    made.details = (print1525_details *)(void *)guard(sizeof *made.details).bytes;
     return made;
 }
 
-/* Numbers that are no ear are refused with nothing changed, and those of one are not and stay those of one. */
-static void try_numbers(placed_ear at, const print1525_edge *edge, size_t number) {
-    const print1525_ear before = *at.ear;
-    const int is_one = is_ear(at.ear);
-    memset(at.answer, UNTOUCHED, sizeof *at.answer);
-    print1525_ear_end(at.ear, at.answer);
-    if (is_one ? !may_be_answered(*at.answer) || at.answer->heard : !is_ear_answer(*at.answer, PRINT1525_REFUSED, PRINT1525_NO_EAR, 0))
-        is_wrong("an end for numbers, field", number);
-    memset(at.answer, UNTOUCHED, sizeof *at.answer);
-    print1525_ear_edge(at.ear, edge, at.answer);
-    if (is_one ? !may_be_answered(*at.answer) : !is_ear_answer(*at.answer, PRINT1525_REFUSED, PRINT1525_NO_EAR, 0))
-        is_wrong("an edge for numbers, field", number);
-    if (is_one ? !is_ear(at.ear) : memcmp(&before, at.ear, sizeof before) != 0) is_wrong("numbers behind an edge, field", number);
+static int begin(placed_strict at, uint8_t device) { return print1525_strict_begin(at.strict, device); }
+
+/* Gives the receiver an edge. */
+static void give(placed_strict at, const print1525_edge *edge) {
+    int status;
+    memset(at.details, UNTOUCHED, sizeof *at.details);
+    *at.input = NO_INPUT;
+    status = print1525_strict_edge(at.strict, edge, at.input, at.details);
+    if (status != at.details->status) is_wrong("another status than the details have", (size_t)status);
 }
 
-/* Each number of an ear in turn is another. */
-static void try_other_ears(placed_ear at, const print1525_ear *ear, const print1525_edge *edge) {
+/* Asks it for the end. */
+static void end(placed_strict at) {
+    int status;
+    memset(at.details, UNTOUCHED, sizeof *at.details);
+    *at.input = PRINT1525_NO_INPUT;
+    status = print1525_strict_end(at.strict, at.details);
+    if (status != at.details->status) is_wrong("another status than the details have", (size_t)status);
+}
+
+static int is_refused_with(placed_strict at, int fault, size_t place) {
+    return is_answer(*at.details, PRINT1525_REFUSED, fault, place, 0) && *at.input == PRINT1525_NO_INPUT;
+}
+
+/* Whatever numbers a receiver has, it gives an answer that a receiver can give, and a copy gives the same. */
+static void try_numbers(placed_strict at, const print1525_edge *edge, size_t number) {
+    print1525_strict other = *at.strict;
+    print1525_details told;
+    uint16_t input = NO_INPUT;
+    end(at);
+    if (!may_be_answered(at) || at.details->length) is_wrong("an end for numbers, field", number);
+    if (memcmp(&other, at.strict, sizeof other) != 0) is_wrong("an end changes numbers, field", number);
+    give(at, edge);
+    if (!may_be_answered(at)) is_wrong("an edge for numbers, field", number);
+    print1525_strict_edge(&other, edge, &input, &told);
+    if (!are_details(told, *at.details) || input != *at.input || !are_same(&other, at.strict, strict_fields, STRICT_FIELDS))
+        is_wrong("a copy of numbers, field", number);
+}
+
+/* Each number of a strict receiver in turn is another. */
+static void try_other_numbers(placed_strict at, const print1525_strict *strict, const print1525_edge *edge) {
     size_t index, other;
-    for (index = 0; index < EAR_FIELDS; index++) {
-        const uint64_t old = number_at(ear, ear_fields[index]);
+    for (index = 0; index < STRICT_FIELDS; index++) {
+        const uint64_t old = number_at(strict, strict_fields[index]);
         for (other = 0; other < OTHERS; other++) {
-            *at.ear = *ear;
-            put_number(at.ear, ear_fields[index], other_number(old, other));
+            *at.strict = *strict;
+            put_number(at.strict, strict_fields[index], other_number(old, other));
             try_numbers(at, edge, index);
         }
     }
 }
 
-/* A copy of an ear goes its own way: it tells the same of the same edge, and an edge that it refuses changes nothing but the copy. */
-static void try_copy(placed_ear at, const print1525_ear *ear, const print1525_edge *edge) {
-    const print1525_ear before = *ear;
-    print1525_ear other = *ear;
-    print1525_ear_answer told;
-    *at.ear = *ear;
-    print1525_ear_edge(&other, edge, &told);
-    print1525_ear_edge(at.ear, edge, at.answer);
-    if (memcmp(&told, at.answer, sizeof told) != 0 || !are_same(&other, at.ear, ear_fields, EAR_FIELDS)) is_wrong("a copy of an ear, behind edges", ear->taken);
-    if (told.code == PRINT1525_DONE) {
-        print1525_ear_edge(at.ear, edge, at.answer);
-        if (!is_ear_answer(*at.answer, PRINT1525_REFUSED, PRINT1525_ORDER, other.taken)) is_wrong("an edge that comes again, behind edges", ear->taken);
+/* A copy of a strict receiver goes its own way: it tells the same of the same edge, and an edge that it refuses changes nothing but the copy. */
+static void try_copy(placed_strict at, const print1525_strict *strict, const print1525_edge *edge) {
+    const print1525_strict before = *strict;
+    print1525_strict other = *strict;
+    print1525_details told;
+    uint16_t input = NO_INPUT;
+    *at.strict = *strict;
+    print1525_strict_edge(&other, edge, &input, &told);
+    give(at, edge);
+    if (!are_details(told, *at.details) || input != *at.input || !are_same(&other, at.strict, strict_fields, STRICT_FIELDS))
+        is_wrong("a copy of a receiver, behind edges", strict->taken);
+    if (told.status == PRINT1525_DONE) {
+        give(at, edge);
+        if (!is_refused_with(at, PRINT1525_FAULT_BAD_ORDER, other.taken)) is_wrong("an edge that comes again, behind edges", strict->taken);
     }
-    if (memcmp(&before, ear, sizeof before) != 0) is_wrong("an ear changes with its copy, behind edges", ear->taken);
+    if (memcmp(&before, strict, sizeof before) != 0) is_wrong("a receiver changes with its copy, behind edges", strict->taken);
 }
 
-/* A fault is told again with each edge and each end, and the ear stays as it is. */
-static void try_fault_again(print1525_ear *ear, print1525_ear_answer fault, const print1525_edge *edges, size_t count) {
-    const print1525_ear before = *ear;
-    print1525_ear_answer answer;
+/* A fault is told again with each edge and each end, and the receiver stays as it is. */
+static void try_fault_again(placed_strict at, const print1525_edge *edges, size_t count) {
+    const print1525_strict before = *at.strict;
+    const print1525_details fault = *at.details;
     size_t index;
     for (index = 0; index < count && index < 20; index++) {
-        print1525_ear_edge(ear, &edges[index], &answer);
-        if (memcmp(&fault, &answer, sizeof fault) != 0) is_wrong("a fault is not told again at edge", index);
-        print1525_ear_end(ear, &answer);
-        if (memcmp(&fault, &answer, sizeof fault) != 0) is_wrong("a fault is not told at an end behind edge", index);
+        give(at, &edges[index]);
+        if (!are_details(fault, *at.details) || *at.input != PRINT1525_NO_INPUT) is_wrong("a fault is not told again at edge", index);
+        end(at);
+        if (!are_details(fault, *at.details)) is_wrong("a fault is not told at an end behind edge", index);
     }
-    if (!are_same(&before, ear, ear_fields, EAR_FIELDS)) is_wrong("an ear that has refused an edge changes", before.taken);
+    if (!are_same(&before, at.strict, strict_fields, STRICT_FIELDS)) is_wrong("a receiver that has refused an edge changes", before.taken);
 }
 
-/* An ear that is given the edges one by one hears the same inputs, or tells the same first fault; and takes no memory. */
-static void try_ear(uint8_t device, const print1525_edge *edges, size_t count, print1525_answer whole, const uint16_t *inputs) {
-    static placed_ear at, others;
-    size_t heard = 0, index;
-    if (at.ear == NULL) at = place_ear(), others = place_ear();
-    memset(at.ear, UNTOUCHED, sizeof *at.ear);
-    print1525_ear_begin(at.ear, device, at.answer);
-    for (index = 0; index < count && at.answer->code == PRINT1525_DONE; index++) {
-        if (!is_ear(at.ear)) is_wrong("an ear's numbers at edge", index);
-        if (index % step_of(count) == 0) try_other_ears(others, at.ear, &edges[index]);
-        try_copy(others, at.ear, &edges[index]);
-        print1525_ear_edge(at.ear, &edges[index], at.answer);
-        if (at.answer->heard && (whole.code == PRINT1525_DONE) && (heard >= whole.length || at.answer->input != inputs[heard]))
-            is_wrong("an ear hears another input at edge", index);
-        heard += at.answer->heard;
+/* A receiver that is given the edges one by one receives the same inputs, or tells the same first fault; and takes no memory. */
+static void try_strict(uint8_t device, const print1525_edge *edges, size_t count, print1525_details whole, const uint16_t *inputs) {
+    static placed_strict at, others;
+    size_t received = 0, index;
+    int status;
+    if (at.strict == NULL) at = place_strict(), others = place_strict();
+    memset(at.strict, UNTOUCHED, sizeof *at.strict);
+    memset(at.details, 0, sizeof *at.details);
+    status = begin(at, device);
+    if (status != PRINT1525_DONE) {
+        if (whole.fault != PRINT1525_FAULT_NO_SUCH_DEVICE) is_wrong("a receiver of no device", device);
+        return;
     }
-    if (at.answer->code == PRINT1525_DONE) print1525_ear_end(at.ear, at.answer);
-    else if (is_ear(at.ear)) {
-        try_fault_again(at.ear, *at.answer, edges, count);
-        try_other_ears(others, at.ear, &edges[0]);
+    for (index = 0; index < count && at.details->status == PRINT1525_DONE; index++) {
+        if (index % step_of(count) == 0) try_other_numbers(others, at.strict, &edges[index]);
+        try_copy(others, at.strict, &edges[index]);
+        give(at, &edges[index]);
+        if (!may_be_answered(at)) is_wrong("an answer of a receiver at edge", index);
+        if (at.details->length && whole.status == PRINT1525_DONE && (received >= whole.length || *at.input != inputs[received]))
+            is_wrong("a receiver gives another input at edge", index);
+        received += at.details->length;
     }
-    if (at.answer->code != whole.code || at.answer->fault != whole.fault || at.answer->place != whole.place)
-        is_wrong("an ear tells another answer, fault", at.answer->fault);
-    if (whole.code == PRINT1525_DONE && heard != whole.length) is_wrong("an ear hears so many inputs", heard);
+    if (at.details->status == PRINT1525_DONE) end(at);
+    else {
+        try_fault_again(at, edges, count);
+        try_other_numbers(others, at.strict, &edges[0]);
+    }
+    if (at.details->status != whole.status || at.details->fault != whole.fault || at.details->place != whole.place)
+        is_wrong("a receiver tells another answer, fault", (size_t)at.details->fault);
+    if (whole.status == PRINT1525_DONE && received != whole.length) is_wrong("a receiver gives so many inputs", received);
 }
 
-/* The devices of the bus have ears; each other is refused, with the numbers as they were. */
-static void try_devices(placed_ear at) {
+/* The devices of the bus have receivers; each other is refused, with the numbers as they were. */
+static void try_devices(placed_strict at) {
     static const print1525_edge first = {0, 1, 2, 255}, early = {1, 0, 0, 1};
-    print1525_ear before;
+    print1525_strict before;
     unsigned device;
     for (device = 0; device < 256; device++) {
-        memset(at.ear, UNTOUCHED, sizeof *at.ear);
-        before = *at.ear;
-        print1525_ear_begin(at.ear, (uint8_t)device, at.answer);
+        int status;
+        memset(at.strict, UNTOUCHED, sizeof *at.strict);
+        before = *at.strict;
+        status = begin(at, (uint8_t)device);
         if (device < 4 || device > 30) {
-            if (!is_ear_answer(*at.answer, PRINT1525_REFUSED, PRINT1525_NO_SUCH_DEVICE, 0)) is_wrong("no device", device);
-            if (memcmp(&before, at.ear, sizeof before) != 0) is_wrong("the ear of no device is changed", device);
+            if (status != PRINT1525_REFUSED) is_wrong("no device", device);
+            if (memcmp(&before, at.strict, sizeof before) != 0) is_wrong("the receiver of no device is changed", device);
             try_numbers(at, &first, device);
             continue;
         }
-        if (!is_ear_answer(*at.answer, PRINT1525_DONE, 0, 0) || !is_ear(at.ear) || at.ear->device != device) is_wrong("a device's ear", device);
-        print1525_ear_end(at.ear, at.answer);
-        if (!is_ear_answer(*at.answer, PRINT1525_REFUSED, PRINT1525_START, 0)) is_wrong("an end before the first edge", device);
-        print1525_ear_edge(at.ear, &first, at.answer);
-        if (!is_ear_answer(*at.answer, PRINT1525_DONE, 0, 0)) is_wrong("the first edge", device);
-        print1525_ear_end(at.ear, at.answer);
-        if (!is_ear_answer(*at.answer, PRINT1525_DONE, 0, 0)) is_wrong("an end behind the first edge", device);
-        print1525_ear_edge(at.ear, &early, at.answer);
-        if (!is_ear_answer(*at.answer, PRINT1525_REFUSED, PRINT1525_TOO_EARLY, 1)) is_wrong("an edge that comes too early", device);
-        try_fault_again(at.ear, *at.answer, &first, 1);
+        if (status != PRINT1525_DONE || at.strict->device != device) is_wrong("a device's receiver", device);
+        end(at);
+        if (!is_refused_with(at, PRINT1525_FAULT_BAD_START, 0)) is_wrong("an end before the first edge", device);
+        give(at, &first);
+        if (!is_answer(*at.details, PRINT1525_DONE, 0, 0, 0)) is_wrong("the first edge", device);
+        end(at);
+        if (!is_answer(*at.details, PRINT1525_DONE, 0, 0, 0)) is_wrong("an end behind the first edge", device);
+        give(at, &early);
+        if (!is_refused_with(at, PRINT1525_FAULT_TOO_EARLY, 1)) is_wrong("an edge that comes too early", device);
+        try_fault_again(at, &first, 1);
     }
 }
 
-/* Numbers that no ear has behind the first edge, or before it; each other number is that of the ear. */
-static void try_ears(void) {
+/* Numbers that no edges make, behind the first edge and before it. */
+static void try_receivers(void) {
     static const print1525_edge first = {0, 1, 1, 1};
-    static const struct {
-        size_t index;
-        uint64_t number;
-    } rows[] = {
-        {0, 0}, {0, 2}, {0, 77}, {1, 1}, {2, 0}, {2, 2}, {3, 255}, {4, 0}, {5, 1}, {6, 1}, {7, 1}, {7, 5}, {7, 11}, {8, 1}, {8, 3}, {9, 1}, {10, 1},
-        {10, 9}, {11, 1}, {12, 1}, {13, 1}, {14, 0}, {14, 2}, {15, 1}, {15, 11}, {15, 16}, {16, 3}, {16, 31}, {17, 2}, {18, 1}, {18, 255},
-    };
-    const placed_ear at = place_ear();
-    size_t row;
+    const placed_strict at = place_strict();
+    size_t field_index, other;
     try_devices(at);
-    for (row = 0; row < sizeof rows / sizeof *rows; row++) {
-        print1525_ear_begin(at.ear, 4, at.answer);
-        print1525_ear_edge(at.ear, &first, at.answer);
-        put_number(at.ear, ear_fields[rows[row].index], rows[row].number);
-        if (is_ear(at.ear)) is_wrong("numbers of no ear behind the first edge, row", row);
-        try_numbers(at, &first, row);
-        print1525_ear_begin(at.ear, 4, at.answer);
-        put_number(at.ear, ear_fields[rows[row].index], rows[row].index == 14 ? 1 : rows[row].number ? rows[row].number : 9);
-        if (is_ear(at.ear) != (rows[row].index == 15 && rows[row].number == 11)) is_wrong("numbers before the first edge, row", row);
-        try_numbers(at, &first, row);
-    }
+    for (field_index = 0; field_index < STRICT_FIELDS; field_index++)
+        for (other = 0; other < OTHERS; other++) {
+            begin(at, 4);
+            put_number(at.strict, strict_fields[field_index], other_number(0, other));
+            try_numbers(at, &first, field_index);
+            begin(at, 4);
+            give(at, &first);
+            put_number(at.strict, strict_fields[field_index], other_number(0, other));
+            try_numbers(at, &first, field_index);
+        }
 }
 
-/* What a device hears: the whole list at once with buffers of all sizes, and edge by edge. */
-static print1525_answer hear(uint8_t device, guarded text) {
+/* A receiver on any bus gets of a lawful trace what a strict one gets: LISTEN selects the one set, secondary address 7 the other. */
+static void try_any_bus(uint8_t device, const print1525_edge *edges, size_t count, print1525_details whole, const uint16_t *inputs) {
+    print1525_receiver *const receiver = (print1525_receiver *)(void *)guard(sizeof *receiver).bytes;
+    print1525_received *const came = (print1525_received *)(void *)guard(sizeof *came).bytes;
+    print1525_details details;
+    size_t index, got = 0;
+    memset(receiver, UNTOUCHED, sizeof *receiver);
+    if (print1525_receiver_begin(receiver, device) != (device < 4 || device > 30 ? PRINT1525_REFUSED : PRINT1525_DONE)) is_wrong("a device's receiver", device);
+    if (whole.status != PRINT1525_DONE) return;
+    for (index = 0; index < count; index++) {
+        unsigned input = PRINT1525_NO_INPUT;
+        memset(came, UNTOUCHED, sizeof *came);
+        if (print1525_receiver_edge(receiver, &edges[index], came, &details) != PRINT1525_DONE || details.length != (came->kind != PRINT1525_NOTHING_RECEIVED))
+            is_wrong("a receiver's answer at edge", index);
+        if (came->kind > PRINT1525_RECEIVED_UNLISTEN || came->eoi > 1) is_wrong("what came with edge", index);
+        if (came->kind == PRINT1525_RECEIVED_BYTE) input = came->byte;
+        if (came->kind == PRINT1525_RECEIVED_LISTEN) input = PRINT1525_SELECT_UPPER;
+        if (came->kind == PRINT1525_RECEIVED_SELECT && came->byte == 7) input = PRINT1525_SELECT_LOWER;
+        if (input == PRINT1525_NO_INPUT) continue;
+        if (got >= whole.length || inputs[got] != input) is_wrong("a receiver on any bus gets another input at edge", index);
+        got++;
+    }
+    if (got != whole.length) is_wrong("a receiver on any bus gets so many inputs", got);
+}
+
+/* What a device receives: the whole list at once with buffers of all sizes, and edge by edge. */
+static print1525_details receive(uint8_t device, guarded text) {
     print1525_edge *edges;
     guarded place = guard((text.size / 6 + 1) * sizeof *edges), room, before;
-    print1525_answer answer, small;
+    print1525_details answer, small;
     size_t count, capacity, index;
     uint16_t *inputs;
     edges = (print1525_edge *)(void *)(place.bytes - (size_t)place.bytes % sizeof(uint64_t));
@@ -544,36 +536,29 @@ static print1525_answer hear(uint8_t device, guarded text) {
     inputs = (uint16_t *)(void *)room.bytes;
     taken = 0;
     memset(room.bytes, UNTOUCHED, room.size);
-    print1525_hear(device, edges, count, inputs, count + 1, &answer);
-    for (capacity = 0; answer.code == PRINT1525_DONE && capacity < answer.length; capacity++) {
+    print1525_strict_edges(device, edges, count, inputs, count + 1, &answer);
+    for (capacity = 0; answer.status == PRINT1525_DONE && capacity < answer.length; capacity++) {
         uint16_t *const front = inputs + (count + 1 - capacity);
         memcpy(before.bytes, room.bytes, room.size);
-        print1525_hear(device, edges, count, front, capacity, &small);
-        if (!is_answer(small, PRINT1525_TOO_SMALL, 0, 0, answer.length) || memcmp(before.bytes, room.bytes, room.size) != 0)
+        print1525_strict_edges(device, edges, count, capacity ? front : NULL, capacity, &small);
+        if (!is_answer(small, PRINT1525_FAILED, PRINT1525_FAULT_TOO_SMALL, 0, answer.length) || memcmp(before.bytes, room.bytes, room.size) != 0)
             is_wrong("another answer to a buffer of inputs of size", capacity);
     }
-    for (index = answer.code == PRINT1525_DONE ? answer.length : 0; index <= count; index++)
-        if (inputs[index] != (UNTOUCHED << 8 | UNTOUCHED)) is_wrong("an input behind those heard is written", index);
-    if (answer.code > PRINT1525_REFUSED) is_wrong("an answer of print1525_hear", answer.code);
-    try_ear(device, edges, count, answer, inputs);
-    if (taken != 0) is_wrong("print1525_hear or an ear takes memory", (size_t)taken);
-    for (index = 0; answer.code == PRINT1525_DONE && index < answer.length; index++) printf("%u\n", (unsigned)inputs[index]);
+    for (index = answer.status == PRINT1525_DONE ? answer.length : 0; index <= count; index++)
+        if (inputs[index] != (UNTOUCHED << 8 | UNTOUCHED)) is_wrong("an input behind those received is written", index);
+    if (answer.status != PRINT1525_DONE && answer.status != PRINT1525_REFUSED) is_wrong("an answer of print1525_strict_edges", (size_t)answer.status);
+    try_strict(device, edges, count, answer, inputs);
+    try_any_bus(device, edges, count, answer, inputs);
+    if (taken != 0) is_wrong("a strict receiver takes memory", (size_t)taken);
+    for (index = 0; answer.status == PRINT1525_DONE && index < answer.length; index++) printf("%u\n", (unsigned)inputs[index]);
     return answer;
 }
 
 /* The line that the program tells on standard error; after a stop the last line of its page text. */
-static void tell(print1525_answer answer) {
-    const unsigned long place = (unsigned long)answer.place;
-    if (answer.code == PRINT1525_STOPPED) fprintf(stderr, "stop %lu at %lu\n", (unsigned long)answer.fault, place);
-    if (answer.code == PRINT1525_NO_MEMORY) fprintf(stderr, "print1525: %s\n", print1525_code_text(answer.code));
-    if (answer.code != PRINT1525_REFUSED) return;
-    fprintf(stderr, "print1525: ");
-    if (answer.fault <= PRINT1525_BAD_LINE) fprintf(stderr, "line %lu: ", place);
-    else if (answer.fault >= PRINT1525_START && answer.fault <= PRINT1525_TRUNCATED) fprintf(stderr, "edge %lu: ", place);
-    else if (answer.fault == PRINT1525_NO_SUCH_INPUT) fprintf(stderr, "input %lu: ", place);
-    else if (answer.fault == PRINT1525_BAD_CHARACTER_LINE || answer.fault == PRINT1525_CUT_OFF) fprintf(stderr, "line %lu: ", place);
-    else if (column_of(answer) > 0) fprintf(stderr, "line %lu, column %lu: ", place, (unsigned long)answer.length);
-    fprintf(stderr, "%s\n", print1525_fault_text(answer.fault));
+static void tell(print1525_details answer) {
+    char message[99];
+    if (answer.status == PRINT1525_STOPPED) fprintf(stderr, "stop %d at %lu\n", answer.fault - 100, (unsigned long)answer.place);
+    else if (print1525_message(&answer, message, sizeof message)) fprintf(stderr, "print1525: %s\n", message);
 }
 
 /* Each number that stands for no setting is refused, the first of several, before the characters and the input are looked at; and
@@ -581,28 +566,29 @@ static void tell(print1525_answer answer) {
 static void try_settings(void) {
     static const struct {
         const char *name;
-        uint8_t first, second, format;
-        size_t fault;
+        uint8_t present, mode, from, page, trace, set;
+        int fault;
     } rows[] = {
-        {"pages", 4, 0, 0, PRINT1525_NO_SUCH_PRINTERS}, {"pages", 255, 2, 3, PRINT1525_NO_SUCH_PRINTERS},
-        {"pages", 3, 2, 0, PRINT1525_NO_SUCH_STATUS},   {"pages", 3, 255, 3, PRINT1525_NO_SUCH_STATUS},
-        {"pages", 3, 1, 5, PRINT1525_NO_SUCH_FORMAT},   {"pages", 0, 0, 255, PRINT1525_NO_SUCH_FORMAT},
-        {"bus", 4, 0, 0, PRINT1525_NO_SUCH_PRINTERS},   {"bus", 255, 2, 2, PRINT1525_NO_SUCH_PRINTERS},
-        {"bus", 3, 2, 0, PRINT1525_NO_SUCH_STATUS},     {"bus", 3, 255, 2, PRINT1525_NO_SUCH_STATUS},
-        {"bus", 3, 1, 2, PRINT1525_NO_SUCH_FORMAT},     {"bus", 0, 0, 255, PRINT1525_NO_SUCH_FORMAT},
-        {"raw", 2, 0, 0, PRINT1525_NO_SUCH_SET},        {"raw", 255, 0, 3, PRINT1525_NO_SUCH_SET},
-        {"raw", 1, 0, 5, PRINT1525_NO_SUCH_FORMAT},     {"raw", 0, 0, 255, PRINT1525_NO_SUCH_FORMAT},
-        {"print", 0, 0, 5, PRINT1525_NO_SUCH_FORMAT},   {"print", 0, 0, 255, PRINT1525_NO_SUCH_FORMAT},
-        {"listing", 3, 0, 0, PRINT1525_NO_SUCH_FORM},   {"listing", 255, 0, 0, PRINT1525_NO_SUCH_FORM},
+        {"pages", 4, 0, 0, 0, 0, 0, PRINT1525_FAULT_NO_SUCH_PRINTERS}, {"pages", 255, 2, 3, 5, 9, 9, PRINT1525_FAULT_NO_SUCH_PRINTERS},
+        {"pages", 3, 2, 0, 0, 0, 0, PRINT1525_FAULT_NO_SUCH_STATUS},   {"pages", 3, 255, 3, 5, 9, 9, PRINT1525_FAULT_NO_SUCH_STATUS},
+        {"pages", 3, 1, 0, 5, 0, 0, PRINT1525_FAULT_NO_SUCH_FORMAT},   {"pages", 0, 0, 255, 255, 9, 9, PRINT1525_FAULT_NO_SUCH_FORMAT},
+        {"bus", 4, 0, 0, 0, 0, 0, PRINT1525_FAULT_NO_SUCH_PRINTERS},   {"bus", 255, 2, 3, 9, 2, 9, PRINT1525_FAULT_NO_SUCH_PRINTERS},
+        {"bus", 3, 2, 0, 0, 0, 0, PRINT1525_FAULT_NO_SUCH_STATUS},     {"bus", 3, 255, 3, 9, 2, 9, PRINT1525_FAULT_NO_SUCH_STATUS},
+        {"bus", 3, 1, 0, 0, 2, 0, PRINT1525_FAULT_NO_SUCH_FORMAT},     {"bus", 0, 0, 255, 9, 255, 9, PRINT1525_FAULT_NO_SUCH_FORMAT},
+        {"raw", 9, 9, 9, 0, 9, 2, PRINT1525_FAULT_NO_SUCH_SET},        {"raw", 0, 0, 0, 5, 0, 255, PRINT1525_FAULT_NO_SUCH_SET},
+        {"raw", 9, 9, 9, 5, 9, 1, PRINT1525_FAULT_NO_SUCH_FORMAT},     {"raw", 0, 0, 0, 255, 0, 0, PRINT1525_FAULT_NO_SUCH_FORMAT},
+        {"print", 9, 9, 9, 5, 9, 9, PRINT1525_FAULT_NO_SUCH_FORMAT},   {"print", 0, 0, 0, 255, 0, 0, PRINT1525_FAULT_NO_SUCH_FORMAT},
+        {"listing", 9, 9, 3, 9, 9, 9, PRINT1525_FAULT_NO_SUCH_FORM},   {"listing", 0, 0, 255, 0, 0, 0, PRINT1525_FAULT_NO_SUCH_FORM},
+        {"pages", 3, 0, 3, 0, 0, 0, PRINT1525_FAULT_NO_SUCH_FORM},     {"bus", 3, 0, 255, 0, 0, 0, PRINT1525_FAULT_NO_SUCH_FORM},
     };
     static const uint16_t no_input[1] = {65535};
-    static const char *const drawing[] = {"pages", "raw", "print"};
+    static const char *const drawing[] = {"pages", "raw", "print"}, *const all[] = {"pages", "bus", "listing", "raw", "print", "check"};
+    static const print1525_settings defaults = PRINT1525_SETTINGS_INIT;
     static job j;
     const guarded input = guard(7), buffer = guard(99), bad = guard(9);
-    size_t row;
+    size_t row, change;
     memcpy(input.bytes, "NO WORD", 7);
     memcpy(bad.bytes, "upper 33\n", 9);
-    j.characters_length = bad.size;
     j.numbers = no_input;
     j.count = 1;
     j.input = input.bytes;
@@ -611,23 +597,156 @@ static void try_settings(void) {
     for (row = 0; row < sizeof rows / sizeof *rows; row++) {
         int times;
         j.name = rows[row].name;
-        j.first = rows[row].first;
-        j.second = rows[row].second;
-        j.format = rows[row].format;
         for (times = 0; times < 2; times++) {
-            j.characters = times ? bad.bytes : NULL;
+            j.settings = defaults;
+            j.settings.present = rows[row].present;
+            j.settings.mode = rows[row].mode;
+            j.settings.from = rows[row].from;
+            j.settings.page = rows[row].page;
+            j.settings.trace = rows[row].trace;
+            j.settings.set = rows[row].set;
+            /* (A form is refused behind the characters.) */
+            if (times == 0 && rows[row].fault != PRINT1525_FAULT_NO_SUCH_FORM) j.settings.characters = bad.bytes, j.settings.characters_length = bad.size;
             if (!is_answer(call(&j, buffer.bytes, buffer.size), PRINT1525_REFUSED, rows[row].fault, 0, 0) || !is_untouched(buffer.bytes, buffer.size))
                 is_wrong("a setting that is none, row", row);
         }
     }
-    j.first = j.second = 0;
     for (row = 0; row < 6; row++) {
         j.name = drawing[row / 2];
-        j.format = row % 2 ? PRINT1525_SVG : PRINT1525_LIST;
-        if (!is_answer(call(&j, buffer.bytes, buffer.size), PRINT1525_REFUSED, PRINT1525_BAD_CHARACTER_LINE, 1, 0) ||
+        j.settings = defaults;
+        j.settings.page = row % 2 ? PRINT1525_PAGE_SVG : PRINT1525_PAGE_LIST;
+        j.settings.characters = bad.bytes;
+        j.settings.characters_length = bad.size;
+        if (!is_answer(call(&j, buffer.bytes, buffer.size), PRINT1525_REFUSED, PRINT1525_FAULT_BAD_CHARACTER_LINE, 1, 0) ||
             !is_untouched(buffer.bytes, buffer.size))
             is_wrong("bad characters, row", row);
     }
+    /* Settings of another size, as memory that nobody began, and bytes that are not used yet. */
+    for (row = 0; row < sizeof all / sizeof *all; row++)
+        for (change = 0; change < 5; change++) {
+            j.name = all[row];
+            j.settings = defaults;
+            if (change == 0) memset(&j.settings, 0, sizeof j.settings);
+            if (change == 1) j.settings.size--;
+            if (change == 2) j.settings.size++;
+            if (change > 2) j.settings.reserved[change - 3] = 1;
+            if (!is_answer(call(&j, buffer.bytes, buffer.size), PRINT1525_REFUSED, PRINT1525_FAULT_BAD_SETTINGS, 0, 0) ||
+                !is_untouched(buffer.bytes, buffer.size))
+                is_wrong("settings of another size, call", row);
+        }
+}
+
+/* The call with no settings is that with the default ones, and details are as good as none. */
+static void try_defaults(const job *j, uint8_t *buffer, size_t capacity) {
+    static const print1525_settings defaults = PRINT1525_SETTINGS_INIT;
+    print1525_details given;
+    int status;
+    uint8_t *other;
+    if (memcmp(&j->settings, &defaults, sizeof defaults) != 0) return;
+    other = (uint8_t *)malloc(capacity + 1);
+    if (other == NULL) exit(98);
+    given = call(j, buffer, capacity);
+    memset(other, UNTOUCHED, capacity + 1);
+    if (strcmp(j->name, "pages") == 0) status = print1525_pages(j->input, j->length, NULL, other, capacity, NULL);
+    else if (strcmp(j->name, "bus") == 0) status = print1525_bus(j->input, j->length, NULL, other, capacity, NULL);
+    else if (strcmp(j->name, "raw") == 0) status = print1525_raw(j->input, j->length, NULL, other, capacity, NULL);
+    else if (strcmp(j->name, "listing") == 0) status = print1525_listing(j->input, j->length, NULL, other, capacity, NULL);
+    else if (strcmp(j->name, "print") == 0) status = print1525_print(j->numbers, j->count, NULL, other, capacity, NULL);
+    else status = print1525_check(j->input, j->length, NULL, other, capacity, NULL);
+    if (status != given.status || (status <= PRINT1525_STOPPED && memcmp(other, buffer, given.length) != 0)) is_wrong("another text without settings", (size_t)status);
+    free(other);
+}
+
+/* Pointers that are NULL beside a length of 0 are as good as others; beside another length they are refused, and so is memory that
+ * overlaps, with nothing changed. */
+static void try_pointers(void) {
+    static const char *const names[] = {"pages", "bus", "listing", "raw", "print", "check"};
+    static const print1525_settings defaults = PRINT1525_SETTINGS_INIT;
+    static uint16_t shared[64];
+    static job j;
+    const guarded empty = guard(0), buffer = guard(4096);
+    uint8_t *const bytes = (uint8_t *)(void *)shared;
+    size_t name, at;
+    for (name = 0; name < sizeof names / sizeof *names; name++) {
+        print1525_details given, other;
+        j.name = names[name];
+        j.settings = defaults;
+        j.input = empty.bytes;
+        j.numbers = (const uint16_t *)(const void *)empty.bytes;
+        j.length = j.count = 0;
+        given = call(&j, buffer.bytes, buffer.size);
+        other = call(&j, NULL, 0);
+        if (given.length > 0 ? !is_answer(other, PRINT1525_FAILED, PRINT1525_FAULT_TOO_SMALL, 0, given.length) : !are_details(given, other))
+            is_wrong("no buffer, call", name);
+        j.input = NULL;
+        j.numbers = NULL;
+        if (!are_details(given, call(&j, buffer.bytes, buffer.size))) is_wrong("no input, call", name);
+        memset(buffer.bytes, UNTOUCHED, buffer.size);
+        /* NULL that has a length: the input, the buffer, the lists of delays and the characters. */
+        for (at = 0; at < 6; at++) {
+            j.settings = defaults;
+            j.length = j.count = at == 0;
+            if (at == 2) j.settings.computer_delays.length = 1;
+            if (at == 3) j.settings.printer4_delays.length = 1;
+            if (at == 4) j.settings.printer5_delays.length = 1;
+            if (at == 5) j.settings.characters_length = 1;
+            if (!is_answer(call(&j, at == 1 ? NULL : buffer.bytes, buffer.size), PRINT1525_REFUSED, PRINT1525_FAULT_NULL_POINTER, 0, 0))
+                is_wrong("a NULL pointer, call", 10 * name + at);
+        }
+        if (!is_untouched(buffer.bytes, buffer.size)) is_wrong("a buffer beside a NULL pointer, call", name);
+        /* A buffer of ten bytes from byte 20 on overlaps what reaches into it from before, from behind, or whole. */
+        for (at = 0; at < 30; at++) {
+            static const size_t begins[] = {0, 12, 18, 20, 24, 28, 30, 40}, sizes[] = {20, 8, 4, 10, 2, 8, 9, 2};
+            const size_t row = at % 8, begin = begins[row], size = sizes[row], place = at / 8;
+            const int overlaps = begin < 30 && begin + size > 20;
+            if (place == 3 && row > 5) break;
+            memset(shared, UNTOUCHED, sizeof shared);
+            j.settings = defaults;
+            j.input = place == 0 ? bytes + begin : NULL;
+            j.length = place == 0 ? size : 0;
+            j.numbers = place == 0 ? shared + begin / 2 : NULL;
+            j.count = place == 0 ? size / 2 : 0;
+            if (place == 1) j.settings.printer4_delays.numbers = shared + begin / 2, j.settings.printer4_delays.length = size / 2;
+            if (place == 2) j.settings.computer_delays.numbers = shared + begin / 2, j.settings.computer_delays.length = size / 2;
+            if (place == 3) j.settings.characters = bytes + begin, j.settings.characters_length = size;
+            given = call(&j, bytes + 20, 10);
+            if ((given.fault == PRINT1525_FAULT_OVERLAP) != overlaps || (overlaps && (!is_answer(given, PRINT1525_REFUSED, PRINT1525_FAULT_OVERLAP, 0, 0) || !is_untouched(bytes, sizeof shared))))
+                is_wrong("memory that overlaps, call and row", 100 * name + at);
+        }
+    }
+}
+
+/* Each fault with its words, and messages in buffers of all sizes. */
+static void try_words(void) {
+    static const print1525_details rows[] = {
+        {PRINT1525_DONE, PRINT1525_FAULT_NONE, 0, 0, 7},
+        {PRINT1525_STOPPED, PRINT1525_STOP_FILE_NOT_OPEN, 3, 0, 7},
+        {PRINT1525_REFUSED, PRINT1525_FAULT_UNKNOWN_WORD, 12, 0, 0},
+        {PRINT1525_REFUSED, PRINT1525_FAULT_TRUNCATED, 0, 0, 0},
+        {PRINT1525_REFUSED, PRINT1525_FAULT_UNKNOWN_NAME, 2, 14, 0},
+        {PRINT1525_REFUSED, PRINT1525_FAULT_NO_SUCH_INPUT, SIZE_MAX, 0, 0},
+        {PRINT1525_FAILED, PRINT1525_FAULT_TOO_SMALL, 0, 0, 99},
+        {PRINT1525_REFUSED, 12345, 0, 0, 0},
+    };
+    char text[99];
+    int fault;
+    size_t row, capacity, length;
+    for (fault = -9; fault < 300; fault++)
+        if (strcmp(print1525_strerror(fault), "no fault") != 0) printf("%d %s\n", fault, print1525_strerror(fault));
+    for (row = 0; row < sizeof rows / sizeof *rows; row++) {
+        char all[99];
+        length = print1525_message(&rows[row], all, sizeof all);
+        if (strlen(all) != length || print1525_message(&rows[row], NULL, 9) != length) is_wrong("a message's length", length);
+        for (capacity = 0; capacity < sizeof text; capacity++) {
+            memset(text, UNTOUCHED, sizeof text);
+            if (print1525_message(&rows[row], text, capacity) != length) is_wrong("a message's length, capacity", capacity);
+            if (!is_untouched((const uint8_t *)(const void *)text + capacity, sizeof text - capacity)) is_wrong("behind a message", capacity);
+            if (capacity > 0 && (strlen(text) != (length < capacity ? length : capacity - 1) || strncmp(all, text, capacity - 1) != 0))
+                is_wrong("a message in little room", capacity);
+        }
+        printf("%s\n", all);
+    }
+    if (print1525_message(NULL, text, sizeof text) != 0 || text[0] != '\0') is_wrong("a message of nothing", 0);
 }
 
 static const field decoder_fields[] = {
@@ -654,45 +773,20 @@ static const field byte_fields[] = {
 
 static const print1525_byte no_byte = {0, 0, 0, 0, 0, 0, 0, 0, 0, 0, 0, 0, 0, 0};
 
-static int is_edge(const print1525_edge *edge) { return edge->atn <= 1 && edge->clock <= 1 && edge->data <= 1; }
-
-static int is_no_edge(const print1525_edge *edge) { return !edge->time && !edge->atn && !edge->clock && !edge->data; }
-
-/* The numbers are those of a byte that goes on in the decoder's stretch. */
-static int is_byte(const print1525_decoder *decoder) {
-    const print1525_byte *const byte = &decoder->byte;
-    if (byte->command > 1 || byte->eoi > 1 || (!byte->eoi && (byte->answered || byte->answer_ended))) return 0;
-    if (byte->bits > 8 || byte->byte >= 1 << byte->bits || byte->shortest_low > byte->longest_low || byte->shortest_high > byte->longest_high) return 0;
-    if (byte->bits == 0 && (byte->longest_low || byte->longest_high || byte->last_pull != byte->pull)) return 0;
-    if (decoder->called || (!decoder->first.clock && byte->last_pull != decoder->first.time)) return 0;
-    return byte->bits != 8 || (!decoder->first.clock && decoder->turns <= 1);
+/* A reading that a decoder can tell of a recording. */
+static int is_lawful(const print1525_reading *reading) {
+    return (reading->byte.bits == 8) == (reading->kind <= PRINT1525_BYTE_LAST) && reading->byte.bits <= 8 && reading->byte.byte < 1 << reading->byte.bits;
 }
 
-/* The numbers are those of a decoder, as crates/pr_ear/specs/DecoderNumbers.antt says. */
-static int is_decoder(const print1525_decoder *decoder) {
-    const print1525_edge *const turns[] = {&decoder->turn1, &decoder->turn2, &decoder->turn3, &decoder->turn4}, *const first = &decoder->first;
-    size_t index;
-    if (decoder->begun > 1 || decoder->called > decoder->begun || decoder->sent > decoder->begun || decoder->turns > 4) return 0;
-    if (!is_edge(first) || !is_edge(&decoder->last)) return 0;
-    for (index = 0; index < 4; index++)
-        if (index < decoder->turns ? !is_edge(turns[index]) || turns[index]->data == (first->clock + index) % 2 : !is_no_edge(turns[index])) return 0;
-    if (first->data != first->clock && (decoder->turn1.time != first->time || decoder->turn1.atn != first->atn || decoder->turn1.clock != first->clock ||
-                                        decoder->turn1.data != first->data))
-        return 0;
-    if (!decoder->begun && !(is_no_edge(first) && is_no_edge(&decoder->last) && !decoder->turns)) return 0;
-    return decoder->sent ? is_byte(decoder) : are_same(&decoder->byte, &no_byte, byte_fields, BYTE_FIELDS);
+/* A reading that a decoder can tell, whatever its numbers are. */
+static int may_be_read(const print1525_reading *reading, print1525_details answer) {
+    if (!is_answer(answer, PRINT1525_DONE, 0, 0, reading->kind != PRINT1525_NO_READING)) return 0;
+    if (reading->kind == PRINT1525_NO_READING) return !reading->end && are_same(&reading->byte, &no_byte, byte_fields, BYTE_FIELDS);
+    return reading->kind <= PRINT1525_INCOMPLETE_END && reading->byte.command <= 1 && reading->byte.eoi <= 1;
 }
 
-/* A reading is one that a decoder can tell. */
-static int may_be_read(const print1525_reading *reading, print1525_answer answer) {
-    if (!is_answer(answer, PRINT1525_DONE, 0, 0, reading->kind != PRINT1525_NOTHING)) return 0;
-    if (reading->kind == PRINT1525_NOTHING) return !reading->end && are_same(&reading->byte, &no_byte, byte_fields, BYTE_FIELDS);
-    return reading->kind <= PRINT1525_CUT_WITHIN && reading->byte.bits <= 8 && (reading->byte.bits == 8) == (reading->kind <= PRINT1525_CUT) &&
-           reading->byte.byte < 1 << reading->byte.bits && reading->byte.command <= 1 && reading->byte.eoi <= 1;
-}
-
-static int is_refused(const print1525_reading *reading, print1525_answer answer, size_t fault) {
-    return is_answer(answer, PRINT1525_REFUSED, fault, 0, 0) && reading->kind == PRINT1525_NOTHING && !reading->end &&
+static int is_refused(const print1525_reading *reading, print1525_details answer, int fault) {
+    return is_answer(answer, PRINT1525_REFUSED, fault, 0, 0) && reading->kind == PRINT1525_NO_READING && !reading->end &&
            are_same(&reading->byte, &no_byte, byte_fields, BYTE_FIELDS);
 }
 
@@ -700,29 +794,27 @@ static int is_refused(const print1525_reading *reading, print1525_answer answer,
 typedef struct {
     print1525_decoder *decoder;
     print1525_reading *reading;
-    print1525_answer *answer;
+    print1525_details *answer;
 } placed_decoder;
 
 static placed_decoder place_decoder(void) {
     placed_decoder made;
     made.decoder = (print1525_decoder *)(void *)guard(sizeof *made.decoder).bytes;
     made.reading = (print1525_reading *)(void *)guard(sizeof *made.reading).bytes;
-    made.answer = (print1525_answer *)(void *)guard(sizeof *made.answer).bytes;
+    made.answer = (print1525_details *)(void *)guard(sizeof *made.answer).bytes;
     return made;
 }
 
-/* Numbers that are no decoder are refused with nothing changed, and those of one are not. */
+/* Whatever numbers a decoder has, it refuses nothing but an edge that goes back, and then nothing is changed. */
 static void try_decoder_numbers(placed_decoder at, const print1525_edge *edge, size_t number) {
     const print1525_decoder before = *at.decoder;
-    const int is_one = is_decoder(at.decoder), goes_back = before.begun && edge->time < before.last.time;
-    print1525_decode_end(at.decoder, at.reading, at.answer);
-    if (is_one ? !may_be_read(at.reading, *at.answer) : !is_refused(at.reading, *at.answer, PRINT1525_NO_DECODER))
-        is_wrong("an end for a decoder's numbers, field", number);
-    print1525_decode_edge(at.decoder, edge, at.reading, at.answer);
-    if (!is_one ? !is_refused(at.reading, *at.answer, PRINT1525_NO_DECODER)
-                : goes_back ? !is_refused(at.reading, *at.answer, PRINT1525_ORDER) : !may_be_read(at.reading, *at.answer))
+    const int goes_back = before.begun == 1 && edge->time < before.last.time;
+    print1525_decoder_end(at.decoder, at.reading, at.answer);
+    if (!may_be_read(at.reading, *at.answer)) is_wrong("an end for a decoder's numbers, field", number);
+    print1525_decoder_edge(at.decoder, edge, at.reading, at.answer);
+    if (goes_back ? !is_refused(at.reading, *at.answer, PRINT1525_FAULT_GOES_BACK) : !may_be_read(at.reading, *at.answer))
         is_wrong("an edge for a decoder's numbers, field", number);
-    if ((!is_one || goes_back) && memcmp(&before, at.decoder, sizeof before) != 0) is_wrong("a refused decoder is changed, field", number);
+    if (goes_back && memcmp(&before, at.decoder, sizeof before) != 0) is_wrong("a refused decoder is changed, field", number);
 }
 
 /* Each number of a decoder in turn is another. */
@@ -743,40 +835,36 @@ static void try_decoder_copy(placed_decoder at, const print1525_decoder *decoder
     const print1525_decoder before = *decoder;
     print1525_decoder other = *decoder;
     print1525_reading reading;
-    print1525_answer answer;
+    print1525_details answer;
     *at.decoder = *decoder;
-    print1525_decode_edge(&other, edge, &reading, &answer);
-    print1525_decode_edge(at.decoder, edge, at.reading, at.answer);
-    if (memcmp(&answer, at.answer, sizeof answer) != 0 || reading.kind != at.reading->kind || reading.end != at.reading->end ||
+    print1525_decoder_edge(&other, edge, &reading, &answer);
+    print1525_decoder_edge(at.decoder, edge, at.reading, at.answer);
+    if (!are_details(answer, *at.answer) || reading.kind != at.reading->kind || reading.end != at.reading->end ||
         !are_same(&reading.byte, &at.reading->byte, byte_fields, BYTE_FIELDS) || !are_same(&other, at.decoder, decoder_fields, DECODER_FIELDS))
         is_wrong("a copy of a decoder, behind edges", count);
     if (memcmp(&before, decoder, sizeof before) != 0) is_wrong("a decoder changes with its copy, behind edges", count);
 }
 
-/* A decoder refuses numbers that are none, and an edge that stands before the one taken last, with nothing changed; a byte that the
+/* Memory of zeros is a decoder just begun. A decoder refuses an edge that stands before the one taken last, with nothing changed; a byte that the
  * recording's end cuts is told by the end alone, as often as it is asked for. */
 static void try_decoder(void) {
     static const char levels[] = "100110111101111101";
     static const print1525_edge later = {9, 1, 0, 1}, earlier = {8, 1, 1, 1};
     print1525_decoder decoder, before;
     print1525_reading reading;
-    print1525_answer answer;
+    print1525_details answer;
     size_t index;
+    memset(&before, 0, sizeof before);
     memset(&decoder, UNTOUCHED, sizeof decoder);
+    print1525_decoder_begin(&decoder);
+    if (!are_same(&before, &decoder, decoder_fields, DECODER_FIELDS)) is_wrong("a decoder just begun", 0);
+    print1525_decoder_begin(&decoder);
+    print1525_decoder_edge(&decoder, &later, &reading, &answer);
     before = decoder;
-    print1525_decode_edge(&decoder, &later, &reading, &answer);
-    if (!is_answer(answer, PRINT1525_REFUSED, PRINT1525_NO_DECODER, 0, 0) || reading.kind != PRINT1525_NOTHING)
-        is_wrong("an edge for numbers that are no decoder", answer.fault);
-    print1525_decode_end(&decoder, &reading, &answer);
-    if (!is_answer(answer, PRINT1525_REFUSED, PRINT1525_NO_DECODER, 0, 0)) is_wrong("an end for no decoder", answer.fault);
-    if (memcmp(&before, &decoder, sizeof decoder) != 0) is_wrong("a refused decoder is changed", 0);
-    print1525_decode_begin(&decoder);
-    print1525_decode_edge(&decoder, &later, &reading, &answer);
-    before = decoder;
-    print1525_decode_edge(&decoder, &earlier, &reading, &answer);
-    if (!is_answer(answer, PRINT1525_REFUSED, PRINT1525_ORDER, 0, 0) || memcmp(&before, &decoder, sizeof decoder) != 0)
-        is_wrong("an edge that goes back", answer.fault);
-    print1525_decode_begin(&decoder);
+    print1525_decoder_edge(&decoder, &earlier, &reading, &answer);
+    if (!is_answer(answer, PRINT1525_REFUSED, PRINT1525_FAULT_GOES_BACK, 0, 0) || memcmp(&before, &decoder, sizeof decoder) != 0)
+        is_wrong("an edge that goes back", (size_t)answer.fault);
+    print1525_decoder_begin(&decoder);
     for (index = 0; index < 6; index++) {
         const char *const level = levels + 3 * index;
         print1525_edge edge;
@@ -784,18 +872,78 @@ static void try_decoder(void) {
         edge.atn = level[0] != '0';
         edge.clock = level[1] != '0';
         edge.data = level[2] != '0';
-        print1525_decode_edge(&decoder, &edge, &reading, &answer);
-        if (!is_answer(answer, PRINT1525_DONE, 0, 0, 0) || reading.kind != PRINT1525_NOTHING || reading.byte.look != 0)
+        print1525_decoder_edge(&decoder, &edge, &reading, &answer);
+        if (!is_answer(answer, PRINT1525_DONE, 0, 0, 0) || reading.kind != PRINT1525_NO_READING || reading.byte.look != 0)
             is_wrong("a reading at edge", index);
     }
     for (index = 0; index < 2; index++) {
-        print1525_decode_end(&decoder, &reading, &answer);
-        if (!is_answer(answer, PRINT1525_DONE, 0, 0, 1) || reading.kind != PRINT1525_CUT_WITHIN || reading.end != 0 ||
+        print1525_decoder_end(&decoder, &reading, &answer);
+        if (!is_answer(answer, PRINT1525_DONE, 0, 0, 1) || reading.kind != PRINT1525_INCOMPLETE_END || reading.end != 0 ||
             reading.byte.look != 100 || reading.byte.ready != 200 || reading.byte.pull != 300 || reading.byte.last_pull != 500 ||
             reading.byte.bits != 1 || reading.byte.byte != 1 || reading.byte.command != 0 || reading.byte.eoi != 0 ||
             reading.byte.shortest_low != 100 || reading.byte.longest_high != 100)
             is_wrong("the byte that is cut", index);
     }
+}
+
+/* The calls for edges refuse each pointer that is NULL, and take structures that overlap as copies of them. */
+static void try_edge_pointers(void) {
+    static const print1525_edge first = {0, 1, 1, 1};
+    print1525_edge edges[4] = {{0, 1, 1, 1}, {0, 1, 1, 1}, {0, 1, 1, 1}, {0, 1, 1, 1}};
+    print1525_strict strict, strict_before;
+    print1525_decoder decoder, decoder_before, other;
+    print1525_receiver receiver;
+    print1525_received came = {77, 77, 77};
+    print1525_reading reading;
+    print1525_details details;
+    uint16_t input = NO_INPUT, inputs[4] = {NO_INPUT, NO_INPUT, NO_INPUT, NO_INPUT};
+    memset(&reading, UNTOUCHED, sizeof reading);
+    memset(&strict, 0, sizeof strict);
+    memset(&decoder, 0, sizeof decoder);
+    memset(&receiver, 0, sizeof receiver);
+    if (print1525_strict_begin(NULL, 4) != PRINT1525_REFUSED || print1525_decoder_begin(NULL) != PRINT1525_REFUSED || print1525_receiver_begin(NULL, 4) != PRINT1525_REFUSED)
+        is_wrong("a NULL pointer begun", 0);
+    if (print1525_strict_begin(&strict, 4) != PRINT1525_DONE || print1525_decoder_begin(&decoder) != PRINT1525_DONE) is_wrong("a beginning", 0);
+    strict_before = strict;
+    decoder_before = decoder;
+#define REFUSES(it)                                                                                                                      \
+    do {                                                                                                                                 \
+        memset(&details, UNTOUCHED, sizeof details);                                                                                     \
+        if ((it) != PRINT1525_REFUSED || !is_answer(details, PRINT1525_REFUSED, PRINT1525_FAULT_NULL_POINTER, 0, 0)) is_wrong(#it, 0);   \
+    } while (0)
+    REFUSES(print1525_strict_edge(NULL, &first, &input, &details));
+    REFUSES(print1525_strict_edge(&strict, NULL, &input, &details));
+    REFUSES(print1525_strict_edge(&strict, &first, NULL, &details));
+    REFUSES(print1525_strict_end(NULL, &details));
+    REFUSES(print1525_strict_edges(4, NULL, 1, inputs, 4, &details));
+    REFUSES(print1525_strict_edges(4, edges, 1, NULL, 4, &details));
+    REFUSES(print1525_decoder_edge(NULL, &first, &reading, &details));
+    REFUSES(print1525_decoder_edge(&decoder, NULL, &reading, &details));
+    REFUSES(print1525_decoder_edge(&decoder, &first, NULL, &details));
+    REFUSES(print1525_receiver_edge(NULL, &first, &came, &details));
+    REFUSES(print1525_receiver_edge(&receiver, NULL, &came, &details));
+    REFUSES(print1525_receiver_edge(&receiver, &first, NULL, &details));
+    REFUSES(print1525_decoder_end(NULL, &reading, &details));
+    REFUSES(print1525_decoder_end(&decoder, NULL, &details));
+#undef REFUSES
+    if (print1525_strict_edge(NULL, NULL, NULL, NULL) != PRINT1525_REFUSED || print1525_decoder_edge(NULL, NULL, NULL, NULL) != PRINT1525_REFUSED) is_wrong("no details", 0);
+    if (memcmp(&strict, &strict_before, sizeof strict) != 0 || memcmp(&decoder, &decoder_before, sizeof decoder) != 0 || input != NO_INPUT ||
+        inputs[0] != NO_INPUT || came.kind != 77 || !is_untouched((const uint8_t *)(const void *)&reading, sizeof reading))
+        is_wrong("something is changed beside a NULL pointer", 0);
+    /* A list without edges or inputs. */
+    print1525_strict_edges(4, NULL, 0, inputs, 4, &details);
+    if (!is_answer(details, PRINT1525_REFUSED, PRINT1525_FAULT_BAD_START, 0, 0)) is_wrong("no edges", 0);
+    print1525_strict_edges(4, edges, 1, NULL, 0, &details);
+    if (!is_answer(details, PRINT1525_DONE, 0, 0, 0)) is_wrong("no room for no inputs", 0);
+    print1525_strict_edges(4, edges, 3, (uint16_t *)(void *)(edges + 2), 1, &details);
+    if (!is_answer(details, PRINT1525_REFUSED, PRINT1525_FAULT_OVERLAP, 0, 0)) is_wrong("edges that overlap the inputs", 0);
+    /* The edge is the decoder's own, and so is the place of the reading. */
+    print1525_decoder_edge(&decoder, &first, &reading, NULL);
+    other = decoder;
+    print1525_decoder_edge(&decoder, &decoder.last, &reading, &details);
+    print1525_decoder_edge(&other, &first, &reading, NULL);
+    if (details.status != PRINT1525_DONE || !are_same(&decoder, &other, decoder_fields, DECODER_FIELDS)) is_wrong("an edge of the decoder's own", 0);
+    if (print1525_strict_edge(&strict, &strict.last, &input, NULL) != PRINT1525_REFUSED) is_wrong("an edge of the receiver's own", 0);
 }
 
 /* A name of the header by its index, where there is one. */
@@ -805,35 +953,39 @@ static uint8_t named(const uint8_t *names, size_t count, int index) {
 
 /* The settings of a call, each by its name in the header: what another number stands for is told by the text. */
 static void set(job *j, int words, char **word) {
-    static const uint8_t printers[] = {PRINT1525_NO_PRINTER, PRINT1525_FOUR, PRINT1525_FIVE, PRINT1525_BOTH};
-    static const uint8_t statuses[] = {PRINT1525_EACH, PRINT1525_KEPT}, sets[] = {PRINT1525_UPPER, PRINT1525_LOWER};
-    static const uint8_t pages[] = {PRINT1525_LIST, PRINT1525_TEXT, PRINT1525_SVG, PRINT1525_PNG, PRINT1525_PDF}, traces[] = {PRINT1525_TRACE, PRINT1525_VCD};
-    static const uint8_t forms[] = {PRINT1525_SCRIPT, PRINT1525_PROGRAM, PRINT1525_PETCAT};
+    static const print1525_settings defaults = PRINT1525_SETTINGS_INIT;
+    static const uint8_t presents[] = {PRINT1525_PRESENT_NONE, PRINT1525_PRESENT_4, PRINT1525_PRESENT_5, PRINT1525_PRESENT_BOTH};
+    static const uint8_t modes[] = {PRINT1525_MODE_EACH, PRINT1525_MODE_KEPT}, sets[] = {PRINT1525_SET_UPPER, PRINT1525_SET_LOWER};
+    static const uint8_t pages[] = {PRINT1525_PAGE_LIST, PRINT1525_PAGE_TEXT, PRINT1525_PAGE_SVG, PRINT1525_PAGE_PNG, PRINT1525_PAGE_PDF};
+    static const uint8_t traces[] = {PRINT1525_TRACE_TEXT, PRINT1525_TRACE_VCD}, forms[] = {PRINT1525_FROM_TEXT, PRINT1525_FROM_PRG, PRINT1525_FROM_PETCAT};
+    print1525_settings *const s = &j->settings;
+    *s = defaults;
     if (strcmp(j->name, "listing") == 0 && words > 2) {
-        j->first = named(forms, sizeof forms, atoi(word[2]));
+        s->from = named(forms, sizeof forms, atoi(word[2]));
     } else if (strcmp(j->name, "print") == 0 && words > 2) {
-        j->format = named(pages, sizeof pages, atoi(word[2]));
+        s->page = named(pages, sizeof pages, atoi(word[2]));
     } else if (strcmp(j->name, "raw") == 0 && words > 3) {
-        j->first = named(sets, sizeof sets, atoi(word[2]));
-        j->format = named(pages, sizeof pages, atoi(word[3]));
+        s->set = named(sets, sizeof sets, atoi(word[2]));
+        s->page = named(pages, sizeof pages, atoi(word[3]));
     } else if (words > 5) {
-        const int is_bus = strcmp(j->name, "bus") == 0;
-        j->first = named(printers, sizeof printers, atoi(word[2]));
-        j->second = named(statuses, sizeof statuses, atoi(word[3]));
-        j->format = is_bus ? named(traces, sizeof traces, atoi(word[4])) : named(pages, sizeof pages, atoi(word[4]));
+        s->present = named(presents, sizeof presents, atoi(word[2]));
+        s->mode = named(modes, sizeof modes, atoi(word[3]));
+        if (strcmp(j->name, "bus") == 0) s->trace = named(traces, sizeof traces, atoi(word[4]));
+        else s->page = named(pages, sizeof pages, atoi(word[4]));
         read_delays(j, word[5]);
+        if (words > 6) s->from = named(forms, sizeof forms, atoi(word[6]));
     }
 }
 
 /* What a reading's kind is called. */
 static const char *kind_of(uint8_t kind) {
     switch (kind) {
-    case PRINT1525_ACKNOWLEDGED: return "acknowledged";
-    case PRINT1525_UNACKNOWLEDGED: return "unacknowledged";
-    case PRINT1525_CUT: return "cut";
-    case PRINT1525_ATTENTION: return "attention";
-    case PRINT1525_SILENCE: return "silence";
-    case PRINT1525_CUT_WITHIN: return "cut-within";
+    case PRINT1525_BYTE_ACKNOWLEDGED: return "acknowledged";
+    case PRINT1525_BYTE_UNACKNOWLEDGED: return "unacknowledged";
+    case PRINT1525_BYTE_LAST: return "cut";
+    case PRINT1525_INCOMPLETE_ATN: return "attention";
+    case PRINT1525_INCOMPLETE_SILENCE: return "silence";
+    case PRINT1525_INCOMPLETE_END: return "cut-within";
     default: return "nothing";
     }
 }
@@ -856,22 +1008,22 @@ static int readings(guarded text) {
     print1525_edge *const edges = (print1525_edge *)(void *)(place.bytes - (size_t)place.bytes % sizeof(uint64_t));
     print1525_decoder *const decoder = at.decoder;
     print1525_reading *const reading = at.reading;
-    print1525_answer *const answer = at.answer;
+    print1525_details *const answer = at.answer;
     const size_t count = read_edges(text, edges);
     size_t index;
     taken = 0;
-    print1525_decode_begin(decoder);
+    print1525_decoder_begin(decoder);
     for (index = 0; index < count; index++) {
-        if (!is_decoder(decoder)) is_wrong("a decoder's numbers at edge", index);
         if (index % step_of(count) == 0) try_other_decoders(others, decoder, &edges[index]);
         try_decoder_copy(others, decoder, &edges[index], index);
-        print1525_decode_edge(decoder, &edges[index], reading, answer);
-        if (answer->code != PRINT1525_DONE || answer->length != (reading->kind != PRINT1525_NOTHING))
+        print1525_decoder_edge(decoder, &edges[index], reading, answer);
+        if (answer->status != PRINT1525_DONE || answer->length != (reading->kind != PRINT1525_NO_READING))
             is_wrong("an answer of a decoder at edge", index);
+        if (answer->length && !is_lawful(reading)) is_wrong("a reading at edge", index);
         if (answer->length) tell_reading(reading);
     }
-    print1525_decode_end(decoder, reading, answer);
-    if (answer->code != PRINT1525_DONE) is_wrong("an answer of a decoder's end", answer->code);
+    print1525_decoder_end(decoder, reading, answer);
+    if (answer->status != PRINT1525_DONE) is_wrong("an answer of a decoder's end", (size_t)answer->status);
     if (answer->length) tell_reading(reading);
     if (taken != 0) is_wrong("a decoder takes memory", (size_t)taken);
     return wrong ? 99 : 0;
@@ -894,64 +1046,54 @@ static guarded read_all(FILE *file) {
 int main(int words, char **word) {
     static job j;
     const char *once = getenv("CALLS");
-    print1525_answer answer;
+    print1525_details answer;
     guarded input, buffer, empty = guard(0);
     if (words < 2) return 98;
     is_all = once && strcmp(once, "all") == 0;
     j.name = word[1];
-    if (strcmp(j.name, "settings") == 0) {
-        try_settings();
-        return wrong ? 99 : 0;
-    }
-    if (strcmp(j.name, "stops") == 0) {
-        size_t stop;
-        for (stop = 0; stop < 256; stop++)
-            if (strcmp(print1525_stop_text(stop), "NO ERROR") != 0) printf("%lu %s\n", (unsigned long)stop, print1525_stop_text(stop));
-        return 0;
-    }
-    if (strcmp(j.name, "ears") == 0) {
-        try_ears();
-        return wrong ? 99 : 0;
-    }
-    if (strcmp(j.name, "decoder") == 0) {
-        try_decoder();
-        return wrong ? 99 : 0;
-    }
-    if (strcmp(j.name, "hear") == 0) {
-        answer = hear((uint8_t)(words > 2 ? atoi(word[2]) : 4), read_all(stdin));
+    if (strcmp(j.name, "settings") == 0) try_settings();
+    else if (strcmp(j.name, "pointers") == 0) try_pointers(), try_edge_pointers();
+    else if (strcmp(j.name, "words") == 0) try_words();
+    else if (strcmp(j.name, "receivers") == 0) try_receivers();
+    else if (strcmp(j.name, "decoder") == 0) try_decoder();
+    else if (strcmp(j.name, "readings") == 0) readings(read_all(stdin));
+    else if (strcmp(j.name, "strict") == 0) {
+        answer = receive((uint8_t)(words > 2 ? atoi(word[2]) : 4), read_all(stdin));
         tell(answer);
-        return wrong ? 99 : (int)answer.code;
+        return wrong ? 99 : answer.status;
+    } else {
+        set(&j, words, word);
+        input = read_all(stdin);
+        if (getenv("CHARACTERS")) {
+            FILE *const file = fopen(getenv("CHARACTERS"), "rb");
+            guarded characters;
+            if (!file) return 98;
+            characters = read_all(file);
+            fclose(file);
+            j.settings.characters = characters.bytes;
+            j.settings.characters_length = characters.size;
+        }
+        j.input = input.bytes;
+        j.length = input.size;
+        if (strcmp(j.name, "print") == 0) read_numbers(&j);
+        answer = call(&j, empty.bytes, 0);
+        buffer = guard(answer.fault == PRINT1525_FAULT_TOO_SMALL ? answer.length + 16 : 99);
+        if (answer.fault == PRINT1525_FAULT_TOO_SMALL) {
+            uint8_t *const front = buffer.bytes + 16;
+            const size_t needed = answer.length;
+            answer = call(&j, front, needed);
+            if (answer.status > PRINT1525_STOPPED || answer.length != needed) is_wrong("another text than was asked for", needed);
+            fwrite(front, 1, answer.length, stdout);
+        }
+        if (!once || strcmp(once, "once") != 0) {
+            guarded text = guard(answer.length);
+            memcpy(text.bytes, buffer.bytes + 16, answer.status <= PRINT1525_STOPPED ? answer.length : 0);
+            try_defaults(&j, buffer.bytes, buffer.size);
+            try_sizes(&j, buffer, answer, text.bytes);
+            try_refusals(&j, buffer, answer.status <= PRINT1525_STOPPED ? answer.length : 9, answer, text.bytes);
+        }
+        tell(answer);
+        return wrong ? 99 : answer.status;
     }
-    if (strcmp(j.name, "readings") == 0) return readings(read_all(stdin));
-    set(&j, words, word);
-    input = read_all(stdin);
-    if (getenv("CHARACTERS")) {
-        FILE *const file = fopen(getenv("CHARACTERS"), "rb");
-        guarded characters;
-        if (!file) return 98;
-        characters = read_all(file);
-        fclose(file);
-        j.characters = characters.bytes;
-        j.characters_length = characters.size;
-    }
-    j.input = input.bytes;
-    j.length = input.size;
-    if (strcmp(j.name, "print") == 0) read_numbers(&j);
-    answer = call(&j, empty.bytes, 0);
-    buffer = guard(answer.code == PRINT1525_TOO_SMALL ? answer.length + 16 : 99);
-    if (answer.code == PRINT1525_TOO_SMALL) {
-        uint8_t *const front = buffer.bytes + 16;
-        const size_t needed = answer.length;
-        answer = call(&j, front, needed);
-        if (answer.code > PRINT1525_STOPPED || answer.length != needed) is_wrong("another text than was asked for", needed);
-        fwrite(front, 1, answer.length, stdout);
-    }
-    if (!once || strcmp(once, "once") != 0) {
-        guarded text = guard(answer.length);
-        memcpy(text.bytes, buffer.bytes + 16, answer.code <= PRINT1525_STOPPED ? answer.length : 0);
-        try_sizes(&j, buffer, answer, text.bytes);
-        try_refusals(&j, buffer, answer.code <= PRINT1525_STOPPED ? answer.length : 9, answer, text.bytes);
-    }
-    tell(answer);
-    return wrong ? 99 : (int)answer.code;
+    return wrong ? 99 : 0;
 }

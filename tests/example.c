@@ -1,4 +1,4 @@
-/* The calls of an ear and of a decoder over examples/hello.trace on standard input, and their refusals: worked by hand.
+/* The calls of a strict receiver and of a decoder over examples/hello.trace on standard input, and their refusals: worked by hand.
  * Ends with 0, or writes the line of each comparison that fails and ends with 1. */
 #include "print1525.h"
 #include <stdio.h>
@@ -18,74 +18,65 @@ static const print1525_edge first = {0, 1, 2, 255};
 
 static print1525_edge edges[EDGES];
 
-static int answers(print1525_answer answer, size_t code, size_t fault, size_t place, size_t length) {
-    return answer.code == code && answer.fault == fault && answer.place == place && answer.length == length;
-}
-
-static int tells(print1525_ear_answer answer, size_t code, size_t fault, size_t place) {
-    return answer.code == code && answer.fault == fault && answer.place == place && answer.heard == 0 && answer.input == 0;
+static int answers(print1525_details answer, int status, int fault, size_t place, size_t length) {
+    return answer.status == status && answer.fault == fault && answer.place == place && answer.column == 0 && answer.length == length;
 }
 
 static void trace_without_frames(void) {
     uint16_t inputs[2] = {7, 7};
-    print1525_answer answer;
-    print1525_hear(4, &first, 1, inputs, 2, &answer);
+    print1525_details answer;
+    print1525_strict_edges(4, &first, 1, inputs, 2, &answer);
     CHECK(answers(answer, PRINT1525_DONE, 0, 0, 0));
-    print1525_hear(30, &first, 1, inputs, 2, &answer);
+    print1525_strict_edges(30, &first, 1, inputs, 2, &answer);
     CHECK(answers(answer, PRINT1525_DONE, 0, 0, 0));
-    print1525_hear(3, &first, 1, inputs, 2, &answer);
-    CHECK(answers(answer, PRINT1525_REFUSED, PRINT1525_NO_SUCH_DEVICE, 0, 0));
-    print1525_hear(31, &first, 1, inputs, 2, &answer);
-    CHECK(answers(answer, PRINT1525_REFUSED, PRINT1525_NO_SUCH_DEVICE, 0, 0));
-    print1525_hear(4, &first, 0, inputs, 2, &answer);
-    CHECK(answers(answer, PRINT1525_REFUSED, PRINT1525_START, 0, 0));
+    print1525_strict_edges(3, &first, 1, inputs, 2, &answer);
+    CHECK(answers(answer, PRINT1525_REFUSED, PRINT1525_FAULT_NO_SUCH_DEVICE, 0, 0));
+    print1525_strict_edges(31, &first, 1, inputs, 2, &answer);
+    CHECK(answers(answer, PRINT1525_REFUSED, PRINT1525_FAULT_NO_SUCH_DEVICE, 0, 0));
+    print1525_strict_edges(4, &first, 0, inputs, 2, &answer);
+    CHECK(answers(answer, PRINT1525_REFUSED, PRINT1525_FAULT_BAD_START, 0, 0));
     CHECK(inputs[0] == 7 && inputs[1] == 7);
 }
 
-/* Printer 4 is selected at edge 22 and hears a byte at 43, 63 and 85. */
+/* Printer 4 is selected at edge 22 and receives a byte at 43, 63 and 85. */
 static void example_edge_by_edge(void) {
-    static const size_t heard_at[] = {22, 43, 63, 85}, inputs[] = {256, 72, 73, 13};
-    print1525_ear ear;
-    print1525_ear_answer answer;
-    size_t index, heard = 0;
-    memset(&ear, 0, sizeof ear);
-    print1525_ear_begin(&ear, 4, &answer);
-    CHECK(tells(answer, PRINT1525_DONE, 0, 0));
+    static const size_t received_at[] = {22, 43, 63, 85}, inputs[] = {256, 72, 73, 13};
+    print1525_strict strict;
+    print1525_details answer;
+    uint16_t input = 7;
+    size_t index, received = 0;
+    CHECK(print1525_strict_begin(&strict, 4) == PRINT1525_DONE);
     for (index = 0; index < EDGES; index++) {
-        print1525_ear_edge(&ear, &edges[index], &answer);
-        CHECK(answer.code == PRINT1525_DONE);
-        if (answer.heard != 1) continue;
-        CHECK(heard < 4 && index == heard_at[heard] && answer.input == inputs[heard]);
-        heard++;
+        CHECK(print1525_strict_edge(&strict, &edges[index], &input, &answer) == PRINT1525_DONE);
+        if (answer.length != 1) continue;
+        CHECK(received < 4 && index == received_at[received] && input == inputs[received]);
+        received++;
     }
-    CHECK(heard == 4);
-    print1525_ear_end(&ear, &answer);
-    CHECK(tells(answer, PRINT1525_DONE, 0, 0));
+    CHECK(received == 4 && input == PRINT1525_NO_INPUT);
+    CHECK(print1525_strict_end(&strict, &answer) == PRINT1525_DONE);
+    CHECK(answers(answer, PRINT1525_DONE, 0, 0, 0));
 }
 
-static void refusals_of_ears(void) {
-    print1525_ear ear, before;
-    print1525_ear_answer answer;
+static void refusals_of_receivers(void) {
+    print1525_strict strict, before;
+    print1525_details answer;
+    uint16_t input = 7;
     size_t turn;
-    memset(&ear, 0, sizeof ear);
-    ear.device = 4;
-    ear.last = first;
-    before = ear;
-    print1525_ear_begin(&ear, 31, &answer);
-    CHECK(tells(answer, PRINT1525_REFUSED, PRINT1525_NO_SUCH_DEVICE, 0));
-    print1525_ear_edge(&ear, &first, &answer);
-    CHECK(tells(answer, PRINT1525_REFUSED, PRINT1525_NO_EAR, 0));
-    print1525_ear_end(&ear, &answer);
-    CHECK(tells(answer, PRINT1525_REFUSED, PRINT1525_NO_EAR, 0));
-    CHECK(memcmp(&ear, &before, sizeof ear) == 0);
-    print1525_ear_begin(&ear, 30, &answer);
-    print1525_ear_end(&ear, &answer);
-    CHECK(tells(answer, PRINT1525_REFUSED, PRINT1525_START, 0));
-    print1525_ear_edge(&ear, &first, &answer);
+    memset(&strict, 0, sizeof strict);
+    strict.device = 4;
+    strict.last = first;
+    before = strict;
+    CHECK(print1525_strict_begin(&strict, 31) == PRINT1525_REFUSED);
+    CHECK(memcmp(&strict, &before, sizeof strict) == 0);
+    CHECK(print1525_strict_begin(&strict, 30) == PRINT1525_DONE);
+    print1525_strict_end(&strict, &answer);
+    CHECK(answers(answer, PRINT1525_REFUSED, PRINT1525_FAULT_BAD_START, 0, 0));
+    print1525_strict_edge(&strict, &first, &input, &answer);
     for (turn = 0; turn < 2; turn++) {
-        print1525_ear_edge(&ear, &first, &answer);
-        CHECK(tells(answer, PRINT1525_REFUSED, PRINT1525_ORDER, 1));
+        print1525_strict_edge(&strict, &first, &input, &answer);
+        CHECK(answers(answer, PRINT1525_REFUSED, PRINT1525_FAULT_BAD_ORDER, 1, 0));
     }
+    CHECK(input == PRINT1525_NO_INPUT);
 }
 
 static void example_decoded(void) {
@@ -95,47 +86,70 @@ static void example_decoded(void) {
     } wanted[] = {{36, 0, 1930}, {72, 0, 2960}, {73, 0, 3890}, {13, 1, 5140}, {63, 0, 7070}};
     print1525_decoder decoder;
     print1525_reading reading, none;
-    print1525_answer answer;
+    print1525_details answer;
     size_t index, count = 0;
-    print1525_decode_begin(&decoder);
+    CHECK(print1525_decoder_begin(&decoder) == PRINT1525_DONE);
     for (index = 0; index < EDGES; index++) {
-        print1525_decode_edge(&decoder, &edges[index], &reading, &answer);
-        CHECK(answer.code == PRINT1525_DONE);
+        print1525_decoder_edge(&decoder, &edges[index], &reading, &answer);
+        CHECK(answer.status == PRINT1525_DONE);
         if (answer.length != 1) continue;
-        CHECK(count < 5 && reading.byte.byte == wanted[count].byte && reading.kind == PRINT1525_ACKNOWLEDGED);
+        CHECK(count < 5 && reading.byte.byte == wanted[count].byte && reading.kind == PRINT1525_BYTE_ACKNOWLEDGED);
         CHECK(count < 5 && reading.end == wanted[count].end && reading.byte.eoi == wanted[count].eoi);
         count++;
     }
     CHECK(count == 5);
     memset(&none, 0, sizeof none);
     memset(&reading, 0, sizeof reading);
-    print1525_decode_end(&decoder, &reading, &answer);
+    print1525_decoder_end(&decoder, &reading, &answer);
     CHECK(answers(answer, PRINT1525_DONE, 0, 0, 0));
     CHECK(memcmp(&reading, &none, sizeof reading) == 0);
 }
 
-/* A decoder that was never begun, in which DATA has turned nine times, and an edge that goes back. */
+/* An edge that goes back. */
 static void refusals_of_decoders(void) {
     static const print1525_edge later = {9, 1, 2, 255};
     print1525_decoder decoder, before;
     print1525_reading reading;
-    print1525_answer answer;
-    memset(&decoder, 0, sizeof decoder);
-    decoder.first = decoder.last = decoder.turn1 = decoder.turn2 = decoder.turn3 = decoder.turn4 = first;
-    decoder.turns = 9;
-    before = decoder;
-    print1525_decode_edge(&decoder, &first, &reading, &answer);
-    CHECK(answers(answer, PRINT1525_REFUSED, PRINT1525_NO_DECODER, 0, 0));
-    CHECK(memcmp(&decoder, &before, sizeof decoder) == 0);
-    print1525_decode_end(&decoder, &reading, &answer);
-    CHECK(answers(answer, PRINT1525_REFUSED, PRINT1525_NO_DECODER, 0, 0));
-    print1525_decode_begin(&decoder);
-    print1525_decode_edge(&decoder, &later, &reading, &answer);
+    print1525_details answer;
+    CHECK(print1525_decoder_begin(&decoder) == PRINT1525_DONE);
+    print1525_decoder_edge(&decoder, &later, &reading, &answer);
     CHECK(answers(answer, PRINT1525_DONE, 0, 0, 0));
     before = decoder;
-    print1525_decode_edge(&decoder, &first, &reading, &answer);
-    CHECK(answers(answer, PRINT1525_REFUSED, PRINT1525_ORDER, 0, 0));
+    print1525_decoder_edge(&decoder, &first, &reading, &answer);
+    CHECK(answers(answer, PRINT1525_REFUSED, PRINT1525_FAULT_GOES_BACK, 0, 0));
     CHECK(memcmp(&decoder, &before, sizeof decoder) == 0);
+}
+
+/* What comes to printer 4, to the computer's disk drive and to nobody, as any bus says it. */
+static void example_received(void) {
+    static const struct {
+        unsigned kind, byte, eoi;
+    } wanted[] = {{PRINT1525_RECEIVED_LISTEN, 0, 0},
+                  {PRINT1525_RECEIVED_BYTE, 72, 0},
+                  {PRINT1525_RECEIVED_BYTE, 73, 0},
+                  {PRINT1525_RECEIVED_BYTE, 13, 1},
+                  {PRINT1525_RECEIVED_UNLISTEN, 0, 0}};
+    print1525_receiver receiver;
+    print1525_received came;
+    print1525_details answer;
+    unsigned device;
+    size_t index, count;
+    CHECK(print1525_receiver_begin(&receiver, 3) == PRINT1525_REFUSED && print1525_receiver_begin(&receiver, 31) == PRINT1525_REFUSED);
+    CHECK(print1525_receiver_begin(NULL, 4) == PRINT1525_REFUSED);
+    for (device = 4; device <= 30; device++) {
+        CHECK(print1525_receiver_begin(&receiver, (uint8_t)device) == PRINT1525_DONE);
+        for (index = count = 0; index < EDGES; index++) {
+            CHECK(print1525_receiver_edge(&receiver, &edges[index], &came, &answer) == PRINT1525_DONE);
+            CHECK(answers(answer, PRINT1525_DONE, 0, 0, came.kind != PRINT1525_NOTHING_RECEIVED));
+            if (answer.length == 0) continue;
+            CHECK(device == 4 && count < 5 && came.kind == wanted[count].kind && came.byte == wanted[count].byte && came.eoi == wanted[count].eoi);
+            count++;
+        }
+        CHECK(count == (device == 4 ? 5 : 0));
+        CHECK(print1525_receiver_edge(&receiver, &edges[0], &came, &answer) == PRINT1525_REFUSED);
+        CHECK(answers(answer, PRINT1525_REFUSED, PRINT1525_FAULT_GOES_BACK, 0, 0) && came.kind == PRINT1525_NOTHING_RECEIVED);
+        CHECK(print1525_receiver_edge(&receiver, &edges[0], NULL, &answer) == PRINT1525_REFUSED && answer.fault == PRINT1525_FAULT_NULL_POINTER);
+    }
 }
 
 int main(void) {
@@ -151,8 +165,9 @@ int main(void) {
     }
     trace_without_frames();
     example_edge_by_edge();
-    refusals_of_ears();
+    refusals_of_receivers();
     example_decoded();
+    example_received();
     refusals_of_decoders();
     return failed;
 }

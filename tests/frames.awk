@@ -15,7 +15,7 @@ function differs(wanted, found) {
 }
 # An acknowledged byte.
 NR == FNR && $3 ~ /^[$][0-9A-F][0-9A-F]$/ {
-    frame($1, $2, $4 ~ /^(LISTEN|UNLISTEN|SECOND|CLOSE|command)/, number(substr($3, 2)), / end-or-identify$/ ? " eoi" : "")
+    frame($1, $2, $4 ~ /^(LISTEN|UNLISTEN|TALK|UNTALK|SECOND|CLOSE|OPEN|command)/, number(substr($3, 2)), / end-or-identify$/ ? " eoi" : "")
     next
 }
 # Another whole byte: its line does not tell end-or-identify.

@@ -1,9 +1,12 @@
 #!/usr/bin/env python3
-"""tests/readings.py [--frames|--fields|--odd] [--sigrok RULE..] < TRACE: what a recording says, by the definitions and not by the program's code.
+"""tests/readings.py [--frames|--fields|--odd|--json] [--intervals] [--bounds profile|guide] [--sigrok RULE..] < TRACE: what a
+recording says, by the definitions and not by the program's code.
 
 It goes through whole stretches (crates/pr_decode/specs/Readings.antt) and writes the lines of `print1525 decode`
-(crates/pr_report/specs) up to the verdict, or with --odd those behind it, on what is odd about the recording. With --frames it writes of each whole byte when it was ready, CLOCK's last
-pull, and the byte. The times of the trace do not go back.
+(crates/pr_report/specs) up to the verdict, with --bounds guide up to and with it, or with --odd those after it, on what
+is odd about the recording. --intervals and --bounds guide are those of `decode`, --json is its `--as json` without the
+verdict. With --frames it writes of each whole byte when it was ready, CLOCK's last pull, and the byte. The times of the
+trace do not go back.
 
 With --fields it writes of each reading how it ends and when, and all of its moments and bits, as `tests/calls.c` does.
 
@@ -12,6 +15,7 @@ With --sigrok the named rules are those of sigrok's decoder `ieee488`, all where
   call      ATN's pull may begin an opening, where CLOCK is released
   answer    DATA's third turn is end-or-identify, though it is not released again before CLOCK's first pull"""
 
+import json
 import os
 import re
 import sys
@@ -19,12 +23,12 @@ import sys
 LONGEST_BIT = 1000
 SIGROK = ("silence", "call", "answer")
 
-# The intervals, with the profile's bounds: those of the delays, as the definitions say them.
+# The intervals, with their bounds: in the profile those of the delays, as the definitions say them.
 DELAYS = {}
 with open(os.path.dirname(os.path.abspath(__file__)) + "/../crates/pr_wire/specs/Delays.antt", encoding="utf-8") as file:
     for kind, least, greatest in re.findall(r"^bounds_of (\w+) = \((\d+), \d+, (\d+)\)$", file.read(), re.M):
         DELAYS[kind] = (int(least), int(greatest))
-BOUNDS = {
+PROFILE = {
     "ready": DELAYS["H"],
     "first pull": DELAYS["Ne"],
     "answer": DELAYS["Ye"],
@@ -36,9 +40,23 @@ BOUNDS = {
     "longest high half": DELAYS["V"],
     "acknowledgement": DELAYS["F"],
 }
+# In the Programmer's Reference Guide's table of serial bus timing those of Th, Tne, Tye, Tei, Try, Ts, Tv and Tf. It has no
+# least length of Tne: 1 here.
+GUIDE = {
+    "ready": (0, None),
+    "first pull": (1, 200),
+    "answer": (200, None),
+    "answer length": (60, None),
+    "pull after answer": (0, 60),
+    "shortest low half": (20, None),
+    "longest low half": (20, None),
+    "shortest high half": (20, None),
+    "longest high half": (20, None),
+    "acknowledgement": (0, 1000),
+}
 CODES = {
     8: "graphic mode", 10: "line feed", 13: "return", 14: "double width", 15: "standard width", 16: "column", 17: "lower case",
-    18: "reverse on", 26: "repeat", 27: "escape", 39: '"\'"', 145: "upper case", 146: "reverse off",
+    18: "reverse on", 26: "repeat", 27: "escape", 145: "upper case", 146: "reverse off",
 }
 
 
@@ -190,42 +208,98 @@ def command_words(byte):
     return f"command {byte}"
 
 
-def data_words(byte):
-    if byte in CODES:
-        return CODES[byte]
-    return f"'{chr(byte)}'" if 32 <= byte <= 126 else f"byte {byte}"
+def data_words(byte, is_printed):
+    if byte == 39:
+        return '"\'"'
+    if 32 <= byte <= 126:
+        return f"'{chr(byte)}'"
+    return CODES[byte] if is_printed and byte in CODES else f"byte {byte}"
 
 
-def line_of(before, reading):
-    """The lines of a reading, behind `command`, `data` or nothing, and what stands behind it then."""
+class Context:
+    """What the acknowledged bytes so far come to: the last of them, whether a printer listens, and who talks."""
+
+    def __init__(self):
+        self.last, self.printer_listens, self.asked, self.talker = "", False, None, None
+
+    def take(self, reading, byte):
+        if not reading.is_command:
+            self.last = "data"
+        elif self.last == "command" and byte >= 96:
+            self.last = ""
+            if self.asked is not None:
+                self.talker, self.asked = self.asked, None
+        else:
+            self.last = "" if byte == 63 else "command"
+            self.asked = None
+            if byte in (36, 37, 63):
+                self.printer_listens = byte != 63
+            if 64 <= byte <= 95:
+                self.talker, self.asked = None, byte - 64 if byte < 95 else None
+
+
+def line_of(context, reading):
+    """The lines of a reading in a context, which then takes it."""
     if not reading.is_whole():
         ends = {"ATN": "ended by ATN at", "silence": "CLOCK released too long at"}
         end = "cut by the recording's end" if reading.end == "cut" else f"{ends[reading.end]} {reading.ended} us"
-        return f"glitch at {reading.look} us, bits {len(reading.bits)}, {end}", before
+        return f"glitch at {reading.look} us, bits {len(reading.bits)}, {end}"
     byte = reading.byte()
     if reading.end != "acknowledged":
         end = "cut by the recording's end"
         if reading.end != "cut":
             end = f"not acknowledged, given up at {reading.given_up} us"
-        return f"{'command' if reading.is_command else 'byte'} {byte} at {reading.look} us, {end}", before
-    says = command_words(byte) if reading.is_command else data_words(byte)
+        return f"{'command' if reading.is_command else 'byte'} {byte} at {reading.look} us, {end}"
+    says = command_words(byte) if reading.is_command else data_words(byte, context.printer_listens)
     line = f"{reading.look:12} {reading.acknowledged:12}  ${byte:02X}  {says}{', end-or-identify' if reading.is_eoi else ''}"
+    heading = "attention\n"
     if not reading.is_command:
-        return (line if before == "data" else f"data\n{line}"), "data"
-    if before == "command" and byte >= 96:
-        return line, ""
-    return f"attention\n{line}", "" if byte == 63 else "command"
+        sender = "data" if context.talker is None else f"data from {context.talker}"
+        heading = "" if context.last == "data" else sender + "\n"
+    elif context.last == "command" and byte >= 96:
+        heading = ""
+    context.take(reading, byte)
+    return heading + line
 
 
-def tell(readings):
-    before = ""
+def is_outside(length, bounds):
+    least, greatest = bounds
+    return length < least or greatest is not None and length > greatest
+
+
+def bounds_text(bounds):
+    least, greatest = bounds
+    return f"{least} or more" if greatest is None else f"{least} to {greatest}"
+
+
+def measures_of(reading, bounds):
+    """The intervals of a reading outside these bounds, each with its length and the bounds."""
+    owner = "guide" if bounds is GUIDE else "profile"
+    for name, length in reading.lengths().items():
+        if is_outside(length, bounds[name]):
+            yield f"{name} {length} us, the {owner} has {bounds_text(bounds[name])}"
+
+
+def place_of(reading):
+    if not reading.is_whole():
+        return f"glitch at {reading.look} us, bits {len(reading.bits)}"
+    return f"{'command' if reading.is_command else 'byte'} ${reading.byte():02X} at {reading.look} us"
+
+
+def guide_verdict(readings):
     for reading in readings:
-        line, before = line_of(before, reading)
-        print(line)
-        for name, length in reading.lengths().items():
-            least, greatest = BOUNDS[name]
-            if not least <= length <= greatest:
-                print(f"    {name} {length} us, the profile has {least} to {greatest}")
+        for measure in measures_of(reading, GUIDE):
+            return f"outside the guide's bounds: {place_of(reading)}, {measure}"
+    return "within the guide's bounds"
+
+
+def tell(readings, bounds, has_intervals):
+    context = Context()
+    for reading in readings:
+        print(line_of(context, reading))
+        if has_intervals:
+            for measure in measures_of(reading, bounds):
+                print("    " + measure)
     frames = [reading for reading in readings if reading.is_whole()]
     print("frames:", len(frames))
     print("commands:", sum(reading.is_command for reading in frames))
@@ -233,17 +307,19 @@ def tell(readings):
     print("not acknowledged:", sum(reading.end == "not acknowledged" for reading in frames))
     print("glitches:", len(readings) - len(frames))
     print("cut by the recording's end:", sum(reading.end == "cut" for reading in readings))
-    for name, (least, greatest) in BOUNDS.items():
+    for name in bounds:
         lengths = sorted(it.lengths()[name] for it in readings if name in it.lengths())
         if not lengths:
             print(f"{name}: none")
             continue
         middle = lengths[(len(lengths) - 1) // 2]
-        outside = sum(not least <= length <= greatest for length in lengths)
+        outside = sum(is_outside(length, bounds[name]) for length in lengths)
         print(
             f"{name}: {len(lengths)}, least {lengths[0]}, middle {middle if middle < 16384 else 'over 16383'}, "
-            f"greatest {lengths[-1]}, outside {least} to {greatest}: {outside}"
+            f"greatest {lengths[-1]}, outside {bounds_text(bounds[name])}: {outside}"
         )
+    if bounds is GUIDE:
+        print(guide_verdict(readings))
 
 
 def tell_oddities(edges, readings):
@@ -258,6 +334,27 @@ def tell_oddities(edges, readings):
             odd.append(name + " rests at 0")
     if odd:
         print(*odd, "try --invert for probes behind inverters, or other signals with --names", sep="\n")
+
+
+def tell_json(readings):
+    """Writes a line of JSON for each reading."""
+    for reading in readings:
+        ends = {"not acknowledged": "unacknowledged", "ATN": "attention", "silence": "clock timeout"}
+        end = getattr(reading, "given_up", getattr(reading, "ended", reading.acknowledged))
+        line = {
+            "kind": "byte" if reading.is_whole() else "incomplete",
+            "role": "command" if reading.is_command else "data",
+            **({"value": reading.byte()} if reading.is_whole() else {"bits": len(reading.bits)}),
+            "eoi": reading.is_eoi,
+            "at": reading.look,
+            "ready": reading.ready,
+            "first pull": reading.pull,
+            "last pull": reading.last_pull,
+            "end": ends.get(reading.end, reading.end),
+            "ended": None if reading.end == "cut" else end,
+            "intervals": reading.lengths(),
+        }
+        print(json.dumps(line, separators=(",", ":")))
 
 
 def fields_of(reading):
@@ -287,8 +384,12 @@ def main():
         for reading in readings:
             print(*fields_of(reading))
         return
+    if words[:1] == ["--json"]:
+        tell_json(readings)
+        return
     if words[:1] != ["--frames"]:
-        tell(readings)
+        bounds = words[words.index("--bounds") + 1] if "--bounds" in words else "profile"
+        tell(readings, {"profile": PROFILE, "guide": GUIDE}[bounds], "--intervals" in words)
         return
     for reading in readings:
         if reading.is_whole():
@@ -296,4 +397,5 @@ def main():
             print(reading.ready, reading.last_pull, kind, reading.byte(), *["eoi"] * reading.is_eoi)
 
 
-main()
+if __name__ == "__main__":
+    main()

@@ -1,10 +1,13 @@
 #!/usr/bin/env python3
-"""tests/recording.py SEED: a made recording of a bus as a C64's KERNAL and its devices drive it, as a trace text.
+"""tests/recording.py SEED [--guide]: a made recording of a bus as a C64's KERNAL and its devices drive it, as a trace text.
 
 It is no trace of the profile: ATN is pulled 20 microseconds before CLOCK, DATA is set behind CLOCK's pull, a bit takes 60 to 90
 microseconds, and listeners hold DATA for up to 20 ms. Before UNLISTEN the KERNAL lets CLOCK go, as if it sent one more byte. Some
 recordings begin or end in the middle of a transfer; in some a byte is given up, is not acknowledged, or nobody answers a call; and
-some talkers set DATA before CLOCK's first pull. The same seed makes the same recording."""
+some talkers set DATA before CLOCK's first pull. The same seed makes the same recording.
+
+In some bits CLOCK is released for 18 microseconds; with --guide for 20, as the Programmer's Reference Guide's table of the bus wants
+it, and then all intervals of a byte are within that table's bounds where no byte is given up."""
 
 import sys
 
@@ -67,8 +70,9 @@ class Wires:
 class Session:
     """A computer and its devices on the wires. `now` is the moment up to which all is done."""
 
-    def __init__(self, seed):
+    def __init__(self, seed, least_high=18):
         self.chance = Chance(seed)
+        self.least_high = least_high
         self.wires = Wires()
         self.now = self.chance.within(100, 3000)
         self.devices = [device for device in (4, 5, 8) if self.chance.happens(2)] or [4]
@@ -163,7 +167,7 @@ class Session:
             self.wires.pull(self.now + self.chance.within(8, 26), DATA, talker)
         self.now += low
         self.wires.release(self.now, CLOCK, talker)
-        self.now += high
+        self.now += max(high, self.least_high)
 
     def give_up(self, talker, listeners, bits, value):
         """A byte that is given up behind some bits, while CLOCK is pulled or released. True: the same byte comes anew."""
@@ -281,9 +285,10 @@ class Session:
 
 
 def main():
-    session = Session(int(sys.argv[1]))
+    session = Session(int(sys.argv[1]), 20 if "--guide" in sys.argv else 18)
     for time, levels in session.part(session.run()):
         print(time, levels)
 
 
-main()
+if __name__ == "__main__":
+    main()

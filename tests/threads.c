@@ -12,7 +12,7 @@ static const char script[] = "OPEN 4,4\nOPEN 5,5,7\nCMD 4,\"ON BOTH\";\nPRINT#5,
 
 typedef struct {
     uint8_t text[3][ROOM];
-    print1525_answer answer[3];
+    print1525_details answer[3];
     int differs;
 } work;
 
@@ -20,14 +20,16 @@ static work alone, shared[THREADS];
 
 /* The pages of the script, its trace, and the frames of the trace. */
 static void make(work *w) {
-    const uint16_t typical[1] = {0};
-    const uint8_t *const bytes = (const uint8_t *)script;
+    static const uint16_t delays[1] = {0};
+    print1525_settings settings = PRINT1525_SETTINGS_INIT;
+    settings.mode = PRINT1525_MODE_KEPT;
+    settings.page = PRINT1525_PAGE_SVG;
+    settings.printer4_delays.numbers = delays;
+    settings.printer4_delays.length = 1;
     memset(w->text, 7, sizeof w->text);
-    print1525_pages(bytes, strlen(script), PRINT1525_BOTH, PRINT1525_KEPT, typical, 0, typical, 1, typical, 0, PRINT1525_SVG,
-                    w->text[0], ROOM, &w->answer[0]);
-    print1525_bus(bytes, strlen(script), PRINT1525_BOTH, PRINT1525_KEPT, typical, 0, typical, 1, typical, 0, PRINT1525_TRACE,
-                  w->text[1], ROOM, &w->answer[1]);
-    print1525_check(w->text[1], w->answer[1].length, w->text[2], ROOM, &w->answer[2]);
+    print1525_pages(script, strlen(script), &settings, w->text[0], ROOM, &w->answer[0]);
+    print1525_bus(script, strlen(script), &settings, w->text[1], ROOM, &w->answer[1]);
+    print1525_check(w->text[1], w->answer[1].length, NULL, w->text[2], ROOM, &w->answer[2]);
 }
 
 static void *run(void *place) {
@@ -46,8 +48,8 @@ int main(void) {
     pthread_t threads[THREADS];
     int index, wrong = 0;
     make(&alone);
-    wrong |= alone.answer[0].code != PRINT1525_STOPPED || alone.answer[0].fault != PRINT1525_FILE_NOT_OPEN ||
-             alone.answer[0].place != 6 || alone.answer[1].code != PRINT1525_STOPPED || alone.answer[2].code != PRINT1525_DONE;
+    wrong |= alone.answer[0].status != PRINT1525_STOPPED || alone.answer[0].fault != PRINT1525_STOP_FILE_NOT_OPEN ||
+             alone.answer[0].place != 6 || alone.answer[1].status != PRINT1525_STOPPED || alone.answer[2].status != PRINT1525_DONE;
     for (index = 0; index < THREADS; index++) wrong |= pthread_create(&threads[index], NULL, run, &shared[index]) != 0;
     for (index = 0; index < THREADS; index++) {
         pthread_join(threads[index], NULL);

@@ -211,6 +211,14 @@ function read(level, name, isExplained) {
 
 const RECORDING = ['names', 'invert', 'from-time'];
 
+/** Refuses what this program for Node does not do yet, so that nothing asked for is left out silently. */
+function refuseLater(job, level) {
+  if (level.given.has('rate')) throw new NoJob(2, 'print1525: --rate is not in the program for Node yet\n');
+  if (job.as === 'bytes' || (job.name === 'check' && job.as === 'json')) {
+    throw new NoJob(2, `print1525: ${job.name} --as ${job.as} is not in the program for Node yet\n`);
+  }
+}
+
 /** The job of words that name a command, in the order in which the program reads their values. */
 function jobOf(name, level, isExplained) {
   const job = { name }, isGiven = RECORDING.some(option => level.given.has(option));
@@ -220,12 +228,17 @@ function jobOf(name, level, isExplained) {
     throw new NoJob(2, 'print1525: --names, --invert and --from-time go with --from vcd or csv\n');
   }
   job.inverted = level.given.has('invert');
-  for (const option of ['as', 'device', 'sheet']) job[option] = read(level, option, isExplained);
+  for (const option of ['as', 'device', 'sheet', 'bounds']) job[option] = read(level, option, isExplained);
+  refuseLater(job, level);
   if ((job.device && !['svg', 'png', 'pdf'].includes(job.as)) || (job.sheet && !['svg', 'png'].includes(job.as))) {
-    throw new NoJob(2, 'print1525: --device goes with --as svg, png or pdf, --sheet with svg or png\n');
+    throw new NoJob(2, 'print1525: --device goes with --as svg, png, pdf or bytes, --sheet with svg or png\n');
   }
   job.characters = level.given.get('characters') ?? null;
   if (job.characters !== null && !['svg', 'png', 'pdf'].includes(job.as)) throw new NoJob(2, 'print1525: --characters goes with --as svg, png or pdf\n');
+  job.intervals = level.given.has('intervals');
+  if (name === 'decode' && job.as !== 'list' && (job.intervals || level.given.has('bounds'))) {
+    throw new NoJob(2, 'print1525: --intervals and --bounds go with --as list\n');
+  }
   const file = option => (level.given.has(option) && level.given.get(option) !== '-' ? level.given.get(option) : null);
   return { ...job, isExplained, input: file('file'), output: file('output') };
 }

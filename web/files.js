@@ -1,7 +1,8 @@
 // Files that are dropped or opened: listings in each form, traces, recordings and a printer's bytes.
 
 import { isTextual, looksPetcat, petcatOf, refusalOf } from './listing.js';
-import { $, ask, button, clearPaper, decode, editor, encode, FILE_LIMIT, fromBase64, notice, print, showPaper, state, tellFailed, tellOnce, toBase64, wave } from './page.js';
+import { $, button, decode, encode, fromBase64, toBase64 } from './basics.js';
+import { ask, clearPaper, editor, FILE_LIMIT, notice, print, showPaper, state, tellFailed, tellOnce, wave } from './page.js';
 import { cover, showWire } from './telling.js';
 import { file, keepEarlier, listingChanged } from './kept.js';
 import { ready, showChoices, showTab } from './controls.js';
@@ -74,7 +75,7 @@ export function take(bytes, name, kind) {
     tellOnce('lines', words);
     return listingChanged();
   }
-  showFile({ bytes, name, kind, set: 0, names: ['ATN', 'CLOCK', 'DATA'], inverted: false, start: 0 });
+  showFile({ bytes, name, kind, set: 0, names: ['ATN', 'CLOCK', 'DATA'], inverted: false, start: 0, rate: 0 });
 }
 
 /** Shows a file in the place of the listing, which is kept. */
@@ -87,9 +88,9 @@ export function showFile(source) {
 }
 
 /** What the module is asked of a recording. */
-export const recordingOf = ({ bytes, kind, names, inverted, start }) => ({ bytes, input: kind, ...(kind === 'text' ? {} : { names, inverted, start }) });
+export const recordingOf = ({ bytes, kind, names, inverted, start, rate }) => ({ bytes, input: kind, ...(kind === 'text' ? {} : { names, inverted, start, rate: kind === 'csv' ? rate : 0 }) });
 
-/** The signals of a dump or a table: their names, whether their levels are inverted, and where the recording begins. */
+/** The signals of a dump or a table: their names, whether their levels are inverted, where the recording begins, and a table's rate. */
 function signalFields(source) {
   const fields = document.createElement('div'), again = () => { keepSource(); print(); };
   fields.className = 'signals';
@@ -107,6 +108,10 @@ function signalFields(source) {
   field('inverted levels', source.inverted, input => { source.inverted = input.checked; }, 'checkbox');
   field('starts at', source.start, input => { source.start = Math.max(Math.floor(Number(input.value)) || 0, 0); });
   fields.append('µs');
+  // (a table with times of its own has no use for it)
+  if (source.kind === 'csv') {
+    field('samples a second, of a table without times', source.rate || '', input => { source.rate = Math.max(Math.floor(Number(input.value)) || 0, 0); });
+  }
   return fields;
 }
 

@@ -161,7 +161,7 @@ export const loadPrint1525 = (() => {
   const FAULTS = {
     1: 'unknown word', 2: 'bad number', 3: 'bad device', 4: 'bad secondary address', 5: 'bad byte', 6: 'too long',
     7: 'too many statements', 8: 'bad trace line', 9: 'input too large', 11: 'bad start', 12: 'bad order', 13: 'too early',
-    14: 'too late', 15: 'bad shape', 16: 'truncated', 22: 'no such printers', 23: 'no such status', 24: 'no such format',
+    14: 'too late', 15: 'bad shape', 16: 'truncated', 20: 'no such wording', 22: 'no such printers', 23: 'no such status', 24: 'no such format',
     25: 'no such character set', 28: 'no such input', 29: 'no such source', 30: 'no such stop', 31: 'no signal ATN', 32: 'no signal CLOCK',
     33: 'no signal DATA', 34: 'no level of ATN', 35: 'no level of CLOCK', 36: 'no level of DATA', 41: 'bad word', 42: 'no $end',
     43: 'no $enddefinitions', 44: 'no timescale', 45: 'bad time', 46: 'time goes back', 47: 'level x', 48: 'level z',
@@ -214,6 +214,10 @@ export const loadPrint1525 = (() => {
   const partWords = ({ format = 'list', device = 0, sheet = 0 }) => [pageFormat(format), Number(device), BigInt(sheet)];
   const isPart = ({ device, sheet }) => Boolean(device || sheet);
 
+  // Which intervals of readings have a line, by whose bounds; and JSON.
+  const wordingOf = ({ intervals = false, bounds = 'profile' }) => (intervals ? 1 : 0) + 2 * numberOf(bounds, ['profile', 'guide'], 'bounds');
+  const JSON_WORDING = 4;
+
   // The call that draws a file of characters, and its further argument; an empty file means the module's own characters.
   function drawing(name, { characters, device, sheet }) {
     const file = characters ? bytesOf(characters) : new Uint8Array(0);
@@ -233,10 +237,11 @@ export const loadPrint1525 = (() => {
     return [bytesOf(script), printers, status, ...lists];
   }
 
-  // A recording: its format, the names of its signals, whether its levels are inverted, and the microsecond at which it starts.
-  function recordingWords({ bytes, input = 'text', names = ['ATN', 'CLOCK', 'DATA'], inverted = false, start = 0 }) {
+  // A recording: its format, the names of its signals, whether its levels are inverted, the microsecond at which it starts,
+  // and how many samples a second a table without times has (0 where that is not said).
+  function recordingWords({ bytes, input = 'text', names = ['ATN', 'CLOCK', 'DATA'], inverted = false, start = 0, rate = 0 }) {
     const source = numberOf(input, ['text', 'vcd', 'csv'], 'input');
-    return [bytesOf(bytes), source, ...names.map(name => new TextEncoder().encode(name)), inverted ? 1 : 0, BigInt(start)];
+    return [bytesOf(bytes), source, ...names.map(name => new TextEncoder().encode(name)), inverted ? 1 : 0, BigInt(start), BigInt(rate)];
   }
 
   return async function loadPrint1525(bytes) {
@@ -319,7 +324,8 @@ export const loadPrint1525 = (() => {
       // What a recording says. With code 2 the text is what comes before the fault.
       decode: asked => {
         const output = asked.output || 'readings';
-        if (output === 'readings') return call('print1525_readings', recordingWords(asked));
+        if (output === 'readings') return call('print1525_readings', [...recordingWords(asked), wordingOf(asked)]);
+        if (output === 'json') return call('print1525_readings', [...recordingWords(asked), JSON_WORDING]);
         return call('print1525_reprint', [...recordingWords(asked), ...partWords({ ...asked, format: output })]);
       },
       // The edges of a recording, up to its fault.
@@ -329,7 +335,8 @@ export const loadPrint1525 = (() => {
       },
       // What a recording says, as numbers: those readings whose lines `decode` gives.
       readings: asked => {
-        const words = recordingWords(asked), { numbers: rows, ...answer } = numbers('print1525_reading_rows', words, Math.ceil(roomOf(words[0], ROW.length) / 12));
+        const words = recordingWords(asked), room = Math.ceil(roomOf(words[0], ROW.length) / 12);
+        const { numbers: rows, ...answer } = numbers('print1525_reading_rows', [...words, wordingOf(asked)], room);
         return { ...answer, readings: Array.from({ length: rows.length / ROW.length }, (_, row) => readingOf(rows, row * ROW.length)) };
       },
       // The least and the greatest delay of each kind, and of an answer to end-or-identify that two listeners make together.

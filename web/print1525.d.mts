@@ -61,6 +61,14 @@ export interface Recording {
   inverted?: boolean;
   /** the microsecond at which the recording starts */
   start?: number | bigint;
+  /** how many samples a second a table without times has; 0 where its own remarks say it */
+  rate?: number | bigint;
+}
+
+/** Which intervals of readings have a line of their own: those outside the bounds of this project's profile, or of the Programmer's Reference Guide. */
+export interface Detail {
+  intervals?: boolean;
+  bounds?: 'profile' | 'guide';
 }
 
 /** What a recording says at one place, in microseconds. */
@@ -113,11 +121,11 @@ export interface Print1525 {
   /** the frames of a trace in any format, or their story; with code 2 a story is what comes before the fault */
   report(asked: Recording & { story?: boolean }): TextAnswer;
   /** what a recording says; with code 2 the text is what comes before the fault */
-  decode(asked: Recording & Omit<Part, 'format'> & { output?: 'readings' | PageFormat }): TextAnswer;
+  decode(asked: Recording & Omit<Part, 'format'> & Detail & { output?: 'readings' | 'json' | PageFormat }): TextAnswer;
   /** the edges of a recording, up to its fault: moments in microseconds, and levels (4 for ATN, 2 for CLOCK, 1 for DATA, where released) */
   edges(asked: Recording): Answer & { times: Float64Array; levels: Uint8Array };
   /** what a recording says, as numbers: the readings whose lines `decode` gives */
-  readings(asked: Recording): Answer & { readings: Reading[] };
+  readings(asked: Recording & Detail): Answer & { readings: Reading[] };
   /** the least and the greatest delay of each kind, in microseconds */
   bounds(): Record<Delay, [number, number]>;
   /** the line of each statement of a script, from 1; with code 2 there are none */

@@ -133,7 +133,8 @@ function answerOf(module, job, bytes, characters) {
   }
   if (job.name === 'decode') {
     const asked = { bytes, ...recordingOf({ ...job, from: job.isFound ? foundSource(bytes, job.from) : job.from }) };
-    const answer = module.decode({ ...asked, output: job.as === 'list' ? 'readings' : job.as, ...partOf(job) });
+    const { intervals, bounds } = job;
+    const answer = module.decode({ ...asked, intervals, bounds, output: job.as === 'list' ? 'readings' : job.as, ...partOf(job) });
     return { answer, explain: () => explained(answer, () => module.explainReading(asked)), hints: [] };
   }
   const listing = job.from === 'text' ? { code: 0, text: bytes } : module.listing({ bytes, form: job.from });

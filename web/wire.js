@@ -50,7 +50,7 @@ const nameOfLost = ({ bits, byte, isCommand }) => bits === 8 ? `${isCommand ? 'c
 export function framesOf(readings, text) {
   let from = 0, line = 0;
   return readings.map(reading => {
-    const lines = text.slice(from, from + reading.textLength - 1).split('\n'), heading = lines[0] === 'attention' || lines[0] === 'data' ? 1 : 0;
+    const lines = text.slice(from, from + reading.textLength - 1).split('\n'), heading = /^(attention|data( from \d+)?)$/.test(lines[0]) ? 1 : 0;
     const isHeard = reading.end === 'acknowledged', isWhole = reading.bits === 8;
     const frame = {
       look: reading.readyToSend, end: reading.end === 'cut' ? Infinity : reading.endMoment, kind: !isWhole ? 'glitch' : reading.isCommand ? 'command' : 'data',

@@ -1,6 +1,6 @@
 /* A bus adapter: edges in, as `print1525 bus` writes them, and the bytes that a device hears out, each as soon as
  * it is heard: adapter [DEVICE] < TRACE
- * Between two edges only an ear is kept. Nothing here calls malloc. */
+ * The bus has this project's own timing. Between two edges only a receiver is kept. Nothing here calls malloc. */
 #include "print1525.h"
 #include <stdio.h>
 #include <stdlib.h>
@@ -21,18 +21,24 @@ static int next_edge(print1525_edge *edge) {
 
 int main(int words, char **word) {
     static char in[4096], out[1];
-    print1525_ear ear;
+    print1525_strict receiver;
     print1525_edge edge;
-    print1525_ear_answer answer;
-    int got = 1;
+    print1525_details details;
+    uint16_t input;
+    char message[80];
+    int got = 1, status;
     setvbuf(stdin, in, _IOFBF, sizeof in);
     setvbuf(stdout, out, _IOFBF, sizeof out);
 
-    print1525_ear_begin(&ear, (uint8_t)(words > 1 ? atoi(word[1]) : 4), &answer);
-    while (answer.code == PRINT1525_DONE && (got = next_edge(&edge)) > 0) {
-        print1525_ear_edge(&ear, &edge, &answer);
-        if (answer.heard && answer.input < 256) {
-            putchar((int)answer.input);
+    if (print1525_strict_begin(&receiver, (uint8_t)(words > 1 ? atoi(word[1]) : 4)) != PRINT1525_DONE) {
+        fprintf(stderr, "%s\n", print1525_strerror(PRINT1525_FAULT_NO_SUCH_DEVICE));
+        return PRINT1525_REFUSED;
+    }
+    status = PRINT1525_DONE;
+    while (status == PRINT1525_DONE && (got = next_edge(&edge)) > 0) {
+        status = print1525_strict_edge(&receiver, &edge, &input, &details);
+        if (input < 256) {
+            putchar(input);
             fflush(stdout);
         }
     }
@@ -40,11 +46,7 @@ int main(int words, char **word) {
         fprintf(stderr, "bad line\n");
         return PRINT1525_REFUSED;
     }
-    if (answer.code == PRINT1525_DONE) print1525_ear_end(&ear, &answer);
-
-    if (answer.code == PRINT1525_REFUSED && answer.fault >= PRINT1525_START && answer.fault <= PRINT1525_TRUNCATED)
-        fprintf(stderr, "edge %lu: %s\n", (unsigned long)answer.place, print1525_fault_text(answer.fault));
-    else if (answer.code == PRINT1525_REFUSED)
-        fprintf(stderr, "%s\n", print1525_fault_text(answer.fault));
-    return (int)answer.code;
+    if (status == PRINT1525_DONE) status = print1525_strict_end(&receiver, &details);
+    if (print1525_message(&details, message, sizeof message) > 0) fprintf(stderr, "%s\n", message);
+    return status;
 }

@@ -22,7 +22,7 @@ static int next_edge(print1525_edge *edge) {
 /* Tells a whole byte; of one begun and not ended nothing. */
 static void tell(const print1525_reading *reading) {
     const print1525_byte *byte = &reading->byte;
-    if (reading->kind < PRINT1525_ACKNOWLEDGED || reading->kind > PRINT1525_CUT) return;
+    if (reading->kind < PRINT1525_BYTE_ACKNOWLEDGED || reading->kind > PRINT1525_BYTE_LAST) return;
     printf("%lu %lu %s %u%s\n", (unsigned long)byte->ready, (unsigned long)byte->last_pull,
            byte->command ? "command" : "data", (unsigned)byte->byte, byte->eoi ? " eoi" : "");
 }
@@ -32,17 +32,17 @@ int main(void) {
     print1525_decoder decoder;
     print1525_edge edge;
     print1525_reading reading;
-    print1525_answer answer;
-    int got;
+    print1525_details details;
+    int got, status;
     setvbuf(stdin, in, _IOFBF, sizeof in);
     setvbuf(stdout, out, _IOFBF, sizeof out);
 
-    print1525_decode_begin(&decoder);
+    print1525_decoder_begin(&decoder);
     while ((got = next_edge(&edge)) > 0) {
-        print1525_decode_edge(&decoder, &edge, &reading, &answer);
-        if (answer.code != PRINT1525_DONE) {
-            fprintf(stderr, "%s\n", print1525_fault_text(answer.fault));
-            return (int)answer.code;
+        status = print1525_decoder_edge(&decoder, &edge, &reading, &details);
+        if (status != PRINT1525_DONE) {
+            fprintf(stderr, "%s\n", print1525_strerror(details.fault)); /* time goes back */
+            return status;
         }
         tell(&reading);
     }
@@ -50,7 +50,7 @@ int main(void) {
         fprintf(stderr, "bad line\n");
         return PRINT1525_REFUSED;
     }
-    print1525_decode_end(&decoder, &reading, &answer);
+    status = print1525_decoder_end(&decoder, &reading, NULL);
     tell(&reading);
-    return (int)answer.code;
+    return status;
 }

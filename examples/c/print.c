@@ -14,38 +14,37 @@
 #define MARGINS 1260
 #define PAPER_WIDTH 12600
 
-/* What the printer heard. */
-static uint16_t *heard;
+/* What the printer received. */
+static uint16_t *received;
 static size_t count, room;
 
 /* Takes what the machine sends to device 4, a byte or the selection of a character set; 0 where there is no memory for it. */
 static int printer_takes(uint16_t input) {
     if (count == room) {
-        uint16_t *more = (uint16_t *)realloc(heard, (room + 65536) * sizeof *heard);
+        uint16_t *more = (uint16_t *)realloc(received, (room + 65536) * sizeof *received);
         if (!more) return 0;
-        heard = more;
+        received = more;
         room += 65536;
     }
-    heard[count++] = input;
+    received[count++] = input;
     return 1;
 }
 
-/* The page of what was heard, with a zero byte behind it; NULL where there is none. */
-static char *printer_page(print1525_answer *answer) {
-    char *page = (char *)malloc(1), *larger;
-    size_t capacity = 0;
-    while (page) {
-        print1525_print(heard, count, PRINT1525_SVG, (uint8_t *)page, capacity, answer);
-        if (answer->code == PRINT1525_DONE) {
-            page[answer->length] = '\0';
-            return page;
-        }
-        larger = answer->code == PRINT1525_TOO_SMALL ? (char *)malloc(answer->length + 1) : NULL;
+/* The page of what was received, with a zero byte behind it; NULL where there is none. */
+static char *printer_page(print1525_details *details) {
+    print1525_settings settings = PRINT1525_SETTINGS_INIT;
+    char *page;
+    settings.page = PRINT1525_PAGE_SVG;
+    print1525_print(received, count, &settings, NULL, 0, details);
+    if (details->fault != PRINT1525_FAULT_TOO_SMALL) return NULL;
+    page = (char *)malloc(details->length + 1);
+    if (page == NULL) return NULL;
+    if (print1525_print(received, count, &settings, page, details->length, details) != PRINT1525_DONE) {
         free(page);
-        page = larger;
-        capacity = answer->length;
+        return NULL;
     }
-    return NULL;
+    page[details->length] = '\0';
+    return page;
 }
 
 /* Writes the sheet with this number, from 0; 0 where its file cannot be written. */
@@ -63,26 +62,26 @@ static int write_sheet(const char *prefix, unsigned long number, const char *pag
 }
 
 int main(int words, char **word) {
-    print1525_answer answer = {PRINT1525_NO_MEMORY, 0, 0, 0};
+    print1525_details details;
     char *page;
     const char *size, *rest, *paper;
     unsigned long height, number;
     int byte, is_lower = words == 3 && strcmp(word[2], "lower") == 0;
     if (words != 2 && !is_lower && !(words == 3 && strcmp(word[2], "upper") == 0)) return 2;
-    if (!(heard = (uint16_t *)malloc((room = 65536) * sizeof *heard))) return PRINT1525_NO_MEMORY;
+    if (!(received = (uint16_t *)malloc((room = 65536) * sizeof *received))) return PRINT1525_FAILED;
     printer_takes(is_lower ? PRINT1525_SELECT_LOWER : PRINT1525_SELECT_UPPER);
     while ((byte = getchar()) != EOF)
-        if (!printer_takes((uint16_t)byte)) return PRINT1525_NO_MEMORY;
-    page = printer_page(&answer);
-    free(heard);
-    if (!page) return (int)answer.code;
+        if (!printer_takes((uint16_t)byte)) return PRINT1525_FAILED;
+    page = printer_page(&details);
+    free(received);
+    if (!page) return PRINT1525_FAILED;
     size = strstr(page, " width=");
     rest = strstr(page, ">\n<desc>");
     paper = strstr(page, "</text>\n<rect width=\"12600\" height=\"");
     if (!size || !rest || !paper) return 2;
     height = strtoul(strstr(paper, "height=") + strlen("height=\""), NULL, 10);
     for (number = 0; number == 0 || SHEET * number + MARGINS < height; number++)
-        if (!write_sheet(word[1], number, page, size, rest)) return PRINT1525_NO_MEMORY;
+        if (!write_sheet(word[1], number, page, size, rest)) return PRINT1525_FAILED;
     free(page);
     return PRINT1525_DONE;
 }

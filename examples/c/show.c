@@ -1,4 +1,4 @@
-/* The pages of a script: show [list|text|svg] < SCRIPT */
+/* The pages of a script, converted: show [list|text|svg|png|pdf] < SCRIPT */
 #include "print1525.h"
 #include <stdio.h>
 #include <stdlib.h>
@@ -21,34 +21,27 @@ static uint8_t *read_all(size_t *length) {
 }
 
 int main(int count, char **words) {
-    const uint16_t typical[1] = {0};
-    const char *word = count > 1 ? words[1] : "list";
-    const uint8_t format = strcmp(word, "text") == 0  ? PRINT1525_TEXT
-                           : strcmp(word, "svg") == 0 ? PRINT1525_SVG
-                                                      : PRINT1525_LIST;
-    uint8_t *script, *text = (uint8_t *)malloc(1);
+    static const char *const formats[] = {"list", "text", "svg", "png", "pdf"};
+    print1525_settings settings = PRINT1525_SETTINGS_INIT;
+    print1525_details details;
+    uint8_t *script, *text = NULL;
     size_t length, capacity = 0;
-    print1525_answer answer;
+    char message[80];
+    int status;
+    while (count > 1 && settings.page < PRINT1525_PAGE_PDF && strcmp(words[1], formats[settings.page]) != 0) settings.page++;
     script = read_all(&length);
-    if (!script || !text) return PRINT1525_NO_MEMORY;
+    if (script == NULL) return PRINT1525_FAILED;
     /* The first call asks for the size, the second one for the text. */
     for (;;) {
-        print1525_pages(script, length, PRINT1525_BOTH, PRINT1525_EACH, typical, 0, typical, 0, typical, 0,
-                        format, text, capacity, &answer);
-        if (answer.code != PRINT1525_TOO_SMALL) break;
+        status = print1525_pages(script, length, &settings, text, capacity, &details);
+        if (details.fault != PRINT1525_FAULT_TOO_SMALL) break;
         free(text);
-        text = (uint8_t *)malloc(capacity = answer.length);
-        if (!text) return PRINT1525_NO_MEMORY;
+        text = (uint8_t *)malloc(capacity = details.length);
+        if (text == NULL) return PRINT1525_FAILED;
     }
-    if (answer.code <= PRINT1525_STOPPED) fwrite(text, 1, answer.length, stdout);
-    if (answer.code == PRINT1525_STOPPED)
-        fprintf(stderr, "?%s  ERROR (statement %lu)\n", print1525_stop_text(answer.fault),
-                (unsigned long)answer.place);
-    if (answer.code == PRINT1525_REFUSED && answer.place == 0)
-        fprintf(stderr, "%s\n", print1525_fault_text(answer.fault));
-    else if (answer.code == PRINT1525_REFUSED)
-        fprintf(stderr, "line %lu: %s\n", (unsigned long)answer.place, print1525_fault_text(answer.fault));
+    if (status <= PRINT1525_STOPPED) fwrite(text, 1, details.length, stdout);
+    if (print1525_message(&details, message, sizeof message) > 0) fprintf(stderr, "%s\n", message);
     free(text);
     free(script);
-    return (int)answer.code;
+    return status;
 }

@@ -1,34 +1,32 @@
 -- A table that holds samples is read back as these samples.
-use Rattle.std.proofs.Common.{◌≡◌, ℕ, zero, suc, ◌+◌, ◌-◌, ◌*◌, ◌/◌, ◌%◌, ◌<◌, ◌≤◌, ◌==◌, Bool, true, false, List, [], ◌∷◌, ◌++◌, length, take, drop, refl, ap, sym, subst, ◌∙◌, arith, append_assoc, append-nil, length-append, nat_lt, Option, Some, None, inl, inr, lit<}
+use Rattle.std.proofs.Common.{◌≡◌, ℕ, zero, suc, ◌+◌, ◌-◌, ◌*◌, ◌/◌, ◌%◌, ◌<◌, ◌≤◌, ◌==◌, Bool, true, false, List, [], ◌∷◌, ◌++◌, length, take, refl, ap, sym, subst, ◌∙◌, arith, append_assoc, append-nil, length-append, nat_lt, Option, Some, None, inl, inr, lit<}
 use Rattle.std.proofs.Math.Seq.{take-append_seam}
-use Rattle.std.specs.Prelude.{◌⊎◌, ◌&&◌, ◌||◌, not, codes, nat_le, Ok}
-use Rattle.std.specs.List.{list_all, prefix_len}
+use Rattle.std.specs.Prelude.{◌⊎◌, codes, nat_le, Ok}
+use Rattle.std.specs.List.{list_all}
 use Rattle.std.proofs.lemmas.Grind.{common_steps}
 use Rattle.std.proofs.lemmas.List.{take_all}
 use Rattle.std.proofs.lemmas.List.Folds.{list_all-append}
 use Rattle.pr_wire.specs.declared.Edge.{Edge}
 use Rattle.pr_wire.specs.Levels.{edge_at}
 use Rattle.pr_base.specs.Digits.{is_digit}
-use Rattle.pr_base.specs.Lines.{lines_of, onto_first}
+use Rattle.pr_base.specs.Lines.{lines_of}
 use Rattle.pr_capture.specs.declared.csv.Columns.{Columns}
 use Rattle.pr_capture.specs.declared.csv.Layout.{Layout}
 use Rattle.pr_capture.specs.declared.csv.Moment.{Moment}
 use Rattle.pr_capture.specs.declared.csv.Scale.TheVariants.{Timed}
-use Rattle.pr_capture.specs.declared.times.Exponent.{Exponent}
-use Rattle.pr_capture.specs.declared.times.Instant.{Instant}
 use Rattle.pr_capture.specs.declared.signals.Signals.{Signals}
 use Rattle.pr_capture.specs.Csv.{clock_column, column_of, csv_contents, fields_of, first_contents, first_moment, is_in_front, is_silent, layout_by, layout_in, layout_of, moment_at, opened, row_contents, row_of, sample_of, separator_of}
-use Rattle.pr_capture.specs.Numbers.{behind_decimals, behind_digits, decimals_in, digits_in, number_from, number_of_first, onward, with_zeros}
-use Rattle.pr_capture.specs.TableTimes.{behind_sign_of, exponent_in, instant_by, instant_in, instant_or, is_minus, behind_plus_minus, dated_in, micros_of, no_remarks, start_of, time_unit, unsigned_in}
+use Rattle.pr_capture.specs.Numbers.{number_from, number_of_first, onward, with_zeros}
+use Rattle.pr_capture.specs.TableTimes.{instant_in, micros_of, no_remarks, start_of, time_unit}
 use Rattle.pr_capture.specs.CsvLaws.{InOrder, csv_names, csv_of, csv_row, csv_rows, digits_of, level_byte, separator_byte, time_field, time_name, Separator, TimeUnit}
 use Rattle.pr_capture.specs.CsvLaws.Separator.{Comma, Semicolon, Tab}
 use Rattle.pr_capture.specs.CsvLaws.TimeUnit.{Seconds, Milliseconds, Microseconds, Nanoseconds, Picoseconds}
 use Rattle.pr_capture.specs.CsvSteps.{is_inner}
-use Rattle.pr_capture.specs.Words.{is_space}
-use Rattle.pr_capture.specs.Recording.{◌>>=◌, first_some, is_framing, second_name, with_samples, without_front}
+use Rattle.pr_capture.specs.Recording.{◌>>=◌, first_some, second_name, with_samples, without_front}
 use Rattle.pr_capture.specs.Samples.{changes_after, edges_of, last_at_each}
 use Rattle.pr_capture.specs.VcdReadingLaws.{IsAsWritten, RunsOn}
 use Rattle.pr_capture.proofs.CsvReading.{inner-line}
+use Rattle.pr_capture.proofs.CsvTimes.{behind_start, digit-first, digits-read, field-first, is_inside, tail-of-none, tail-of-point}
 use Rattle.pr_capture.proofs.VcdReadBack.{from-zero, not-same}
 
 -- Digits.
@@ -79,43 +77,14 @@ all-digits p h (suc k) n =
     list_all-append p (digits_of k (n / 10)) ((48 + n % 10) ∷ [])
     ∙ rw (all-digits p h k (n / 10), h (48 + n % 10) (one-digit n)) refl
 
--- digits in front, and no digit after them
-digits-run : (xs rest : List ℕ) → list_all is_digit xs ≡ true → prefix_len is_digit rest ≡ 0
-    → (take (prefix_len is_digit (xs ++ rest)) (xs ++ rest) ≡ xs) × (drop (prefix_len is_digit (xs ++ rest)) (xs ++ rest) ≡ rest)
-digits-run [] rest h k = rw k (refl, refl)
-digits-run (x ∷ xs) rest h k = by (is_digit x) refl h (digits-run xs rest)
-  where
-    by : (b : Bool) → is_digit x ≡ b → list_all is_digit (x ∷ xs) ≡ true
-        → (list_all is_digit xs ≡ true → prefix_len is_digit rest ≡ 0
-        → (take (prefix_len is_digit (xs ++ rest)) (xs ++ rest) ≡ xs) × (drop (prefix_len is_digit (xs ++ rest)) (xs ++ rest) ≡ rest))
-        → (take (prefix_len is_digit ((x ∷ xs) ++ rest)) ((x ∷ xs) ++ rest) ≡ x ∷ xs)
-        × (drop (prefix_len is_digit ((x ∷ xs) ++ rest)) ((x ∷ xs) ++ rest) ≡ rest)
-    by true e j next =
-        let all : list_all is_digit xs ≡ true = rw e at j in
-        let both = next all k in
-        let n : ℕ = prefix_len is_digit (xs ++ rest) in
-        let more : prefix_len is_digit ((x ∷ xs) ++ rest) ≡ 1 + n = rw e refl in
-        let next-one : 1 + n ≡ suc n = omega arith in
-        let one : prefix_len is_digit ((x ∷ xs) ++ rest) ≡ suc n = more ∙ next-one in
-        let front : take (prefix_len is_digit ((x ∷ xs) ++ rest)) ((x ∷ xs) ++ rest) ≡ x ∷ xs =
-        ap (λ i. take i (x ∷ (xs ++ rest))) one ∙ ap (λ v. x ∷ v) both.0 in
-        let behind : drop (prefix_len is_digit ((x ∷ xs) ++ rest)) ((x ∷ xs) ++ rest) ≡ rest =
-        ap (λ i. drop i (x ∷ (xs ++ rest))) one ∙ both.1 in
-        (front, behind)
-    by false e j next = absurd (let no : false ≡ true = rw e at j in cc)
-
 -- Fields.
 
--- a byte that ends no field and begins no quotation
-abbrev is_plain : (sep : ℕ) → ℕ → Bool
-is_plain sep b = not (b == sep) && not (b == 34)
-
-digit-plain : (p : Separator) (b : ℕ) → is_digit b ≡ true → is_plain (separator_byte p) b ≡ true
+digit-plain : (p : Separator) (b : ℕ) → is_digit b ≡ true → is_inside (separator_byte p) b ≡ true
 digit-plain Comma b h = grind (arith, common_steps)
 digit-plain Semicolon b h = grind (arith, common_steps)
 digit-plain Tab b h = grind (arith, common_steps)
 
-point-plain : (p : Separator) → is_plain (separator_byte p) 46 ≡ true
+point-plain : (p : Separator) → is_inside (separator_byte p) 46 ≡ true
 point-plain Comma = refl
 point-plain Semicolon = refl
 point-plain Tab = refl
@@ -123,54 +92,10 @@ point-plain Tab = refl
 digit-inner : (b : ℕ) → is_digit b ≡ true → is_inner b ≡ true
 digit-inner b h = grind (arith, common_steps)
 
-same-byte : (n : ℕ) → (n == n) ≡ true
-same-byte n = grind (arith, common_steps)
-
-field-first : (sep : ℕ) (xs rest : List ℕ) → list_all (is_plain sep) xs ≡ true
-    → fields_of sep false (xs ++ sep ∷ rest) ≡ xs ∷ fields_of sep false rest
-field-first sep [] rest h = rw (same-byte sep) refl
-field-first sep (x ∷ xs) rest h = by (x == sep) (x == 34) refl refl (field-first sep xs rest)
-  where
-    by : (a b : Bool) → (x == sep) ≡ a → (x == 34) ≡ b
-        → (list_all (is_plain sep) xs ≡ true → fields_of sep false (xs ++ sep ∷ rest) ≡ xs ∷ fields_of sep false rest)
-        → fields_of sep false ((x ∷ xs) ++ sep ∷ rest) ≡ (x ∷ xs) ∷ fields_of sep false rest
-    by false false d e next =
-        let all : list_all (is_plain sep) xs ≡ true = rw (d, e) at h in
-        rw (d, e) (ap (onto_first x) (next all))
-    by true b d e next = absurd (let no : false ≡ true = rw d at h in cc)
-    by false true d e next = absurd (let no : false ≡ true = rw (d, e) at h in cc)
-
--- digits in front are no white space and no remark
-digit-first : (xs rest : List ℕ) → 0 < length xs → list_all is_digit xs ≡ true
-    → (without_front (xs ++ rest) ≡ xs ++ rest) × (is_silent (xs ++ rest) ≡ false)
-    × (is_minus (xs ++ rest) ≡ false) × (behind_plus_minus (xs ++ rest) ≡ xs ++ rest)
-digit-first [] rest some h = absurd (omega (arith, some))
-digit-first (x ∷ xs) rest some h = by (is_digit x) refl h
-  where
-    by : (b : Bool) → is_digit x ≡ b → list_all is_digit (x ∷ xs) ≡ true
-        → (without_front ((x ∷ xs) ++ rest) ≡ (x ∷ xs) ++ rest) × (is_silent ((x ∷ xs) ++ rest) ≡ false)
-        × (is_minus ((x ∷ xs) ++ rest) ≡ false) × (behind_plus_minus ((x ∷ xs) ++ rest) ≡ (x ∷ xs) ++ rest)
-    by true e j =
-        let f : is_framing x ≡ false = grind (arith, common_steps) in
-        let w : is_space x ≡ false = grind (arith, common_steps) in
-        let r : (x == 59 || x == 35) ≡ false = grind (arith, common_steps) in
-        let m : (x == 45) ≡ false = grind (arith, common_steps) in
-        let p : (x == 45 || x == 43) ≡ false = grind (arith, common_steps) in
-        (rw f refl, rw (w, r) refl, m, rw p refl)
-    by false e j = absurd (let no : false ≡ true = rw e at j in cc)
-
 -- Times.
 
 is-digits : (k n : ℕ) → list_all is_digit (digits_of k n) ≡ true
 is-digits k n = all-digits is_digit (λ b h. h) k n
-
--- this many microseconds from the start on
-abbrev behind_start : ℕ → Instant
-behind_start t = record { is_negative = false; micros = t }
-
--- no exponent
-abbrev no_exponent : Exponent
-no_exponent = record { right = 0; left = 0 }
 
 -- this many decimals are taken whole
 all-taken : (k w : ℕ) (ds : List ℕ) → length ds ≡ k → number_of_first w k ds ≡ onward (number_from w ds) (λ m. Some m)
@@ -179,48 +104,6 @@ all-taken k w ds h =
     let none : k - length ds ≡ 0 = omega (arith, h) in
     ap (λ v. onward (number_from w v) (λ m. with_zeros (k - length ds) m)) whole
     ∙ ap (λ i. onward (number_from w ds) (λ m. with_zeros i m)) none
-
--- what follows the digits of a number: a point and decimals, or nothing
-pub record IsTail (parts tail : List ℕ) : Type 0 where
-  pub front : prefix_len is_digit tail ≡ 0
-  pub decimals : decimals_in tail ≡ parts
-  pub ends : exponent_in (behind_decimals tail) ≡ Some no_exponent
-  pub undated : behind_sign_of 45 tail ≡ None
-
--- the time that digits and a tail spell is read
-digits-read : (unit : ℕ) (whole parts tail : List ℕ) (t : ℕ) → list_all is_digit whole ≡ true → 0 < length whole → IsTail parts tail
-    → instant_by unit false whole parts (Some no_exponent) ≡ Some (behind_start t)
-    → instant_in unit (without_front (whole ++ tail)) ≡ Some (behind_start t)
-digits-read unit whole parts tail t all some h by =
-    let text : List ℕ = whole ++ tail in
-    let first = digit-first whole tail some all in
-    let run = digits-run whole tail all h.front in
-    let ends : exponent_in (behind_decimals (behind_digits text)) ≡ Some no_exponent =
-    ap (λ v. exponent_in (behind_decimals v)) run.1 ∙ h.ends in
-    let decimals : decimals_in (behind_digits text) ≡ parts = ap decimals_in run.1 ∙ h.decimals in
-    let read : unsigned_in unit false text ≡ Some (behind_start t) =
-    ap (λ v. instant_by unit false v (decimals_in (behind_digits text)) (exponent_in (behind_decimals (behind_digits text)))) run.0
-    ∙ (ap (λ v. instant_by unit false whole v (exponent_in (behind_decimals (behind_digits text)))) decimals
-    ∙ (ap (instant_by unit false whole parts) ends ∙ by)) in
-    let undated : dated_in text ≡ None = undated-by text (ap (behind_sign_of 45) run.1 ∙ h.undated) in
-    let signed : unsigned_in unit (is_minus text) (behind_plus_minus text) ≡ Some (behind_start t) =
-    ap (λ v. unsigned_in unit v (behind_plus_minus text)) first.2 ∙ (ap (unsigned_in unit false) first.3 ∙ read) in
-    ap (instant_in unit) first.0 ∙ (ap (λ o. instant_or o unit text) undated ∙ signed)
-  where
-    undated-by : (l : List ℕ) → behind_sign_of 45 (behind_digits l) ≡ None → dated_in l ≡ None
-    undated-by l e = rw e refl
-
--- a point and decimals
-tail-of-point : (parts : List ℕ) → list_all is_digit parts ≡ true → IsTail parts (46 ∷ parts)
-tail-of-point parts six =
-    let own = digits-run parts [] six refl in
-    let own-in : digits_in parts ≡ parts = subst (λ v. take (prefix_len is_digit v) v ≡ parts) (append-nil parts) own.0 in
-    let own-behind : behind_digits parts ≡ [] = subst (λ v. drop (prefix_len is_digit v) v ≡ []) (append-nil parts) own.1 in
-    record { front = refl; decimals = own-in; ends = ap exponent_in own-behind; undated = refl }
-
--- nothing
-tail-of-none : IsTail [] []
-tail-of-none = record { front = refl; decimals = refl; ends = refl; undated = refl }
 
 some-digits : (k n : ℕ) → 0 < k → 0 < length (digits_of k n)
 some-digits k n h = let c = digits-count k n in omega (arith, c, h)
@@ -412,7 +295,7 @@ row-read : (p : Separator) (u : TimeUnit) (n before : ℕ) (start : Option ℕ) 
     ≡ Ok (record { sample = e; moment = moment (Some 0) e.time })
 row-read p u n before start e z later fits =
     let sep : ℕ = separator_byte p in
-    let plain : list_all (is_plain sep) (time_field u e.time) ≡ true = time-all (is_plain sep) (digit-plain p) (point-plain p) u e.time in
+    let plain : list_all (is_inside sep) (time_field u e.time) ≡ true = time-all (is_inside sep) (digit-plain p) (point-plain p) u e.time in
     let split : fields_of sep false (csv_row sep u e) ≡ time_field u e.time ∷ fields_of sep false (level_fields sep e) =
     field-first sep (time_field u e.time) (level_fields sep e) plain in
     let fs : List (List ℕ) = time_field u e.time ∷ fields_of sep false (level_fields sep e) in
@@ -505,34 +388,34 @@ unit-read Microseconds = refl
 unit-read Nanoseconds = refl
 unit-read Picoseconds = refl
 
-names-read : (p : Separator) (u : TimeUnit) (s : Signals) → IsAsWritten s
-    → layout_of s no_remarks 1 (csv_names (separator_byte p) u) ≡ Ok (layout p u)
-names-read p u s h =
+names-read : (p : Separator) (u : TimeUnit) (s : Signals) (rate : Option ℕ) → IsAsWritten s
+    → layout_of s (no_remarks rate) 1 (csv_names (separator_byte p) u) ≡ Ok (layout p u)
+names-read p u s rate h =
     let sep : ℕ = separator_byte p in
     let n = names-are p u in
     let fs : List (List ℕ) = codes "ATN" ∷ codes "CLOCK" ∷ codes "DATA" ∷ [] in
     let atn : column_of s.atn.now 1 fs ≡ Some 1 = ap (λ v. column_of v 1 fs) h.atn in
     let clock : clock_column s 1 fs ≡ Some 2 = ap (λ v. first_some (column_of v 1 fs) (column_of (second_name s) 1 fs)) h.clock in
     let line : column_of s.line.now 1 fs ≡ Some 3 = ap (λ v. column_of v 1 fs) h.line in
-    ap (λ b. layout_in s no_remarks 1 b (fields_of b false (csv_names sep u))) n.separator
-    ∙ (ap (layout_in s no_remarks 1 sep) n.fields
-    ∙ (ap (λ o. layout_by s no_remarks 1 sep o (time_name u ∷ fs)) (unit-read u)
+    ap (λ b. layout_in s (no_remarks rate) 1 b (fields_of b false (csv_names sep u))) n.separator
+    ∙ (ap (layout_in s (no_remarks rate) 1 sep) n.fields
+    ∙ (ap (λ o. layout_by s (no_remarks rate) 1 sep o (time_name u ∷ fs)) (unit-read u)
     ∙ rw (atn, clock, line) refl))
 
 -- the first line names the columns
-first-line : (p : Separator) (u : TimeUnit) (s : Signals) (ls : List (List ℕ)) → IsAsWritten s
-    → first_contents s 1 (csv_names (separator_byte p) u ∷ ls) ≡ row_contents (layout p u) false 2 first_moment ls
-first-line p u s ls h =
+first-line : (p : Separator) (u : TimeUnit) (s : Signals) (rate : Option ℕ) (ls : List (List ℕ)) → IsAsWritten s
+    → first_contents s rate 1 (csv_names (separator_byte p) u ∷ ls) ≡ row_contents (layout p u) false 2 first_moment ls
+first-line p u s rate ls h =
     let n = names-are p u in
-    rw (n.opens, n.loud, names-read p u s h, h.straight) refl
+    rw (n.opens, n.loud, names-read p u s rate h, h.straight) refl
 
-pub samples-back : (p : Separator) (u : TimeUnit) (s : Signals) (es : List Edge) → IsAsWritten s → InOrder 0 es
-    → csv_contents s (csv_of p u es) ≡ record { samples = es; fault = None }
+pub samples-back : (p : Separator) (u : TimeUnit) (s : Signals) (rate : Option ℕ) (es : List Edge) → IsAsWritten s → InOrder 0 es
+    → csv_contents s rate (csv_of p u es) ≡ record { samples = es; fault = None }
 unfolding csv_contents
-samples-back p u s es h k =
+samples-back p u s rate es h k =
     let sep : ℕ = separator_byte p in
-    ap (first_contents s 1) (inner-line (csv_names sep u) (csv_rows sep u es) (names-are p u).inner)
-    ∙ (first-line p u s (lines_of (csv_rows sep u es)) h ∙ rows-read p u 2 0 None es (inl refl) k)
+    ap (first_contents s rate 1) (inner-line (csv_names sep u) (csv_rows sep u es) (names-are p u).inner)
+    ∙ (first-line p u s rate (lines_of (csv_rows sep u es)) h ∙ rows-read p u 2 0 None es (inl refl) k)
 
 -- Edges.
 

@@ -3,6 +3,8 @@ pub mod Gathering
 pub mod CsvFields
 pub mod DigitLemmas
 pub mod CsvReading
+pub mod CsvTimes
+pub mod CsvRepeats
 pub mod VcdWords
 pub mod VcdTelling
 pub mod VcdReadLines

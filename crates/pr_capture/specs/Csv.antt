@@ -22,7 +22,7 @@ use Rattle.pr_capture.specs.declared.signals.Signals.{Signals}
 use Rattle.pr_capture.specs.Recording.{◌>>=◌, ended, first_some, is_framing, is_named, level_in, refused, second_name, with_samples, without_front, CaptureContents}
 use Rattle.pr_capture.specs.Words.{is_space}
 use Rattle.pr_capture.specs.Numbers.{behind_word}
-use Rattle.pr_capture.specs.TableTimes.{from_start, instant_in, is_time_alone, no_remarks, remarked, start_of, time_at_rate, time_or, time_unit}
+use Rattle.pr_capture.specs.TableTimes.{from_start, instant_in, is_time_alone, no_remarks, rate_known, remarked, start_of, time_at_rate, time_or, time_unit}
 
 -- Lines and fields.
 
@@ -98,10 +98,11 @@ abbrev pub rate_or : (number : ℕ) → (rate : Option ℕ) → Result ℕ Captu
 rate_or number None = Err (NoTime number)
 rate_or number (Some rate) = Ok rate
 
--- the rate counts where the first column is another than one of times
+-- the rate counts where the first column is another than one of times. Beside a column that is called by a word for time
+-- alone, but has no times, only a rate that the caller gives counts
 abbrev pub rate_beside : Remarks → (first : Option (List ℕ)) → Option ℕ
-rate_beside r None = r.rate
-rate_beside r (Some name) = if is_time_alone name then None else r.rate
+rate_beside r None = rate_known r
+rate_beside r (Some name) = if is_time_alone name then r.given else rate_known r
 
 -- a table with times in its first column, by their unit, or a row a sample
 abbrev pub layout_by : Signals → Remarks → (number separator : ℕ) → (unit : Option ℕ) → (fields : List (List ℕ)) → Result Layout CaptureFault
@@ -227,10 +228,10 @@ abbrev pub opened_contents : Result (List ℕ) CaptureFault → (List ℕ → Ca
 opened_contents (Err f) rest = refused f
 opened_contents (Ok l) rest = rest l
 
-abbrev pub first_contents : Signals → (number : ℕ) → List (List ℕ) → CaptureContents
-first_contents s number [] = line_contents s no_remarks number []
-first_contents s number (l ∷ ls) = opened_contents (opened l) (λ line. line_contents s no_remarks number (line ∷ ls))
+abbrev pub first_contents : Signals → (given : Option ℕ) → (number : ℕ) → List (List ℕ) → CaptureContents
+first_contents s given number [] = line_contents s (no_remarks given) number []
+first_contents s given number (l ∷ ls) = opened_contents (opened l) (λ line. line_contents s (no_remarks given) number (line ∷ ls))
 
--- what a text says
-unfoldable pub csv_contents : Signals → List ℕ → CaptureContents
-csv_contents s text = first_contents s 1 (lines_of text)
+-- what a text says, with the rate that the caller gives
+unfoldable pub csv_contents : Signals → (given : Option ℕ) → List ℕ → CaptureContents
+csv_contents s given text = first_contents s given 1 (lines_of text)

@@ -1,5 +1,5 @@
 -- Laws: tables of separated values, written and read. `csv_is_read_back` proves them, and callers take them from there.
-use Rattle.std.specs.Prelude.{◌≡◌, ℕ, zero, suc, ◌+◌, ◌/◌, ◌%◌, ◌<◌, ◌≤◌, ◌^◌, Bool, true, false, List, [], ◌∷◌, ◌++◌, codes, None}
+use Rattle.std.specs.Prelude.{◌≡◌, ℕ, zero, suc, ◌+◌, ◌/◌, ◌%◌, ◌<◌, ◌≤◌, ◌^◌, Bool, true, false, List, [], ◌∷◌, ◌++◌, codes, Option, None}
 use Rattle.pr_wire.specs.declared.Edge.{Edge}
 use Rattle.pr_capture.specs.declared.signals.Signals.{Signals}
 use Rattle.pr_capture.specs.Csv.{csv_contents}
@@ -73,10 +73,10 @@ InOrder before [] = Unit {0}
 InOrder before (e ∷ es) = (before ≤ e.time) × (e.time < 2 ^ 64) × InOrder e.time es
 
 -- a table that holds samples says these samples, and of edges, each later and with other levels, these edges, whatever its
--- separator and its unit
+-- separator and its unit, and whatever rate the caller gives
 pub record CsvIsReadBack : Type 0 where
-  pub samples : (p : Separator) (u : TimeUnit) (s : Signals) (es : List Edge) → IsAsWritten s → InOrder 0 es
-      → csv_contents s (csv_of p u es) ≡ record { samples = es; fault = None }
-  pub edges : (p : Separator) (u : TimeUnit) (s : Signals) (es : List Edge) → IsAsWritten s → RunsOn None es
-      → csv_contents s (csv_of p u es) ≡ record { samples = es; fault = None }
+  pub samples : (p : Separator) (u : TimeUnit) (s : Signals) (rate : Option ℕ) (es : List Edge) → IsAsWritten s → InOrder 0 es
+      → csv_contents s rate (csv_of p u es) ≡ record { samples = es; fault = None }
+  pub edges : (p : Separator) (u : TimeUnit) (s : Signals) (rate : Option ℕ) (es : List Edge) → IsAsWritten s → RunsOn None es
+      → csv_contents s rate (csv_of p u es) ≡ record { samples = es; fault = None }
   pub same : (es : List Edge) → RunsOn None es → edges_of 0 es ≡ es

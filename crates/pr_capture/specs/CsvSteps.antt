@@ -1,17 +1,28 @@
 -- Linking words: what a reader of comma separated values has taken. The clauses of `CsvReader` say all that a caller needs of
 -- them. No reader needs to believe them.
-use Rattle.std.specs.Prelude.{◌≡◌, ℕ, ◌+◌, ◌==◌, ◌&&◌, Bool, true, false, not, List, [], ◌∷◌, ◌++◌, if◌then◌else◌, Option, Some, None, Result, Ok, Err}
-use Rattle.std.specs.List.{list_all}
+use Rattle.std.specs.Prelude.{◌≡◌, ℕ, ◌+◌, ◌<◌, ◌==◌, ◌&&◌, ◌||◌, Bool, true, false, not, List, [], ◌∷◌, ◌++◌, drop, length, nat_lt, if◌then◌else◌, IfSome, Option, Some, None, Result, Ok, Err}
+use Rattle.std.specs.List.{list_all, prefix_len}
 use Rattle.pr_wire.specs.declared.Edge.{Edge}
+use Rattle.pr_wire.specs.declared.Levels.{Levels}
+use Rattle.pr_base.specs.Digits.{is_digit}
 use Rattle.pr_base.specs.Lines.{lines_of}
+use Rattle.pr_capture.specs.declared.csv.Columns.{Columns}
+use Rattle.pr_capture.specs.declared.csv.Layout.{Layout}
+use Rattle.pr_capture.specs.declared.csv.Moment.{Moment}
+use Rattle.pr_capture.specs.declared.csv.Row.{Row}
+use Rattle.pr_capture.specs.declared.csv.Scale.{Scale}
+use Rattle.pr_capture.specs.declared.csv.Scale.TheVariants.{Counted, Timed}
+use Rattle.pr_capture.specs.declared.last_row.LastRow.{LastRow}
 use Rattle.pr_capture.specs.declared.csv.RowPlace.{RowPlace}
 use Rattle.pr_capture.specs.declared.csv.RowPlace.TheVariants.{First, Names, Rows}
 use Rattle.pr_capture.specs.declared.csv.CsvReader.{CsvReader}
 use Rattle.pr_capture.specs.declared.remarks.Remarks.{Remarks}
 use Rattle.pr_capture.specs.declared.fault.CaptureFault.{CaptureFault}
 use Rattle.pr_capture.specs.declared.signals.Signals.{Signals}
-use Rattle.pr_capture.specs.Csv.{csv_contents, fields_of, first_contents, line_contents, row_contents}
-use Rattle.pr_capture.specs.Recording.{ended, refused, with_samples, CaptureContents}
+use Rattle.pr_capture.specs.Csv.{csv_contents, field_at, fields_of, first_contents, is_silent, line_contents, row_contents, row_of, sample_of}
+use Rattle.pr_capture.specs.declared.times.Instant.{Instant}
+use Rattle.pr_capture.specs.TableTimes.{instant_in, instant_of, micros_of}
+use Rattle.pr_capture.specs.Recording.{ended, refused, with_samples, without_front, CaptureContents}
 use Rattle.pr_capture.specs.Samples.{listed}
 
 -- how many bytes the first field has
@@ -30,7 +41,7 @@ is_inner b = not (b == 10)
 
 -- what lines tell from a place on
 abbrev pub contents_from : Signals → RowPlace → (number : ℕ) → List (List ℕ) → CaptureContents
-contents_from s First number ls = first_contents s number ls
+contents_from s (First given) number ls = first_contents s given number ls
 contents_from s (Names r) number ls = line_contents s r number ls
 contents_from s (Rows y m) number ls = row_contents y s.is_inverted number m ls
 
@@ -45,7 +56,7 @@ NamesAreRefused s r number line f = (more : List (List ℕ)) → line_contents s
 
 -- no row can come before the line of the names
 abbrev pub HasNoRows : RowPlace → Type 0
-HasNoRows First = Unit {0}
+HasNoRows (First given) = Unit {0}
 HasNoRows (Names r) = Unit {0}
 HasNoRows (Rows y m) = ⊥
 
@@ -58,29 +69,120 @@ ReadsLine s number line old (Ok sample) new =
     ≡ with_samples (listed sample) (contents_from s new (number + 1) more)
 ReadsLine s number line old (Err f) new = (more : List (List ℕ)) → contents_from s old number (line ∷ more) ≡ refused f
 
+-- The last row, by which rows are read that go on as it does.
+
+-- a byte of a plain time: a digit or a point
+abbrev pub is_plain : ℕ → Bool
+is_plain b = is_digit b || b == 46
+
+-- how many bytes a point and the decimals after it have
+abbrev pub decimals_len : List ℕ → ℕ
+decimals_len [] = 0
+decimals_len (b ∷ bs) = if b == 46 then 1 + prefix_len is_digit bs else 0
+
+-- a plain time spells what its digits and its decimals say
+pub record IsPlainTime (field whole decimals : List ℕ) : Type 0 where
+  pub plain : list_all is_plain field ≡ true
+  pub some : 0 < length field
+  pub reads : (unit : ℕ) (i : Instant) → instant_of false (micros_of 6 unit whole decimals) ≡ Some i
+      → instant_in unit (without_front field) ≡ Some i
+
+-- what a row has in front of the bytes that are compared: a plain time, or nothing in a table without times
+abbrev pub IsFront : Scale → (front : List ℕ) → Type 0
+IsFront (Timed unit) front = (list_all is_plain front ≡ true) × (0 < length front)
+IsFront (Counted rate) front = front ≡ []
+
+-- the first field of rows that go on so is their time
+abbrev pub TimeComesFirst : Scale → (separator : ℕ) → (tail : List ℕ) → Type 0
+TimeComesFirst (Timed unit) sep tail =
+    (front : List ℕ) → list_all is_plain front ≡ true → field_at 0 (fields_of sep false (front ++ tail)) ≡ Some front
+TimeComesFirst (Counted rate) sep tail = Unit {0}
+
+-- a row has these levels whose bytes after its time are these, whatever its time is
+pub record HasLevels (inverted : Bool) (y : Layout) (tail : List ℕ) (levels : Levels) : Type 0 where
+  pub inner : list_all is_inner tail ≡ true
+  pub loud : (front : List ℕ) → IsFront y.scale front → is_silent (front ++ tail) ≡ false
+  pub first : TimeComesFirst y.scale y.separator tail
+  pub reads : (number time : ℕ) (front : List ℕ) → IsFront y.scale front
+      → sample_of y.columns inverted number (fields_of y.separator false (front ++ tail)) time
+      ≡ Ok (record { time = time; levels = levels })
+
+-- the levels of rows that go on as the last one are known, or none are
+abbrev pub KnowsLevels : (inverted : Bool) → Layout → LastRow → Type 0
+KnowsLevels inverted y l = IfSome l.levels (HasLevels inverted y (drop l.from l.bytes.items))
+
+abbrev pub KnowsLast : (inverted : Bool) → RowPlace → LastRow → Type 0
+KnowsLast inverted (First given) l = Unit {0}
+KnowsLast inverted (Names r) l = Unit {0}
+KnowsLast inverted (Rows y m) l = KnowsLevels inverted y l
+
+-- a line that has led to a place is a row with the levels of this sample, if there is one
+abbrev pub IsRowOf : (inverted : Bool) → RowPlace → (line : List ℕ) → Option Edge → Type 0
+IsRowOf inverted p line None = Unit {0}
+IsRowOf inverted (First given) line (Some e) = Unit {0}
+IsRowOf inverted (Names r) line (Some e) = Unit {0}
+IsRowOf inverted (Rows y m) line (Some e) = (is_silent line ≡ false) × ((number time : ℕ)
+    → sample_of y.columns inverted number (fields_of y.separator false line) time ≡ Ok (record { time = time; levels = e.levels }))
+
+-- no column is the first
+abbrev pub are_behind : Columns → Bool
+are_behind c = not (c.atn == 0) && not (c.clock == 0) && not (c.line == 0)
+
+-- where the bytes of a row begin that have its levels, whatever its time is
+abbrev pub tail_by : Scale → Columns → (separator : ℕ) → (line : List ℕ) → Option ℕ
+tail_by (Timed unit) c sep line =
+    if are_behind c && not (is_plain sep) && nat_lt (field_len sep false line) (length line)
+    then Some (field_len sep false line) else None
+tail_by (Counted rate) c sep line = Some 0
+
+abbrev pub tail_at : Layout → (line : List ℕ) → Option ℕ
+tail_at y line = tail_by y.scale y.columns y.separator line
+
+-- the row of a moment and levels
+abbrev pub row_at : Moment → Levels → Row
+row_at m levels = record { sample = record { time = m.before; levels = levels }; moment = m }
+
+abbrev pub row_if : Result Moment CaptureFault → Levels → Option Row
+row_if (Ok m) levels = Some (row_at m levels)
+row_if (Err f) levels = None
+
+-- how many bytes were taken, and the last sample that they have, if they have one
+abbrev pub with_len : ℕ → Option Edge → Option (ℕ × Edge)
+with_len n None = None
+with_len n (Some e) = Some (n, e)
+
+-- these bytes are a row and its end, which make this of a moment
+pub record IsRepeat (inverted : Bool) (y : Layout) (number : ℕ) (m : Moment) (bytes : List ℕ) (row : Row) : Type 0 where
+  pub line : List ℕ
+  pub ends : bytes ≡ line ++ 10 ∷ []
+  pub inner : list_all is_inner line ≡ true
+  pub loud : is_silent line ≡ false
+  pub reads : row_of y inverted number m (fields_of y.separator false line) ≡ Ok row
+
 -- what is told yet, if a text goes on so
 abbrev pub contents_left : CsvReader → (more : List ℕ) → CaptureContents
 contents_left r more = contents_from r.signals r.place r.number (lines_of (r.line.items ++ more))
 
--- the reader has taken a text, and has given these samples
-pub record HasReadTable (s : Signals) (text : List ℕ) (samples : List Edge) (r : CsvReader) : Type 0 where
+-- the reader has taken a text, with the rate that the caller gives, and has given these samples
+pub record HasReadTable (s : Signals) (rate : Option ℕ) (text : List ℕ) (samples : List Edge) (r : CsvReader) : Type 0 where
   pub signals : r.signals ≡ s
   pub inner : list_all is_inner r.line.items ≡ true
-  pub told : (more : List ℕ) → csv_contents s (text ++ more) ≡ with_samples samples (contents_left r more)
+  pub last : KnowsLast r.signals.is_inverted r.place r.last
+  pub told : (more : List ℕ) → csv_contents s rate (text ++ more) ≡ with_samples samples (contents_left r more)
 
 -- the reader has taken these bytes too, after whatever it had taken
 abbrev pub HoldsMore : (bytes : List ℕ) → (old new : CsvReader) → Type 0
-HoldsMore bytes old new = (s : Signals) (text : List ℕ) (samples : List Edge) → HasReadTable s text samples old
-    → HasReadTable s (text ++ bytes) samples new
+HoldsMore bytes old new = (s : Signals) (rate : Option ℕ) (text : List ℕ) (samples : List Edge) → HasReadTable s rate text samples old
+    → HasReadTable s rate (text ++ bytes) samples new
 
 -- what a reader answers if a text ends here, of which these samples were given, and which ends with a whole line
 abbrev pub AnswersEnd : CsvReader → (last : Option Edge) → Result (Option Edge) CaptureFault → Type 0
 AnswersEnd r last (Ok sample) =
-    (sample ≡ last) × ((s : Signals) (text : List ℕ) (samples : List Edge) → HasReadTable s text samples r
-    → csv_contents s text ≡ with_samples samples ended)
+    (sample ≡ last) × ((s : Signals) (rate : Option ℕ) (text : List ℕ) (samples : List Edge) → HasReadTable s rate text samples r
+    → csv_contents s rate text ≡ with_samples samples ended)
 AnswersEnd r last (Err f) =
-    (last ≡ None) × ((s : Signals) (text : List ℕ) (samples : List Edge) → HasReadTable s text samples r
-    → csv_contents s text ≡ with_samples samples (refused f))
+    (last ≡ None) × ((s : Signals) (rate : Option ℕ) (text : List ℕ) (samples : List Edge) → HasReadTable s rate text samples r
+    → csv_contents s rate text ≡ with_samples samples (refused f))
 
 -- how many lines have ended, with the one that has begun
 abbrev pub line_number : CsvReader → ℕ
@@ -89,5 +191,5 @@ line_number r = r.number
 -- whatever follows the text that a reader has taken, the samples that it has given come first
 abbrev pub GivenSamplesComeFirst : Type 0
 GivenSamplesComeFirst =
-    (s : Signals) (text more : List ℕ) (given : List Edge) (r : CsvReader) → HasReadTable s text given r
-    → (later : List Edge) × ((csv_contents s (text ++ more)).samples ≡ given ++ later)
+    (s : Signals) (rate : Option ℕ) (text more : List ℕ) (given : List Edge) (r : CsvReader) → HasReadTable s rate text given r
+    → (later : List Edge) × ((csv_contents s rate (text ++ more)).samples ≡ given ++ later)

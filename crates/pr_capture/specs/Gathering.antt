@@ -21,6 +21,14 @@ abbrev pub told_with : (told : Option Levels) → Option Edge → Option Levels
 told_with told None = told
 told_with told (Some e) = Some e.levels
 
+-- the levels of the sample held, if they were told already
+abbrev pub settled_by : (held : Option Edge) → (told : Option Levels) → Option Levels
+settled_by None told = None
+settled_by (Some h) told = if is_new told h.levels then None else Some h.levels
+
+abbrev pub settled : EdgeDetector → Option Levels
+settled g = settled_by g.held g.told
+
 -- the edges that come yet, of the sample held and those that follow
 abbrev pub still_to_come : EdgeDetector → List Edge → List Edge
 still_to_come g more = changes_after g.told (last_at_each (listed g.held ++ map (counted_from g.start) more))

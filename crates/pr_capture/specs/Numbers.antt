@@ -56,8 +56,11 @@ are_some (d ∷ ds) = if d == 48 then are_some ds else true
 
 -- Words, in which nothing counts but letters, capitals or not, digits, and the bytes above 127.
 
+abbrev pub is_letter : ℕ → Bool
+is_letter b = (nat_le 65 b && nat_le b 90) || (nat_le 97 b && nat_le b 122)
+
 abbrev pub is_sign : ℕ → Bool
-is_sign b = nat_lt b 128 && not (is_digit b || (nat_le 65 b && nat_le b 90) || (nat_le 97 b && nat_le b 122))
+is_sign b = nat_lt b 128 && not (is_digit b || is_letter b)
 
 abbrev pub without_signs : List ℕ → List ℕ
 without_signs [] = []

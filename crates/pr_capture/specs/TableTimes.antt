@@ -9,7 +9,7 @@ use Rattle.pr_capture.specs.declared.remarks.Remarks.{Remarks}
 use Rattle.pr_capture.specs.declared.times.Exponent.{Exponent}
 use Rattle.pr_capture.specs.declared.times.Instant.{Instant}
 use Rattle.pr_capture.specs.Recording.{first_some, is_framing}
-use Rattle.pr_capture.specs.Numbers.{behind_decimals, behind_digits, are_some, behind_word, decimals_in, digits_in, is_sign, number_from, number_in, number_of_first, onward, spells, without_signs}
+use Rattle.pr_capture.specs.Numbers.{behind_decimals, behind_digits, are_some, behind_word, decimals_in, digits_in, is_letter, is_sign, number_from, number_in, number_of_first, onward, spells, without_signs}
 
 -- The unit of times: how many decimals it is of a second, 0 for seconds and 12 for picoseconds.
 
@@ -53,9 +53,9 @@ is_time_alone l = spells (codes "timestamp") l || spells (codes "time") l || spe
 abbrev pub rate_unit : (name : List ℕ) → Option ℕ
 rate_unit l =
     if list_all is_sign l || spells (codes "Hz") l then Some 0
-    else (if spells (codes "kHz") l then Some 3
-    else (if spells (codes "MHz") l then Some 6
-    else (if spells (codes "GHz") l then Some 9
+    else (if spells (codes "k") l || spells (codes "kHz") l then Some 3
+    else (if spells (codes "M") l || spells (codes "MHz") l then Some 6
+    else (if spells (codes "G") l || spells (codes "GHz") l then Some 9
     else None)))
 
 -- a rate is not 0
@@ -72,6 +72,10 @@ rate_by whole ds (Some k) =
 abbrev pub rate_in : (text : List ℕ) → Option ℕ
 rate_in l = rate_by (digits_in l) (decimals_in (behind_digits l)) (rate_unit (behind_decimals (behind_digits l)))
 
+-- the same of the value of an option, which has digits and letters alone: 4M, 500k, 24MHz, 4000000
+abbrev pub rate_given : (text : List ℕ) → Option ℕ
+rate_given l = if list_all is_letter (behind_digits l) then rate_in l else None
+
 -- the unit that sigrok takes for times, by the rate of samples: the largest that is no longer than a sample
 abbrev pub unit_by : (rate : Option ℕ) → Option ℕ
 unit_by None = None
@@ -82,14 +86,18 @@ unit_by (Some n) =
     else (if nat_le n 1000000000 then Some 9
     else Some 12)))
 
--- before any remark, a bare word for time is of seconds
-abbrev pub no_remarks : Remarks
-no_remarks = record { rate = None; bare = Some 0 }
+-- before any remark, a bare word for time is of seconds. A rate that the caller gives counts before that of a remark
+abbrev pub no_remarks : (given : Option ℕ) → Remarks
+no_remarks given = record { given = given; rate = None; bare = Some 0 }
+
+abbrev pub rate_known : Remarks → Option ℕ
+rate_known r = first_some r.given r.rate
 
 -- after a rate: a remark of sigrok's tells the unit of a bare word for time too
 abbrev pub with_rate : Remarks → (line : List ℕ) → (text : Option (List ℕ)) → Remarks
 with_rate r line None = r
 with_rate r line (Some text) = record {
+  given = r.given;
   rate = rate_in (without_signs text);
   bare = if bytes_eq (take 13 line) (codes "; Samplerate:") then unit_by (rate_in (without_signs text)) else r.bare;
 }
@@ -97,7 +105,7 @@ with_rate r line (Some text) = record {
 -- the line that sigrok-cli puts in front of what it writes before it knows the rate, so that all its times are 0
 abbrev pub with_meta : Remarks → (line : List ℕ) → (text : Option (List ℕ)) → Remarks
 with_meta r line None = with_rate r line (behind_word (codes "samplerate") line)
-with_meta r line (Some text) = record { rate = rate_in (without_signs text); bare = None }
+with_meta r line (Some text) = record { given = r.given; rate = rate_in (without_signs text); bare = None }
 
 -- after a remark
 abbrev pub remarked : Remarks → (line : List ℕ) → Remarks

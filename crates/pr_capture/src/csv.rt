@@ -4,16 +4,17 @@
 //! from the front of a block that somebody else has read (`take_front`), so that one loop serves
 //! them; its clauses do not say on which line a row is; and its quoted fields may hold line ends.
 
-ghost use Rattle.std.specs.Prelude.{◌≡◌, ◌+◌, ◌^◌, ◌<◌, ◌≤◌, ◌∷◌, [], false, true, None, Err, IfErr, IfOk, Ok, drop, length, option_copied, take};
+ghost use Rattle.std.specs.Prelude.{◌≡◌, ◌+◌, ◌^◌, ◌<◌, ◌≤◌, ◌∷◌, [], false, true, None, Err, IfErr, IfOk, Ok, drop, length, option_copied, take, IfSome, Some};
 ghost use Rattle.std.specs.List.{list_all, prefix_len};
 ghost use Rattle.pr_capture.specs.Csv.{behind_point, clock_column, column_of, columns_in, field_at, fields_of, first_moment, is_archive, is_in_front, is_separator, is_silent, is_wide, layout_by, layout_of, level_of, level_or, moment_at, moment_next, moment_of, opened, rate_beside, row_of, sample_of, separator_of, without_space, without_zeros};
-ghost use Rattle.pr_capture.specs.CsvReads.{EndsText, FaultsIn, ReadsMore, RefusesTable};
-ghost use Rattle.pr_capture.specs.CsvSteps.{field_len, fields_left, is_inner, line_number, AnswersEnd, HasNoRows, HasReadTable, HoldsMore, NamesAreRefused, NamesLeadTo, ReadsLine};
+ghost use Rattle.pr_capture.specs.CsvReads.{EndsText, FaultsIn, ReadsMore, RefusesTable, SkipsRows, TakesRepeats};
+ghost use Rattle.pr_capture.specs.CsvSteps.{field_len, fields_left, is_inner, line_number, with_len, AnswersEnd, HasNoRows, HasReadTable, HoldsMore, IsRowOf, NamesAreRefused, NamesLeadTo, ReadsLine};
 ghost use Rattle.pr_capture.specs.TableTimes.{time_at_rate};
 ghost use Rattle.pr_capture.specs.declared.fault.CaptureFault.TheVariants.{NoMemory};
 
 use crate::entries::is_word;
 use crate::fault::{CaptureFault, Wire};
+use crate::last_row::LastRow;
 use crate::numbers::{behind_first, behind_word, first_of};
 use crate::remarks::{Remarks, is_time_alone, time_unit};
 use crate::signals::{Signals, are_framing, is_named, is_space, level_in, without_front};
@@ -23,15 +24,15 @@ use std::alloc::Global;
 
 /// The places of the three lines' columns, from 0.
 #[derive(Clone, Copy)]
-struct Columns {
-    atn: usize,
-    clock: usize,
-    line: usize,
+pub struct Columns {
+    pub atn: usize,
+    pub clock: usize,
+    pub line: usize,
 }
 
 /// What the rows' times are.
 #[derive(Clone, Copy)]
-enum Scale {
+pub enum Scale {
     /// Each row begins with its time, in this unit: how many decimals it is of a second.
     Timed(u8),
     /// A row is a sample, and a second has this many.
@@ -40,22 +41,22 @@ enum Scale {
 
 /// How the rows of a table are read.
 #[derive(Clone, Copy)]
-struct Layout {
-    columns: Columns,
+pub struct Layout {
+    pub columns: Columns,
     /// The byte that separates fields.
-    separator: u8,
-    scale: Scale,
+    pub separator: u8,
+    pub scale: Scale,
 }
 
 /// Where the next row is in time.
 #[derive(Clone, Copy)]
-struct Moment {
+pub struct Moment {
     /// How long before moment 0 the table starts, in microseconds, once a row has told it.
-    start: Option<u64>,
+    pub start: Option<u64>,
     /// The time of the last row, in microseconds from the start on.
-    before: u64,
+    pub before: u64,
     /// How many samples come before, in a table without times.
-    count: u64,
+    pub count: u64,
 }
 
 /// What follows the white space in front.
@@ -107,7 +108,7 @@ fn separator_of(line: &[u8]) -> u8
 }
 
 /// How many bytes the first field has. A separator between quotation marks does not end it.
-fn field_len(separator: u8, line: &[u8]) -> usize
+pub fn field_len(separator: u8, line: &[u8]) -> usize
     ensures len { result ≡ field_len separator false line.now }
     ensures within { result ≤ length line.now }
 {
@@ -208,17 +209,18 @@ fn columns_in(
     Ok(Columns { atn, clock, line })
 }
 
-/// The rate of samples, where the first column is another than one of times.
+/// The rate of samples, where the first column is another than one of times, or has the name of one but no
+/// times.
 fn rate_beside(remarks: Remarks, first: Option<&[u8]>) -> Option<u64>
     ensures { result ≡ rate_beside remarks (option_copied first.entry) }
 {
     match first {
-        None => remarks.rate,
+        None => remarks.rate_known(),
         Some(name) => {
             if is_time_alone(name) {
-                None
+                remarks.given
             } else {
-                remarks.rate
+                remarks.rate_known()
             }
         }
     }
@@ -385,7 +387,8 @@ impl Moment {
     }
 
     /// That of a row with this time.
-    fn at(self, number: usize, time: Option<Instant>) -> Result<Moment, CaptureFault>
+    #[inline(always)]
+    pub fn at(self, number: usize, time: Option<Instant>) -> Result<Moment, CaptureFault>
         ensures { result ≡ moment_at number self time }
     {
         let Some(time) = time else {
@@ -402,7 +405,8 @@ impl Moment {
     }
 
     /// That of the next row at a rate.
-    fn next(self, number: usize, rate: u64) -> Result<Moment, CaptureFault>
+    #[inline(always)]
+    pub fn next(self, number: usize, rate: u64) -> Result<Moment, CaptureFault>
         ensures { result ≡ moment_next number self (time_at_rate rate self.count) }
     {
         let Some(time) = time_at_rate(rate, self.count) else {
@@ -432,10 +436,10 @@ impl Moment {
 
 /// What a row tells.
 #[derive(Clone, Copy)]
-struct Row {
-    sample: Edge,
+pub struct Row {
+    pub sample: Edge,
     /// Where the next row goes on.
-    moment: Moment,
+    pub moment: Moment,
 }
 
 /// What a row after a moment tells.
@@ -488,9 +492,9 @@ fn opened(line: &[u8]) -> Result<&[u8], CaptureFault>
 
 /// Which lines come next.
 #[derive(Drop)]
-enum RowPlace {
-    /// The first, and those up to that of the names.
-    First,
+pub enum RowPlace {
+    /// The first, and those up to that of the names, with the rate that the caller gives.
+    First(Option<u64>),
     /// Some that say nothing of the bus, and that of the names, after these remarks.
     Names(Remarks),
     /// Rows, after this moment.
@@ -529,11 +533,13 @@ impl RowPlace {
         requires { length line.now + 1 < 2 ^ 64 }
         ensures read { ReadsLine signals.now number line.now self.old result self.new }
         ensures names { IfOk result (λ sample. HasNoRows self.new → sample ≡ None) }
+        ensures row { IfOk result (λ sample. IsRowOf signals.now.is_inverted self.new line.now sample) }
     {
         match self {
-            RowPlace::First => {
+            RowPlace::First(given) => {
+                let given = *given;
                 let line = opened(line)?;
-                self.take_names(signals, Remarks::new(), number, line)?;
+                self.take_names(signals, Remarks::new(given), number, line)?;
                 Ok(None)
             }
             RowPlace::Names(remarks) => {
@@ -566,27 +572,41 @@ fn line_len(text: &[u8]) -> usize
     text.len()
 }
 
-/// Reads a table of comma separated values that comes in blocks. It keeps no more of the text than the
-/// line that has begun.
+/// How many bytes were taken, and the last sample that they have, if they have one.
+fn with_len(len: usize, last: Option<Edge>) -> Option<(usize, Edge)>
+    ensures { result ≡ with_len len last }
+{
+    match last {
+        None => None,
+        Some(sample) => Some((len, sample)),
+    }
+}
+
+/// Reads a table of comma separated values that comes in blocks. It keeps no more of the text than the line
+/// that has begun and the last row.
 #[derive(Drop)]
 pub struct CsvReader<'a> {
     signals: Signals<'a>,
     number: usize,
     place: RowPlace,
     line: Vec<u8>,
+    last: LastRow,
 }
 
 impl<'a> CsvReader<'a> {
-    /// Makes a reader that has taken nothing of a text. It takes no memory.
-    pub fn new(alloc: Global, signals: Signals<'a>) -> CsvReader<'a>
-        ensures read { HasReadTable signals.entry [] [] result }
+    /// Makes a reader that has taken nothing of a text, with the rate of samples, in samples a second, that
+    /// the caller gives: a table whose first column has no times is read at it, whatever its remarks say. It
+    /// takes no memory.
+    pub fn new(alloc: Global, signals: Signals<'a>, rate: Option<u64>) -> CsvReader<'a>
+        ensures read { HasReadTable signals.entry rate [] [] result }
         ensures number { line_number result ≡ 1 }
     {
         CsvReader {
             signals,
             number: 1,
-            place: RowPlace::First,
+            place: RowPlace::First(rate),
             line: Vec::new(alloc),
+            last: LastRow::new(alloc),
         }
     }
 
@@ -616,9 +636,60 @@ impl<'a> CsvReader<'a> {
         let sample = self
             .place
             .take_line(&self.signals, self.number, self.line.as_slice())?;
-        self.line.clear();
+        self.last.note(&self.place, &mut self.line, sample);
         self.number += 1;
         Ok(sample)
+    }
+
+    /// Takes the row in front of a block, if no line has begun, a whole row is there and it goes on as the last
+    /// row does: a quick way for most rows where nothing changes. Gives its length, with the end of its line,
+    /// and its sample. It takes no memory.
+    #[inline(always)]
+    fn take_repeat(&mut self, block: &[u8]) -> Option<(usize, Edge)>
+        // the caller's part
+        requires few { line_number self.old + 1 < 2 ^ 64 }
+        // what it gives
+        ensures read { IfSome result (λ r. ReadsMore (take r.0 block.now) (Some r.1) self.old self.new) }
+        ensures some { IfSome result (λ r. 0 < r.0) }
+        ensures within { IfSome result (λ r. r.0 ≤ length block.now) }
+        ensures number { line_number self.new ≤ line_number self.old + 1 }
+        ensures levels { IfSome result (λ r. self.old.last.levels ≡ Some r.1.levels) }
+        // what stays the same, and what it leaves where it gives nothing
+        ensures last { self.new.last ≡ self.old.last }
+        ensures same { result ≡ None → self.new ≡ self.old }
+    {
+        if !self.line.is_empty() {
+            return None;
+        }
+        match &mut self.place {
+            RowPlace::First(_) | RowPlace::Names(_) => None,
+            RowPlace::Rows(layout, moment) => {
+                let (len, row) = self.last.repeat(*layout, *moment, self.number, block)?;
+                *moment = row.moment;
+                self.number += 1;
+                Some((len, row.sample))
+            }
+        }
+    }
+
+    /// Takes the rows in front of a block that go on as the last row does, which has these levels.
+    fn take_rows(&mut self, block: &[u8], levels: Levels) -> Option<(usize, Edge)>
+        requires few { line_number self.old + length block.now + 1 < 2 ^ 64 }
+        requires levels { self.old.last.levels ≡ Some levels }
+        ensures { TakesRepeats block.now levels self.old self.new result }
+    {
+        let mut rest = block;
+        let mut last = None;
+        while !rest.is_empty() {
+            match self.take_repeat(rest) {
+                Some((len, sample)) => {
+                    rest = &rest[len..];
+                    last = Some(sample);
+                }
+                None => return with_len(block.len() - rest.len(), last),
+            }
+        }
+        with_len(block.len() - rest.len(), last)
     }
 
     /// The answer for a text that ends with a whole line, if it ends here; the sample is that of its
@@ -629,7 +700,7 @@ impl<'a> CsvReader<'a> {
         ensures { AnswersEnd self.now last result }
     {
         match self.place {
-            RowPlace::First => Err(CaptureFault::NoSignal(self.number, Wire::Atn)),
+            RowPlace::First(_) => Err(CaptureFault::NoSignal(self.number, Wire::Atn)),
             RowPlace::Names(_) => Err(CaptureFault::NoSignal(self.number, Wire::Atn)),
             RowPlace::Rows(_, _) => Ok(last),
         }
@@ -656,6 +727,9 @@ impl<'a> CsvReader<'a> {
         // when it refuses, and what that leaves
         ensures refused { IfErr result (λ f. RefusesTable block.now self.old f) }
     {
+        if let Some((len, sample)) = self.take_repeat(block) {
+            return Ok((len, Some(sample)));
+        }
         let len = line_len(block);
         self.go_on(&block[..len])?;
         if len == block.len() {
@@ -663,6 +737,30 @@ impl<'a> CsvReader<'a> {
         }
         let sample = self.end_line()?;
         Ok((len + 1, sample))
+    }
+
+    /// Takes the rows in front of a block that go on as the last row does, as many as are whole there, if that row
+    /// has these levels. Gives how many bytes, at least one, and the last of their samples: all have these levels.
+    /// None where there is no such row; then nothing was taken. It takes no memory.
+    ///
+    /// It is a quick way for a caller to whom only the last of such samples counts, as [`EdgeDetector::skip`]; rows
+    /// that it does not take are there for [`take_front`](CsvReader::take_front).
+    pub fn take_repeats(&mut self, block: &[u8], levels: Levels) -> Option<(usize, Edge)>
+        // the caller's part
+        requires few { line_number self.old + length block.now + 1 < 2 ^ 64 }
+        // what it gives
+        ensures read { IfSome result (λ r. SkipsRows (take r.0 block.now) r.1 self.old self.new) }
+        ensures levels { IfSome result (λ r. r.1.levels ≡ levels) }
+        ensures some { IfSome result (λ r. 0 < r.0) }
+        ensures within { IfSome result (λ r. r.0 ≤ length block.now) }
+        ensures number { IfSome result (λ r. line_number self.new ≤ line_number self.old + r.0) }
+        // what it leaves where it gives nothing
+        ensures same { result ≡ None → self.new ≡ self.old }
+    {
+        if !self.last.has_levels(levels) {
+            return None;
+        }
+        self.take_rows(block, levels)
     }
 
     /// Ends the text, whose last line may lack its end, and gives the sample of that line, if it

@@ -2,8 +2,8 @@
 
 ghost use Rattle.std.specs.Prelude.{◌≡◌, ◌++◌, ℕ, [], ◌∷◌, List, Some};
 ghost use Rattle.pr_wire.specs.declared.Edge.{Edge};
-ghost use Rattle.pr_capture.specs.Gathers.{GathersMore};
-ghost use Rattle.pr_capture.specs.Gathering.{HasGathered, edge_at_end, edge_before, told_with};
+ghost use Rattle.pr_capture.specs.Gathers.{GathersMore, GathersRepeats};
+ghost use Rattle.pr_capture.specs.Gathering.{HasGathered, edge_at_end, edge_before, settled, told_with};
 ghost use Rattle.pr_capture.specs.Samples.{counted_from, edges_of, is_new, listed};
 
 use pr_wire::{Edge, Levels};
@@ -116,6 +116,28 @@ impl EdgeDetector {
     {
         let next = counted_from(self.start, sample);
         self.hold(next)
+    }
+
+    /// Returns the levels of the last sample, if the edge that they make was given: samples that have them make
+    /// no edge.
+    pub fn settled(&self) -> Option<Levels>
+        ensures { result ≡ settled self.now }
+    {
+        let held = self.held?;
+        if is_new(self.told, held.levels) {
+            None
+        } else {
+            Some(held.levels)
+        }
+    }
+
+    /// Takes samples that have the levels of the last one, none of which makes an edge: only the last of them
+    /// counts. It takes no memory.
+    pub fn skip(&mut self, last: Edge)
+        requires { settled self.old ≡ Some last.levels }
+        ensures { GathersRepeats last self.old self.new }
+    {
+        self.held = Some(counted_from(self.start, last));
     }
 
     /// Ends the samples, and gives the last edge, if it was not given before. It takes no memory.

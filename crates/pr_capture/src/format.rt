@@ -32,4 +32,8 @@ pub struct TraceInput<'a> {
     /// The moment of the recording at which the trace starts, in microseconds. With [`Source::Text`]
     /// it is 0.
     pub start: u64,
+    /// The rate of samples at which a table without times is read, in samples a second, whatever its
+    /// remarks say; None where none is given. It counts with [`Source::Csv`] alone, and not in a table
+    /// with times.
+    pub rate: Option<u64>,
 }

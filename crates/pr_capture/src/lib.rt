@@ -4,7 +4,8 @@
 //! - `format` names the formats, `signals` the wires' names and levels, `fault` why a recording cannot be
 //!   read.
 //! - `vcd` writes a Value Change Dump. [`VcdWriter`] keeps the last edge alone.
-//! - `csv` reads a table that comes in blocks, line by line. [`CsvReader`] keeps the line that has begun.
+//! - `csv` reads a table that comes in blocks, line by line. [`CsvReader`] keeps the line that has begun, and
+//!   the last row: `last_row` reads a row that goes on as that one does without looking at its fields.
 //!   `remarks` says what the name of the first column and remarks say of time, `times` what a field spells,
 //!   `numbers` what digits and words are.
 //! - `vcd_reader` reads a dump that comes in blocks, word by word. [`VcdReader`] keeps the letters of the
@@ -27,6 +28,7 @@ mod fault;
 mod format;
 mod header;
 mod known;
+mod last_row;
 mod laws;
 mod numbers;
 mod paths;
@@ -42,6 +44,7 @@ pub use edge_detector::EdgeDetector;
 pub use fault::{CaptureFault, Wire};
 pub use format::{Source, TraceFormat, TraceInput};
 pub use laws::{csv_is_read_back, given_edges_come_first, given_samples_come_first};
+pub use remarks::read_rate;
 pub use signals::Signals;
 pub use vcd::{VcdWriter, push_vcd_head, vcd_adds_up, write_vcd};
 pub use vcd_reader::{VcdReader, vcd_is_read_back};

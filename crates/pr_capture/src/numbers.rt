@@ -2,7 +2,7 @@
 
 ghost use Rattle.std.specs.Prelude.{◌≡◌, ◌≤◌, length, option_copied, take, drop};
 ghost use Rattle.std.specs.List.{list_all};
-ghost use Rattle.pr_capture.specs.Numbers.{are_some, behind_decimals, behind_digits, behind_word, decimals_in, digits_in, is_sign, number_from, number_in, number_of_first, spells, with_zeros, without_signs};
+ghost use Rattle.pr_capture.specs.Numbers.{are_some, behind_decimals, behind_digits, behind_word, decimals_in, digits_in, is_letter, is_sign, number_from, number_in, number_of_first, spells, with_zeros, without_signs};
 
 use crate::signals::behind_letter;
 use pr_base::{digit_count, is_digit};
@@ -76,11 +76,30 @@ pub fn are_some(digits: &[u8]) -> bool
     false
 }
 
+/// Whether a byte is a letter from A to Z, in either case.
+fn is_letter(b: u8) -> bool
+    ensures { result ≡ is_letter b }
+{
+    (b >= b'A' && b <= b'Z') || (b >= b'a' && b <= b'z')
+}
+
+/// Whether these are all letters from A to Z, in either case.
+pub fn are_letters(bytes: &[u8]) -> bool
+    ensures { result ≡ list_all is_letter bytes.now }
+{
+    for b in bytes {
+        if !is_letter(*b) {
+            return false;
+        }
+    }
+    true
+}
+
 /// Whether a byte does not count in words: it is no letter, no digit and not above 127.
 fn is_sign(b: u8) -> bool
     ensures { result ≡ is_sign b }
 {
-    b < 128 && !(is_digit(b) || (b >= b'A' && b <= b'Z') || (b >= b'a' && b <= b'z'))
+    b < 128 && !(is_digit(b) || is_letter(b))
 }
 
 /// Whether nothing is here that counts in words.

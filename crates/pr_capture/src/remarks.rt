@@ -1,17 +1,19 @@
 //! What the name of a table's first column and its remarks say of time.
 
 ghost use Rattle.std.specs.Prelude.{◌≡◌, ◌∷◌, [], option_copied};
-ghost use Rattle.pr_capture.specs.TableTimes.{is_micro, is_time_alone, is_unit, no_remarks, rate_by, rate_in, rate_unit, remarked, time_unit, unit_behind, unit_by, unit_of, with_rate};
+ghost use Rattle.pr_capture.specs.TableTimes.{is_micro, is_time_alone, is_unit, no_remarks, rate_by, rate_given, rate_in, rate_known, rate_unit, remarked, time_unit, unit_behind, unit_by, unit_of, with_rate};
 
 use crate::entries::is_word;
 use crate::numbers::{
-    are_signs, behind_decimals, behind_digits, behind_word, decimals_in, digits_in, first_of,
-    number_from, number_of_first, spells, without_signs,
+    are_letters, are_signs, behind_decimals, behind_digits, behind_word, decimals_in, digits_in,
+    first_of, number_from, number_of_first, spells, without_signs,
 };
 
 /// What remarks say of time.
 #[derive(Clone, Copy)]
 pub struct Remarks {
+    /// How many samples there are in a second, if the caller says so.
+    pub given: Option<u64>,
     /// How many samples there are in a second, if a remark says so.
     pub rate: Option<u64>,
     /// The unit of a column that is called Time alone, if it has times: how many decimals it is of a
@@ -91,11 +93,11 @@ fn rate_unit(name: &[u8]) -> Option<u8>
 {
     if are_signs(name) || spells(b"Hz", name) {
         Some(0)
-    } else if spells(b"kHz", name) {
+    } else if spells(b"k", name) || spells(b"kHz", name) {
         Some(3)
-    } else if spells(b"MHz", name) {
+    } else if spells(b"M", name) || spells(b"MHz", name) {
         Some(6)
-    } else if spells(b"GHz", name) {
+    } else if spells(b"G", name) || spells(b"GHz", name) {
         Some(9)
     } else {
         None
@@ -127,6 +129,20 @@ fn rate_in(text: &[u8]) -> Option<u64>
     )
 }
 
+/// Returns the rate that the value of an option spells, in samples a second: digits, then nothing or `k`, `M`
+/// or `G`, then nothing or `Hz`, in either case, as `4M`, `500kHz` or `4000000` (profile). None for any other
+/// text, for 0, and for 2^64 samples a second and more.
+pub fn read_rate(text: &str) -> Option<u64>
+    ensures { result ≡ rate_given text.now }
+{
+    let bytes = text.as_bytes();
+    if are_letters(behind_digits(bytes)) {
+        rate_in(bytes)
+    } else {
+        None
+    }
+}
+
 /// The unit that sigrok takes for times, by the rate of samples: the largest that is no longer than a
 /// sample.
 fn unit_by(rate: Option<u64>) -> Option<u8>
@@ -147,13 +163,24 @@ fn unit_by(rate: Option<u64>) -> Option<u8>
 }
 
 impl Remarks {
-    /// No remark: a column that is called Time alone is of seconds.
-    pub fn new() -> Remarks
-        ensures { result ≡ no_remarks }
+    /// No remark: a column that is called Time alone is of seconds. The rate is that of the caller.
+    pub fn new(given: Option<u64>) -> Remarks
+        ensures { result ≡ no_remarks given }
     {
         Remarks {
+            given,
             rate: None,
             bare: Some(0),
+        }
+    }
+
+    /// The rate of samples: that of the caller, or else that of a remark.
+    pub fn rate_known(self) -> Option<u64>
+        ensures { result ≡ rate_known self }
+    {
+        match self.given {
+            Some(rate) => Some(rate),
+            None => self.rate,
         }
     }
 
@@ -170,7 +197,11 @@ impl Remarks {
         } else {
             self.bare
         };
-        Remarks { rate, bare }
+        Remarks {
+            given: self.given,
+            rate,
+            bare,
+        }
     }
 
     /// What is known after a remark. The line that sigrok-cli puts in front of what it writes before it
@@ -181,6 +212,7 @@ impl Remarks {
         match behind_word(b"METAsamplerate", line) {
             None => self.with_rate(line, behind_word(b"samplerate", line)),
             Some(text) => Remarks {
+                given: self.given,
                 rate: rate_in(without_signs(text)),
                 bare: None,
             },

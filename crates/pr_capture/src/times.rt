@@ -1,8 +1,9 @@
 //! Times in a table: what a field spells, and what a row's time is.
 
-ghost use Rattle.std.specs.Prelude.{◌≡◌, ◌+◌, ◌^◌, ◌<◌, option_copied, IfSome};
+ghost use Rattle.std.specs.Prelude.{◌≡◌, ◌+◌, ◌^◌, ◌<◌, ◌≤◌, false, length, option_copied, take, IfSome, Some};
 ghost use Rattle.std.specs.List.{list_all};
-ghost use Rattle.pr_capture.specs.TableTimes.{behind_part, behind_plus_minus, dated_in, earlier, exponent_in, few_places, from_start, has_rest, instant_at, instant_by, instant_in, is_minus, is_zone_sign, left_at, micros_left, micros_of, places_in, start_of, time_at_rate, time_or, unsigned_in};
+ghost use Rattle.pr_capture.specs.TableTimes.{behind_part, behind_plus_minus, dated_in, earlier, exponent_in, few_places, from_start, has_rest, instant_at, instant_by, instant_in, is_minus, is_zone_sign, left_at, micros_left, micros_of, places_in, start_of, time_at_rate, time_or, unsigned_in, instant_of};
+ghost use Rattle.pr_capture.specs.CsvSteps.{IsPlainTime, decimals_len, is_plain};
 
 use crate::fault::CaptureFault;
 use crate::numbers::{
@@ -10,7 +11,7 @@ use crate::numbers::{
     number_from, number_in, number_of_first,
 };
 use crate::signals::{are_framing, is_framing};
-use pr_base::is_digit;
+use pr_base::{digit_count, is_digit};
 
 /// A moment of a table, in whole microseconds before or after its moment 0.
 #[derive(Clone, Copy)]
@@ -256,6 +257,65 @@ fn dated_in(text: &[u8]) -> Option<Instant>
     })
 }
 
+/// Whether a byte can be in a plain time: a digit or a point.
+pub fn is_plain(b: u8) -> bool
+    ensures { result ≡ is_plain b }
+{
+    is_digit(b) || b == b'.'
+}
+
+/// A plain time in front of a text: digits, or digits, a point and decimals.
+#[derive(Clone, Copy)]
+pub struct PlainTime<'a> {
+    /// How many bytes it has.
+    pub len: usize,
+    pub whole: &'a [u8],
+    pub decimals: &'a [u8],
+}
+
+impl PlainTime<'_> {
+    /// The time that it spells in a unit.
+    pub fn instant(self, unit: u8) -> Option<Instant>
+        ensures { result ≡ instant_of false (micros_of 6 unit self.entry.whole.now self.entry.decimals.now) }
+    {
+        let micros = micros_of(6, usize::from(unit), self.whole, self.decimals)?;
+        Some(Instant {
+            is_negative: false,
+            micros,
+        })
+    }
+}
+
+/// How many bytes a point and decimals have, if a point is here.
+fn decimals_len(text: &[u8]) -> usize
+    ensures len { result ≡ decimals_len text.now }
+    ensures within { result ≤ length text.now }
+{
+    match text {
+        [] => 0,
+        [b, rest @ ..] => { if *b == b'.' { 1 + digit_count(rest) } else { 0 } }
+    }
+}
+
+/// The plain time in front of a text, if it begins with a digit.
+pub fn plain_in(text: &[u8]) -> Option<PlainTime<'_>>
+    ensures plain { IfSome result (λ t. IsPlainTime (take t.len text.now) t.whole.now t.decimals.now) }
+    ensures within { IfSome result (λ t. t.len ≤ length text.now) }
+{
+    let count = digit_count(text);
+    let whole = &text[..count];
+    if whole.is_empty() {
+        return None;
+    }
+    let behind = &text[count..];
+    let len = decimals_len(behind);
+    Some(PlainTime {
+        len: count + len,
+        whole,
+        decimals: behind_first(&behind[..len], 1),
+    })
+}
+
 /// The time that a field spells: a date and a time of day, or a number of units, of which one is a
 /// second's decimal of this place.
 pub fn instant_in(unit: u8, field: &[u8]) -> Option<Instant>
@@ -316,6 +376,10 @@ pub fn time_at_rate(rate: u64, count: u64) -> Option<u64>
 {
     if rate == 0 || count == u64::MAX {
         return None;
+    }
+    // Nearly always the product has 64 bits, and the division is one instruction.
+    if let Some(micros) = count.checked_mul(1_000_000) {
+        return Some(micros / rate);
     }
     u64::try_from(u128::from(count) * 1_000_000 / u128::from(rate)).ok()
 }

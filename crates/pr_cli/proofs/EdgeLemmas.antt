@@ -1,15 +1,15 @@
 -- Edges that are made of samples.
-use Rattle.std.proofs.Common.{◌≡◌, ℕ, List, [], ◌∷◌, ◌++◌, refl, ap, sym, ◌∙◌, append-nil, Option, Some, None}
+use Rattle.std.proofs.Common.{◌≡◌, ℕ, List, [], ◌∷◌, ◌++◌, refl, ap, sym, subst, ◌∙◌, append-nil, append_assoc, Option, Some, None}
 use Rattle.pr_wire.specs.declared.Edge.{Edge}
 use Rattle.pr_capture.specs.declared.edge_detector.EdgeDetector.{EdgeDetector}
 use Rattle.pr_capture.specs.Gathering as gathering
-use Rattle.pr_capture.specs.Gathers.{GathersMore}
+use Rattle.pr_capture.specs.Gathers.{GathersMore, GathersRepeats}
 use Rattle.pr_capture.specs.Samples.{edges_of, listed}
 use Rattle.pr_capture.specs.declared.format.Source.{Source}
 use Rattle.pr_capture.specs.declared.format.Source.TheVariants as source
 use Rattle.pr_capture.specs.declared.format.TraceInput.{TraceInput}
 use Rattle.pr_cli.specs.Report.{edges_made}
-use Rattle.pr_cli.specs.InputReads.{MakesAll, MakesMore}
+use Rattle.pr_cli.specs.InputReads.{MakesAll, MakesMore, MakesNone}
 use Rattle.pr_cli.specs.Sources.{HasGathered, MadeEdgesComeFirst}
 use Rattle.pr_cli.specs.declared.edge_maker.EdgeMaker.{EdgeMaker}
 
@@ -28,6 +28,14 @@ makes_gathered s (Some e) old new g h is was more = λ input samples edges m. rw
 
 pub makes_kept : (s : Edge) (old new : EdgeMaker) → old.detector ≡ None → new.detector ≡ None → MakesMore s old (Some s) new
 makes_kept s old new is was = λ input samples edges m. rw was (let k : HasGathered input samples edges None = rw is at m in (k.0, ap (λ l. l ++ s ∷ []) k.1))
+
+-- samples that make no edge
+pub makes_none : (last : Edge) (old new : EdgeMaker) (g h : EdgeDetector) → old.detector ≡ Some g → new.detector ≡ Some h → GathersRepeats last g h → MakesNone last old new
+makes_none last old new g h is was more = λ between have input samples edges m.
+    let k : HasGathered input samples edges (Some g) = rw is at m in
+    let l : gathering.HasGathered input.start (samples ++ (between ++ last ∷ [])) (edges ++ []) h = more between have input.start samples edges k.1 in
+    let P : List Edge → List Edge → Type 0 = λ ss es. gathering.HasGathered input.start ss es h in
+    rw was (k.0, subst (λ es. P ((samples ++ between) ++ last ∷ []) es) (append-nil edges) (subst (λ ss. P ss (edges ++ [])) (sym (append_assoc samples between (last ∷ []))) l))
 
 -- all edges that were made
 pub makes_all : (m : EdgeMaker) (g : EdgeDetector) (last : Option Edge) → m.detector ≡ Some g

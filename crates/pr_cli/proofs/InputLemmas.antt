@@ -6,8 +6,8 @@ use Rattle.std.specs.Io.KnownBytes.{Consumes, IsAtEnd}
 use Rattle.std.proofs.KnownBytes.{Consumes-nil, Consumes-trans}
 use Rattle.pr_wire.specs.declared.Edge.{Edge}
 use Rattle.pr_capture.specs.declared.format.TraceInput.{TraceInput}
-use Rattle.pr_cli.specs.Inputs.{AddsLast, AddsSample, EachTextSaysEdges, EndsSource, GivesBlock, HasEdges, HasReached, HasReachedOr, HasReadEdges, ReadEdgesComeFirst, SaysFirst, edges_in, edges_read, fault_read}
-use Rattle.pr_cli.specs.InputReads.{GivesEdges, IsTooLong, ReadsEdges, SaysAll, EndsInputs, EndsInput, GivesMore, MakesAll, MakesMore, RefusesInput}
+use Rattle.pr_cli.specs.Inputs.{AddsLast, AddsSample, EachTextSaysEdges, EndsSource, GivesBlock, HasEdges, HasReached, HasReachedOr, HasReadEdges, ReadEdgesComeFirst, SaysFirst, SkipsFront, edges_in, edges_read, fault_read}
+use Rattle.pr_cli.specs.InputReads.{GivesEdges, IsTooLong, ReadsEdges, SaysAll, EndsInputs, EndsInput, GivesMore, GivesRepeats, MakesAll, MakesMore, MakesNone, RefusesInput}
 use Rattle.pr_cli.specs.EdgesTaken.{EndsReading, HasTakenAll, HasTakenBefore}
 use Rattle.pr_cli.specs.Report.{SaysWhole, edges_made, Says, SaysSamples, IsOwnFault}
 use Rattle.pr_cli.specs.Sources.{EachTextSaysSamples, GivenSamplesComeFirst, HasGiven, HasMade, MadeEdgesComeFirst}
@@ -70,6 +70,39 @@ front_more block rest there all next r s v m n o len sample f gives adds = recor
         given = subst P (append_assoc text f.front (take len rest)) (gives input (text ++ f.front) k.samples k.given);
         made = adds input k.samples before k.made;
       };
+}
+
+-- samples were taken that make no edge
+pub skips_front : (bytes : List ℕ) (last : Edge) (r s : SourceReader) (m n : EdgeMaker) → GivesRepeats bytes last r s → MakesNone last m n → SkipsFront bytes r m s n
+skips_front bytes last r s m n gives makes = λ input text edges h.
+    let k = gives input text h.samples h.given in
+    record { samples = (h.samples ++ k.0) ++ last ∷ []; given = k.2; made = makes k.0 k.1 input h.samples edges h.made }
+
+pub skips_none : (n : ℕ) (block : List ℕ) (r : SourceReader) (m : EdgeMaker) → n ≡ 0 → SkipsFront (take n block) r m r m
+skips_none n block r m z = λ input text edges h.
+    let P : List ℕ → Type 0 = λ t. HasReached input t edges r m in
+    subst P (sym (ap (λ i. text ++ take i block) z ∙ append-nil text)) h
+
+pub front_skipped : (block rest : List ℕ) (there all : List Edge) (r s v : SourceReader) (m n o : EdgeMaker) (len : ℕ) → TakesFront block rest there r m all s n
+    → SkipsFront (take len rest) s n v o → TakesFront block (drop len rest) there r m all v o
+front_skipped block rest there all r s v m n o len f skips = record {
+  front = f.front ++ take len rest;
+  whole = f.whole ∙ (ap (λ l. f.front ++ l) (sym (take-append-drop len rest)) ∙ sym (append_assoc f.front (take len rest) (drop len rest)));
+  taken = λ input text before h.
+      let P : List ℕ → Type 0 = λ l. HasReached input l (before ++ all) v o in
+      subst P (append_assoc text f.front (take len rest)) (skips input (text ++ f.front) (before ++ all) (f.taken input text before h));
+}
+
+-- or none were
+pub front_kept : (block rest : List ℕ) (there all : List Edge) (r s v : SourceReader) (m n o : EdgeMaker) (len : ℕ) → len ≡ 0 → TakesFront block rest there r m all s n
+    → SkipsFront (take len rest) s n v o → TakesFront block rest there r m all v o
+front_kept block rest there all r s v m n o len z f skips = record {
+  front = f.front;
+  whole = f.whole;
+  taken = λ input text before h.
+      let P : List ℕ → Type 0 = λ l. HasReached input l (before ++ all) v o in
+      let none : take len rest ≡ [] = ap (λ i. take i rest) z in
+      subst P (ap (λ l. (text ++ f.front) ++ l) none ∙ append-nil (text ++ f.front)) (skips input (text ++ f.front) (before ++ all) (f.taken input text before h));
 }
 
 -- all of it was

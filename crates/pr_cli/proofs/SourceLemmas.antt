@@ -1,6 +1,6 @@
 -- A reader of a trace in any format, by the readers of each.
 use Rattle.std.proofs.Common.{◌≡◌, ◌⊎◌, inl, inr, ℕ, List, ◌++◌, refl, ap, sym, subst, ◌∙◌, append-nil, Option, Some, None, Result, Ok, Err}
-use Rattle.std.specs.Prelude.{IfErr, IsErrAnd, option_map}
+use Rattle.std.specs.Prelude.{IfErr, IfSome, IsErrAnd, option_map, take}
 use Rattle.std.specs.Option.{option_to_list}
 use Rattle.pr_wire.specs.declared.Edge.{Edge}
 use Rattle.pr_wire.specs.declared.reader.TraceReader.{TraceReader}
@@ -26,7 +26,7 @@ use Rattle.pr_capture.specs.declared.format.Source.TheVariants as source
 use Rattle.pr_capture.specs.declared.format.TraceInput.{TraceInput}
 use Rattle.pr_cli.specs.Faults.{fault_of_capture, fault_of_trace}
 use Rattle.pr_cli.specs.Report.{IsTold, SaysSamples, IsOwnFault}
-use Rattle.pr_cli.specs.InputReads.{EndsInput, GivesMore, RefusesInput}
+use Rattle.pr_cli.specs.InputReads.{EndsInput, GivesMore, GivesRepeats, RefusesInput}
 use Rattle.pr_cli.specs.Sources.{EachTextSaysSamples, GivenSamplesComeFirst, HasGiven}
 use Rattle.pr_cli.specs.declared.source_reader.SourceReader.{SourceReader}
 use Rattle.pr_cli.specs.declared.source_reader.SourceReader.TheVariants as reader
@@ -44,13 +44,24 @@ text_more old new bytes e more = λ input t samples h. (h.0, more t samples h.1)
 
 pub csv_more : (old new : CsvReader) (bytes : List ℕ) (e : Option Edge) → csv.ReadsMore bytes e old new → GivesMore bytes e (reader.Csv old) (reader.Csv new)
 csv_more old new bytes e more = λ input t samples h.
-    let P : List Edge → Type 0 = λ l. csv_steps.HasReadTable input.signals (t ++ bytes) (samples ++ l) new in
-    (h.0, subst P (listed_is e) (more input.signals t samples h.1))
+    let P : List Edge → Type 0 = λ l. csv_steps.HasReadTable input.signals input.rate (t ++ bytes) (samples ++ l) new in
+    (h.0, subst P (listed_is e) (more input.signals input.rate t samples h.1))
 
 pub vcd_more : (old new : VcdReader) (bytes : List ℕ) (e : Option Edge) → vcd.ReadsMore bytes e old new → GivesMore bytes e (reader.Vcd old) (reader.Vcd new)
 vcd_more old new bytes e more = λ input t samples h.
     let P : List Edge → Type 0 = λ l. vcd_steps.HasReadDump input.signals (t ++ bytes) (samples ++ l) new in
     (h.0, subst P (listed_is e) (more input.signals t samples h.1))
+
+-- rows with the levels of the last one
+pub csv_repeats : (old new : CsvReader) (bytes : List ℕ) (last : Edge) → csv.SkipsRows bytes last old new → GivesRepeats bytes last (reader.Csv old) (reader.Csv new)
+csv_repeats old new bytes last skips = λ input t samples h.
+    let k = skips input.signals input.rate t samples h.1 in (k.between, k.same, (h.0, k.read))
+
+-- if there are some
+pub csv_repeats_if : (old new : CsvReader) (r : SourceReader) (block : List ℕ) (o : Option (ℕ × Edge)) → r ≡ reader.Csv old → IfSome o (λ v. csv.SkipsRows (take v.0 block) v.1 old new)
+    → IfSome o (λ v. GivesRepeats (take v.0 block) v.1 r (reader.Csv new))
+csv_repeats_if old new r block None is h = tt
+csv_repeats_if old new r block (Some v) is h = rw is (csv_repeats old new (take v.0 block) v.1 h)
 
 -- the format is known
 in_format : (input : TraceInput) (s : Source) (t : List ℕ) (samples : List Edge) (fault : Option CliFault) → input.source ≡ s → SaysSamples input s t samples fault
@@ -104,7 +115,7 @@ csv_refused old bytes f (inr h) = by (own_fault f)
     by (inr o) = inr (
       o.0,
       λ input t samples k more.
-          in_format input source.Csv ((t ++ bytes) ++ more) samples (Some (fault_of_capture f)) k.0 (told_refused _ samples f (fault_of_capture f) (h input.signals t samples k.1 more) o.1),
+          in_format input source.Csv ((t ++ bytes) ++ more) samples (Some (fault_of_capture f)) k.0 (told_refused _ samples f (fault_of_capture f) (h input.signals input.rate t samples k.1 more) o.1),
     )
 
 pub vcd_refused : (old : VcdReader) (bytes : List ℕ) (f : CaptureFault) → vcd.RefusesDump bytes old f → RefusesInput bytes (reader.Vcd old) (fault_of_capture f)
@@ -125,7 +136,7 @@ text_ends r e h = λ input t samples k. in_format input source.Text t (samples +
 
 pub csv_ends : (r : CsvReader) (e : Option Edge) → csv.EndsText r (Ok e) → EndsInput (reader.Csv r) (Ok e)
 csv_ends r e h = λ input t samples k.
-    in_format input source.Csv t (samples ++ option_to_list e) None k.0 (told_whole _ samples e (h input.signals t samples k.1))
+    in_format input source.Csv t (samples ++ option_to_list e) None k.0 (told_whole _ samples e (h input.signals input.rate t samples k.1))
 
 pub vcd_ends : (r : VcdReader) (e : Option Edge) → vcd.EndsText r (Ok e) → EndsInput (reader.Vcd r) (Ok e)
 vcd_ends r e h = λ input t samples k.
@@ -148,7 +159,7 @@ csv_end_refused r f h = by (own_fault f)
     by (inr o) = inr (
       o.0,
       λ input t samples k.
-          in_format input source.Csv t samples (Some (fault_of_capture f)) k.0 (told_refused _ samples f (fault_of_capture f) (h input.signals t samples k.1) o.1),
+          in_format input source.Csv t samples (Some (fault_of_capture f)) k.0 (told_refused _ samples f (fault_of_capture f) (h input.signals input.rate t samples k.1) o.1),
     )
 
 pub vcd_end_refused : (r : VcdReader) (f : CaptureFault) → vcd.EndsText r (Err f) → EndsInput (reader.Vcd r) (Err (fault_of_capture f))
@@ -187,7 +198,7 @@ given_first texts dumps tables = λ input t more given samples fault r h says. b
         (f.0, sym k.0 ∙ f.1)
     by input t more given samples fault (reader.Csv r) h says =
         let k : SaysSamples input source.Csv (t ++ more) samples fault = rw h.0 at says in
-        let f = tables input.signals t more given r h.1 in
+        let f = tables input.signals input.rate t more given r h.1 in
         (f.0, sym k.0 ∙ f.1)
 
 -- each text says something
@@ -198,5 +209,5 @@ each_says some = λ input t. by input t input.source
     by input t source.Text =
         let e = some t in
         (e.0, option_map (λ n. Trace (trace.BadLine n)) e.1, (e.1, e.2, refl))
-    by input t source.Csv = let told = csv_contents input.signals t in (told.samples, option_map (λ f. Capture f) told.fault, (refl, refl))
+    by input t source.Csv = let told = csv_contents input.signals input.rate t in (told.samples, option_map (λ f. Capture f) told.fault, (refl, refl))
     by input t source.Vcd = let told = vcd_contents input.signals t in (told.samples, option_map (λ f. Capture f) told.fault, (refl, refl))

@@ -1,5 +1,5 @@
 -- Trusted: the text of an outcome in each format, and of each part of its pages; pictures draw characters of some shapes.
-use Rattle.std.specs.Prelude.{ℕ, ◌-◌, true, false, List, ◌&&◌, length, nat_le, if◌then◌else◌, Option, Some, None, Result, Ok, Err}
+use Rattle.std.specs.Prelude.{ℕ, ◌-◌, Bool, true, false, List, ◌&&◌, ◌||◌, not, length, nat_le, nat_lt, if◌then◌else◌, Option, Some, None, Result, Ok, Err}
 use Rattle.pr_page.specs.declared.paper.Paper.{Paper}
 use Rattle.pr_dots.specs.Sheets.{sheets_of}
 use Rattle.pr_dots.specs.declared.character_sets.Shapes.{Shapes}
@@ -31,9 +31,18 @@ left_to None outcome = outcome
 left_to (Some Four) outcome = record outcome { paper5 = empty_paper }
 left_to (Some Five) outcome = record outcome { paper4 = empty_paper }
 
--- the paper of which a sheet is shown: that of the first printer that the picture draws
+-- a paper with a printed row, not only with marks that are held
+abbrev pub has_rows : Paper → Bool
+has_rows paper = nat_lt 0 (length paper.rows)
+
+-- the paper of which a sheet is shown: that of the first printer with a printed row of those that the picture draws, or
+-- else of the first of them
+abbrev pub is_second : Outcome → Present → Bool
+is_second outcome drawn =
+    not drawn.four || (drawn.five && (not (has_rows outcome.paper4) && has_rows outcome.paper5))
+
 abbrev pub first_paper : Outcome → Present → Paper
-first_paper outcome drawn = if drawn.four then outcome.paper4 else outcome.paper5
+first_paper outcome drawn = if is_second outcome drawn then outcome.paper5 else outcome.paper4
 
 -- a sheet of a paper by its number from 1, counted from 0; or how many sheets there are, if it has none of this number
 abbrev pub sheet_at : Paper → ℕ → Result ℕ PictureFault

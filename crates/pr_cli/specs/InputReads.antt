@@ -5,6 +5,7 @@ use Rattle.std.specs.Io.KnownBytes.{IsAtEnd}
 use Rattle.std.specs.Option.{option_to_list}
 use Rattle.pr_wire.specs.declared.Edge.{Edge}
 use Rattle.pr_capture.specs.declared.format.TraceInput.{TraceInput}
+use Rattle.pr_capture.specs.Gathers.{AllHave}
 use Rattle.pr_cli.specs.Inputs.{HasEdges, HasReadEdges, edges_in, edges_read, fault_in, fault_read}
 use Rattle.pr_cli.specs.Report.{edges_made, IsOwnFault, Says, SaysSamples, SaysWhole}
 use Rattle.pr_cli.specs.Sources.{HasGiven, HasMade}
@@ -22,6 +23,12 @@ use Rattle.pr_cli.specs.declared.fault.CliFault.TheVariants.{NoMemory}
 abbrev pub GivesMore : (bytes : List ℕ) → Option Edge → (old new : SourceReader) → Type 0
 GivesMore bytes sample old new = (input : TraceInput) (t : List ℕ) (samples : List Edge) → HasGiven input t samples old
     → HasGiven input (t ++ bytes) (samples ++ option_to_list sample) new
+
+-- the reader has taken bytes that say samples with the levels of this one, and then this one
+abbrev pub GivesRepeats : (bytes : List ℕ) → (last : Edge) → (old new : SourceReader) → Type 0
+GivesRepeats bytes last old new = (input : TraceInput) (t : List ℕ) (samples : List Edge) → HasGiven input t samples old
+    → (between : List Edge) × AllHave last.levels between
+    × HasGiven input (t ++ bytes) ((samples ++ between) ++ last ∷ []) new
 
 -- a fault is want of memory, or that of every input that goes on so
 abbrev pub RefusesInput : (bytes : List ℕ) → (old : SourceReader) → CliFault → Type 0
@@ -43,6 +50,12 @@ EndsInput r (Err f) = (f ≡ NoMemory) ⊎ (IsOwnFault f
 abbrev pub MakesMore : Edge → EdgeMaker → Option Edge → EdgeMaker → Type 0
 MakesMore sample old e new = (input : TraceInput) (samples edges : List Edge) → HasMade input samples edges old
     → HasMade input (samples ++ sample ∷ []) (edges ++ option_to_list e) new
+
+-- the maker has taken samples with the levels of this one, and then this one, whatever those are, and has given no edge
+abbrev pub MakesNone : (last : Edge) → (old new : EdgeMaker) → Type 0
+MakesNone last old new = (between : List Edge) → AllHave last.levels between
+    → (input : TraceInput) (samples edges : List Edge) → HasMade input samples edges old
+    → HasMade input ((samples ++ between) ++ last ∷ []) edges new
 
 -- with the edge that comes at the end, if one comes, the edges are those that all samples make
 abbrev pub MakesAll : EdgeMaker → Option Edge → Type 0

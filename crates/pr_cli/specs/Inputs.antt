@@ -44,6 +44,11 @@ abbrev pub HasReachedOr : TraceInput → (text : List ℕ) → (edges : List Edg
 HasReachedOr input text edges r m None = HasReached input text edges r m
 HasReachedOr input text edges r m (Some f) = IsOwnFault f × ((more : List ℕ) → IsFaulty input (text ++ more) edges m f)
 
+-- bytes more were taken, which make no edge known
+abbrev pub SkipsFront : (bytes : List ℕ) → SourceReader → EdgeMaker → SourceReader → EdgeMaker → Type 0
+SkipsFront bytes r m s n = (input : TraceInput) (text : List ℕ) (edges : List Edge) → HasReached input text edges r m
+    → HasReached input (text ++ bytes) edges s n
+
 -- with a sample more, if there is one, these edges are known
 abbrev pub AddsSample : Option Edge → (there : List Edge) → EdgeMaker → (all : List Edge) → EdgeMaker → Type 0
 AddsSample sample there old all new =

@@ -39,7 +39,7 @@ abbrev pub SaysSamples : TraceInput → Source → (text : List ℕ) → (sample
     → Type 0
 SaysSamples input source.Text text samples fault =
     (bad : Option ℕ) × SaysEdges text samples bad × (option_map (λ n. Trace (trace.BadLine n)) bad ≡ fault)
-SaysSamples input source.Csv text samples fault = IsTold (csv_contents input.signals text) samples fault
+SaysSamples input source.Csv text samples fault = IsTold (csv_contents input.signals input.rate text) samples fault
 SaysSamples input source.Vcd text samples fault = IsTold (vcd_contents input.signals text) samples fault
 
 -- the edges that the samples of a format make, from a start on; a trace text already has edges

@@ -2,6 +2,7 @@
 -- believe them.
 use Rattle.std.specs.Prelude.{◌≡◌, ℕ, List, ◌++◌, Option, Some, None}
 use Rattle.pr_wire.specs.declared.Edge.{Edge}
+use Rattle.pr_wire.specs.declared.Levels.{Levels}
 use Rattle.pr_wire.specs.TraceReading as text
 use Rattle.pr_capture.specs.declared.edge_detector.EdgeDetector.{EdgeDetector}
 use Rattle.pr_capture.specs.CsvSteps as csv
@@ -28,7 +29,7 @@ lines_read (reader.Csv r) = csv.line_number r
 abbrev pub HasGiven : TraceInput → (text : List ℕ) → (samples : List Edge) → SourceReader → Type 0
 HasGiven input t samples (reader.Text r) = (input.source ≡ source.Text) × text.HasReadTrace t samples r
 HasGiven input t samples (reader.Vcd r) = (input.source ≡ source.Vcd) × vcd.HasReadDump input.signals t samples r
-HasGiven input t samples (reader.Csv r) = (input.source ≡ source.Csv) × csv.HasReadTable input.signals t samples r
+HasGiven input t samples (reader.Csv r) = (input.source ≡ source.Csv) × csv.HasReadTable input.signals input.rate t samples r
 
 -- whatever follows the text that a reader has taken, the samples that it has given come first
 abbrev pub GivenSamplesComeFirst : Type 0
@@ -54,6 +55,14 @@ HasGathered input samples edges (Some g) =
 
 abbrev pub HasMade : TraceInput → (samples edges : List Edge) → EdgeMaker → Type 0
 HasMade input samples edges m = HasGathered input samples edges m.detector
+
+-- the levels of the last sample, if samples that have them make no edge
+abbrev pub settled_of : Option EdgeDetector → Option Levels
+settled_of None = None
+settled_of (Some g) = gathering.settled g
+
+abbrev pub settled_in : EdgeMaker → Option Levels
+settled_in m = settled_of m.detector
 
 -- whatever samples follow those that a maker has taken, the edges that it has given come first
 abbrev pub MadeEdgesComeFirst : Type 0

@@ -1,11 +1,11 @@
 //! The edges of an input in any format.
 
-ghost use Rattle.std.specs.Prelude.{[]};
-ghost use Rattle.pr_cli.specs.Sources.{HasMade, MadeEdgesComeFirst};
-ghost use Rattle.pr_cli.specs.InputReads.{MakesAll, MakesMore};
+ghost use Rattle.std.specs.Prelude.{◌≡◌, [], Some};
+ghost use Rattle.pr_cli.specs.Sources.{HasMade, MadeEdgesComeFirst, settled_in};
+ghost use Rattle.pr_cli.specs.InputReads.{MakesAll, MakesMore, MakesNone};
 
 use pr_capture::{EdgeDetector, Source, TraceInput, given_edges_come_first};
-use pr_wire::Edge;
+use pr_wire::{Edge, Levels};
 
 /// Makes the edges of an input of what its reader gives, without memory: of the samples of a recording,
 /// or of a trace text's edges these same ones.
@@ -35,6 +35,28 @@ impl EdgeMaker {
         match &mut self.detector {
             Some(detector) => detector.take(sample),
             None => Some(sample),
+        }
+    }
+
+    /// Returns the levels of the last sample, if samples that have them make no edge.
+    pub fn settled(&self) -> Option<Levels>
+        ensures { result ≡ settled_in self.now }
+    {
+        match &self.detector {
+            Some(detector) => detector.settled(),
+            None => None,
+        }
+    }
+
+    /// Takes samples that have the levels of the last one, none of which makes an edge: only the last of them
+    /// counts. It takes no memory.
+    pub fn skip(&mut self, last: Edge)
+        requires { settled_in self.old ≡ Some last.levels }
+        ensures { MakesNone last self.old self.new }
+    {
+        match &mut self.detector {
+            Some(detector) => detector.skip(last),
+            None => {}
         }
     }
 

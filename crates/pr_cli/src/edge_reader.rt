@@ -1,7 +1,7 @@
 //! The edges of an input in any format, block by block.
 
-ghost use Rattle.std.specs.Prelude.{◌≡◌, ◌+◌, ◌^◌, ◌<◌, ◌≤◌, [], length, is_none, IfOk, None, OnErr, OnOk, Some};
-ghost use Rattle.pr_cli.specs.Inputs.{AddsLast, AddsSample, EndsSource, GivesBlock, HasEdges, edges_in, fault_in, lines_taken};
+ghost use Rattle.std.specs.Prelude.{◌≡◌, ◌+◌, ◌^◌, ◌<◌, ◌≤◌, [], length, is_none, take, IfOk, None, OnErr, OnOk, Some};
+ghost use Rattle.pr_cli.specs.Inputs.{AddsLast, AddsSample, EndsSource, GivesBlock, HasEdges, SkipsFront, edges_in, fault_in, lines_taken};
 ghost use Rattle.pr_cli.specs.InputReads.{GivesEdges, SaysAll};
 ghost use Rattle.pr_cli.specs.Sources.{lines_read};
 
@@ -148,6 +148,11 @@ fn take_samples(
 {
     let mut rest = block;
     while !rest.is_empty() {
+        let len = skip_repeats(reader, maker, rest);
+        if len > 0 {
+            rest = &rest[len..];
+            continue;
+        }
         match reader.take_front(rest) {
             Ok((len, sample)) => {
                 push_sample(edges, maker, sample)?;
@@ -157,6 +162,24 @@ fn take_samples(
         }
     }
     Ok(None)
+}
+
+/// Takes what is in front of a block and has the levels of the last sample, so that it makes no edge. Gives how
+/// many bytes, which may be none: it is a quick way through tables in which nothing changes.
+fn skip_repeats(reader: &mut SourceReader<'_>, maker: &mut EdgeMaker, block: &[u8]) -> usize
+    requires lines { lines_read reader.old + length block.now + 1 < 2 ^ 64 }
+    ensures known { SkipsFront (take result block.now) reader.old maker.old reader.new maker.new }
+    ensures lines { lines_read reader.new ≤ lines_read reader.old + result }
+    ensures within { result ≤ length block.now }
+{
+    let Some(levels) = maker.settled() else {
+        return 0;
+    };
+    let Some((len, last)) = reader.take_repeats(block, levels) else {
+        return 0;
+    };
+    maker.skip(last);
+    len
 }
 
 /// Adds the edge that is known by a sample, if there is a sample and it makes one known.

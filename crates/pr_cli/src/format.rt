@@ -1,7 +1,7 @@
 //! The text of a page in each format, and of each part of its pages.
 
 ghost use Rattle.std.specs.Prelude.{◌≡◌};
-ghost use Rattle.pr_cli.specs.Formats.{first_paper, left_to, or_first, pdf_part, png_part, sheet_at, shown_of, svg_part, text_in};
+ghost use Rattle.pr_cli.specs.Formats.{first_paper, has_rows, is_second, left_to, or_first, pdf_part, png_part, sheet_at, shown_of, svg_part, text_in};
 ghost use Rattle.pr_cli.specs.Shown.{GivesShown};
 ghost use Rattle.pr_system.specs.Headline.{empty_paper};
 
@@ -56,14 +56,30 @@ fn left_to(alloc: Global, device: Option<Device>, mut outcome: Outcome) -> Outco
     outcome
 }
 
-/// The paper of which a sheet is shown: that of the first printer that the picture draws.
+/// Whether a row is printed; marks that are held are none.
+fn has_rows(paper: &Paper) -> bool
+    ensures { result ≡ has_rows paper.now }
+{
+    !paper.rows.is_empty()
+}
+
+/// Whether the paper of which a sheet is shown is printer 5's.
+fn is_second(outcome: &Outcome, drawn: Present) -> bool
+    ensures { result ≡ is_second outcome.now drawn }
+{
+    let is_blank = !has_rows(&outcome.paper4);
+    !drawn.four || (drawn.five && (is_blank && has_rows(&outcome.paper5)))
+}
+
+/// The paper of which a sheet is shown: that of the first printer with a printed row of those that the picture draws, or
+/// else of the first of them.
 fn first_paper(outcome: &Outcome, drawn: Present) -> &Paper
     ensures { result.now ≡ first_paper outcome.now drawn }
 {
-    if drawn.four {
-        &outcome.paper4
-    } else {
+    if is_second(outcome, drawn) {
         &outcome.paper5
+    } else {
+        &outcome.paper4
     }
 }
 
@@ -147,8 +163,8 @@ fn or_first(sheet: Option<u64>) -> u64
 }
 
 /// The text of an outcome in a format. Lines and pictures show the sheets of the printers that are present, or of the one
-/// that the format names. A sheet is one of the first printer that the picture draws: of the named one, or else of the first
-/// that has printed, or else of the first that is present. Pictures draw characters in these shapes.
+/// that the format names. A sheet is one of the named printer, or else of the first that has printed a row, or else of the
+/// first that holds marks, or else of the first that is present. Pictures draw characters in these shapes.
 ///
 /// # Errors
 ///

@@ -1,12 +1,12 @@
 //! Reading a trace in any format.
 
-ghost use Rattle.std.specs.Prelude.{◌+◌, ◌^◌, ◌<◌, ◌≤◌, [], length, take, IfErr, IfOk, OnOk};
+ghost use Rattle.std.specs.Prelude.{◌≡◌, ◌+◌, ◌^◌, ◌<◌, ◌≤◌, [], length, take, IfErr, IfOk, IfSome, None, OnOk};
 ghost use Rattle.pr_cli.specs.Sources.{EachTextSaysSamples, GivenSamplesComeFirst, HasGiven, lines_read};
-ghost use Rattle.pr_cli.specs.InputReads.{EndsInput, GivesMore, RefusesInput};
+ghost use Rattle.pr_cli.specs.InputReads.{EndsInput, GivesMore, GivesRepeats, RefusesInput};
 
 use crate::fault::CliFault;
 use pr_capture::{CsvReader, Source, TraceInput, VcdReader, given_samples_come_first};
-use pr_wire::{Edge, TraceReader, given_edges_come_first, trace_texts};
+use pr_wire::{Edge, Levels, TraceReader, given_edges_come_first, trace_texts};
 use std::alloc::Global;
 
 /// Reads a trace that comes in blocks, in any format. A trace text gives edges, a recording samples.
@@ -26,7 +26,7 @@ impl<'a> SourceReader<'a> {
         match input.source {
             Source::Text => SourceReader::Text(TraceReader::new()),
             Source::Vcd => SourceReader::Vcd(VcdReader::new(alloc, input.signals)),
-            Source::Csv => SourceReader::Csv(CsvReader::new(alloc, input.signals)),
+            Source::Csv => SourceReader::Csv(CsvReader::new(alloc, input.signals, input.rate)),
         }
     }
 
@@ -53,6 +53,27 @@ impl<'a> SourceReader<'a> {
             SourceReader::Text(reader) => Ok(reader.take_front(block)?),
             SourceReader::Vcd(reader) => Ok(reader.take_front(block)?),
             SourceReader::Csv(reader) => Ok(reader.take_front(block)?),
+        }
+    }
+
+    /// Takes the rows in front of a block that go on as the last row of a table does, if that has these levels, as
+    /// [`CsvReader::take_repeats`]. Gives how many bytes, at least one, and the last of their samples; None where
+    /// there is no such row, and in the other formats. It takes no memory.
+    pub fn take_repeats(&mut self, block: &[u8], levels: Levels) -> Option<(usize, Edge)>
+        // the caller's part
+        requires few { lines_read self.old + length block.now + 1 < 2 ^ 64 }
+        // what it gives
+        ensures given { IfSome result (λ r. GivesRepeats (take r.0 block.now) r.1 self.old self.new) }
+        ensures levels { IfSome result (λ r. r.1.levels ≡ levels) }
+        ensures some { IfSome result (λ r. 0 < r.0) }
+        ensures within { IfSome result (λ r. r.0 ≤ length block.now) }
+        ensures lines { IfSome result (λ r. lines_read self.new ≤ lines_read self.old + r.0) }
+        // what it leaves where it gives nothing
+        ensures same { result ≡ None → self.new ≡ self.old }
+    {
+        match self {
+            SourceReader::Csv(reader) => reader.take_repeats(block, levels),
+            SourceReader::Text(_) | SourceReader::Vcd(_) => None,
         }
     }
 

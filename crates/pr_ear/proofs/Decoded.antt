@@ -11,17 +11,11 @@ use Rattle.pr_decode.specs.Taking as taking
 use Rattle.pr_ear.specs.declared.WireEdge.{WireEdge}
 use Rattle.pr_ear.specs.declared.decoder_numbers.WireDecoder.{WireDecoder}
 use Rattle.pr_ear.specs.Decoding.{StandsBefore, last_moment, settled_by}
-use Rattle.pr_ear.specs.DecoderNumbers.{IsDecoder}
 use Rattle.pr_ear.specs.DecoderTaken.{HasDecoded, decoder_by, stored}
 use Rattle.pr_ear.specs.Hearing.{edge_of}
-use Rattle.pr_ear.proofs.DecodersFitting.{read-is-decoder}
 use Rattle.pr_ear.proofs.DecodersStored.{decoder-back}
 
--- numbers that hold a decoder are those of one
-pub decoded-is-decoder : (edges : List WireEdge) (given : List Reading) (w : WireDecoder) → HasDecoded edges given w → IsDecoder w
-decoded-is-decoder edges given w h = subst IsDecoder (sym h.numbers) (read-is-decoder (map edge_of edges) given h.decoder h.read)
-
--- and it comes back
+-- a decoder comes back
 pub comes-back : (edges : List WireEdge) (given : List Reading) (w : WireDecoder) (h : HasDecoded edges given w) → decoder_by w ≡ h.decoder
 comes-back edges given w h = ap decoder_by h.numbers ∙ decoder-back h.decoder
 

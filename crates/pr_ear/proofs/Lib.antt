@@ -1,10 +1,7 @@
 pub mod Filling
 pub mod Stored
-pub mod Leading
-pub mod Fitting
-pub mod Listening
 pub mod Standings
-pub mod Ears
+pub mod StrictReceivers
 pub mod DecodersStored
-pub mod DecodersFitting
 pub mod Decoded
+pub mod Receivers

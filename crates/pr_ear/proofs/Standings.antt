@@ -27,7 +27,7 @@ use Rattle.pr_ear.specs.Taken.{CameTo, HasCome, HasRoom, RefusesAs, Stands}
 use Rattle.pr_ear.proofs.Filling.{fault-stays, reached-append}
 
 -- the elements before each, for two parts
-with_before-append : {X : Type 0} → (before xs ys : List X) → with_before before (xs ++ ys) ≡ with_before before xs ++ with_before (before ++ xs) ys
+pub with_before-append : {X : Type 0} → (before xs ys : List X) → with_before before (xs ++ ys) ≡ with_before before xs ++ with_before (before ++ xs) ys
 with_before-append before [] ys = rw append-nil
 with_before-append before (x ∷ xs) ys = rw (with_before-append (before ++ x ∷ []) xs ys, append_assoc)
 

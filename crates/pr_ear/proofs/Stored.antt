@@ -1,7 +1,6 @@
 -- A standing comes back from its numbers.
 use Rattle.std.proofs.Common.{◌≡◌, ℕ, suc, ◌+◌, ◌-◌, ◌*◌, ◌/◌, ◌%◌, ◌<◌, ◌≤◌, Bool, true, false, eqb, List, [], ◌∷◌, ◌++◌, length, Option, Some, None, refl, sym, ap, ◌∙◌, arith, append_assoc, append-nil, length-append}
-use Rattle.std.proofs.lemmas.Bool.{eq-eqb, eqb-true}
-use Rattle.std.specs.Prelude.{◌&&◌, ◌==◌, if◌then◌else◌}
+use Rattle.std.specs.Prelude.{◌==◌, min, if◌then◌else◌}
 use Rattle.pr_wire.specs.declared.Edge.{Edge}
 use Rattle.pr_wire.specs.declared.bus_state.EdgeError.TheVariants.{Order, TooEarly, TooLate, Shape}
 use Rattle.pr_wire.specs.declared.bus_state.BusState.{BusState}
@@ -15,9 +14,8 @@ use Rattle.pr_ear.specs.declared.numbers.PlaceNumbers.{PlaceNumbers}
 use Rattle.pr_wire.specs.declared.follower.Refusal.{Refusal}
 use Rattle.pr_wire.specs.declared.follower.Refusal.TheVariants.{Start, Flawed}
 use Rattle.pr_ear.specs.declared.standing.Standing.{Standing}
-use Rattle.pr_ear.specs.EarNumbers.{sending_number, stored_place}
 use Rattle.pr_ear.specs.Hearing.{bit_of, edge_of, is_released}
-use Rattle.pr_ear.specs.Numbers.{bits_by, begun_number, few, place_by, refusal_by, refusal_number, sending_by, standing_by, stored, stored_last, wire_of, HasFewBits}
+use Rattle.pr_ear.specs.Numbers.{bits_by, begun_number, few, place_by, refusal_by, refusal_number, sending_by, sending_number, standing_by, stored, stored_last, stored_place, wire_of, HasFewBits}
 
 -- bits come back from their number
 bits-back : (bs : List Bool) → bits_in (length bs) (byte_of bs) ≡ bs
@@ -100,14 +98,15 @@ last-back None = refl
 last-back (Some e) = ap (λ x. Some x) (edge-back e)
 
 -- a standing comes back from its numbers
-pub standing-back : (s : Standing) → HasFewBits s.place → standing_by (stored s) ≡ s
-standing-back s h =
+pub standing-back : (s : Standing) → HasFewBits s.place → s.listener.device ≤ 30 → standing_by (stored s) ≡ s
+standing-back s h few =
     let a = place-back s.place h in
     let b = last-back s.last in
     let c = refusal-back s.refused in
     let d = bit-back s.listener.listens in
     let e = bit-back s.listener.called in
-    rw (a, b, c, d, e) refl
+    let f : min s.listener.device 30 ≡ s.listener.device = grind (arith, few) in
+    rw (a, b, c, d, e, f) refl
 
 -- this many bits have been put into a place, and the rest of the byte has the others
 pub record HasBits (n : PlaceNumbers) (i : ℕ) (place : BusState) (rest : ℕ) : Type 0 where
@@ -148,62 +147,3 @@ all-bits n i place rest h l =
     let d : few n.count - i ≡ 0 = omega arith in
     let s : h.seen ≡ bits_by n = sym (append-nil h.seen) ∙ (ap (λ x. h.seen ++ bits_in x rest) (sym d) ∙ h.others) in
     h.place_is ∙ ap (λ x. Bit n.since (sending_by n.sending) (eqb n.eoi 1) x (eqb n.bit 1)) s
-
--- two conditions that hold together
-pub both : (a b : Bool) → (a && b) ≡ true → (a ≡ true) × (b ≡ true)
-both true b h = (refl, h)
-both false b h = absurd (let x : false ≡ true = h in cc)
-
--- two edges have the same numbers
-abbrev pub same_wires : WireEdge → WireEdge → Bool
-same_wires a b = eqb a.time b.time && (eqb a.atn b.atn && (eqb a.clock b.clock && eqb a.data b.data))
-
--- two places have the same numbers
-abbrev pub same_places : PlaceNumbers → PlaceNumbers → Bool
-same_places a b =
-    eqb a.since b.since && (eqb a.released b.released && (eqb a.place b.place && (eqb a.sending b.sending
-    && (eqb a.eoi b.eoi && (eqb a.count b.count && (eqb a.byte b.byte && (eqb a.bit b.bit && eqb a.unlistened b.unlistened)))))))
-
-pub wires-are : (a b : WireEdge) → same_wires a b ≡ true → a ≡ b
-wires-are a b h =
-    let k = both (eqb a.time b.time) _ h in
-    let l = both (eqb a.atn b.atn) _ k.1 in
-    let m = both (eqb a.clock b.clock) _ l.1 in
-    let e : record { time = a.time; atn = a.atn; clock = a.clock; «data» = a.data } ≡ record { time = b.time; atn = b.atn; clock = b.clock; «data» = b.data } =
-    rw (eqb-true a.time b.time k.0, eqb-true a.atn b.atn l.0, eqb-true a.clock b.clock m.0, eqb-true a.data b.data m.1) refl in
-    e
-
-pub places-are : (a b : PlaceNumbers) → same_places a b ≡ true → a ≡ b
-places-are a b h =
-    let k = both (eqb a.since b.since) _ h in
-    let l = both (eqb a.released b.released) _ k.1 in
-    let m = both (eqb a.place b.place) _ l.1 in
-    let n = both (eqb a.sending b.sending) _ m.1 in
-    let o = both (eqb a.eoi b.eoi) _ n.1 in
-    let p = both (eqb a.count b.count) _ o.1 in
-    let q = both (eqb a.byte b.byte) _ p.1 in
-    let r = both (eqb a.bit b.bit) _ q.1 in
-    let e : record { since = a.since; released = a.released; place = a.place; sending = a.sending; eoi = a.eoi; count = a.count; byte = a.byte; bit = a.bit; unlistened = a.unlistened }
-    ≡ record { since = b.since; released = b.released; place = b.place; sending = b.sending; eoi = b.eoi; count = b.count; byte = b.byte; bit = b.bit; unlistened = b.unlistened } =
-    rw (
-      eqb-true a.since b.since k.0,
-      eqb-true a.released b.released l.0,
-      eqb-true a.place b.place m.0,
-      eqb-true a.sending b.sending n.0,
-      eqb-true a.eoi b.eoi o.0,
-      eqb-true a.count b.count p.0,
-      eqb-true a.byte b.byte q.0,
-      eqb-true a.bit b.bit r.0,
-      eqb-true a.unlistened b.unlistened r.1,
-    ) refl in
-    e
-
-pub same-number : (n : ℕ) → eqb n n ≡ true
-same-number n = eq-eqb n n refl
-
--- the same numbers are the same
-pub same-place : (a b : PlaceNumbers) → a ≡ b → same_places a b ≡ true
-same-place a b h = ap (λ (c : PlaceNumbers). same_places c b) h ∙ (let e : same_places b b ≡ true = simp (same-number) refl in e)
-
-pub same-wire : (a b : WireEdge) → a ≡ b → same_wires a b ≡ true
-same-wire a b h = ap (λ (c : WireEdge). same_wires c b) h ∙ (let e : same_wires b b ≡ true = simp (same-number) refl in e)

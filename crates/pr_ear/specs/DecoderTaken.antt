@@ -1,5 +1,6 @@
 -- Linking words: how a decoder is held in numbers, and which edges it has taken. No reader needs to believe them; that a decoder comes back
--- from its numbers is proved.
+-- from its numbers is proved (`DecodersComeBack`). All numbers are those of some decoder: more turns than four are four, a level or a flag
+-- that is not its one number is the other.
 use Rattle.std.specs.Prelude.{◌≡◌, ℕ, Bool, ◌==◌, if◌then◌else◌, List, [], map, Option, Some, None}
 use Rattle.pr_wire.specs.declared.Edge.{Edge}
 use Rattle.pr_decode.specs.declared.decoder.Decoder.{Decoder}
@@ -14,9 +15,12 @@ use Rattle.pr_ear.specs.declared.WireEdge.{WireEdge}
 use Rattle.pr_ear.specs.declared.decoder_numbers.WireByte.{WireByte}
 use Rattle.pr_ear.specs.declared.decoder_numbers.WireDecoder.{WireDecoder}
 use Rattle.pr_ear.specs.Decoding.{byte_numbers, last_moment, no_byte}
-use Rattle.pr_ear.specs.DecoderNumbers.{no_edge}
 use Rattle.pr_ear.specs.Hearing.{bit_of, edge_of}
 use Rattle.pr_ear.specs.Numbers.{wire_of}
+
+-- the numbers of no edge
+abbrev pub no_edge : WireEdge
+no_edge = record { time = 0; atn = 0; clock = 0; «data» = 0 }
 
 -- how many edges at which DATA has turned are kept, and each of them
 abbrev pub turns_number : DataTransitions → ℕ
@@ -148,6 +152,10 @@ stored d = record {
 -- a decoder by its numbers
 abbrev pub decoder_by : WireDecoder → Decoder
 decoder_by w = record { stretch = stretch_by w; transfer = transfer_by w }
+
+-- what is stored is what is restored
+abbrev pub DecodersComeBack : Type 0
+DecodersComeBack = (decoder : Decoder) → decoder_by (stored decoder) ≡ decoder
 
 -- these edges were taken and these readings told, and the numbers hold the decoder that they have left
 pub record HasDecoded (edges : List WireEdge) (given : List Reading) (w : WireDecoder) : Type 0 where

@@ -1,6 +1,7 @@
 -- Trusted: what a decoder answers for the edges of a recording, one by one, and the numbers of its answers.
-use Rattle.std.specs.Prelude.{◌≡◌, ℕ, ◌<◌, List, [], ◌∷◌, ◌++◌, map, Option, Some, None}
+use Rattle.std.specs.Prelude.{◌≡◌, ℕ, ◌<◌, List, [], ◌∷◌, ◌++◌, map, Option, Some, None, Result, Ok, Err}
 use Rattle.std.specs.Option.{option_to_list}
+use Rattle.pr_decode.specs.declared.decoder.GoesBack.{GoesBack}
 use Rattle.pr_decode.specs.declared.reading.FrameEnd.TheVariants as frame
 use Rattle.pr_decode.specs.declared.reading.IncompleteEnd.TheVariants as glitch
 use Rattle.pr_decode.specs.declared.reading.Pulse.{Pulse}
@@ -12,8 +13,6 @@ use Rattle.pr_ear.specs.declared.Answer.{Answer}
 use Rattle.pr_ear.specs.declared.WireEdge.{WireEdge}
 use Rattle.pr_ear.specs.declared.decoder_numbers.WireByte.{WireByte}
 use Rattle.pr_ear.specs.declared.decoder_numbers.WireReading.{WireReading}
-use Rattle.pr_ear.specs.declared.decoding.DecoderTold.{DecoderTold}
-use Rattle.pr_ear.specs.declared.decoding.DecoderTold.TheVariants.{Done, GoesBack, NoDecoder}
 use Rattle.pr_ear.specs.Hearing.{bit_of, edge_of}
 
 -- the moment of the last of some edges
@@ -35,19 +34,16 @@ abbrev pub settled_by : List WireEdge → List Reading
 settled_by edges = settled_of (map edge_of edges)
 
 -- the answer to one more edge: the reading that it settles, if any; or that time goes back
-abbrev pub TellsNext : List WireEdge → WireEdge → DecoderTold → Type 0
-TellsNext edges edge (Done reading) =
+abbrev pub TellsNext : List WireEdge → WireEdge → Result (Option Reading) GoesBack → Type 0
+TellsNext edges edge (Ok reading) =
     (settled_by (edges ++ edge ∷ []) ≡ settled_by edges ++ option_to_list reading)
     × (StandsBefore edge.time (last_moment edges) → ⊥)
-TellsNext edges edge GoesBack = StandsBefore edge.time (last_moment edges)
-TellsNext edges edge NoDecoder = ⊥
+TellsNext edges edge (Err back) = StandsBefore edge.time (last_moment edges)
 
 -- the answer at the end of these edges, after these readings: they are all that is settled, and the
 -- end cuts one more byte, or none
-abbrev pub TellsCut : List WireEdge → (given : List Reading) → DecoderTold → Type 0
-TellsCut edges given (Done reading) = (settled_by edges ≡ given) × (said_by edges ≡ given ++ option_to_list reading)
-TellsCut edges given GoesBack = ⊥
-TellsCut edges given NoDecoder = ⊥
+abbrev pub TellsCut : List WireEdge → (given : List Reading) → Option Reading → Type 0
+TellsCut edges given cut = (settled_by edges ≡ given) × (said_by edges ≡ given ++ option_to_list cut)
 
 -- the pulse of end-or-identify, as numbers
 abbrev pub eoi_number : Option Pulse → ℕ
@@ -112,14 +108,16 @@ reading_numbers (Some (IncompleteByte t (glitch.ClockTimeout time))) =
     record { byte = byte_numbers t; end = time; kind = 5 }
 reading_numbers (Some (IncompleteByte t glitch.Cut)) = record { byte = byte_numbers t; end = 0; kind = 6 }
 
--- an answer as numbers: the reading, and the codes
-abbrev pub reading_of : DecoderTold → WireReading
-reading_of (Done reading) = reading_numbers reading
-reading_of GoesBack = reading_numbers None
-reading_of NoDecoder = reading_numbers None
+-- how many there are, and the codes
+abbrev pub settled_answer : Option Reading → Answer
+settled_answer None = record { code = 0; fault = 0; place = 0; length = 0 }
+settled_answer (Some reading) = record { code = 0; fault = 0; place = 0; length = 1 }
 
-abbrev pub decoder_answer_of : DecoderTold → Answer
-decoder_answer_of (Done None) = record { code = 0; fault = 0; place = 0; length = 0 }
-decoder_answer_of (Done (Some reading)) = record { code = 0; fault = 0; place = 0; length = 1 }
-decoder_answer_of GoesBack = record { code = 2; fault = 12; place = 0; length = 0 }
-decoder_answer_of NoDecoder = record { code = 2; fault = 27; place = 0; length = 0 }
+-- an answer to an edge as numbers: the reading, and the codes
+abbrev pub reading_of : Result (Option Reading) GoesBack → WireReading
+reading_of (Ok reading) = reading_numbers reading
+reading_of (Err back) = reading_numbers None
+
+abbrev pub decoder_answer_of : Result (Option Reading) GoesBack → Answer
+decoder_answer_of (Ok reading) = settled_answer reading
+decoder_answer_of (Err back) = record { code = 2; fault = 12; place = 0; length = 0 }

@@ -84,3 +84,8 @@ answer_of (Heard n) = record { code = 0; fault = 0; place = 0; length = n }
 answer_of (Unlawful fault) = record { code = 2; fault = fault_code fault; place = fault_index fault; length = 0 }
 answer_of (TooSmall n) = record { code = 4; fault = 0; place = 0; length = n }
 answer_of NoDevice = record { code = 2; fault = 21; place = 0; length = 0 }
+
+-- the answer of a beginning: whether there is such a device
+abbrev pub begin_answer_of : Bool → Answer
+begin_answer_of true = record { code = 0; fault = 0; place = 0; length = 0 }
+begin_answer_of false = record { code = 2; fault = 21; place = 0; length = 0 }

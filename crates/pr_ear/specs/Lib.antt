@@ -1,10 +1,10 @@
 pub mod Hearing
 pub mod Buffers
 pub mod Decoding
-pub mod DecoderNumbers
 pub mod DecoderTaken
 pub mod DecoderLeft
-pub mod EarNumbers
+pub mod Receiving
+pub mod ReceiverLeft
 pub mod Numbers
 pub mod Taken
-pub mod Ears
+pub mod Strict

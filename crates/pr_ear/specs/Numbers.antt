@@ -1,21 +1,68 @@
--- Linking words: how a standing is held in an ear's numbers. No reader needs to believe them; that a standing comes back from its numbers
--- is proved.
-use Rattle.std.specs.Prelude.{ℕ, ◌≤◌, Bool, ◌==◌, nat_lt, if◌then◌else◌, List, length, Option, Some, None}
+-- Linking words: how a standing is held in the numbers of a strict receiver. No reader needs to believe them; that a standing comes back
+-- from its numbers is proved (`StandingsComeBack`). All numbers are those of some standing: a device above 30 is 30, more than eight bits
+-- are none, and other numbers that mean nothing are those of the last case.
+use Rattle.std.specs.Prelude.{◌≡◌, ℕ, ◌≤◌, Bool, ◌==◌, min, nat_lt, if◌then◌else◌, List, length, Option, Some, None}
 use Rattle.pr_wire.specs.declared.Edge.{Edge}
 use Rattle.pr_wire.specs.declared.bus_state.EdgeError.TheVariants.{Order, TooEarly, TooLate, Shape}
 use Rattle.pr_wire.specs.declared.bus_state.BusState.{BusState}
 use Rattle.pr_wire.specs.declared.bus_state.BusState.TheVariants.{Idle, Call, Ready, Free, Pulse, After, Bit, High, Last, Ack, Freed}
 use Rattle.pr_wire.specs.declared.bus_state.ByteRole.{ByteRole}
 use Rattle.pr_wire.specs.declared.bus_state.ByteRole.TheVariants.{First, Second, Data}
+use Rattle.pr_wire.specs.Levels.{byte_of}
 use Rattle.pr_wire.specs.Packed.{bits_in}
 use Rattle.pr_ear.specs.declared.WireEdge.{WireEdge}
-use Rattle.pr_ear.specs.declared.numbers.Ear.{Ear}
+use Rattle.pr_ear.specs.declared.numbers.StrictReceiver.{StrictReceiver}
 use Rattle.pr_ear.specs.declared.numbers.PlaceNumbers.{PlaceNumbers}
 use Rattle.pr_wire.specs.declared.follower.Refusal.{Refusal}
 use Rattle.pr_wire.specs.declared.follower.Refusal.TheVariants.{Start, Flawed}
 use Rattle.pr_ear.specs.declared.standing.Standing.{Standing}
-use Rattle.pr_ear.specs.EarNumbers.{stored_place}
 use Rattle.pr_ear.specs.Hearing.{bit_of, edge_of}
+
+-- the role of the byte that is sent, as a number
+abbrev pub sending_number : ByteRole → ℕ
+sending_number First = 0
+sending_number Second = 1
+sending_number Data = 2
+
+-- the numbers of a place that needs only its number and its moment
+abbrev pub plain_place : (place since : ℕ) → PlaceNumbers
+plain_place place since =
+    record {
+      since = since;
+      released = 0;
+      place = place;
+      sending = 0;
+      eoi = 0;
+      count = 0;
+      byte = 0;
+      bit = 0;
+      unlistened = 0;
+    }
+
+-- the numbers of a place in which a byte is sent
+abbrev pub byte_place : (place since : ℕ) → ByteRole → Bool → List Bool → (bit : ℕ) → PlaceNumbers
+byte_place place since sending eoi seen bit = record (plain_place place since) {
+  sending = sending_number sending;
+  eoi = bit_of eoi;
+  count = length seen;
+  byte = byte_of seen;
+  bit = bit;
+}
+
+-- the numbers of a place
+abbrev pub stored_place : BusState → PlaceNumbers
+stored_place (Idle since) = plain_place 0 since
+stored_place (Call since pulled) = record (plain_place 1 since) { bit = bit_of pulled }
+stored_place (Ready since sending) = record (plain_place 2 since) { sending = sending_number sending }
+stored_place (Free since sending) = record (plain_place 3 since) { sending = sending_number sending }
+stored_place (Pulse since released) = record (plain_place 4 since) { released = released }
+stored_place (After since) = plain_place 5 since
+stored_place (Bit since sending eoi seen bit) = byte_place 6 since sending eoi seen (bit_of bit)
+stored_place (High since sending eoi seen bit) = byte_place 7 since sending eoi seen (bit_of bit)
+stored_place (Last since sending eoi seen) = byte_place 8 since sending eoi seen 0
+stored_place (Ack since sending byte) = record (plain_place 9 since) { sending = sending_number sending; byte = byte }
+stored_place (Freed since unlistened released) =
+    record (plain_place 10 since) { bit = bit_of released; unlistened = bit_of unlistened }
 
 -- which byte is sent, by its number
 abbrev pub sending_by : ℕ → ByteRole
@@ -82,7 +129,7 @@ begun_number None = 0
 begun_number (Some e) = 1
 
 -- the numbers of a standing
-abbrev pub stored : Standing → Ear
+abbrev pub stored : Standing → StrictReceiver
 stored s =
     record {
       taken = s.taken;
@@ -96,14 +143,14 @@ stored s =
     }
 
 -- a standing by its numbers
-abbrev pub standing_by : Ear → Standing
-standing_by ear =
+abbrev pub standing_by : StrictReceiver → Standing
+standing_by receiver =
     record {
-      taken = ear.taken;
-      last = if ear.begun == 1 then Some (edge_of ear.last) else None;
-      place = place_by ear.place;
-      listener = record { device = ear.device; listens = ear.listens == 1; called = ear.called == 1 };
-      refused = refusal_by ear.refused;
+      taken = receiver.taken;
+      last = if receiver.begun == 1 then Some (edge_of receiver.last) else None;
+      place = place_by receiver.place;
+      listener = record { device = min receiver.device 30; listens = receiver.listens == 1; called = receiver.called == 1 };
+      refused = refusal_by receiver.refused;
     }
 
 -- a place has no more bits than a byte
@@ -112,3 +159,9 @@ HasFewBits (Bit since sending eoi seen bit) = length seen ≤ 8
 HasFewBits (High since sending eoi seen bit) = length seen ≤ 8
 HasFewBits (Last since sending eoi seen) = length seen ≤ 8
 HasFewBits _ = Unit {0}
+
+-- what is stored is what is restored
+abbrev pub StandingsComeBack : Type 0
+StandingsComeBack =
+    (standing : Standing) → HasFewBits standing.place → standing.listener.device ≤ 30 → standing_by (stored standing)
+    ≡ standing

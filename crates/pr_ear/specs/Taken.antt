@@ -1,5 +1,5 @@
--- Linking words: what ties an ear to the edges that it was given. No reader needs to believe them.
-use Rattle.std.specs.Prelude.{◌≡◌, ℕ, ◌+◌, ◌<◌, ◌≤◌, true, false, List, ◌∷◌, [], ◌++◌, map, Option, Some, None, Result, Ok, Err}
+-- Linking words: what ties a strict receiver to the edges that it was given. No reader needs to believe them.
+use Rattle.std.specs.Prelude.{◌≡◌, ℕ, ◌<◌, List, ◌∷◌, [], ◌++◌, map, Option, Some, None, Result, Ok, Err}
 use Rattle.pr_page.specs.declared.input.Input.{Input}
 use Rattle.pr_wire.specs.declared.Edge.{Edge}
 use Rattle.pr_wire.specs.declared.Frame.{Frame}
@@ -12,14 +12,11 @@ use Rattle.pr_wire.specs.Reached.{Reached, begin, reached}
 use Rattle.pr_wire.specs.Table.{fault_of, IsAllowed}
 use Rattle.pr_receiver.specs.Given.{frames_ended, input_at}
 use Rattle.pr_receiver.specs.Kept.{kept_of}
-use Rattle.pr_receiver.specs.declared.listener.Listener.{Listener}
 use Rattle.pr_ear.specs.declared.WireEdge.{WireEdge}
-use Rattle.pr_ear.specs.declared.numbers.Ear.{Ear}
+use Rattle.pr_ear.specs.declared.numbers.StrictReceiver.{StrictReceiver}
 use Rattle.pr_wire.specs.declared.follower.Refusal.{Refusal}
-use Rattle.pr_wire.specs.declared.follower.Refusal.TheVariants.{Start, Flawed}
 use Rattle.pr_ear.specs.declared.standing.Standing.{Standing}
 use Rattle.pr_ear.specs.Hearing.{edge_of, IsDevice}
-use Rattle.pr_ear.specs.EarNumbers.{stored_place, CanLead, IsEar}
 use Rattle.pr_ear.specs.Numbers.{standing_by}
 
 -- this many edges have come, and no more than microseconds; only after the first is it otherwise
@@ -63,44 +60,7 @@ abbrev pub RefusesAs : ℕ → WaveFault → Result (Option Frame) Refusal → T
 RefusesAs n fault (Ok frame) = ⊥
 RefusesAs n fault (Err refusal) = refusal_at refusal n ≡ fault
 
--- what a device keeps of frames: only one that listens was called by the last of them
-pub record CanListen (l : Listener) : Type 0 where
-  pub device : IsDevice l.device
-  pub called : l.called ≡ true → l.listens ≡ true
-
--- at most an edge was refused as no first one; at most one was refused after others
-abbrev pub IsFirstRefusal : Option Refusal → Type 0
-IsFirstRefusal (Some (Flawed flaw)) = ⊥
-IsFirstRefusal _ = Unit {0}
-
-abbrev pub IsLaterRefusal : Option Refusal → Type 0
-IsLaterRefusal (Some Start) = ⊥
-IsLaterRefusal _ = Unit {0}
-
--- a standing before all edges, and one after some
-pub record IsBefore (s : Standing) : Type 0 where
-  pub taken : s.taken ≡ 0
-  pub place : s.place ≡ Idle 0
-  pub listens : s.listener.listens ≡ false
-  pub refused : IsFirstRefusal s.refused
-
-pub record IsBehind (last : Edge) (s : Standing) : Type 0 where
-  pub some : 0 < s.taken
-  pub first : s.taken ≡ 1 → (last.time ≡ 0) × ((stored_place s.place).place ≡ 0)
-  pub further : 1 < s.taken → s.taken + 98 ≤ last.time
-  pub leads : CanLead last s.place
-  pub refused : IsLaterRefusal s.refused
-
-abbrev pub FitsLast : Option Edge → Standing → Type 0
-FitsLast None s = IsBefore s
-FitsLast (Some last) s = IsBehind last s
-
--- a standing is stored as the numbers of an ear
-pub record CanStand (s : Standing) : Type 0 where
-  pub listener : CanListen s.listener
-  pub fits : FitsLast s.last s
-
--- the ear was begun for this device and then given these edges, in this order, and no others
-pub record HasTaken (device : ℕ) (edges : List WireEdge) (ear : Ear) : Type 0 where
-  pub ear_is : IsEar ear
-  pub come : HasCome device (map edge_of edges) (standing_by ear)
+-- the receiver was begun for this device and then given these edges, in this order, and no others
+pub record HasTaken (device : ℕ) (edges : List WireEdge) (receiver : StrictReceiver) : Type 0 where
+  pub device_fits : IsDevice device
+  pub come : HasCome device (map edge_of edges) (standing_by receiver)

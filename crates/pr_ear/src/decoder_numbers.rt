@@ -1,11 +1,9 @@
 //! How a decoder is held in plain numbers, which a caller of another language can own.
 
-ghost use Rattle.std.specs.Prelude.{◌≡◌, None, IfSome};
+ghost use Rattle.std.specs.Prelude.{◌≡◌};
 ghost use Rattle.pr_ear.specs.Decoding.{byte_numbers, reading_numbers};
-ghost use Rattle.pr_ear.specs.DecoderNumbers.{no_edge, IsDecoder};
-ghost use Rattle.pr_ear.specs.DecoderTaken.{byte_from, byte_in, begun_in, called_in, decoder_by, first_in, last_in, pulse_from, sent_in, stored, stretch_by, transfer_by, turn1, turn2, turn3, turn4, turns_by, turns_in, turns_number};
+ghost use Rattle.pr_ear.specs.DecoderTaken.{DecodersComeBack, byte_from, byte_in, begun_in, called_in, decoder_by, first_in, last_in, no_edge, pulse_from, sent_in, stored, stretch_by, transfer_by, turn1, turn2, turn3, turn4, turns_by, turns_in, turns_number};
 
-use crate::decoder_fits::is_decoder;
 use crate::numbers::{NO_EDGE, bit, wire_for};
 use crate::{WireEdge, edge_for};
 use pr_decode::{
@@ -61,7 +59,8 @@ pub struct WireReading {
 }
 
 /// What a caller keeps of a recording between two edges. The numbers are this library's: a caller writes
-/// none of them. Numbers that are not those of a decoder (`IsDecoder`) are refused.
+/// none of them. All numbers mean some decoder: more than four `turns` are four, and a `begun`, `called`,
+/// `sent`, `command` or `eoi` that is not 1 is 0.
 #[repr(C)]
 #[derive(Clone, Copy, Debug, PartialEq, Eq)]
 pub struct WireDecoder {
@@ -312,7 +311,7 @@ fn byte_for(numbers: &WireByte) -> Transfer
 }
 
 /// The decoder that numbers mean.
-fn decoder_for(numbers: &WireDecoder) -> Decoder
+pub fn restore(numbers: &WireDecoder) -> Decoder
     ensures { result ≡ decoder_by numbers.now }
 {
     Decoder {
@@ -325,14 +324,7 @@ fn decoder_for(numbers: &WireDecoder) -> Decoder
     }
 }
 
-/// The decoder that numbers hold, if they are those of one.
-pub fn restore(numbers: &WireDecoder) -> Option<Decoder>
-    ensures some { IfSome result (λ d. (d ≡ decoder_by numbers.now) × IsDecoder numbers.now) }
-    ensures none { result ≡ None → IsDecoder numbers.now → ⊥ }
-{
-    if is_decoder(numbers) {
-        Some(decoder_for(numbers))
-    } else {
-        None
-    }
-}
+/// A law: the decoder that is restored is the one that was stored.
+pub fn decoders_come_back()
+    ensures { DecodersComeBack }
+{}

@@ -1,14 +1,19 @@
-//! What a device hears of a trace, for C programs: over the caller's memory alone.
+//! What a device hears of a bus, for C programs: over the caller's memory alone.
 //!
-//! [`print1525_hear`] takes a whole trace. An [`Ear`] takes it edge by edge as it comes, and lies in
-//! the caller's memory between two edges; the headline is on [`print1525_ear_edge`]. Nothing here
-//! takes memory, and no pointer is kept. Each slice is a pointer and then a length.
+//! A [`WireReceiver`] takes the edges of any bus as they come, and lies in the caller's memory between
+//! two edges; the headline is on [`print1525_receiver_edge`]. [`print1525_receive`] takes a whole
+//! lawful trace, and a [`StrictReceiver`] takes one edge by edge and refuses its first fault. Nothing
+//! here takes memory, and no pointer is kept. Each slice is a pointer and then a length.
 //!
 //! - This file goes over a list of edges twice: once to count what is heard, so that a buffer that is too
 //!   small stays as it was, and once to put it there.
-//! - `ear` takes edge by edge. Between two calls a receiver's state lies in the numbers of `numbers`, since
-//!   no enum crosses to C; `standing` stores and restores it, and `fits` says which numbers are a state.
-//! - `decoding` is the same for a decoder of recordings, with `decoder_numbers` and `decoder_fits`.
+//! - `decoding` is a decoder of recordings edge by edge. Between two calls it lies in the numbers of
+//!   `decoder_numbers`, since no enum crosses to C. `receiving` is a device over it.
+//! - `strict` is a device on a bus that is lawful by the profile; `numbers` stores and restores its
+//!   `standing`.
+//!
+//! All numbers mean some state, so nothing that a caller has saved is refused. What is stored is what is
+//! restored.
 //!
 //! `make lib` puts this crate and pr_c into one archive: docs/C.md.
 #![tactic(auto)]
@@ -18,31 +23,37 @@ ghost use Rattle.std.specs.Option.{option_to_list};
 ghost use Rattle.pr_wire.specs.declared.WaveFault.TheVariants.{NoMemory};
 ghost use Rattle.pr_wire.specs.Table.{fault_of};
 ghost use Rattle.pr_ear.specs.Buffers.{IsFilled, KeepsOn};
-ghost use Rattle.pr_ear.specs.Hearing.{IsDevice, Tells, answer_of, edge_of, fault_code, fault_index, number_of};
+ghost use Rattle.pr_ear.specs.Hearing.{IsDevice, Tells, answer_of, begin_answer_of, edge_of, fault_code, fault_index, number_of};
 ghost use Rattle.pr_ear.specs.declared.Told.{Told};
 ghost use Rattle.pr_ear.specs.declared.Told.TheVariants.{Unlawful};
 
-mod decoder_fits;
 mod decoder_numbers;
 mod decoding;
-mod ear;
-mod fits;
 mod numbers;
+mod receiving;
 mod standing;
+mod strict;
 
-pub use decoder_numbers::{WireByte, WireDecoder, WireReading};
+pub use decoder_numbers::{WireByte, WireDecoder, WireReading, decoders_come_back};
 pub use decoding::{
-    DecoderTold, begin_decoder, decode_edge, end_decoder, print1525_decode_begin,
-    print1525_decode_edge, print1525_decode_end,
+    begin_decoder, decode_edge, end_decoder, print1525_decode_begin, print1525_decode_edge,
+    print1525_decode_end,
 };
-pub use ear::{
-    EarAnswer, EarTold, begin_ear, ears_hear_the_same, end_ear, first_faults_stay,
-    print1525_ear_begin, print1525_ear_edge, print1525_ear_end, take_edge,
-};
-pub use numbers::{Ear, PlaceNumbers};
+pub use numbers::{PlaceNumbers, StrictReceiver, standings_come_back};
 use pr_page::Input;
 use pr_receiver::{Receiver, inputs_add_up, traces_give_what_is_heard};
 use pr_wire::{Edge, Levels, WaveFault, allowed_traces, lawful_traces};
+pub use receiving::{
+    Received, WireReceived, WireReceiver, begin_receiver, print1525_receiver_begin,
+    print1525_receiver_edge, receive_edge, receivers_hear_what_is_printed,
+};
+pub use strict::{
+    begin_strict, end_strict, first_faults_stay, print1525_strict_begin, print1525_strict_edge,
+    print1525_strict_end, strict_edge, strict_receivers_hear_the_same,
+};
+
+/// The greatest number of a device: LISTEN 31 would be UNLISTEN.
+const LAST_DEVICE: u8 = 30;
 
 /// An edge of a trace: the moment from which on the lines have these levels.
 #[repr(C)]
@@ -70,6 +81,10 @@ pub enum Told {
     /// There is no such device: 4 to 30 are devices.
     NoDevice,
 }
+
+/// There is no such device: 4 to 30 are devices.
+#[derive(Clone, Copy, Debug, PartialEq, Eq)]
+pub struct NoSuchDevice;
 
 /// What came of a trace, as numbers: those of every call of the library for C.
 #[repr(C)]
@@ -158,7 +173,7 @@ fn fill(device: u8, edges: &[WireEdge], out: &mut [u16]) -> Result<usize, WaveFa
 }
 
 /// Goes over a trace to count what a device hears of it, and once more where the buffer has room.
-fn hear_twice(device: u8, edges: &[WireEdge], out: &mut [u16]) -> Told
+fn receive_twice(device: u8, edges: &[WireEdge], out: &mut [u16]) -> Told
     requires least { 4 ≤ device }
     requires greatest { device ≤ 30 }
     ensures tells { Tells device edges.now out.old out.new result }
@@ -187,13 +202,13 @@ fn hear_twice(device: u8, edges: &[WireEdge], out: &mut [u16]) -> Told
 /// It is refused where the device is none of 4 to 30; with the first fault of the edges, where they
 /// are not lawful; and where there are more inputs than the buffer has room for, with their number.
 /// All of the buffer is then as it was.
-pub fn hear(device: u8, edges: &[WireEdge], out: &mut [u16]) -> Told
+pub fn receive(device: u8, edges: &[WireEdge], out: &mut [u16]) -> Told
     ensures tells { Tells device edges.now out.old out.new result }
     ensures memory { result ≢ Unlawful NoMemory }
     ensures length { length out.new ≡ length out.old }
 {
     if is_device(device) {
-        hear_twice(device, edges, out)
+        receive_twice(device, edges, out)
     } else {
         Told::NoDevice
     }
@@ -203,7 +218,7 @@ pub fn hear(device: u8, edges: &[WireEdge], out: &mut [u16]) -> Told
 fn is_device(device: u8) -> bool
     ensures yes { result ≡ true ↔ IsDevice device }
 {
-    (4..=30).contains(&device)
+    (4..=LAST_DEVICE).contains(&device)
 }
 
 /// An answer with no fault.
@@ -218,21 +233,37 @@ fn plain(code: usize, length: usize) -> Answer
     }
 }
 
-/// The answer, as numbers.
-fn numbered(told: Told) -> Answer
-    ensures { result ≡ answer_of told }
+/// The answer of a refusal.
+fn refused(fault: usize, place: usize) -> Answer
+    ensures { result ≡ record { code = 2; fault = fault; place = place; length = 0 } }
 {
-    let (fault, place) = match told {
-        Told::Heard(length) => return plain(0, length),
-        Told::TooSmall(length) => return plain(4, length),
-        Told::Unlawful(fault) => numbers_of(fault),
-        Told::NoDevice => (21, 0),
-    };
     Answer {
         code: 2,
         fault,
         place,
         length: 0,
+    }
+}
+
+/// The answer of a beginning: whether there is such a device.
+fn begun(exists: bool) -> Answer
+    ensures { result ≡ begin_answer_of exists }
+{
+    if exists { plain(0, 0) } else { refused(21, 0) }
+}
+
+/// The answer, as numbers.
+fn numbered(told: Told) -> Answer
+    ensures { result ≡ answer_of told }
+{
+    match told {
+        Told::Heard(length) => plain(0, length),
+        Told::TooSmall(length) => plain(4, length),
+        Told::Unlawful(fault) => {
+            let (number, place) = numbers_of(fault);
+            refused(number, place)
+        }
+        Told::NoDevice => refused(21, 0),
     }
 }
 
@@ -252,9 +283,9 @@ fn numbers_of(fault: WaveFault) -> (usize, usize)
 }
 
 /// Puts the inputs that a device hears of a trace at the front of the caller's buffer, and writes
-/// the whole answer: what [`hear`] answers, in plain numbers. It takes no memory.
+/// the whole answer: what [`receive`] answers, in plain numbers. It takes no memory.
 #[unsafe(no_mangle)]
-pub extern "C" fn print1525_hear(
+pub extern "C" fn print1525_receive(
     device: u8,
     edges: &[WireEdge],
     out: &mut [u16],
@@ -263,5 +294,5 @@ pub extern "C" fn print1525_hear(
     ensures tells { (told : Told) × Tells device edges.now out.old out.new told × (answer.new ≡ answer_of told) }
     ensures length { length out.new ≡ length out.old }
 {
-    *answer = numbered(hear(device, edges, out));
+    *answer = numbered(receive(device, edges, out));
 }

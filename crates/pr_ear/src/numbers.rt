@@ -1,17 +1,14 @@
-//! How an ear's standing is held in plain numbers, which a caller of another language can own.
+//! How the standing of a strict receiver is held in plain numbers, which a caller of another language can own.
 
-ghost use Rattle.std.specs.Prelude.{◌==◌, ◌≡◌, ◌≤◌, ◌<◌, ◌++◌, ◌∷◌, [], length, Bool, List, ℕ, None, IfSome};
+ghost use Rattle.std.specs.Prelude.{◌==◌, ◌≡◌, ◌≤◌, ◌<◌, ◌++◌, ◌∷◌, [], length, Bool, List, ℕ};
 ghost use Rattle.pr_wire.specs.Packed.{bits_in};
 ghost use Rattle.pr_wire.specs.declared.bus_state.BusState.{BusState};
 ghost use Rattle.pr_wire.specs.declared.bus_state.ByteRole.{ByteRole};
 ghost use Rattle.pr_ear.specs.Hearing.{bit_of};
-ghost use Rattle.pr_ear.specs.EarNumbers.{byte_place, plain_place, sending_number, stored_place, IsEar};
-ghost use Rattle.pr_ear.specs.Taken.{CanStand};
-ghost use Rattle.pr_ear.specs.Numbers.{bits_by, begun_number, byte_place_by, few, place_by, refusal_by, refusal_number, sending_by, standing_by, stored, stored_last, wire_of, HasFewBits};
+ghost use Rattle.pr_ear.specs.Numbers.{bits_by, begun_number, byte_place, byte_place_by, few, place_by, plain_place, refusal_by, refusal_number, sending_by, sending_number, standing_by, stored, stored_last, stored_place, wire_of, HasFewBits, StandingsComeBack};
 
-use crate::fits::is_ear;
 use crate::standing::Standing;
-use crate::{WireEdge, edge_for};
+use crate::{LAST_DEVICE, WireEdge, edge_for};
 use pr_receiver::Listener;
 use pr_wire::{BusState, ByteRole, Edge, EdgeError, Levels, Refusal, Step};
 
@@ -40,12 +37,12 @@ pub struct PlaceNumbers {
     pub unlistened: u8,
 }
 
-/// What a caller keeps of a device between two edges. The numbers are this library's: a caller
-/// writes none of them. Numbers that are not those of an ear (`IsEar`) are refused. Of such as are,
-/// though no edges leave them, it is only said that they stay those of an ear.
+/// What a caller keeps of a device on a lawful bus between two edges. The numbers are this library's: a
+/// caller writes none of them. All numbers mean some receiver: a `device` above 30 is 30, more than eight
+/// bits are none, and a number that means nothing is the last of those that do, or 0.
 #[repr(C)]
 #[derive(Clone, Copy, Debug, PartialEq, Eq)]
-pub struct Ear {
+pub struct StrictReceiver {
     /// How many edges were accepted.
     pub taken: usize,
     /// The last of them, if one was.
@@ -400,11 +397,11 @@ fn numbers_of_last(last: Option<Edge>) -> WireEdge
 }
 
 /// The numbers of a standing.
-pub fn store(standing: &Standing) -> Ear
+pub fn store(standing: &Standing) -> StrictReceiver
     ensures value { result ≡ stored standing.now }
     ensures few { HasFewBits standing.now.place }
 {
-    Ear {
+    StrictReceiver {
         taken: standing.taken,
         last: numbers_of_last(standing.last),
         place: numbers_of_place(&standing.place),
@@ -420,35 +417,28 @@ pub fn store(standing: &Standing) -> Ear
 }
 
 /// The standing that numbers mean.
-fn standing_for(ear: &Ear) -> Standing
-    ensures { result ≡ standing_by ear.now }
+pub fn restore(receiver: &StrictReceiver) -> Standing
+    ensures value { result ≡ standing_by receiver.now }
+    ensures device { result.listener.device ≤ 30 }
 {
     Standing {
-        taken: ear.taken,
-        last: if ear.begun == 1 {
-            Some(edge_for(ear.last))
+        taken: receiver.taken,
+        last: if receiver.begun == 1 {
+            Some(edge_for(receiver.last))
         } else {
             None
         },
-        place: place_for(&ear.place),
+        place: place_for(&receiver.place),
         listener: Listener {
-            device: ear.device,
-            listens: ear.listens == 1,
-            called: ear.called == 1,
+            device: receiver.device.min(LAST_DEVICE),
+            listens: receiver.listens == 1,
+            called: receiver.called == 1,
         },
-        refused: refusal_for(ear.refused),
+        refused: refusal_for(receiver.refused),
     }
 }
 
-/// The standing that an ear holds, if its numbers are those of one.
-pub fn restore(ear: &Ear) -> Option<Standing>
-    ensures some { IfSome result (λ s. (s ≡ standing_by ear.now) × IsEar ear.now) }
-    ensures fits { IfSome result (λ s. CanStand s) }
-    ensures none { result ≡ None → IsEar ear.now → ⊥ }
-{
-    if is_ear(ear) {
-        Some(standing_for(ear))
-    } else {
-        None
-    }
-}
+/// A law: the standing that is restored is the one that was stored.
+pub fn standings_come_back()
+    ensures { StandingsComeBack }
+{}

@@ -1,4 +1,4 @@
-//! How far the edges that an ear was given have come.
+//! How far the edges that a strict receiver was given have come.
 
 ghost use Rattle.std.specs.Prelude.{◌≡◌, ◌≢◌, ◌<◌, ◌+◌, ◌≤◌, ◌++◌, ◌∷◌, [], ℕ, List, Ok, IfErr, MatchResult};
 ghost use Rattle.pr_wire.specs.declared.WaveFault.TheVariants.{NoMemory};
@@ -9,9 +9,7 @@ ghost use Rattle.pr_wire.specs.declared.Frame.{Frame};
 ghost use Rattle.pr_wire.specs.Reached.{step_of};
 ghost use Rattle.pr_receiver.specs.Given.{input_of_any};
 ghost use Rattle.pr_receiver.specs.Kept.{kept_of};
-ghost use Rattle.pr_receiver.specs.declared.listener.Listener.{Listener};
-ghost use Rattle.pr_ear.specs.Hearing.{IsDevice};
-ghost use Rattle.pr_ear.specs.Taken.{CanListen, CanStand, HasCome, IsRight, IsRightEnd, RefusesAs};
+ghost use Rattle.pr_ear.specs.Taken.{HasCome, IsRight, IsRightEnd, RefusesAs};
 
 use pr_page::Input;
 use pr_receiver::{Listener, frames_are_heard_in_turn};
@@ -43,8 +41,7 @@ fn counted(taken: usize, time: u64) -> usize
 impl Standing {
     /// No edge has come.
     pub fn new(device: u8) -> Standing
-        ensures come { HasCome device [] result }
-        ensures fits { IsDevice device → CanStand result }
+        ensures { HasCome device [] result }
     {
         allowed_traces();
         Standing {
@@ -82,8 +79,6 @@ impl Standing {
         ensures heard { (device : ℕ) (before : List Frame) → self.old.listener ≡ kept_of device before →
             (result ≡ input_of_any device before frame)
             × (self.new ≡ record self.old { listener = kept_of device (before ++ option_to_list frame) }) }
-        ensures listens { CanListen self.old.listener →
-            (l : Listener) × CanListen l × (self.new ≡ record self.old { listener = l }) }
     {
         frames_are_heard_in_turn();
         self.listener.hear(frame?)
@@ -98,7 +93,6 @@ impl Standing {
         requires { self.old.listener.device ≤ 30 }
         ensures right { (device : ℕ) (edges : List Edge) → HasCome device edges self.old → IsRight device edges edge result }
         ensures come { (device : ℕ) (edges : List Edge) → HasCome device edges self.old → HasCome device (edges ++ edge ∷ []) self.new }
-        ensures fits { CanStand self.old → CanStand self.new }
         ensures memory { IfErr result (λ fault. fault ≢ NoMemory) }
     {
         allowed_traces();

@@ -42,12 +42,12 @@ run_shape name formats =
 abbrev pub trace_shape : Text → ValueOption → ValueOption → Shape
 trace_shape name from formats =
     subcommand name (value_rule from ∷ value_rule option.names ∷ flag_rule option.invert
-    ∷ value_rule option.from_time ∷ value_rule formats ∷ flag_rule option.explain ∷ [])
+    ∷ value_rule option.from_time ∷ value_rule option.rate ∷ value_rule formats ∷ flag_rule option.explain ∷ [])
 
 -- the subcommand that writes the page of a printer's bytes
 abbrev pub raw_shape : Shape
 raw_shape =
-    subcommand (codes "raw") (value_rule option.set ∷ value_rule option.page_as ∷ flag_rule option.explain ∷ [])
+    subcommand (codes "raw") (value_rule option.set ∷ value_rule option.raw_as ∷ flag_rule option.explain ∷ [])
 
 -- the same with what of the pages a picture shows, and the file of its characters
 abbrev pub with_part : Shape → Shape
@@ -55,6 +55,11 @@ with_part s =
     record s {
       rules = s.rules ++ value_rule option.device ∷ value_rule option.sheet ∷ file_rule option.characters ∷ [];
     }
+
+-- the same with the intervals of a recording, and their bounds
+abbrev pub with_measures : Shape → Shape
+with_measures s =
+    record s { rules = s.rules ++ flag_rule option.intervals ∷ value_rule option.bounds ∷ [] }
 
 -- the program: it has a version, and needs one of its subcommands
 abbrev pub print1525 : App
@@ -68,6 +73,6 @@ print1525 = record {
   subs = with_part (run_shape (codes "pages") option.page_as)
       ∷ run_shape (codes "bus") option.trace_as
       ∷ trace_shape (codes "check") option.from option.report_as
-      ∷ with_part (trace_shape (codes "decode") option.reading_from option.reading_as)
+      ∷ with_measures (with_part (trace_shape (codes "decode") option.reading_from option.reading_as))
       ∷ with_part raw_shape ∷ [];
 }

@@ -1,5 +1,5 @@
 -- Trusted: the job that a command line asks for, with clap's reading of the words.
-use Rattle.std.specs.Prelude.{◌≡◌, ◌≢◌, ◌||◌, ⊤, ℕ, Bool, true, false, not, List, Option, Some, None, Result, Ok, Err, [], codes, is_none, ok_or, option_map, unwrap_or, if◌then◌else◌}
+use Rattle.std.specs.Prelude.{◌≡◌, ◌≢◌, ◌||◌, ⊤, ℕ, Bool, true, false, not, List, Option, Some, None, Result, Ok, Err, [], codes, is_none, is_some, ok_or, option_map, unwrap_or, if◌then◌else◌}
 use Rattle.std.specs.Str.{bytes_eq}
 use Rattle.clap.specs.Words.{IsAmong, Row, Text, fault_of, first_of, kind_of, subcommand_of, takes}
 use Rattle.clap.specs.declared.error.kind.ErrorKind.TheVariants.{OutOfMemory}
@@ -13,21 +13,28 @@ use Rattle.pr_render.specs.Showing.{showing}
 use Rattle.pr_render.specs.declared.format.Format.{Format}
 use Rattle.pr_render.specs.declared.format.Format.TheVariants as format
 use Rattle.pr_render.specs.declared.format.Part.{Part}
+use Rattle.pr_render.specs.declared.format.Device.{Device}
+use Rattle.pr_render.specs.declared.format.Device.TheVariants.{Four}
 use Rattle.pr_capture.specs.declared.format.TraceFormat.{TraceFormat}
 use Rattle.pr_capture.specs.declared.format.Source.{Source}
 use Rattle.pr_capture.specs.declared.format.Source.TheVariants as source
 use Rattle.pr_capture.specs.declared.format.TraceInput.{TraceInput}
-use Rattle.pr_report.specs.declared.report.Report.{Report}
+use Rattle.pr_options.specs.declared.outputs.CheckOutput.{CheckOutput}
+use Rattle.pr_report.specs.declared.detail.Detail.{Detail}
 use Rattle.pr_options.specs.OptionNames.{ValueOption}
 use Rattle.pr_options.specs.OptionNames as option
 use Rattle.pr_options.specs.CommandLine.{print1525}
 use Rattle.pr_options.specs.DelayLists.{delays_of}
 use Rattle.pr_options.specs.Given.{file_in, is_given, value_in}
-use Rattle.pr_options.specs.Options.{device_of, form_of, format_of, mode_of, present_of, reading_source_of, report_of, set_of, sheet_of, source_of, start_of, trace_format_of}
+use Rattle.pr_options.specs.Options.{bounds_of, decode_output_of, device_of, form_of, format_of, mode_of, pages_output_of, present_of, rate_of, reading_source_of, report_of, set_of, sheet_of, source_of, start_of, trace_format_of}
 use Rattle.pr_options.specs.SignalNames.{Names, names_of, names_of_signals}
 use Rattle.pr_options.specs.declared.command_line.Job.{Job}
 use Rattle.pr_options.specs.declared.command_line.Job.TheVariants as job
 use Rattle.pr_options.specs.declared.command_line.JobFault.{JobFault}
+use Rattle.pr_options.specs.declared.outputs.DecodeOutput.{DecodeOutput}
+use Rattle.pr_options.specs.declared.outputs.DecodeOutput.TheVariants as reading
+use Rattle.pr_options.specs.declared.outputs.PagesOutput.{PagesOutput}
+use Rattle.pr_options.specs.declared.outputs.PagesOutput.TheVariants as pages
 use Rattle.pr_options.specs.declared.command_line.Task.{Task}
 use Rattle.pr_options.specs.declared.command_line.JobFault.TheVariants as fault
 
@@ -43,13 +50,14 @@ pub record InputView : Type 0 where
   pub names : Names
   pub is_inverted : Bool
   pub start : ℕ
+  pub rate : Option ℕ
 
 -- a job in plain values
 pub data JobView : Type 0 where
-  Pages : ListingForm → RunView → Format → JobView
+  Pages : ListingForm → RunView → PagesOutput → JobView
   Bus : ListingForm → RunView → TraceFormat → JobView
-  Check : InputView → Report → JobView
-  Decode : Bool → InputView → Format → JobView
+  Check : InputView → CheckOutput → JobView
+  Decode : Bool → InputView → DecodeOutput → JobView
   Raw : Bool → Format → JobView
 
 -- a job, the file that it reads, the file that it writes and the one of the characters that it draws, where words name them
@@ -66,6 +74,7 @@ input_view i = record {
   names = names_of_signals i.signals;
   is_inverted = i.signals.is_inverted;
   start = i.start;
+  rate = i.rate;
 }
 
 -- the plain values of how a script is run
@@ -75,12 +84,12 @@ view_of_run present delays mode =
 
 -- the plain values of a job
 abbrev pub job_view : Job → JobView
-job_view (job.Pages form present delays mode format) =
-    Pages form (view_of_run present delays mode) format
+job_view (job.Pages form present delays mode output) =
+    Pages form (view_of_run present delays mode) output
 job_view (job.Bus form present delays mode format) =
     Bus form (view_of_run present delays mode) format
 job_view (job.Check input report) = Check (input_view input) report
-job_view (job.Decode is_found input format) = Decode is_found (input_view input) format
+job_view (job.Decode is_found input output) = Decode is_found (input_view input) output
 job_view (job.Raw lower format) = Raw lower format
 
 -- a job with its files, in plain values
@@ -116,24 +125,31 @@ abbrev pub wants_recording : List Row → Bool
 wants_recording rows = is_given option.invert rows
     || (is_given option.names.name rows || is_given option.from_time.name rows)
 
--- the options fit the source: with a trace text, none of a recording
-abbrev pub fits : Source → List Row → Bool
-fits source.Text rows = not (wants_recording rows)
-fits _ rows = true
+-- an option is given that only a table can have
+abbrev pub wants_table : List Row → Bool
+wants_table rows = is_given option.rate.name rows
+
+-- the options that are given fit the source: with a trace text, none of a recording, and --rate only with a table
+abbrev pub fitting : Source → List Row → Result (Unit {0}) JobFault
+fitting source.Text rows = if wants_recording rows then Err fault.NoRecording
+    else (if wants_table rows then Err fault.NoTable else Ok tt)
+fitting source.Vcd rows = if wants_table rows then Err fault.NoTable else Ok tt
+fitting source.Csv rows = Ok tt
 
 -- how a trace or a recording in this format is to be read
 abbrev pub wanted_input : Source → List Row → Result InputView JobFault
 wanted_input source rows =
     read option.names names_of fault.BadNames rows >>= λ names.
     read option.from_time start_of fault.BadStart rows >>= λ start.
-    if fits source rows
-    then Ok (record {
+    read option.rate rate_of fault.BadRate rows >>= λ rate.
+    fitting source rows >>= λ fits.
+    Ok (record {
       source = source;
       names = names;
       is_inverted = is_given option.invert rows;
       start = start;
+      rate = rate;
     })
-    else Err fault.NoRecording
 
 -- what of the pages is shown
 abbrev pub wanted_part : List Row → Result Part JobFault
@@ -160,9 +176,42 @@ abbrev pub shown : Format → List Row → Result Format JobFault
 shown format rows =
     wanted_part rows >>= λ part. ok_or (showing format part) fault.NoPart >>= λ shown. drawn shown rows
 
--- the format of pages
-abbrev pub wanted_format : ValueOption → JobFault → List Row → Result Format JobFault
-wanted_format option bad rows = read option format_of bad rows >>= λ format. shown format rows
+-- the printer whose bytes are written, 4 if none is named: bytes have no sheets and draw no characters
+abbrev pub heard : List Row → Result Device JobFault
+heard rows =
+    wanted_part rows >>= λ part.
+    if is_some part.sheet then Err fault.NoPart
+    else (if is_some (first_of option.characters rows) then Err fault.NoPicture else Ok (unwrap_or part.device Four))
+
+-- what of the intervals of readings is written: readings are no pictures, so they show no part and draw no characters
+abbrev pub wanted_detail : List Row → Result Detail JobFault
+wanted_detail rows =
+    shown format.List rows >>= λ whole.
+    read option.bounds bounds_of fault.BadBounds rows >>= λ bounds.
+    Ok (record { intervals = is_given option.intervals rows; bounds = bounds })
+
+-- an option is given that only a list of readings can have: JSON has all intervals, and no bounds
+abbrev pub wants_readings : List Row → Bool
+wants_readings rows = is_given option.intervals rows || is_given option.bounds.name rows
+
+-- no option of a list of readings is given
+abbrev pub unmeasured : List Row → Result (Unit {0}) JobFault
+unmeasured rows =
+    read option.bounds bounds_of fault.BadBounds rows >>= λ bounds.
+    if wants_readings rows then Err fault.NoReadings else Ok tt
+
+-- what is written, as the other options say
+abbrev pub pages_output : PagesOutput → List Row → Result PagesOutput JobFault
+pages_output (pages.Pages format) rows = shown format rows >>= λ shown. Ok (pages.Pages shown)
+pages_output (pages.Bytes plain) rows = heard rows >>= λ device. Ok (pages.Bytes device)
+
+abbrev pub decode_output : DecodeOutput → List Row → Result DecodeOutput JobFault
+decode_output (reading.Readings plain) rows = wanted_detail rows >>= λ detail. Ok (reading.Readings detail)
+decode_output reading.Json rows = shown format.List rows >>= λ whole. unmeasured rows >>= λ none. Ok reading.Json
+decode_output (reading.Bytes plain) rows =
+    heard rows >>= λ device. unmeasured rows >>= λ none. Ok (reading.Bytes device)
+decode_output (reading.Pages format) rows =
+    shown format rows >>= λ shown. unmeasured rows >>= λ none. Ok (reading.Pages shown)
 
 -- the jobs of the subcommands; each has its own values of --as
 abbrev pub wanted_check : List Row → Result JobView JobFault
@@ -175,15 +224,16 @@ wanted_check rows =
 -- a recording whose format is not given is a trace text, or a table where something is given that goes with a
 -- recording alone, if its first bytes do not show another one
 abbrev pub unless_found : List Row → Source
-unless_found rows = if wants_recording rows then source.Csv else source.Text
+unless_found rows = if wants_recording rows || wants_table rows then source.Csv else source.Text
 
 -- the first part of a job of `decode` says whether the format is to be found by the first bytes
 abbrev pub wanted_decode : List Row → Result JobView JobFault
 wanted_decode rows =
     read option.reading_from reading_source_of fault.BadReadingFrom rows >>= λ source.
     wanted_input (unwrap_or source (unless_found rows)) rows >>= λ input.
-    wanted_format option.reading_as fault.BadReadingAs rows >>= λ format.
-    Ok (Decode (is_none source) input format)
+    read option.reading_as decode_output_of fault.BadReadingAs rows >>= λ plain.
+    decode_output plain rows >>= λ output.
+    Ok (Decode (is_none source) input output)
 
 abbrev pub wanted_bus : RunView → List Row → Result JobView JobFault
 wanted_bus run rows =
@@ -193,13 +243,16 @@ wanted_bus run rows =
 
 abbrev pub wanted_raw : Bool → List Row → Result JobView JobFault
 wanted_raw lower rows =
-    wanted_format option.page_as fault.BadPageAs rows >>= λ format. Ok (Raw lower format)
+    read option.raw_as format_of fault.BadRawAs rows >>= λ format.
+    shown format rows >>= λ shown.
+    Ok (Raw lower shown)
 
 abbrev pub wanted_pages : RunView → List Row → Result JobView JobFault
 wanted_pages run rows =
     read option.listing_from form_of fault.BadForm rows >>= λ form.
-    wanted_format option.page_as fault.BadPageAs rows >>= λ format.
-    Ok (Pages form run format)
+    read option.page_as pages_output_of fault.BadPageAs rows >>= λ plain.
+    pages_output plain rows >>= λ output.
+    Ok (Pages form run output)
 
 -- the job of a subcommand with these rows of options, or the first bad value: the options of a run
 -- and --set are read for every subcommand, and the last subcommand is `pages`

@@ -51,9 +51,13 @@ page_endings = (codes ".svg", codes "svg") ∷ (codes ".png", codes "png") ∷ (
 abbrev pub trace_endings : List (Text × Text)
 trace_endings = (codes ".vcd", codes "vcd") ∷ []
 
+-- what the endings of a report's name say
+abbrev pub report_endings : List (Text × Text)
+report_endings = (codes ".json", codes "json") ∷ []
+
 -- what the endings of a reading's name say
 abbrev pub reading_endings : List (Text × Text)
-reading_endings = (codes ".svg", codes "svg") ∷ (codes ".png", codes "png") ∷ (codes ".pdf", codes "pdf") ∷ []
+reading_endings = (codes ".svg", codes "svg") ∷ (codes ".png", codes "png") ∷ (codes ".pdf", codes "pdf") ∷ (codes ".json", codes "json") ∷ []
 
 -- which printers are present
 abbrev pub present : ValueOption
@@ -75,11 +79,15 @@ status = plain (codes "status") (codes "each")
 abbrev pub set : ValueOption
 set = plain (codes "set") (codes "upper")
 
--- the format of a page
+-- the format of the page of a printer's bytes
+abbrev pub raw_as : ValueOption
+raw_as = by_file output page_endings (codes "as") (codes "list")
+
+-- what `pages` writes
 abbrev pub page_as : ValueOption
 page_as = by_file output page_endings (codes "as") (codes "list")
 
--- the printer whose pages a picture shows
+-- the printer whose pages a picture shows, or whose bytes are written
 abbrev pub device : ValueOption
 device = plain (codes "device") []
 
@@ -93,7 +101,7 @@ trace_as = by_file output trace_endings (codes "as") (codes "text")
 
 -- what `check` writes
 abbrev pub report_as : ValueOption
-report_as = plain (codes "as") (codes "frames")
+report_as = by_file output report_endings (codes "as") (codes "frames")
 
 -- what `decode` writes
 abbrev pub reading_as : ValueOption
@@ -114,6 +122,18 @@ names = plain (codes "names") (codes "ATN,CLOCK,DATA")
 -- the moment of a recording at which the trace starts
 abbrev pub from_time : ValueOption
 from_time = plain (codes "from-time") (codes "0")
+
+-- the samples in a second of a recording without times
+abbrev pub rate : ValueOption
+rate = plain (codes "rate") []
+
+-- the bounds that the intervals of a recording are measured against
+abbrev pub bounds : ValueOption
+bounds = plain (codes "bounds") (codes "profile")
+
+-- each byte's intervals outside the bounds are written; a flag without a value
+abbrev pub intervals : Text
+intervals = codes "intervals"
 
 -- the probes invert; a flag without a value
 abbrev pub invert : Text

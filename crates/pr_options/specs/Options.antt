@@ -4,6 +4,7 @@ use Rattle.std.specs.List.{list_all}
 use Rattle.std.specs.Str.{bytes_eq}
 use Rattle.clap.specs.Words.{Text}
 use Rattle.pr_base.specs.Digits.{is_digit, number_of}
+use Rattle.pr_capture.specs.TableTimes.{rate_given}
 use Rattle.pr_serial.specs.declared.Present.{Present}
 use Rattle.pr_basic.specs.declared.session.StatusMode.{StatusMode}
 use Rattle.pr_basic.specs.declared.session.StatusMode.TheVariants.{Each, Kept}
@@ -18,8 +19,15 @@ use Rattle.pr_capture.specs.declared.format.TraceFormat.{TraceFormat}
 use Rattle.pr_capture.specs.declared.format.TraceFormat.TheVariants as trace
 use Rattle.pr_capture.specs.declared.format.Source.{Source}
 use Rattle.pr_capture.specs.declared.format.Source.TheVariants as source
-use Rattle.pr_report.specs.declared.report.Report.{Report}
+use Rattle.pr_options.specs.declared.outputs.CheckOutput.{CheckOutput}
+use Rattle.pr_options.specs.declared.outputs.CheckOutput.TheVariants as checked
 use Rattle.pr_report.specs.declared.report.Report.TheVariants as report
+use Rattle.pr_report.specs.declared.detail.Bounds.{Bounds}
+use Rattle.pr_report.specs.declared.detail.Bounds.TheVariants.{Profile, Guide}
+use Rattle.pr_options.specs.declared.outputs.DecodeOutput.{DecodeOutput}
+use Rattle.pr_options.specs.declared.outputs.DecodeOutput.TheVariants as reading
+use Rattle.pr_options.specs.declared.outputs.PagesOutput.{PagesOutput}
+use Rattle.pr_options.specs.declared.outputs.PagesOutput.TheVariants as pages
 
 -- the meaning of a word in a table
 abbrev pub meaning_of : {A : Type 0} → List (Text × A) → Text → Option A
@@ -45,12 +53,34 @@ mode_of = meaning_of ((codes "each", Each) ∷ (codes "kept", Kept) ∷ [])
 abbrev pub set_of : Text → Option Bool
 set_of = meaning_of ((codes "upper", false) ∷ (codes "lower", true) ∷ [])
 
--- the format of the page: list, text, svg, png or pdf
+-- the format of a page: list, text, svg, png or pdf
 abbrev pub format_of : Text → Option Format
 format_of = meaning_of ((codes "list", format.List) ∷ (codes "text", format.Lines)
     ∷ (codes "svg", format.Svg whole) ∷ (codes "png", format.Png whole) ∷ (codes "pdf", format.Pdf None) ∷ [])
 
--- the printer whose pages are drawn: 4 or 5, or nothing for all of them
+-- the output of `pages`: a format of its pages, or bytes, printer 4's if no option says more
+abbrev pub pages_output_of : Text → Option PagesOutput
+pages_output_of text =
+    if bytes_eq text (codes "bytes") then Some (pages.Bytes device.Four) else option_map (λ format. pages.Pages format) (format_of text)
+
+-- the output of `decode`: its readings as a list or as json, the bytes that a printer hears, or a format of the pages;
+-- a list without intervals, by this project's bounds, and bytes of printer 4, if no option says more
+abbrev pub decode_output_of : Text → Option DecodeOutput
+decode_output_of text =
+    if bytes_eq text (codes "list") then Some (reading.Readings (record { intervals = false; bounds = Profile }))
+    else (if bytes_eq text (codes "json") then Some reading.Json
+    else (if bytes_eq text (codes "bytes") then Some (reading.Bytes device.Four)
+    else option_map (λ format. reading.Pages format) (format_of text)))
+
+-- the bounds that intervals are measured against: this project's profile or the Programmer's Reference Guide
+abbrev pub bounds_of : Text → Option Bounds
+bounds_of = meaning_of ((codes "profile", Profile) ∷ (codes "guide", Guide) ∷ [])
+
+-- the samples in a second, as in 4M, or nothing for none
+abbrev pub rate_of : Text → Option (Option ℕ)
+rate_of text = if length text == 0 then Some None else option_map (λ rate. Some rate) (rate_given text)
+
+-- the printer whose pages are drawn, or whose bytes are written: 4 or 5, or nothing for none
 abbrev pub device_of : Text → Option (Option Device)
 device_of = meaning_of (([], None) ∷ (codes "4", Some device.Four) ∷ (codes "5", Some device.Five) ∷ [])
 
@@ -68,9 +98,10 @@ abbrev pub reading_source_of : Text → Option (Option Source)
 reading_source_of = meaning_of ((codes "auto", None) ∷ (codes "text", Some source.Text)
     ∷ (codes "vcd", Some source.Vcd) ∷ (codes "csv", Some source.Csv) ∷ [])
 
--- what `check` writes: frames or story
-abbrev pub report_of : Text → Option Report
-report_of = meaning_of ((codes "frames", report.Frames) ∷ (codes "story", report.Story) ∷ [])
+-- what `check` writes: frames, story or json
+abbrev pub report_of : Text → Option CheckOutput
+report_of = meaning_of ((codes "frames", checked.Report report.Frames) ∷ (codes "story", checked.Report report.Story)
+    ∷ (codes "json", checked.Json) ∷ [])
 
 -- the moment at which a trace starts, in microseconds: decimal digits that spell a number below 2^64
 abbrev pub start_of : Text → Option ℕ

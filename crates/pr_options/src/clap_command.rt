@@ -2,16 +2,16 @@
 
 ghost use Rattle.std.specs.Prelude.{◌≡◌, [], IfOk, codes, false};
 ghost use Rattle.clap.specs.Words.{app_of, new_app, rule_of, with_rule};
-ghost use Rattle.pr_options.specs.CommandLine.{file_rule, flag_rule, input_rule, output_rule, print1525, raw_shape, run_shape, subcommand, trace_shape, value_rule, with_part};
+ghost use Rattle.pr_options.specs.CommandLine.{file_rule, flag_rule, input_rule, output_rule, print1525, raw_shape, run_shape, subcommand, trace_shape, value_rule, with_measures, with_part};
 ghost use Rattle.pr_options.specs.OptionNames as option;
 ghost use Rattle.pr_options.specs.Subcommands.{IsLocal, alone, option_view};
 
 use crate::help;
 use crate::help::HelpText;
 use crate::options::{
-    CHARACTERS, DELAYS, DEVICE, EXPLAIN, FROM, FROM_TIME, FileArgument, Flag, INPUT, INVERT,
-    LISTING_FROM, NAMES, OUTPUT, OUTPUT_LETTER, PAGE_AS, PRESENT, READING_AS, READING_FROM,
-    REPORT_AS, SET, SHEET, STATUS, TRACE_AS, ValueOption,
+    BOUNDS, CHARACTERS, DELAYS, DEVICE, EXPLAIN, FROM, FROM_TIME, FileArgument, Flag, INPUT,
+    INTERVALS, INVERT, LISTING_FROM, NAMES, OUTPUT, OUTPUT_LETTER, PAGE_AS, PRESENT, RATE, RAW_AS,
+    READING_AS, READING_FROM, REPORT_AS, SET, SHEET, STATUS, TRACE_AS, ValueOption,
 };
 use clap::{Arg, ArgAction, Command};
 use std::alloc::{AllocError, Global};
@@ -135,8 +135,9 @@ fn trace_command<'a>(
     let two = one.arg(value_option(alloc, NAMES))?;
     let three = two.arg(flag_option(alloc, INVERT))?;
     let four = three.arg(value_option(alloc, FROM_TIME))?;
-    let five = four.arg(value_option(alloc, formats))?;
-    let whole = five.arg(flag_option(alloc, EXPLAIN))?;
+    let five = four.arg(value_option(alloc, RATE))?;
+    let six = five.arg(value_option(alloc, formats))?;
+    let whole = six.arg(flag_option(alloc, EXPLAIN))?;
     Ok(whole)
 }
 
@@ -153,6 +154,18 @@ fn with_part<'a>(alloc: Global, command: Command<'a>) -> Result<Command<'a>, All
     Ok(whole)
 }
 
+/// A subcommand with the intervals of a recording, and their bounds.
+fn with_measures<'a>(alloc: Global, command: Command<'a>) -> Result<Command<'a>, AllocError>
+    requires { IsLocal command }
+    ensures app { IfOk result (λ c. app_of c ≡
+        with_rule (with_rule (app_of command.entry) (flag_rule option.intervals)) (value_rule option.bounds)) }
+    ensures local { IfOk result IsLocal }
+{
+    let one = command.arg(flag_option(alloc, INTERVALS))?;
+    let whole = one.arg(value_option(alloc, BOUNDS))?;
+    Ok(whole)
+}
+
 /// The subcommand `pages`.
 fn pages_command<'a>(alloc: Global) -> Result<Command<'a>, AllocError>
     ensures app { IfOk result (λ c. app_of c ≡ alone (with_part (run_shape (codes "pages") option.page_as))) }
@@ -165,11 +178,13 @@ fn pages_command<'a>(alloc: Global) -> Result<Command<'a>, AllocError>
 
 /// The subcommand `decode`.
 fn decode_command<'a>(alloc: Global) -> Result<Command<'a>, AllocError>
-    ensures app { IfOk result (λ c. app_of c ≡ alone (with_part (trace_shape (codes "decode") option.reading_from option.reading_as))) }
+    ensures app { IfOk result (λ c. app_of c ≡
+        alone (with_measures (with_part (trace_shape (codes "decode") option.reading_from option.reading_as)))) }
     ensures local { IfOk result IsLocal }
 {
     let command = trace_command(alloc, "decode", help::DECODE, READING_FROM, READING_AS)?;
-    let whole = with_part(alloc, command)?;
+    let drawn = with_part(alloc, command)?;
+    let whole = with_measures(alloc, drawn)?;
     Ok(whole)
 }
 
@@ -180,7 +195,7 @@ fn raw_command<'a>(alloc: Global) -> Result<Command<'a>, AllocError>
 {
     let command = file_command(alloc, "raw", help::RAW)?;
     let one = command.arg(value_option(alloc, SET))?;
-    let two = one.arg(value_option(alloc, PAGE_AS))?;
+    let two = one.arg(value_option(alloc, RAW_AS))?;
     let three = two.arg(flag_option(alloc, EXPLAIN))?;
     let whole = with_part(alloc, three)?;
     Ok(whole)

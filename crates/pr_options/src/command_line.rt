@@ -16,16 +16,18 @@ ghost use Rattle.pr_options.specs.Values.{good_values_of, option_of, values_of};
 use crate::clap_command::make_command;
 use crate::delays::DelayFault;
 use crate::options::{
-    DELAYS, DEVICE, DEVICE_VALUES, FROM, FROM_TIME, FROM_TIME_VALUES, FROM_VALUES, INPUT,
-    LISTING_FROM, LISTING_FROM_VALUES, NAMES, NAMES_VALUES, OUTPUT, PAGE_AS, PAGE_AS_VALUES,
-    PRESENT, READING_AS, READING_AS_VALUES, READING_FROM, READING_FROM_VALUES, REPORT_AS,
-    REPORT_AS_VALUES, SET, SET_VALUES, SHEET, SHEET_VALUES, STATUS, TRACE_AS, TRACE_AS_VALUES,
-    ValueOption,
+    BOUNDS, BOUNDS_VALUES, DELAYS, DEVICE, DEVICE_VALUES, FROM, FROM_TIME, FROM_TIME_VALUES,
+    FROM_VALUES, INPUT, LISTING_FROM, LISTING_FROM_VALUES, NAMES, NAMES_VALUES, OUTPUT, PAGE_AS,
+    PAGE_AS_VALUES, PRESENT, RATE, RATE_VALUES, RAW_AS, RAW_AS_VALUES, READING_AS,
+    READING_AS_VALUES, READING_FROM, READING_FROM_VALUES, REPORT_AS, REPORT_AS_VALUES, SET,
+    SET_VALUES, SHEET, SHEET_VALUES, STATUS, TRACE_AS, TRACE_AS_VALUES, ValueOption,
 };
+use crate::outputs::{CheckOutput, DecodeOutput, PagesOutput};
 use crate::values_given::{
-    characters_in, delays_in, file_in, fits, form_in, page_format_in, present_in,
-    reading_format_in, reading_source_in, report_in, set_in, signals_in, source_in, start_in,
-    status_in, trace_format_in, unless_found, value_in,
+    characters_in, decode_output_in, delays_in, file_in, fitting, form_in, page_as_in,
+    pages_output_in, present_in, rate_in, raw_as_in, reading_as_in, reading_source_in, report_in,
+    set_in, shown_in, signals_in, source_in, start_in, status_in, trace_format_in, unless_found,
+    value_in,
 };
 use clap::ArgMatches;
 use clap::error::ErrorKind;
@@ -34,7 +36,6 @@ use pr_bus::Delays;
 use pr_capture::{Source, TraceFormat, TraceInput};
 use pr_listing::ListingForm;
 use pr_render::Format;
-use pr_report::Report;
 use pr_serial::Present;
 use std::alloc::Global;
 use thiserror::Error;
@@ -42,24 +43,23 @@ use thiserror::Error;
 /// What the program is to do.
 #[derive(Drop)]
 pub enum Job<'a> {
-    /// Read a listing in this form and write the pages of its run, with these printers present, these
-    /// delays, and the status going on in this way, in this format.
-    Pages(ListingForm, Present, Delays, StatusMode, Format),
+    /// Read a listing in this form and write the pages of its run, or the bytes of a printer, with these printers
+    /// present, these delays, and the status going on in this way.
+    Pages(ListingForm, Present, Delays, StatusMode, PagesOutput),
     /// Read a listing in this form and write the trace of its run, with these printers present, these
     /// delays, and the status going on in this way, in this format.
     Bus(ListingForm, Present, Delays, StatusMode, TraceFormat),
     /// Read a trace and write what it says.
-    Check(TraceInput<'a>, Report),
-    /// Read any recording and write what it says: with [`Format::List`] byte by byte, else as the pages
-    /// that printers 4 and 5 print of it.
+    Check(TraceInput<'a>, CheckOutput),
+    /// Read any recording and write what it says.
     Decode {
         /// The first bytes of the recording show its format, as [`found_source`] reads them; the format
         /// in `input` is the one where they show none.
         is_found: bool,
         /// How it is read.
         input: TraceInput<'a>,
-        /// The format of what is written.
-        format: Format,
+        /// What is written: its readings, the bytes of a printer, or the pages that printers 4 and 5 print.
+        output: DecodeOutput,
     },
     /// Read the bytes of a printer and write its page.
     Raw {
@@ -116,19 +116,28 @@ pub enum JobFault {
     /// The value of `--from-time` is no number of microseconds, as [`read_start`] reads it.
     #[error("bad --from-time")]
     BadStart,
+    /// The value of `--rate` is no number of samples in a second, as [`pr_capture::read_rate`] reads it.
+    #[error("bad --rate")]
+    BadRate,
     /// `--names`, `--invert` or `--from-time` is given where the trace is a text.
     #[error("--names, --invert and --from-time go with --from vcd or csv")]
     NoRecording,
-    /// The value of `--as` of `pages` or `raw` is not `list`, `text`, `svg`, `png` or `pdf`.
+    /// `--rate` is given where the trace is a text or a dump.
+    #[error("--rate goes with --from csv")]
+    NoTable,
+    /// The value of `--as` of `pages` is not `list`, `text`, `svg`, `png`, `pdf` or `bytes`.
     #[error("bad --as")]
     BadPageAs,
+    /// The value of `--as` of `raw` is not `list`, `text`, `svg`, `png` or `pdf`.
+    #[error("bad --as")]
+    BadRawAs,
     /// The value of `--as` of `bus` is not `text` or `vcd`.
     #[error("bad --as")]
     BadTraceAs,
-    /// The value of `--as` of `check` is not `frames` or `story`.
+    /// The value of `--as` of `check` is not `frames`, `story` or `json`.
     #[error("bad --as")]
     BadReportAs,
-    /// The value of `--as` of `decode` is not `list`, `text`, `svg`, `png` or `pdf`.
+    /// The value of `--as` of `decode` is not `list`, `text`, `svg`, `png`, `pdf`, `json` or `bytes`.
     #[error("bad --as")]
     BadReadingAs,
     /// The value of `--device` is not `4` or `5`.
@@ -137,12 +146,18 @@ pub enum JobFault {
     /// The value of `--sheet` is no number from 1.
     #[error("bad --sheet")]
     BadSheet,
-    /// `--device` is given where no picture is written, or `--sheet` where no picture of a sheet is.
-    #[error("--device goes with --as svg, png or pdf, --sheet with svg or png")]
+    /// `--device` is given where no picture and no bytes are written, or `--sheet` where no picture of a sheet is.
+    #[error("--device goes with --as svg, png, pdf or bytes, --sheet with svg or png")]
     NoPart,
     /// `--characters` is given where no picture is written.
     #[error("--characters goes with --as svg, png or pdf")]
     NoPicture,
+    /// The value of `--bounds` is not `profile` or `guide`.
+    #[error("bad --bounds")]
+    BadBounds,
+    /// `--intervals` or `--bounds` is given where no list of readings is written.
+    #[error("--intervals and --bounds go with --as list")]
+    NoReadings,
     /// Memory was refused.
     #[error("out of memory")]
     NoMemory,
@@ -174,14 +189,18 @@ impl JobFault {
             JobFault::BadForm => Some(LISTING_FROM_VALUES),
             JobFault::BadNames => Some(NAMES_VALUES),
             JobFault::BadStart => Some(FROM_TIME_VALUES),
+            JobFault::BadRate => Some(RATE_VALUES),
             JobFault::BadPageAs => Some(PAGE_AS_VALUES),
+            JobFault::BadRawAs => Some(RAW_AS_VALUES),
             JobFault::BadTraceAs => Some(TRACE_AS_VALUES),
             JobFault::BadReportAs => Some(REPORT_AS_VALUES),
             JobFault::BadReadingAs => Some(READING_AS_VALUES),
             JobFault::BadDevice => Some(DEVICE_VALUES),
             JobFault::BadSheet => Some(SHEET_VALUES),
+            JobFault::BadBounds => Some(BOUNDS_VALUES),
             JobFault::BadPresent | JobFault::BadDelays | JobFault::BadStatus => None,
-            JobFault::NoRecording | JobFault::NoPart | JobFault::NoPicture => None,
+            JobFault::NoRecording | JobFault::NoTable | JobFault::NoPart => None,
+            JobFault::NoPicture | JobFault::NoReadings => None,
             JobFault::Line(_) | JobFault::NoMemory => None,
         }
     }
@@ -201,13 +220,17 @@ impl JobFault {
             JobFault::BadForm => Some(LISTING_FROM),
             JobFault::BadNames => Some(NAMES),
             JobFault::BadStart => Some(FROM_TIME),
+            JobFault::BadRate => Some(RATE),
             JobFault::BadPageAs => Some(PAGE_AS),
+            JobFault::BadRawAs => Some(RAW_AS),
             JobFault::BadTraceAs => Some(TRACE_AS),
             JobFault::BadReportAs => Some(REPORT_AS),
             JobFault::BadReadingAs => Some(READING_AS),
             JobFault::BadDevice => Some(DEVICE),
             JobFault::BadSheet => Some(SHEET),
-            JobFault::NoRecording | JobFault::NoPart | JobFault::NoPicture => None,
+            JobFault::BadBounds => Some(BOUNDS),
+            JobFault::NoRecording | JobFault::NoTable | JobFault::NoPart => None,
+            JobFault::NoPicture | JobFault::NoReadings => None,
             JobFault::Line(_) | JobFault::NoMemory => None,
         }
     }
@@ -238,11 +261,12 @@ impl From<DelayFault> for JobFault {
 /// only for words that clap takes, and report the first bad value in this order:
 /// [`JobFault::BadPresent`], [`JobFault::BadDelays`], [`JobFault::BadStatus`], [`JobFault::BadSet`];
 /// of `pages` and `bus` [`JobFault::BadForm`]; of `check` [`JobFault::BadFrom`], of `decode`
-/// [`JobFault::BadReadingFrom`], and of both [`JobFault::BadNames`], [`JobFault::BadStart`], then [`JobFault::NoRecording`], where these are good;
-/// and at last a bad `--as`:
-/// [`JobFault::BadPageAs`] of `pages` and `raw`, [`JobFault::BadTraceAs`] of `bus`,
-/// [`JobFault::BadReportAs`] of `check`, [`JobFault::BadReadingAs`] of `decode`. A good one of pages is
-/// followed by [`JobFault::BadDevice`], [`JobFault::BadSheet`], [`JobFault::NoPart`] and [`JobFault::NoPicture`].
+/// [`JobFault::BadReadingFrom`], and of both [`JobFault::BadNames`], [`JobFault::BadStart`], [`JobFault::BadRate`],
+/// then [`JobFault::NoRecording`] and [`JobFault::NoTable`], where these are good; and at last a bad `--as`:
+/// [`JobFault::BadPageAs`] of `pages`, [`JobFault::BadRawAs`] of `raw`, [`JobFault::BadTraceAs`] of `bus`,
+/// [`JobFault::BadReportAs`] of `check`, [`JobFault::BadReadingAs`] of `decode`. A good one of `pages`, `raw` and
+/// `decode` is followed by [`JobFault::BadDevice`], [`JobFault::BadSheet`], [`JobFault::NoPart`] and
+/// [`JobFault::NoPicture`], and of `decode` by [`JobFault::BadBounds`] and [`JobFault::NoReadings`].
 pub fn read_task<'a>(alloc: Global, words: &'a [&'a str]) -> Result<Task<'a>, JobFault>
     ensures ok { IfOk result (λ task. asked (map (λ s. s.now) words.entry.now) ≡ Some (Ok (task_view task))) }
     ensures taken { OnOk result (fault_of print1525 (map (λ s. s.now) words.entry.now) ≡ []) }
@@ -413,21 +437,21 @@ fn run_of(alloc: Global, options: &ArgMatches<'_>) -> Result<Run, JobFault>
     })
 }
 
-/// How a trace or a recording in this format is to be read. What goes with a recording alone is judged when all
-/// these values are good.
+/// How a trace or a recording in this format is to be read. Whether the options go with the format is judged when
+/// all their values are good.
 fn input_of<'a>(source: Source, options: &ArgMatches<'a>) -> Result<TraceInput<'a>, JobFault>
     ensures ok { IfOk result (λ input. wanted_input source (rows_of (found_of options.now)) ≡ Ok (input_view input)) }
     ensures bad { IfErr result (λ f. wanted_input source (rows_of (found_of options.now)) ≡ Err f) }
 {
     let signals = signals_in(options)?;
     let start = start_in(options)?;
-    if !fits(source, options) {
-        return Err(JobFault::NoRecording);
-    }
+    let rate = rate_in(options)?;
+    fitting(source, options)?;
     Ok(TraceInput {
         source,
         signals,
         start,
+        rate,
     })
 }
 
@@ -447,11 +471,12 @@ fn decode_job<'a>(options: &ArgMatches<'a>) -> Result<Job<'a>, JobFault>
 {
     let source = reading_source_in(options)?;
     let input = input_of(source.unwrap_or(unless_found(options)), options)?;
-    let format = reading_format_in(options)?;
+    let plain = reading_as_in(options)?;
+    let output = decode_output_in(plain, options)?;
     Ok(Job::Decode {
         is_found: source.is_none(),
         input,
-        format,
+        output,
     })
 }
 
@@ -468,7 +493,8 @@ fn bus_job<'a>(run: Run, options: &ArgMatches<'_>) -> Result<Job<'a>, JobFault>
 fn raw_job<'a>(lower: bool, options: &ArgMatches<'_>) -> Result<Job<'a>, JobFault>
     ensures { job_result result ≡ wanted_raw lower (rows_of (found_of options.now)) }
 {
-    let format = page_format_in(options)?;
+    let plain = raw_as_in(options)?;
+    let format = shown_in(plain, options)?;
     Ok(Job::Raw { lower, format })
 }
 
@@ -477,8 +503,9 @@ fn pages_job<'a>(run: Run, options: &ArgMatches<'_>) -> Result<Job<'a>, JobFault
     ensures { job_result result ≡ wanted_pages (run_view run) (rows_of (found_of options.now)) }
 {
     let form = form_in(options)?;
-    let format = page_format_in(options)?;
-    Ok(Job::Pages(form, run.present, run.delays, run.mode, format))
+    let plain = page_as_in(options)?;
+    let output = pages_output_in(plain, options)?;
+    Ok(Job::Pages(form, run.present, run.delays, run.mode, output))
 }
 
 /// A refusal by clap. Its want of memory is the program's own.

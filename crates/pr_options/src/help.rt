@@ -57,7 +57,8 @@ A file named *.svg, *.png, *.pdf or *.txt is written so without --as. --device
 and --characters go with svg, png and pdf, --sheet with svg and png; a sheet
 past the end is refused. A file of characters has 256 of them: a line such as
 `upper 65`, then seven lines of six signs, # for a dot and . for none; first
-upper 32 to 95 and 160 to 223, then the same of lower.
+upper 32 to 95 and 160 to 223, then the same of lower. With --as bytes the
+bytes that printer 4 hears are written, or those of --device, for `raw`.
 
 Exit status: 0 done, 1 stopped by a BASIC error, 2 refused, 3 memory ran out
 or a file cannot be opened, read or written.
@@ -100,13 +101,16 @@ A table has a row of names, then a row for each sample: its time in seconds
 and a level, 0 or 1, of each signal. A FILE named *.vcd or *.csv is read so
 without --from.
 
---names, --invert and --from-time go with --from vcd or csv. Case and blanks
-around a name do not matter. Where no signal is called CLOCK, CLK is taken.
+--names, --invert and --from-time go with --from vcd or csv, --rate with csv.
+Case and blanks around a name do not matter. Where no signal is called CLOCK,
+CLK is taken. A table without a column of times has the rate of --rate, or of
+a remark such as `; Samplerate: 4 MHz`.
 
 Output: a line for each frame, `command 36`, `data 72` or `data 13 eoi`, then
 `lawful`. A story has the time when the talker offers each byte, the time when
-a listener acknowledges it, the byte and its meaning. A trace that is not
-lawful is refused at its first fault; edges count from 0, lines from 1.
+a listener acknowledges it, the byte and its meaning. JSON, also for a file
+named *.json, has the lines of `print1525 decode --as json`. A trace that is
+not lawful is refused at its first fault; edges count from 0, lines from 1.
 
 Exit status: 0 lawful, 2 refused, 3 memory ran out or a file cannot be opened,
 read or written.
@@ -123,12 +127,17 @@ pub const DECODE: HelpText = HelpText {
 Input: a recording of any serial bus, whoever drives it and wherever it begins,
 in a format of `print1525 check`. Without --from the ending of FILE says which,
 or the first bytes do: `$` begins a dump, `;` or `#` a table, whose first line
-may also have a comma; with --names, --invert or --from-time it is a recording.
+may also have a comma; with --names, --invert, --from-time or --rate it is a
+recording.
 
-Output: a line for each byte, as in a story of `print1525 check`; below it a
-line for each interval outside this project's bounds; unacknowledged and
-incomplete bytes (glitches); a summary of all intervals; and whether the
-recording is lawful. Or the pages that printers 4 and 5 print of the bytes.
+Output: a line for each byte, as in a story of `print1525 check`;
+unacknowledged and incomplete bytes (glitches); a summary of all intervals;
+and whether the recording is lawful. --intervals adds a line for each interval
+outside the bounds. With --bounds guide these are the Programmer's Reference
+Guide's, for real hardware, and the last line says whether they are kept. Both
+go with the list alone; json has a line for each byte with all its intervals.
+Or the pages that printers 4 and 5 print of the bytes; or with --as bytes the
+bytes that printer 4 hears, or the one of --device, for `print1525 raw`.
 A recording that cannot be read is refused at its first fault, after the lines
 of what comes before it.
 
@@ -136,7 +145,8 @@ Exit status: 0 read to its end, 2 refused, 3 memory ran out or a file cannot be
 opened, read or written.
 
 Example:
-  print1525 decode session.vcd",
+  print1525 decode --intervals --bounds guide session.vcd
+  print1525 decode --as bytes session.vcd | print1525 raw --as text",
 };
 
 /// The subcommand `raw`.

@@ -11,6 +11,7 @@
 //! - `options` has each option's name, default and help; `specs/OptionNames` has the names and
 //!   defaults once more. `help` has the texts of the help.
 //! - `clap_command` makes the command of these, as clap takes it (`specs/CommandLine`).
+//! - `outputs` has what `pages` and `decode` write.
 //! - `option_values` and `delays` give the values of options their meaning (`specs/Options`,
 //!   `SignalNames`, `DelayLists`); `parts` cuts their texts.
 //! - `values_given` reads each option of a command line, with the fault of a bad value. Each function
@@ -26,6 +27,7 @@ mod delays;
 mod help;
 mod option_values;
 mod options;
+mod outputs;
 mod parts;
 mod values_given;
 
@@ -34,3 +36,4 @@ pub use command_line::{
 };
 pub use delays::{DelayFault, read_delays};
 pub use option_values::{read_present, read_status};
+pub use outputs::{CheckOutput, DecodeOutput, PagesOutput};

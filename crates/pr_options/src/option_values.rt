@@ -1,15 +1,16 @@
 //! The values of the program's options.
 
 ghost use Rattle.std.specs.Prelude.{◌≡◌, ◌∷◌, [], option_map, IfSome};
-ghost use Rattle.pr_options.specs.Options.{device_of, form_of, format_of, mode_of, present_of, reading_source_of, report_of, set_of, sheet_numbered, sheet_of, source_of, start_of, trace_format_of};
+ghost use Rattle.pr_options.specs.Options.{bounds_of, decode_output_of, device_of, form_of, format_of, mode_of, pages_output_of, present_of, rate_of, reading_source_of, report_of, set_of, sheet_numbered, sheet_of, source_of, start_of, trace_format_of};
 ghost use Rattle.pr_options.specs.SignalNames.{are_names, differ, is_clock_twice, is_name, names_of, names_of_signals, three_names};
 
+use crate::outputs::{CheckOutput, DecodeOutput, PagesOutput};
 use crate::parts::{all_digits, cut};
 use pr_basic::StatusMode;
-use pr_capture::{Signals, Source, TraceFormat};
+use pr_capture::{Signals, Source, TraceFormat, read_rate};
 use pr_listing::ListingForm;
 use pr_render::{Device, Format, Part};
-use pr_report::Report;
+use pr_report::{Bounds, Detail, Report};
 use pr_serial::Present;
 
 /// Reads which printers are present, from `none`, `4`, `5` or `both` (profile). None for any other
@@ -63,7 +64,7 @@ pub fn read_set(text: &str) -> Option<bool>
     }
 }
 
-/// The format of the page: `list`, `text`, `svg`, `png` or `pdf` (profile). None for any other text.
+/// The format of a page: `list`, `text`, `svg`, `png` or `pdf` (profile). None for any other text.
 pub fn read_format(text: &str) -> Option<Format>
     ensures { result ≡ format_of text.now }
 {
@@ -77,8 +78,65 @@ pub fn read_format(text: &str) -> Option<Format>
     }
 }
 
-/// The printer whose pages are drawn: `4` or `5`, or nothing for all of them (profile). None for any
-/// other text.
+/// The output of `pages`: a format of its pages, or `bytes`, printer 4's if no option says more (profile). None for
+/// any other text.
+pub fn read_pages_output(text: &str) -> Option<PagesOutput>
+    ensures { result ≡ pages_output_of text.now }
+{
+    match text {
+        "bytes" => Some(PagesOutput::Bytes(Device::Four)),
+        _ => {
+            let format = read_format(text)?;
+            Some(PagesOutput::Pages(format))
+        }
+    }
+}
+
+/// The output of `decode`: its readings as a `list` or as `json`, the `bytes` that a printer hears, or a format of the
+/// pages (profile); a list without intervals, by this project's bounds, and bytes of printer 4, if no option says
+/// more. None for any other text.
+pub fn read_decode_output(text: &str) -> Option<DecodeOutput>
+    ensures { result ≡ decode_output_of text.now }
+{
+    match text {
+        "list" => Some(DecodeOutput::Readings(Detail {
+            intervals: false,
+            bounds: Bounds::Profile,
+        })),
+        "json" => Some(DecodeOutput::Json),
+        "bytes" => Some(DecodeOutput::Bytes(Device::Four)),
+        _ => {
+            let format = read_format(text)?;
+            Some(DecodeOutput::Pages(format))
+        }
+    }
+}
+
+/// The bounds that intervals are measured against: `profile` (this project's) or `guide` (the Programmer's Reference
+/// Guide's) (profile). None for any other text.
+pub fn read_bounds(text: &str) -> Option<Bounds>
+    ensures { result ≡ bounds_of text.now }
+{
+    match text {
+        "profile" => Some(Bounds::Profile),
+        "guide" => Some(Bounds::Guide),
+        _ => None,
+    }
+}
+
+/// The samples in a second, as [`read_rate`] reads them, or nothing for none (profile). None for any other text.
+pub fn read_given_rate(text: &str) -> Option<Option<u64>>
+    ensures { result ≡ rate_of text.now }
+{
+    if text.is_empty() {
+        return Some(None);
+    }
+    let rate = read_rate(text)?;
+    Some(Some(rate))
+}
+
+/// The printer whose pages are drawn, or whose bytes are written: `4` or `5`, or nothing for none (profile). None for
+/// any other text.
 pub fn read_device(text: &str) -> Option<Option<Device>>
     ensures { result ≡ device_of text.now }
 {
@@ -148,14 +206,15 @@ pub fn read_reading_source(text: &str) -> Option<Option<Source>>
     }
 }
 
-/// What is written of a trace that is checked: `frames` or `story` (profile). None for any other
-/// text.
-pub fn read_report(text: &str) -> Option<Report>
+/// What is written of a trace that is checked: `frames`, `story` or `json` (profile). None for any
+/// other text.
+pub fn read_report(text: &str) -> Option<CheckOutput>
     ensures { result ≡ report_of text.now }
 {
     match text {
-        "frames" => Some(Report::Frames),
-        "story" => Some(Report::Story),
+        "frames" => Some(CheckOutput::Report(Report::Frames)),
+        "story" => Some(CheckOutput::Report(Report::Story)),
+        "json" => Some(CheckOutput::Json),
         _ => None,
     }
 }

@@ -139,6 +139,12 @@ const TRACE_ENDINGS: &[Ending] = &[Ending {
     value: "vcd",
 }];
 
+/// What the endings of a report's name say.
+const REPORT_ENDINGS: &[Ending] = &[Ending {
+    ending: ".json",
+    value: "json",
+}];
+
 /// What the endings of a reading's name say.
 const READING_ENDINGS: &[Ending] = &[
     Ending {
@@ -152,6 +158,10 @@ const READING_ENDINGS: &[Ending] = &[
     Ending {
         ending: ".pdf",
         value: "pdf",
+    },
+    Ending {
+        ending: ".json",
+        value: "json",
     },
 ];
 
@@ -247,15 +257,35 @@ pub const SET: ValueOption = ValueOption {
     help: SET_HELP,
 };
 
-/// What the values of [`PAGE_AS`] are.
-const PAGE_AS_HELP: &str = "list (every mark with its place), text (lines for\n\
+/// What the values of [`RAW_AS`] are.
+const RAW_AS_HELP: &str = "list (every mark with its place), text (lines for\n\
      a terminal), svg (a picture), png (a sheet as a\n\
      bitmap) or pdf (sheets to print)";
 
-/// The values of [`PAGE_AS`] in a few words.
-pub const PAGE_AS_VALUES: &str = "list, text, svg, png or pdf";
+/// The values of [`RAW_AS`] in a few words.
+pub const RAW_AS_VALUES: &str = "list, text, svg, png or pdf";
 
-/// The format of a page.
+/// The format of the page of a printer's bytes.
+pub const RAW_AS: ValueOption = ValueOption {
+    name: "as",
+    value: "FORMAT",
+    default: "list",
+    file: OUTPUT_NAME,
+    endings: PAGE_ENDINGS,
+    values: RAW_AS_VALUES,
+    help: RAW_AS_HELP,
+};
+
+/// What the values of [`PAGE_AS`] are.
+const PAGE_AS_HELP: &str = "list (every mark with its place), text (lines for\n\
+     a terminal), svg (a picture), png (a sheet as a\n\
+     bitmap), pdf (sheets to print) or bytes (what a\n\
+     printer hears, for raw)";
+
+/// The values of [`PAGE_AS`] in a few words.
+pub const PAGE_AS_VALUES: &str = "list, text, svg, png, pdf or bytes";
+
+/// What `pages` writes.
 pub const PAGE_AS: ValueOption = ValueOption {
     name: "as",
     value: "FORMAT",
@@ -267,13 +297,14 @@ pub const PAGE_AS: ValueOption = ValueOption {
 };
 
 /// What the values of [`DEVICE`] are.
-const DEVICE_HELP: &str = "The printer that svg, png and pdf draw: 4 or 5\n\
-     [default: all, or the first with a page]";
+const DEVICE_HELP: &str = "4 or 5: the printer that svg, png and pdf draw\n\
+     or whose bytes are written [default: all, the\n\
+     first with a page for png, 4 for bytes]";
 
 /// The values of [`DEVICE`] in a few words.
 pub const DEVICE_VALUES: &str = "4 or 5";
 
-/// The printer whose pages a picture shows.
+/// The printer whose pages a picture shows, or whose bytes are written.
 pub const DEVICE: ValueOption = ValueOption {
     name: "device",
     value: "PRINTER",
@@ -321,30 +352,31 @@ pub const TRACE_AS: ValueOption = ValueOption {
 };
 
 /// What the values of [`REPORT_AS`] are.
-const REPORT_AS_HELP: &str = "frames (a line for each) or story (with\n\
-     their times and meaning)";
+const REPORT_AS_HELP: &str = "frames (a line for each), story (times and\n\
+     meaning) or json";
 
 /// The values of [`REPORT_AS`] in a few words.
-pub const REPORT_AS_VALUES: &str = "frames or story";
+pub const REPORT_AS_VALUES: &str = "frames, story or json";
 
 /// What is written of a trace that is checked.
 pub const REPORT_AS: ValueOption = ValueOption {
     name: "as",
     value: "FORMAT",
     default: "frames",
-    file: "",
-    endings: NO_ENDINGS,
+    file: OUTPUT_NAME,
+    endings: REPORT_ENDINGS,
     values: REPORT_AS_VALUES,
     help: REPORT_AS_HELP,
 };
 
 /// What the values of [`READING_AS`] are.
-const READING_AS_HELP: &str = "list (each byte with its times), or the pages\n\
-     that the bytes print:\n\
-     text, svg, png or pdf";
+const READING_AS_HELP: &str = "list (each byte with its times), json (for\n\
+     programs), bytes (what a printer hears, for\n\
+     raw), or the pages that they print: text, svg,\n\
+     png or pdf";
 
 /// The values of [`READING_AS`] in a few words.
-pub const READING_AS_VALUES: &str = "list, text, svg, png or pdf";
+pub const READING_AS_VALUES: &str = "list, text, svg, png, pdf, json or bytes";
 
 /// What is written of a recording that is decoded.
 pub const READING_AS: ValueOption = ValueOption {
@@ -428,6 +460,49 @@ pub const FROM_TIME: ValueOption = ValueOption {
     endings: NO_ENDINGS,
     values: FROM_TIME_VALUES,
     help: FROM_TIME_HELP,
+};
+
+/// What the values of [`RATE`] are.
+const RATE_HELP: &str = "The samples in a second of a table that has no\n\
+     times: a whole number, also with k, M or G\n\
+     [default: what the table's remarks say]";
+
+/// The values of [`RATE`] in a few words.
+pub const RATE_VALUES: &str = "samples in a second, as in 4M, 500k or 1000000";
+
+/// The samples in a second of a recording.
+pub const RATE: ValueOption = ValueOption {
+    name: "rate",
+    value: "RATE",
+    default: "",
+    file: "",
+    endings: NO_ENDINGS,
+    values: RATE_VALUES,
+    help: RATE_HELP,
+};
+
+/// What the values of [`BOUNDS`] are.
+const BOUNDS_HELP: &str = "Bounds of intervals: profile (this project's)\n\
+     or guide (those of the Programmer's Reference\n\
+     Guide)";
+
+/// The values of [`BOUNDS`] in a few words.
+pub const BOUNDS_VALUES: &str = "profile or guide";
+
+/// The bounds that the intervals of a recording are measured against.
+pub const BOUNDS: ValueOption = ValueOption {
+    name: "bounds",
+    value: "BOUNDS",
+    default: "profile",
+    file: "",
+    endings: NO_ENDINGS,
+    values: BOUNDS_VALUES,
+    help: BOUNDS_HELP,
+};
+
+pub const INTERVALS: Flag = Flag {
+    name: "intervals",
+    help: "Lists each byte's intervals outside the bounds",
 };
 
 pub const INVERT: Flag = Flag {

@@ -7,8 +7,8 @@ ghost use Rattle.pr_bus.specs.DelaysLeft.{numbers_left};
 ghost use Rattle.pr_options.specs.DelayLists.{delays_of};
 ghost use Rattle.pr_options.specs.Given.{ending_value, file_in, has_ending, is_given, is_of_words, named, value_by_ending, value_in};
 ghost use Rattle.pr_options.specs.OptionNames as option;
-ghost use Rattle.pr_options.specs.Jobs.{drawn, fits, is_picture, read, shown, unless_found, wanted_format, wanted_part, wants_recording};
-ghost use Rattle.pr_options.specs.Options.{device_of, form_of, format_of, mode_of, present_of, reading_source_of, report_of, set_of, sheet_of, source_of, start_of, trace_format_of};
+ghost use Rattle.pr_options.specs.Jobs.{decode_output, drawn, fitting, heard, is_picture, pages_output, read, shown, unless_found, unmeasured, wanted_detail, wanted_part, wants_readings, wants_recording, wants_table};
+ghost use Rattle.pr_options.specs.Options.{bounds_of, decode_output_of, device_of, form_of, format_of, mode_of, pages_output_of, present_of, rate_of, reading_source_of, report_of, set_of, sheet_of, source_of, start_of, trace_format_of};
 ghost use Rattle.pr_options.specs.SignalNames.{names_of};
 ghost use Rattle.pr_options.specs.Steps.{IsFaultIn, signals_result};
 ghost use Rattle.pr_options.specs.Subcommands.{endings_view, option_view};
@@ -16,14 +16,16 @@ ghost use Rattle.pr_options.specs.Subcommands.{endings_view, option_view};
 use crate::command_line::JobFault;
 use crate::delays::read_delays;
 use crate::option_values::{
-    read_device, read_form, read_format, read_present, read_reading_source, read_report, read_set,
-    read_sheet, read_signals, read_source, read_start, read_status, read_trace_format,
+    read_bounds, read_decode_output, read_device, read_form, read_format, read_given_rate,
+    read_pages_output, read_present, read_reading_source, read_report, read_set, read_sheet,
+    read_signals, read_source, read_start, read_status, read_trace_format,
 };
 use crate::options::{
-    CHARACTERS, DELAYS, DEVICE, Ending, FROM, FROM_TIME, FileArgument, INVERT, LISTING_FROM, NAMES,
-    PAGE_AS, PRESENT, READING_AS, READING_FROM, REPORT_AS, SET, SHEET, STATUS, TRACE_AS,
-    ValueOption,
+    BOUNDS, CHARACTERS, DELAYS, DEVICE, Ending, FROM, FROM_TIME, FileArgument, INTERVALS, INVERT,
+    LISTING_FROM, NAMES, PAGE_AS, PRESENT, RATE, RAW_AS, READING_AS, READING_FROM, REPORT_AS, SET,
+    SHEET, STATUS, TRACE_AS, ValueOption,
 };
+use crate::outputs::{CheckOutput, DecodeOutput, PagesOutput};
 use clap::ArgMatches;
 use clap::parser::ValueSource;
 use pr_basic::StatusMode;
@@ -31,7 +33,7 @@ use pr_bus::Delays;
 use pr_capture::{Signals, Source, TraceFormat};
 use pr_listing::ListingForm;
 use pr_render::{Device, Format, Part};
-use pr_report::Report;
+use pr_report::{Bounds, Detail};
 use pr_serial::Present;
 use std::alloc::Global;
 
@@ -83,7 +85,7 @@ pub fn reading_source_in(options: &ArgMatches<'_>) -> Result<Option<Source>, Job
 pub fn unless_found(options: &ArgMatches<'_>) -> Source
     ensures { result ≡ unless_found (rows_of (found_of options.now)) }
 {
-    if wants_recording(options) {
+    if wants_recording(options) || wants_table(options) {
         Source::Csv
     } else {
         Source::Text
@@ -106,6 +108,13 @@ pub fn start_in(options: &ArgMatches<'_>) -> Result<u64, JobFault>
     read_start(value_in(options, FROM_TIME)).ok_or(JobFault::BadStart)
 }
 
+/// The samples in a second of a recording, if words say them.
+pub fn rate_in(options: &ArgMatches<'_>) -> Result<Option<u64>, JobFault>
+    ensures { result ≡ read option.rate rate_of JobFault.BadRate (rows_of (found_of options.now)) }
+{
+    read_given_rate(value_in(options, RATE)).ok_or(JobFault::BadRate)
+}
+
 /// The form of a listing.
 pub fn form_in(options: &ArgMatches<'_>) -> Result<ListingForm, JobFault>
     ensures { result ≡ read option.listing_from form_of JobFault.BadForm (rows_of (found_of options.now)) }
@@ -113,23 +122,55 @@ pub fn form_in(options: &ArgMatches<'_>) -> Result<ListingForm, JobFault>
     read_form(value_in(options, LISTING_FROM)).ok_or(JobFault::BadForm)
 }
 
-/// The format of a page, and what of the pages it shows.
-pub fn page_format_in(options: &ArgMatches<'_>) -> Result<Format, JobFault>
-    ensures { result ≡ wanted_format option.page_as JobFault.BadPageAs (rows_of (found_of options.now)) }
+/// The format of the page of a printer's bytes.
+pub fn raw_as_in(options: &ArgMatches<'_>) -> Result<Format, JobFault>
+    ensures { result ≡ read option.raw_as format_of JobFault.BadRawAs (rows_of (found_of options.now)) }
 {
-    let format = page_as_in(options)?;
-    shown_in(format, options)
+    read_format(value_in(options, RAW_AS)).ok_or(JobFault::BadRawAs)
 }
 
-/// The format of a page.
-fn page_as_in(options: &ArgMatches<'_>) -> Result<Format, JobFault>
-    ensures { result ≡ read option.page_as format_of JobFault.BadPageAs (rows_of (found_of options.now)) }
+/// What `pages` writes where no other option says more.
+pub fn page_as_in(options: &ArgMatches<'_>) -> Result<PagesOutput, JobFault>
+    ensures { result ≡ read option.page_as pages_output_of JobFault.BadPageAs (rows_of (found_of options.now)) }
 {
-    read_format(value_in(options, PAGE_AS)).ok_or(JobFault::BadPageAs)
+    read_pages_output(value_in(options, PAGE_AS)).ok_or(JobFault::BadPageAs)
+}
+
+/// What `pages` writes, as the other options say.
+pub fn pages_output_in(
+    plain: PagesOutput,
+    options: &ArgMatches<'_>,
+) -> Result<PagesOutput, JobFault>
+    ensures { result ≡ pages_output plain (rows_of (found_of options.now)) }
+{
+    match plain {
+        PagesOutput::Pages(format) => {
+            let shown = shown_in(format, options)?;
+            Ok(PagesOutput::Pages(shown))
+        }
+        PagesOutput::Bytes(_) => {
+            let device = heard_in(options)?;
+            Ok(PagesOutput::Bytes(device))
+        }
+    }
+}
+
+/// The printer whose bytes are written. Bytes have no sheets and draw no characters.
+fn heard_in(options: &ArgMatches<'_>) -> Result<Device, JobFault>
+    ensures { result ≡ heard (rows_of (found_of options.now)) }
+{
+    let part = part_in(options)?;
+    if part.sheet.is_some() {
+        return Err(JobFault::NoPart);
+    }
+    if characters_in(options).is_some() {
+        return Err(JobFault::NoPicture);
+    }
+    Ok(part.device.unwrap_or(Device::Four))
 }
 
 /// A format that shows the part of the pages that is asked for, with the characters that are.
-fn shown_in(format: Format, options: &ArgMatches<'_>) -> Result<Format, JobFault>
+pub fn shown_in(format: Format, options: &ArgMatches<'_>) -> Result<Format, JobFault>
     ensures { result ≡ shown format (rows_of (found_of options.now)) }
 {
     let part = part_in(options)?;
@@ -189,35 +230,103 @@ pub fn trace_format_in(options: &ArgMatches<'_>) -> Result<TraceFormat, JobFault
 }
 
 /// What is written of a trace that is checked.
-pub fn report_in(options: &ArgMatches<'_>) -> Result<Report, JobFault>
+pub fn report_in(options: &ArgMatches<'_>) -> Result<CheckOutput, JobFault>
     ensures { result ≡ read option.report_as report_of JobFault.BadReportAs (rows_of (found_of options.now)) }
 {
     read_report(value_in(options, REPORT_AS)).ok_or(JobFault::BadReportAs)
 }
 
-/// The format of what a recording says, and what of its pages it shows.
-pub fn reading_format_in(options: &ArgMatches<'_>) -> Result<Format, JobFault>
-    ensures { result ≡ wanted_format option.reading_as JobFault.BadReadingAs (rows_of (found_of options.now)) }
+/// What `decode` writes where no other option says more.
+pub fn reading_as_in(options: &ArgMatches<'_>) -> Result<DecodeOutput, JobFault>
+    ensures { result ≡ read option.reading_as decode_output_of JobFault.BadReadingAs (rows_of (found_of options.now)) }
 {
-    let format = reading_as_in(options)?;
-    shown_in(format, options)
+    read_decode_output(value_in(options, READING_AS)).ok_or(JobFault::BadReadingAs)
 }
 
-/// The format of what a recording says.
-fn reading_as_in(options: &ArgMatches<'_>) -> Result<Format, JobFault>
-    ensures { result ≡ read option.reading_as format_of JobFault.BadReadingAs (rows_of (found_of options.now)) }
+/// What `decode` writes, as the other options say.
+pub fn decode_output_in(
+    plain: DecodeOutput,
+    options: &ArgMatches<'_>,
+) -> Result<DecodeOutput, JobFault>
+    ensures { result ≡ decode_output plain (rows_of (found_of options.now)) }
 {
-    read_format(value_in(options, READING_AS)).ok_or(JobFault::BadReadingAs)
+    match plain {
+        DecodeOutput::Readings(_) => {
+            let detail = detail_in(options)?;
+            Ok(DecodeOutput::Readings(detail))
+        }
+        DecodeOutput::Json => {
+            shown_in(Format::List, options)?;
+            unmeasured(options)?;
+            Ok(DecodeOutput::Json)
+        }
+        DecodeOutput::Bytes(_) => {
+            let device = heard_in(options)?;
+            unmeasured(options)?;
+            Ok(DecodeOutput::Bytes(device))
+        }
+        DecodeOutput::Pages(format) => {
+            let shown = shown_in(format, options)?;
+            unmeasured(options)?;
+            Ok(DecodeOutput::Pages(shown))
+        }
+    }
 }
 
-/// Whether what is given goes with the source: with a text nothing of a recording.
-pub fn fits(source: Source, options: &ArgMatches<'_>) -> bool
-    ensures { result ≡ fits source (rows_of (found_of options.now)) }
+/// What of the intervals of readings is written. Readings are no pictures: they show no part and draw no characters.
+fn detail_in(options: &ArgMatches<'_>) -> Result<Detail, JobFault>
+    ensures { result ≡ wanted_detail (rows_of (found_of options.now)) }
+{
+    shown_in(Format::List, options)?;
+    let bounds = bounds_in(options)?;
+    Ok(Detail {
+        intervals: is_given(options, INTERVALS.name),
+        bounds,
+    })
+}
+
+/// The bounds that intervals are measured against.
+fn bounds_in(options: &ArgMatches<'_>) -> Result<Bounds, JobFault>
+    ensures { result ≡ read option.bounds bounds_of JobFault.BadBounds (rows_of (found_of options.now)) }
+{
+    read_bounds(value_in(options, BOUNDS)).ok_or(JobFault::BadBounds)
+}
+
+/// Refuses what is given and goes with a list of readings alone.
+fn unmeasured(options: &ArgMatches<'_>) -> Result<(), JobFault>
+    ensures { result ≡ unmeasured (rows_of (found_of options.now)) }
+{
+    bounds_in(options)?;
+    if wants_readings(options) {
+        return Err(JobFault::NoReadings);
+    }
+    Ok(())
+}
+
+/// Whether anything is given that goes with a list of readings alone: JSON has all intervals, and no bounds.
+fn wants_readings(options: &ArgMatches<'_>) -> bool
+    ensures { result ≡ wants_readings (rows_of (found_of options.now)) }
+{
+    is_given(options, INTERVALS.name) || is_given(options, BOUNDS.name)
+}
+
+/// Refuses what is given and does not go with the source: with a text what goes with a recording alone, and a rate
+/// unless it is a table's.
+pub fn fitting(source: Source, options: &ArgMatches<'_>) -> Result<(), JobFault>
+    ensures { result ≡ fitting source (rows_of (found_of options.now)) }
 {
     match source {
-        Source::Text => !wants_recording(options),
-        Source::Vcd | Source::Csv => true,
+        Source::Text if wants_recording(options) => Err(JobFault::NoRecording),
+        Source::Text | Source::Vcd if wants_table(options) => Err(JobFault::NoTable),
+        Source::Text | Source::Vcd | Source::Csv => Ok(()),
     }
+}
+
+/// Whether anything is given that goes with a table alone.
+fn wants_table(options: &ArgMatches<'_>) -> bool
+    ensures { result ≡ wants_table (rows_of (found_of options.now)) }
+{
+    is_given(options, RATE.name)
 }
 
 /// Whether anything is given that goes with a recording alone.

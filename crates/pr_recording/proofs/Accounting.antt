@@ -1,30 +1,68 @@
--- Readings and their lines, as more of them come.
-use Rattle.std.proofs.Common.{◌≡◌, ℕ, Bool, true, false, ◌||◌, List, [], ◌∷◌, ◌++◌, refl, ap, sym, subst, ◌∙◌, append-nil, append_assoc}
+-- Readings and their text, as more of them come.
+use Rattle.std.proofs.Common.{◌≡◌, ℕ, Bool, true, false, ◌||◌, List, [], ◌∷◌, ◌++◌, refl, ap, sym, subst, ◌∙◌, append-nil, append_assoc, Option}
 use Rattle.std.proofs.lemmas.List.Folds.{list_any-append}
 use Rattle.std.specs.List.{list_any}
+use Rattle.pr_wire.specs.declared.Edge.{Edge}
+use Rattle.pr_wire.specs.declared.WaveFault.{WaveFault}
 use Rattle.pr_decode.specs.declared.reading.Reading.{Reading}
-use Rattle.pr_report.specs.declared.reading_line.Preceding.{Preceding}
-use Rattle.pr_report.specs.declared.reading_line.Preceding.TheVariants.{Nothing}
-use Rattle.pr_report.specs.ReadingText.{after_reading, all_lines, behind_all, reading_lines}
-use Rattle.pr_report.specs.Oddities.{is_acknowledged}
+use Rattle.pr_report.specs.declared.detail.Bounds.{Bounds}
+use Rattle.pr_report.specs.declared.detail.Detail.{Detail}
+use Rattle.pr_report.specs.declared.context.Context.{Context}
+use Rattle.pr_report.specs.Contexts.{after_reading, at_start, behind_all}
+use Rattle.pr_report.specs.declared.oddities.Oddities.{Oddities}
+use Rattle.pr_report.specs.JsonText.{json_line, json_lines, json_verdict}
+use Rattle.pr_report.specs.ReadingText.{all_lines, reading_lines}
+use Rattle.pr_report.specs.Oddities.{is_acknowledged, oddities_of, oddities_text}
+use Rattle.pr_report.specs.Outside.{conclusion}
+use Rattle.pr_report.specs.Summary.{summary}
 use Rattle.pr_report.specs.Taking as survey
-use Rattle.pr_recording.specs.Narrated.{AccountsMore, HasAccounted}
+use Rattle.pr_recording.specs.Decoded.{last_lines, readings_text}
+use Rattle.pr_recording.specs.Narrated.{AccountsMore, HasAccounted, bounds_in, reading_text}
 use Rattle.pr_recording.specs.declared.reading_log.ReadingLog.{ReadingLog}
+use Rattle.pr_recording.specs.declared.wording.Wording.{Wording}
+use Rattle.pr_recording.specs.declared.wording.Wording.TheVariants.{Json, Lines}
 
 -- the lines of readings after others
-pub lines_add : (b : Preceding) (rs qs : List Reading) → all_lines b (rs ++ qs) ≡ all_lines b rs ++ all_lines (behind_all b rs) qs
-lines_add b [] qs = refl
-lines_add b (r ∷ rs) qs =
-    ap (λ t. reading_lines b r ++ t) (lines_add (after_reading b r) rs qs) ∙ sym (append_assoc (reading_lines b r) (all_lines (after_reading b r) rs) (all_lines (behind_all b (r ∷ rs)) qs))
+lines_add : (d : Detail) (c : Context) (rs qs : List Reading) → all_lines d c (rs ++ qs) ≡ all_lines d c rs ++ all_lines d (behind_all c rs) qs
+lines_add d c [] qs = refl
+lines_add d c (r ∷ rs) qs =
+    ap (λ t. reading_lines d c r ++ t) (lines_add d (after_reading c r) rs qs)
+    ∙ sym (append_assoc (reading_lines d c r) (all_lines d (after_reading c r) rs) (all_lines d (behind_all c (r ∷ rs)) qs))
+
+json_add : (rs qs : List Reading) → json_lines (rs ++ qs) ≡ json_lines rs ++ json_lines qs
+json_add [] qs = refl
+json_add (r ∷ rs) qs = ap (λ t. json_line r ++ t) (json_add rs qs) ∙ sym (append_assoc (json_line r) (json_lines rs) (json_lines qs))
+
+-- the text of readings after others
+abbrev pub rest_text : Wording → (before more : List Reading) → List ℕ
+rest_text (Lines d) rs qs = all_lines d (behind_all at_start rs) qs
+rest_text Json rs qs = json_lines qs
+
+pub text_add : (w : Wording) (rs qs : List Reading) → readings_text w (rs ++ qs) ≡ readings_text w rs ++ rest_text w rs qs
+text_add (Lines d) rs qs = lines_add d at_start rs qs
+text_add Json rs qs = json_add rs qs
+
+-- that of one
+rest_one : (w : Wording) (rs : List Reading) (r : Reading) → rest_text w rs (r ∷ []) ≡ reading_text w (behind_all at_start rs) r
+rest_one (Lines d) rs r = append-nil (reading_lines d (behind_all at_start rs) r)
+rest_one Json rs r = append-nil (json_line r)
+
+text_one : (w : Wording) (rs : List Reading) (r : Reading) → readings_text w (rs ++ r ∷ []) ≡ readings_text w rs ++ reading_text w (behind_all at_start rs) r
+text_one w rs r = text_add w rs (r ∷ []) ∙ ap (λ t. readings_text w rs ++ t) (rest_one w rs r)
 
 -- what follows them
-pub behind_add : (b : Preceding) (rs qs : List Reading) → behind_all b (rs ++ qs) ≡ behind_all (behind_all b rs) qs
-behind_add b [] qs = refl
-behind_add b (r ∷ rs) qs = behind_add (after_reading b r) rs qs
+behind_add : (c : Context) (rs qs : List Reading) → behind_all c (rs ++ qs) ≡ behind_all (behind_all c rs) qs
+behind_add c [] qs = refl
+behind_add c (r ∷ rs) qs = behind_add (after_reading c r) rs qs
 
 -- no reading
-pub accounted_none : (a : ReadingLog) → survey.HasSurveyed [] a.survey → a.behind ≡ Nothing → a.has_byte ≡ false → a.lines.items ≡ [] → HasAccounted [] [] a
-accounted_none a s b y l = record { surveyed = s; behind = b; byte = y; lines = l }
+text_none : (w : Wording) → readings_text w [] ≡ []
+text_none (Lines d) = refl
+text_none Json = refl
+
+pub accounted_none : (w : Wording) (a : ReadingLog) → a.wording ≡ w → survey.HasSurveyed (bounds_in w) [] a.survey → a.context ≡ at_start → a.has_byte ≡ false → a.lines.items ≡ []
+    → HasAccounted w [] [] a
+accounted_none w a is s c y l = record { wording = is; surveyed = s; context = c; byte = y; lines = l ∙ sym (text_none w) }
 
 -- an acknowledged byte is among readings with one more, if it was among them or this one is it
 or-false : (b : Bool) → (b || false) ≡ b
@@ -35,45 +73,47 @@ byte-more : (rs : List Reading) (r : Reading) → list_any is_acknowledged (rs +
 byte-more rs r = list_any-append is_acknowledged rs (r ∷ []) ∙ ap (λ b. list_any is_acknowledged rs || b) (or-false (is_acknowledged r))
 
 -- a reading more
-pub accounts_one : (old new : ReadingLog) (r : Reading) → new.lines.items ≡ old.lines.items ++ reading_lines old.behind r → new.behind ≡ after_reading old.behind r
-    → new.has_byte ≡ (old.has_byte || is_acknowledged r)
-    → ((rs : List Reading) → survey.HasSurveyed rs old.survey → survey.HasSurveyed (rs ++ r ∷ []) new.survey) → AccountsMore (r ∷ []) old new
-accounts_one old new r lines behind byte taken = λ given written h. record {
-  surveyed = taken given h.surveyed;
+pub accounts_one : (old new : ReadingLog) (r : Reading) → new.wording ≡ old.wording → new.lines.items ≡ old.lines.items ++ reading_text old.wording old.context r
+    → new.context ≡ after_reading old.context r → new.has_byte ≡ (old.has_byte || is_acknowledged r)
+    → ((b : Bounds) (rs : List Reading) → survey.HasSurveyed b rs old.survey → survey.HasSurveyed b (rs ++ r ∷ []) new.survey) → AccountsMore (r ∷ []) old new
+accounts_one old new r same lines context byte taken = λ w given written h. record {
+  wording = same ∙ h.wording;
+  surveyed = taken (bounds_in w) given h.surveyed;
   byte = byte ∙ (ap (λ b. b || is_acknowledged r) h.byte ∙ sym (byte-more given r));
-  behind = behind ∙ (ap (λ b. after_reading b r) h.behind ∙ sym (behind_add Nothing given (r ∷ [])));
+  context = context ∙ (ap (λ c. after_reading c r) h.context ∙ sym (behind_add at_start given (r ∷ [])));
   lines =
-      ap (λ t. written ++ t) lines
-      ∙ (sym (append_assoc written old.lines.items (reading_lines old.behind r))
-      ∙ (ap (λ t. t ++ reading_lines old.behind r) h.lines
-      ∙ (ap (λ b. all_lines Nothing given ++ reading_lines b r) h.behind
-      ∙ (ap (λ t. all_lines Nothing given ++ t) (sym (append-nil (reading_lines (behind_all Nothing given) r))) ∙ sym (lines_add Nothing given (r ∷ []))))));
+      ap (λ t. written ++ t) (lines ∙ (ap (λ x. old.lines.items ++ reading_text x old.context r) h.wording ∙ ap (λ c. old.lines.items ++ reading_text w c r) h.context))
+      ∙ (sym (append_assoc written old.lines.items (reading_text w (behind_all at_start given) r))
+      ∙ (ap (λ t. t ++ reading_text w (behind_all at_start given) r) h.lines ∙ sym (text_one w given r)));
 }
 
 -- no reading more
 pub accounts_same : (a : ReadingLog) → AccountsMore [] a a
-accounts_same a = λ given written h. let P : List Reading → Type 0 = λ l. HasAccounted l written a in subst P (sym (append-nil given)) h
+accounts_same a = λ w given written h. let P : List Reading → Type 0 = λ l. HasAccounted w l written a in subst P (sym (append-nil given)) h
 
 -- lines that are given up
-pub cleared : (old new : ReadingLog) → new.survey ≡ old.survey → new.behind ≡ old.behind → new.has_byte ≡ old.has_byte → new.lines.items ≡ [] → (given : List Reading) (written : List ℕ) → HasAccounted given written old
-    → HasAccounted given (written ++ old.lines.items) new
-cleared old new s b y l = λ given written h. record {
+pub cleared : (old new : ReadingLog) → new.wording ≡ old.wording → new.survey ≡ old.survey → new.context ≡ old.context → new.has_byte ≡ old.has_byte → new.lines.items ≡ []
+    → (w : Wording) (given : List Reading) (written : List ℕ) → HasAccounted w given written old → HasAccounted w given (written ++ old.lines.items) new
+cleared old new e s b y l = λ w given written h. record {
+  wording = e ∙ h.wording;
   surveyed = rw s h.surveyed;
   byte = y ∙ h.byte;
-  behind = b ∙ h.behind;
+  context = b ∙ h.context;
   lines = ap (λ t. (written ++ old.lines.items) ++ t) l ∙ (append-nil (written ++ old.lines.items) ∙ h.lines);
 }
 
 -- the end
-pub accounts_end : (a : ReadingLog) (given : List Reading) (written text more : List ℕ) → HasAccounted given written a → text ≡ a.lines.items ++ more → written ++ text ≡ all_lines Nothing given ++ more
-accounts_end a given written text more h is =
+pub accounts_end : (w : Wording) (a : ReadingLog) (given : List Reading) (written text more : List ℕ) → HasAccounted w given written a → text ≡ a.lines.items ++ more
+    → written ++ text ≡ readings_text w given ++ more
+accounts_end w a given written text more h is =
     ap (λ t. written ++ t) is ∙ (sym (append_assoc written a.lines.items more) ∙ ap (λ t. t ++ more) h.lines)
 
--- the summary, the verdict and what is odd follow the lines
-pub accounts_finish : (a : ReadingLog) (given : List Reading) (written one two three s v o : List ℕ) → HasAccounted given written a
-    → one ≡ a.lines.items ++ s → two ≡ one ++ v → three ≡ two ++ o → written ++ three ≡ all_lines Nothing given ++ (s ++ (v ++ o))
-accounts_finish a given written one two three s v o h first second third =
-    accounts_end a given written three (s ++ (v ++ o)) h
-    (third
-    ∙ (ap (λ t. t ++ o) second
-    ∙ (ap (λ t. (t ++ v) ++ o) first ∙ (append_assoc (a.lines.items ++ s) v o ∙ append_assoc a.lines.items s (v ++ o)))))
+-- what follows them at the end
+pub last_in_lines : (w : Wording) (d : Detail) (fault : Option WaveFault) (edges : List Edge) (given : List Reading) (odd : Oddities) → w ≡ Lines d → odd ≡ oddities_of edges given
+    → summary (bounds_in w) given ++ (conclusion (bounds_in w) fault given ++ oddities_text odd) ≡ last_lines w fault edges given
+last_in_lines (Lines x) d fault edges given odd is o = ap (λ z. summary x.bounds given ++ (conclusion x.bounds fault given ++ oddities_text z)) o
+last_in_lines Json d fault edges given odd is o = absurd (cc)
+
+pub last_in_json : (w : Wording) (fault : Option WaveFault) (edges : List Edge) (given : List Reading) → w ≡ Json → json_verdict fault ≡ last_lines w fault edges given
+last_in_json (Lines d) fault edges given is = absurd (cc)
+last_in_json Json fault edges given is = refl

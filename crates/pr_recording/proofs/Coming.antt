@@ -7,16 +7,12 @@ use Rattle.pr_decode.specs.declared.reading.Reading.{Reading}
 use Rattle.pr_decode.specs.Laws.{MoreEdgesAddReadings, OnlyTheLastIsCut}
 use Rattle.pr_decode.specs.Readings.{readings_of, settled_of}
 use Rattle.pr_decode.specs.Taking.{GivenAreSettled}
-use Rattle.pr_report.specs.declared.reading_line.Preceding.TheVariants.{Nothing}
-use Rattle.pr_report.specs.ReadingText.{all_lines, behind_all}
-use Rattle.pr_report.specs.Summary.{summary}
-use Rattle.pr_report.specs.Verdict.{verdict_text}
-use Rattle.pr_report.specs.Oddities.{oddities_of, oddities_text}
 use Rattle.pr_cli.specs.declared.fault.CliFault.{CliFault}
+use Rattle.pr_recording.specs.declared.wording.Wording.{Wording}
 use Rattle.pr_recording.specs.declared.decode_report.DecodeReport.{DecodeReport}
-use Rattle.pr_recording.specs.Decoded.{back_in, in_front, stop_at, told_of}
+use Rattle.pr_recording.specs.Decoded.{back_in, in_front, last_lines, readings_text, stop_at, told_of}
 use Rattle.pr_recording.specs.Narrated.{HasNarrated, lines_in}
-use Rattle.pr_recording.proofs.Accounting.{lines_add}
+use Rattle.pr_recording.proofs.Accounting.{rest_text, text_add}
 use Rattle.pr_recording.proofs.Backs.{front_more}
 
 -- the laws of what this is made of
@@ -26,20 +22,20 @@ pub record Laws : Type 0 where
   pub given : GivenAreSettled
 
 -- what is told of edges begins with the lines of what those in front settle
-told_begins : OnlyTheLastIsCut → (edges : List Edge) (own : Option CliFault) → (rest : List ℕ) × (told_of (stop_at (back_in edges) own) edges ≡ all_lines Nothing (settled_of (in_front (back_in edges) edges)) ++ rest)
-told_begins cut edges own = by (back_in edges) refl own
+told_begins : (w : Wording) → OnlyTheLastIsCut → (edges : List Edge) (own : Option CliFault) → (rest : List ℕ) × (told_of w (stop_at (back_in edges) own) edges ≡ readings_text w (settled_of (in_front (back_in edges) edges)) ++ rest)
+told_begins w cut edges own = by (back_in edges) refl own
   where
-    by : (v : Option ℕ) → back_in edges ≡ v → (own : Option CliFault) → (rest : List ℕ) × (told_of (stop_at v own) edges ≡ all_lines Nothing (settled_of (in_front (back_in edges) edges)) ++ rest)
-    by (Some n) is own = ([], sym (append-nil (all_lines Nothing (settled_of (in_front (back_in edges) edges)))))
-    by None is (Some f) = ([], sym (append-nil (all_lines Nothing (settled_of (in_front (back_in edges) edges)))))
+    by : (v : Option ℕ) → back_in edges ≡ v → (own : Option CliFault) → (rest : List ℕ) × (told_of w (stop_at v own) edges ≡ readings_text w (settled_of (in_front (back_in edges) edges)) ++ rest)
+    by (Some n) is own = ([], sym (append-nil (readings_text w (settled_of (in_front (back_in edges) edges)))))
+    by None is (Some f) = ([], sym (append-nil (readings_text w (settled_of (in_front (back_in edges) edges)))))
     by None is None =
         let c = cut edges in
         let settled = settled_of edges in
-        let end = summary (readings_of edges) ++ (verdict_text (fault_of edges) ++ oddities_text (oddities_of edges (readings_of edges))) in
-        let last = all_lines (behind_all Nothing settled) (option_to_list c.0) in
-        let lines : all_lines Nothing (readings_of edges) ≡ all_lines Nothing settled ++ last = ap (λ rs. all_lines Nothing rs) c.1 ∙ lines_add Nothing settled (option_to_list c.0) in
-        let all : told_of None edges ≡ all_lines Nothing settled ++ (last ++ end) = ap (λ t. t ++ end) lines ∙ append_assoc (all_lines Nothing settled) last end in
-        (last ++ end, all ∙ ap (λ v. all_lines Nothing (settled_of (in_front v edges)) ++ (last ++ end)) (sym is))
+        let end = last_lines w (fault_of edges) edges (readings_of edges) in
+        let last = rest_text w settled (option_to_list c.0) in
+        let lines : readings_text w (readings_of edges) ≡ readings_text w settled ++ last = ap (λ rs. readings_text w rs) c.1 ∙ text_add w settled (option_to_list c.0) in
+        let all : told_of w None edges ≡ readings_text w settled ++ (last ++ end) = ap (λ t. t ++ end) lines ∙ append_assoc (readings_text w settled) last end in
+        (last ++ end, all ∙ ap (λ v. readings_text w (settled_of (in_front v edges)) ++ (last ++ end)) (sym is))
 
 -- the readings given are in front of all
 given_begins : Laws → (before all : List Edge) (given : List Reading) (later : List Edge) → all ≡ before ++ later → settled_of (in_front (back_in before) before) ≡ given
@@ -50,14 +46,14 @@ given_begins laws before all given later is has =
     (m.0, ap (λ l. settled_of (in_front (back_in l) l)) is ∙ (ap settled_of f.1 ∙ (m.1 ∙ ap (λ rs. rs ++ m.0) has)))
 
 -- what was told so far of edges comes first in what is told of them and more
-pub coming : Laws → (edges later : List Edge) (written : List ℕ) (n : DecodeReport) (own : Option CliFault) → HasNarrated edges written n
-    → (rest : List ℕ) × (told_of (stop_at (back_in (edges ++ later)) own) (edges ++ later) ≡ (written ++ lines_in n) ++ rest)
-coming laws edges later written n own h =
+pub coming : Laws → (w : Wording) (edges later : List Edge) (written : List ℕ) (n : DecodeReport) (own : Option CliFault) → HasNarrated w edges written n
+    → (rest : List ℕ) × (told_of w (stop_at (back_in (edges ++ later)) own) (edges ++ later) ≡ (written ++ lines_in n) ++ rest)
+coming laws w edges later written n own h =
     let all = edges ++ later in
     let k = h.heeded in
     let given = given_begins laws edges all k.given later refl (laws.given (in_front (back_in edges) edges) k.given n.decoder k.read) in
-    let begins = told_begins laws.cut all own in
-    let behind = all_lines (behind_all Nothing k.given) given.0 in
-    let lines : all_lines Nothing (settled_of (in_front (back_in all) all)) ≡ (written ++ lines_in n) ++ behind =
-    ap (λ rs. all_lines Nothing rs) given.1 ∙ (lines_add Nothing k.given given.0 ∙ ap (λ l. l ++ behind) (sym k.accounted.lines)) in
+    let begins = told_begins w laws.cut all own in
+    let behind = rest_text w k.given given.0 in
+    let lines : readings_text w (settled_of (in_front (back_in all) all)) ≡ (written ++ lines_in n) ++ behind =
+    ap (λ rs. readings_text w rs) given.1 ∙ (text_add w k.given given.0 ∙ ap (λ l. l ++ behind) (sym k.accounted.lines)) in
     (behind ++ begins.0, begins.1 ∙ (ap (λ l. l ++ begins.0) lines ∙ append_assoc (written ++ lines_in n) behind begins.0))

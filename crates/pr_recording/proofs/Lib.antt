@@ -1,4 +1,5 @@
 pub mod Backs
+pub mod Judging
 pub mod Writing
 pub mod Accounting
 pub mod Heeding
@@ -11,3 +12,8 @@ pub mod Adding
 pub mod BusPrinting
 pub mod Taken
 pub mod Traces
+pub mod Logging
+pub mod Capturing
+pub mod Overhearing
+pub mod RunLogging
+pub mod RunAnswering

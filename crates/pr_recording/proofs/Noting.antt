@@ -1,5 +1,5 @@
 -- What follows of what a call gives, and of an input that has ended.
-use Rattle.std.proofs.Common.{ℕ, ◌+◌, ◌<◌, List, [], ◌∷◌, ◌++◌, append_assoc, ap, get_or, length, subst, sym, take, ◌∙◌, Option, Result, Ok, Err}
+use Rattle.std.proofs.Common.{◌≡◌, ℕ, ◌+◌, ◌<◌, List, [], ◌∷◌, ◌++◌, append_assoc, ap, get_or, length, subst, sym, take, ◌∙◌, Option, Result, Ok, Err}
 use Rattle.std.proofs.lemmas.List.{take_more}
 use Rattle.std.specs.Prelude.{IfOk, OnOk}
 use Rattle.pr_wire.specs.declared.Edge.{Edge}
@@ -35,3 +35,10 @@ reading_ends r last taken follows ends after = λ limit start now input given h 
 -- the next of a list's elements
 pub more_at : {X : Type 0} (P : List X → Type 0) (before xs : List X) (i : ℕ) (d : X) → i < length xs → P ((before ++ take i xs) ++ get_or xs i d ∷ []) → P (before ++ take (i + 1) xs)
 more_at P before xs i d within p = subst P (append_assoc before (take i xs) (get_or xs i d ∷ []) ∙ ap (λ l. before ++ l) (sym (take_more xs i d within))) p
+
+-- three parts of a text
+pub three_parts : (t0 t1 t2 t3 a b c : List ℕ) → t1 ≡ t0 ++ a → t2 ≡ t1 ++ b → t3 ≡ t2 ++ c → t3 ≡ t0 ++ (a ++ (b ++ c))
+three_parts t0 t1 t2 t3 a b c first second third =
+    third
+    ∙ (ap (λ t. t ++ c) second
+    ∙ (ap (λ t. (t ++ b) ++ c) first ∙ (append_assoc (t0 ++ a) b c ∙ append_assoc t0 a (b ++ c))))

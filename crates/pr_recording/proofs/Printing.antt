@@ -39,6 +39,13 @@ pub printed_all : (limit : ℕ) (start now : Option (List ℕ)) (input : TraceIn
     → CopiesMore (edges_read r) c d → HasTakenAll limit start now input r (λ edges. HasCopied edges d)
 printed_all limit start now input r c d h copies = record { given = h.given; read = h.read; taken = copies h.given h.taken }
 
+-- where memory was refused, nothing is said of the pages
+pub no_room : (a : Option (List ℕ)) (limit : ℕ) (input : TraceInput) (v : Result Printed CliFault) → IsErrAnd v (λ x. x ≡ NoMemory)
+    → IfSome a (λ text. GivesPrint limit input v text)
+no_room None limit input v e = tt
+no_room (Some text) limit input (Ok p) e = absurd e
+no_room (Some text) limit input (Err f) e = rw e tt
+
 -- nothing is printed where the input was not read, or memory was refused
 pub prints_none : (limit : ℕ) (start now : Option (List ℕ)) (input : TraceInput) (r : InputReader) (taken : List Edge → Type 0) (v : Result Printed CliFault) (f : CliFault)
     → HasTakenAll limit start now input r taken → IsErrAnd v (λ x. x ≡ f) → IsNoReading f → (f ≡ TooLarge → IsTooLong now r) → IfSome start (λ text. GivesPrint limit input v text)

@@ -7,14 +7,19 @@ use Rattle.pr_wire.specs.declared.text.TraceFault.TheVariants as trace
 use Rattle.pr_wire.specs.Table.{fault_of}
 use Rattle.pr_capture.specs.declared.fault.CaptureFault.TheVariants as capture
 use Rattle.pr_decode.specs.Readings.{readings_of, settled_of}
-use Rattle.pr_report.specs.declared.reading_line.Preceding.TheVariants.{Nothing}
+use Rattle.pr_wire.specs.declared.WaveFault.{WaveFault}
+use Rattle.pr_decode.specs.declared.reading.Reading.{Reading}
+use Rattle.pr_report.specs.Contexts.{at_start}
+use Rattle.pr_report.specs.JsonText.{json_lines, json_verdict}
 use Rattle.pr_report.specs.ReadingText.{all_lines}
 use Rattle.pr_report.specs.Summary.{summary}
-use Rattle.pr_report.specs.Verdict.{verdict_text}
+use Rattle.pr_report.specs.Outside.{conclusion}
 use Rattle.pr_report.specs.Oddities.{oddities_of, oddities_text}
 use Rattle.pr_capture.specs.declared.format.TraceInput.{TraceInput}
 use Rattle.pr_input.specs.PartlyWritten.{AppendsFront}
 use Rattle.pr_cli.specs.Report.{Says}
+use Rattle.pr_recording.specs.declared.wording.Wording.{Wording}
+use Rattle.pr_recording.specs.declared.wording.Wording.TheVariants.{Json, Lines}
 use Rattle.pr_cli.specs.declared.fault.CliFault.{CliFault}
 use Rattle.pr_cli.specs.declared.fault.CliFault.TheVariants.{Script, Trace, Wave, Capture, Picture, TooLarge, NoMemory, ReadFailed, WriteFailed}
 
@@ -41,14 +46,23 @@ stop_at (Some n) own = Some (Wave (wave.Order n))
 
 -- What is written.
 
--- for a whole recording the lines of its readings, their summary, whether it is lawful, and what is odd
--- about it; for any other the lines of what its edges settle up to where it stops
-abbrev pub told_of : (stop : Option CliFault) → List Edge → List ℕ
-told_of None edges =
-    all_lines Nothing (readings_of edges)
-    ++ (summary (readings_of edges)
-    ++ (verdict_text (fault_of edges) ++ oddities_text (oddities_of edges (readings_of edges))))
-told_of (Some fault) edges = all_lines Nothing (settled_of (in_front (back_in edges) edges))
+-- the text of readings
+abbrev pub readings_text : Wording → List Reading → List ℕ
+readings_text (Lines d) rs = all_lines d at_start rs
+readings_text Json rs = json_lines rs
+
+-- what follows it at the end of a whole recording, by the fault of its edges: in lines the summary, the verdict, and
+-- what is odd about it
+abbrev pub last_lines : Wording → Option WaveFault → List Edge → List Reading → List ℕ
+last_lines (Lines d) fault edges rs =
+    summary d.bounds rs ++ (conclusion d.bounds fault rs ++ oddities_text (oddities_of edges rs))
+last_lines Json fault edges rs = json_verdict fault
+
+-- for a whole recording both; for any other the text of what its edges settle up to where it stops
+abbrev pub told_of : Wording → (stop : Option CliFault) → List Edge → List ℕ
+told_of w None edges =
+    readings_text w (readings_of edges) ++ last_lines w (fault_of edges) edges (readings_of edges)
+told_of w (Some fault) edges = readings_text w (settled_of (in_front (back_in edges) edges))
 
 -- what the writer holds with each answer, by the limit and the length of the input, why it stops, and the text for it
 abbrev pub Leaves :
@@ -66,14 +80,14 @@ Leaves limit len stop told old new (Err NoMemory) = AppendsFront old new told
 Leaves limit len stop told old new (Err ReadFailed) = AppendsFront old new told
 Leaves limit len stop told old new (Err WriteFailed) = AppendsFront old new told
 
--- the answer, by the text and by what the writer held before and after
-pub record AnswersDecode (limit : ℕ) (input : TraceInput) (text : List ℕ) (old new : Option (List ℕ))
+-- the answer, by the wording, by the text and by what the writer held before and after
+pub record AnswersDecode (limit : ℕ) (w : Wording) (input : TraceInput) (text : List ℕ) (old new : Option (List ℕ))
     (result : Result (Unit {0}) CliFault) : Type 0 where
   pub edges : List Edge
   pub own : Option CliFault
   pub says : Says input text edges own
   pub leaves : Leaves limit (length text) (stop_at (back_in edges) own)
-      (told_of (stop_at (back_in edges) own) edges) old new result
+      (told_of w (stop_at (back_in edges) own) edges) old new result
 
 -- the input has been read to its end where all of it is answered
 abbrev pub ReadsAll : Option (List ℕ) → Result (Unit {0}) CliFault → Type 0

@@ -1,4 +1,5 @@
 pub mod Decoded
+pub mod Checked
 pub mod Narrated
 pub mod Pages
 pub mod Copied
@@ -6,3 +7,8 @@ pub mod Copying
 pub mod Laws
 pub mod PrintedPages
 pub mod Taking
+pub mod Bytes
+pub mod Logged
+pub mod Captured
+pub mod RunBytes
+pub mod RunLogged

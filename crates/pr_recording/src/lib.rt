@@ -3,32 +3,51 @@
 //! The headline is on [`decode_over`]: it reads a recording in any format, block by block, and writes the
 //! text that `specs/Decoded.antt` defines of the edges that the recording says: the lines of its readings,
 //! their summary, and whether it is lawful. [`reprint_over`] writes the pages that printers 4 and 5 print of
-//! it in their place, as `specs/Pages.antt` defines them.
+//! it in their place, as `specs/Pages.antt` defines them, and [`bytes_over`] the bytes that one of them hears
+//! (`specs/Bytes.antt`). [`run_bytes_over`] writes those of a script's run (`specs/RunBytes.antt`).
 //!
 //! - `decode` reads block by block, and writes what a block settles before it reads the next.
 //!   `decode_report` takes the edges that pr_cli's `InputReader` gives up to where time goes back,
 //!   and hands each to a decoder and to pr_wire's follower, which says whether they are a lawful trace;
-//!   `reading_log` has the lines that are not written yet, and a survey of all readings.
+//!   `reading_log` has the lines that are not written yet, and a survey of all readings. `checked` does the
+//!   same in JSON, and refuses a trace that is not lawful ([`check_json_over`], `specs/Checked.antt`).
 //! - `pages` has the same loop, with `capture_printer` in the report's place: it prints what the decoder
 //!   gives, and keeps the papers alone.
 //! - `printer_pair` is what printers 4 and 5 print of readings, `bus_printer` one of them: its listening
 //!   part (pr_receiver's `Listener`) and pr_page's `Printer`. `frame` is the frame that a reading says. A
 //!   frame that printer 4 has printed and printer 5 was refused cannot be given to both again, so a
 //!   refusal is for good.
+//! - `bytes` has that loop once more, with `device_capture`. `device_log` is one printer's listening part with
+//!   a `byte_log`, which keeps the bytes of its inputs and the character sets in which they come.
+//! - `run_bytes` performs a script statement by statement, and hands the edges of each to `run_log`, a decoder
+//!   with a `device_log`.
 #![tactic(auto)]
 
 mod bus_printer;
+mod byte_log;
+mod bytes;
 mod capture_printer;
+mod checked;
 mod decode;
 mod decode_report;
+mod device_capture;
+mod device_log;
 mod frame;
 mod laws;
 mod pages;
 mod printer_pair;
 mod reading_log;
+mod run_bytes;
+mod run_log;
+mod wording;
 
+pub use byte_log::Heard;
+pub use bytes::bytes_over;
 pub use capture_printer::Printed;
+pub use checked::check_json_over;
 pub use decode::{decode_input, decode_over};
 pub use laws::{readings_are_heard_in_turn, traces_are_heard_as_spelled};
 pub use pages::{PRINT_LIMIT, print_input, reprint_over};
 pub use printer_pair::{PrintedPages, PrinterPair};
+pub use run_bytes::run_bytes_over;
+pub use wording::Wording;

@@ -4,17 +4,21 @@ ghost use Rattle.std.specs.Prelude.{◌≡◌, ◌+◌, ◌^◌, ◌<◌, ◌≤
 ghost use Rattle.std.specs.Option.{option_to_list};
 ghost use Rattle.pr_wire.specs.declared.Edge.{Edge};
 ghost use Rattle.pr_decode.specs.declared.reading.Reading.{Reading};
-ghost use Rattle.pr_report.specs.declared.reading_line.Preceding.TheVariants.{Nothing};
-ghost use Rattle.pr_report.specs.ReadingText.{all_lines};
+ghost use Rattle.pr_report.specs.declared.detail.Bounds.{Bounds};
 ghost use Rattle.pr_report.specs.Summary.{summary};
 ghost use Rattle.pr_report.specs.Oddities.{is_acknowledged, oddities_of, oddities_text};
-ghost use Rattle.pr_report.specs.Taking.{HasSeen};
-ghost use Rattle.pr_report.specs.Verdict.{verdict_text};
-ghost use Rattle.pr_recording.specs.Narrated.{AccountsMore, HasAccounted, readings_told};
+ghost use Rattle.pr_report.specs.Taking.{HasSeen, HasSurveyed};
+ghost use Rattle.pr_report.specs.Outside.{conclusion};
+ghost use Rattle.pr_report.specs.JsonText.{json_verdict};
+ghost use Rattle.pr_recording.specs.declared.wording.Wording.{Wording};
+ghost use Rattle.pr_recording.specs.Decoded.{last_lines, readings_text};
+ghost use Rattle.pr_recording.specs.Narrated.{AccountsMore, HasAccounted, bounds_in, reading_text, readings_told};
 
+use crate::wording::Wording;
 use pr_decode::Reading;
 use pr_report::{
-    LinesSeen, Preceding, Survey, is_acknowledged, push_oddities, push_reading, push_verdict,
+    Bounds, Context, LinesSeen, Oddities, Survey, is_acknowledged, push_json_reading,
+    push_json_verdict, push_oddities, push_reading,
 };
 use pr_wire::WaveFault;
 use std::alloc::{AllocError, Global};
@@ -22,8 +26,10 @@ use std::alloc::{AllocError, Global};
 /// The lines of the readings so far that are not written yet, and a survey of all of them.
 #[derive(Drop)]
 pub struct ReadingLog {
+    /// How readings are written.
+    wording: Wording,
     /// What comes before the next reading.
-    behind: Preceding,
+    context: Context,
     /// Some reading is an acknowledged byte.
     has_byte: bool,
     survey: Survey,
@@ -37,16 +43,58 @@ fn with_byte(before: bool, reading: &Reading) -> bool
     before || is_acknowledged(reading)
 }
 
+/// The bounds of the summary; JSON has none.
+fn bounds_in(wording: Wording) -> Bounds
+    ensures { result ≡ bounds_in wording }
+{
+    match wording {
+        Wording::Lines(detail) => detail.bounds,
+        Wording::Json => Bounds::Profile,
+    }
+}
+
+/// Adds a reading to a text.
+fn push_worded(
+    text: &mut Vec<u8>,
+    wording: Wording,
+    context: Context,
+    reading: &Reading,
+) -> Result<(), AllocError>
+    ensures { OnOk result (text.new.items ≡ text.old.items ++ reading_text wording context reading.now) }
+{
+    match wording {
+        Wording::Lines(detail) => push_reading(text, context, reading, detail),
+        Wording::Json => push_json_reading(text, reading),
+    }
+}
+
+/// Adds the summary of all readings, the verdict on them, and what is odd.
+fn push_summing_up(
+    text: &mut Vec<u8>,
+    survey: &Survey,
+    fault: Option<WaveFault>,
+    odd: Oddities,
+) -> Result<(), AllocError>
+    ensures { OnOk result ((bounds : Bounds) (given : List Reading) → HasSurveyed bounds given survey.now → text.new.items
+        ≡ text.old.items ++ (summary bounds given ++ (conclusion bounds fault given ++ oddities_text odd))) }
+{
+    survey.push_summary(text)?;
+    survey.push_conclusion(text, fault)?;
+    push_oddities(text, odd)?;
+    Ok(())
+}
+
 impl ReadingLog {
-    /// A log of no reading.
-    pub fn new(alloc: Global) -> Result<ReadingLog, AllocError>
-        ensures accounted { IfOk result (λ log. HasAccounted [] [] log) }
+    /// A log of no reading, which writes readings so.
+    pub fn new(alloc: Global, wording: Wording) -> Result<ReadingLog, AllocError>
+        ensures accounted { IfOk result (λ log. HasAccounted wording [] [] log) }
         ensures count { IfOk result (λ log. readings_told log ≡ 0) }
     {
         Ok(ReadingLog {
-            behind: Preceding::Nothing,
+            wording,
+            context: Context::new(),
             has_byte: false,
-            survey: Survey::new(alloc)?,
+            survey: Survey::new(alloc, bounds_in(wording))?,
             lines: Vec::new(alloc),
         })
     }
@@ -57,8 +105,8 @@ impl ReadingLog {
         ensures accounted { OnOk result (AccountsMore (reading.now ∷ []) self.old self.new) }
         ensures count { OnOk result (readings_told self.new ≤ readings_told self.old + 1) }
     {
-        push_reading(&mut self.lines, self.behind, reading)?;
-        self.behind = self.behind.after(reading);
+        push_worded(&mut self.lines, self.wording, self.context, reading)?;
+        self.context = self.context.after(reading);
         self.has_byte = with_byte(self.has_byte, reading);
         self.survey.take(reading);
         Ok(())
@@ -86,8 +134,8 @@ impl ReadingLog {
 
     /// Gives up these lines, once they are written.
     pub fn clear(&mut self)
-        ensures cleared { (given : List Reading) (written : List ℕ) → HasAccounted given written self.old →
-            HasAccounted given (written ++ self.old.lines.items) self.new }
+        ensures cleared { (wording : Wording) (given : List Reading) (written : List ℕ) → HasAccounted wording given written self.old →
+            HasAccounted wording given (written ++ self.old.lines.items) self.new }
         ensures count { readings_told self.new ≡ readings_told self.old }
     {
         self.lines.clear();
@@ -100,17 +148,24 @@ impl ReadingLog {
         self.lines
     }
 
-    /// Ends the readings: gives the lines that are not written yet, the summary of all readings, the
-    /// verdict, and what is odd about the edges that were seen.
-    pub fn finish(self, verdict: Option<WaveFault>, seen: LinesSeen) -> Result<Vec<u8>, AllocError>
-        ensures { IfOk result (λ text. (edges : List Edge) (given : List Reading) (written : List ℕ) → HasSeen edges seen →
-            HasAccounted given written self → written ++ text.items ≡ all_lines Nothing given
-            ++ (summary given ++ (verdict_text verdict ++ oddities_text (oddities_of edges given)))) }
+    /// Ends the readings: gives the lines that are not written yet, and what follows them at the end, by the fault
+    /// of the edges that were seen.
+    pub fn finish(self, fault: Option<WaveFault>, seen: LinesSeen) -> Result<Vec<u8>, AllocError>
+        ensures { IfOk result (λ text. (wording : Wording) (edges : List Edge) (given : List Reading) (written : List ℕ) →
+            HasSeen edges seen → HasAccounted wording given written self →
+            written ++ text.items ≡ readings_text wording given ++ last_lines wording fault edges given) }
     {
         let mut lines = self.lines;
-        self.survey.push_summary(&mut lines)?;
-        push_verdict(&mut lines, verdict)?;
-        push_oddities(&mut lines, seen.oddities(self.has_byte))?;
-        Ok(lines)
+        match self.wording {
+            Wording::Lines(_) => {
+                let odd = seen.oddities(self.has_byte);
+                push_summing_up(&mut lines, &self.survey, fault, odd)?;
+                Ok(lines)
+            }
+            Wording::Json => {
+                push_json_verdict(&mut lines, fault)?;
+                Ok(lines)
+            }
+        }
     }
 }

@@ -2,3 +2,4 @@ pub mod Defining
 pub mod Drawn
 pub mod Names
 pub mod Shown
+pub mod Told

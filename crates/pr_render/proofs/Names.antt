@@ -51,7 +51,7 @@ rest-is : {a b : ℕ} {xs bs : List ℕ} → a ∷ xs ≡ b ∷ bs → xs ≡ bs
 rest-is is = cc
 
 -- a byte is small
-byte-small : (n : ℕ) → nat_lt n 256 ≡ true → n < 2 ^ 64
+pub byte-small : (n : ℕ) → nat_lt n 256 ≡ true → n < 2 ^ 64
 byte-small n is = grind (arith, is)
 
 -- cells of one set

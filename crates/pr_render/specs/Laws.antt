@@ -1,5 +1,5 @@
 -- Laws: what a picture's elements draw, and what a line shows, said without the folds of Svg.antt and Plain.antt. src/laws.rt proves them.
-use Rattle.std.specs.Prelude.{◌≡◌, ℕ, ◌+◌, ◌-◌, ◌*◌, ◌/◌, ◌<◌, Bool, true, false, not, List, [], ◌∷◌, ◌++◌, ◌==◌, ◌&&◌, ◌||◌, nat_lt, encode_utf8, flat_map, map, slice_index_or, if◌then◌else◌}
+use Rattle.std.specs.Prelude.{◌≡◌, ℕ, ◌+◌, ◌-◌, ◌*◌, ◌/◌, ◌^◌, ◌<◌, Bool, true, false, not, List, [], ◌∷◌, ◌++◌, ◌==◌, ◌&&◌, ◌||◌, nat_lt, encode_utf8, flat_map, map, slice_index_or, if◌then◌else◌}
 use Rattle.std.specs.List.{list_all}
 use Rattle.pr_page.specs.declared.paper.Placed.{Placed}
 use Rattle.pr_base.specs.Lines.{lines_of}
@@ -12,7 +12,7 @@ use Rattle.pr_dots.specs.declared.character_sets.Shapes.{Shapes}
 use Rattle.pr_render.specs.Characters.{character}
 use Rattle.pr_render.specs.Plain.{held_text, rows_text, shown}
 use Rattle.pr_render.specs.Words.{is_blank}
-use Rattle.pr_render.specs.Svg.{Disc, disc_of, each_once, mark_discs, marks_of, name_svg}
+use Rattle.pr_render.specs.Svg.{Disc, disc_of, each_once, mark_discs, marks_of, name_svg, row_svg}
 
 -- the code or the value of a mark is a byte
 abbrev pub is_of_bytes : Mark → Bool
@@ -50,6 +50,19 @@ DiscsAreTheDots =
 -- different marks have different names
 abbrev pub NamesTellMarks : Type 0
 NamesTellMarks = (m n : Mark) → is_of_bytes m ≡ true → is_of_bytes n ≡ true → name_svg m ≡ name_svg n → m ≡ n
+
+-- a mark at one of the 480 places of a line, and a row of such marks at a distance that a document can have
+abbrev pub is_drawn : Placed → Bool
+is_drawn p = is_of_bytes p.mark && nat_lt p.x 480
+
+abbrev pub is_row : Row → Bool
+is_row r = nat_lt r.y (2 ^ 60) && list_all is_drawn r.marks
+
+-- the elements of a paper's rows tell them: from the text the distance of each row, and the place and the mark of each
+-- element, can be had back
+abbrev pub ElementsTellRows : Type 0
+ElementsTellRows = (these those : List Row) → list_all is_row these ≡ true → list_all is_row those ≡ true
+    → flat_map row_svg these ≡ flat_map row_svg those → these ≡ those
 
 -- a text shows a character at a column of a line, both counted from 0: a blank where the line is shorter
 pub record ShowsAt (line column u : ℕ) (text : List ℕ) : Type 0 where

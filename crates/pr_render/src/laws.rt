@@ -1,6 +1,6 @@
 //! Laws of the definitions, with nothing to run.
 
-ghost use Rattle.pr_render.specs.Laws.{DiscsAreTheDots, LinesShowEachCell, NamesTellMarks, WideCellsShowABlank};
+ghost use Rattle.pr_render.specs.Laws.{DiscsAreTheDots, ElementsTellRows, LinesShowEachCell, NamesTellMarks, WideCellsShowABlank};
 
 /// A law: what a picture draws of a paper's rows is a disc at each dot of the paper, and no other.
 /// An element draws what is defined under its name, moved to the element's place; each mark in the
@@ -12,6 +12,12 @@ pub fn discs_are_the_dots()
 /// A law: different marks have different names, so the elements of a row tell its marks.
 pub fn names_tell_marks()
     ensures { NamesTellMarks }
+{}
+
+/// A law: the list of a page's rows can be had back from its picture. Rows whose elements have the same text are the
+/// same rows: each at its distance, with the same marks at the same places.
+pub fn elements_tell_rows()
+    ensures { ElementsTellRows }
 {}
 
 /// Laws: in the line of its row a cell shows its character (a reversed blank a full block) at the column of its

@@ -12,9 +12,9 @@ use Rattle.pr_wire.specs.declared.bus_state.BusState.TheVariants.{Idle}
 use Rattle.pr_wire.specs.declared.bus_state.Step.{Step}
 use Rattle.pr_wire.specs.declared.follower.TraceFollower.{TraceFollower}
 use Rattle.pr_wire.specs.Checking.{with_frame}
-use Rattle.pr_wire.specs.Following.{HasAccepted, HasFollowed, Moves, Refuses, kept_fault, outcome, refused_at, where_led}
+use Rattle.pr_wire.specs.Following.{HasAccepted, HasFollowed, Moves, Refuses, outcome, refused_at, where_led}
 use Rattle.pr_wire.specs.Reached.{Reached, begin, indexed, step_of}
-use Rattle.pr_wire.specs.Table.{fault_of, is_start, verdict}
+use Rattle.pr_wire.specs.Table.{is_start, verdict}
 use Rattle.pr_report.specs.declared.timed_frame.TimedFrame.{TimedFrame}
 use Rattle.pr_report.specs.declared.frame_timer.FrameTimer.{FrameTimer}
 use Rattle.pr_report.specs.Moments.{if_allowed, look_with, timed_frames, timed_from, with_moments}

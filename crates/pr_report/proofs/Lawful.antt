@@ -1,6 +1,8 @@
--- The intervals of a lawful trace lie within the profile's bounds.
-use Rattle.std.proofs.Common.{◌≡◌, ℕ, ◌+◌, ◌-◌, Bool, true, false, min, max, List, [], ◌∷◌, ◌++◌, length, Option, Some, None, refl, sym, ap, ◌∙◌, subst, arith}
+-- The intervals of a lawful trace lie within the profile's bounds, and so within the guide's.
+use Rattle.std.proofs.Common.{◌≡◌, ℕ, ◌+◌, ◌-◌, ◌≤◌, Bool, true, false, min, max, List, [], ◌∷◌, ◌++◌, length, Option, Some, None, refl, sym, ap, ◌∙◌, subst, arith}
 use Rattle.std.specs.Option.{option_map, option_to_list}
+use Rattle.std.specs.Prelude.{◌||◌}
+use Rattle.std.proofs.lemmas.Bool.{le-ltb}
 use Rattle.std.proofs.lemmas.List.{append_assoc}
 use Rattle.pr_wire.specs.Pieces.{AreClocked, AreLawful, Between, BitTimes, EoiAnswer, FrameTimes, IsFrame, IsOpened, IsPiece, IsSecond, IsWithin, Piece, SecondFrame, after_piece}
 use Rattle.pr_wire.specs.Pieces.Between.{Resting}
@@ -9,11 +11,18 @@ use Rattle.pr_decode.specs.declared.reading.Reading.{Reading}
 use Rattle.pr_decode.specs.Laws.{TracesSayTheirPieces}
 use Rattle.pr_decode.specs.PieceReadings.{frame_read, high_times, low_times, piece_read, pieces_read, pulse_read, second_read}
 use Rattle.pr_decode.specs.Readings.{greatest, halves, least}
+use Rattle.pr_report.specs.declared.detail.Bounds.{Bounds}
+use Rattle.pr_report.specs.declared.detail.Bounds.TheVariants.{Guide, Profile}
 use Rattle.pr_report.specs.declared.interval.Interval.{Interval}
 use Rattle.pr_report.specs.declared.interval.Interval.TheVariants.{Ready, FirstPull, Answer, AnswerLength, PullAfterAnswer, ShortestLow, LongestLow, ShortestHigh, LongestHigh, Acknowledgement}
-use Rattle.pr_report.specs.Intervals.{highest_of, length_of, lowest_of, unless_answered}
-use Rattle.pr_report.specs.ReadingLaws.{AreWithin, LawfulTracesAreWithin}
+use Rattle.pr_report.specs.Intervals.{highest_of, is_above, is_outside, length_of, lowest_of, profile_greatest, unless_answered}
+use Rattle.pr_report.specs.ReadingLaws.{AreInside, LawfulTracesAreWithin}
 use Rattle.pr_report.specs.Summary.{lengths}
+
+-- lengths lie within bounds
+abbrev pub AreWithin : (low high : ℕ) → List ℕ → Type 0
+AreWithin low high [] = Unit {0}
+AreWithin low high (n ∷ ns) = IsWithin n low high × AreWithin low high ns
 
 within-more : (low high : ℕ) (ms ns : List ℕ) → AreWithin low high ms → AreWithin low high ns → AreWithin low high (ms ++ ns)
 within-more low high [] ns a b = b
@@ -99,7 +108,7 @@ behind-within x free pull (Some p) h = (after-within p.released pull 1 60 h.3, t
 
 -- the intervals of a frame
 pub frame-within : (i : Interval) (x : Bool) (look : ℕ) (f : FrameTimes) → IsFrame x look f
-    → AreWithin (lowest_of i) (highest_of i) (option_to_list (length_of i (frame_read x look f)))
+    → AreWithin (lowest_of Profile i) (profile_greatest i) (option_to_list (length_of i (frame_read x look f)))
 frame-within Ready x look f h = (after-within look f.free 1 10000 h.free, tt)
 frame-within FirstPull x look f h = first-within x f.free f.pull f.pulse h.opened
 frame-within Answer x look f h = answer-within x f.free f.pull f.pulse h.opened
@@ -113,20 +122,20 @@ frame-within Acknowledgement x look f h = (after-within _ f.ack 1 80 h.ack, tt)
 
 -- those of one frame, those of a piece, and those of pieces
 one-within : (i : Interval) (x : Bool) (look : ℕ) (f : FrameTimes) → IsFrame x look f
-    → AreWithin (lowest_of i) (highest_of i) (lengths i (frame_read x look f ∷ []))
+    → AreWithin (lowest_of Profile i) (profile_greatest i) (lengths i (frame_read x look f ∷ []))
 one-within i x look f h =
-    within-more (lowest_of i) (highest_of i) (option_to_list (length_of i (frame_read x look f))) [] (frame-within i x look f h) tt
+    within-more (lowest_of Profile i) (profile_greatest i) (option_to_list (length_of i (frame_read x look f))) [] (frame-within i x look f h) tt
 
 second-within : (i : Interval) (k : ℕ) (m : Option SecondFrame) → IsSecond k m
-    → AreWithin (lowest_of i) (highest_of i) (lengths i (second_read m))
+    → AreWithin (lowest_of Profile i) (profile_greatest i) (lengths i (second_read m))
 second-within i k None h = tt
 second-within i k (Some m) h = one-within i false m.look m.sent h.1
 
 piece-within : (i : Interval) (b : Between) (p : Piece) → IsPiece b p
-    → AreWithin (lowest_of i) (highest_of i) (lengths i (piece_read p))
+    → AreWithin (lowest_of Profile i) (profile_greatest i) (lengths i (piece_read p))
 piece-within i b (Unanswered a release) h = tt
 piece-within i b (Attention a answer look first second end) h =
-    within-more (lowest_of i) (highest_of i) (option_to_list (length_of i (frame_read false look first))) (lengths i (second_read second))
+    within-more (lowest_of Profile i) (profile_greatest i) (option_to_list (length_of i (frame_read false look first))) (lengths i (second_read second))
     (frame-within i false look first h.2) (second-within i first.ack second h.3)
 piece-within i b (DataByte look sent) h = one-within i true look sent h.1
 piece-within i b (Dropped look) h = tt
@@ -138,14 +147,50 @@ lengths-both i (r ∷ rs) ss =
     ∙ sym (append_assoc (option_to_list (length_of i r)) (lengths i rs) (lengths i ss))
 
 pieces-within : (i : Interval) (b : Between) (ps : List Piece) → AreLawful b ps
-    → AreWithin (lowest_of i) (highest_of i) (lengths i (pieces_read ps))
+    → AreWithin (lowest_of Profile i) (profile_greatest i) (lengths i (pieces_read ps))
 pieces-within i b [] h = tt
 pieces-within i b (p ∷ ps) h =
-    subst (AreWithin (lowest_of i) (highest_of i)) (sym (lengths-both i (piece_read p) (pieces_read ps)))
-    (within-more (lowest_of i) (highest_of i) (lengths i (piece_read p)) (lengths i (pieces_read ps)) (piece-within i b p h.0)
+    subst (AreWithin (lowest_of Profile i) (profile_greatest i)) (sym (lengths-both i (piece_read p) (pieces_read ps)))
+    (within-more (lowest_of Profile i) (profile_greatest i) (lengths i (piece_read p)) (lengths i (pieces_read ps)) (piece-within i b p h.0)
     (pieces-within i (after_piece p) ps h.1))
 
+-- a greatest length does not pass a bound that may be none
+abbrev UpTo : ℕ → Option ℕ → Type 0
+UpTo n None = Unit {0}
+UpTo n (Some greatest) = n ≤ greatest
+
+-- no bounds are closer than the profile's
+no-closer : (b : Bounds) (i : Interval) → (lowest_of b i ≤ lowest_of Profile i) × UpTo (profile_greatest i) (highest_of b i)
+no-closer Profile i = (omega arith, omega arith)
+no-closer Guide Ready = (omega arith, tt)
+no-closer Guide FirstPull = (omega arith, omega arith)
+no-closer Guide Answer = (omega arith, tt)
+no-closer Guide AnswerLength = (omega arith, tt)
+no-closer Guide PullAfterAnswer = (omega arith, omega arith)
+no-closer Guide ShortestLow = (omega arith, tt)
+no-closer Guide LongestLow = (omega arith, tt)
+no-closer Guide ShortestHigh = (omega arith, tt)
+no-closer Guide LongestHigh = (omega arith, tt)
+no-closer Guide Acknowledgement = (omega arith, omega arith)
+
+not-above : (n high : ℕ) (greatest : Option ℕ) → n ≤ high → UpTo high greatest → is_above n greatest ≡ false
+not-above n high None le up = refl
+not-above n high (Some greatest) le up = le-ltb greatest n (omega arith)
+
+-- what lies within the profile's bounds is not outside any
+pub inside : (b : Bounds) (i : Interval) (n : ℕ) → IsWithin n (lowest_of Profile i) (profile_greatest i) → is_outside b i n ≡ false
+inside b i n h =
+    let wide = no-closer b i in
+    let from : lowest_of Profile i ≤ n = h.from in
+    let to : n ≤ profile_greatest i = h.to in
+    let low : lowest_of b i ≤ lowest_of Profile i = wide.0 in
+    ap (λ t. t || is_above n (highest_of b i)) (le-ltb n (lowest_of b i) (omega arith)) ∙ not-above n (profile_greatest i) (highest_of b i) to wide.1
+
+all-inside : (b : Bounds) (i : Interval) (ns : List ℕ) → AreWithin (lowest_of Profile i) (profile_greatest i) ns → AreInside b i ns
+all-inside b i [] h = tt
+all-inside b i (n ∷ ns) h = (inside b i n h.0, all-inside b i ns h.1)
+
 pub lawful-within : TracesSayTheirPieces → LawfulTracesAreWithin
-lawful-within law edges i (pieces, cut) =
-    subst (λ rs. AreWithin (lowest_of i) (highest_of i) (lengths i rs)) (sym (law edges pieces cut))
-    (pieces-within i (Resting 0) pieces cut.lawful)
+lawful-within law edges b i (pieces, cut) =
+    subst (λ rs. AreInside b i (lengths i rs)) (sym (law edges pieces cut))
+    (all-inside b i (lengths i (pieces_read pieces)) (pieces-within i (Resting 0) pieces cut.lawful))

@@ -7,6 +7,7 @@ pub mod Middle
 pub mod Tallied
 pub mod Parts
 pub mod Surveyed
+pub mod FoundOutside
 pub mod Lines
 pub mod Lawful
 pub mod Stories

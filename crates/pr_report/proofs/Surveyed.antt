@@ -4,6 +4,7 @@ use Rattle.std.specs.List.{count_by}
 use Rattle.std.proofs.lemmas.List.{append_assoc}
 use Rattle.pr_decode.specs.declared.reading.Reading.{Reading}
 use Rattle.pr_report.specs.declared.counts.Counts.{Counts}
+use Rattle.pr_report.specs.declared.detail.Bounds.{Bounds}
 use Rattle.pr_report.specs.Intervals.{intervals}
 use Rattle.pr_report.specs.Summary.{counts_text, interval_lines, is_command, is_cut, is_data_byte, is_frame, is_incomplete, is_unacknowledged, summary}
 use Rattle.pr_report.specs.Taking.{HasCounted}
@@ -26,11 +27,11 @@ counts-told rs c h =
     ∙ ap (λ n. counts_text (count_by is_frame rs) (count_by is_command rs) (count_by is_data_byte rs) (count_by is_unacknowledged rs) (count_by is_incomplete rs) n) h.cut))))
 
 -- the summary: the lines of the counts, and those of the intervals
-pub summary-told : (rs : List Reading) (c : Counts) (t0 t1 t2 : List ℕ) → HasCounted rs c
-    → t1 ≡ t0 ++ counts_text c.frames c.commands c.data_bytes c.unacknowledged c.incomplete c.cut → t2 ≡ t1 ++ interval_lines intervals rs
-    → t2 ≡ t0 ++ summary rs
+pub summary-told : (b : Bounds) (rs : List Reading) (c : Counts) (t0 t1 t2 : List ℕ) → HasCounted rs c
+    → t1 ≡ t0 ++ counts_text c.frames c.commands c.data_bytes c.unacknowledged c.incomplete c.cut → t2 ≡ t1 ++ interval_lines b intervals rs
+    → t2 ≡ t0 ++ summary b rs
 unfolding summary
-summary-told rs c t0 t1 t2 h e1 e2 =
+summary-told b rs c t0 t1 t2 h e1 e2 =
     let first : t1 ≡ t0 ++ counts_of rs =
     e1 ∙ ap (λ (z : List ℕ). t0 ++ z) (counts-told rs c h) in
-    e2 ∙ (ap (λ (z : List ℕ). z ++ interval_lines intervals rs) first ∙ append_assoc t0 _ (interval_lines intervals rs))
+    e2 ∙ (ap (λ (z : List ℕ). z ++ interval_lines b intervals rs) first ∙ append_assoc t0 _ (interval_lines b intervals rs))

@@ -7,6 +7,7 @@ use Rattle.std.proofs.lemmas.Bool.Decides.{nat_tests}
 use Rattle.std.proofs.lemmas.List.{append_assoc}
 use Rattle.pr_decode.specs.declared.reading.Reading.{Reading}
 use Rattle.pr_decode.specs.Readings.{greatest, least}
+use Rattle.pr_report.specs.declared.detail.Bounds.{Bounds}
 use Rattle.pr_report.specs.declared.interval.Interval.{Interval}
 use Rattle.pr_report.specs.declared.tally.Tally.{Tally}
 use Rattle.pr_report.specs.Intervals.{is_outside, length_of, name_of}
@@ -45,18 +46,20 @@ counters-more ns n k few =
     let le : equal_to k ns ≤ length ns = equal_to-few k ns in
     counter-more n k (equal_to k ns) (omega arith) ∙ sym (equal_to-push k ns n)
 
-pub more-tallied : (i : Interval) (ns : List ℕ) (n : ℕ) (old new : Tally) → length ns + 1 < 2 ^ 64 → HasTallied i ns old → Adds n old new
-    → HasTallied i (ns ++ n ∷ []) new
-more-tallied i ns n old new few h a =
+pub more-tallied : (b : Bounds) (i : Interval) (ns : List ℕ) (n : ℕ) (old new : Tally) → length ns + 1 < 2 ^ 64 → HasTallied b i ns old → Adds n old new
+    → HasTallied b i (ns ++ n ∷ []) new
+more-tallied b i ns n old new few h a =
     let longer : length (ns ++ n ∷ []) ≡ length ns + 1 = one-longer ns n in
     let was : old.count ≡ length ns = h.count in
     let now : new.count ≡ min (old.count + 1) (2 ^ 64 - 1) = a.count in
     record {
       interval = a.interval ∙ h.interval;
+      bounds = a.bounds ∙ h.bounds;
       count = omega arith;
       least = a.least ∙ (ap (λ c. least_with c old.least n) h.count ∙ (ap (λ m. least_with (length ns) m n) h.least ∙ sym (least_of-push ns n)));
       greatest = a.greatest ∙ (ap (λ m. max m n) h.greatest ∙ sym (greatest_of-push ns n));
-      outside = counted-more (is_outside i) ns n old.outside new.outside few h.outside (a.outside ∙ ap (λ j. counted (is_outside j n) old.outside) h.interval);
+      outside = counted-more (is_outside b i) ns n old.outside new.outside few h.outside
+          (a.outside ∙ (ap (λ j. counted (is_outside old.bounds j n) old.outside) h.interval ∙ ap (λ x. counted (is_outside x i n) old.outside) h.bounds));
       room = a.room ∙ h.room;
       counters = λ k less.
           let within : k < length old.counters.items = subst (λ m. k < m) (sym h.room) less in
@@ -81,30 +84,30 @@ lengths-few i (r ∷ rs) =
     let here : length (option_to_list (length_of i r) ++ lengths i rs) ≤ length (lengths i rs) + 1 = at-most-one (length_of i r) (lengths i rs) in
     omega arith
 
-pub tallied-none : (i : Interval) (rs : List Reading) (r : Reading) (t : Tally) → length_of t.interval r ≡ None → Tallies i rs t
-    → Tallies i (rs ++ r ∷ []) t
-tallied-none i rs r t none h =
+pub tallied-none : (b : Bounds) (i : Interval) (rs : List Reading) (r : Reading) (t : Tally) → length_of t.interval r ≡ None → Tallies b i rs t
+    → Tallies b i (rs ++ r ∷ []) t
+tallied-none b i rs r t none h =
     let here : length_of i r ≡ None = ap (λ j. length_of j r) (sym h.interval) ∙ none in
     let same : lengths i (rs ++ r ∷ []) ≡ lengths i rs =
     lengths-push i rs r ∙ (ap (λ o. lengths i rs ++ option_to_list o) here ∙ append-nil (lengths i rs)) in
-    subst (λ ns. HasTallied i ns t) (sym same) h
+    subst (λ ns. HasTallied b i ns t) (sym same) h
 
-pub tallied-more : (i : Interval) (rs : List Reading) (r : Reading) (n : ℕ) (old new : Tally) → length rs + 1 < 2 ^ 64
-    → length_of old.interval r ≡ Some n → Adds n old new → Tallies i rs old → Tallies i (rs ++ r ∷ []) new
-tallied-more i rs r n old new few some a h =
+pub tallied-more : (b : Bounds) (i : Interval) (rs : List Reading) (r : Reading) (n : ℕ) (old new : Tally) → length rs + 1 < 2 ^ 64
+    → length_of old.interval r ≡ Some n → Adds n old new → Tallies b i rs old → Tallies b i (rs ++ r ∷ []) new
+tallied-more b i rs r n old new few some a h =
     let here : length_of i r ≡ Some n = ap (λ j. length_of j r) (sym h.interval) ∙ some in
     let same : lengths i (rs ++ r ∷ []) ≡ lengths i rs ++ n ∷ [] =
     lengths-push i rs r ∙ ap (λ o. lengths i rs ++ option_to_list o) here in
     let le : length (lengths i rs) ≤ length rs = lengths-few i rs in
-    subst (λ ns. HasTallied i ns new) (sym same) (more-tallied i (lengths i rs) n old new (omega arith) h a)
+    subst (λ ns. HasTallied b i ns new) (sym same) (more-tallied b i (lengths i rs) n old new (omega arith) h a)
 
 from-zero : (n : ℕ) → 0 + n ≡ n
 from-zero n = omega arith
 
 -- what a tally tells is what its lengths tell
-middle-told : (i : Interval) (ns : List ℕ) (t : Tally) → length ns < 2 ^ 64 → 0 < length ns → HasTallied i ns t
+middle-told : (b : Bounds) (i : Interval) (ns : List ℕ) (t : Tally) → length ns < 2 ^ 64 → 0 < length ns → HasTallied b i ns t
     → first_half t.count 0 0 t.counters.items ≡ exact_middle (middle ns)
-middle-told i ns t small some h =
+middle-told b i ns t small some h =
     let none : below 0 ns ≡ 0 = none-below ns in
     let start : 0 ≡ below 0 ns = sym none in
     let few : 2 * below 0 ns < length ns = omega arith in
@@ -114,36 +117,37 @@ middle-told i ns t small some h =
     ap (λ c. first_half c 0 0 t.counters.items) h.count
     ∙ (half-found ns t.counters.items 0 0 small start few each ∙ ap (λ m. told_below m (middle ns)) room)
 
-figures-same : (i j : Interval) (a b c d : ℕ) (o p : Option ℕ) (e f g h : ℕ) → i ≡ j → a ≡ b → c ≡ d → o ≡ p → e ≡ f → g ≡ h
-    → figures_text i a c o e g ≡ figures_text j b d p f h
-figures-same i j a b c d o p e f g h at_i at_a at_c at_o at_e at_g =
-    ap (λ x. figures_text x a c o e g) at_i
-    ∙ (ap (λ x. figures_text j x c o e g) at_a
-    ∙ (ap (λ x. figures_text j b x o e g) at_c
-    ∙ (ap (λ x. figures_text j b d x e g) at_o ∙ (ap (λ x. figures_text j b d p x g) at_e ∙ ap (λ x. figures_text j b d p f x) at_g))))
+figures-same : (s t : Bounds) (i j : Interval) (a b c d : ℕ) (o p : Option ℕ) (e f g h : ℕ) → s ≡ t → i ≡ j → a ≡ b → c ≡ d → o ≡ p → e ≡ f → g ≡ h
+    → figures_text s i a c o e g ≡ figures_text t j b d p f h
+figures-same s t i j a b c d o p e f g h at_s at_i at_a at_c at_o at_e at_g =
+    ap (λ x. figures_text x i a c o e g) at_s
+    ∙ (ap (λ x. figures_text t x a c o e g) at_i
+    ∙ (ap (λ x. figures_text t j x c o e g) at_a
+    ∙ (ap (λ x. figures_text t j b x o e g) at_c
+    ∙ (ap (λ x. figures_text t j b d x e g) at_o ∙ (ap (λ x. figures_text t j b d p x g) at_e ∙ ap (λ x. figures_text t j b d p f x) at_g)))))
 
 -- a text by a count that is 0, or is not
 abbrev text_of : (count : ℕ) → List ℕ → List ℕ
 text_of count told = if count == 0 then codes ": none" else told
 
-known-told : (i : Interval) (ns : List ℕ) (t : Tally) → length ns < 2 ^ 64 → HasTallied i ns t → known_text t ≡ lengths_text i ns
-known-told i [] t small h =
-    ap (λ c. text_of c (figures_text t.interval t.count t.least (first_half t.count 0 0 t.counters.items) t.greatest t.outside)) h.count
-known-told i (n ∷ ns) t small h =
-    let told : List ℕ = figures_text t.interval t.count t.least (first_half t.count 0 0 t.counters.items) t.greatest t.outside in
+known-told : (b : Bounds) (i : Interval) (ns : List ℕ) (t : Tally) → length ns < 2 ^ 64 → HasTallied b i ns t → known_text t ≡ lengths_text b i ns
+known-told b i [] t small h =
+    ap (λ c. text_of c (figures_text t.bounds t.interval t.count t.least (first_half t.count 0 0 t.counters.items) t.greatest t.outside)) h.count
+known-told b i (n ∷ ns) t small h =
+    let told : List ℕ = figures_text t.bounds t.interval t.count t.least (first_half t.count 0 0 t.counters.items) t.greatest t.outside in
     let some : (t.count == 0) ≡ false = ap (λ c. c == 0) h.count ∙ some-length n ns in
     ap (λ b. if b then codes ": none" else told) some
-    ∙ figures-same t.interval i t.count (length (n ∷ ns)) t.least (least n ns) (first_half t.count 0 0 t.counters.items)
-    (exact_middle (middle (n ∷ ns))) t.greatest (greatest n ns) t.outside (count_by (is_outside i) (n ∷ ns)) h.interval h.count h.least
-    (middle-told i (n ∷ ns) t small (omega arith) h) h.greatest h.outside
+    ∙ figures-same t.bounds b t.interval i t.count (length (n ∷ ns)) t.least (least n ns) (first_half t.count 0 0 t.counters.items)
+    (exact_middle (middle (n ∷ ns))) t.greatest (greatest n ns) t.outside (count_by (is_outside b i) (n ∷ ns)) h.bounds h.interval h.count h.least
+    (middle-told b i (n ∷ ns) t small (omega arith) h) h.greatest h.outside
 
 -- the line of a tally: its name, what it tells, and the end
-pub line-told : (i : Interval) (rs : List Reading) (t : Tally) (t0 t1 t2 t3 name : List ℕ) → length rs < 2 ^ 64 → Tallies i rs t
-    → name ≡ name_of t.interval → t1 ≡ t0 ++ name → t2 ≡ t1 ++ known_text t → t3 ≡ t2 ++ codes "\n" → t3 ≡ t0 ++ interval_line i rs
-line-told i rs t t0 t1 t2 t3 name small h named e1 e2 e3 =
+pub line-told : (b : Bounds) (i : Interval) (rs : List Reading) (t : Tally) (t0 t1 t2 t3 name : List ℕ) → length rs < 2 ^ 64 → Tallies b i rs t
+    → name ≡ name_of t.interval → t1 ≡ t0 ++ name → t2 ≡ t1 ++ known_text t → t3 ≡ t2 ++ codes "\n" → t3 ≡ t0 ++ interval_line b i rs
+line-told b i rs t t0 t1 t2 t3 name small h named e1 e2 e3 =
     let le : length (lengths i rs) ≤ length rs = lengths-few i rs in
-    let told : List ℕ = lengths_text i (lengths i rs) in
-    let known : known_text t ≡ told = known-told i (lengths i rs) t (omega arith) h in
+    let told : List ℕ = lengths_text b i (lengths i rs) in
+    let known : known_text t ≡ told = known-told b i (lengths i rs) t (omega arith) h in
     let is_name : name ≡ name_of i = named ∙ ap name_of h.interval in
     let first : t1 ≡ t0 ++ name_of i = e1 ∙ ap (λ (z : List ℕ). t0 ++ z) is_name in
     let second : t2 ≡ t0 ++ (name_of i ++ told) =

@@ -1,6 +1,6 @@
--- Trusted: the intervals of a reading, in microseconds, each with its name and the delay of the profile
--- that bounds it.
-use Rattle.std.specs.Prelude.{ℕ, ◌+◌, ◌-◌, ◌==◌, nat_lt, Bool, ◌||◌, List, [], ◌∷◌, ◌++◌, Option, Some, None, is_some, codes, if◌then◌else◌}
+-- Trusted: the intervals of a reading, in microseconds, each with its name and its bounds: those of a delay of the
+-- profile, and those of the Programmer's Reference Guide's table of serial bus timing.
+use Rattle.std.specs.Prelude.{ℕ, ◌+◌, ◌-◌, ◌==◌, nat_lt, Bool, false, ◌||◌, List, [], ◌∷◌, ◌++◌, Option, Some, None, is_some, codes, if◌then◌else◌}
 use Rattle.std.specs.Option.{option_map}
 use Rattle.pr_wire.specs.declared.delay.Kind.{Kind}
 use Rattle.pr_wire.specs.declared.delay.Kind.TheVariants.{H, Ne, Ye, Ei, Ry, S, V, F}
@@ -10,6 +10,8 @@ use Rattle.pr_decode.specs.declared.reading.Transfer.{Transfer}
 use Rattle.pr_decode.specs.declared.reading.FrameEnd.TheVariants.{Acknowledged}
 use Rattle.pr_decode.specs.declared.reading.Reading.{Reading}
 use Rattle.pr_decode.specs.declared.reading.Reading.TheVariants.{Frame, IncompleteByte}
+use Rattle.pr_report.specs.declared.detail.Bounds.{Bounds}
+use Rattle.pr_report.specs.declared.detail.Bounds.TheVariants.{Guide, Profile}
 use Rattle.pr_report.specs.declared.interval.Interval.{Interval}
 use Rattle.pr_report.specs.declared.interval.Interval.TheVariants.{Ready, FirstPull, Answer, AnswerLength, PullAfterAnswer, ShortestLow, LongestLow, ShortestHigh, LongestHigh, Acknowledgement}
 use Rattle.pr_report.specs.Numbers.{numbered}
@@ -20,18 +22,19 @@ intervals =
     Ready ∷ FirstPull ∷ Answer ∷ AnswerLength ∷ PullAfterAnswer
     ∷ ShortestLow ∷ LongestLow ∷ ShortestHigh ∷ LongestHigh ∷ Acknowledgement ∷ []
 
--- an interval's name, and the delay of the profile that bounds it
-abbrev pub row_of : Interval → List ℕ × Kind
-row_of Ready = (codes "ready", H)
-row_of FirstPull = (codes "first pull", Ne)
-row_of Answer = (codes "answer", Ye)
-row_of AnswerLength = (codes "answer length", Ei)
-row_of PullAfterAnswer = (codes "pull after answer", Ry)
-row_of ShortestLow = (codes "shortest low half", S)
-row_of LongestLow = (codes "longest low half", S)
-row_of ShortestHigh = (codes "shortest high half", V)
-row_of LongestHigh = (codes "longest high half", V)
-row_of Acknowledgement = (codes "acknowledgement", F)
+-- an interval's name, the delay of the profile that bounds it, and its least and greatest length by the guide (there
+-- Th, Tne, Tye, Tei, Try, Ts, Tv and Tf; a least that its table leaves out is 1)
+abbrev pub row_of : Interval → List ℕ × Kind × ℕ × Option ℕ
+row_of Ready = (codes "ready", H, 0, None)
+row_of FirstPull = (codes "first pull", Ne, 1, Some 200)
+row_of Answer = (codes "answer", Ye, 200, None)
+row_of AnswerLength = (codes "answer length", Ei, 60, None)
+row_of PullAfterAnswer = (codes "pull after answer", Ry, 0, Some 60)
+row_of ShortestLow = (codes "shortest low half", S, 20, None)
+row_of LongestLow = (codes "longest low half", S, 20, None)
+row_of ShortestHigh = (codes "shortest high half", V, 20, None)
+row_of LongestHigh = (codes "longest high half", V, 20, None)
+row_of Acknowledgement = (codes "acknowledgement", F, 0, Some 1000)
 
 abbrev pub name_of : Interval → List ℕ
 name_of i = (row_of i).0
@@ -45,21 +48,44 @@ kind_of i = (row_of i).1
 abbrev pub longest_answer : ℕ
 longest_answer = (bounds_of Ye).2 + (bounds_of Ei).2 - (bounds_of Ye).0
 
--- an interval's least and greatest length in the profile
-abbrev pub lowest_of : Interval → ℕ
-lowest_of i = (bounds_of (kind_of i)).0
+-- an interval's greatest length in the profile
+abbrev pub profile_greatest : Interval → ℕ
+profile_greatest AnswerLength = longest_answer
+profile_greatest i = (bounds_of (kind_of i)).2
 
-abbrev pub highest_of : Interval → ℕ
-highest_of AnswerLength = longest_answer
-highest_of i = (bounds_of (kind_of i)).2
+-- an interval's least length, and its greatest if it has one
+abbrev pub lowest_of : Bounds → Interval → ℕ
+lowest_of Profile i = (bounds_of (kind_of i)).0
+lowest_of Guide i = (row_of i).2
+
+abbrev pub highest_of : Bounds → Interval → Option ℕ
+highest_of Profile i = Some (profile_greatest i)
+highest_of Guide i = (row_of i).3
 
 -- a length is outside these bounds
-abbrev pub is_outside : Interval → ℕ → Bool
-is_outside i n = nat_lt n (lowest_of i) || nat_lt (highest_of i) n
+abbrev pub is_above : ℕ → (greatest : Option ℕ) → Bool
+is_above n None = false
+is_above n (Some greatest) = nat_lt greatest n
+
+abbrev pub is_outside : Bounds → Interval → ℕ → Bool
+is_outside b i n = nat_lt n (lowest_of b i) || is_above n (highest_of b i)
 
 -- a word, and then these bounds
-abbrev pub bounds_after : List ℕ → Interval → List ℕ
-bounds_after word i = numbered word (lowest_of i) ++ numbered (codes " to ") (highest_of i)
+abbrev pub upper_text : (greatest : Option ℕ) → List ℕ
+upper_text None = codes " or more"
+upper_text (Some greatest) = numbered (codes " to ") greatest
+
+abbrev pub bounds_after : List ℕ → Bounds → Interval → List ℕ
+bounds_after word b i = numbered word (lowest_of b i) ++ upper_text (highest_of b i)
+
+-- whose bounds they are
+abbrev pub owner_words : Bounds → List ℕ
+owner_words Profile = codes " us, the profile has "
+owner_words Guide = codes " us, the guide has "
+
+-- the end of a line: an interval, its length, and these bounds
+abbrev pub measure : Bounds → Interval → ℕ → List ℕ
+measure b i n = name_of i ++ numbered (codes " ") n ++ bounds_after (owner_words b) b i ++ codes "\n"
 
 -- the byte of a reading, as far as it came
 abbrev pub transfer_of : Reading → Transfer

@@ -5,9 +5,12 @@ pub mod StoryText
 pub mod FrameTiming
 pub mod StoryLaws
 pub mod Intervals
+pub mod Contexts
 pub mod ReadingText
+pub mod JsonText
 pub mod Summary
 pub mod Oddities
+pub mod Outside
 pub mod Steps
 pub mod Taking
 pub mod ReadingLaws

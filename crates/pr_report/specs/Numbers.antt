@@ -1,5 +1,5 @@
 -- Trusted: numbers in a text.
-use Rattle.std.specs.Prelude.{ℕ, ◌+◌, ◌/◌, ◌%◌, nat_lt, drop, length, List, ◌∷◌, ◌++◌, codes, decimal, if◌then◌else◌}
+use Rattle.std.specs.Prelude.{ℕ, ◌+◌, ◌/◌, ◌%◌, nat_lt, drop, length, List, [], ◌∷◌, ◌++◌, codes, decimal, if◌then◌else◌}
 
 -- a word, and then a number in decimal
 abbrev pub numbered : List ℕ → ℕ → List ℕ
@@ -17,6 +17,10 @@ moment time = blanks (length (decimal time)) ++ decimal time
 abbrev pub hex_digit : ℕ → ℕ
 hex_digit n = if nat_lt n 10 then n + 48 else n + 55
 
--- a byte in hexadecimal, between two blanks on each side
+-- a byte in hexadecimal
+abbrev pub hex_digits : ℕ → List ℕ
+hex_digits byte = hex_digit (byte / 16) ∷ hex_digit (byte % 16) ∷ []
+
+-- and between two blanks on each side
 abbrev pub hex_column : ℕ → List ℕ
-hex_column byte = codes "  $" ++ hex_digit (byte / 16) ∷ hex_digit (byte % 16) ∷ codes "  "
+hex_column byte = codes "  $" ++ hex_digits byte ++ codes "  "

@@ -1,6 +1,7 @@
 -- Machine steps: what a tally keeps of lengths, and what one length more comes to. No reader needs to believe them.
 use Rattle.std.specs.Prelude.{◌≡◌, ℕ, ◌+◌, ◌-◌, ◌^◌, ◌<◌, ◌==◌, cond, min, max, nat_le, Bool, List, [], ◌∷◌, length, get_or, Option, Some, None, codes, if◌then◌else◌}
 use Rattle.pr_wire.specs.declared.Levels.{Levels}
+use Rattle.pr_report.specs.declared.outside.Outside.{Outside}
 use Rattle.pr_report.specs.declared.tally.Tally.{Tally}
 use Rattle.pr_report.specs.Intervals.{is_outside}
 use Rattle.pr_report.specs.Summary.{figures_text}
@@ -27,19 +28,25 @@ first_half count so_far n (c ∷ cs) =
 -- a tally takes a length
 pub record Adds (n : ℕ) (old new : Tally) : Type 0 where
   pub interval : new.interval ≡ old.interval
+  pub bounds : new.bounds ≡ old.bounds
   pub count : new.count ≡ min (old.count + 1) (2 ^ 64 - 1)
   pub least : new.least ≡ least_with old.count old.least n
   pub greatest : new.greatest ≡ max old.greatest n
-  pub outside : new.outside ≡ counted (is_outside old.interval n) old.outside
+  pub outside : new.outside ≡ counted (is_outside old.bounds old.interval n) old.outside
   pub room : length new.counters.items ≡ length old.counters.items
   pub counters : (k : ℕ) → k < length old.counters.items
       → get_or new.counters.items k 0 ≡ counter_with n k (get_or old.counters.items k 0)
+
+-- the first of what was found before, and of what is found now
+abbrev pub earlier : (before now : Option Outside) → Option Outside
+earlier None now = now
+earlier (Some o) now = Some o
 
 -- what a tally tells
 abbrev pub known_text : Tally → List ℕ
 known_text t =
     if t.count == 0 then codes ": none"
-    else figures_text t.interval t.count t.least (first_half t.count 0 0 t.counters.items) t.greatest t.outside
+    else figures_text t.bounds t.interval t.count t.least (first_half t.count 0 0 t.counters.items) t.greatest t.outside
 
 -- the levels of the first edge, after one edge more
 abbrev pub first_or : Option Levels → (next : Levels) → Levels

@@ -45,18 +45,24 @@ abbrev pub name_or_number : List ℕ → ℕ → List ℕ
 name_or_number [] byte = numbered (codes "byte ") byte
 name_or_number (c ∷ cs) byte = c ∷ cs
 
--- the text of a data byte: a character of ASCII in apostrophes, and an apostrophe in quotation marks
-abbrev pub data_text : ℕ → List ℕ
-data_text byte =
+-- the name of a control code, if bytes are a printer's
+abbrev pub name_if : (printer : Bool) → (byte : ℕ) → List ℕ
+name_if true byte = control_name byte
+name_if false byte = []
+
+-- the text of a data byte to a printer or to another device: a character of ASCII in apostrophes, and an apostrophe in
+-- quotation marks
+abbrev pub data_text : (printer : Bool) → (byte : ℕ) → List ℕ
+data_text printer byte =
     if byte == 39 then codes "\"'\""
     else (if (nat_lt 31 byte && nat_lt byte 127) then 39 ∷ byte ∷ 39 ∷ []
-    else name_or_number (control_name byte) byte)
+    else name_or_number (name_if printer byte) byte)
 
 -- the text of a frame's byte
-abbrev pub saying : ByteRole → ℕ → List ℕ
-saying First byte = command_text byte
-saying Second byte = command_text byte
-saying Data byte = data_text byte
+abbrev pub saying : (printer : Bool) → ByteRole → (byte : ℕ) → List ℕ
+saying printer First byte = command_text byte
+saying printer Second byte = command_text byte
+saying printer Data byte = data_text printer byte
 
 -- the end of a line
 abbrev pub line_end : (eoi : Bool) → List ℕ
@@ -64,9 +70,9 @@ line_end true = codes ", end-or-identify\n"
 line_end false = codes "\n"
 
 -- a frame's line
-unfoldable pub frame_line : TimedFrame → List ℕ
-frame_line f =
-    moment f.look ++ codes " " ++ moment f.acknowledged ++ hex_column f.byte ++ saying f.sending f.byte
+unfoldable pub frame_line : (printer : Bool) → TimedFrame → List ℕ
+frame_line printer f =
+    moment f.look ++ codes " " ++ moment f.acknowledged ++ hex_column f.byte ++ saying printer f.sending f.byte
     ++ line_end f.eoi
 
 -- the headings: a line before each attention, and one before data bytes that follow no data byte
@@ -76,9 +82,9 @@ heading behind_data Second = []
 heading true Data = []
 heading false Data = codes "data\n"
 
--- a frame's lines, with or without a data byte before it
+-- a frame's lines in a story, with or without a data byte before it: there data bytes are a printer's
 unfoldable pub story_line : (behind_data : Bool) → TimedFrame → List ℕ
-story_line behind_data f = heading behind_data f.sending ++ frame_line f
+story_line behind_data f = heading behind_data f.sending ++ frame_line true f
 
 -- a frame is a data byte
 abbrev pub is_data : ByteRole → Bool

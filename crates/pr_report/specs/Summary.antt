@@ -1,5 +1,5 @@
 -- Trusted: the summary of readings: how many there are, and for each interval how many, the least,
--- the middle, the greatest, and how many are outside the profile's bounds.
+-- the middle, the greatest, and how many are outside its bounds.
 use Rattle.std.specs.Prelude.{ℕ, ◌*◌, nat_le, nat_lt, not, ◌&&◌, Bool, true, false, List, [], ◌∷◌, ◌++◌, length, Option, Some, None, codes, if◌then◌else◌}
 use Rattle.std.specs.List.{count_by, filter}
 use Rattle.std.specs.Option.{option_to_list}
@@ -7,6 +7,7 @@ use Rattle.pr_decode.specs.declared.reading.FrameEnd.TheVariants.{Unacknowledged
 use Rattle.pr_decode.specs.declared.reading.Reading.{Reading}
 use Rattle.pr_decode.specs.declared.reading.Reading.TheVariants.{Frame, IncompleteByte}
 use Rattle.pr_decode.specs.Readings.{greatest, is_settled, least}
+use Rattle.pr_report.specs.declared.detail.Bounds.{Bounds}
 use Rattle.pr_report.specs.declared.interval.Interval.{Interval}
 use Rattle.pr_report.specs.Intervals.{bounds_after, intervals, is_outside, length_of, name_of, transfer_of}
 use Rattle.pr_report.specs.Numbers.{numbered}
@@ -66,29 +67,29 @@ abbrev pub middle_text : Option ℕ → List ℕ
 middle_text (Some n) = numbered (codes ", middle ") n
 middle_text None = codes ", middle over 16383"
 
--- how many lengths are outside the profile's bounds
-abbrev pub outside_count : Interval → (outside : ℕ) → List ℕ
-outside_count i outside = bounds_after (codes ", outside ") i ++ numbered (codes ": ") outside
+-- how many lengths are outside these bounds
+abbrev pub outside_count : Bounds → Interval → (outside : ℕ) → List ℕ
+outside_count b i outside = bounds_after (codes ", outside ") b i ++ numbered (codes ": ") outside
 
 -- the figures of lengths: how many there are, the least, the middle, the greatest, how many are outside
-abbrev pub figures_text : Interval → (count low : ℕ) → (mid : Option ℕ) → (high outside : ℕ) → List ℕ
-figures_text i count low mid high outside =
+abbrev pub figures_text : Bounds → Interval → (count low : ℕ) → (mid : Option ℕ) → (high outside : ℕ) → List ℕ
+figures_text b i count low mid high outside =
     numbered (codes ": ") count ++ numbered (codes ", least ") low ++ middle_text mid
-    ++ numbered (codes ", greatest ") high ++ outside_count i outside
+    ++ numbered (codes ", greatest ") high ++ outside_count b i outside
 
-abbrev pub lengths_text : Interval → List ℕ → List ℕ
-lengths_text i [] = codes ": none"
-lengths_text i (n ∷ ns) =
-    figures_text i (length (n ∷ ns)) (least n ns) (exact_middle (middle (n ∷ ns))) (greatest n ns)
-    (count_by (is_outside i) (n ∷ ns))
+abbrev pub lengths_text : Bounds → Interval → List ℕ → List ℕ
+lengths_text b i [] = codes ": none"
+lengths_text b i (n ∷ ns) =
+    figures_text b i (length (n ∷ ns)) (least n ns) (exact_middle (middle (n ∷ ns))) (greatest n ns)
+    (count_by (is_outside b i) (n ∷ ns))
 
 -- the line of an interval
-abbrev pub interval_line : Interval → List Reading → List ℕ
-interval_line i rs = name_of i ++ lengths_text i (lengths i rs) ++ codes "\n"
+abbrev pub interval_line : Bounds → Interval → List Reading → List ℕ
+interval_line b i rs = name_of i ++ lengths_text b i (lengths i rs) ++ codes "\n"
 
-abbrev pub interval_lines : List Interval → List Reading → List ℕ
-interval_lines [] rs = []
-interval_lines (i ∷ is) rs = interval_line i rs ++ interval_lines is rs
+abbrev pub interval_lines : Bounds → List Interval → List Reading → List ℕ
+interval_lines b [] rs = []
+interval_lines b (i ∷ is) rs = interval_line b i rs ++ interval_lines b is rs
 
 -- the line of a count, and those of all counts
 abbrev pub count_line : List ℕ → ℕ → List ℕ
@@ -102,8 +103,8 @@ counts_text frames commands data_bytes unacknowledged incomplete cut =
     ++ count_line (codes "cut by the recording's end: ") cut
 
 -- the summary of readings
-unfoldable pub summary : List Reading → List ℕ
-summary rs =
+unfoldable pub summary : Bounds → List Reading → List ℕ
+summary b rs =
     counts_text (count_by is_frame rs) (count_by is_command rs) (count_by is_data_byte rs)
     (count_by is_unacknowledged rs) (count_by is_incomplete rs) (count_by is_cut rs)
-    ++ interval_lines intervals rs
+    ++ interval_lines b intervals rs

@@ -4,6 +4,7 @@ use Rattle.std.specs.Prelude.{◌≡◌, ℕ, ◌==◌, ◌<◌, ◌^◌, List, 
 use Rattle.std.specs.List.{count_by, list_any}
 use Rattle.pr_decode.specs.declared.reading.Reading.{Reading}
 use Rattle.pr_decode.specs.Readings.{greatest}
+use Rattle.pr_report.specs.declared.detail.Bounds.{Bounds}
 use Rattle.pr_report.specs.declared.interval.Interval.{Interval}
 use Rattle.pr_report.specs.declared.interval.Interval.TheVariants.{Ready, FirstPull, Answer, AnswerLength, PullAfterAnswer, ShortestLow, LongestLow, ShortestHigh, LongestHigh, Acknowledgement}
 use Rattle.pr_wire.specs.declared.Edge.{Edge}
@@ -12,6 +13,7 @@ use Rattle.pr_report.specs.declared.oddities.LinesSeen.{LinesSeen}
 use Rattle.pr_report.specs.declared.survey.Survey.{Survey}
 use Rattle.pr_report.specs.declared.tally.Tally.{Tally}
 use Rattle.pr_report.specs.Intervals.{is_outside}
+use Rattle.pr_report.specs.Outside.{all_outside, first_of}
 use Rattle.pr_report.specs.Oddities.{first_levels, is_attention, last_levels}
 use Rattle.pr_report.specs.Summary.{is_command, is_cut, is_data_byte, is_frame, is_incomplete, is_unacknowledged, least_of, lengths, exact_below}
 
@@ -25,18 +27,19 @@ abbrev pub equal_to : ℕ → List ℕ → ℕ
 equal_to n ns = count_by (λ m. m == n) ns
 
 -- a tally of lengths of an interval
-pub record HasTallied (i : Interval) (ns : List ℕ) (t : Tally) : Type 0 where
+pub record HasTallied (b : Bounds) (i : Interval) (ns : List ℕ) (t : Tally) : Type 0 where
   pub interval : t.interval ≡ i
+  pub bounds : t.bounds ≡ b
   pub count : t.count ≡ length ns
   pub least : t.least ≡ least_of ns
   pub greatest : t.greatest ≡ greatest_of ns
-  pub outside : t.outside ≡ count_by (is_outside i) ns
+  pub outside : t.outside ≡ count_by (is_outside b i) ns
   pub room : length t.counters.items ≡ exact_below
   pub counters : (n : ℕ) → n < exact_below → get_or t.counters.items n 0 ≡ equal_to n ns
 
 -- a tally of an interval in readings
-abbrev pub Tallies : Interval → List Reading → Tally → Type 0
-Tallies i rs t = HasTallied i (lengths i rs) t
+abbrev pub Tallies : Bounds → Interval → List Reading → Tally → Type 0
+Tallies b i rs t = HasTallied b i (lengths i rs) t
 
 pub record HasCounted (rs : List Reading) (c : Counts) : Type 0 where
   pub frames : c.frames ≡ count_by is_frame rs
@@ -50,21 +53,23 @@ pub record HasCounted (rs : List Reading) (c : Counts) : Type 0 where
 abbrev pub number_taken : Survey → ℕ
 number_taken s = s.taken
 
--- these readings were taken
-pub record HasSurveyed (rs : List Reading) (s : Survey) : Type 0 where
+-- these readings were taken, and held against these bounds
+pub record HasSurveyed (b : Bounds) (rs : List Reading) (s : Survey) : Type 0 where
   pub taken : s.taken ≡ length rs
   pub few : length rs < 2 ^ 64
+  pub bounds : s.bounds ≡ b
+  pub outside : s.outside ≡ first_of (all_outside b rs)
   pub counts : HasCounted rs s.counts
-  pub ready : Tallies Ready rs s.ready
-  pub first_pull : Tallies FirstPull rs s.first_pull
-  pub answer : Tallies Answer rs s.answer
-  pub answer_length : Tallies AnswerLength rs s.answer_length
-  pub pull_after_answer : Tallies PullAfterAnswer rs s.pull_after_answer
-  pub shortest_low : Tallies ShortestLow rs s.shortest_low
-  pub longest_low : Tallies LongestLow rs s.longest_low
-  pub shortest_high : Tallies ShortestHigh rs s.shortest_high
-  pub longest_high : Tallies LongestHigh rs s.longest_high
-  pub acknowledgement : Tallies Acknowledgement rs s.acknowledgement
+  pub ready : Tallies b Ready rs s.ready
+  pub first_pull : Tallies b FirstPull rs s.first_pull
+  pub answer : Tallies b Answer rs s.answer
+  pub answer_length : Tallies b AnswerLength rs s.answer_length
+  pub pull_after_answer : Tallies b PullAfterAnswer rs s.pull_after_answer
+  pub shortest_low : Tallies b ShortestLow rs s.shortest_low
+  pub longest_low : Tallies b LongestLow rs s.longest_low
+  pub shortest_high : Tallies b ShortestHigh rs s.shortest_high
+  pub longest_high : Tallies b LongestHigh rs s.longest_high
+  pub acknowledgement : Tallies b Acknowledgement rs s.acknowledgement
 
 -- these edges were looked at
 pub record HasSeen (edges : List Edge) (s : LinesSeen) : Type 0 where

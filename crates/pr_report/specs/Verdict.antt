@@ -1,5 +1,5 @@
--- Trusted: the last line of the report on a recording: whether it is lawful in this profile, and if
--- not, why. Edges count from 0.
+-- Trusted: the line of the report on a recording that says whether it is lawful in this profile, and if not, why. Edges
+-- count from 0.
 use Rattle.std.specs.Prelude.{ℕ, List, ◌++◌, Option, Some, None, codes}
 use Rattle.pr_wire.specs.declared.WaveFault.{WaveFault}
 use Rattle.pr_wire.specs.declared.WaveFault.TheVariants as fault

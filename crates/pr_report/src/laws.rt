@@ -31,18 +31,19 @@ pub fn middles_are_least()
     ensures { MiddlesAreLeast }
 {}
 
-/// A law: in a lawful trace each interval lies within the profile's bounds.
+/// A law: in a lawful trace each interval lies within the profile's bounds, and within the guide's, since no bound
+/// of the guide is closer.
 pub fn lawful_traces_are_within()
     ensures { LawfulTracesAreWithin }
 {
     traces_are_read();
 }
 
-/// A law: of a lawful trace each byte has its line of the story, and there is no other line.
-/// Readings do not say where ATN is released, so the line `attention` may be in other places. It is
-/// in the same places, so that the lines are the story's, where commands are as computers send
-/// them: where each attention begins with LISTEN, UNLISTEN or another command below the secondary
-/// addresses, and has a second one from these on or none.
+/// A law: of a lawful trace each byte has its line of the story, if it is sent to a printer, and there is no other
+/// line. Readings do not say where ATN is released, so the line `attention` may be in other places. It is
+/// in the same places, so that the lines are the story's, where bytes are as computers send them to printers:
+/// where each attention begins with LISTEN, UNLISTEN or another command below the secondary addresses, and has a
+/// second one from these on or none, and where the computer sends data bytes while a printer listens.
 pub fn lawful_traces_are_told()
     ensures told { LawfulTracesAreTold }
     ensures usual { UsualTracesAreStories }

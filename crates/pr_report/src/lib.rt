@@ -12,7 +12,11 @@
 //!   to come. A timer that refuses an edge is as it was.
 //! - `story_line` writes the line of an acknowledged byte, in a story and in a recording's report; `story` the
 //!   story of a whole list of edges; `reading_line` the other lines of a recording.
-//! - `interval` has the intervals of a byte, with their names, and their bounds from pr_wire's one table.
+//! - `context` is what acknowledged bytes come to for the readings after them: which byte of an attention a
+//!   command is, whether a printer listens, and who sends data bytes.
+//! - `interval` has the intervals of a byte, with their names and bounds; `detail` says which bounds are meant;
+//!   `outside` finds the first interval outside.
+//! - `json_line` writes a reading and the verdict as JSON.
 //! - `tally` keeps one interval, with a counter for each length below 16384 microseconds, so that neither
 //!   memory nor the time for a reading grows with the recording; `counts` how many readings of each kind
 //!   there are; `survey` has both, with the relation `HasTaken` in its contracts.
@@ -23,12 +27,16 @@
 //!   over the pieces of lawful traces, for the laws in `laws`.
 #![tactic(auto)]
 
+mod context;
 mod counts;
+mod detail;
 mod frame_timer;
 mod interval;
+mod json_line;
 mod laws;
 mod numbers;
 mod oddities;
+mod outside;
 mod reading_line;
 mod report;
 mod story;
@@ -38,13 +46,16 @@ mod tally;
 mod timed_frame;
 mod verdict;
 
+pub use context::{Context, Preceding, Talker};
+pub use detail::{Bounds, Detail};
 pub use frame_timer::FrameTimer;
+pub use json_line::{push_json_reading, push_json_verdict};
 pub use laws::{
     frames_are_told, lawful_traces_are_told, lawful_traces_are_within, lines_add_up,
     middles_are_least, stories_add_up,
 };
 pub use oddities::{LinesSeen, Oddities, is_acknowledged, push_oddities};
-pub use reading_line::{Preceding, push_reading};
+pub use reading_line::push_reading;
 pub use report::Report;
 pub use story::push_story;
 pub use story_line::{is_data, push_story_line};

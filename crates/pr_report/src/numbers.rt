@@ -1,7 +1,7 @@
 //! Numbers in a text.
 
 ghost use Rattle.std.specs.Prelude.{◌≡◌, ◌++◌, ◌<◌, OnOk};
-ghost use Rattle.pr_report.specs.Numbers.{blanks, hex_column, hex_digit, moment, numbered};
+ghost use Rattle.pr_report.specs.Numbers.{blanks, hex_column, hex_digit, hex_digits, moment, numbered};
 
 use itoa::Buffer;
 use pr_wire::NoMemory;
@@ -44,6 +44,13 @@ fn hex_digit(n: u8) -> u8
     ensures { result ≡ hex_digit n }
 {
     if n < 10 { n + b'0' } else { n + 55 }
+}
+
+/// Adds a byte in hexadecimal.
+pub(crate) fn push_hex_digits(text: &mut Vec<u8>, byte: u8) -> Result<(), NoMemory>
+    ensures { OnOk result (text.new.items ≡ text.old.items ++ hex_digits byte) }
+{
+    text.extend_from_slice(&[hex_digit(byte / 16), hex_digit(byte % 16)])
 }
 
 /// Adds a byte in hexadecimal, between two blanks on each side.

@@ -3,15 +3,13 @@
 //! is between quotation marks, so that each text is that of one byte alone.
 
 ghost use Rattle.std.specs.Prelude.{◌≡◌, ◌++◌, OnOk};
-ghost use Rattle.pr_report.specs.StoryText.{command_text, control_name, data_text, frame_line, heading, is_data, line_end, saying, story_line};
+ghost use Rattle.pr_report.specs.StoryText.{command_text, control_name, data_text, frame_line, heading, is_data, line_end, name_if, saying, story_line};
 
+use crate::context::UNTALK;
 use crate::numbers::{push_hex, push_moment, push_numbered};
 use crate::timed_frame::TimedFrame;
 use pr_base::UNLISTEN;
 use pr_wire::{ByteRole, NoMemory};
-
-/// UNTALK: no device talks any more (Programmer's Reference Guide, serial bus).
-const UNTALK: u8 = 0x5f;
 
 /// Adds what a command says (Programmer's Reference Guide, serial bus).
 fn push_command(text: &mut Vec<u8>, byte: u8) -> Result<(), NoMemory>
@@ -58,9 +56,16 @@ fn control_name(byte: u8) -> &'static [u8]
     }
 }
 
-/// Adds what a data byte says.
-fn push_data(text: &mut Vec<u8>, byte: u8) -> Result<(), NoMemory>
-    ensures { OnOk result (text.new.items ≡ text.old.items ++ data_text byte) }
+/// The name of a control code, if bytes are a printer's.
+fn name_if(printer: bool, byte: u8) -> &'static [u8]
+    ensures { result.now ≡ name_if printer byte }
+{
+    if printer { control_name(byte) } else { b"" }
+}
+
+/// Adds what a data byte says, to a printer or to another device.
+fn push_data(text: &mut Vec<u8>, printer: bool, byte: u8) -> Result<(), NoMemory>
+    ensures { OnOk result (text.new.items ≡ text.old.items ++ data_text printer byte) }
 {
     if byte == b'\'' {
         return text.extend_from_slice(b"\"'\"");
@@ -68,7 +73,7 @@ fn push_data(text: &mut Vec<u8>, byte: u8) -> Result<(), NoMemory>
     if 31 < byte && byte < 127 {
         return text.extend_from_slice(&[b'\'', byte, b'\'']);
     }
-    let name = control_name(byte);
+    let name = name_if(printer, byte);
     if name.is_empty() {
         push_numbered(text, b"byte ", byte as u64)
     } else {
@@ -76,13 +81,18 @@ fn push_data(text: &mut Vec<u8>, byte: u8) -> Result<(), NoMemory>
     }
 }
 
-/// Adds what a frame says.
-fn push_saying(text: &mut Vec<u8>, sending: ByteRole, byte: u8) -> Result<(), NoMemory>
-    ensures { OnOk result (text.new.items ≡ text.old.items ++ saying sending byte) }
+/// Adds what a frame says, a data byte to a printer or to another device.
+fn push_saying(
+    text: &mut Vec<u8>,
+    printer: bool,
+    sending: ByteRole,
+    byte: u8,
+) -> Result<(), NoMemory>
+    ensures { OnOk result (text.new.items ≡ text.old.items ++ saying printer sending byte) }
 {
     match sending {
         ByteRole::First | ByteRole::Second => push_command(text, byte),
-        ByteRole::Data => push_data(text, byte),
+        ByteRole::Data => push_data(text, printer, byte),
     }
 }
 
@@ -115,16 +125,21 @@ pub fn is_data(sending: ByteRole) -> bool
     }
 }
 
-/// Adds a frame's line: its moments, its byte in hexadecimal and what it says.
+/// Adds a frame's line: its moments, its byte in hexadecimal and what it says, a data byte to a printer or to
+/// another device.
 #[tactic(auto, unfolding(crate::specs::StoryText::frame_line))]
-fn push_frame(text: &mut Vec<u8>, frame: TimedFrame) -> Result<(), NoMemory>
-    ensures { OnOk result (text.new.items ≡ text.old.items ++ frame_line frame) }
+pub(crate) fn push_frame(
+    text: &mut Vec<u8>,
+    printer: bool,
+    frame: TimedFrame,
+) -> Result<(), NoMemory>
+    ensures { OnOk result (text.new.items ≡ text.old.items ++ frame_line printer frame) }
 {
     push_moment(text, frame.look)?;
     text.extend_from_slice(b" ")?;
     push_moment(text, frame.acknowledged)?;
     push_hex(text, frame.byte)?;
-    push_saying(text, frame.sending, frame.byte)?;
+    push_saying(text, printer, frame.sending, frame.byte)?;
     text.extend_from_slice(line_end(frame.eoi))
 }
 
@@ -145,5 +160,5 @@ pub fn push_story_line(
     ensures { OnOk result (text.new.items ≡ text.old.items ++ story_line behind_data frame) }
 {
     text.extend_from_slice(heading(behind_data, frame.sending))?;
-    push_frame(text, frame)
+    push_frame(text, true, frame)
 }

@@ -1,17 +1,22 @@
-//! A survey of readings: how many there are, and of each interval how many, the least, the middle, the
-//! greatest, and how many lie outside the profile's bounds.
+//! A survey of readings: how many there are, of each interval how many, the least, the middle, the greatest, and
+//! how many lie outside its bounds, and the first interval outside.
 
 ghost use Rattle.std.specs.Prelude.{◌≡◌, ◌+◌, ◌^◌, ◌<◌, ◌++◌, ◌∷◌, [], List, IfOk, OnOk};
 ghost use Rattle.pr_decode.specs.declared.reading.Reading.{Reading};
+ghost use Rattle.pr_report.specs.declared.detail.Bounds.{Bounds};
 ghost use Rattle.pr_report.specs.Intervals.{intervals};
+ghost use Rattle.pr_report.specs.Outside.{conclusion};
 ghost use Rattle.pr_report.specs.Summary.{interval_lines, summary};
 ghost use Rattle.pr_report.specs.Taking.{HasSurveyed, number_taken};
 
 use crate::counts::Counts;
+use crate::detail::Bounds;
 use crate::interval::Interval;
+use crate::outside::{Outside, push_guide_verdict, with_reading};
 use crate::tally::Tally;
+use crate::verdict::push_verdict;
 use pr_decode::Reading;
-use pr_wire::NoMemory;
+use pr_wire::{NoMemory, WaveFault};
 use std::alloc::Global;
 
 /// A survey of the readings of a recording. It keeps none of them: it takes its 1.3 megabytes of memory when
@@ -23,6 +28,10 @@ use std::alloc::Global;
 pub struct Survey {
     /// How many readings were taken.
     taken: u64,
+    /// The bounds that intervals are held against.
+    bounds: Bounds,
+    /// The first interval outside them.
+    outside: Option<Outside>,
     counts: Counts,
     ready: Tally,
     first_pull: Tally,
@@ -37,39 +46,43 @@ pub struct Survey {
 }
 
 impl Survey {
-    /// Makes a survey that has taken no reading. It takes all the memory that a survey ever needs,
+    /// Makes a survey that has taken no reading, and holds intervals against these bounds. It takes all the memory that a survey ever needs,
     /// 1.3 megabytes.
     ///
     /// # Errors
     ///
     /// [`NoMemory`] where memory was refused.
-    pub fn new(alloc: Global) -> Result<Survey, NoMemory>
-        ensures taken { IfOk result (λ survey. HasSurveyed [] survey) }
+    pub fn new(alloc: Global, bounds: Bounds) -> Result<Survey, NoMemory>
+        ensures taken { IfOk result (λ survey. HasSurveyed bounds [] survey) }
         ensures count { IfOk result (λ survey. number_taken survey ≡ 0) }
     {
         Ok(Survey {
             taken: 0,
+            bounds,
+            outside: None,
             counts: Counts::new(),
-            ready: Tally::new(alloc, Interval::Ready)?,
-            first_pull: Tally::new(alloc, Interval::FirstPull)?,
-            answer: Tally::new(alloc, Interval::Answer)?,
-            answer_length: Tally::new(alloc, Interval::AnswerLength)?,
-            pull_after_answer: Tally::new(alloc, Interval::PullAfterAnswer)?,
-            shortest_low: Tally::new(alloc, Interval::ShortestLow)?,
-            longest_low: Tally::new(alloc, Interval::LongestLow)?,
-            shortest_high: Tally::new(alloc, Interval::ShortestHigh)?,
-            longest_high: Tally::new(alloc, Interval::LongestHigh)?,
-            acknowledgement: Tally::new(alloc, Interval::Acknowledgement)?,
+            ready: Tally::new(alloc, bounds, Interval::Ready)?,
+            first_pull: Tally::new(alloc, bounds, Interval::FirstPull)?,
+            answer: Tally::new(alloc, bounds, Interval::Answer)?,
+            answer_length: Tally::new(alloc, bounds, Interval::AnswerLength)?,
+            pull_after_answer: Tally::new(alloc, bounds, Interval::PullAfterAnswer)?,
+            shortest_low: Tally::new(alloc, bounds, Interval::ShortestLow)?,
+            longest_low: Tally::new(alloc, bounds, Interval::LongestLow)?,
+            shortest_high: Tally::new(alloc, bounds, Interval::ShortestHigh)?,
+            longest_high: Tally::new(alloc, bounds, Interval::LongestHigh)?,
+            acknowledgement: Tally::new(alloc, bounds, Interval::Acknowledgement)?,
         })
     }
 
     /// Takes one more reading. It takes no memory. The number of readings stays below 2^64.
     pub fn take(&mut self, reading: &Reading)
         requires room { number_taken self.old + 1 < 2 ^ 64 }
-        ensures taken { (readings : List Reading) → HasSurveyed readings self.old → HasSurveyed (readings ++ reading.now ∷ []) self.new }
+        ensures taken { (bounds : Bounds) (readings : List Reading) → HasSurveyed bounds readings self.old →
+            HasSurveyed bounds (readings ++ reading.now ∷ []) self.new }
         ensures count { number_taken self.new ≡ number_taken self.old + 1 }
     {
         self.taken += 1;
+        self.outside = with_reading(self.outside, self.bounds, reading);
         self.counts = self.counts.with(reading);
         self.ready.take(reading);
         self.first_pull.take(reading);
@@ -85,8 +98,8 @@ impl Survey {
 
     /// Adds the lines of the intervals.
     fn push_intervals(&self, text: &mut Vec<u8>) -> Result<(), NoMemory>
-        ensures { OnOk result ((readings : List Reading) → HasSurveyed readings self.now →
-            text.new.items ≡ text.old.items ++ interval_lines intervals readings) }
+        ensures { OnOk result ((bounds : Bounds) (readings : List Reading) → HasSurveyed bounds readings self.now →
+            text.new.items ≡ text.old.items ++ interval_lines bounds intervals readings) }
     {
         self.ready.push_line(text)?;
         self.first_pull.push_line(text)?;
@@ -103,7 +116,7 @@ impl Survey {
 
     /// Adds the summary of the readings taken to a text: a line for each count, and one for each
     /// interval with how many readings have it, its least, middle and greatest length in
-    /// microseconds, and how many lie outside the profile's bounds. The middle is the least length
+    /// microseconds, and how many lie outside its bounds. The middle is the least length
     /// that at least half of them do not exceed; from 16384 microseconds on it is written as
     /// `over 16383`.
     ///
@@ -111,11 +124,32 @@ impl Survey {
     ///
     /// [`NoMemory`] where a growth of the text was refused. Nothing is promised of the text then.
     pub fn push_summary(&self, text: &mut Vec<u8>) -> Result<(), NoMemory>
-        ensures { OnOk result ((readings : List Reading) → HasSurveyed readings self.now →
-            text.new.items ≡ text.old.items ++ summary readings) }
+        ensures { OnOk result ((bounds : Bounds) (readings : List Reading) → HasSurveyed bounds readings self.now →
+            text.new.items ≡ text.old.items ++ summary bounds readings) }
     {
         self.counts.push_lines(text)?;
         self.push_intervals(text)?;
         Ok(())
+    }
+
+    /// Adds the verdict on the readings taken to a text. By the profile it is whether their edges are lawful, as
+    /// [`push_verdict`] has it, for the fault of the edges; by the guide whether all intervals lie within its
+    /// bounds, or else the first outside, in the order of the readings and of their intervals.
+    ///
+    /// # Errors
+    ///
+    /// [`NoMemory`] where a growth of the text was refused. Nothing is promised of the text then.
+    pub fn push_conclusion(
+        &self,
+        text: &mut Vec<u8>,
+        fault: Option<WaveFault>,
+    ) -> Result<(), NoMemory>
+        ensures { OnOk result ((bounds : Bounds) (readings : List Reading) → HasSurveyed bounds readings self.now →
+            text.new.items ≡ text.old.items ++ conclusion bounds fault readings) }
+    {
+        match self.bounds {
+            Bounds::Profile => push_verdict(text, fault),
+            Bounds::Guide => push_guide_verdict(text, self.outside),
+        }
     }
 }

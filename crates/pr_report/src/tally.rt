@@ -1,14 +1,16 @@
 //! A tally of one interval: how many lengths of it were taken, the least, the middle and the greatest of
-//! them, and how many lie outside the profile's bounds. All lengths are in microseconds.
+//! them, and how many lie outside its bounds. All lengths are in microseconds.
 
 ghost use Rattle.std.specs.Prelude.{◌≡◌, ◌+◌, ◌^◌, ◌<◌, ◌==◌, ◌++◌, ◌∷◌, [], ℕ, List, codes, decimal, get_or, length, min, IfOk, OnOk, if◌then◌else◌};
 ghost use Rattle.pr_decode.specs.declared.reading.Reading.{Reading};
+ghost use Rattle.pr_report.specs.declared.detail.Bounds.{Bounds};
 ghost use Rattle.pr_report.specs.declared.interval.Interval.{Interval};
 ghost use Rattle.pr_report.specs.Steps.{Adds, counter_with, first_half, known_text, least_with};
 ghost use Rattle.pr_report.specs.Summary.{interval_line, middle_text, outside_count};
 ghost use Rattle.pr_report.specs.Taking.{Tallies};
 
 use crate::counts::counted;
+use crate::detail::Bounds;
 use crate::interval::Interval;
 use crate::numbers::push_numbered;
 use pr_decode::Reading;
@@ -22,12 +24,14 @@ const COUNTERS: usize = 16384;
 #[derive(Drop)]
 pub(crate) struct Tally {
     interval: Interval,
+    /// The bounds that it is held against.
+    bounds: Bounds,
     /// How many there are.
     count: u64,
     /// The least and the greatest; 0 where there is none.
     least: u64,
     greatest: u64,
-    /// How many lie outside the profile's bounds.
+    /// How many lie outside these bounds.
     outside: u64,
     /// How often each length below [`COUNTERS`] came.
     counters: Vec<u64>,
@@ -90,11 +94,16 @@ fn push_middle(text: &mut Vec<u8>, middle: Option<u64>) -> Result<(), NoMemory>
     }
 }
 
-/// Adds the profile's bounds, and how many lengths lie outside.
-fn push_outside_count(text: &mut Vec<u8>, interval: Interval, outside: u64) -> Result<(), NoMemory>
-    ensures { OnOk result (text.new.items ≡ text.old.items ++ outside_count interval outside) }
+/// Adds these bounds, and how many lengths lie outside.
+fn push_outside_count(
+    text: &mut Vec<u8>,
+    bounds: Bounds,
+    interval: Interval,
+    outside: u64,
+) -> Result<(), NoMemory>
+    ensures { OnOk result (text.new.items ≡ text.old.items ++ outside_count bounds interval outside) }
 {
-    interval.push_bounds(text, b", outside ")?;
+    interval.push_bounds(text, b", outside ", bounds)?;
     push_numbered(text, b": ", outside)
 }
 
@@ -105,12 +114,13 @@ impl Tally {
     ///
     /// [`NoMemory`] where the counters were refused.
     #[tactic(auto, unfolding(crate::specs::Summary::exact_below))]
-    pub fn new(alloc: Global, interval: Interval) -> Result<Tally, NoMemory>
-        ensures { IfOk result (λ tally. Tallies interval [] tally) }
+    pub fn new(alloc: Global, bounds: Bounds, interval: Interval) -> Result<Tally, NoMemory>
+        ensures { IfOk result (λ tally. Tallies bounds interval [] tally) }
     {
         let counters = zeros(alloc, COUNTERS)?;
         Ok(Tally {
             interval,
+            bounds,
             count: 0,
             least: 0,
             greatest: 0,
@@ -125,15 +135,15 @@ impl Tally {
     {
         self.least = least_with(self.count, self.least, length);
         self.greatest = self.greatest.max(length);
-        self.outside = counted(self.outside, self.interval.is_outside(length));
+        self.outside = counted(self.outside, self.interval.is_outside(self.bounds, length));
         self.count = self.count.saturating_add(1);
         count_up(&mut self.counters, length);
     }
 
     /// Takes the interval of a reading, if the reading has it.
     pub fn take(&mut self, reading: &Reading)
-        ensures { (interval : Interval) (readings : List Reading) → length readings + 1 < 2 ^ 64 → Tallies interval readings self.old →
-            Tallies interval (readings ++ reading.now ∷ []) self.new }
+        ensures { (bounds : Bounds) (interval : Interval) (readings : List Reading) → length readings + 1 < 2 ^ 64 →
+            Tallies bounds interval readings self.old → Tallies bounds interval (readings ++ reading.now ∷ []) self.new }
     {
         let Some(length) = self.interval.length(reading) else {
             return;
@@ -152,14 +162,14 @@ impl Tally {
         push_numbered(text, b", least ", self.least)?;
         push_middle(text, middle(self.count, self.counters.as_slice()))?;
         push_numbered(text, b", greatest ", self.greatest)?;
-        push_outside_count(text, self.interval, self.outside)
+        push_outside_count(text, self.bounds, self.interval, self.outside)
     }
 
     /// Adds the line of the interval.
     pub fn push_line(&self, text: &mut Vec<u8>) -> Result<(), NoMemory>
-        ensures { OnOk result ((interval : Interval) (readings : List Reading) → length readings < 2 ^ 64 →
-            Tallies interval readings self.now →
-            text.new.items ≡ text.old.items ++ interval_line interval readings) }
+        ensures { OnOk result ((bounds : Bounds) (interval : Interval) (readings : List Reading) → length readings < 2 ^ 64 →
+            Tallies bounds interval readings self.now →
+            text.new.items ≡ text.old.items ++ interval_line bounds interval readings) }
     {
         text.extend_from_slice(self.interval.name())?;
         self.push_known(text)?;

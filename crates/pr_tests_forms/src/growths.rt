@@ -1,13 +1,13 @@
 //! Each growth of memory refused in turn, by `tests/growths`. Each function says whether its call is refused
 //! memory; if not, the call gives what it gives with ample memory.
 
-use crate::readings::SLOW;
+use crate::readings::{LISTED, SLOW};
 use crate::refusals::most_refusals;
 use crate::tables::NAMES;
 use crate::written_dumps::HEAD;
 use crate::{dumps, surveys, tables};
 use pr_capture::{CaptureFault, write_vcd};
-use pr_report::{Preceding, push_reading};
+use pr_report::{Context, push_reading};
 use pr_wire::{Edge, Levels};
 use std::process::Abort;
 
@@ -65,7 +65,7 @@ fn is_refused_to_read_a_table(rt: &(impl Abort + AllocGlobal)) -> bool {
 
 fn is_refused_to_tell(rt: &(impl Abort + AllocGlobal)) -> bool {
     let mut text = Vec::new(rt.alloc());
-    if push_reading(&mut text, Preceding::Nothing, &SLOW).is_err() {
+    if push_reading(&mut text, Context::new(), &SLOW, LISTED).is_err() {
         return true;
     }
     let end = b"    ready 24310 us, the profile has 1 to 10000\n";

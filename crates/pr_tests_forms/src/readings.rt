@@ -1,8 +1,29 @@
 //! Lines of readings, worked by hand: the profile's bounds are those of the table of lawful traces.
 
 use pr_decode::{FrameEnd, Halves, IncompleteEnd, Opening, Pulse, Reading, Transfer};
-use pr_report::{Preceding, push_reading};
+use pr_report::{
+    Bounds, Context, Detail, Preceding, Talker, push_json_reading, push_json_verdict, push_reading,
+};
+use pr_wire::WaveFault;
 use std::process::Abort;
+
+/// Readings with their intervals, by the profile.
+pub const LISTED: Detail = Detail {
+    intervals: true,
+    bounds: Bounds::Profile,
+};
+
+/// The same by the guide.
+const GUIDED: Detail = Detail {
+    bounds: Bounds::Guide,
+    ..LISTED
+};
+
+/// Readings alone.
+const ALONE: Detail = Detail {
+    intervals: false,
+    bounds: Bounds::Profile,
+};
 
 /// The opening of a data byte without end-or-identify: how long a listener takes lies within the profile's
 /// bounds.
@@ -44,6 +65,15 @@ const ATN: Transfer = Transfer {
 
 const ACKNOWLEDGED: FrameEnd = FrameEnd::Acknowledged(1930);
 
+/// The computer sends to a printer.
+fn to_a_printer(last: Preceding) -> Context {
+    Context {
+        last,
+        printer_listens: true,
+        talker: Talker::Computer,
+    }
+}
+
 /// What comes before a reading, the reading, and its lines.
 type Row = (Preceding, Reading, &'static str);
 
@@ -51,7 +81,7 @@ type Row = (Preceding, Reading, &'static str);
 fn are_told(rt: &(impl Abort + AllocGlobal), rows: &[Row]) {
     for &(behind, reading, wanted) in rows {
         let mut text = Vec::new(rt.alloc());
-        let pushed = push_reading(&mut text, behind, &reading);
+        let pushed = push_reading(&mut text, to_a_printer(behind), &reading, LISTED);
         assert!(rt;
             pushed.is_ok() && text.as_slice() == wanted.as_bytes(),
             "{wanted}"
@@ -404,12 +434,12 @@ const STORY: &str =
 #[test]
 fn attentions_one_after_another(rt: HostRuntime) {
     let mut text = Vec::new(rt.alloc());
-    let mut behind = Preceding::Nothing;
+    let mut context = Context::new();
     for byte in &CALL {
         let reading = Reading::Frame(*byte, ACKNOWLEDGED);
-        let pushed = push_reading(&mut text, behind, &reading);
+        let pushed = push_reading(&mut text, context, &reading, LISTED);
         assert!(rt; pushed.is_ok());
-        behind = behind.after(&reading);
+        context = context.after(&reading);
     }
     assert!(rt; text.as_slice() == STORY.as_bytes());
 }
@@ -461,6 +491,164 @@ const BEHIND: [(Preceding, Reading, Preceding); 8] = [
 #[test]
 fn what_stands_behind(rt: HostRuntime) {
     for &(before, reading, wanted) in &BEHIND {
-        assert!(rt; before.after(&reading) == wanted, "{reading:?}");
+        assert!(rt;
+            to_a_printer(before).after(&reading).last == wanted,
+            "{reading:?}"
+        );
+    }
+}
+
+/// A device talks to a printer, or to the computer: before each reading, what comes before, and its lines.
+const SPOKEN: [(Context, Transfer, &str); 4] = [
+    (
+        Context {
+            last: Preceding::Nothing,
+            printer_listens: true,
+            talker: Talker::Device(8),
+        },
+        Transfer { byte: 13, ..DATA },
+        "data from 8\n        1100         1930  $0D  return\n",
+    ),
+    (
+        Context {
+            last: Preceding::Nothing,
+            printer_listens: false,
+            talker: Talker::Device(30),
+        },
+        Transfer { byte: 13, ..DATA },
+        "data from 30\n        1100         1930  $0D  byte 13\n",
+    ),
+    (
+        Context {
+            last: Preceding::Command,
+            printer_listens: false,
+            talker: Talker::Asked(8),
+        },
+        Transfer { byte: 65, ..DATA },
+        "data\n        1100         1930  $41  'A'\n",
+    ),
+    (
+        Context {
+            last: Preceding::Data,
+            printer_listens: false,
+            talker: Talker::Device(8),
+        },
+        Transfer { byte: 39, ..DATA },
+        "        1100         1930  $27  \"'\"\n",
+    ),
+];
+
+#[test]
+fn devices_that_talk(rt: HostRuntime) {
+    for &(context, byte, wanted) in &SPOKEN {
+        let mut text = Vec::new(rt.alloc());
+        let reading = Reading::Frame(byte, ACKNOWLEDGED);
+        let pushed = push_reading(&mut text, context, &reading, LISTED);
+        assert!(rt;
+            pushed.is_ok() && text.as_slice() == wanted.as_bytes(),
+            "{wanted}"
+        );
+    }
+}
+
+/// TALK 8 and a secondary address, and what ends it.
+#[test]
+fn talk_and_untalk(rt: HostRuntime) {
+    let mut context = Context::new();
+    for (byte, talker) in [
+        (72, Talker::Asked(8)),
+        (36, Talker::Computer),
+        (72, Talker::Asked(8)),
+        (96, Talker::Device(8)),
+        (36, Talker::Device(8)),
+        (103, Talker::Device(8)),
+        (95, Talker::Computer),
+    ] {
+        context = context.after(&Reading::Frame(Transfer { byte, ..ATN }, ACKNOWLEDGED));
+        assert!(rt; context.talker == talker, "{byte}");
+    }
+    assert!(rt; context.printer_listens);
+}
+
+/// A slow bit and a slow acknowledgement, with and without the intervals outside the bounds of each table.
+const SLOW_BYTE: Reading = Reading::Frame(
+    Transfer {
+        low: Halves {
+            shortest: 19,
+            longest: 201,
+        },
+        ..DATA
+    },
+    FrameEnd::Acknowledged(2911),
+);
+
+#[test]
+fn bounds_of_each_table(rt: HostRuntime) {
+    for (detail, wanted) in [
+        (ALONE, "        1100         2911  $00  byte 0\n"),
+        (
+            LISTED,
+            "        1100         2911  $00  byte 0\n    shortest low half 19 us, the profile has 20 to 200\n    longest low half 201 us, the profile has 20 to 200\n    acknowledgement 1001 us, the profile has 1 to 80\n",
+        ),
+        (
+            GUIDED,
+            "        1100         2911  $00  byte 0\n    shortest low half 19 us, the guide has 20 or more\n    acknowledgement 1001 us, the guide has 0 to 1000\n",
+        ),
+    ] {
+        let mut text = Vec::new(rt.alloc());
+        let pushed = push_reading(&mut text, to_a_printer(Preceding::Data), &SLOW_BYTE, detail);
+        assert!(rt;
+            pushed.is_ok() && text.as_slice() == wanted.as_bytes(),
+            "{wanted}"
+        );
+    }
+}
+
+/// Readings, and their lines of JSON.
+const OBJECTS: [(Reading, &str); 3] = [
+    (
+        Reading::Frame(Transfer { byte: 36, ..ATN }, ACKNOWLEDGED),
+        "{\"kind\":\"byte\",\"role\":\"command\",\"value\":36,\"eoi\":false,\"at\":1100,\"ready\":1150,\"first pull\":1190,\"last pull\":1910,\"end\":\"acknowledged\",\"ended\":1930,\"intervals\":{\"ready\":50,\"first pull\":40,\"shortest low half\":70,\"longest low half\":70,\"shortest high half\":20,\"longest high half\":20,\"acknowledgement\":20}}\n",
+    ),
+    (
+        Reading::Frame(DATA, FrameEnd::Cut),
+        "{\"kind\":\"byte\",\"role\":\"data\",\"value\":0,\"eoi\":false,\"at\":1100,\"ready\":1150,\"first pull\":1190,\"last pull\":1910,\"end\":\"cut\",\"ended\":null,\"intervals\":{\"ready\":50,\"first pull\":40,\"shortest low half\":70,\"longest low half\":70,\"shortest high half\":20,\"longest high half\":20}}\n",
+    ),
+    (
+        Reading::IncompleteByte(
+            Transfer { bits: 0, ..DATA },
+            IncompleteEnd::ClockTimeout(3000),
+        ),
+        "{\"kind\":\"incomplete\",\"role\":\"data\",\"bits\":0,\"eoi\":false,\"at\":1100,\"ready\":1150,\"first pull\":1190,\"last pull\":1910,\"end\":\"clock timeout\",\"ended\":3000,\"intervals\":{\"ready\":50,\"first pull\":40}}\n",
+    ),
+];
+
+#[test]
+fn readings_as_json(rt: HostRuntime) {
+    for &(reading, wanted) in &OBJECTS {
+        let mut text = Vec::new(rt.alloc());
+        let pushed = push_json_reading(&mut text, &reading);
+        assert!(rt;
+            pushed.is_ok() && text.as_slice() == wanted.as_bytes(),
+            "{wanted}"
+        );
+    }
+}
+
+#[test]
+fn verdicts_as_json(rt: HostRuntime) {
+    for (fault, wanted) in [
+        (None, "{\"kind\":\"verdict\",\"lawful\":true}\n"),
+        (
+            Some(WaveFault::Shape(1)),
+            "{\"kind\":\"verdict\",\"lawful\":false,\"edge\":1,\"fault\":\"bad shape\"}\n",
+        ),
+    ] {
+        let mut text = Vec::new(rt.alloc());
+        let pushed = push_json_verdict(&mut text, fault);
+        assert!(rt;
+            pushed.is_ok() && text.as_slice() == wanted.as_bytes(),
+            "{wanted}"
+        );
     }
 }

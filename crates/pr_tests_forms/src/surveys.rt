@@ -1,7 +1,7 @@
 //! Surveys, worked by hand.
 
 use pr_decode::{FrameEnd, Halves, IncompleteEnd, Opening, Pulse, Reading, Transfer};
-use pr_report::Survey;
+use pr_report::{Bounds, Survey};
 use pr_wire::{Kind, NoMemory, bounds};
 use std::alloc::Global;
 use std::process::Abort;
@@ -192,7 +192,7 @@ const READY_AT_16384: Reading = Reading::Frame(
 
 /// The summary of readings.
 pub fn summary(alloc: Global, readings: &[Reading]) -> Result<Vec<u8>, NoMemory> {
-    let mut survey = Survey::new(alloc)?;
+    let mut survey = Survey::new(alloc, Bounds::Profile)?;
     for reading in readings {
         survey.take(reading);
     }

@@ -25,7 +25,7 @@ pub fn read(
 ) -> Result<Vec<u8>, CaptureFault>
     requires { cut ≤ length text.now }
 {
-    let mut reader = CsvReader::new(alloc, signals);
+    let mut reader = CsvReader::new(alloc, signals, None);
     let mut samples = Vec::new(alloc);
     let mut at = 0;
     for _step in 0..text.len() {

@@ -4,8 +4,11 @@ use pr_basic::StatusMode;
 use pr_bus::Delays;
 use pr_capture::Source;
 use pr_options::{
-    DelayFault, Job, JobFault, bad_value, explains, found_source, read_delays, read_task,
+    DecodeOutput, DelayFault, Job, JobFault, PagesOutput, bad_value, explains, found_source,
+    read_delays, read_task,
 };
+use pr_render::{Device, Format};
+use pr_report::{Bounds, Detail};
 use pr_wire::Kind;
 use std::alloc::Global;
 use std::fmt::Display;
@@ -32,7 +35,7 @@ fn job_of<'a>(alloc: Global, words: &'a [&'a str]) -> Option<Job<'a>> {
 /// Whether a job is a run with these first delays that handles the status so.
 fn is_run(job: Job<'_>, wanted: [u16; 3], status: StatusMode) -> bool {
     match job {
-        Job::Pages(_form, _present, mut delays, mode, _format) => {
+        Job::Pages(_form, _present, mut delays, mode, _output) => {
             first_delays(&mut delays) == wanted && mode == status
         }
         Job::Bus(_form, _present, mut delays, mode, _format) => {
@@ -240,6 +243,230 @@ fn characters_without_a_picture(rt: HostRuntime) {
     }
 }
 
+/// Whether words ask `decode` for this output.
+fn decodes_to<'a>(alloc: Global, words: &'a [&'a str], wanted: DecodeOutput) -> bool {
+    match job_of(alloc, words) {
+        Some(Job::Decode { output, .. }) => output == wanted,
+        _ => false,
+    }
+}
+
+/// What `decode` writes: the intervals and their bounds go with readings, the printer with bytes.
+#[test]
+fn outputs_of_decode(rt: HostRuntime) {
+    const LIST: DecodeOutput = DecodeOutput::Readings(Detail {
+        intervals: false,
+        bounds: Bounds::Profile,
+    });
+    const ROWS: [(&[&str], DecodeOutput); 12] = [
+        (&["print1525", "decode"], LIST),
+        (&["print1525", "decode", "--bounds", "profile"], LIST),
+        (
+            &["print1525", "decode", "--intervals"],
+            DecodeOutput::Readings(Detail {
+                intervals: true,
+                bounds: Bounds::Profile,
+            }),
+        ),
+        (
+            &[
+                "print1525",
+                "decode",
+                "--bounds=guide",
+                "--intervals",
+                "--as=list",
+            ],
+            DecodeOutput::Readings(Detail {
+                intervals: true,
+                bounds: Bounds::Guide,
+            }),
+        ),
+        (
+            &["print1525", "decode", "--bounds", "guide"],
+            DecodeOutput::Readings(Detail {
+                intervals: false,
+                bounds: Bounds::Guide,
+            }),
+        ),
+        (&["print1525", "decode", "--as", "json"], DecodeOutput::Json),
+        (&["print1525", "decode", "-o", "a.JSON"], DecodeOutput::Json),
+        (
+            &["print1525", "decode", "--as", "bytes"],
+            DecodeOutput::Bytes(Device::Four),
+        ),
+        (
+            &["print1525", "decode", "--as", "bytes", "--device", "5"],
+            DecodeOutput::Bytes(Device::Five),
+        ),
+        (
+            &["print1525", "decode", "-o", "a.bin", "--as", "bytes"],
+            DecodeOutput::Bytes(Device::Four),
+        ),
+        (
+            &["print1525", "decode", "--as", "text"],
+            DecodeOutput::Pages(Format::Lines),
+        ),
+        (
+            &["print1525", "decode", "-o", "a.pdf", "--device=5"],
+            DecodeOutput::Pages(Format::Pdf(Some(Device::Five))),
+        ),
+    ];
+    for (words, output) in ROWS {
+        assert!(&rt; decodes_to(rt.alloc(), words, output), "{words:?}");
+    }
+}
+
+/// Whether words ask `pages` for this output.
+fn prints_to<'a>(alloc: Global, words: &'a [&'a str], wanted: PagesOutput) -> bool {
+    match job_of(alloc, words) {
+        Some(Job::Pages(_form, _present, _delays, _mode, output)) => output == wanted,
+        _ => false,
+    }
+}
+
+/// What `pages` writes: without an option the bytes are printer 4's.
+#[test]
+fn outputs_of_pages(rt: HostRuntime) {
+    const ROWS: [(&[&str], PagesOutput); 5] = [
+        (&["print1525", "pages"], PagesOutput::Pages(Format::List)),
+        (
+            &["print1525", "pages", "-o", "a.txt"],
+            PagesOutput::Pages(Format::Lines),
+        ),
+        (
+            &["print1525", "pages", "--as", "bytes"],
+            PagesOutput::Bytes(Device::Four),
+        ),
+        (
+            &["print1525", "pages", "--device=4", "--as=bytes"],
+            PagesOutput::Bytes(Device::Four),
+        ),
+        (
+            &["print1525", "pages", "--as", "bytes", "--device", "5"],
+            PagesOutput::Bytes(Device::Five),
+        ),
+    ];
+    for (words, output) in ROWS {
+        assert!(&rt; prints_to(rt.alloc(), words, output), "{words:?}");
+    }
+}
+
+/// Whether words ask for a recording that is read at this rate.
+fn has_rate<'a>(alloc: Global, words: &'a [&'a str], source: Source, rate: Option<u64>) -> bool {
+    match job_of(alloc, words) {
+        Some(Job::Check(input, _)) | Some(Job::Decode { input, .. }) => {
+            input.source == source && input.rate == rate
+        }
+        _ => false,
+    }
+}
+
+/// The rate of a table; a recording with one, of which the first bytes show no format, is a table.
+#[test]
+fn rates_of_recordings(rt: HostRuntime) {
+    const ROWS: [(&[&str], Source, Option<u64>); 8] = [
+        (&["print1525", "check"], Source::Text, None),
+        (&["print1525", "decode"], Source::Text, None),
+        (&["print1525", "decode", "a.csv"], Source::Csv, None),
+        (
+            &["print1525", "decode", "--rate", "4M"],
+            Source::Csv,
+            Some(4_000_000),
+        ),
+        (
+            &["print1525", "check", "a.csv", "--rate=500k"],
+            Source::Csv,
+            Some(500_000),
+        ),
+        (
+            &["print1525", "decode", "--from=csv", "--rate", "24MHz"],
+            Source::Csv,
+            Some(24_000_000),
+        ),
+        (
+            &["print1525", "check", "--from=csv", "--rate", "1000000"],
+            Source::Csv,
+            Some(1_000_000),
+        ),
+        (
+            &["print1525", "check", "--from=csv", "--rate="],
+            Source::Csv,
+            None,
+        ),
+    ];
+    for (words, source, rate) in ROWS {
+        assert!(&rt; has_rate(rt.alloc(), words, source, rate), "{words:?}");
+    }
+}
+
+/// Whether words are refused with this line.
+fn refuses<'a>(rt: &(impl Abort + AllocGlobal), words: &'a [&'a str], wanted: &str) {
+    match read_task(rt.alloc(), words) {
+        Ok(_task) => assert!(rt; false, "{words:?}"),
+        Err(fault) => tells(rt, &fault, wanted),
+    }
+}
+
+/// Options that do not go with what is read or written.
+#[test]
+fn options_without_use(rt: HostRuntime) {
+    const PART: &str = "--device goes with --as svg, png, pdf or bytes, --sheet with svg or png";
+    const PICTURE: &str = "--characters goes with --as svg, png or pdf";
+    const READINGS: &str = "--intervals and --bounds go with --as list";
+    const TABLE: &str = "--rate goes with --from csv";
+    const ROWS: [(&[&str], &str); 16] = [
+        (&["print1525", "decode", "--device", "4"], PART),
+        (&["print1525", "decode", "--as=json", "--device=4"], PART),
+        (&["print1525", "decode", "--as=bytes", "--sheet=1"], PART),
+        (
+            &[
+                "print1525",
+                "pages",
+                "--as=bytes",
+                "--sheet=1",
+                "--device=4",
+            ],
+            PART,
+        ),
+        (
+            &["print1525", "pages", "--as=bytes", "--characters=a"],
+            PICTURE,
+        ),
+        (
+            &["print1525", "decode", "--as=json", "--characters=a"],
+            PICTURE,
+        ),
+        (
+            &["print1525", "decode", "--as=svg", "--intervals"],
+            READINGS,
+        ),
+        (
+            &["print1525", "decode", "-o", "a.png", "--bounds=profile"],
+            READINGS,
+        ),
+        (
+            &["print1525", "decode", "--as=bytes", "--bounds", "guide"],
+            READINGS,
+        ),
+        (
+            &["print1525", "decode", "--as=text", "--bounds=x"],
+            "bad --bounds",
+        ),
+        (&["print1525", "decode", "--bounds="], "bad --bounds"),
+        (&["print1525", "check", "--rate", "4M"], TABLE),
+        (&["print1525", "decode", "a.vcd", "--rate=4M"], TABLE),
+        (
+            &["print1525", "check", "--rate=4M", "--invert"],
+            "--names, --invert and --from-time go with --from vcd or csv",
+        ),
+        (&["print1525", "decode", "--rate", "4 M"], "bad --rate"),
+        (&["print1525", "raw", "--as", "bytes"], "bad --as"),
+    ];
+    for (words, wanted) in ROWS {
+        refuses(&rt, words, wanted);
+    }
+}
+
 /// Whether words ask for a job that reads and writes these files.
 fn has_files<'a>(
     alloc: Global,
@@ -295,7 +522,11 @@ fn bad_values(rt: HostRuntime) {
     const WORDS: [&str; 4] = ["print1525", "pages", "--as", "gif"];
     assert!(rt; bad_value(rt.alloc(), &WORDS, &JobFault::BadPageAs) == Some("gif"));
     assert!(rt; bad_value(rt.alloc(), &WORDS, &JobFault::NoMemory).is_none());
-    assert!(rt; JobFault::BadPageAs.good_values() == Some("list, text, svg, png or pdf"));
+    assert!(rt; JobFault::BadPageAs.good_values() == Some("list, text, svg, png, pdf or bytes"));
+    assert!(rt; JobFault::BadRawAs.good_values() == Some("list, text, svg, png or pdf"));
+    assert!(rt;
+        JobFault::BadRate.good_values() == Some("samples in a second, as in 4M, 500k or 1000000")
+    );
     assert!(rt; JobFault::BadPresent.good_values().is_none());
 }
 

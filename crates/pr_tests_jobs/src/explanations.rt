@@ -256,6 +256,7 @@ fn names_that_are_no_text(rt: HostRuntime) {
         source: Source::Csv,
         signals: signals(b"D\xff"),
         start: 0,
+        rate: None,
     };
     let wanted = b"  line 1: t,ATN,D1,DATA\n  found no signal named D\\xFF for the CLOCK line\n  \
         the first column is named t\n  the recording has the signals ATN, D1, DATA\n  \
@@ -270,6 +271,7 @@ const fn text_input() -> TraceInput<'static> {
         source: Source::Text,
         signals: signals(b"CLOCK"),
         start: 0,
+        rate: None,
     }
 }
 
@@ -464,6 +466,7 @@ fn explained(
         source,
         signals,
         start,
+        rate: None,
     };
     Ok(explain_trace(rt.alloc(), text, input)?.text)
 }

@@ -2,7 +2,8 @@
 
 use pr_capture::{Signals, Source, TraceInput};
 use pr_cli::{CliFault, Watched};
-use pr_recording::{decode_input, print_input};
+use pr_recording::{Wording, decode_input, print_input};
+use pr_report::{Bounds, Detail};
 
 const TEXT: TraceInput<'_> = TraceInput {
     source: Source::Text,
@@ -13,7 +14,14 @@ const TEXT: TraceInput<'_> = TraceInput {
         is_inverted: false,
     },
     start: 0,
+    rate: None,
 };
+
+/// Lines without intervals, by the profile.
+const LINES: Wording = Wording::Lines(Detail {
+    intervals: false,
+    bounds: Bounds::Profile,
+});
 
 /// What is written for no byte.
 const NOTHING: &str = "\
@@ -29,7 +37,7 @@ fn too_large(rt: HostRuntime) {
     for (limit, wanted, written) in rows {
         let mut input = Watched::new(b"0 111\n".as_slice());
         let mut output = Watched::new(Vec::new(rt.alloc()));
-        let answer = decode_input(rt.alloc(), &mut input, &mut output, TEXT, limit).err();
+        let answer = decode_input(rt.alloc(), &mut input, &mut output, TEXT, LINES, limit).err();
         let is_well = answer == wanted && output.into_inner().as_slice() == written.as_bytes();
         assert!(rt; is_well, "limit {limit}");
     }

@@ -1,6 +1,6 @@
 -- Trusted: what the program answers for each job, and what it leaves in the reader and in the
 -- writer. The answer uses the printers present, the delays, the mode, the input, the character set
--- and the format of the job, and the shapes of characters that it is given.
+-- and the output of the job, and the shapes of characters that it is given.
 use Rattle.std.specs.Prelude.{ℕ, true, false, List, Option, Result, Ok, Err}
 use Rattle.pr_capture.specs.declared.format.Source.{Source}
 use Rattle.pr_capture.specs.declared.format.Source.TheVariants as source
@@ -8,23 +8,34 @@ use Rattle.pr_capture.specs.declared.format.TraceInput.{TraceInput}
 use Rattle.pr_report.specs.declared.report.Report.{Report}
 use Rattle.pr_report.specs.declared.report.Report.TheVariants as report
 use Rattle.pr_dots.specs.declared.character_sets.Shapes.{Shapes}
-use Rattle.pr_render.specs.declared.format.Format.{Format}
-use Rattle.pr_render.specs.declared.format.Format.TheVariants as format
 use Rattle.pr_options.specs.declared.command_line.Job.{Job}
 use Rattle.pr_options.specs.declared.command_line.Job.TheVariants.{Pages, Bus, Check, Decode, Raw}
+use Rattle.pr_options.specs.declared.outputs.CheckOutput.{CheckOutput}
+use Rattle.pr_options.specs.declared.outputs.CheckOutput.TheVariants as checked
+use Rattle.pr_options.specs.declared.outputs.DecodeOutput.{DecodeOutput}
+use Rattle.pr_options.specs.declared.outputs.DecodeOutput.TheVariants as reading
+use Rattle.pr_options.specs.declared.outputs.PagesOutput.{PagesOutput}
+use Rattle.pr_options.specs.declared.outputs.PagesOutput.TheVariants as output
 use Rattle.pr_options.specs.Found.{found_source}
 use Rattle.pr_cli.specs.declared.fault.CliFault.{CliFault}
 use Rattle.pr_cli.specs.declared.pages.Ending.{Ending}
-use Rattle.pr_cli.specs.declared.pages.Ending.TheVariants.{Done, Stopped}
-use Rattle.pr_cli.specs.Pages.{AnswersPages, IsPagesFault, IsRunFault, ReadsToEnd, WritesNothing, start_of}
+use Rattle.pr_cli.specs.declared.pages.Ending.TheVariants.{Done}
+use Rattle.pr_cli.specs.Pages.{AnswersPages, IsPagesFault, IsRunFault, ReadsToEnd, Start, WritesNothing, start_of}
 use Rattle.pr_cli.specs.Bus.{AnswersBus, WritesNoEdge}
 use Rattle.pr_cli.specs.Check.{AnswersCheck, trace_limit}
 use Rattle.pr_cli.specs.Report.{AnswersReport, IsReportFault, WritesNoReport}
 use Rattle.pr_cli.specs.Report as check
 use Rattle.pr_cli.specs.Raw.{AnswersRaw, IsRawFault}
+use Rattle.pr_recording.specs.declared.byte_log.Heard.{Heard}
+use Rattle.pr_recording.specs.declared.wording.Wording.TheVariants.{Json, Lines}
+use Rattle.pr_recording.specs.Bytes.{AnswersBytes, HasReadBytes}
+use Rattle.pr_recording.specs.Checked.{AnswersJson}
 use Rattle.pr_recording.specs.Decoded.{AnswersDecode, IsDecodeFault}
 use Rattle.pr_recording.specs.Decoded as decode
 use Rattle.pr_recording.specs.Pages as reprint
+use Rattle.pr_recording.specs.RunBytes.{AnswersRunBytes}
+use Rattle.print1525.specs.declared.jobs.Answer.{Answer}
+use Rattle.print1525.specs.declared.jobs.Answer.TheVariants as answer
 
 -- a job whose recording's format is to be found, with the format that the first bytes show; all else of it stays
 abbrev pub found_job : (first : List ℕ) → Job → Job
@@ -32,70 +43,123 @@ found_job first (Decode true input f) = Decode false (record input { source = fo
 found_job first job = job
 
 -- what `check` answers: the frames of a trace text, or else a report on an input of any format
-abbrev pub AnswersTrace :
+abbrev pub AnswersFrames :
     TraceInput → Source → Report → List ℕ → Option (List ℕ) → Option (List ℕ)
     → Result (Unit {0}) CliFault → Type 0
-AnswersTrace input source.Text report.Frames text old new result = AnswersCheck text old new result
-AnswersTrace input _ r text old new result = AnswersReport input r text old new result
+AnswersFrames input source.Text report.Frames text old new result = AnswersCheck text old new result
+AnswersFrames input _ r text old new result = AnswersReport input r text old new result
 
--- what `decode` answers: the lines of a recording, byte by byte, or the pages that printers print of it
-abbrev pub AnswersRecording :
-    Shapes → TraceInput → Format → List ℕ → Option (List ℕ) → Option (List ℕ)
-    → Result (Unit {0}) CliFault → Type 0
-AnswersRecording shapes input format.List text old new result =
-    AnswersDecode trace_limit input text old new result
-AnswersRecording shapes input f text old new result =
-    reprint.AnswersPages shapes input f text old new result
+-- or its readings as JSON
+abbrev pub AnswersTrace :
+    TraceInput → CheckOutput → List ℕ → Option (List ℕ) → Option (List ℕ) → Result (Unit {0}) CliFault → Type 0
+AnswersTrace input (checked.Report r) text old new result = AnswersFrames input input.source r text old new result
+AnswersTrace input checked.Json text old new result = AnswersJson input text old new result
 
--- a job that no BASIC error can stop: it is done, or has a fault
-abbrev pub IsDone : (Result (Unit {0}) CliFault → Type 0) → Result Ending CliFault → Type 0
-IsDone answers (Ok Done) = answers (Ok tt)
-IsDone answers (Ok Stopped) = ⊥
+-- an answer without a printer's bytes
+abbrev pub IsPlain : (Result Ending CliFault → Type 0) → Result Answer CliFault → Type 0
+IsPlain answers (Ok (answer.Ended ending)) = answers (Ok ending)
+IsPlain answers (Ok (answer.Heard ending heard)) = ⊥
+IsPlain answers (Err fault) = answers (Err fault)
+
+-- an answer with a printer's bytes
+abbrev pub IsHeard : (Result (Ending × Heard) CliFault → Type 0) → Result Answer CliFault → Type 0
+IsHeard answers (Ok (answer.Ended ending)) = ⊥
+IsHeard answers (Ok (answer.Heard ending heard)) = answers (Ok (ending, heard))
+IsHeard answers (Err fault) = answers (Err fault)
+
+-- an answer that no BASIC error can stop: it is done, or has a fault
+abbrev pub IsDone : (Result (Unit {0}) CliFault → Type 0) → Result Answer CliFault → Type 0
+IsDone answers (Ok (answer.Ended Done)) = answers (Ok tt)
+IsDone answers (Ok _) = ⊥
 IsDone answers (Err fault) = answers (Err fault)
+
+-- the same with a printer's bytes
+abbrev pub IsHeardToEnd : (Result Heard CliFault → Type 0) → Result Answer CliFault → Type 0
+IsHeardToEnd answers (Ok (answer.Heard Done heard)) = answers (Ok heard)
+IsHeardToEnd answers (Ok _) = ⊥
+IsHeardToEnd answers (Err fault) = answers (Err fault)
+
+-- what `pages` answers: the pages of a script, or the bytes that a printer hears in its run
+abbrev pub AnswersRun :
+    Shapes → Start → PagesOutput → List ℕ → Option (List ℕ) → Option (List ℕ) → Result Answer CliFault → Type 0
+AnswersRun shapes start (output.Pages f) text old new result = IsPlain (AnswersPages shapes start f text old new) result
+AnswersRun shapes start (output.Bytes device) text old new result = IsHeard (AnswersRunBytes start device text old new) result
+
+-- what `decode` answers: the readings of a recording, the bytes that a printer hears in it, or the pages that printers print of it
+abbrev pub AnswersRecording :
+    Shapes → TraceInput → DecodeOutput → List ℕ → Option (List ℕ) → Option (List ℕ) → Result Answer CliFault → Type 0
+AnswersRecording shapes input (reading.Readings detail) text old new result =
+    IsDone (AnswersDecode trace_limit (Lines detail) input text old new) result
+AnswersRecording shapes input reading.Json text old new result =
+    IsDone (AnswersDecode trace_limit Json input text old new) result
+AnswersRecording shapes input (reading.Bytes device) text old new result =
+    IsHeardToEnd (AnswersBytes input device text old new) result
+AnswersRecording shapes input (reading.Pages f) text old new result =
+    IsDone (reprint.AnswersPages shapes input f text old new) result
 
 -- the answer of a job, by the input's bytes and by what the writer held before and after; for a run
 -- they are the bytes of a script text, also where the listing has another form; the format of a
 -- recording is the input's, also where it was found in the first bytes
 abbrev pub AnswersJob :
-    Shapes → Job → List ℕ → Option (List ℕ) → Option (List ℕ) → Result Ending CliFault → Type 0
-AnswersJob shapes (Pages form present delays mode f) text old new result =
-    AnswersPages shapes (start_of present delays mode) f text old new result
+    Shapes → Job → List ℕ → Option (List ℕ) → Option (List ℕ) → Result Answer CliFault → Type 0
+AnswersJob shapes (Pages form present delays mode output) text old new result =
+    AnswersRun shapes (start_of present delays mode) output text old new result
 AnswersJob shapes (Bus form present delays mode f) text old new result =
-    AnswersBus (start_of present delays mode) f text old new result
-AnswersJob shapes (Check input r) text old new result =
-    IsDone (AnswersTrace input input.source r text old new) result
-AnswersJob shapes (Decode is_found input f) text old new result =
-    IsDone (AnswersRecording shapes input f text old new) result
+    IsPlain (AnswersBus (start_of present delays mode) f text old new) result
+AnswersJob shapes (Check input output) text old new result =
+    IsDone (AnswersTrace input output text old new) result
+AnswersJob shapes (Decode is_found input output) text old new result =
+    AnswersRecording shapes input output text old new result
 AnswersJob shapes (Raw lower f) text old new result =
     IsDone (AnswersRaw shapes lower f text old new) result
 
 -- Whatever the reader gives.
 
+-- a fault of a run, and of its pages where they are asked for
+abbrev pub IsPrintFault : PagesOutput → CliFault → Type 0
+IsPrintFault (output.Pages f) fault = IsPagesFault fault
+IsPrintFault (output.Bytes device) fault = IsRunFault fault
+
 -- a fault of a recording, and of its pages where they are asked for
-abbrev pub IsRecordingFault : Format → CliFault → Type 0
-IsRecordingFault format.List fault = IsDecodeFault fault
-IsRecordingFault f fault = reprint.IsReprintFault fault
+abbrev pub IsRecordingFault : DecodeOutput → CliFault → Type 0
+IsRecordingFault (reading.Pages f) fault = reprint.IsReprintFault fault
+IsRecordingFault _ fault = IsDecodeFault fault
 
 -- a fault of the job; want of memory is always `NoMemory` itself
 abbrev pub IsJobFault : Job → CliFault → Type 0
-IsJobFault (Pages form present delays mode f) fault = IsPagesFault fault
+IsJobFault (Pages form present delays mode output) fault = IsPrintFault output fault
 IsJobFault (Bus form present delays mode f) fault = IsRunFault fault
-IsJobFault (Check input r) fault = IsReportFault fault
-IsJobFault (Decode is_found input f) fault = IsRecordingFault f fault
+IsJobFault (Check input output) fault = IsReportFault fault
+IsJobFault (Decode is_found input output) fault = IsRecordingFault output fault
 IsJobFault (Raw lower f) fault = IsRawFault fault
 
+-- a recording has been read to its end, unless it has a fault
+abbrev pub ReadsRecording : DecodeOutput → Option (List ℕ) → Result Answer CliFault → Type 0
+ReadsRecording (reading.Bytes device) left result = IsHeardToEnd (HasReadBytes left) result
+ReadsRecording _ left result = IsDone (decode.ReadsAll left) result
+
+-- a trace has been read to its end where it is accepted, and where its edges are refused
+abbrev pub ReadsTrace : CheckOutput → Option (List ℕ) → Result (Unit {0}) CliFault → Type 0
+ReadsTrace (checked.Report r) left result = check.ReadsAll r left result
+ReadsTrace checked.Json left result = check.ReadsAll report.Story left result
+
 -- the input has been read to its end, unless the job's subcommand ends earlier
-abbrev pub ReadsInput : Job → Option (List ℕ) → Result Ending CliFault → Type 0
-ReadsInput (Pages form present delays mode f) left result = ReadsToEnd left result
+abbrev pub ReadsInput : Job → Option (List ℕ) → Result Answer CliFault → Type 0
+ReadsInput (Pages form present delays mode output) left result = ReadsToEnd left result
 ReadsInput (Bus form present delays mode f) left result = ReadsToEnd left result
-ReadsInput (Check input r) left result = IsDone (check.ReadsAll r left) result
-ReadsInput (Decode is_found input f) left result = IsDone (decode.ReadsAll left) result
+ReadsInput (Check input output) left result = IsDone (ReadsTrace output left) result
+ReadsInput (Decode is_found input output) left result = ReadsRecording output left result
 ReadsInput (Raw lower f) left result = ReadsToEnd left result
 
+-- a refused trace leaves the writer's bytes as they were, unless JSON is written while it is read
+abbrev pub KeepsTrace : CheckOutput → Option (List ℕ) → Option (List ℕ) → Result (Unit {0}) CliFault → Type 0
+KeepsTrace (checked.Report r) old new result = WritesNoReport r old new result
+KeepsTrace checked.Json old new result = Unit {0}
+
 -- a refusal leaves the writer's bytes as they were, unless the job's subcommand writes while it reads
-abbrev pub KeepsOutput : Job → Option (List ℕ) → Option (List ℕ) → Result Ending CliFault → Type 0
-KeepsOutput (Pages form present delays mode f) old new result = WritesNothing old new result
-KeepsOutput (Bus form present delays mode f) old new result = WritesNoEdge old new result
-KeepsOutput (Check input r) old new result = IsDone (WritesNoReport r old new) result
-KeepsOutput (Decode is_found input f) old new result = Unit {0}
+abbrev pub KeepsOutput : Job → Option (List ℕ) → Option (List ℕ) → Result Answer CliFault → Type 0
+KeepsOutput (Pages form present delays mode output) old new result = WritesNothing old new result
+KeepsOutput (Bus form present delays mode f) old new result = IsPlain (WritesNoEdge old new) result
+KeepsOutput (Check input output) old new result = IsDone (KeepsTrace output old new) result
+KeepsOutput (Decode is_found input output) old new result = Unit {0}
 KeepsOutput (Raw lower f) old new result = WritesNothing old new result

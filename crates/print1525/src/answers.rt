@@ -1,15 +1,15 @@
 //! A task done: its files opened, its job done over them, and what there is to tell on standard error.
 
 ghost use Rattle.std.specs.Prelude.{◌≡◌};
-ghost use Rattle.print1525.specs.Statuses.{fault_status, text_status};
+ghost use Rattle.print1525.specs.Statuses.{answer_status, fault_status, text_status};
 
 use crate::characters::shapes_for;
-use crate::jobs::{do_job, found_job};
+use crate::jobs::{Answer, do_job, found_job};
 use crate::progress::{Progress, clear};
 use crate::shown::Shown;
 use crate::statuses::{FAILED, ending_status, fault_status, is_answered, text_status};
-use crate::told::{subject_of, tell_listing, tell_more};
-use pr_cli::{CliFault, SCRIPT_LIMIT, TeeReader, Watched};
+use crate::told::{heard_told, subject_of, tell_listing, tell_more};
+use pr_cli::{CliFault, Ending, SCRIPT_LIMIT, TeeReader, Watched};
 use pr_dots::Shapes;
 use pr_files::{Noting, save};
 use pr_listing::{ListingForm, TextFault, read_text};
@@ -286,7 +286,7 @@ fn answer_over<R: Read + Drop, W: Write + Drop>(
     let input = input.into_inner();
     let output = output.into_inner();
     let status = match answer {
-        Ok(ending) => ending_status(ending),
+        Ok(answer) => tell_answer(rt, answer),
         Err(CliFault::ReadFailed) => tell_failed(
             rt,
             CliFault::ReadFailed,
@@ -299,9 +299,33 @@ fn answer_over<R: Read + Drop, W: Write + Drop>(
         Err(fault) => tell(rt, fault),
     };
     if let Some(bytes) = input.into_inner().into_bytes() {
-        tell_more(rt, bytes.as_slice(), subject, answer);
+        tell_more(rt, bytes.as_slice(), subject, ending_of(answer));
     }
     (status, output.into_inner())
+}
+
+/// How a job ended, or its fault.
+fn ending_of(answer: Result<Answer, CliFault>) -> Result<Ending, CliFault> {
+    match answer {
+        Ok(Answer::Ended(ending) | Answer::Heard(ending, _)) => Ok(ending),
+        Err(fault) => Err(fault),
+    }
+}
+
+/// Gives the exit status of a job that ended so. Where its bytes do not say in which character set a printer prints
+/// them, tells that in one line on standard error.
+fn tell_answer(rt: &impl Eprint, answer: Answer) -> u8
+    ensures { result ≡ answer_status answer }
+{
+    match answer {
+        Answer::Ended(ending) => ending_status(ending),
+        Answer::Heard(ending, heard) => {
+            if let Some(line) = heard_told(heard) {
+                let _ = rt.eprintln(format_args!("print1525: {line}"));
+            }
+            ending_status(ending)
+        }
+    }
 }
 
 /// Tells in one line on standard error why a listing has no text, and gives the exit status.

@@ -1,22 +1,35 @@
 //! A job done over any reader and writer, and the exit statuses.
 
 ghost use Rattle.std.specs.Prelude.{◌≡◌, ◌↔◌, false, true, IfErr, IfSome, IsErrOf};
+ghost use Rattle.pr_cli.specs.Pages.{ReadsToEnd, WritesNothing, start_of};
 ghost use Rattle.pr_cli.specs.Report.{IsReportFault, ReadsAll, WritesNoReport};
 ghost use Rattle.pr_input.specs.Watched.{has_failed, wrapped};
-ghost use Rattle.pr_recording.specs.Decoded as decode;
-ghost use Rattle.print1525.specs.Jobs.{AnswersJob, AnswersRecording, AnswersTrace, IsJobFault, IsRecordingFault, KeepsOutput, ReadsInput, found_job};
+ghost use Rattle.print1525.specs.Jobs.{AnswersFrames, AnswersJob, AnswersRecording, AnswersRun, AnswersTrace, IsJobFault, IsPrintFault, IsRecordingFault, KeepsOutput, KeepsTrace, ReadsInput, ReadsRecording, ReadsTrace, found_job};
 
+use pr_basic::StatusMode;
+use pr_bus::Delays;
 use pr_capture::{Source, TraceInput};
 use pr_cli::{
     CliFault, Ending, Watched, bus_as_over, check_as_over, check_over, pages_as_over, raw_over,
 };
 use pr_dots::Shapes;
-use pr_options::{Job, found_source};
-use pr_recording::{decode_over, reprint_over};
-use pr_render::Format;
+use pr_options::{CheckOutput, DecodeOutput, Job, PagesOutput, found_source};
+use pr_recording::{
+    Heard, Wording, bytes_over, check_json_over, decode_over, reprint_over, run_bytes_over,
+};
 use pr_report::Report;
+use pr_serial::Present;
 use std::alloc::Global;
 use std::io::{Read, Write};
+
+/// How a job ended.
+#[derive(Clone, Copy, Debug, PartialEq, Eq)]
+pub enum Answer {
+    /// It wrote what was asked for.
+    Ended(Ending),
+    /// It wrote the bytes that a printer hears, which do not say what [`Heard`] does.
+    Heard(Ending, Heard),
+}
 
 /// Returns the job with the format that the first bytes of its recording show, where it has to be found; every other job
 /// as it is. All else that the job says stays.
@@ -27,14 +40,14 @@ pub fn found_job<'a>(job: Job<'a>, first: &[u8]) -> Job<'a>
         Job::Decode {
             is_found: true,
             input,
-            format,
+            output,
         } => Job::Decode {
             is_found: false,
             input: TraceInput {
                 source: found_source(input.source, first),
                 ..input
             },
-            format,
+            output,
         },
         _ => job,
     }
@@ -48,22 +61,23 @@ pub fn found_job<'a>(job: Job<'a>, first: &[u8]) -> Job<'a>
 /// It takes the whole [`Job`]: only the form of a listing, and whether a recording's format is to be
 /// found, is read from it elsewhere, so every use of a format, a set or a delay is proved.
 ///
-/// The answer is [`Ending::Stopped`] exactly if a BASIC error stopped the run of a script.
+/// The ending is [`Ending::Stopped`] exactly if a BASIC error stopped the run of a script.
 ///
 /// # Errors
 ///
-/// Those of the job's call: [`pr_cli::pages_as_over`], [`pr_cli::bus_as_over`],
-/// [`pr_cli::check_over`] for the frames of a trace text and else [`pr_cli::check_as_over`],
-/// [`pr_recording::decode_over`] for a list and else [`pr_recording::reprint_over`],
-/// [`pr_cli::raw_over`]. They leave what they leave there. A read failed exactly if the input has
-/// failed, and a write exactly if the output has.
+/// Those of the job's call: [`pr_cli::pages_as_over`] or, for bytes, [`pr_recording::run_bytes_over`];
+/// [`pr_cli::bus_as_over`]; [`pr_cli::check_over`] for the frames of a trace text,
+/// [`pr_recording::check_json_over`] for the JSON of any trace, and else
+/// [`pr_cli::check_as_over`]; [`pr_recording::decode_over`] for a list and for JSON,
+/// [`pr_recording::bytes_over`], and [`pr_recording::reprint_over`] for pages; [`pr_cli::raw_over`]. They leave
+/// what they leave there. A read failed exactly if the input has failed, and a write exactly if the output has.
 pub fn do_job<R: Read, W: Write>(
     alloc: Global,
     input: &mut Watched<R>,
     output: &mut Watched<W>,
     job: Job<'_>,
     shapes: &Shapes,
-) -> Result<Ending, CliFault>
+) -> Result<Answer, CliFault>
     // the caller's part
     requires input { has_failed input.old ≡ false }
     requires output { has_failed output.old ≡ false }
@@ -78,33 +92,99 @@ pub fn do_job<R: Read, W: Write>(
     ensures write_failed { IsErrOf result CliFault.WriteFailed ↔ (has_failed output.new ≡ true) }
 {
     match job {
-        Job::Pages(_, present, delays, mode, format) => {
-            pages_as_over(alloc, input, output, present, delays, mode, format, shapes)
+        Job::Pages(_, present, delays, mode, wanted) => {
+            print_run(alloc, input, output, present, delays, mode, wanted, shapes)
         }
         Job::Bus(_, present, delays, mode, format) => {
-            bus_as_over(alloc, input, output, present, delays, mode, format)
+            let ending = bus_as_over(alloc, input, output, present, delays, mode, format)?;
+            Ok(Answer::Ended(ending))
         }
-        Job::Check(trace, report) => {
-            check_trace(alloc, input, output, trace, report)?;
-            Ok(Ending::Done)
+        Job::Check(trace, wanted) => {
+            check_trace(alloc, input, output, trace, wanted)?;
+            Ok(Answer::Ended(Ending::Done))
         }
         Job::Decode {
             input: trace,
-            format,
+            output: wanted,
             ..
-        } => {
-            decode_recording(alloc, input, output, trace, format, shapes)?;
-            Ok(Ending::Done)
-        }
+        } => decode_recording(alloc, input, output, trace, wanted, shapes),
         Job::Raw { lower, format } => {
             raw_over(alloc, input, output, lower, format, shapes)?;
-            Ok(Ending::Done)
+            Ok(Answer::Ended(Ending::Done))
         }
     }
 }
 
-/// Checks a trace and writes what it says: the frames of a trace text, or else the report asked for.
+/// Runs a script and writes the pages of its run, or the bytes that a printer hears in it.
+fn print_run<R: Read, W: Write>(
+    alloc: Global,
+    input: &mut Watched<R>,
+    output: &mut Watched<W>,
+    present: Present,
+    delays: Delays,
+    mode: StatusMode,
+    wanted: PagesOutput,
+    shapes: &Shapes,
+) -> Result<Answer, CliFault>
+    // the caller's part
+    requires input { has_failed input.old ≡ false }
+    requires output { has_failed output.old ≡ false }
+    // what it gives
+    ensures run { IfSome (R.remaining (wrapped input.old)) (λ text.
+        AnswersRun shapes.now (start_of present delays mode) wanted text
+        (W.contents (wrapped output.old)) (W.contents (wrapped output.new)) result) }
+    ensures at_end { ReadsToEnd (R.remaining (wrapped input.new)) result }
+    // when it refuses, and what that leaves
+    ensures nothing { WritesNothing (W.contents (wrapped output.old)) (W.contents (wrapped output.new)) result }
+    ensures own { IfErr result (IsPrintFault wanted) }
+    ensures read_failed { IsErrOf result CliFault.ReadFailed ↔ (has_failed input.new ≡ true) }
+    ensures write_failed { IsErrOf result CliFault.WriteFailed ↔ (has_failed output.new ≡ true) }
+{
+    match wanted {
+        PagesOutput::Pages(format) => {
+            let ending = pages_as_over(
+                alloc, input, output, present, delays, mode, format, shapes,
+            )?;
+            Ok(Answer::Ended(ending))
+        }
+        PagesOutput::Bytes(device) => {
+            let (ending, heard) = run_bytes_over(
+                alloc, input, output, present, delays, mode, device,
+            )?;
+            Ok(Answer::Heard(ending, heard))
+        }
+    }
+}
+
+/// Checks a trace and writes what it says: its readings as JSON, or the report asked for.
 fn check_trace<R: Read, W: Write>(
+    alloc: Global,
+    input: &mut Watched<R>,
+    output: &mut Watched<W>,
+    trace: TraceInput<'_>,
+    wanted: CheckOutput,
+) -> Result<(), CliFault>
+    // the caller's part
+    requires input { has_failed input.old ≡ false }
+    requires output { has_failed output.old ≡ false }
+    // what it gives
+    ensures trace { IfSome (R.remaining (wrapped input.old)) (λ text.
+        AnswersTrace trace.entry wanted text (W.contents (wrapped output.old)) (W.contents (wrapped output.new)) result) }
+    ensures at_end { ReadsTrace wanted (R.remaining (wrapped input.new)) result }
+    // when it refuses, and what that leaves
+    ensures nothing { KeepsTrace wanted (W.contents (wrapped output.old)) (W.contents (wrapped output.new)) result }
+    ensures own { IfErr result IsReportFault }
+    ensures read_failed { IsErrOf result CliFault.ReadFailed ↔ (has_failed input.new ≡ true) }
+    ensures write_failed { IsErrOf result CliFault.WriteFailed ↔ (has_failed output.new ≡ true) }
+{
+    match wanted {
+        CheckOutput::Report(report) => report_trace(alloc, input, output, trace, report),
+        CheckOutput::Json => check_json_over(alloc, input, output, trace),
+    }
+}
+
+/// Checks a trace and writes the frames of a trace text, or else the report asked for.
+fn report_trace<R: Read, W: Write>(
     alloc: Global,
     input: &mut Watched<R>,
     output: &mut Watched<W>,
@@ -116,7 +196,7 @@ fn check_trace<R: Read, W: Write>(
     requires output { has_failed output.old ≡ false }
     // what it gives
     ensures trace { IfSome (R.remaining (wrapped input.old)) (λ text.
-        AnswersTrace trace.entry trace.entry.source report text
+        AnswersFrames trace.entry trace.entry.source report text
         (W.contents (wrapped output.old)) (W.contents (wrapped output.new)) result) }
     ensures at_end { ReadsAll report (R.remaining (wrapped input.new)) result }
     // when it refuses, and what that leaves
@@ -131,32 +211,44 @@ fn check_trace<R: Read, W: Write>(
     }
 }
 
-/// Reads a recording and writes what it says: its list, byte by byte, or its pages in another format.
+/// Reads a recording and writes what it says: its readings, the bytes that a printer hears in it, or its pages.
 fn decode_recording<R: Read, W: Write>(
     alloc: Global,
     input: &mut Watched<R>,
     output: &mut Watched<W>,
     trace: TraceInput<'_>,
-    format: Format,
+    wanted: DecodeOutput,
     shapes: &Shapes,
-) -> Result<(), CliFault>
+) -> Result<Answer, CliFault>
     // the caller's part
     requires input { has_failed input.old ≡ false }
     requires output { has_failed output.old ≡ false }
     // what it gives
     ensures recording { IfSome (R.remaining (wrapped input.old)) (λ text.
-        AnswersRecording shapes.now trace.entry format text
+        AnswersRecording shapes.now trace.entry wanted text
         (W.contents (wrapped output.old)) (W.contents (wrapped output.new)) result) }
-    ensures at_end { decode.ReadsAll (R.remaining (wrapped input.new)) result }
+    ensures at_end { ReadsRecording wanted (R.remaining (wrapped input.new)) result }
     // when it refuses, and what that leaves
-    ensures own { IfErr result (IsRecordingFault format) }
+    ensures own { IfErr result (IsRecordingFault wanted) }
     ensures read_failed { IsErrOf result CliFault.ReadFailed ↔ (has_failed input.new ≡ true) }
     ensures write_failed { IsErrOf result CliFault.WriteFailed ↔ (has_failed output.new ≡ true) }
 {
-    match format {
-        Format::List => decode_over(alloc, input, output, trace),
-        Format::Lines | Format::Svg(_) | Format::Png(_) | Format::Pdf(_) => reprint_over(
-            alloc, input, output, trace, format, shapes,
-        ),
+    match wanted {
+        DecodeOutput::Readings(detail) => {
+            decode_over(alloc, input, output, trace, Wording::Lines(detail))?;
+            Ok(Answer::Ended(Ending::Done))
+        }
+        DecodeOutput::Json => {
+            decode_over(alloc, input, output, trace, Wording::Json)?;
+            Ok(Answer::Ended(Ending::Done))
+        }
+        DecodeOutput::Bytes(device) => {
+            let heard = bytes_over(alloc, input, output, trace, device)?;
+            Ok(Answer::Heard(Ending::Done, heard))
+        }
+        DecodeOutput::Pages(format) => {
+            reprint_over(alloc, input, output, trace, format, shapes)?;
+            Ok(Answer::Ended(Ending::Done))
+        }
     }
 }

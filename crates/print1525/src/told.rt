@@ -13,6 +13,7 @@ use pr_listing::{
     looks_saved,
 };
 use pr_options::{Job, read_delays};
+use pr_recording::Heard;
 use pr_serial::Present;
 use pr_system::{NoMemory, Outcome, Running};
 use std::alloc::{AllocError, Global};
@@ -48,6 +49,28 @@ const SAVED_BYTES: &str =
 
 /// What is told of a printer's bytes that look like a disk.
 const DISK_BYTES: &str = "this looks like an image of a disk, and not like a printer's bytes";
+
+/// What is told of bytes that come in the lower/upper case set.
+const LOWER_SET: &str = "the bytes are for the lower case set: raw --set lower prints them";
+
+/// What is told of bytes that come in both sets, the first one in the graphic/upper case set.
+const BOTH_SETS: &str =
+    "the character set changes after the first byte: raw prints all bytes in one set";
+
+/// The same where the first one comes in the lower/upper case set.
+const BOTH_SETS_LOWER: &str =
+    "the character set changes after the first byte: raw prints all bytes in one set, \
+     with --set lower in that of the first byte";
+
+/// What the bytes of a printer do not say, and what to do about it.
+pub fn heard_told(heard: Heard) -> Option<&'static str> {
+    match (heard.reselected, heard.lower) {
+        (false, false) => None,
+        (false, true) => Some(LOWER_SET),
+        (true, false) => Some(BOTH_SETS),
+        (true, true) => Some(BOTH_SETS_LOWER),
+    }
+}
 
 /// Writes what more there is to say of an input, by the answer of its job.
 pub fn tell_more(

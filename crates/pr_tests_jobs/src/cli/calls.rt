@@ -221,6 +221,7 @@ pub fn usual(source: Source) -> TraceInput<'static> {
             is_inverted: false,
         },
         start: 0,
+        rate: None,
     }
 }
 

@@ -8,4 +8,4 @@ pub returns-clause-dump : goal.returns-clause-dump
 returns-clause-dump c = λ s text more given r h. ((vcd.contents_left r more).samples, ap (λ (t : CaptureContents). t.samples) (h.told more))
 
 pub returns-clause-table : goal.returns-clause-table
-returns-clause-table c = λ s text more given r h. ((csv.contents_left r more).samples, ap (λ (t : CaptureContents). t.samples) (h.told more))
+returns-clause-table c = λ s rate text more given r h. ((csv.contents_left r more).samples, ap (λ (t : CaptureContents). t.samples) (h.told more))

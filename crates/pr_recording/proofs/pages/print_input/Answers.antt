@@ -1,7 +1,7 @@
 use Rattle.std.proofs.Common.{◌≡◌, false, refl, rules}
 use Rattle.pr_cli.specs.InputReads.{StopsWell}
 use Rattle.pr_recording.specs.Copied.{HasCopied}
-use Rattle.pr_recording.proofs.Printing.{prints_last, prints_none, printed_before}
+use Rattle.pr_recording.proofs.Printing.{no_room, prints_last, prints_none, printed_before}
 use Rattle.pr_recording.proofs.pages.print_input.Goals as goal
 
 pub returns-in_err-read_block-clause-print : goal.returns-in_err-read_block-clause-print
@@ -38,3 +38,7 @@ returns-then-not-branch-clause-stop g c =
     (prints_last c.args.limit start now c.args.trace c.read_block.new.self c.pieces.printer c.in_ok-end_print.field-0
     (printed_before c.args.limit start (g.R.Read.remaining c.pieces.input.inner) now c.args.trace c.pieces.reader c.read_block.new.self c.pieces.printer c.pieces.invariant.read c.in_ok-read_block.ensures.read)
     stops c.in_ok-end_print.ensures).stop
+
+pub returns-in_err-take_all-clause-print : goal.returns-in_err-take_all-clause-print
+returns-in_err-take_all-clause-print g c =
+    no_room (g.R.Read.remaining c.args.input.now.inner) c.args.limit c.args.trace c.from_residual-in_err-take_all.result c.from_residual-in_err-take_all.ensures.1

@@ -1,5 +1,6 @@
-use Rattle.std.proofs.Common.{[], ◌∷◌, refl}
+use Rattle.std.proofs.Common.{[], ◌∷◌, refl, subst, ℕ, List}
 use Rattle.pr_capture.specs.CsvReads.{FaultsIn}
+use Rattle.pr_capture.specs.CsvSteps.{IsRowOf}
 use Rattle.pr_capture.proofs.CsvReading.{faulty-line, handed-on, read-line}
 use Rattle.pr_capture.proofs.csv.CsvReader.end_line.Goals as goal
 
@@ -10,4 +11,7 @@ returns-in_err-sample-clause-refused c =
 
 pub returns-clause-read : goal.returns-clause-read
 returns-clause-read c =
-    read-line c.args.self.now _ c.in_ok-sample.sample c.as_slice.result.now c.as_slice.ensures.value c.in_ok-sample.ensures.read refl refl c.clear.ensures.items
+    let inverted = c.args.self.now.signals.is_inverted in
+    let P : List ℕ → Type 0 = λ l. IsRowOf inverted c.take_line.new.self l c.in_ok-sample.sample in
+    read-line c.args.self.now _ c.in_ok-sample.sample c.as_slice.result.now c.as_slice.ensures.value c.in_ok-sample.ensures.read refl refl c.note.ensures.line
+    (λ inner. c.note.ensures.known inverted inner (subst P c.as_slice.ensures.value c.in_ok-sample.ensures.row))

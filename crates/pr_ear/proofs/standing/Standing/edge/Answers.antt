@@ -2,9 +2,7 @@ use Rattle.std.proofs.Common.{◌∷◌, [], ◌≡◌, ◌+◌, ap, sym, subst,
 use Rattle.pr_receiver.specs.Given.{frames_ended, input_of_any}
 use Rattle.pr_ear.specs.declared.standing.Standing.{Standing}
 use Rattle.pr_wire.specs.Following.{refusal_at}
-use Rattle.pr_ear.specs.Taken.{CanListen}
 use Rattle.pr_ear.proofs.Standings.{accepted, refusal-stays, refuses, stands-of, still-accepted}
-use Rattle.pr_ear.proofs.Fitting.{moves-on, stands-refused}
 use Rattle.pr_ear.proofs.standing.Standing.edge.Goals as goal
 
 pub returns-in-Some-clause-right : goal.returns-in-Some-clause-right
@@ -30,21 +28,6 @@ returns-in-Ok-clause-come c = λ device edges h.
     let t = c.hear.ensures.heard device (frames_ended edges) a.listener in
     let taken : c.counted-self.result ≡ c.args.self.now.taken + 1 = c.counted-self.ensures (λ late. a.count ∙ a.fits (omega (arith, late, a.count))) ∙ ap (λ n. n + 1) a.count in
     still-accepted device edges c.args.self.now c.args.edge c.in-Ok.frame c.go_on.new.self c.hear.new.self c.counted-self.result a taken t.1
-
-pub returns-in-Ok-clause-fits : goal.returns-in-Ok-clause-fits
-returns-in-Ok-clause-fits c = λ h.
-    let m = moves-on c.args.self.now c.go_on.new.self c.args.edge c.in-Ok.frame h c.in-Ok.ensures.moved in
-    let t = c.hear.ensures.listens (subst CanListen (sym m.listener) h.listener) in
-    let taken : c.counted-self.result ≡ c.args.self.now.taken + 1 = c.counted-self.ensures (λ late. m.count ∙ m.room (omega (arith, late, m.count))) ∙ ap (λ n. n + 1) m.count in
-    m.fits c.hear.new.self
-    (ap (λ (s : Standing). s.taken) t.2 ∙ taken)
-    (ap (λ (s : Standing). s.last) t.2)
-    (ap (λ (s : Standing). s.place) t.2)
-    (ap (λ (s : Standing). s.refused) t.2 ∙ (m.refused ∙ c.in_default.is))
-    (subst CanListen (sym (ap (λ (s : Standing). s.listener) t.2)) t.1)
-
-pub returns-in-Err-clause-fits : goal.returns-in-Err-clause-fits
-returns-in-Err-clause-fits c = λ h. stands-refused c.args.self.now c.go_on.new.self c.args.edge c.in-Err.refusal h c.in-Err.ensures.moved
 
 pub returns-in-Err-clause-right : goal.returns-in-Err-clause-right
 returns-in-Err-clause-right c = λ device edges h.

@@ -10,13 +10,13 @@ loop-edge-preserved c =
     let inv = c.loop-edge.invariant in
     let i = c.loop-edge.edge-index in
     record {
-      narrated = λ edges written h.
-          more_at (λ l. HasNarrated l written c.take.new.self) edges c.args.edges.now i _ c.loop-edge-test.true (c.in_ok-take.ensures.narrated (edges ++ take i c.args.edges.now) written (inv.narrated edges written h));
+      narrated = λ w edges written h.
+          more_at (λ l. HasNarrated w l written c.take.new.self) edges c.args.edges.now i _ c.loop-edge-test.true (c.in_ok-take.ensures.narrated w (edges ++ take i c.args.edges.now) written (inv.narrated w edges written h));
       load = omega (arith, inv.load, c.in_ok-take.ensures.load);
     }
 
 pub returns-clause-narrated : goal.returns-clause-narrated
-returns-clause-narrated c = λ edges written h.
+returns-clause-narrated c = λ w edges written h.
     let all = take_all c.loop-edge.edge-index c.args.edges.now (omega (arith, c.loop-edge-test.false)) in
-    let P : List Edge → Type 0 = λ l. HasNarrated (edges ++ l) written c.loop-edge.self in
-    subst P all (c.loop-edge.invariant.narrated edges written h)
+    let P : List Edge → Type 0 = λ l. HasNarrated w (edges ++ l) written c.loop-edge.self in
+    subst P all (c.loop-edge.invariant.narrated w edges written h)

@@ -1,13 +1,17 @@
-use Rattle.std.proofs.Common.{◌++◌, ap, ◌∙◌}
-use Rattle.pr_report.specs.declared.oddities.Oddities.{Oddities}
-use Rattle.pr_report.specs.Oddities.{oddities_of, oddities_text}
-use Rattle.pr_report.specs.Summary.{summary}
-use Rattle.pr_report.specs.Verdict.{verdict_text}
-use Rattle.pr_recording.proofs.Accounting.{accounts_finish}
+use Rattle.std.proofs.Common.{List, ℕ, ◌++◌, ap, sym, ◌∙◌}
+use Rattle.pr_recording.specs.Narrated.{bounds_in}
+use Rattle.pr_recording.proofs.Accounting.{accounts_end, last_in_json, last_in_lines}
 use Rattle.pr_recording.proofs.reading_log.ReadingLog.finish.Goals as goal
 
+pub returns-in-Lines : goal.returns-in-Lines
+returns-in-Lines c = λ w edges given written sees h.
+    accounts_end w c.args.self given written c.push_summing_up.new.text.items _ h
+    (c.in_ok-push_summing_up-in-Lines.ensures (bounds_in w) given h.surveyed
+    ∙ ap (λ (z : List ℕ). c.args.self.lines.items ++ z)
+    (last_in_lines w _ c.args.fault edges given c.oddities-odd.result (sym h.wording ∙ c.in-Lines.is) (c.oddities-odd.ensures edges given sees h.byte)))
+
 pub returns : goal.returns
-returns c = λ edges given written sees h.
-    accounts_finish c.args.self given written c.push_summary.new.text.items c.push_verdict.new.text.items c.push_oddities.new.text.items
-    (summary given) (verdict_text c.args.verdict) (oddities_text (oddities_of edges given)) h (c.in_ok-push_summary.ensures given h.surveyed) c.in_ok-push_verdict.ensures
-    (c.in_ok-push_oddities.ensures ∙ ap (λ (r : Oddities). c.push_verdict.new.text.items ++ oddities_text r) (c.oddities.ensures edges given sees h.byte))
+returns c = λ w edges given written sees h.
+    accounts_end w c.args.self given written c.push_json_verdict.new.text.items _ h
+    (c.in_ok-push_json_verdict-in-Json.ensures
+    ∙ ap (λ (z : List ℕ). c.args.self.lines.items ++ z) (last_in_json w c.args.fault edges given (sym h.wording ∙ c.in-Json.is)))

@@ -1,0 +1,163 @@
+//! The last row of a table, by which rows are read that have its levels, as most have where nothing changes: it
+//! is enough that their bytes after the time are its own.
+
+ghost use Rattle.std.specs.Prelude.{◌≡◌, ◌+◌, ◌<◌, ◌≤◌, ◌∷◌, ◌++◌, [], Bool, None, IfSome, Some, IsTrue, length, take, true};
+ghost use Rattle.std.specs.List.{list_all};
+ghost use Rattle.pr_capture.specs.CsvSteps.{IsRepeat, IsRowOf, KnowsLast, KnowsLevels, are_behind, is_inner, row_if, tail_at};
+
+use crate::csv::{Columns, Layout, Moment, Row, RowPlace, Scale, field_len};
+use crate::entries::is_word;
+use crate::fault::CaptureFault;
+use crate::numbers::behind_first;
+use crate::times::{is_plain, plain_in};
+use pr_wire::{Edge, Levels};
+use std::alloc::Global;
+use std::mem;
+
+/// The last row of a table.
+#[derive(Drop)]
+pub struct LastRow {
+    /// Its bytes, without the end of its line.
+    bytes: Vec<u8>,
+    /// How many of them are in front of those that are compared.
+    from: usize,
+    /// Its levels; None where the last line was no row, or where the levels need more than these bytes.
+    levels: Option<Levels>,
+}
+
+/// Whether no column is the first.
+fn are_behind(columns: Columns) -> bool
+    ensures { result ≡ are_behind columns }
+{
+    columns.atn > 0 && columns.clock > 0 && columns.line > 0
+}
+
+/// Where the bytes of a row begin that have its levels, whatever its time is.
+fn tail_at(layout: Layout, line: &[u8]) -> Option<usize>
+    ensures { result ≡ tail_at layout line.now }
+{
+    match layout.scale {
+        Scale::Counted(_) => Some(0),
+        Scale::Timed(_) => {
+            let len = field_len(layout.separator, line);
+            if are_behind(layout.columns) && !is_plain(layout.separator) && len < line.len() {
+                Some(len)
+            } else {
+                None
+            }
+        }
+    }
+}
+
+/// Whether these bytes and the end of a line are in front of a text.
+#[inline(always)]
+fn leads(tail: &[u8], text: &[u8]) -> bool
+    ensures front { IsTrue result → take (length tail.now + 1) text.now ≡ tail.now ++ 10 ∷ [] }
+    ensures within { IsTrue result → length tail.now + 1 ≤ length text.now }
+{
+    let len = tail.len();
+    if len < text.len() {
+        if text[len] == b'\n' {
+            return is_word(&text[..len], tail);
+        }
+    }
+    false
+}
+
+/// The row of a moment, if there is one, and levels.
+#[inline(always)]
+fn row_if(moment: Result<Moment, CaptureFault>, levels: Levels) -> Option<Row>
+    ensures { result ≡ row_if moment levels }
+{
+    match moment {
+        Ok(moment) => {
+            let time = moment.before;
+            let sample = Edge { time, levels };
+            Some(Row { sample, moment })
+        }
+        Err(_) => None,
+    }
+}
+
+impl LastRow {
+    /// No row. It takes no memory.
+    pub fn new(alloc: Global) -> LastRow
+        ensures { result.levels ≡ None }
+    {
+        LastRow {
+            bytes: Vec::new(alloc),
+            from: 0,
+            levels: None,
+        }
+    }
+
+    /// Takes the bytes of a line that has ended, which has led to a place and has this sample, if it has one,
+    /// and leaves none of them. It takes no memory.
+    pub fn note(&mut self, place: &RowPlace, line: &mut Vec<u8>, sample: Option<Edge>)
+        ensures line { line.new.items ≡ [] }
+        ensures known { (inverted : Bool) → list_all is_inner line.old.items ≡ true →
+            IsRowOf inverted place.now line.old.items sample → KnowsLast inverted place.now self.new }
+    {
+        mem::swap(&mut self.bytes, line);
+        line.clear();
+        self.levels = None;
+        let RowPlace::Rows(layout, _) = place else {
+            return;
+        };
+        let (Some(sample), Some(from)) = (sample, tail_at(*layout, self.bytes.as_slice())) else {
+            return;
+        };
+        self.from = from;
+        self.levels = Some(sample.levels);
+    }
+
+    /// Whether it has these levels.
+    pub fn has_levels(&self, levels: Levels) -> bool
+        ensures { IsTrue result → self.now.levels ≡ Some levels }
+    {
+        match self.levels {
+            None => false,
+            Some(own) => {
+                own.atn == levels.atn && own.clock == levels.clock && own.line == levels.line
+            }
+        }
+    }
+
+    /// The row in front of a block, with the length of its line and the line's end, if a whole row is there,
+    /// its time is plain, and it goes on as the last row does.
+    #[inline(always)]
+    pub fn repeat(
+        &self,
+        layout: Layout,
+        moment: Moment,
+        number: usize,
+        block: &[u8],
+    ) -> Option<(usize, Row)>
+        ensures row { (inverted : Bool) → KnowsLevels inverted layout self.now →
+            IfSome result (λ r. IsRepeat inverted layout number moment (take r.0 block.now) r.1) }
+        ensures some { IfSome result (λ r. 0 < r.0) }
+        ensures within { IfSome result (λ r. r.0 ≤ length block.now) }
+        ensures levels { IfSome result (λ r. self.now.levels ≡ Some r.1.sample.levels) }
+    {
+        let levels = self.levels?;
+        let tail = behind_first(self.bytes.as_slice(), self.from);
+        match layout.scale {
+            Scale::Counted(rate) => {
+                if !leads(tail, block) {
+                    return None;
+                }
+                let row = row_if(moment.next(number, rate), levels)?;
+                Some((tail.len() + 1, row))
+            }
+            Scale::Timed(unit) => {
+                let time = plain_in(block)?;
+                if !leads(tail, &block[time.len..]) {
+                    return None;
+                }
+                let instant = time.instant(unit)?;
+                let row = row_if(moment.at(number, Some(instant)), levels)?;
+                Some((time.len + tail.len() + 1, row))
+            }
+        }
+    }
+}

@@ -1,0 +1,84 @@
+-- Linking words, for proofs: which edges were taken for the bytes that a device hears, and what is written of them. No reader needs to
+-- believe them.
+use Rattle.std.specs.Prelude.{◌≡◌, ℕ, ◌<◌, List, ◌++◌, length, Option, Some, None, Result, Ok, Err, IfSome}
+use Rattle.std.specs.Io.KnownBytes.{Appends, IsAtEnd}
+use Rattle.pr_wire.specs.declared.Edge.{Edge}
+use Rattle.pr_decode.specs.declared.reading.Reading.{Reading}
+use Rattle.pr_decode.specs.Taking.{HasReadings, last_time}
+use Rattle.pr_capture.specs.declared.format.TraceInput.{TraceInput}
+use Rattle.pr_input.specs.PartlyWritten.{AppendsFront}
+use Rattle.pr_cli.specs.Check.{trace_limit}
+use Rattle.pr_cli.specs.EdgesTaken.{EndsReading}
+use Rattle.pr_cli.specs.Report.{IsOwnFault, SaysWhole}
+use Rattle.pr_cli.specs.declared.fault.CliFault.{CliFault}
+use Rattle.pr_cli.specs.declared.fault.CliFault.TheVariants.{TooLarge, NoMemory, ReadFailed, WriteFailed}
+use Rattle.pr_cli.specs.declared.input_reader.InputReader.{InputReader}
+use Rattle.pr_recording.specs.declared.byte_log.Heard.{Heard}
+use Rattle.pr_recording.specs.declared.device_capture.DeviceCapture.{DeviceCapture}
+use Rattle.pr_recording.specs.declared.device_capture.Overheard.{Overheard}
+use Rattle.pr_recording.specs.Decoded.{back_in, in_front, stop_at}
+use Rattle.pr_recording.specs.Logged.{AreHeard, HasHeard}
+use Rattle.pr_recording.specs.Narrated.{time_of}
+use Rattle.pr_recording.specs.Pages.{readings_up_to}
+use Rattle.pr_recording.specs.PrintedPages.{heard_in}
+
+-- edges in time order were taken, and their readings
+pub record HasOverheard (device : ℕ) (edges : List Edge) (c : DeviceCapture) : Type 0 where
+  pub given : List Reading
+  pub read : HasReadings edges given c.decoder
+  pub last : last_time c.decoder ≡ time_of edges
+  pub heard : HasHeard device given c.log
+  pub taken : c.taken ≡ length edges
+
+-- edges were taken, up to where time goes back
+pub record HasCaptured (device : ℕ) (edges : List Edge) (c : DeviceCapture) : Type 0 where
+  pub back : c.back ≡ back_in edges
+  pub overheard : HasOverheard device (in_front (back_in edges) edges) c
+
+-- with more edges
+abbrev pub CapturesMore : List Edge → (old new : DeviceCapture) → Type 0
+CapturesMore more old new =
+    (device : ℕ) (edges : List Edge) → HasCaptured device edges old → HasCaptured device (edges ++ more) new
+
+-- how many edges were taken
+abbrev pub edges_captured : DeviceCapture → ℕ
+edges_captured c = c.taken
+
+-- the end of edges whose input has this fault, if it has one
+pub record EndsCapture (device : ℕ) (edges : List Edge) (own : Option CliFault) (o : Overheard) : Type 0 where
+  pub stop : o.stop ≡ stop_at (back_in edges) own
+  pub heard : AreHeard (heard_in device (readings_up_to o.stop edges)) o.heard
+
+-- the end of an input of which the edges before the last block were taken
+abbrev pub EndsOverheard : InputReader → DeviceCapture → Overheard → Type 0
+EndsOverheard r c o =
+    (device : ℕ) → EndsReading r (λ edges. HasCaptured device edges c) (λ edges own. EndsCapture device edges own o)
+
+-- Inputs of the program.
+
+-- what was heard of an input, or up to its fault, or why nothing was
+pub record HearsWhole (input : TraceInput) (device : ℕ) (text : List ℕ) (o : Overheard) : Type 0 where
+  pub edges : List Edge
+  pub own : Option CliFault
+  pub is_own : IfSome own IsOwnFault
+  pub says : SaysWhole trace_limit input edges own text
+  pub ends : EndsCapture device edges own o
+
+abbrev pub GivesOverheard : TraceInput → (device : ℕ) → Result Overheard CliFault → List ℕ → Type 0
+GivesOverheard input device (Ok o) text = HearsWhole input device text o
+GivesOverheard input device (Err TooLarge) text = trace_limit < length text
+GivesOverheard input device (Err NoMemory) text = Unit {0}
+GivesOverheard input device (Err ReadFailed) text = Unit {0}
+GivesOverheard input device (Err _) text = ⊥
+
+-- so far as its end was read
+abbrev pub HasReadOverheard : Option (List ℕ) → Result Overheard CliFault → Type 0
+HasReadOverheard left (Ok o) = o.stop ≡ None → IsAtEnd left
+HasReadOverheard left (Err fault) = Unit {0}
+
+-- what is written of it
+abbrev pub WritesOverheard : Overheard → Option (List ℕ) → Option (List ℕ) → Result Heard CliFault → Type 0
+WritesOverheard o old new (Ok heard) =
+    (o.stop ≡ None) × (heard ≡ o.heard.heard) × Appends old new o.heard.bytes.items
+WritesOverheard o old new (Err WriteFailed) = AppendsFront old new o.heard.bytes.items
+WritesOverheard o old new (Err fault) = (o.stop ≡ Some fault) × Appends old new o.heard.bytes.items

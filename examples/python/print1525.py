@@ -1,0 +1,181 @@
+#!/usr/bin/env python3
+"""libprint1525 for Python, by ctypes: what a Commodore 64 prints on VIC-1525 printers.
+
+    import print1525
+    print1525.pages('OPEN 4,4\\nPRINT#4,"HELLO"\\n', page="svg").text
+
+`pages`, `bus`, `listing`, `raw`, `print_inputs` and `check` take text or bytes, and settings by their names in print1525.h.
+Each gives a Result: the text as bytes, and the BASIC error that stopped the run, if one did. Where the call refuses, it
+raises print1525.Refused with the program's words; MemoryError where there is no memory. `decode` reads a recording.
+
+The library is found by its name, or by PRINT1525_LIBRARY in the environment. As a program:
+
+    print1525.py pages|bus|listing|raw|check [SETTING=VALUE..] < INPUT          as print1525.py pages page=svg < SCRIPT
+"""
+
+import ctypes
+import os
+import sys
+from ctypes import POINTER, Structure, byref, c_char_p, c_int, c_int32, c_size_t, c_uint8, c_uint16, c_uint64, c_void_p
+from typing import NamedTuple, Optional
+
+DONE, STOPPED, REFUSED, FAILED = range(4)
+NO_MEMORY, TOO_SMALL = 90, 91
+SELECT_UPPER, SELECT_LOWER = 256, 257
+# The settings whose values have names, in the order of their numbers.
+NAMES = {
+    "present": ("none", "4", "5", "both"),
+    "mode": ("each", "kept"),
+    "from": ("text", "prg", "petcat"),
+    "page": ("list", "text", "svg", "png", "pdf"),
+    "trace": ("text", "vcd"),
+    "set": ("upper", "lower"),
+}
+KINDS = (None, "acknowledged", "unacknowledged", "last", "incomplete-atn", "incomplete-silence", "incomplete-end")
+
+
+class Details(Structure):
+    _fields_ = [("status", c_int32), ("fault", c_int32), ("place", c_size_t), ("column", c_size_t), ("length", c_size_t)]
+
+
+class Delays(Structure):
+    _fields_ = [("numbers", POINTER(c_uint16)), ("length", c_size_t)]
+
+
+class Settings(Structure):
+    _fields_ = [("size", c_size_t)]
+    _fields_ += [(name, c_uint8) for name in NAMES]
+    _fields_ += [("reserved", c_uint8 * 2)]
+    _fields_ += [(f"{party}_delays", Delays) for party in ("computer", "printer4", "printer5")]
+    _fields_ += [("characters", c_char_p), ("characters_length", c_size_t)]
+
+
+class Edge(Structure):
+    _fields_ = [("time", c_uint64), ("atn", c_uint8), ("clock", c_uint8), ("data", c_uint8)]
+
+
+class Byte(Structure):
+    _fields_ = [(name, c_uint64) for name in ("look", "ready", "answered", "answer_ended", "pull", "shortest_low")]
+    _fields_ += [(name, c_uint64) for name in ("longest_low", "shortest_high", "longest_high", "last_pull")]
+    _fields_ += [(name, c_uint8) for name in ("command", "eoi", "bits", "byte")]
+
+
+class Reading(Structure):
+    _fields_ = [("byte", Byte), ("end", c_uint64), ("kind", c_uint8)]
+
+
+class Decoder(Structure):
+    _fields_ = [(name, Edge) for name in ("first", "last", "turn1", "turn2", "turn3", "turn4")] + [("byte", Byte)]
+    _fields_ += [(name, c_uint8) for name in ("begun", "called", "turns", "sent")]
+
+
+class Result(NamedTuple):
+    """A text, and the message of the BASIC error that stopped the run."""
+
+    text: bytes
+    stop: Optional[str]
+
+
+class Refused(Exception):
+    """Why there is no text, in the program's words."""
+
+
+_LIBRARY = ctypes.CDLL(os.environ.get("PRINT1525_LIBRARY", "libprint1525.so.1"))
+_LIBRARY.print1525_version.restype = c_char_p
+_LIBRARY.print1525_message.restype = c_size_t
+_LIBRARY.print1525_message.argtypes = [POINTER(Details), c_char_p, c_size_t]
+for _name in ("pages", "bus", "listing", "raw", "print", "check"):
+    getattr(_LIBRARY, f"print1525_{_name}").argtypes = [c_void_p, c_size_t, POINTER(Settings), c_void_p, c_size_t, POINTER(Details)]
+    getattr(_LIBRARY, f"print1525_{_name}").restype = c_int
+
+
+def version():
+    """The version of the library."""
+    return _LIBRARY.print1525_version().decode()
+
+
+def _message(details):
+    text = ctypes.create_string_buffer(128)
+    _LIBRARY.print1525_message(byref(details), text, len(text))
+    return text.value.decode()
+
+
+def _settings(words):
+    """The structure of some settings, by their names (`from_` for `from`), values by name or number, delays as lists."""
+    made = Settings(size=ctypes.sizeof(Settings), present=NAMES["present"].index("both"))
+    for word, value in words.items():
+        name = word.rstrip("_")
+        if name in NAMES:
+            setattr(made, name, NAMES[name].index(value) if isinstance(value, str) else value)
+        elif name == "characters":
+            made.characters, made.characters_length = value, len(value)
+        elif name in ("computer_delays", "printer4_delays", "printer5_delays"):
+            setattr(made, name, Delays((c_uint16 * len(value))(*value), len(value)))
+        else:
+            raise TypeError(f"no setting {word}")
+    return made
+
+
+def _text(call, given, length, words):
+    settings, details, text = _settings(words), Details(), ctypes.create_string_buffer(4096)
+    make = getattr(_LIBRARY, f"print1525_{call}")
+    status = make(given, length, byref(settings), text, len(text), byref(details))
+    while details.fault == TOO_SMALL:
+        text = ctypes.create_string_buffer(details.length)
+        status = make(given, length, byref(settings), text, len(text), byref(details))
+    if details.fault == NO_MEMORY:
+        raise MemoryError
+    if status > STOPPED:
+        raise Refused(_message(details))
+    return Result(text.raw[: details.length], _message(details) if status == STOPPED else None)
+
+
+def _of_bytes(call):
+    def made(given, **settings):
+        given = given.encode() if isinstance(given, str) else bytes(given)
+        return _text(call, given, len(given), settings)
+
+    made.__name__, made.__doc__ = call, f"print1525_{call} of print1525.h."
+    return made
+
+
+pages, bus, listing, raw, check = (_of_bytes(it) for it in ("pages", "bus", "listing", "raw", "check"))
+
+
+def print_inputs(inputs, **settings):
+    """print1525_print: the page of a printer's inputs, bytes and SELECT_UPPER or SELECT_LOWER."""
+    return _text("print", (c_uint16 * len(inputs))(*inputs), len(inputs), settings)
+
+
+def decode(edges):
+    """The readings of a recording: each edge is its microsecond and the levels of ATN, CLOCK and DATA."""
+    decoder, reading, details = Decoder(), Reading(), Details()
+    _LIBRARY.print1525_decoder_begin(byref(decoder))
+    for edge in edges:
+        if _LIBRARY.print1525_decoder_edge(byref(decoder), byref(Edge(*edge)), byref(reading), byref(details)) != DONE:
+            raise Refused(_message(details))
+        if details.length:
+            yield KINDS[reading.kind], Reading.from_buffer_copy(reading)
+    _LIBRARY.print1525_decoder_end(byref(decoder), byref(reading), byref(details))
+    if details.length:
+        yield KINDS[reading.kind], reading
+
+
+def main(words):
+    """The calls as commands."""
+    calls = {"pages": pages, "bus": bus, "listing": listing, "raw": raw, "check": check}
+    if not words or words[0] not in calls or not all("=" in word for word in words[1:]):
+        sys.exit(__doc__)
+    try:
+        result = calls[words[0]](sys.stdin.buffer.read(), **dict(word.split("=", 1) for word in words[1:]))
+    except Refused as why:
+        print(why, file=sys.stderr)
+        return REFUSED
+    sys.stdout.buffer.write(result.text)
+    if result.stop:
+        print(result.stop, file=sys.stderr)
+    return STOPPED if result.stop else DONE
+
+
+if __name__ == "__main__":
+    sys.exit(main(sys.argv[1:]))

@@ -1,0 +1,352 @@
+//! libprint1525 for Rust: what a Commodore 64 prints on VIC-1525 printers. A safe wrapper over `libprint1525.a`, without
+//! dependencies; print1525.h is the manual. Take this file into a program as `mod print1525;`, and link with
+//! `rustc -L FOLDER -l static=print1525`, or with a build script that prints `cargo:rustc-link-lib=static=print1525`.
+#![allow(dead_code)]
+
+use std::ffi::{CStr, c_char, c_int, c_void};
+use std::fmt;
+use std::ptr::null_mut;
+
+/// Where there is no text: the status, fault, place, column and length of `print1525_details`.
+#[repr(C)]
+#[derive(Clone, Copy, Debug, Default, PartialEq, Eq)]
+pub struct Details {
+    pub status: i32,
+    pub fault: i32,
+    pub place: usize,
+    pub column: usize,
+    pub length: usize,
+}
+
+#[repr(C)]
+struct RawDelays {
+    numbers: *const u16,
+    length: usize,
+}
+
+#[repr(C)]
+struct RawSettings {
+    size: usize,
+    present: u8,
+    mode: u8,
+    from: u8,
+    page: u8,
+    trace: u8,
+    set: u8,
+    reserved: [u8; 2],
+    delays: [RawDelays; 3],
+    characters: *const c_void,
+    characters_length: usize,
+}
+
+/// An edge of the bus: from this microsecond on the lines have these levels, 0 for pulled.
+#[repr(C)]
+#[derive(Clone, Copy, Debug, Default, PartialEq, Eq)]
+pub struct Edge {
+    pub time: u64,
+    pub atn: u8,
+    pub clock: u8,
+    pub data: u8,
+}
+
+/// A byte on the wires as far as it came, with its times in microseconds, as `print1525_byte`.
+#[repr(C)]
+#[derive(Clone, Copy, Debug, Default, PartialEq, Eq)]
+pub struct Byte {
+    pub look: u64,
+    pub ready: u64,
+    pub answered: u64,
+    pub answer_ended: u64,
+    pub pull: u64,
+    pub shortest_low: u64,
+    pub longest_low: u64,
+    pub shortest_high: u64,
+    pub longest_high: u64,
+    pub last_pull: u64,
+    pub command: u8,
+    pub eoi: u8,
+    pub bits: u8,
+    pub byte: u8,
+}
+
+/// What a recording says at one place: how the byte ended is `kind`, a number of `print1525_kind`.
+#[repr(C)]
+#[derive(Clone, Copy, Debug, Default, PartialEq, Eq)]
+pub struct Reading {
+    pub byte: Byte,
+    pub end: u64,
+    pub kind: u8,
+}
+
+/// A decoder of a recording of any bus. The default is one just begun.
+#[repr(C)]
+#[derive(Clone, Copy, Debug, Default, PartialEq, Eq)]
+pub struct Decoder {
+    edges: [Edge; 6],
+    byte: Byte,
+    begun: u8,
+    called: u8,
+    turns: u8,
+    sent: u8,
+}
+
+const _: () = assert!(size_of::<Details>() == 32 && size_of::<RawSettings>() == 80);
+const _: () = assert!(size_of::<Edge>() == 16 && size_of::<Reading>() == 104 && size_of::<Decoder>() == 192);
+
+type Call<Item> =
+    unsafe extern "C" fn(*const Item, usize, *const RawSettings, *mut c_void, usize, *mut Details) -> c_int;
+
+unsafe extern "C" {
+    fn print1525_pages(
+        script: *const u8,
+        length: usize,
+        s: *const RawSettings,
+        to: *mut c_void,
+        room: usize,
+        d: *mut Details,
+    ) -> c_int;
+    fn print1525_bus(
+        script: *const u8,
+        length: usize,
+        s: *const RawSettings,
+        to: *mut c_void,
+        room: usize,
+        d: *mut Details,
+    ) -> c_int;
+    fn print1525_listing(
+        bytes: *const u8,
+        length: usize,
+        s: *const RawSettings,
+        to: *mut c_void,
+        room: usize,
+        d: *mut Details,
+    ) -> c_int;
+    fn print1525_raw(
+        bytes: *const u8,
+        length: usize,
+        s: *const RawSettings,
+        to: *mut c_void,
+        room: usize,
+        d: *mut Details,
+    ) -> c_int;
+    fn print1525_print(
+        inputs: *const u16,
+        length: usize,
+        s: *const RawSettings,
+        to: *mut c_void,
+        room: usize,
+        d: *mut Details,
+    ) -> c_int;
+    fn print1525_check(
+        trace: *const u8,
+        length: usize,
+        s: *const RawSettings,
+        to: *mut c_void,
+        room: usize,
+        d: *mut Details,
+    ) -> c_int;
+    fn print1525_decoder_edge(
+        decoder: *mut Decoder,
+        edge: *const Edge,
+        reading: *mut Reading,
+        d: *mut Details,
+    ) -> c_int;
+    fn print1525_decoder_end(decoder: *const Decoder, reading: *mut Reading, d: *mut Details) -> c_int;
+    fn print1525_message(details: *const Details, text: *mut c_char, capacity: usize) -> usize;
+    fn print1525_version() -> *const c_char;
+}
+
+#[derive(Clone, Copy, Debug, Default, PartialEq, Eq)]
+pub enum Present {
+    None = 0,
+    Four = 1,
+    Five = 2,
+    #[default]
+    Both = 3,
+}
+
+#[derive(Clone, Copy, Debug, Default, PartialEq, Eq)]
+pub enum Mode {
+    #[default]
+    Each = 0,
+    Kept = 1,
+}
+
+#[derive(Clone, Copy, Debug, Default, PartialEq, Eq)]
+pub enum From {
+    #[default]
+    Text = 0,
+    Prg = 1,
+    Petcat = 2,
+}
+
+#[derive(Clone, Copy, Debug, Default, PartialEq, Eq)]
+pub enum Page {
+    #[default]
+    List = 0,
+    Text = 1,
+    Svg = 2,
+    Png = 3,
+    Pdf = 4,
+}
+
+#[derive(Clone, Copy, Debug, Default, PartialEq, Eq)]
+pub enum Trace {
+    #[default]
+    Text = 0,
+    Vcd = 1,
+}
+
+#[derive(Clone, Copy, Debug, Default, PartialEq, Eq)]
+pub enum Set {
+    #[default]
+    Upper = 0,
+    Lower = 1,
+}
+
+/// What the options of the program say; `default()` is the program's own.
+#[derive(Clone, Copy, Debug, Default)]
+pub struct Settings<'a> {
+    pub present: Present,
+    pub mode: Mode,
+    pub from: From,
+    pub page: Page,
+    pub trace: Trace,
+    pub set: Set,
+    /// The delay numbers of the computer, of printer 4 and of printer 5.
+    pub delays: [&'a [u16]; 3],
+    /// A file of characters; an empty one stands for this project's own.
+    pub characters: &'a [u8],
+}
+
+impl Settings<'_> {
+    fn raw(&self) -> RawSettings {
+        RawSettings {
+            size: size_of::<RawSettings>(),
+            present: self.present as u8,
+            mode: self.mode as u8,
+            from: self.from as u8,
+            page: self.page as u8,
+            trace: self.trace as u8,
+            set: self.set as u8,
+            reserved: [0; 2],
+            delays: self.delays.map(|it| RawDelays { numbers: it.as_ptr(), length: it.len() }),
+            characters: self.characters.as_ptr().cast(),
+            characters_length: self.characters.len(),
+        }
+    }
+}
+
+/// A text, and the BASIC error that stopped the run, if one did.
+#[derive(Clone, Debug, PartialEq, Eq)]
+pub struct Printed {
+    pub text: Vec<u8>,
+    pub stop: Option<Error>,
+}
+
+/// Why there is no text, or why a run stopped. It displays the program's words, as `line 3: unknown word`.
+#[derive(Clone, Copy, Debug, PartialEq, Eq)]
+pub struct Error(pub Details);
+
+impl fmt::Display for Error {
+    fn fmt(&self, f: &mut fmt::Formatter<'_>) -> fmt::Result {
+        let mut text = [0u8; 128];
+        // SAFETY: the buffer has as many bytes as the call is told.
+        let length = unsafe { print1525_message(&self.0, text.as_mut_ptr().cast(), text.len()) };
+        f.write_str(std::str::from_utf8(&text[..length.min(text.len() - 1)]).unwrap_or("no message"))
+    }
+}
+
+impl std::error::Error for Error {}
+
+/// The version of the library.
+pub fn version() -> &'static str {
+    // SAFETY: it is a text that stays.
+    unsafe { CStr::from_ptr(print1525_version()) }.to_str().unwrap_or("")
+}
+
+fn text_of<Item>(call: Call<Item>, given: &[Item], settings: &Settings) -> Result<Printed, Error> {
+    const TOO_SMALL: i32 = 91;
+    let raw = settings.raw();
+    let make = |to: *mut c_void, room: usize| {
+        let mut details = Details::default();
+        // SAFETY: slices and settings live as long as the call, which keeps no pointer and writes no more than there is room for.
+        unsafe { call(given.as_ptr(), given.len(), &raw, to, room, &mut details) };
+        details
+    };
+    let mut details = make(null_mut(), 0);
+    let mut text = vec![0; details.length];
+    if details.fault == TOO_SMALL {
+        details = make(text.as_mut_ptr().cast(), text.len());
+    }
+    match details.status {
+        0 => Ok(Printed { text, stop: None }),
+        1 => Ok(Printed { text, stop: Some(Error(details)) }),
+        _ => Err(Error(details)),
+    }
+}
+
+/// The pages of a script.
+pub fn pages(script: &[u8], settings: &Settings) -> Result<Printed, Error> {
+    text_of(print1525_pages, script, settings)
+}
+
+/// The trace of a script's run.
+pub fn bus(script: &[u8], settings: &Settings) -> Result<Printed, Error> {
+    text_of(print1525_bus, script, settings)
+}
+
+/// The text of the script that a listing says.
+pub fn listing(bytes: &[u8], settings: &Settings) -> Result<Printed, Error> {
+    text_of(print1525_listing, bytes, settings)
+}
+
+/// The page of the bytes that a printer gets.
+pub fn raw(bytes: &[u8], settings: &Settings) -> Result<Printed, Error> {
+    text_of(print1525_raw, bytes, settings)
+}
+
+/// The frames that a trace text spells.
+pub fn check(trace: &[u8], settings: &Settings) -> Result<Printed, Error> {
+    text_of(print1525_check, trace, settings)
+}
+
+impl Decoder {
+    /// Takes the next edge, and gives the reading that it settles; refuses an edge that goes back.
+    pub fn edge(&mut self, edge: Edge) -> Result<Option<Reading>, Error> {
+        let (mut reading, mut details) = (Reading::default(), Details::default());
+        // SAFETY: the structures live as long as the call.
+        match unsafe { print1525_decoder_edge(self, &edge, &mut reading, &mut details) } {
+            0 => Ok((details.length > 0).then_some(reading)),
+            _ => Err(Error(details)),
+        }
+    }
+
+    /// The reading that the end of the recording cuts, if it cuts one.
+    pub fn end(&self) -> Option<Reading> {
+        let (mut reading, mut details) = (Reading::default(), Details::default());
+        // SAFETY: as above.
+        unsafe { print1525_decoder_end(self, &mut reading, &mut details) };
+        (details.length > 0).then_some(reading)
+    }
+}
+
+/// A printer: it keeps what it receives, and gives its page when that is wanted.
+#[derive(Clone, Debug, Default)]
+pub struct Printer {
+    inputs: Vec<u16>,
+}
+
+impl Printer {
+    pub fn select(&mut self, set: Set) {
+        self.inputs.push(256 + set as u16);
+    }
+
+    pub fn print(&mut self, bytes: &[u8]) {
+        self.inputs.extend(bytes.iter().map(|&byte| u16::from(byte)));
+    }
+
+    pub fn page(&self, settings: &Settings) -> Result<Vec<u8>, Error> {
+        text_of(print1525_print, &self.inputs, settings).map(|it| it.text)
+    }
+}

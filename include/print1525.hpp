@@ -1,0 +1,150 @@
+// libprint1525 for C++17: texts in, texts out. print1525.h is the manual; this file says only what differs.
+//
+//     std::string picture = print1525::pages("OPEN 4,4:PRINT#4,\"HELLO\"", PRINT1525_PAGE_SVG).text;
+//
+// A call gives a `result`: the text, and the details with a BASIC error that stopped the run. Where the C call refuses,
+// it throws `print1525::error`, whose what() is the program's message; std::bad_alloc where there is no memory.
+#ifndef PRINT1525_HPP
+#define PRINT1525_HPP
+
+#include "print1525.h"
+
+#include <cstdint>
+#include <new>
+#include <optional>
+#include <stdexcept>
+#include <string>
+#include <string_view>
+#include <vector>
+
+namespace print1525 {
+
+// The words of details, as `line 3: unknown word`.
+inline std::string message(const print1525_details &details) {
+    std::string words(print1525_message(&details, nullptr, 0) + 1, '\0');
+    print1525_message(&details, words.data(), words.size());
+    words.pop_back();
+    return words;
+}
+
+// Why a call gave no text.
+class error : public std::runtime_error {
+public:
+    explicit error(const print1525_details &why) : std::runtime_error(message(why)), details(why) {}
+    print1525_details details;
+};
+
+// Settings, which begin with the program's defaults. The characters and the delays stay their owner's.
+struct settings : print1525_settings {
+    settings() : print1525_settings PRINT1525_SETTINGS_INIT {}
+    settings(print1525_page format) : settings() { page = static_cast<std::uint8_t>(format); }
+    settings &draws(std::string_view file) {
+        characters = file.data();
+        characters_length = file.size();
+        return *this;
+    }
+};
+
+// A text, and what came of the call.
+struct result {
+    std::string text;
+    print1525_details details;
+    // The message of the BASIC error that stopped the run, if one did.
+    std::optional<std::string> stop() const {
+        return details.status == PRINT1525_STOPPED ? std::optional(message(details)) : std::nullopt;
+    }
+};
+
+// Makes a call with a buffer that grows until the text fits.
+template <typename Item>
+using call_of = int (*)(const Item *, std::size_t, const print1525_settings *, void *, std::size_t,
+                        print1525_details *);
+template <typename Item>
+result text_of(call_of<Item> call, const Item *items, std::size_t length, const settings &with) {
+    result made{std::string(4096, '\0'), {}};
+    call(items, length, &with, made.text.data(), made.text.size(), &made.details);
+    while (made.details.fault == PRINT1525_FAULT_TOO_SMALL) {
+        made.text.resize(made.details.length);
+        call(items, length, &with, made.text.data(), made.text.size(), &made.details);
+    }
+    if (made.details.fault == PRINT1525_FAULT_NO_MEMORY) throw std::bad_alloc();
+    if (made.details.status > PRINT1525_STOPPED) throw error(made.details);
+    made.text.resize(made.details.length);
+    return made;
+}
+
+inline result pages(std::string_view script, const settings &with = {}) {
+    return text_of<void>(print1525_pages, script.data(), script.size(), with);
+}
+inline result bus(std::string_view script, const settings &with = {}) {
+    return text_of<void>(print1525_bus, script.data(), script.size(), with);
+}
+inline result listing(std::string_view bytes, const settings &with = {}) {
+    return text_of<void>(print1525_listing, bytes.data(), bytes.size(), with);
+}
+inline result raw(std::string_view bytes, const settings &with = {}) {
+    return text_of<void>(print1525_raw, bytes.data(), bytes.size(), with);
+}
+inline result check(std::string_view trace, const settings &with = {}) {
+    return text_of<void>(print1525_check, trace.data(), trace.size(), with);
+}
+
+// A printer: it keeps what it receives, and gives its page when that is wanted.
+class printer {
+public:
+    void select(print1525_set set) {
+        inputs.push_back(set == PRINT1525_SET_LOWER ? PRINT1525_SELECT_LOWER : PRINT1525_SELECT_UPPER);
+    }
+    void print(std::string_view bytes) {
+        for (char byte : bytes) inputs.push_back(static_cast<std::uint8_t>(byte));
+    }
+    std::string page(const settings &with = {}) const {
+        return text_of(print1525_print, inputs.data(), inputs.size(), with).text;
+    }
+    void clear() { inputs.clear(); }
+
+private:
+    std::vector<std::uint16_t> inputs;
+};
+
+// A decoder of a recording of any bus: the reading that an edge settles, or that the end cuts, if there is one.
+class decoder {
+public:
+    std::optional<print1525_reading> edge(const print1525_edge &next) {
+        print1525_details details{};
+        print1525_reading reading{};
+        if (print1525_decoder_edge(&state, &next, &reading, &details) != PRINT1525_DONE) throw error(details);
+        return details.length ? std::optional(reading) : std::nullopt;
+    }
+    std::optional<print1525_reading> end() const {
+        print1525_details details{};
+        print1525_reading reading{};
+        print1525_decoder_end(&state, &reading, &details);
+        return details.length ? std::optional(reading) : std::nullopt;
+    }
+
+private:
+    print1525_decoder state{}; // a decoder just begun
+};
+
+// A receiver of a device on any bus: what comes to it with an edge, if anything does.
+class receiver {
+public:
+    explicit receiver(std::uint8_t device) {
+        if (print1525_receiver_begin(&state, device) != PRINT1525_DONE)
+            throw error({PRINT1525_REFUSED, PRINT1525_FAULT_NO_SUCH_DEVICE, 0, 0, 0});
+    }
+    std::optional<print1525_received> edge(const print1525_edge &next) {
+        print1525_details details{};
+        print1525_received received{};
+        if (print1525_receiver_edge(&state, &next, &received, &details) != PRINT1525_DONE) throw error(details);
+        return details.length ? std::optional(received) : std::nullopt;
+    }
+
+private:
+    print1525_receiver state{};
+};
+
+} // namespace print1525
+
+#endif

@@ -1,0 +1,289 @@
+/* What a caller of include/print1525.h carries, as the header says: how much stack the calls take, and that they work on a thread with
+ * no more; in a child of fork; in a signal handler (the calls for edges and words) while the program is within a call; over a malloc
+ * that aligns no better than C demands and gives memory full of rubbish; and into buffers full of rubbish. Status 0, else a line for
+ * each thing that is WRONG and 1. With a word it tells the stack that each call takes. Linked with
+ * -Wl,--wrap=malloc,--wrap=realloc,--wrap=free. */
+#define _GNU_SOURCE
+#include "print1525.h"
+#include <pthread.h>
+#include <signal.h>
+#include <stdio.h>
+#include <stdlib.h>
+#include <string.h>
+#include <sys/mman.h>
+#include <sys/time.h>
+#include <sys/wait.h>
+#include <unistd.h>
+
+#define ROOM (1 << 20)
+#define EDGES_STACK 4096
+#define MARK 0xC7
+
+void *__real_malloc(size_t size);
+void __real_free(void *old);
+void *__wrap_malloc(size_t size);
+void *__wrap_realloc(void *old, size_t size);
+void __wrap_free(void *old);
+
+/* What a block begins with, in front of the caller's bytes. */
+typedef struct {
+    void *whole;
+    size_t size;
+} block;
+
+/* Memory at 16 bytes behind a multiple of 32, full of rubbish. */
+void *__wrap_malloc(size_t size) {
+    char *const whole = (char *)__real_malloc(size + 80);
+    char *place;
+    block head;
+    if (whole == NULL) return NULL;
+    place = whole + 64 - (uintptr_t)whole % 32 - 16;
+    head.whole = whole;
+    head.size = size;
+    memcpy(place - sizeof head, &head, sizeof head);
+    memset(place, 0xA5, size);
+    return place;
+}
+
+static block head_of(void *place) {
+    block head;
+    memcpy(&head, (char *)place - sizeof head, sizeof head);
+    return head;
+}
+
+void __wrap_free(void *old) {
+    block head;
+    if (old == NULL) return;
+    head = head_of(old);
+    memset(old, 0x5A, head.size);
+    __real_free(head.whole);
+}
+
+void *__wrap_realloc(void *old, size_t size) {
+    void *const made = __wrap_malloc(size);
+    if (made == NULL || old == NULL) return made;
+    memcpy(made, old, head_of(old).size < size ? head_of(old).size : size);
+    __wrap_free(old);
+    return made;
+}
+
+static int wrong;
+
+static void is_wrong(const char *what, unsigned long number) {
+    wrong = 1;
+    fprintf(stderr, "WRONG: %s, %lu\n", what, number);
+}
+
+static const char script[] =
+    "OPEN 4,4\nOPEN 5,5,7\nCMD 4,\"ON BOTH\";\nPRINT#5,CHR$(14)\"WIDE\"\nPRINT#4,CHR$(8)\"ABC\"CHR$(15)CHR$(26)CHR$(9)\"X\"\nPRINT \"MORE\"\nPRINT#9\n";
+static const char petcat[] = "10 open4,4\n20 print#4,\"{rvon}hello{2 down}\"\n30 close4\n";
+static char trace[65536];
+static size_t trace_length;
+
+static const print1525_edge edges[] = {{0, 1, 1, 1}, {100, 0, 1, 1}, {110, 0, 0, 1}, {111, 0, 0, 0}, {300, 0, 1, 0}, {400, 0, 1, 1}, {460, 0, 0, 1}};
+#define COUNT (sizeof edges / sizeof *edges)
+
+/* Each call, by its number; what it gives is in the buffer and the details. */
+#define CALLS 18
+static const char *const names[CALLS] = {"pages list", "pages text", "pages svg", "pages png", "pages pdf", "pages of petcat",
+                                         "bus text", "bus vcd", "bus of petcat", "listing", "raw text", "raw pdf", "print svg", "check",
+                                         "decoder", "strict", "strict list", "words"};
+static const int is_for_edges[CALLS] = {0, 0, 0, 0, 0, 0, 0, 0, 0, 0, 0, 0, 0, 0, 1, 1, 1, 1};
+
+static void make(int call, uint8_t *buffer, size_t room, print1525_details *details) {
+    static const uint16_t inputs[] = {65, 66, PRINT1525_SELECT_LOWER, 67, 13, 8, 255, 13};
+    print1525_settings settings = PRINT1525_SETTINGS_INIT;
+    print1525_decoder decoder;
+    print1525_reading reading;
+    print1525_strict strict;
+    uint16_t received[8], input = 0;
+    size_t index;
+    memset(details, 0, sizeof *details);
+    settings.from = call == 5 || call == 8 || call == 9 ? PRINT1525_FROM_PETCAT : PRINT1525_FROM_TEXT;
+    if (call < 5) settings.page = (uint8_t)call;
+    settings.trace = call == 7;
+    if (call == 5 || call == 8) {
+        (call == 5 ? print1525_pages : print1525_bus)(petcat, sizeof petcat - 1, &settings, buffer, room, details);
+    } else if (call < 5) {
+        print1525_pages(script, sizeof script - 1, &settings, buffer, room, details);
+    } else if (call < 8) {
+        print1525_bus(script, sizeof script - 1, &settings, buffer, room, details);
+    } else if (call == 9) {
+        print1525_listing(petcat, sizeof petcat - 1, &settings, buffer, room, details);
+    } else if (call < 12) {
+        settings.page = call == 10 ? PRINT1525_PAGE_TEXT : PRINT1525_PAGE_PDF;
+        print1525_raw(script, sizeof script - 1, &settings, buffer, room, details);
+    } else if (call == 12) {
+        settings.page = PRINT1525_PAGE_SVG;
+        print1525_print(inputs, sizeof inputs / sizeof *inputs, &settings, buffer, room, details);
+    } else if (call == 13) {
+        print1525_check(trace, trace_length, &settings, buffer, room, details);
+    } else if (call == 14) {
+        print1525_decoder_begin(&decoder);
+        for (index = 0; index < COUNT; index++) print1525_decoder_edge(&decoder, &edges[index], &reading, details);
+        print1525_decoder_end(&decoder, &reading, details);
+        buffer[0] = reading.kind;
+    } else if (call == 15) {
+        print1525_strict_begin(&strict, 4);
+        for (index = 0; index < COUNT; index++) print1525_strict_edge(&strict, &edges[index], &input, details);
+        print1525_strict_end(&strict, details);
+        buffer[0] = (uint8_t)input;
+    } else if (call == 16) {
+        print1525_strict_edges(4, edges, COUNT, received, 8, details);
+    } else {
+        details->status = PRINT1525_REFUSED;
+        details->fault = PRINT1525_FAULT_UNKNOWN_NAME;
+        details->place = details->column = 123;
+        details->length = print1525_message(details, (char *)buffer, room);
+    }
+}
+
+/* What each call gives in the main program, and buffers for others. */
+static uint8_t wanted[CALLS][ROOM], given[ROOM];
+static print1525_details wanted_details[CALLS];
+
+static void compare(int call, const print1525_details *details, const uint8_t *buffer, const char *where) {
+    if (memcmp(details, &wanted_details[call], sizeof *details) != 0 || memcmp(buffer, wanted[call], details->length) != 0) {
+        fprintf(stderr, "WRONG: %s %s: status %d, fault %d\n", names[call], where, details->status, details->fault);
+        wrong = 1;
+    }
+}
+
+static int call_now;
+static print1525_details thread_details;
+
+static void *run(void *unused) {
+    make(call_now, given, ROOM, &thread_details);
+    return unused;
+}
+
+/* Runs a call on a thread with a stack of its own, and gives how many bytes of it were written. */
+static size_t stack_of(int call, uint8_t *stack, size_t size) {
+    pthread_attr_t attributes;
+    pthread_t thread;
+    size_t untouched = 0;
+    memset(stack, MARK, size);
+    call_now = call;
+    pthread_attr_init(&attributes);
+    if (pthread_attr_setstack(&attributes, stack, size) != 0 || pthread_create(&thread, &attributes, run, NULL) != 0) {
+        is_wrong("no thread", size);
+        return 0;
+    }
+    pthread_join(thread, NULL);
+    pthread_attr_destroy(&attributes);
+    while (untouched < size && stack[untouched] == MARK) untouched++;
+    return size - untouched;
+}
+
+static void *nothing(void *unused) { return unused; }
+
+/* What a thread takes of its stack that makes no call. */
+static size_t stack_of_nothing(uint8_t *stack, size_t size) {
+    pthread_attr_t attributes;
+    pthread_t thread;
+    size_t untouched = 0;
+    memset(stack, MARK, size);
+    pthread_attr_init(&attributes);
+    if (pthread_attr_setstack(&attributes, stack, size) != 0 || pthread_create(&thread, &attributes, nothing, NULL) != 0) return 0;
+    pthread_join(thread, NULL);
+    pthread_attr_destroy(&attributes);
+    while (untouched < size && stack[untouched] == MARK) untouched++;
+    return size - untouched;
+}
+
+static void try_stacks(int tells) {
+    const size_t size = 1 << 20, guard = (size_t)sysconf(_SC_PAGESIZE);
+    uint8_t *const stack = (uint8_t *)mmap(NULL, size + guard, PROT_READ | PROT_WRITE, MAP_PRIVATE | MAP_ANONYMOUS, -1, 0);
+    size_t none;
+    int call;
+    if (stack == (uint8_t *)MAP_FAILED || mprotect(stack, guard, PROT_NONE) != 0) exit(98);
+    none = stack_of_nothing(stack + guard, size);
+    for (call = 0; call < CALLS; call++) {
+        size_t used = stack_of(call, stack + guard, size);
+        used = used > none ? used - none : 0;
+        if (tells) printf("%s %lu\n", names[call], (unsigned long)used);
+        compare(call, &thread_details, given, "on a thread");
+        /* (What `make` takes itself is a part of it.) */
+        if (used > (is_for_edges[call] ? EDGES_STACK : PRINT1525_STACK)) is_wrong(names[call], used);
+    }
+    /* A thread with that stack and no more, above memory that faults. */
+    for (call = 0; call < CALLS; call++) {
+        const size_t small = (PRINT1525_STACK + none + 2 * guard - 1) / guard * guard;
+        stack_of(call, stack + guard, small);
+        compare(call, &thread_details, given, "on a small stack");
+    }
+}
+
+static void try_fork(void) {
+    int call, status;
+    for (call = 0; call < CALLS; call++) {
+        const pid_t child = fork();
+        if (child == 0) {
+            print1525_details details;
+            memset(given, 0x11, sizeof given);
+            make(call, given, ROOM, &details);
+            compare(call, &details, given, "in a child");
+            _exit(wrong);
+        }
+        if (child < 0 || waitpid(child, &status, 0) != child || status != 0) is_wrong("a child, call", (unsigned long)call);
+    }
+}
+
+static volatile sig_atomic_t signals;
+
+static void handle(int signal) {
+    static uint8_t buffer[256];
+    print1525_details details;
+    int call;
+    (void)signal;
+    for (call = 0; call < CALLS; call++) {
+        if (!is_for_edges[call]) continue;
+        make(call, buffer, sizeof buffer, &details);
+        if (memcmp(&details, &wanted_details[call], sizeof details) != 0) wrong = 1;
+    }
+    signals++;
+}
+
+static void try_signals(void) {
+    struct sigaction action;
+    struct itimerval every, never;
+    int call, round;
+    memset(&action, 0, sizeof action);
+    memset(&every, 0, sizeof every);
+    memset(&never, 0, sizeof never);
+    action.sa_handler = handle;
+    action.sa_flags = SA_RESTART;
+    every.it_interval.tv_usec = every.it_value.tv_usec = 500;
+    if (sigaction(SIGALRM, &action, NULL) != 0 || setitimer(ITIMER_REAL, &every, NULL) != 0) exit(98);
+    for (round = 0; round < 200 && (round < 3 || signals < 50); round++)
+        for (call = 0; call < CALLS; call++) {
+            print1525_details details;
+            make(call, given, ROOM, &details);
+            compare(call, &details, given, "among signals");
+        }
+    setitimer(ITIMER_REAL, &never, NULL);
+    if (signals == 0) is_wrong("no signal came", 0);
+}
+
+int main(int words, char **word) {
+    static uint8_t text[ROOM];
+    print1525_details details;
+    int call;
+    (void)word;
+    print1525_bus(petcat, 0, NULL, trace, sizeof trace, &details);
+    print1525_bus("OPEN 4,4\nPRINT#4,\"A\"\n", 21, NULL, trace, sizeof trace, &details);
+    if (details.status != PRINT1525_DONE) is_wrong("no trace", (unsigned long)details.fault);
+    trace_length = details.length;
+    for (call = 0; call < CALLS; call++) {
+        memset(wanted[call], 0xA5, ROOM);
+        make(call, wanted[call], ROOM, &wanted_details[call]);
+        if (!is_for_edges[call] && wanted_details[call].status > PRINT1525_STOPPED) is_wrong("no text, call", (unsigned long)call);
+        memset(text, 0x3C, ROOM);
+        make(call, text, ROOM, &details);
+        compare(call, &details, text, "in another buffer");
+    }
+    try_stacks(words > 1);
+    try_fork();
+    try_signals();
+    return wrong;
+}

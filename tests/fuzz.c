@@ -1,0 +1,325 @@
+/* Every call of include/print1525.h with made structures and buffers, many of them damaged: fuzz SEED ROUNDS
+ *
+ * Each input and buffer ends where memory ends. In each round a call, its settings, its input and its room are drawn; settings,
+ * decoders and receivers are mostly lawful, and sometimes bytes of nothing. What every call has to keep is tested: a status of 0 to 3
+ * with the details that belong to it, a buffer that stays as it was behind the text and with every other status, inputs that stay,
+ * and the same answer when it is asked again. Some allocations are refused. Status 0, else 1 and a line with the round. */
+#define _DEFAULT_SOURCE
+#include "print1525.h"
+#include <stdio.h>
+#include <stdlib.h>
+#include <string.h>
+#include <sys/mman.h>
+#include <unistd.h>
+
+#define ROOM (1 << 18)
+#define UNTOUCHED 0xA5
+
+void *__real_malloc(size_t size);
+void *__real_realloc(void *old, size_t size);
+void __real_free(void *old);
+void *__wrap_malloc(size_t size);
+void *__wrap_realloc(void *old, size_t size);
+void __wrap_free(void *old);
+
+static long live, taken, refused_one;
+
+void *__wrap_malloc(size_t size) {
+    void *block;
+    if (++taken == refused_one) return NULL;
+    block = __real_malloc(size);
+    live += block != NULL;
+    return block;
+}
+
+void *__wrap_realloc(void *old, size_t size) {
+    if (++taken == refused_one) return NULL;
+    live += old == NULL;
+    return __real_realloc(old, size);
+}
+
+void __wrap_free(void *old) {
+    live -= old != NULL;
+    __real_free(old);
+}
+
+static uint64_t state;
+static unsigned long round_now;
+static int wrong;
+
+static uint64_t drawn(void) {
+    state ^= state << 13;
+    state ^= state >> 7;
+    state ^= state << 17;
+    return state;
+}
+
+static size_t below(size_t limit) { return (size_t)(drawn() >> 20) % limit; }
+
+static void is_wrong(const char *call, const char *what) {
+    if (wrong++ < 9) fprintf(stderr, "WRONG: round %lu, %s: %s\n", round_now, call, what);
+}
+
+/* Memory of ROOM bytes that ends where memory ends. */
+static uint8_t *guard(void) {
+    const size_t page = (size_t)sysconf(_SC_PAGESIZE);
+    uint8_t *const start = (uint8_t *)mmap(NULL, ROOM + page, PROT_READ | PROT_WRITE, MAP_PRIVATE | MAP_ANONYMOUS, -1, 0);
+    if (start == (uint8_t *)MAP_FAILED || mprotect(start + ROOM, page, PROT_NONE) != 0) exit(98);
+    return start;
+}
+
+static const char *const pieces[] = {
+    "OPEN 4,4\n", "OPEN 5,5,7\n", "OPEN 1,4,7\n", "CMD 4\n", "CMD 4,\"X\";\n", "PRINT#4,\"HELLO\"\n", "PRINT#5,CHR$(14)\"WIDE\"\n", "PRINT \"A\"\n", "CLOSE 4\n",
+    "10 PRINT#4,CHR$(8)\"ABC\"CHR$(26)CHR$(9)\"X\"\n", "PRINT#9\n", "OPEN 4,4:OPEN 4,4\n", "REM\n", "\n", "10 open4,4\n", "20 print#4,\"{rvon}a{2 down}\"\n",
+    "printer 4\n", "0 111\n", "100 011\n", "1100 001\n", "1110 000\n", "1300 010\n", "1310 011\n", "lawful\n", "upper 65\n#####.\n", "\001\010\010\010\012\000\231\"A\"\000",
+};
+
+/* An input at the end of its memory: pieces of scripts, listings and traces, with some bytes changed. */
+static const uint8_t *made_input(uint8_t *memory, size_t *length) {
+    size_t count = 0, piece, index, changed;
+    uint8_t *front;
+    static uint8_t text[4096];
+    if (below(20) == 0) {
+        *length = 0;
+        return below(2) ? NULL : memory + ROOM;
+    }
+    for (piece = 1 + below(12); piece > 0; piece--) {
+        const char *const it = pieces[below(sizeof pieces / sizeof *pieces)];
+        const size_t size = it[0] == 1 ? 12 : strlen(it);
+        memcpy(text + count, it, size);
+        count += size;
+    }
+    if (below(3) == 0)
+        for (changed = 1 + below(8); changed > 0; changed--) text[below(count)] = (uint8_t)drawn();
+    if (below(8) == 0)
+        for (index = 0; index < count; index++) text[index] = (uint8_t)drawn();
+    if (below(5) == 0) count = below(count + 1);
+    front = memory + ROOM - count;
+    memcpy(front, text, count);
+    *length = count;
+    return front;
+}
+
+static const uint16_t *made_numbers(uint8_t *memory, size_t most, size_t *length) {
+    size_t index;
+    uint16_t *front;
+    *length = below(most);
+    if (*length == 0 && below(2)) return NULL;
+    front = (uint16_t *)(void *)(memory + ROOM - *length * sizeof *front);
+    for (index = 0; index < *length; index++) front[index] = (uint16_t)(below(20) ? below(258) : drawn());
+    return front;
+}
+
+static print1525_settings made_settings(uint8_t *memories[4]) {
+    print1525_settings made = PRINT1525_SETTINGS_INIT;
+    const size_t bad = below(12);
+    if (bad == 0) {
+        size_t index;
+        uint8_t *const bytes = (uint8_t *)(void *)&made.present;
+        for (index = 0; index < 6; index++) bytes[index] = (uint8_t)drawn();
+    } else {
+        made.present = (uint8_t)below(4);
+        made.mode = (uint8_t)below(2);
+        made.from = (uint8_t)(below(4) ? 0 : below(3));
+        made.page = (uint8_t)below(5);
+        made.trace = (uint8_t)below(2);
+        made.set = (uint8_t)below(2);
+    }
+    if (bad == 1) made.size = below(2) ? below(100) : (size_t)drawn();
+    if (bad == 2) made.reserved[below(2)] = (uint8_t)drawn();
+    made.computer_delays.numbers = made_numbers(memories[0], 50, &made.computer_delays.length);
+    made.printer4_delays.numbers = made_numbers(memories[1], 9, &made.printer4_delays.length);
+    made.printer5_delays.numbers = made_numbers(memories[2], 9, &made.printer5_delays.length);
+    if (below(6) == 0) made.characters = made_input(memories[3], &made.characters_length);
+    return made;
+}
+
+static int is_untouched(const uint8_t *bytes, size_t count) {
+    size_t index;
+    for (index = 0; index < count; index++)
+        if (bytes[index] != UNTOUCHED) return 0;
+    return 1;
+}
+
+/* The details belong to the status. */
+static void test_details(const char *call, int status, const print1525_details *details, size_t capacity) {
+    char message[99];
+    const size_t length = print1525_message(details, message, sizeof message);
+    if (status != details->status || status < 0 || status > 3) is_wrong(call, "the status");
+    if ((status == PRINT1525_DONE) != (details->fault == PRINT1525_FAULT_NONE)) is_wrong(call, "a fault");
+    if ((status == PRINT1525_STOPPED) != (details->fault > 100)) is_wrong(call, "a BASIC error");
+    if ((status == PRINT1525_FAILED) != (details->fault == PRINT1525_FAULT_NO_MEMORY || details->fault == PRINT1525_FAULT_TOO_SMALL)) is_wrong(call, "a failure");
+    if ((details->length > capacity) != (details->fault == PRINT1525_FAULT_TOO_SMALL)) is_wrong(call, "the length");
+    if (status == PRINT1525_REFUSED && details->length != 0) is_wrong(call, "the length of nothing");
+    if ((length == 0) != (status == PRINT1525_DONE) || length >= sizeof message || strlen(message) != length) is_wrong(call, "the message");
+    if (status != PRINT1525_DONE && strcmp(print1525_strerror(details->fault), "no fault") == 0) is_wrong(call, "a fault without words");
+}
+
+static int make(size_t call, const void *input, size_t length, const print1525_settings *settings, void *buffer, size_t capacity, print1525_details *details) {
+    switch (call) {
+    case 0: return print1525_pages(input, length, settings, buffer, capacity, details);
+    case 1: return print1525_bus(input, length, settings, buffer, capacity, details);
+    case 2: return print1525_listing(input, length, settings, buffer, capacity, details);
+    case 3: return print1525_raw(input, length, settings, buffer, capacity, details);
+    case 4: return print1525_check(input, length, settings, buffer, capacity, details);
+    default: return print1525_print((const uint16_t *)input, length, settings, buffer, capacity, details);
+    }
+}
+
+static void try_text(uint8_t *memories[6]) {
+    static const char *const names[] = {"pages", "bus", "listing", "raw", "check", "print"};
+    static uint8_t before[8192], text[ROOM];
+    const size_t call = below(6);
+    const print1525_settings drawn_settings = made_settings(memories);
+    print1525_settings settings = drawn_settings;
+    const print1525_settings *const with = below(30) ? &settings : NULL;
+    print1525_details details, again;
+    size_t length, size, capacity, overlap = below(40);
+    const void *input;
+    uint8_t *buffer;
+    int status;
+    if (call == 5) input = made_numbers(memories[4], 300, &length);
+    else input = made_input(memories[4], &length);
+    size = call == 5 ? 2 * length : length;
+    if (size) memcpy(before, input, size);
+    live = taken = 0;
+    refused_one = below(6) ? 0 : 1 + (long)below(60);
+    capacity = below(3) ? ROOM : below(3000);
+    buffer = capacity || below(2) ? memories[5] + ROOM - capacity : NULL;
+    memset(memories[5], UNTOUCHED, ROOM);
+    if (overlap == 0 && size > 0 && capacity > 0) {
+        /* The buffer begins within the input. */
+        uint8_t *const inside = (uint8_t *)memories[4] + ROOM - size + below(size);
+        capacity = 1 + below((size_t)(memories[4] + ROOM - inside));
+        status = make(call, input, length, &settings, inside, capacity, &details);
+        if (status != PRINT1525_REFUSED || (details.fault != PRINT1525_FAULT_OVERLAP && details.fault != PRINT1525_FAULT_BAD_SETTINGS)) is_wrong(names[call], "an overlap");
+        if (memcmp(before, input, size) != 0) is_wrong(names[call], "an input beside an overlap");
+        return;
+    }
+    status = make(call, input, length, with, buffer, capacity, &details);
+    test_details(names[call], status, &details, capacity);
+    if (live != 0) is_wrong(names[call], "memory");
+    if (size && memcmp(before, input, size) != 0) is_wrong(names[call], "the input");
+    if (memcmp(&settings, &drawn_settings, sizeof settings) != 0) is_wrong(names[call], "the settings");
+    size = length;
+    length = status <= PRINT1525_STOPPED ? details.length : 0;
+    if (!is_untouched(memories[5], ROOM - capacity) || !is_untouched(memories[5] + ROOM - capacity + length, capacity - length)) is_wrong(names[call], "the buffer");
+    if (refused_one || buffer == NULL) return;
+    memcpy(text, buffer, length);
+    if (make(call, input, size, with, buffer, capacity, &again) != status || memcmp(&again, &details, sizeof again) != 0 || memcmp(text, buffer, length) != 0)
+        is_wrong(names[call], "another answer");
+}
+
+/* An edge: mostly a little later than the last. */
+static print1525_edge made_edge(uint64_t *time) {
+    static const uint16_t steps[] = {0, 1, 20, 40, 60, 80, 200, 256, 1000, 2000};
+    print1525_edge made;
+    const uint64_t levels = drawn() >> 9;
+    *time += steps[below(10)];
+    made.time = below(50) ? *time : drawn() >> below(64);
+    made.atn = levels & 1 ? (uint8_t)(levels >> 8) : 0;
+    made.clock = levels & 2 ? 1 : 0;
+    made.data = levels & 4 ? 1 : 0;
+    return made;
+}
+
+/* A structure at the end of its memory, of bytes that nobody began or of one that was begun, and some bytes changed. */
+static void damage(void *place, size_t size) {
+    uint8_t *const bytes = (uint8_t *)place;
+    size_t index;
+    if (below(4) == 0)
+        for (index = 0; index < size; index++) bytes[index] = (uint8_t)drawn();
+    for (index = below(3); index > 0; index--) bytes[below(size)] = (uint8_t)(below(2) ? drawn() : below(12));
+}
+
+static void try_decoder(uint8_t *memories[6]) {
+    print1525_decoder *const decoder = (print1525_decoder *)(void *)(memories[0] + ROOM - sizeof *decoder);
+    print1525_reading *const reading = (print1525_reading *)(void *)(memories[1] + ROOM - sizeof *reading);
+    print1525_details *const details = (print1525_details *)(void *)(memories[2] + ROOM - sizeof *details);
+    print1525_edge *const edge = (print1525_edge *)(void *)(memories[3] + ROOM - sizeof *edge);
+    uint64_t time = below(1000);
+    size_t count;
+    print1525_decoder_begin(decoder);
+    for (count = below(40); count > 0; count--) {
+        print1525_decoder before, other;
+        print1525_reading settled;
+        print1525_details told;
+        if (below(30) == 0) damage(decoder, sizeof *decoder);
+        *edge = made_edge(&time);
+        before = other = *decoder;
+        test_details("decoder_edge", print1525_decoder_edge(decoder, edge, reading, details), details, 1);
+        if (details->status != PRINT1525_DONE && memcmp(&before, decoder, sizeof before) != 0) is_wrong("decoder_edge", "a decoder that refuses");
+        if ((details->length == 1) != (reading->kind != PRINT1525_NO_READING) || reading->kind > PRINT1525_INCOMPLETE_END) is_wrong("decoder_edge", "the reading");
+        print1525_decoder_edge(&other, edge, &settled, &told);
+        if (memcmp(&told, details, sizeof told) != 0 || settled.kind != reading->kind || settled.end != reading->end) is_wrong("decoder_edge", "another answer");
+        test_details("decoder_end", print1525_decoder_end(decoder, reading, details), details, 1);
+    }
+}
+
+static void try_receiver(uint8_t *memories[6]) {
+    print1525_receiver *const receiver = (print1525_receiver *)(void *)(memories[0] + ROOM - sizeof *receiver);
+    print1525_received *const came = (print1525_received *)(void *)(memories[1] + ROOM - sizeof *came);
+    print1525_details *const details = (print1525_details *)(void *)(memories[2] + ROOM - sizeof *details);
+    print1525_edge *const edge = (print1525_edge *)(void *)(memories[3] + ROOM - sizeof *edge);
+    const uint8_t device = (uint8_t)(below(9) ? 4 + below(2) : drawn());
+    uint64_t time = below(1000);
+    size_t count;
+    if (print1525_receiver_begin(receiver, device) != (device >= 4 && device <= 30 ? PRINT1525_DONE : PRINT1525_REFUSED)) is_wrong("receiver_begin", "the device");
+    for (count = below(60); count > 0; count--) {
+        print1525_receiver before, other;
+        print1525_received again;
+        print1525_details told;
+        if (below(30) == 0) damage(receiver, sizeof *receiver);
+        *edge = made_edge(&time);
+        before = other = *receiver;
+        test_details("receiver_edge", print1525_receiver_edge(receiver, edge, came, details), details, 1);
+        if (details->status != PRINT1525_DONE && memcmp(&before, receiver, sizeof before) != 0) is_wrong("receiver_edge", "a receiver that refuses");
+        if ((details->length == 1) != (came->kind != PRINT1525_NOTHING_RECEIVED) || came->kind > PRINT1525_RECEIVED_UNLISTEN || came->eoi > 1) is_wrong("receiver_edge", "what came");
+        print1525_receiver_edge(&other, edge, &again, &told);
+        if (memcmp(&told, details, sizeof told) != 0 || memcmp(&again, came, sizeof again) != 0) is_wrong("receiver_edge", "another answer");
+    }
+}
+
+static void try_strict(uint8_t *memories[6]) {
+    print1525_strict *const strict = (print1525_strict *)(void *)(memories[0] + ROOM - sizeof *strict);
+    uint16_t *const input = (uint16_t *)(void *)(memories[1] + ROOM - sizeof *input);
+    print1525_details *const details = (print1525_details *)(void *)(memories[2] + ROOM - sizeof *details);
+    print1525_edge *edges = (print1525_edge *)(void *)(memories[3] + ROOM - 40 * sizeof *edges);
+    const uint8_t device = (uint8_t)(below(9) ? 4 + below(2) : drawn());
+    uint64_t time = 0;
+    size_t count, index, room = below(9);
+    if (print1525_strict_begin(strict, device) != (device >= 4 && device <= 30 ? PRINT1525_DONE : PRINT1525_REFUSED)) is_wrong("strict_begin", "the device");
+    count = below(40);
+    edges += 40 - count;
+    for (index = 0; index < count; index++) {
+        edges[index] = made_edge(&time);
+        if (index == 0 && below(5)) memset(edges, 1, sizeof *edges), edges->time = time = 0;
+        if (below(30) == 0) damage(strict, sizeof *strict);
+        *input = 999;
+        test_details("strict_edge", print1525_strict_edge(strict, &edges[index], input, details), details, 1);
+        if ((details->length == 1) != (*input < 258) || (details->length == 0) != (*input == PRINT1525_NO_INPUT)) is_wrong("strict_edge", "the input");
+        test_details("strict_end", print1525_strict_end(strict, details), details, 0);
+    }
+    memset(memories[5], UNTOUCHED, ROOM);
+    test_details("strict_edges", print1525_strict_edges(device, count ? edges : NULL, count, room ? (uint16_t *)(void *)(memories[5] + ROOM - 2 * room) : NULL, room, details),
+                 details, room);
+    index = details->status == PRINT1525_DONE ? details->length : 0;
+    if (!is_untouched(memories[5], ROOM - 2 * room) || !is_untouched(memories[5] + ROOM - 2 * (room - index), 2 * (room - index))) is_wrong("strict_edges", "the buffer");
+}
+
+int main(int words, char **word) {
+    const unsigned long rounds = words > 2 ? strtoul(word[2], NULL, 10) : 1000;
+    uint8_t *memories[6];
+    size_t index;
+    state = (words > 1 ? strtoul(word[1], NULL, 10) : 1) * 0x9E3779B97F4A7C15u | 1;
+    for (index = 0; index < 6; index++) memories[index] = guard();
+    for (round_now = 0; round_now < rounds; round_now++) {
+        switch (below(9)) {
+        case 0: try_decoder(memories); break;
+        case 1: try_strict(memories); break;
+        case 2: try_receiver(memories); break;
+        default: try_text(memories); break;
+        }
+    }
+    return wrong != 0;
+}
