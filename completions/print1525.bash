@@ -32,7 +32,7 @@ _print1525() {
         check/--names) return ;;
         check/--from-time) return ;;
         check/--rate) return ;;
-        check/--as) words='frames story' ;;
+        check/--as) words='frames story json' ;;
         decode/--from) words='auto text vcd csv' ;;
         decode/--names) return ;;
         decode/--from-time) return ;;

@@ -31,7 +31,7 @@ complete -c print1525 -n '__fish_seen_subcommand_from check' -l names -x -d 'The
 complete -c print1525 -n '__fish_seen_subcommand_from check' -l invert -d 'The probes invert: 0 is released, 1 is pulled'
 complete -c print1525 -n '__fish_seen_subcommand_from check' -l from-time -x -d 'The time of the recording at which the trace starts, a whole number below 2^64'
 complete -c print1525 -n '__fish_seen_subcommand_from check' -l rate -x -d 'The samples in a second of a table that has no times: a whole number, also with k, M or G, or none, where the table\'s remarks say it'
-complete -c print1525 -n '__fish_seen_subcommand_from check' -l as -x -a 'frames story' -d 'frames (a line for each) or story (with their times and meaning)'
+complete -c print1525 -n '__fish_seen_subcommand_from check' -l as -x -a 'frames story json' -d 'frames (a line for each), story (with their times and meaning) or json (for programs)'
 complete -c print1525 -n '__fish_seen_subcommand_from check' -l explain -d 'Says more about a fault or a BASIC error, on standard error'
 complete -c print1525 -n '__fish_seen_subcommand_from decode' -s o -l output -r -F -d 'The file to write, which is replaced when the text is whole [default: standard output, as with -]'
 complete -c print1525 -n '__fish_seen_subcommand_from decode' -l from -x -a 'auto text vcd csv' -d 'auto (what the first bytes show), text (a trace as bus writes it), vcd (a Value Change Dump) or csv (a table of samples)'

@@ -19,7 +19,7 @@ use Rattle.pr_capture.specs.declared.format.TraceFormat.{TraceFormat}
 use Rattle.pr_capture.specs.declared.format.Source.{Source}
 use Rattle.pr_capture.specs.declared.format.Source.TheVariants as source
 use Rattle.pr_capture.specs.declared.format.TraceInput.{TraceInput}
-use Rattle.pr_report.specs.declared.report.Report.{Report}
+use Rattle.pr_options.specs.declared.outputs.CheckOutput.{CheckOutput}
 use Rattle.pr_report.specs.declared.detail.Detail.{Detail}
 use Rattle.pr_options.specs.OptionNames.{ValueOption}
 use Rattle.pr_options.specs.OptionNames as option
@@ -56,7 +56,7 @@ pub record InputView : Type 0 where
 pub data JobView : Type 0 where
   Pages : ListingForm → RunView → PagesOutput → JobView
   Bus : ListingForm → RunView → TraceFormat → JobView
-  Check : InputView → Report → JobView
+  Check : InputView → CheckOutput → JobView
   Decode : Bool → InputView → DecodeOutput → JobView
   Raw : Bool → Format → JobView
 

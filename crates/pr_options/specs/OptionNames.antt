@@ -52,6 +52,10 @@ page_endings = (codes ".svg", codes "svg") ∷ (codes ".png", codes "png") ∷ (
 abbrev pub trace_endings : List (Text × Text)
 trace_endings = (codes ".vcd", codes "vcd") ∷ []
 
+-- what the endings of a report's name say
+abbrev pub report_endings : List (Text × Text)
+report_endings = (codes ".json", codes "json") ∷ []
+
 -- what the endings of a reading's name say
 abbrev pub reading_endings : List (Text × Text)
 reading_endings = (codes ".svg", codes "svg") ∷ (codes ".png", codes "png") ∷ (codes ".pdf", codes "pdf") ∷ (codes ".json", codes "json") ∷ []
@@ -98,7 +102,7 @@ trace_as = by_file output trace_endings (codes "as") (codes "text")
 
 -- what `check` writes
 abbrev pub report_as : ValueOption
-report_as = plain (codes "as") (codes "frames")
+report_as = by_file output report_endings (codes "as") (codes "frames")
 
 -- what `decode` writes
 abbrev pub reading_as : ValueOption

@@ -19,7 +19,8 @@ use Rattle.pr_capture.specs.declared.format.TraceFormat.{TraceFormat}
 use Rattle.pr_capture.specs.declared.format.TraceFormat.TheVariants as trace
 use Rattle.pr_capture.specs.declared.format.Source.{Source}
 use Rattle.pr_capture.specs.declared.format.Source.TheVariants as source
-use Rattle.pr_report.specs.declared.report.Report.{Report}
+use Rattle.pr_options.specs.declared.outputs.CheckOutput.{CheckOutput}
+use Rattle.pr_options.specs.declared.outputs.CheckOutput.TheVariants as checked
 use Rattle.pr_report.specs.declared.report.Report.TheVariants as report
 use Rattle.pr_report.specs.declared.detail.Bounds.{Bounds}
 use Rattle.pr_report.specs.declared.detail.Bounds.TheVariants.{Profile, Guide}
@@ -97,9 +98,10 @@ abbrev pub reading_source_of : Text → Option (Option Source)
 reading_source_of = meaning_of ((codes "auto", None) ∷ (codes "text", Some source.Text)
     ∷ (codes "vcd", Some source.Vcd) ∷ (codes "csv", Some source.Csv) ∷ [])
 
--- what `check` writes: frames or story
-abbrev pub report_of : Text → Option Report
-report_of = meaning_of ((codes "frames", report.Frames) ∷ (codes "story", report.Story) ∷ [])
+-- what `check` writes: frames, story or json
+abbrev pub report_of : Text → Option CheckOutput
+report_of = meaning_of ((codes "frames", checked.Report report.Frames) ∷ (codes "story", checked.Report report.Story)
+    ∷ (codes "json", checked.Json) ∷ [])
 
 -- the moment at which a trace starts, in microseconds: decimal digits that spell a number below 2^64
 abbrev pub start_of : Text → Option ℕ

@@ -22,7 +22,7 @@ use crate::options::{
     READING_AS_VALUES, READING_FROM, READING_FROM_VALUES, REPORT_AS, REPORT_AS_VALUES, SET,
     SET_VALUES, SHEET, SHEET_VALUES, STATUS, TRACE_AS, TRACE_AS_VALUES, ValueOption,
 };
-use crate::outputs::{DecodeOutput, PagesOutput};
+use crate::outputs::{CheckOutput, DecodeOutput, PagesOutput};
 use crate::values_given::{
     characters_in, decode_output_in, delays_in, file_in, fitting, form_in, page_as_in,
     pages_output_in, present_in, rate_in, raw_as_in, reading_as_in, reading_source_in, report_in,
@@ -36,7 +36,6 @@ use pr_bus::Delays;
 use pr_capture::{Source, TraceFormat, TraceInput};
 use pr_listing::ListingForm;
 use pr_render::Format;
-use pr_report::Report;
 use pr_serial::Present;
 use std::alloc::Global;
 use thiserror::Error;
@@ -51,7 +50,7 @@ pub enum Job<'a> {
     /// delays, and the status going on in this way, in this format.
     Bus(ListingForm, Present, Delays, StatusMode, TraceFormat),
     /// Read a trace and write what it says.
-    Check(TraceInput<'a>, Report),
+    Check(TraceInput<'a>, CheckOutput),
     /// Read any recording and write what it says.
     Decode {
         /// The first bytes of the recording show its format, as [`found_source`] reads them; the format
@@ -135,7 +134,7 @@ pub enum JobFault {
     /// The value of `--as` of `bus` is not `text` or `vcd`.
     #[error("bad --as")]
     BadTraceAs,
-    /// The value of `--as` of `check` is not `frames` or `story`.
+    /// The value of `--as` of `check` is not `frames`, `story` or `json`.
     #[error("bad --as")]
     BadReportAs,
     /// The value of `--as` of `decode` is not `list`, `text`, `svg`, `png`, `pdf`, `json` or `bytes`.

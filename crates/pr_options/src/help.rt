@@ -108,8 +108,9 @@ a remark such as `; Samplerate: 4 MHz`.
 
 Output: a line for each frame, `command 36`, `data 72` or `data 13 eoi`, then
 `lawful`. A story has the time when the talker offers each byte, the time when
-a listener acknowledges it, the byte and its meaning. A trace that is not
-lawful is refused at its first fault; edges count from 0, lines from 1.
+a listener acknowledges it, the byte and its meaning. JSON, also for a file
+named *.json, has the lines of `print1525 decode --as json`. A trace that is
+not lawful is refused at its first fault; edges count from 0, lines from 1.
 
 Exit status: 0 lawful, 2 refused, 3 memory ran out or a file cannot be opened,
 read or written.

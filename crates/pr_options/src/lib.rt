@@ -36,4 +36,4 @@ pub use command_line::{
 };
 pub use delays::{DelayFault, read_delays};
 pub use option_values::{read_present, read_status};
-pub use outputs::{DecodeOutput, PagesOutput};
+pub use outputs::{CheckOutput, DecodeOutput, PagesOutput};

@@ -4,7 +4,7 @@ ghost use Rattle.std.specs.Prelude.{◌≡◌, ◌∷◌, [], option_map, IfSome
 ghost use Rattle.pr_options.specs.Options.{bounds_of, decode_output_of, device_of, form_of, format_of, mode_of, pages_output_of, present_of, rate_of, reading_source_of, report_of, set_of, sheet_numbered, sheet_of, source_of, start_of, trace_format_of};
 ghost use Rattle.pr_options.specs.SignalNames.{are_names, differ, is_clock_twice, is_name, names_of, names_of_signals, three_names};
 
-use crate::outputs::{DecodeOutput, PagesOutput};
+use crate::outputs::{CheckOutput, DecodeOutput, PagesOutput};
 use crate::parts::{all_digits, cut};
 use pr_basic::StatusMode;
 use pr_capture::{Signals, Source, TraceFormat, read_rate};
@@ -208,14 +208,15 @@ pub fn read_reading_source(text: &str) -> Option<Option<Source>>
     }
 }
 
-/// What is written of a trace that is checked: `frames` or `story` (profile). None for any other
-/// text.
-pub fn read_report(text: &str) -> Option<Report>
+/// What is written of a trace that is checked: `frames`, `story` or `json` (profile). None for any
+/// other text.
+pub fn read_report(text: &str) -> Option<CheckOutput>
     ensures { result ≡ report_of text.now }
 {
     match text {
-        "frames" => Some(Report::Frames),
-        "story" => Some(Report::Story),
+        "frames" => Some(CheckOutput::Report(Report::Frames)),
+        "story" => Some(CheckOutput::Report(Report::Story)),
+        "json" => Some(CheckOutput::Json),
         _ => None,
     }
 }

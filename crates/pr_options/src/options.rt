@@ -151,6 +151,12 @@ const TRACE_ENDINGS: &[Ending] = &[Ending {
     value: "vcd",
 }];
 
+/// What the endings of a report's name say.
+const REPORT_ENDINGS: &[Ending] = &[Ending {
+    ending: ".json",
+    value: "json",
+}];
+
 /// What the endings of a reading's name say.
 const READING_ENDINGS: &[Ending] = &[
     Ending {
@@ -358,19 +364,19 @@ pub const TRACE_AS: ValueOption = ValueOption {
 };
 
 /// What the values of [`REPORT_AS`] are.
-const REPORT_AS_HELP: &str = "frames (a line for each) or story (with\n\
-     their times and meaning)";
+const REPORT_AS_HELP: &str = "frames (a line for each), story (with their\n\
+     times and meaning) or json (for programs)";
 
 /// The values of [`REPORT_AS`] in a few words.
-pub const REPORT_AS_VALUES: &str = "frames or story";
+pub const REPORT_AS_VALUES: &str = "frames, story or json";
 
 /// What is written of a trace that is checked.
 pub const REPORT_AS: ValueOption = ValueOption {
     name: "as",
     value: "FORMAT",
     default: "frames",
-    file: "",
-    endings: NO_ENDINGS,
+    file: OUTPUT_NAME,
+    endings: REPORT_ENDINGS,
     values: REPORT_AS_VALUES,
     help: REPORT_AS_HELP,
 };

@@ -1,7 +1,7 @@
-//! What `pages` and `decode` write.
+//! What `pages`, `check` and `decode` write.
 
 use pr_render::{Device, Format};
-use pr_report::Detail;
+use pr_report::{Detail, Report};
 
 /// What `pages` writes of a run.
 #[derive(Clone, Copy, Debug, PartialEq, Eq)]
@@ -10,6 +10,15 @@ pub enum PagesOutput {
     Pages(Format),
     /// The bytes that this printer hears.
     Bytes(Device),
+}
+
+/// What `check` writes of a trace.
+#[derive(Clone, Copy, Debug, PartialEq, Eq)]
+pub enum CheckOutput {
+    /// The frames, or their story, if it is lawful.
+    Report(Report),
+    /// The readings as lines of JSON, and a line that says whether it is lawful.
+    Json,
 }
 
 /// What `decode` writes of a recording.

@@ -25,7 +25,7 @@ use crate::options::{
     LISTING_FROM, NAMES, PAGE_AS, PRESENT, RATE, RAW_AS, READING_AS, READING_FROM, REPORT_AS, SET,
     SHEET, STATUS, TRACE_AS, ValueOption,
 };
-use crate::outputs::{DecodeOutput, PagesOutput};
+use crate::outputs::{CheckOutput, DecodeOutput, PagesOutput};
 use clap::ArgMatches;
 use clap::parser::ValueSource;
 use pr_basic::StatusMode;
@@ -33,7 +33,7 @@ use pr_bus::Delays;
 use pr_capture::{Signals, Source, TraceFormat};
 use pr_listing::ListingForm;
 use pr_render::{Device, Format, Part};
-use pr_report::{Bounds, Detail, Report};
+use pr_report::{Bounds, Detail};
 use pr_serial::Present;
 use std::alloc::Global;
 
@@ -230,7 +230,7 @@ pub fn trace_format_in(options: &ArgMatches<'_>) -> Result<TraceFormat, JobFault
 }
 
 /// What is written of a trace that is checked.
-pub fn report_in(options: &ArgMatches<'_>) -> Result<Report, JobFault>
+pub fn report_in(options: &ArgMatches<'_>) -> Result<CheckOutput, JobFault>
     ensures { result ≡ read option.report_as report_of JobFault.BadReportAs (rows_of (found_of options.now)) }
 {
     read_report(value_in(options, REPORT_AS)).ok_or(JobFault::BadReportAs)

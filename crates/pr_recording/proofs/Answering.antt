@@ -1,28 +1,38 @@
 -- What is answered for an input, by what was told of it.
-use Rattle.std.proofs.Common.{◌≡◌, ◌≤◌, ℕ, ◌<◌, Bool, List, [], ◌++◌, length, refl, ap, sym, subst, ◌∙◌, append-nil, Option, Some, None, Result, Ok, Err}
-use Rattle.std.specs.Prelude.{◌↔◌, IfErr, IfSome, IsErrAnd, IsErrOf}
+use Rattle.std.proofs.Common.{◌≡◌, ◌≤◌, ℕ, ◌<◌, Bool, true, false, List, [], ◌++◌, length, refl, ap, sym, subst, ◌∙◌, append-nil, Option, Some, None, Result, Ok, Err}
+use Rattle.std.specs.Prelude.{◌↔◌, IfErr, IfSome, IsErrAnd, IsErrOf, option_map}
 use Rattle.std.specs.Io.KnownBytes.{Appends, IsAtEnd}
 use Rattle.std.proofs.KnownBytes.{Appends-nil, Appends-trans}
 use Rattle.pr_wire.specs.declared.Edge.{Edge}
+use Rattle.pr_wire.specs.declared.WaveFault.{WaveFault}
 use Rattle.pr_wire.specs.declared.WaveFault.TheVariants as wave
 use Rattle.pr_wire.specs.declared.text.TraceFault.TheVariants as trace
+use Rattle.pr_wire.specs.Table.{fault_of}
 use Rattle.pr_capture.specs.declared.fault.CaptureFault.{CaptureFault}
 use Rattle.pr_capture.specs.declared.fault.CaptureFault.TheVariants as capture
 use Rattle.pr_capture.specs.declared.format.TraceInput.{TraceInput}
 use Rattle.pr_input.specs.PartlyWritten.{AppendsFront}
 use Rattle.pr_cli.specs.Inputs.{EachTextSaysEdges, HasReadEdges, ReadEdgesComeFirst, SaysFirst, edges_read, fault_read}
 use Rattle.pr_cli.specs.EdgesTaken.{HasTakenAll, HasTakenBefore}
-use Rattle.pr_cli.specs.Report.{IsNoReading, SaysWhole, IsOwnFault}
+use Rattle.pr_cli.specs.Report.{IsNoReading, IsOwnFault, IsReportFault, SaysWhole, refusal}
+use Rattle.pr_cli.specs.Report as report
+use Rattle.pr_cli.specs.Check.{trace_limit}
+use Rattle.pr_report.specs.declared.report.Report.TheVariants.{Story}
 use Rattle.pr_cli.specs.InputReads.{IsTooLong, ReadsEdges}
+use Rattle.pr_basic.specs.declared.fault.ScriptFault.{ScriptFault}
+use Rattle.pr_cli.specs.declared.fault.PictureFault.{PictureFault}
 use Rattle.pr_cli.specs.declared.fault.CliFault.{CliFault}
 use Rattle.pr_cli.specs.declared.fault.CliFault.TheVariants.{Script, Trace, Wave, Capture, Picture, TooLarge, NoMemory, ReadFailed, WriteFailed}
 use Rattle.pr_cli.specs.declared.input_reader.InputReader.{InputReader}
 use Rattle.pr_recording.specs.declared.wording.Wording.{Wording}
 use Rattle.pr_recording.specs.declared.decode_report.DecodeReport.{DecodeReport}
 use Rattle.pr_recording.specs.declared.decode_report.Ended.{Ended}
+use Rattle.pr_recording.specs.declared.wording.Wording.TheVariants.{Json}
+use Rattle.pr_recording.specs.Checked.{AnswersJson}
 use Rattle.pr_recording.specs.Decoded.{AnswersDecode, IsDecodeFault, Leaves, ReadsAll, back_in, stop_at, told_of}
-use Rattle.pr_recording.specs.Narrated.{EndsEdges, EndsNarrated, GivesUp, HasNarrated, IsStop, NarratesMore, WritesEnd, lines_in}
+use Rattle.pr_recording.specs.Narrated.{AnswersTold, EndsEdges, EndsNarrated, GivesUp, HasNarrated, HasReadTo, IsRefusal, IsStop, NarratesMore, Refuses, WritesEnd, lines_in, refused_for}
 use Rattle.pr_recording.proofs.Coming.{Laws, coming}
+use Rattle.pr_recording.proofs.Judging.{no_memory}
 use Rattle.pr_recording.proofs.Writing.{front_behind, front_none, whole_behind}
 
 -- these edges were told, and what was given up was written
@@ -64,18 +74,18 @@ told_written w limit start a old now new input r n m h k up = record {
 }
 
 -- a beginning was written of what is told of edges that come first
-begins : Laws → (w : Wording) (limit : ℕ) (input : TraceInput) (text : List ℕ) (edges : List Edge) (n : DecodeReport) (old now new : Option (List ℕ)) (v : Result (Unit {0}) CliFault) → SaysFirst input text edges
+begins : Laws → (w : Wording) (limit : ℕ) (checked : Bool) (input : TraceInput) (text : List ℕ) (edges : List Edge) (n : DecodeReport) (old now new : Option (List ℕ)) (v : Result (Unit {0}) CliFault) → SaysFirst input text edges
     → HasWritten w old now n edges → AppendsFront now new (lines_in n) → ((stop : Option CliFault) (told : List ℕ) → AppendsFront old new told → Leaves limit (length text) stop told old new v)
-    → AnswersDecode limit w input text old new v
-begins laws w limit input text edges n old now new v f h short leaves =
+    → AnswersTold limit w checked input text old new v
+begins laws w limit checked input text edges n old now new v f h short leaves =
     let P : List Edge → Type 0 = λ l. (rest : List ℕ) × (told_of w (stop_at (back_in l) f.fault) l ≡ (h.written ++ lines_in n) ++ rest) in
     let k = subst P (sym f.first) (coming laws w edges f.later h.written n f.fault h.narrated) in
-    let stop = stop_at (back_in f.edges) f.fault in
+    let told = told_of w (stop_at (back_in f.edges) f.fault) f.edges in
     record {
       edges = f.edges;
       own = f.fault;
       says = f.says;
-      leaves = leaves stop (told_of w stop f.edges) (front_behind old now new h.written (lines_in n) (told_of w stop f.edges) k.0 k.1 h.wrote short);
+      leaves = leaves (refused_for checked f.edges f.fault) told (front_behind old now new h.written (lines_in n) told k.0 k.1 h.wrote short);
     }
 
 -- what holds of known bytes
@@ -84,41 +94,41 @@ if_known None P Q h f = tt
 if_known (Some text) P Q h f = f text h
 
 -- the answer where no more is read, or written
-pub partly : Laws → ReadEdgesComeFirst → (w : Wording) (limit : ℕ) (start now old mid new : Option (List ℕ)) (input : TraceInput) (r : InputReader) (n : DecodeReport) (v : Result (Unit {0}) CliFault) (f : CliFault)
+pub partly : Laws → ReadEdgesComeFirst → (w : Wording) (limit : ℕ) (checked : Bool) (start now old mid new : Option (List ℕ)) (input : TraceInput) (r : InputReader) (n : DecodeReport) (v : Result (Unit {0}) CliFault) (f : CliFault)
     → HasTakenAll limit start now input r (HasWritten w old mid n) → IsErrAnd v (λ x. x ≡ f) → f ≡ WriteFailed → AppendsFront mid new (lines_in n)
-    → IfSome start (λ text. AnswersDecode limit w input text old new v)
-partly laws first w limit start now old mid new input r n (Ok u) f h e failed k = absurd e
-partly laws first w limit start now old mid new input r n (Err x) f h e failed k =
-    rw (e, failed) (if_known start (λ text. SaysFirst input text (h.given ++ edges_read r)) (λ text. AnswersDecode limit w input text old new (Err WriteFailed)) (first limit start now input h.given r h.read)
-    (λ text says. begins laws w limit input text (h.given ++ edges_read r) n old mid new (Err WriteFailed) says h.taken k (λ stop told front. front)))
+    → IfSome start (λ text. AnswersTold limit w checked input text old new v)
+partly laws first w limit checked start now old mid new input r n (Ok u) f h e failed k = absurd e
+partly laws first w limit checked start now old mid new input r n (Err x) f h e failed k =
+    rw (e, failed) (if_known start (λ text. SaysFirst input text (h.given ++ edges_read r)) (λ text. AnswersTold limit w checked input text old new (Err WriteFailed)) (first limit start now input h.given r h.read)
+    (λ text says. begins laws w limit checked input text (h.given ++ edges_read r) n old mid new (Err WriteFailed) says h.taken k (λ stop told front. front)))
 
 -- the answer where nothing more is written
-pub unwritten : Laws → ReadEdgesComeFirst → (w : Wording) (limit : ℕ) (start now old mid : Option (List ℕ)) (input : TraceInput) (r : InputReader) (n : DecodeReport) (v : Result (Unit {0}) CliFault) (f : CliFault)
+pub unwritten : Laws → ReadEdgesComeFirst → (w : Wording) (limit : ℕ) (checked : Bool) (start now old mid : Option (List ℕ)) (input : TraceInput) (r : InputReader) (n : DecodeReport) (v : Result (Unit {0}) CliFault) (f : CliFault)
     → HasTakenAll limit start now input r (HasWritten w old mid n) → IsErrAnd v (λ x. x ≡ f) → IsNoReading f → (f ≡ TooLarge → IsTooLong now r)
-    → IfSome start (λ text. AnswersDecode limit w input text old mid v)
-unwritten laws first w limit start now old mid input r n (Ok u) f h e none long = absurd e
-unwritten laws first w limit start now old mid input r n (Err x) f h e none long =
+    → IfSome start (λ text. AnswersTold limit w checked input text old mid v)
+unwritten laws first w limit checked start now old mid input r n (Ok u) f h e none long = absurd e
+unwritten laws first w limit checked start now old mid input r n (Err x) f h e none long =
     rw e (by f none (λ is. long is limit start input h.given h.read))
   where
     says : IfSome start (λ text. SaysFirst input text (h.given ++ edges_read r))
     says = first limit start now input h.given r h.read
 
     all : (v : Result (Unit {0}) CliFault) → ((text : List ℕ) (stop : Option CliFault) (told : List ℕ) → AppendsFront old mid told → Leaves limit (length text) stop told old mid v)
-        → IfSome start (λ text. AnswersDecode limit w input text old mid v)
+        → IfSome start (λ text. AnswersTold limit w checked input text old mid v)
     all v leaves =
-        if_known start (λ text. SaysFirst input text (h.given ++ edges_read r)) (λ text. AnswersDecode limit w input text old mid v) says
-        (λ text s. begins laws w limit input text (h.given ++ edges_read r) n old mid mid v s h.taken (front_none mid (lines_in n)) (leaves text))
+        if_known start (λ text. SaysFirst input text (h.given ++ edges_read r)) (λ text. AnswersTold limit w checked input text old mid v) says
+        (λ text s. begins laws w limit checked input text (h.given ++ edges_read r) n old mid mid v s h.taken (front_none mid (lines_in n)) (leaves text))
 
     both : (start : Option (List ℕ)) (P Q R : List ℕ → Type 0) → IfSome start P → IfSome start Q → ((text : List ℕ) → P text → Q text → R text) → IfSome start R
     both None P Q R p q f = tt
     both (Some text) P Q R p q f = f text p q
 
-    by : (f : CliFault) → IsNoReading f → (f ≡ TooLarge → IfSome start (λ text. limit < length text)) → IfSome start (λ text. AnswersDecode limit w input text old mid (Err f))
+    by : (f : CliFault) → IsNoReading f → (f ≡ TooLarge → IfSome start (λ text. limit < length text)) → IfSome start (λ text. AnswersTold limit w checked input text old mid (Err f))
     by NoMemory none long = all (Err NoMemory) (λ text stop told front. front)
     by ReadFailed none long = all (Err ReadFailed) (λ text stop told front. front)
     by TooLarge none long =
-        both start (λ text. SaysFirst input text (h.given ++ edges_read r)) (λ text. limit < length text) (λ text. AnswersDecode limit w input text old mid (Err TooLarge)) says (long refl)
-        (λ text s more. begins laws w limit input text (h.given ++ edges_read r) n old mid mid (Err TooLarge) s h.taken (front_none mid (lines_in n)) (λ stop told front. (more, front)))
+        both start (λ text. SaysFirst input text (h.given ++ edges_read r)) (λ text. limit < length text) (λ text. AnswersTold limit w checked input text old mid (Err TooLarge)) says (long refl)
+        (λ text s more. begins laws w limit checked input text (h.given ++ edges_read r) n old mid mid (Err TooLarge) s h.taken (front_none mid (lines_in n)) (λ stop told front. (more, front)))
     by (Script fault) none long = absurd none
     by (Trace fault) none long = absurd none
     by (Wave fault) none long = absurd none
@@ -127,21 +137,21 @@ unwritten laws first w limit start now old mid input r n (Err x) f h e none long
     by WriteFailed none long = absurd none
 
 -- the answer where memory was refused
-pub refused : Laws → ReadEdgesComeFirst → (w : Wording) (limit : ℕ) (start now old mid : Option (List ℕ)) (input : TraceInput) (r : InputReader) (n : DecodeReport) (v : Result (Unit {0}) CliFault)
-    → HasTakenAll limit start now input r (HasWritten w old mid n) → IsErrAnd v (λ x. x ≡ NoMemory) → IfSome start (λ text. AnswersDecode limit w input text old mid v)
-refused laws first w limit start now old mid input r n v h e = unwritten laws first w limit start now old mid input r n v NoMemory h e tt (λ is. absurd (cc))
+pub refused : Laws → ReadEdgesComeFirst → (w : Wording) (limit : ℕ) (checked : Bool) (start now old mid : Option (List ℕ)) (input : TraceInput) (r : InputReader) (n : DecodeReport) (v : Result (Unit {0}) CliFault)
+    → HasTakenAll limit start now input r (HasWritten w old mid n) → IsErrAnd v (λ x. x ≡ NoMemory) → IfSome start (λ text. AnswersTold limit w checked input text old mid v)
+refused laws first w limit checked start now old mid input r n v h e = unwritten laws first w limit checked start now old mid input r n v NoMemory h e tt (λ is. absurd (cc))
 
 -- before anything was read
-first_refused : EachTextSaysEdges → (w : Wording) (limit : ℕ) (a old : Option (List ℕ)) (input : TraceInput) → IfSome a (λ text. AnswersDecode limit w input text old old (Err NoMemory))
-first_refused some w limit None old input = tt
-first_refused some w limit (Some text) old input =
+first_refused : EachTextSaysEdges → (w : Wording) (limit : ℕ) (checked : Bool) (a old : Option (List ℕ)) (input : TraceInput) → IfSome a (λ text. AnswersTold limit w checked input text old old (Err NoMemory))
+first_refused some w limit checked None old input = tt
+first_refused some w limit checked (Some text) old input =
     let s = some input text in
     record { edges = s.edges; own = s.fault; says = s.says; leaves = front_none old (told_of w (stop_at (back_in s.edges) s.fault) s.edges) }
 
-pub at_first : EachTextSaysEdges → (w : Wording) (limit : ℕ) (a old : Option (List ℕ)) (input : TraceInput) (v : Result (Unit {0}) CliFault) → IsErrAnd v (λ f. f ≡ NoMemory)
-    → IfSome a (λ text. AnswersDecode limit w input text old old v)
-at_first some w limit a old input (Ok u) e = absurd e
-at_first some w limit a old input (Err f) e = rw e (first_refused some w limit a old input)
+pub at_first : EachTextSaysEdges → (w : Wording) (limit : ℕ) (checked : Bool) (a old : Option (List ℕ)) (input : TraceInput) (v : Result (Unit {0}) CliFault) → IsErrAnd v (λ f. f ≡ NoMemory)
+    → IfSome a (λ text. AnswersTold limit w checked input text old old v)
+at_first some w limit checked a old input (Ok u) e = absurd e
+at_first some w limit checked a old input (Err f) e = rw e (first_refused some w limit checked a old input)
 
 -- why an input stops
 pub is_stop : (back : Option ℕ) (own : Option CliFault) → IfSome own IsOwnFault → IfSome (stop_at back own) IsStop
@@ -183,122 +193,233 @@ stop_fault NoMemory h = tt
 stop_fault ReadFailed h = tt
 stop_fault WriteFailed h = tt
 
--- a known stop
-known_stop : (v : Option CliFault) (f : CliFault) → v ≡ Some f → IfSome v IsStop → IsStop f
-known_stop None f e h = absurd (cc)
-known_stop (Some g) f e h = let k : g ≡ f = cc in let P : CliFault → Type 0 = λ x. IsStop x in subst P k h
+-- why an input is refused at its end
+edge_fault : (v : Option WaveFault) → (v ≡ Some wave.NoMemory → ⊥) → IfSome (option_map (λ f. Wave f) v) (Refuses true)
+edge_fault None none = tt
+edge_fault (Some wave.NoMemory) none = none refl
+edge_fault (Some (wave.Order n)) none = tt
+edge_fault (Some (wave.Start n)) none = tt
+edge_fault (Some (wave.TooEarly n)) none = tt
+edge_fault (Some (wave.TooLate n)) none = tt
+edge_fault (Some (wave.Shape n)) none = tt
+edge_fault (Some (wave.Truncated n)) none = tt
+
+own_refuses : (f : CliFault) → IsOwnFault f → Refuses true f
+own_refuses (Script x) h = h
+own_refuses (Trace x) h = h
+own_refuses (Wave x) h = absurd h
+own_refuses (Capture x) h = h
+own_refuses (Picture x) h = h
+own_refuses TooLarge h = h
+own_refuses NoMemory h = h
+own_refuses ReadFailed h = h
+own_refuses WriteFailed h = h
+
+refuses : (checked : Bool) (edges : List Edge) (own : Option CliFault) → IfSome own IsOwnFault → IfSome (refused_for checked edges own) (Refuses checked)
+refuses false edges own h = is_stop (back_in edges) own h
+refuses true edges None h = edge_fault (fault_of edges) (no_memory edges)
+refuses true edges (Some f) h = own_refuses f h
+
+-- that is a fault of a recording that is checked or not
+refusal_fault : (checked : Bool) (f : CliFault) → Refuses checked f → IsRefusal checked f
+refusal_fault false f h = stop_fault f h
+refusal_fault true (Script x) h = h
+refusal_fault true (Trace (trace.BadLine n)) h = tt
+refusal_fault true (Trace trace.NoMemory) h = h
+refusal_fault true (Wave x) h = h
+refusal_fault true (Capture x) h = of_capture x h
+  where
+    of_capture : (x : CaptureFault) → IsOwnFault (Capture x) → IsReportFault (Capture x)
+    of_capture capture.NoMemory h = h
+    of_capture x h = tt
+refusal_fault true (Picture x) h = h
+refusal_fault true TooLarge h = tt
+refusal_fault true NoMemory h = tt
+refusal_fault true ReadFailed h = tt
+refusal_fault true WriteFailed h = tt
+
+-- and never one of reading, writing or memory, or one of another input
+no_other : (checked : Bool) → (Refuses checked TooLarge → ⊥) × (Refuses checked NoMemory → ⊥) × (Refuses checked ReadFailed → ⊥) × (Refuses checked WriteFailed → ⊥)
+no_other true = (λ h. h, λ h. h, λ h. h, λ h. h)
+no_other false = (λ h. h, λ h. h, λ h. h, λ h. h)
+
+no_script : (checked : Bool) (x : ScriptFault) → Refuses checked (Script x) → ⊥
+no_script true x h = h
+no_script false x h = h
+
+no_picture : (checked : Bool) (x : PictureFault) → Refuses checked (Picture x) → ⊥
+no_picture true x h = h
+no_picture false x h = h
+
+-- a known refusal
+known_refusal : (checked : Bool) (v : Option CliFault) (f : CliFault) → v ≡ Some f → IfSome v (Refuses checked) → Refuses checked f
+known_refusal checked None f e h = absurd (cc)
+known_refusal checked (Some g) f e h = let k : g ≡ f = cc in let P : CliFault → Type 0 = λ x. Refuses checked x in subst P k h
 
 -- where nothing stops, the input has no fault
 pub no_own : (back : Option ℕ) (own : Option CliFault) → stop_at back own ≡ None → own ≡ None
 no_own None own h = h
 no_own (Some n) own h = absurd (cc)
 
--- what is left where the end was written
-leaves_end : (w : Wording) (limit len : ℕ) (edges : List Edge) (written : List ℕ) (own : Option CliFault) (e : Ended) (old now new : Option (List ℕ)) (v : Result (Unit {0}) CliFault) → (own ≡ None → len ≤ limit)
-    → EndsEdges w edges written own e → IfSome own IsOwnFault → Appends old now written → WritesEnd e now new v → Leaves limit len (stop_at (back_in edges) own) (told_of w (stop_at (back_in edges) own) edges) old new v
-leaves_end w limit len edges written own e old now new v short ends is_own wrote writes = by v writes
+-- where nothing is refused, the input has no fault
+no_own_fault : (checked : Bool) (edges : List Edge) (own : Option CliFault) → refused_for checked edges own ≡ None → own ≡ None
+no_own_fault false edges own h = no_own (back_in edges) own h
+no_own_fault true edges None h = refl
+no_own_fault true edges (Some f) h = absurd (cc)
+
+-- nor where its edges are refused for more than that time goes back
+no_fault_beside : (edges : List Edge) (own : Option CliFault) (f : WaveFault) → IfSome own IsOwnFault → refused_for true edges own ≡ Some (Wave f) → own ≡ None
+no_fault_beside edges None f h is = refl
+no_fault_beside edges (Some x) f h is = absurd (by x (cc) h)
   where
-    stop : Option CliFault
-    stop = stop_at (back_in edges) own
+    by : (x : CliFault) → x ≡ Wave f → IsOwnFault x → ⊥
+    by x e h = let P : CliFault → Type 0 = λ y. IsOwnFault y in subst P e h
 
-    told : written ++ e.lines.items ≡ told_of w (stop_at (back_in edges) own) edges
-    told = ends.lines ∙ ap (λ s. told_of w s edges) ends.stop
-
+-- what is left where the end was written
+leaves_end : (w : Wording) (limit len : ℕ) (checked : Bool) (edges : List Edge) (written : List ℕ) (own : Option CliFault) (e : Ended) (old now new : Option (List ℕ)) (v : Result (Unit {0}) CliFault) → (own ≡ None → len ≤ limit)
+    → EndsEdges w checked edges written own e → IfSome own IsOwnFault → Appends old now written → WritesEnd e now new v → Leaves limit len (refused_for checked edges own) (told_of w (stop_at (back_in edges) own) edges) old new v
+leaves_end w limit len checked edges written own e old now new v short ends is_own wrote writes = by v writes
+  where
     all : Appends now new e.lines.items → Appends old new (told_of w (stop_at (back_in edges) own) edges)
-    all k = whole_behind old now new written e.lines.items (told_of w (stop_at (back_in edges) own) edges) told wrote k
+    all k = whole_behind old now new written e.lines.items (told_of w (stop_at (back_in edges) own) edges) ends.lines wrote k
 
-    known : (f : CliFault) → e.stop ≡ Some f → IsStop f
-    known f is = known_stop (stop_at (back_in edges) own) f (sym ends.stop ∙ is) (is_stop (back_in edges) own is_own)
+    known : (f : CliFault) → e.refused ≡ Some f → Refuses checked f
+    known f is = known_refusal checked (refused_for checked edges own) f (sym ends.refused ∙ is) (refuses checked edges own is_own)
 
-    by : (v : Result (Unit {0}) CliFault) → WritesEnd e now new v → Leaves limit len (stop_at (back_in edges) own) (told_of w (stop_at (back_in edges) own) edges) old new v
-    by (Ok u) w = (short (no_own (back_in edges) own (sym ends.stop ∙ w.0)), sym ends.stop ∙ w.0, all w.1)
-    by (Err (Script x)) w = absurd (known (Script x) w.0)
-    by (Err (Trace x)) w = (sym ends.stop ∙ w.0, all w.1)
-    by (Err (Wave x)) w = (sym ends.stop ∙ w.0, all w.1)
-    by (Err (Capture x)) w = (sym ends.stop ∙ w.0, all w.1)
-    by (Err (Picture x)) w = absurd (known (Picture x) w.0)
-    by (Err TooLarge) w = absurd (known TooLarge w.0)
-    by (Err NoMemory) w = absurd (known NoMemory w.0)
-    by (Err ReadFailed) w = absurd (known ReadFailed w.0)
+    by : (v : Result (Unit {0}) CliFault) → WritesEnd e now new v → Leaves limit len (refused_for checked edges own) (told_of w (stop_at (back_in edges) own) edges) old new v
+    by (Ok u) w = (short (no_own_fault checked edges own (sym ends.refused ∙ w.0)), sym ends.refused ∙ w.0, all w.1)
+    by (Err (Script x)) w = absurd (no_script checked x (known (Script x) w.0))
+    by (Err (Trace x)) w = (sym ends.refused ∙ w.0, all w.1)
+    by (Err (Wave x)) w = (sym ends.refused ∙ w.0, all w.1)
+    by (Err (Capture x)) w = (sym ends.refused ∙ w.0, all w.1)
+    by (Err (Picture x)) w = absurd (no_picture checked x (known (Picture x) w.0))
+    by (Err TooLarge) w = absurd ((no_other checked).0 (known TooLarge w.0))
+    by (Err NoMemory) w = absurd ((no_other checked).1 (known NoMemory w.0))
+    by (Err ReadFailed) w = absurd ((no_other checked).2 (known ReadFailed w.0))
     by (Err WriteFailed) k =
-        front_behind old now new written e.lines.items (told_of w (stop_at (back_in edges) own) edges) [] (sym told ∙ sym (append-nil (written ++ e.lines.items))) wrote k
+        front_behind old now new written e.lines.items (told_of w (stop_at (back_in edges) own) edges) [] (sym ends.lines ∙ sym (append-nil (written ++ e.lines.items))) wrote k
 
--- a stop is no failed write
-pub no_write : (v : Option CliFault) → IfSome v IsStop → v ≡ Some WriteFailed → ⊥
-no_write v h e = known_stop v WriteFailed e h
+-- a refusal is no failed write
+pub no_write : (checked : Bool) (v : Option CliFault) → IfSome v (Refuses checked) → v ≡ Some WriteFailed → ⊥
+no_write checked v h e = (no_other checked).3 (known_refusal checked v WriteFailed e h)
 
 -- nor a failed read
-pub no_read : (e : Ended) (now new : Option (List ℕ)) (v : Result (Unit {0}) CliFault) → IfSome e.stop IsStop → WritesEnd e now new v → v ≡ Err ReadFailed → ⊥
-no_read e now new v h w k =
+no_read : (checked : Bool) (e : Ended) (now new : Option (List ℕ)) (v : Result (Unit {0}) CliFault) → IfSome e.refused (Refuses checked) → WritesEnd e now new v → v ≡ Err ReadFailed → ⊥
+no_read checked e now new v h w k =
     let P : Result (Unit {0}) CliFault → Type 0 = λ x. WritesEnd e now new x in
     let u : WritesEnd e now new (Err ReadFailed) = subst P k w in
-    known_stop e.stop ReadFailed u.0 h
+    (no_other checked).2 (known_refusal checked e.refused ReadFailed u.0 h)
+
+-- a fault of any recording is one of a recording that is checked or not
+any_fault : (checked : Bool) → IsRefusal checked TooLarge × IsRefusal checked NoMemory × IsRefusal checked ReadFailed × IsRefusal checked WriteFailed
+any_fault true = (tt, tt, tt, tt)
+any_fault false = (tt, tt, tt, tt)
 
 -- what is answered where the end is written is a fault of a recording
-pub own_fault : (e : Ended) (now new : Option (List ℕ)) (v : Result (Unit {0}) CliFault) → IfSome e.stop IsStop → WritesEnd e now new v → IfErr v IsDecodeFault
-own_fault e now new (Ok u) h w = tt
-own_fault e now new (Err f) h w = by f w
+own_fault : (checked : Bool) (e : Ended) (now new : Option (List ℕ)) (v : Result (Unit {0}) CliFault) → IfSome e.refused (Refuses checked) → WritesEnd e now new v → IfErr v (IsRefusal checked)
+own_fault checked e now new (Ok u) h w = tt
+own_fault checked e now new (Err f) h w = by f w
   where
-    by : (f : CliFault) → WritesEnd e now new (Err f) → IsDecodeFault f
-    by (Script x) w = stop_fault (Script x) (known_stop e.stop (Script x) w.0 h)
-    by (Trace x) w = stop_fault (Trace x) (known_stop e.stop (Trace x) w.0 h)
-    by (Wave x) w = stop_fault (Wave x) (known_stop e.stop (Wave x) w.0 h)
-    by (Capture x) w = stop_fault (Capture x) (known_stop e.stop (Capture x) w.0 h)
-    by (Picture x) w = stop_fault (Picture x) (known_stop e.stop (Picture x) w.0 h)
+    known : (f : CliFault) → e.refused ≡ Some f → IsRefusal checked f
+    known f is = refusal_fault checked f (known_refusal checked e.refused f is h)
+
+    by : (f : CliFault) → WritesEnd e now new (Err f) → IsRefusal checked f
+    by (Script x) w = known (Script x) w.0
+    by (Trace x) w = known (Trace x) w.0
+    by (Wave x) w = known (Wave x) w.0
+    by (Capture x) w = known (Capture x) w.0
+    by (Picture x) w = known (Picture x) w.0
+    by TooLarge w = known TooLarge w.0
+    by NoMemory w = known NoMemory w.0
+    by ReadFailed w = known ReadFailed w.0
+    by WriteFailed w = (any_fault checked).3
+
+-- how far the input has been read where the end is written
+read_to : (checked : Bool) (edges : List Edge) (own : Option CliFault) (e : Ended) (now new left : Option (List ℕ)) (v : Result (Unit {0}) CliFault) → e.refused ≡ refused_for checked edges own → IfSome own IsOwnFault
+    → (own ≡ None → IsAtEnd left) → WritesEnd e now new v → HasReadTo checked left v
+read_to true edges own e now new left (Ok u) is h at_end w = at_end (no_own_fault true edges own (sym is ∙ w.0))
+read_to false edges own e now new left (Ok u) is h at_end w = at_end (no_own_fault false edges own (sym is ∙ w.0))
+read_to false edges own e now new left (Err f) is h at_end w = tt
+read_to true edges own e now new left (Err f) is h at_end w = by f w
+  where
+    by : (f : CliFault) → WritesEnd e now new (Err f) → report.ReadsAll Story left (Err f)
+    by (Script x) w = tt
+    by (Trace x) w = tt
+    by (Wave x) w = at_end (no_fault_beside edges own x h (sym is ∙ w.0))
+    by (Capture x) w = tt
+    by (Picture x) w = tt
     by TooLarge w = tt
     by NoMemory w = tt
     by ReadFailed w = tt
     by WriteFailed w = tt
 
 -- what is answered at an input's end, or at its fault
-pub record AnswersLast (w : Wording) (limit : ℕ) (start left old new : Option (List ℕ)) (input : TraceInput) (e : Ended) (v : Result (Unit {0}) CliFault) : Type 0 where
-  pub decode : IfSome start (λ text. AnswersDecode limit w input text old new v)
-  pub at_end : ReadsAll left v
-  pub own : IfErr v IsDecodeFault
+pub record AnswersLast (w : Wording) (limit : ℕ) (checked : Bool) (start left old new : Option (List ℕ)) (input : TraceInput) (e : Ended) (v : Result (Unit {0}) CliFault) : Type 0 where
+  pub told : IfSome start (λ text. AnswersTold limit w checked input text old new v)
+  pub at_end : HasReadTo checked left v
+  pub own : IfErr v (IsRefusal checked)
   pub reading : v ≡ Err ReadFailed → ⊥
 
--- why it stops there
-pub last_stop : (w : Wording) (limit : ℕ) (start left old now : Option (List ℕ)) (input : TraceInput) (r : InputReader) (n : DecodeReport) (e : Ended) → HasTakenBefore limit start left input r (HasWritten w old now n)
-    → EndsNarrated r n e → IfSome e.stop IsStop
-last_stop w limit start left old now input r n e h ends =
+-- why it is refused there
+pub last_refusal : (w : Wording) (limit : ℕ) (checked : Bool) (start left old now : Option (List ℕ)) (input : TraceInput) (r : InputReader) (n : DecodeReport) (e : Ended) → HasTakenBefore limit start left input r (HasWritten w old now n)
+    → EndsNarrated checked r n e → IfSome e.refused (Refuses checked)
+last_refusal w limit checked start left old now input r n e h ends =
     let k = ends w h.taken.written limit start left input h.given h.read h.taken.narrated in
-    let follows : EndsEdges w k.edges h.taken.written k.fault e = k.follows in
-    let P : Option CliFault → Type 0 = λ v. IfSome v IsStop in
-    subst P (sym follows.stop) (is_stop (back_in k.edges) k.fault k.own)
+    let follows : EndsEdges w checked k.edges h.taken.written k.fault e = k.follows in
+    let P : Option CliFault → Type 0 = λ v. IfSome v (Refuses checked) in
+    subst P (sym follows.refused) (refuses checked k.edges k.fault k.own)
 
-pub at_last : (w : Wording) (limit : ℕ) (start left old now new : Option (List ℕ)) (input : TraceInput) (r : InputReader) (n : DecodeReport) (e : Ended) (v : Result (Unit {0}) CliFault)
-    → HasTakenBefore limit start left input r (HasWritten w old now n) → (fault_read r ≡ None → IsAtEnd left) → EndsNarrated r n e → WritesEnd e now new v → AnswersLast w limit start left old new input e v
-at_last w limit start left old now new input r n e v h stops ends writes =
+pub at_last : (w : Wording) (limit : ℕ) (checked : Bool) (start left old now new : Option (List ℕ)) (input : TraceInput) (r : InputReader) (n : DecodeReport) (e : Ended) (v : Result (Unit {0}) CliFault)
+    → HasTakenBefore limit start left input r (HasWritten w old now n) → (fault_read r ≡ None → IsAtEnd left) → EndsNarrated checked r n e → WritesEnd e now new v → AnswersLast w limit checked start left old new input e v
+at_last w limit checked start left old now new input r n e v h stops ends writes =
     let k = ends w h.taken.written limit start left input h.given h.read h.taken.narrated in
-    let follows : EndsEdges w k.edges h.taken.written k.fault e = k.follows in
-    let stop = last_stop w limit start left old now input r n e h ends in
+    let follows : EndsEdges w checked k.edges h.taken.written k.fault e = k.follows in
+    let refused = last_refusal w limit checked start left old now input r n e h ends in
     record {
-      decode = known start k.edges k.fault k.own follows (k.says stops);
-      at_end = read v (λ none. stops (k.kept (no_own (back_in k.edges) k.fault (sym follows.stop ∙ none)))) writes;
-      own = own_fault e now new v stop writes;
-      reading = no_read e now new v stop writes;
+      told = known start k.edges k.fault k.own follows (k.says stops);
+      at_end = read_to checked k.edges k.fault e now new left v follows.refused k.own (λ none. stops (k.kept none)) writes;
+      own = own_fault checked e now new v refused writes;
+      reading = no_read checked e now new v refused writes;
     }
   where
-    known : (start : Option (List ℕ)) (edges : List Edge) (own : Option CliFault) → IfSome own IsOwnFault → EndsEdges w edges h.taken.written own e → IfSome start (SaysWhole limit input edges own)
-        → IfSome start (λ text. AnswersDecode limit w input text old new v)
+    known : (start : Option (List ℕ)) (edges : List Edge) (own : Option CliFault) → IfSome own IsOwnFault → EndsEdges w checked edges h.taken.written own e → IfSome start (SaysWhole limit input edges own)
+        → IfSome start (λ text. AnswersTold limit w checked input text old new v)
     known None edges own o k says = tt
     known (Some text) edges own o k says = record {
       edges = edges;
       own = own;
       says = says.says;
-      leaves = leaves_end w limit (length text) edges h.taken.written own e old now new v says.short k o h.taken.wrote writes;
+      leaves = leaves_end w limit (length text) checked edges h.taken.written own e old now new v says.short k o h.taken.wrote writes;
     }
 
-    read : (v : Result (Unit {0}) CliFault) → (e.stop ≡ None → IsAtEnd left) → WritesEnd e now new v → ReadsAll left v
-    read (Ok u) f w = f w.0
-    read (Err x) f w = tt
-
--- a fault of reading is one of a recording, and no failed write
-pub reading_fault : (v : Result (Unit {0}) CliFault) (f : CliFault) → IsErrAnd v (λ x. x ≡ f) → IsNoReading f → IfErr v IsDecodeFault
-reading_fault (Ok u) f e none = tt
-reading_fault (Err x) f e none = rw e (by f none)
+-- a fault of reading is one of a recording
+pub reading_fault : (checked : Bool) (v : Result (Unit {0}) CliFault) (f : CliFault) → IsErrAnd v (λ x. x ≡ f) → IsNoReading f → IfErr v (IsRefusal checked)
+reading_fault checked (Ok u) f e none = tt
+reading_fault checked (Err x) f e none = rw e (by f none)
   where
-    by : (f : CliFault) → IsNoReading f → IsDecodeFault f
+    by : (f : CliFault) → IsNoReading f → IsRefusal checked f
+    by TooLarge none = (any_fault checked).0
+    by NoMemory none = (any_fault checked).1
+    by ReadFailed none = (any_fault checked).2
+    by (Script fault) none = absurd none
+    by (Trace fault) none = absurd none
+    by (Wave fault) none = absurd none
+    by (Capture fault) none = absurd none
+    by (Picture fault) none = absurd none
+    by WriteFailed none = absurd none
+
+-- and so is one of writing
+pub writing_fault : (checked : Bool) (v : Result (Unit {0}) CliFault) (f : CliFault) → IsErrAnd v (λ x. x ≡ f) → f ≡ WriteFailed → IfErr v (IsRefusal checked)
+writing_fault checked (Ok u) f e is = tt
+writing_fault checked (Err x) f e is = rw (e, is) ((any_fault checked).3)
+
+-- where no more is read or written, nothing is said of what is left
+pub left_unread : (checked : Bool) (left : Option (List ℕ)) (v : Result (Unit {0}) CliFault) (f : CliFault) → IsErrAnd v (λ x. x ≡ f) → IsNoReading f → HasReadTo checked left v
+left_unread checked left (Ok u) f e none = absurd e
+left_unread false left (Err x) f e none = tt
+left_unread true left (Err x) f e none = rw e (by f none)
+  where
+    by : (f : CliFault) → IsNoReading f → report.ReadsAll Story left (Err f)
     by TooLarge none = tt
     by NoMemory none = tt
     by ReadFailed none = tt
@@ -309,9 +430,10 @@ reading_fault (Err x) f e none = rw e (by f none)
     by (Picture fault) none = absurd none
     by WriteFailed none = absurd none
 
-pub reading_no_write : (v : Result (Unit {0}) CliFault) (f : CliFault) → IsErrAnd v (λ x. x ≡ f) → IsNoReading f → v ≡ Err WriteFailed → ⊥
-reading_no_write (Ok u) f e none is = absurd e
-reading_no_write (Err x) f e none is = let k : f ≡ WriteFailed = cc in let P : CliFault → Type 0 = λ y. IsNoReading y in subst P k none
+pub left_unwritten : (checked : Bool) (left : Option (List ℕ)) (v : Result (Unit {0}) CliFault) (f : CliFault) → IsErrAnd v (λ x. x ≡ f) → f ≡ WriteFailed → HasReadTo checked left v
+left_unwritten checked left (Ok u) f e is = absurd e
+left_unwritten false left (Err x) f e is = tt
+left_unwritten true left (Err x) f e is = rw (e, is) tt
 
 -- a fault that is handed on has the meaning that it had: it is a failed read exactly if the input has failed
 pub failed_read : (v : Result (Unit {0}) CliFault) (r : Result Bool CliFault) (f : CliFault) (b : Type 0) → IsErrAnd v (λ x. x ≡ f) → r ≡ Err f → (IsErrOf r ReadFailed ↔ b) → (IsErrOf v ReadFailed ↔ b)
@@ -320,3 +442,16 @@ failed_read (Err x) r f b e is k = (
   λ h. k.0 (let q : f ≡ ReadFailed = cc (h, e) in is ∙ ap (λ (y : CliFault). Err y) q),
   λ h. let q : f ≡ ReadFailed = cc (k.1 h, is) in ap (λ (y : CliFault). Err y) (e ∙ q),
 )
+
+-- what is answered for a recording that is not checked, and for one that is
+pub decoded : (w : Wording) (limit : ℕ) (start old new : Option (List ℕ)) (input : TraceInput) (v : Result (Unit {0}) CliFault)
+    → IfSome start (λ text. AnswersTold limit w false input text old new v) → IfSome start (λ text. AnswersDecode limit w input text old new v)
+decoded w limit start old new input v h =
+    if_known start (λ text. AnswersTold limit w false input text old new v) (λ text. AnswersDecode limit w input text old new v) h
+    (λ text k. record { edges = k.edges; own = k.own; says = k.says; leaves = k.leaves })
+
+pub checked : (start old new : Option (List ℕ)) (input : TraceInput) (v : Result (Unit {0}) CliFault)
+    → IfSome start (λ text. AnswersTold trace_limit Json true input text old new v) → IfSome start (λ text. AnswersJson input text old new v)
+checked start old new input v h =
+    if_known start (λ text. AnswersTold trace_limit Json true input text old new v) (λ text. AnswersJson input text old new v) h
+    (λ text k. record { edges = k.edges; own = k.own; says = k.says; leaves = k.leaves })

@@ -24,7 +24,7 @@ back_stays [] more n h = absurd (cc)
 back_stays (e ∷ es) more n h = behind_more 1 e.time es more n h
 
 -- it is one of the edges
-behind_within : (i last : ℕ) (es : List Edge) (n : ℕ) → back_behind i last es ≡ Some n → (i ≤ n) × (n < i + length es)
+pub behind_within : (i last : ℕ) (es : List Edge) (n : ℕ) → back_behind i last es ≡ Some n → (i ≤ n) × (n < i + length es)
 behind_within i last [] n h = absurd (cc)
 behind_within i last (e ∷ es) n h = by (behind_within (i + 1) e.time es n) (nat_lt e.time last) h
   where

@@ -1,5 +1,5 @@
 -- A report, edge by edge.
-use Rattle.std.proofs.Common.{◌≡◌, ℕ, ◌+◌, List, [], ◌∷◌, ◌++◌, refl, ap, sym, subst, ◌∙◌, append-nil, length-append, true, false, Option, Some, None}
+use Rattle.std.proofs.Common.{◌≡◌, ℕ, ◌+◌, List, [], ◌∷◌, ◌++◌, refl, ap, sym, subst, ◌∙◌, append-nil, length-append, Bool, true, false, Option, Some, None}
 use Rattle.std.specs.Prelude.{is_some}
 use Rattle.std.specs.Option.{option_to_list}
 use Rattle.pr_wire.specs.declared.Edge.{Edge}
@@ -9,14 +9,16 @@ use Rattle.pr_decode.specs.declared.reading.Reading.{Reading}
 use Rattle.pr_decode.specs.Readings.{readings_of}
 use Rattle.pr_decode.specs.Taking.{GivenAreSettled, HasReadings, IsBefore, StandsBefore, last_time}
 use Rattle.pr_report.specs.Taking as survey
+use Rattle.pr_cli.specs.Report.{refusal}
 use Rattle.pr_cli.specs.declared.fault.CliFault.{CliFault}
 use Rattle.pr_recording.specs.declared.wording.Wording.{Wording}
 use Rattle.pr_recording.specs.declared.reading_log.ReadingLog.{ReadingLog}
 use Rattle.pr_recording.specs.declared.decode_report.Ended.{Ended}
 use Rattle.pr_recording.specs.declared.decode_report.DecodeReport.{DecodeReport}
 use Rattle.pr_recording.specs.Decoded.{back_in, in_front, last_lines, readings_text, stop_at, told_of}
-use Rattle.pr_recording.specs.Narrated.{AccountsMore, EndsEdges, HasAccounted, HasHeeded, HasNarrated, IsFollowed, NarratesMore, time_of}
+use Rattle.pr_recording.specs.Narrated.{AccountsMore, EndsEdges, HasAccounted, HasHeeded, HasNarrated, IsFollowed, NarratesMore, fault_with, refused_by, refused_for, time_of}
 use Rattle.pr_recording.proofs.Backs.{back_stays, front_back, front_stays, goes_back, goes_on, time_of_one}
+use Rattle.pr_recording.proofs.Judging.{first_fault}
 
 -- no edge
 pub narrated_none : (w : Wording) (n : DecodeReport) → n.back ≡ None → HasReadings [] [] n.decoder → last_time n.decoder ≡ None → IsFollowed [] n.follower → survey.HasSeen [] n.seen → HasAccounted w [] [] n.log → n.taken ≡ 0 → HasNarrated w [] [] n
@@ -127,23 +129,37 @@ narrated_cleared old new b d j s t clears = λ f edges written h.
       };
     }
 
--- the end of edges that stop
-ends_stopped : GivenAreSettled → (n : DecodeReport) (own : Option CliFault) (f : CliFault) (e : Ended) → stop_at n.back own ≡ Some f → e.stop ≡ Some f → e.lines ≡ n.log.lines → (w : Wording) (edges : List Edge) (written : List ℕ)
-    → HasNarrated w edges written n → EndsEdges w edges written own e
-ends_stopped settled n own f e is stop lines = λ w edges written h.
-    let k = h.heeded in
-    record {
-      stop = stop ∙ (sym is ∙ ap (λ v. stop_at v own) h.back);
-      lines =
-          ap (λ v. written ++ v.items) lines
-          ∙ (k.accounted.lines
-          ∙ (ap (λ rs. readings_text w rs) (sym (settled (in_front (back_in edges) edges) k.given n.decoder k.read)) ∙ sym (ap (λ s. told_of w s edges) stop)));
-    }
+-- why edges are refused that were taken
+pub refuses : (c : Bool) (n : DecodeReport) (own : Option CliFault) (v : Option WaveFault) → ((edges : List Edge) → IsFollowed edges n.follower → v ≡ fault_of edges)
+    → (w : Wording) (edges : List Edge) (written : List ℕ) → HasNarrated w edges written n → refused_by c n.back own v ≡ refused_for c edges own
+refuses false n own v follows w edges written h = ap (λ b. stop_at b own) h.back
+refuses true n own v follows w edges written h =
+    let before : v ≡ fault_of (in_front (back_in edges) edges) = follows (in_front (back_in edges) edges) h.heeded.followed in
+    ap (λ b. refusal own (fault_with b v)) h.back
+    ∙ (ap (λ f. refusal own (fault_with (back_in edges) f)) before ∙ ap (λ f. refusal own f) (sym (first_fault edges)))
 
-pub ends_told : GivenAreSettled → (n : DecodeReport) (own : Option CliFault) (v : Option CliFault) (e : Ended) → v ≡ stop_at n.back own → is_some v ≡ true → e.stop ≡ v → e.lines ≡ n.log.lines
-    → (w : Wording) (edges : List Edge) (written : List ℕ) → HasNarrated w edges written n → EndsEdges w edges written own e
-ends_told settled n own None e is some stop lines = absurd (cc)
-ends_told settled n own (Some f) e is some stop lines = ends_stopped settled n own f e (sym is) stop lines
+-- the end of edges that stop
+stopped_lines : GivenAreSettled → (n : DecodeReport) (own : Option CliFault) (f : CliFault) (e : Ended) → stop_at n.back own ≡ Some f → e.lines ≡ n.log.lines → (w : Wording) (edges : List Edge) (written : List ℕ)
+    → HasNarrated w edges written n → written ++ e.lines.items ≡ told_of w (stop_at (back_in edges) own) edges
+stopped_lines settled n own f e is lines w edges written h =
+    let k = h.heeded in
+    let stop : stop_at (back_in edges) own ≡ Some f = ap (λ v. stop_at v own) (sym h.back) ∙ is in
+    ap (λ v. written ++ v.items) lines
+    ∙ (k.accounted.lines
+    ∙ (ap (λ rs. readings_text w rs) (sym (settled (in_front (back_in edges) edges) k.given n.decoder k.read)) ∙ sym (ap (λ s. told_of w s edges) stop)))
+
+told_lines : GivenAreSettled → (n : DecodeReport) (own : Option CliFault) (v : Option CliFault) (e : Ended) → v ≡ stop_at n.back own → is_some v ≡ true → e.lines ≡ n.log.lines
+    → (w : Wording) (edges : List Edge) (written : List ℕ) → HasNarrated w edges written n → written ++ e.lines.items ≡ told_of w (stop_at (back_in edges) own) edges
+told_lines settled n own None e is some lines = absurd (cc)
+told_lines settled n own (Some f) e is some lines = stopped_lines settled n own f e (sym is) lines
+
+pub ends_told : GivenAreSettled → (c : Bool) (n : DecodeReport) (own : Option CliFault) (v : Option CliFault) (f : Option WaveFault) (e : Ended) → v ≡ stop_at n.back own → is_some v ≡ true → e.refused ≡ refused_by c n.back own f
+    → ((edges : List Edge) → IsFollowed edges n.follower → f ≡ fault_of edges) → e.lines ≡ n.log.lines
+    → (w : Wording) (edges : List Edge) (written : List ℕ) → HasNarrated w edges written n → EndsEdges w c edges written own e
+ends_told settled c n own v f e is some refused follows lines = λ w edges written h. record {
+  refused = refused ∙ refuses c n own f follows w edges written h;
+  lines = told_lines settled n own v e is some lines w edges written h;
+}
 
 -- nothing stops them
 no_back : (v : Option ℕ) (own : Option CliFault) → stop_at v own ≡ None → v ≡ None
@@ -151,18 +167,19 @@ no_back None own h = refl
 no_back (Some n) own h = absurd (cc)
 
 -- the end of whole edges
-pub ends_whole : (n : DecodeReport) (own : Option CliFault) (cut : Option Reading) (a : ReadingLog) (v : Option WaveFault) (e : Ended) → stop_at n.back own ≡ None → e.stop ≡ None
+pub ends_whole : (c : Bool) (n : DecodeReport) (own : Option CliFault) (cut : Option Reading) (a : ReadingLog) (v : Option WaveFault) (e : Ended) → stop_at n.back own ≡ None → e.refused ≡ refused_by c n.back own v
     → ((edges : List Edge) (given : List Reading) → HasReadings edges given n.decoder → readings_of edges ≡ given ++ option_to_list cut) → ((edges : List Edge) → IsFollowed edges n.follower → v ≡ fault_of edges)
     → AccountsMore (option_to_list cut) n.log a
     → ((w : Wording) (edges : List Edge) (given : List Reading) (written : List ℕ) → survey.HasSeen edges n.seen → HasAccounted w given written a
     → written ++ e.lines.items ≡ readings_text w given ++ last_lines w v edges given) → (w : Wording) (edges : List Edge) (written : List ℕ)
-    → HasNarrated w edges written n → EndsEdges w edges written own e
-ends_whole n own cut a v e is stop reads follows accounts ends = λ w edges written h.
+    → HasNarrated w edges written n → EndsEdges w c edges written own e
+ends_whole c n own cut a v e is refused reads follows accounts ends = λ w edges written h.
     let none : back_in edges ≡ None = sym h.back ∙ no_back n.back own is in
+    let stop : stop_at (back_in edges) own ≡ None = ap (λ v. stop_at v own) (sym h.back) ∙ is in
     let k = of_front w edges written n none h.heeded in
     let all = reads edges k.given k.read in
     record {
-      stop = stop ∙ (sym is ∙ ap (λ v. stop_at v own) h.back);
+      refused = refused ∙ refuses c n own v follows w edges written h;
       lines =
           ends w edges (k.given ++ option_to_list cut) written k.seen (accounts w k.given written k.accounted)
           ∙ (ap (λ rs. readings_text w rs ++ last_lines w v edges rs) (sym all)

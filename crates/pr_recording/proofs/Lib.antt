@@ -1,4 +1,5 @@
 pub mod Backs
+pub mod Judging
 pub mod Writing
 pub mod Accounting
 pub mod Heeding

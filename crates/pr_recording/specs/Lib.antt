@@ -1,4 +1,5 @@
 pub mod Decoded
+pub mod Checked
 pub mod Narrated
 pub mod Pages
 pub mod Copied

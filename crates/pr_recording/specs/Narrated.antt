@@ -1,12 +1,15 @@
 -- Linking words, for proofs: which edges were taken, and which lines were made and written of them. No reader needs to believe them.
-use Rattle.std.specs.Prelude.{◌≡◌, ℕ, ◌+◌, List, [], ◌∷◌, ◌++◌, length, Option, Some, None, Result, Ok, Err}
+use Rattle.std.specs.Prelude.{◌≡◌, ℕ, ◌+◌, Bool, true, false, List, [], ◌∷◌, ◌++◌, length, Option, Some, None, Result, Ok, Err}
 use Rattle.std.specs.Io.KnownBytes.{Appends}
 use Rattle.std.specs.List.{list_any}
 use Rattle.pr_wire.specs.declared.Edge.{Edge}
 use Rattle.pr_wire.specs.declared.Frame.{Frame}
+use Rattle.pr_wire.specs.declared.WaveFault.{WaveFault}
 use Rattle.pr_wire.specs.declared.WaveFault.TheVariants as wave
 use Rattle.pr_wire.specs.declared.follower.TraceFollower.{TraceFollower}
 use Rattle.pr_wire.specs.Following.{HasFollowed}
+use Rattle.pr_wire.specs.Table.{fault_of}
+use Rattle.pr_capture.specs.declared.format.TraceInput.{TraceInput}
 use Rattle.pr_decode.specs.declared.reading.Reading.{Reading}
 use Rattle.pr_decode.specs.Taking.{HasReadings, last_time}
 use Rattle.pr_report.specs.declared.detail.Bounds.{Bounds}
@@ -17,9 +20,11 @@ use Rattle.pr_report.specs.JsonText.{json_line}
 use Rattle.pr_report.specs.ReadingText.{reading_lines}
 use Rattle.pr_report.specs.Oddities.{is_acknowledged}
 use Rattle.pr_report.specs.Taking as survey
+use Rattle.pr_report.specs.declared.report.Report.TheVariants.{Story}
 use Rattle.pr_input.specs.PartlyWritten.{AppendsFront}
 use Rattle.pr_cli.specs.EdgesTaken.{EndsReading}
-use Rattle.pr_cli.specs.Report.{IsOwnFault}
+use Rattle.pr_cli.specs.Report.{IsOwnFault, IsReportFault, Says, refusal}
+use Rattle.pr_cli.specs.Report as report
 use Rattle.pr_cli.specs.declared.fault.CliFault.{CliFault}
 use Rattle.pr_cli.specs.declared.fault.CliFault.TheVariants.{Wave, WriteFailed}
 use Rattle.pr_cli.specs.declared.input_reader.InputReader.{InputReader}
@@ -28,9 +33,26 @@ use Rattle.pr_recording.specs.declared.wording.Wording.TheVariants.{Json, Lines}
 use Rattle.pr_recording.specs.declared.reading_log.ReadingLog.{ReadingLog}
 use Rattle.pr_recording.specs.declared.decode_report.Ended.{Ended}
 use Rattle.pr_recording.specs.declared.decode_report.DecodeReport.{DecodeReport}
-use Rattle.pr_recording.specs.Decoded.{back_in, in_front, readings_text, stop_at, told_of}
+use Rattle.pr_recording.specs.Decoded.{IsDecodeFault, Leaves, ReadsAll, back_in, in_front, readings_text, stop_at, told_of}
 
 -- Verdicts.
+
+-- the first fault of edges, by where time goes back and by that of the edges before it
+abbrev pub fault_with : (back : Option ℕ) → Option WaveFault → Option WaveFault
+fault_with None fault = fault
+fault_with (Some n) None = Some (wave.Order n)
+fault_with (Some n) (Some (wave.Truncated count)) = Some (wave.Order n)
+fault_with (Some n) (Some fault) = Some fault
+
+-- why a recording is refused that is checked or not, by this, and by a fault of its own
+abbrev pub refused_by : (checked : Bool) → (back : Option ℕ) → (own : Option CliFault) → Option WaveFault → Option CliFault
+refused_by true back own fault = refusal own (fault_with back fault)
+refused_by false back own fault = stop_at back own
+
+-- the same, by its edges
+abbrev pub refused_for : (checked : Bool) → List Edge → (own : Option CliFault) → Option CliFault
+refused_for true edges own = refusal own (fault_of edges)
+refused_for false edges own = stop_at (back_in edges) own
 
 -- a follower was given these edges
 abbrev pub IsFollowed : (edges : List Edge) → TraceFollower → Type 0
@@ -101,10 +123,10 @@ NarratesMore more old new =
     (w : Wording) (edges : List Edge) (written : List ℕ) → HasNarrated w edges written old
     → HasNarrated w (edges ++ more) written new
 
--- the end of edges whose input has this fault, if it has one: why they stop, and the lines that were not given up before
-pub record EndsEdges (w : Wording) (edges : List Edge) (written : List ℕ) (own : Option CliFault) (t : Ended) : Type 0 where
-  pub stop : t.stop ≡ stop_at (back_in edges) own
-  pub lines : written ++ t.lines.items ≡ told_of w t.stop edges
+-- the end of edges whose input has this fault, if it has one: why they are refused, and the lines that were not given up before
+pub record EndsEdges (w : Wording) (checked : Bool) (edges : List Edge) (written : List ℕ) (own : Option CliFault) (t : Ended) : Type 0 where
+  pub refused : t.refused ≡ refused_for checked edges own
+  pub lines : written ++ t.lines.items ≡ told_of w (stop_at (back_in edges) own) edges
 
 -- the lines that were not given up yet
 abbrev pub lines_in : DecodeReport → List ℕ
@@ -117,18 +139,44 @@ GivesUp old new =
     → HasNarrated w edges (written ++ lines_in old) new
 
 -- the end of an input of which the edges before the last block were told
-abbrev pub EndsNarrated : InputReader → DecodeReport → Ended → Type 0
-EndsNarrated r n e =
+abbrev pub EndsNarrated : (checked : Bool) → InputReader → DecodeReport → Ended → Type 0
+EndsNarrated c r n e =
     (w : Wording) (written : List ℕ)
-    → EndsReading r (λ edges. HasNarrated w edges written n) (λ edges own. EndsEdges w edges written own e)
+    → EndsReading r (λ edges. HasNarrated w edges written n) (λ edges own. EndsEdges w c edges written own e)
+
+-- What is answered.
+
+-- a fault of a recording that is checked or not
+abbrev pub IsRefusal : (checked : Bool) → CliFault → Type 0
+IsRefusal true fault = IsReportFault fault
+IsRefusal false fault = IsDecodeFault fault
 
 -- why no more is told of an input: time goes back, or it has a fault of its own
 abbrev pub IsStop : CliFault → Type 0
 IsStop (Wave (wave.Order n)) = Unit {0}
 IsStop fault = IsOwnFault fault
 
+-- why an input is refused at its end
+abbrev pub Refuses : (checked : Bool) → CliFault → Type 0
+Refuses true (Wave fault) = IsReportFault (Wave fault)
+Refuses true fault = IsOwnFault fault
+Refuses false fault = IsStop fault
+
 -- what the end of an input comes to in the writer
 abbrev pub WritesEnd : Ended → Option (List ℕ) → Option (List ℕ) → Result (Unit {0}) CliFault → Type 0
-WritesEnd e old new (Ok _) = (e.stop ≡ None) × Appends old new e.lines.items
+WritesEnd e old new (Ok _) = (e.refused ≡ None) × Appends old new e.lines.items
 WritesEnd e old new (Err WriteFailed) = AppendsFront old new e.lines.items
-WritesEnd e old new (Err fault) = (e.stop ≡ Some fault) × Appends old new e.lines.items
+WritesEnd e old new (Err fault) = (e.refused ≡ Some fault) × Appends old new e.lines.items
+
+-- the answer for a recording that is checked or not, by its text and by what the writer held before and after
+pub record AnswersTold (limit : ℕ) (w : Wording) (checked : Bool) (input : TraceInput) (text : List ℕ) (old new : Option (List ℕ))
+    (result : Result (Unit {0}) CliFault) : Type 0 where
+  pub edges : List Edge
+  pub own : Option CliFault
+  pub says : Says input text edges own
+  pub leaves : Leaves limit (length text) (refused_for checked edges own) (told_of w (stop_at (back_in edges) own) edges) old new result
+
+-- how far the input has been read where it is answered
+abbrev pub HasReadTo : (checked : Bool) → Option (List ℕ) → Result (Unit {0}) CliFault → Type 0
+HasReadTo true left result = report.ReadsAll Story left result
+HasReadTo false left result = ReadsAll left result

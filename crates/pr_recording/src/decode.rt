@@ -7,7 +7,7 @@ ghost use Rattle.pr_input.specs.PartlyWritten.{AppendsFront};
 ghost use Rattle.pr_cli.specs.Inputs.{edges_read, lines_ahead};
 ghost use Rattle.pr_input.specs.Watched.{has_failed, is_flushed, wrapped};
 ghost use Rattle.pr_recording.specs.Decoded.{AnswersDecode, IsDecodeFault, ReadsAll};
-ghost use Rattle.pr_recording.specs.Narrated.{EndsNarrated, GivesUp, WritesEnd, lines_in, load};
+ghost use Rattle.pr_recording.specs.Narrated.{AnswersTold, EndsNarrated, GivesUp, HasReadTo, IsRefusal, WritesEnd, lines_in, load};
 
 use crate::decode_report::{DecodeReport, Ended};
 use crate::wording::Wording;
@@ -96,6 +96,34 @@ pub fn decode_input<R: Read, W: Write>(
     ensures read_failed { IsErrOf result CliFault.ReadFailed ↔ (has_failed input.new ≡ true) }
     ensures write_failed { IsErrOf result CliFault.WriteFailed ↔ (has_failed output.new ≡ true) }
 {
+    tell_input(alloc, input, output, trace, wording, false, limit)
+}
+
+/// Reads a recording of at most `limit` bytes and writes what it says, block by block. What is checked is refused
+/// unless it is lawful, anything else only where it cannot be read to its end.
+pub(crate) fn tell_input<R: Read, W: Write>(
+    alloc: Global,
+    input: &mut Watched<R>,
+    output: &mut Watched<W>,
+    trace: TraceInput<'_>,
+    wording: Wording,
+    is_checked: bool,
+    limit: usize,
+) -> Result<(), CliFault>
+    // the caller's part
+    requires input { has_failed input.old ≡ false }
+    requires output { has_failed output.old ≡ false }
+    requires few { limit ≤ trace_limit }
+    // what it gives
+    ensures told { IfSome (R.remaining (wrapped input.old)) (λ text.
+        AnswersTold limit wording is_checked trace.entry text (W.contents (wrapped output.old)) (W.contents (wrapped output.new)) result) }
+    ensures at_end { HasReadTo is_checked (R.remaining (wrapped input.new)) result }
+    ensures flushed { OnOk result (is_flushed output.new ≡ true) }
+    // when it refuses, and what that leaves
+    ensures own { IfErr result (IsRefusal is_checked) }
+    ensures read_failed { IsErrOf result CliFault.ReadFailed ↔ (has_failed input.new ≡ true) }
+    ensures write_failed { IsErrOf result CliFault.WriteFailed ↔ (has_failed output.new ≡ true) }
+{
     readings_add_up();
     read_edges_come_first();
     let mut reader = InputReader::new(alloc, trace, limit);
@@ -103,7 +131,7 @@ pub fn decode_input<R: Read, W: Write>(
     let mut block = [0u8; BLOCK];
     'pieces: loop {
         if !reader.read_block(input, &mut block)? {
-            return write_end(output, end_input(reader, report)?);
+            return write_end(output, end_input(reader, report, is_checked)?);
         }
         report.take_all(reader.edges())?;
         write_lines(output, &mut report)?;
@@ -111,14 +139,18 @@ pub fn decode_input<R: Read, W: Write>(
 }
 
 /// Ends an input, and gives the last of what is told of it.
-fn end_input(reader: InputReader<'_>, mut report: DecodeReport) -> Result<Ended, AllocError>
+fn end_input(
+    reader: InputReader<'_>,
+    mut report: DecodeReport,
+    is_checked: bool,
+) -> Result<Ended, AllocError>
     requires lines { lines_ahead reader + 1 < 2 ^ 64 }
     requires edges { load report + 3 * length (edges_read reader) + 9 < 2 ^ 64 }
-    ensures { IfOk result (λ ended. EndsNarrated reader.entry report ended) }
+    ensures { IfOk result (λ ended. EndsNarrated is_checked reader.entry report ended) }
 {
     let last = reader.finish()?;
     report.take_all(last.edges.as_slice())?;
-    report.finish(last.fault)
+    report.finish(last.fault, is_checked)
 }
 
 /// Writes the lines that are not written yet.
@@ -143,10 +175,10 @@ fn write_lines<W: Write>(output: &mut Watched<W>, report: &mut DecodeReport) -> 
     }
 }
 
-/// Writes the last of what is told, and answers why no more is, if that has a reason.
+/// Writes the last of what is told, and answers why the recording is refused, if it is.
 fn write_end<W: Write>(output: &mut Watched<W>, ended: Ended) -> Result<(), CliFault>
     requires fresh { has_failed output.old ≡ false }
-    requires stop { ended.stop ≢ Some CliFault.WriteFailed }
+    requires refused { ended.refused ≢ Some CliFault.WriteFailed }
     ensures written { WritesEnd ended (W.contents (wrapped output.old)) (W.contents (wrapped output.new)) result }
     ensures failed { IsErrOf result CliFault.WriteFailed ↔ (has_failed output.new ≡ true) }
     ensures flushed { OnOk result (is_flushed output.new ≡ true) }
@@ -155,7 +187,7 @@ fn write_end<W: Write>(output: &mut Watched<W>, ended: Ended) -> Result<(), CliF
         Ok(()) => {}
         Err(WriteFault) => return Err(CliFault::WriteFailed),
     }
-    match ended.stop {
+    match ended.refused {
         None => Ok(()),
         Some(fault) => Err(fault),
     }

@@ -4,10 +4,11 @@ ghost use Rattle.std.specs.Prelude.{◌≡◌, ◌+◌, ◌*◌, ◌^◌, ◌<�
 ghost use Rattle.pr_wire.specs.declared.Edge.{Edge};
 ghost use Rattle.pr_wire.specs.declared.Frame.{Frame};
 ghost use Rattle.pr_wire.specs.Following.{HasFollowed};
+ghost use Rattle.pr_cli.specs.Report.{refusal};
 ghost use Rattle.pr_report.specs.Taking.{HasSeen};
 ghost use Rattle.pr_recording.specs.declared.wording.Wording.{Wording};
 ghost use Rattle.pr_recording.specs.Decoded.{stop_at};
-ghost use Rattle.pr_recording.specs.Narrated.{EndsEdges, GivesUp, HasNarrated, IsFollowed, NarratesMore, lines_in, load};
+ghost use Rattle.pr_recording.specs.Narrated.{EndsEdges, GivesUp, HasNarrated, IsFollowed, NarratesMore, fault_with, lines_in, load, refused_by};
 
 use crate::reading_log::ReadingLog;
 use crate::wording::Wording;
@@ -17,11 +18,11 @@ use pr_report::LinesSeen;
 use pr_wire::{Edge, TraceFollower, WaveFault};
 use std::alloc::{AllocError, Global};
 
-/// The last of what is told of a recording, and why no more is.
+/// The last of what is told of a recording, and why it is refused, if it is.
 #[derive(Drop)]
 pub struct Ended {
     pub lines: Vec<u8>,
-    pub stop: Option<CliFault>,
+    pub refused: Option<CliFault>,
 }
 
 /// Makes the lines of the edges of a recording, up to where time goes back.
@@ -106,23 +107,24 @@ impl DecodeReport {
     }
 
     /// Ends the edges of an input with this fault, if it has one. Where nothing stops them, what the end
-    /// cuts, the summary, the verdict and what is odd are told.
-    pub fn finish(mut self, own: Option<CliFault>) -> Result<Ended, AllocError>
+    /// cuts, the summary, the verdict and what is odd are told. What is checked is refused unless it is lawful,
+    /// anything else only where it stops.
+    pub fn finish(mut self, own: Option<CliFault>, is_checked: bool) -> Result<Ended, AllocError>
         requires room { load self + 3 < 2 ^ 64 }
         ensures { IfOk result (λ ended. (wording : Wording) (edges : List Edge) (written : List ℕ) →
-            HasNarrated wording edges written self → EndsEdges wording edges written own ended) }
+            HasNarrated wording edges written self → EndsEdges wording is_checked edges written own ended) }
     {
         readings_add_up();
-        let stop = stop_at(self.back, own);
-        if stop.is_some() {
+        let fault = self.follower.finish().err();
+        let refused = refused_by(is_checked, self.back, own, fault);
+        if stop_at(self.back, own).is_some() {
             let lines = self.log.into_lines();
-            return Ok(Ended { lines, stop });
+            return Ok(Ended { lines, refused });
         }
         let cut = self.decoder.finish();
         self.log.push_if(cut)?;
-        let fault = self.follower.finish().err();
         let lines = self.log.finish(fault, self.seen)?;
-        Ok(Ended { lines, stop: None })
+        Ok(Ended { lines, refused })
     }
 }
 
@@ -153,5 +155,42 @@ pub fn stop_at(back: Option<usize>, own: Option<CliFault>) -> Option<CliFault>
     match back {
         Some(index) => Some(CliFault::Wave(WaveFault::Order(index))),
         None => own,
+    }
+}
+
+/// The first fault of edges, by the index at which time goes back and by the fault of the edges before it.
+fn fault_with(back: Option<usize>, fault: Option<WaveFault>) -> Option<WaveFault>
+    ensures { result ≡ fault_with back fault }
+{
+    match (back, fault) {
+        (Some(index), None | Some(WaveFault::Truncated(_))) => Some(WaveFault::Order(index)),
+        _ => fault,
+    }
+}
+
+/// Why a trace that is checked is refused: for the fault of its input, or else for that of its edges.
+fn refusal(own: Option<CliFault>, fault: Option<WaveFault>) -> Option<CliFault>
+    ensures { result ≡ refusal own fault }
+{
+    match (own, fault) {
+        (Some(own), _) => Some(own),
+        (None, Some(fault)) => Some(CliFault::Wave(fault)),
+        (None, None) => None,
+    }
+}
+
+/// Why a recording is refused, by the fault of the edges before the one at which time goes back.
+fn refused_by(
+    is_checked: bool,
+    back: Option<usize>,
+    own: Option<CliFault>,
+    fault: Option<WaveFault>,
+) -> Option<CliFault>
+    ensures { result ≡ refused_by is_checked back own fault }
+{
+    if is_checked {
+        refusal(own, fault_with(back, fault))
+    } else {
+        stop_at(back, own)
     }
 }

@@ -9,7 +9,8 @@
 //! - `decode` reads block by block, and writes what a block settles before it reads the next.
 //!   `decode_report` takes the edges that pr_cli's `InputReader` gives up to where time goes back,
 //!   and hands each to a decoder and to pr_wire's follower, which says whether they are a lawful trace;
-//!   `reading_log` has the lines that are not written yet, and a survey of all readings.
+//!   `reading_log` has the lines that are not written yet, and a survey of all readings. `checked` does the
+//!   same in JSON, and refuses a trace that is not lawful ([`check_json_over`], `specs/Checked.antt`).
 //! - `pages` has the same loop, with `capture_printer` in the report's place: it prints what the decoder
 //!   gives, and keeps the papers alone.
 //! - `printer_pair` is what printers 4 and 5 print of readings, `bus_printer` one of them: its listening
@@ -26,6 +27,7 @@ mod bus_printer;
 mod byte_log;
 mod bytes;
 mod capture_printer;
+mod checked;
 mod decode;
 mod decode_report;
 mod device_capture;
@@ -42,6 +44,7 @@ mod wording;
 pub use byte_log::Heard;
 pub use bytes::bytes_over;
 pub use capture_printer::Printed;
+pub use checked::check_json_over;
 pub use decode::{decode_input, decode_over};
 pub use laws::{readings_are_heard_in_turn, traces_are_heard_as_spelled};
 pub use pages::{PRINT_LIMIT, print_input, reprint_over};

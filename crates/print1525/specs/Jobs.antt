@@ -10,6 +10,8 @@ use Rattle.pr_report.specs.declared.report.Report.TheVariants as report
 use Rattle.pr_dots.specs.declared.character_sets.Shapes.{Shapes}
 use Rattle.pr_options.specs.declared.command_line.Job.{Job}
 use Rattle.pr_options.specs.declared.command_line.Job.TheVariants.{Pages, Bus, Check, Decode, Raw}
+use Rattle.pr_options.specs.declared.outputs.CheckOutput.{CheckOutput}
+use Rattle.pr_options.specs.declared.outputs.CheckOutput.TheVariants as checked
 use Rattle.pr_options.specs.declared.outputs.DecodeOutput.{DecodeOutput}
 use Rattle.pr_options.specs.declared.outputs.DecodeOutput.TheVariants as reading
 use Rattle.pr_options.specs.declared.outputs.PagesOutput.{PagesOutput}
@@ -27,6 +29,7 @@ use Rattle.pr_cli.specs.Raw.{AnswersRaw, IsRawFault}
 use Rattle.pr_recording.specs.declared.byte_log.Heard.{Heard}
 use Rattle.pr_recording.specs.declared.wording.Wording.TheVariants.{Json, Lines}
 use Rattle.pr_recording.specs.Bytes.{AnswersBytes, HasReadBytes}
+use Rattle.pr_recording.specs.Checked.{AnswersJson}
 use Rattle.pr_recording.specs.Decoded.{AnswersDecode, IsDecodeFault}
 use Rattle.pr_recording.specs.Decoded as decode
 use Rattle.pr_recording.specs.Pages as reprint
@@ -40,11 +43,17 @@ found_job first (Decode true input f) = Decode false (record input { source = fo
 found_job first job = job
 
 -- what `check` answers: the frames of a trace text, or else a report on an input of any format
-abbrev pub AnswersTrace :
+abbrev pub AnswersFrames :
     TraceInput → Source → Report → List ℕ → Option (List ℕ) → Option (List ℕ)
     → Result (Unit {0}) CliFault → Type 0
-AnswersTrace input source.Text report.Frames text old new result = AnswersCheck text old new result
-AnswersTrace input _ r text old new result = AnswersReport input r text old new result
+AnswersFrames input source.Text report.Frames text old new result = AnswersCheck text old new result
+AnswersFrames input _ r text old new result = AnswersReport input r text old new result
+
+-- or its readings as JSON
+abbrev pub AnswersTrace :
+    TraceInput → CheckOutput → List ℕ → Option (List ℕ) → Option (List ℕ) → Result (Unit {0}) CliFault → Type 0
+AnswersTrace input (checked.Report r) text old new result = AnswersFrames input input.source r text old new result
+AnswersTrace input checked.Json text old new result = AnswersJson input text old new result
 
 -- an answer without a printer's bytes
 abbrev pub IsPlain : (Result Ending CliFault → Type 0) → Result Answer CliFault → Type 0
@@ -97,8 +106,8 @@ AnswersJob shapes (Pages form present delays mode output) text old new result =
     AnswersRun shapes (start_of present delays mode) output text old new result
 AnswersJob shapes (Bus form present delays mode f) text old new result =
     IsPlain (AnswersBus (start_of present delays mode) f text old new) result
-AnswersJob shapes (Check input r) text old new result =
-    IsDone (AnswersTrace input input.source r text old new) result
+AnswersJob shapes (Check input output) text old new result =
+    IsDone (AnswersTrace input output text old new) result
 AnswersJob shapes (Decode is_found input output) text old new result =
     AnswersRecording shapes input output text old new result
 AnswersJob shapes (Raw lower f) text old new result =
@@ -120,7 +129,7 @@ IsRecordingFault _ fault = IsDecodeFault fault
 abbrev pub IsJobFault : Job → CliFault → Type 0
 IsJobFault (Pages form present delays mode output) fault = IsPrintFault output fault
 IsJobFault (Bus form present delays mode f) fault = IsRunFault fault
-IsJobFault (Check input r) fault = IsReportFault fault
+IsJobFault (Check input output) fault = IsReportFault fault
 IsJobFault (Decode is_found input output) fault = IsRecordingFault output fault
 IsJobFault (Raw lower f) fault = IsRawFault fault
 
@@ -129,18 +138,28 @@ abbrev pub ReadsRecording : DecodeOutput → Option (List ℕ) → Result Answer
 ReadsRecording (reading.Bytes device) left result = IsHeardToEnd (HasReadBytes left) result
 ReadsRecording _ left result = IsDone (decode.ReadsAll left) result
 
+-- a trace has been read to its end where it is accepted, and where its edges are refused
+abbrev pub ReadsTrace : CheckOutput → Option (List ℕ) → Result (Unit {0}) CliFault → Type 0
+ReadsTrace (checked.Report r) left result = check.ReadsAll r left result
+ReadsTrace checked.Json left result = check.ReadsAll report.Story left result
+
 -- the input has been read to its end, unless the job's subcommand ends earlier
 abbrev pub ReadsInput : Job → Option (List ℕ) → Result Answer CliFault → Type 0
 ReadsInput (Pages form present delays mode output) left result = ReadsToEnd left result
 ReadsInput (Bus form present delays mode f) left result = ReadsToEnd left result
-ReadsInput (Check input r) left result = IsDone (check.ReadsAll r left) result
+ReadsInput (Check input output) left result = IsDone (ReadsTrace output left) result
 ReadsInput (Decode is_found input output) left result = ReadsRecording output left result
 ReadsInput (Raw lower f) left result = ReadsToEnd left result
+
+-- a refused trace leaves the writer's bytes as they were, unless JSON is written while it is read
+abbrev pub KeepsTrace : CheckOutput → Option (List ℕ) → Option (List ℕ) → Result (Unit {0}) CliFault → Type 0
+KeepsTrace (checked.Report r) old new result = WritesNoReport r old new result
+KeepsTrace checked.Json old new result = Unit {0}
 
 -- a refusal leaves the writer's bytes as they were, unless the job's subcommand writes while it reads
 abbrev pub KeepsOutput : Job → Option (List ℕ) → Option (List ℕ) → Result Answer CliFault → Type 0
 KeepsOutput (Pages form present delays mode output) old new result = WritesNothing old new result
 KeepsOutput (Bus form present delays mode f) old new result = IsPlain (WritesNoEdge old new) result
-KeepsOutput (Check input r) old new result = IsDone (WritesNoReport r old new) result
+KeepsOutput (Check input output) old new result = IsDone (KeepsTrace output old new) result
 KeepsOutput (Decode is_found input output) old new result = Unit {0}
 KeepsOutput (Raw lower f) old new result = WritesNothing old new result

@@ -4,7 +4,7 @@ ghost use Rattle.std.specs.Prelude.{◌≡◌, ◌↔◌, false, true, IfErr, If
 ghost use Rattle.pr_cli.specs.Pages.{ReadsToEnd, WritesNothing, start_of};
 ghost use Rattle.pr_cli.specs.Report.{IsReportFault, ReadsAll, WritesNoReport};
 ghost use Rattle.pr_input.specs.Watched.{has_failed, wrapped};
-ghost use Rattle.print1525.specs.Jobs.{AnswersJob, AnswersRecording, AnswersRun, AnswersTrace, IsJobFault, IsPrintFault, IsRecordingFault, KeepsOutput, ReadsInput, ReadsRecording, found_job};
+ghost use Rattle.print1525.specs.Jobs.{AnswersFrames, AnswersJob, AnswersRecording, AnswersRun, AnswersTrace, IsJobFault, IsPrintFault, IsRecordingFault, KeepsOutput, KeepsTrace, ReadsInput, ReadsRecording, ReadsTrace, found_job};
 
 use pr_basic::StatusMode;
 use pr_bus::Delays;
@@ -13,8 +13,10 @@ use pr_cli::{
     CliFault, Ending, Watched, bus_as_over, check_as_over, check_over, pages_as_over, raw_over,
 };
 use pr_dots::Shapes;
-use pr_options::{DecodeOutput, Job, PagesOutput, found_source};
-use pr_recording::{Heard, Wording, bytes_over, decode_over, reprint_over, run_bytes_over};
+use pr_options::{CheckOutput, DecodeOutput, Job, PagesOutput, found_source};
+use pr_recording::{
+    Heard, Wording, bytes_over, check_json_over, decode_over, reprint_over, run_bytes_over,
+};
 use pr_report::Report;
 use pr_serial::Present;
 use std::alloc::Global;
@@ -64,7 +66,8 @@ pub fn found_job<'a>(job: Job<'a>, first: &[u8]) -> Job<'a>
 /// # Errors
 ///
 /// Those of the job's call: [`pr_cli::pages_as_over`] or, for bytes, [`pr_recording::run_bytes_over`];
-/// [`pr_cli::bus_as_over`]; [`pr_cli::check_over`] for the frames of a trace text and else
+/// [`pr_cli::bus_as_over`]; [`pr_cli::check_over`] for the frames of a trace text,
+/// [`pr_recording::check_json_over`] for the JSON of any trace, and else
 /// [`pr_cli::check_as_over`]; [`pr_recording::decode_over`] for a list and for JSON,
 /// [`pr_recording::bytes_over`], and [`pr_recording::reprint_over`] for pages; [`pr_cli::raw_over`]. They leave
 /// what they leave there. A read failed exactly if the input has failed, and a write exactly if the output has.
@@ -96,8 +99,8 @@ pub fn do_job<R: Read, W: Write>(
             let ending = bus_as_over(alloc, input, output, present, delays, mode, format)?;
             Ok(Answer::Ended(ending))
         }
-        Job::Check(trace, report) => {
-            check_trace(alloc, input, output, trace, report)?;
+        Job::Check(trace, wanted) => {
+            check_trace(alloc, input, output, trace, wanted)?;
             Ok(Answer::Ended(Ending::Done))
         }
         Job::Decode {
@@ -153,8 +156,35 @@ fn print_run<R: Read, W: Write>(
     }
 }
 
-/// Checks a trace and writes what it says: the frames of a trace text, or else the report asked for.
+/// Checks a trace and writes what it says: its readings as JSON, or the report asked for.
 fn check_trace<R: Read, W: Write>(
+    alloc: Global,
+    input: &mut Watched<R>,
+    output: &mut Watched<W>,
+    trace: TraceInput<'_>,
+    wanted: CheckOutput,
+) -> Result<(), CliFault>
+    // the caller's part
+    requires input { has_failed input.old ≡ false }
+    requires output { has_failed output.old ≡ false }
+    // what it gives
+    ensures trace { IfSome (R.remaining (wrapped input.old)) (λ text.
+        AnswersTrace trace.entry wanted text (W.contents (wrapped output.old)) (W.contents (wrapped output.new)) result) }
+    ensures at_end { ReadsTrace wanted (R.remaining (wrapped input.new)) result }
+    // when it refuses, and what that leaves
+    ensures nothing { KeepsTrace wanted (W.contents (wrapped output.old)) (W.contents (wrapped output.new)) result }
+    ensures own { IfErr result IsReportFault }
+    ensures read_failed { IsErrOf result CliFault.ReadFailed ↔ (has_failed input.new ≡ true) }
+    ensures write_failed { IsErrOf result CliFault.WriteFailed ↔ (has_failed output.new ≡ true) }
+{
+    match wanted {
+        CheckOutput::Report(report) => report_trace(alloc, input, output, trace, report),
+        CheckOutput::Json => check_json_over(alloc, input, output, trace),
+    }
+}
+
+/// Checks a trace and writes the frames of a trace text, or else the report asked for.
+fn report_trace<R: Read, W: Write>(
     alloc: Global,
     input: &mut Watched<R>,
     output: &mut Watched<W>,
@@ -166,7 +196,7 @@ fn check_trace<R: Read, W: Write>(
     requires output { has_failed output.old ≡ false }
     // what it gives
     ensures trace { IfSome (R.remaining (wrapped input.old)) (λ text.
-        AnswersTrace trace.entry trace.entry.source report text
+        AnswersFrames trace.entry trace.entry.source report text
         (W.contents (wrapped output.old)) (W.contents (wrapped output.new)) result) }
     ensures at_end { ReadsAll report (R.remaining (wrapped input.new)) result }
     // when it refuses, and what that leaves

@@ -1,4 +1,4 @@
-use Rattle.std.proofs.Common.{◌≡◌, true, false, refl, rules, sym, ◌∙◌, None}
+use Rattle.std.proofs.Common.{◌≡◌, true, false, rules, sym, ◌∙◌}
 use Rattle.std.specs.Prelude.{is_some}
 use Rattle.pr_recording.specs.declared.decode_report.Ended.{Ended}
 use Rattle.pr_recording.proofs.Heeding.{ends_told, ends_whole, not_some}
@@ -6,13 +6,14 @@ use Rattle.pr_recording.proofs.decode_report.DecodeReport.finish.Goals as goal
 
 pub returns-then-is_some : goal.returns-then-is_some
 returns-then-is_some c =
-    let some : is_some c.stop_at-stop.result ≡ true = search rules in
-    let ended : Ended = record { lines = c.into_lines-lines.result; stop = c.stop_at-stop.result } in
-    ends_told c.readings_add_up.ensures.given c.args.self c.args.own c.stop_at-stop.result ended c.stop_at-stop.ensures some refl c.into_lines-lines.ensures
+    let some : is_some c.stop_at.result ≡ true = search rules in
+    let ended : Ended = record { lines = c.into_lines-lines.result; refused = c.refused_by-refused.result } in
+    ends_told c.readings_add_up.ensures.given c.args.is_checked c.args.self c.args.own c.stop_at.result c.err-fault.result ended c.stop_at.ensures some c.refused_by-refused.ensures
+    (λ es k. c.err-fault.ensures.value ∙ c.finish.ensures.fault es k.0 k.1) c.into_lines-lines.ensures
 
 pub returns : goal.returns
 returns c =
-    let none : is_some c.stop_at-stop.result ≡ false = search rules in
-    let ended : Ended = record { lines = c.in_ok-lines.lines; stop = None } in
-    ends_whole c.args.self c.args.own c.finish-cut.result c.push_if.new.self c.err-fault.result ended (sym c.stop_at-stop.ensures ∙ not_some c.stop_at-stop.result none) refl c.finish-cut.ensures.read (λ es k. c.err-fault.ensures.value ∙ c.finish.ensures.fault es k.0 k.1)
-    c.in_ok-push_if.ensures.accounted c.in_ok-lines.ensures
+    let none : is_some c.stop_at.result ≡ false = search rules in
+    let ended : Ended = record { lines = c.in_ok-lines.lines; refused = c.refused_by-refused.result } in
+    ends_whole c.args.is_checked c.args.self c.args.own c.finish-cut.result c.push_if.new.self c.err-fault.result ended (sym c.stop_at.ensures ∙ not_some c.stop_at.result none) c.refused_by-refused.ensures c.finish-cut.ensures.read
+    (λ es k. c.err-fault.ensures.value ∙ c.finish.ensures.fault es k.0 k.1) c.in_ok-push_if.ensures.accounted c.in_ok-lines.ensures

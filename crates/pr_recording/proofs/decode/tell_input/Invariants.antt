@@ -3,7 +3,7 @@ use Rattle.pr_cli.specs.Inputs.{bytes_left, fault_read, lines_ahead}
 use Rattle.pr_cli.specs.EdgesTaken.{HasTakenAll}
 use Rattle.pr_recording.specs.Narrated.{load}
 use Rattle.pr_recording.proofs.Answering.{HasWritten}
-use Rattle.pr_recording.proofs.decode.decode_input.Given as goal
+use Rattle.pr_recording.proofs.decode.tell_input.Given as goal
 
 -- all edges so far were told, what was settled is written, and nothing has failed
 abbrev pub invariant-pieces : goal.invariant-pieces
