@@ -400,7 +400,7 @@ fn rates_of_recordings(rt: HostRuntime) {
 }
 
 /// Whether words are refused with this line.
-fn refuses(rt: &(impl Abort + AllocGlobal), words: &[&str], wanted: &str) {
+fn refuses<'a>(rt: &(impl Abort + AllocGlobal), words: &'a [&'a str], wanted: &str) {
     match read_task(rt.alloc(), words) {
         Ok(_task) => assert!(rt; false, "{words:?}"),
         Err(fault) => tells(rt, &fault, wanted),

@@ -19,7 +19,9 @@ use Rattle.pr_recording.specs.Decoded.{AnswersDecode}
 use Rattle.pr_dots.specs.Shapes.{own_shapes}
 use Rattle.pr_recording.specs.Pages.{AnswersPages, readings_up_to}
 use Rattle.pr_report.specs.declared.report.Report.{Report}
-use Rattle.pr_report.specs.declared.reading_line.Preceding.TheVariants.{Nothing}
+use Rattle.pr_recording.specs.declared.wording.Wording.{Wording}
+use Rattle.pr_report.specs.declared.detail.Detail.{Detail}
+use Rattle.pr_report.specs.Contexts.{at_start}
 use Rattle.pr_web.specs.Giving.{Gives, GivesEdges, GivesFault, GivesLines, GivesPages, GivesRaw, GivesReadings, GivesReport, GivesRows, GivesRun, Made, made_of, without_ending}
 use Rattle.pr_web.specs.Numbers.{AreLineNumbers, IsFaultRow, edge_numbers, reading_rows}
 use Rattle.pr_web.specs.Rows.{EndsRows}
@@ -28,9 +30,9 @@ use Rattle.pr_web.specs.declared.answer.Told.TheVariants.{Refused}
 use Rattle.pr_web.specs.declared.rows.Ended.{Ended}
 
 -- what a recording says is handed over
-pub gives-readings : (input : TraceInput) (bytes text old new : List ℕ) (made : Made) (told : Told)
-    → AnswersDecode trace_limit input bytes (Some []) (Some text) made → Gives made text old new told → GivesReadings input bytes old new told
-gives-readings input bytes text old new made told a g = (made, text, a, g)
+pub gives-readings : (input : TraceInput) (wording : Wording) (bytes text old new : List ℕ) (made : Made) (told : Told)
+    → AnswersDecode trace_limit wording input bytes (Some []) (Some text) made → Gives made text old new told → GivesReadings input wording bytes old new told
+gives-readings input wording bytes text old new made told a g = (made, text, a, g)
 
 -- so are its pages
 pub gives-pages : (input : TraceInput) (format : Format) (bytes text old new : List ℕ) (made : Made) (told : Told)
@@ -60,10 +62,10 @@ gives-edges input bytes edges own numbers old new told says are g =
     inl (edges, own, says, subst Q are g)
 
 -- so are the rows of readings
-pub gives-rows : (input : TraceInput) (bytes : List ℕ) (edges : List Edge) (own : Option CliFault) (ended : Ended) (old new : List ℕ) (told : Told)
-    → Says input bytes edges own → EndsRows edges own ended → Gives (made_of ended.stop) ended.rows.items old new told → GivesRows input bytes old new told
-gives-rows input bytes edges own ended old new told says ends g =
-    let P : Option CliFault → Type 0 = λ s. Gives (made_of s) (reading_rows Nothing (readings_up_to s edges)) old new told in
+pub gives-rows : (input : TraceInput) (detail : Detail) (bytes : List ℕ) (edges : List Edge) (own : Option CliFault) (ended : Ended) (old new : List ℕ) (told : Told)
+    → Says input bytes edges own → EndsRows detail edges own ended → Gives (made_of ended.stop) ended.rows.items old new told → GivesRows input detail bytes old new told
+gives-rows input detail bytes edges own ended old new told says ends g =
+    let P : Option CliFault → Type 0 = λ s. Gives (made_of s) (reading_rows detail at_start (readings_up_to s edges)) old new told in
     let Q : List ℕ → Type 0 = λ l. Gives (made_of ended.stop) l old new told in
     inl (edges, own, says, subst P ends.stop (subst Q ends.rows g))
 

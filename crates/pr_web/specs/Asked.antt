@@ -12,6 +12,8 @@ use Rattle.pr_capture.specs.declared.format.TraceInput.{TraceInput}
 use Rattle.pr_basic.specs.declared.session.StatusMode.{StatusMode}
 use Rattle.pr_cli.specs.Pages.{Start}
 use Rattle.pr_render.specs.declared.format.Format.{Format}
+use Rattle.pr_recording.specs.declared.wording.Wording.{Wording}
+use Rattle.pr_report.specs.declared.detail.Detail.{Detail}
 use Rattle.pr_report.specs.declared.report.Report.{Report}
 use Rattle.pr_web.specs.Answers.{answer_of, number_read, place_of_trace, plain, refusal}
 use Rattle.pr_web.specs.Giving.{Gives, GivesEdges, GivesFault, GivesLines, GivesPages, GivesRaw, GivesReadings, GivesReport, GivesRows, GivesRun, HasNoMemory, Hands}
@@ -25,47 +27,51 @@ abbrev pub Refuses : ℕ → (old new : List ℕ) → Answer → Type 0
 Refuses fault old new answer = (answer ≡ refusal (fault, 0) 0) × (new ≡ old)
 
 -- the lines of a recording
-abbrev pub TellsReadings : Option Source → (atn clock line : List ℕ) → (inverted start : ℕ) → List ℕ
-    → (old new : List ℕ) → Answer → Type 0
-TellsReadings None atn clock line inverted start bytes old new answer = Refuses 29 old new answer
-TellsReadings (Some source) atn clock line inverted start bytes old new answer =
-    (input : TraceInput) × IsInput source atn clock line (is_yes inverted) start input
-    × (told : Told) × GivesReadings input bytes old new told × (answer ≡ answer_of told)
+abbrev pub TellsReadings :
+    Option Source → (atn clock line : List ℕ) → (inverted start rate : ℕ) → Option Wording → List ℕ → (old new : List ℕ)
+    → Answer → Type 0
+TellsReadings None atn clock line inverted start rate wording bytes old new answer = Refuses 29 old new answer
+TellsReadings (Some source) atn clock line inverted start rate None bytes old new answer = Refuses 20 old new answer
+TellsReadings (Some source) atn clock line inverted start rate (Some wording) bytes old new answer =
+    (input : TraceInput) × IsInput source atn clock line (is_yes inverted) start rate input
+    × (told : Told) × GivesReadings input wording bytes old new told × (answer ≡ answer_of told)
 
 -- the pages that printers print of a recording
 abbrev pub TellsReprint :
-    Option Source → (atn clock line : List ℕ) → (inverted start : ℕ) → Option Format → List ℕ → (old new : List ℕ)
+    Option Source → (atn clock line : List ℕ) → (inverted start rate : ℕ) → Option Format → List ℕ → (old new : List ℕ)
     → Answer → Type 0
-TellsReprint None atn clock line inverted start format bytes old new answer = Refuses 29 old new answer
-TellsReprint (Some source) atn clock line inverted start None bytes old new answer = Refuses 24 old new answer
-TellsReprint (Some source) atn clock line inverted start (Some format) bytes old new answer =
-    (input : TraceInput) × IsInput source atn clock line (is_yes inverted) start input
+TellsReprint None atn clock line inverted start rate format bytes old new answer = Refuses 29 old new answer
+TellsReprint (Some source) atn clock line inverted start rate None bytes old new answer = Refuses 24 old new answer
+TellsReprint (Some source) atn clock line inverted start rate (Some format) bytes old new answer =
+    (input : TraceInput) × IsInput source atn clock line (is_yes inverted) start rate input
     × (told : Told) × GivesPages input format bytes old new told × (answer ≡ answer_of told)
 
 -- a report on a trace
 abbrev pub TellsReport :
-    Option Source → (atn clock line : List ℕ) → (inverted start : ℕ) → Report → List ℕ → (old new : List ℕ) → Answer
+    Option Source → (atn clock line : List ℕ) → (inverted start rate : ℕ) → Report → List ℕ → (old new : List ℕ) → Answer
     → Type 0
-TellsReport None atn clock line inverted start report bytes old new answer = Refuses 29 old new answer
-TellsReport (Some source) atn clock line inverted start report bytes old new answer =
-    (input : TraceInput) × IsInput source atn clock line (is_yes inverted) start input
+TellsReport None atn clock line inverted start rate report bytes old new answer = Refuses 29 old new answer
+TellsReport (Some source) atn clock line inverted start rate report bytes old new answer =
+    (input : TraceInput) × IsInput source atn clock line (is_yes inverted) start rate input
     × (told : Told) × GivesReport input report bytes old new told × (answer ≡ answer_of told)
 
 -- the edges of a recording
-abbrev pub TellsEdges : Option Source → (atn clock line : List ℕ) → (inverted start : ℕ) → List ℕ
+abbrev pub TellsEdges : Option Source → (atn clock line : List ℕ) → (inverted start rate : ℕ) → List ℕ
     → (old new : List ℕ) → Answer → Type 0
-TellsEdges None atn clock line inverted start bytes old new answer = Refuses 29 old new answer
-TellsEdges (Some source) atn clock line inverted start bytes old new answer =
-    (input : TraceInput) × IsInput source atn clock line (is_yes inverted) start input
+TellsEdges None atn clock line inverted start rate bytes old new answer = Refuses 29 old new answer
+TellsEdges (Some source) atn clock line inverted start rate bytes old new answer =
+    (input : TraceInput) × IsInput source atn clock line (is_yes inverted) start rate input
     × (told : Told) × GivesEdges input bytes old new told × (answer ≡ answer_of told)
 
 -- a row for each reading of a recording
-abbrev pub TellsRows : Option Source → (atn clock line : List ℕ) → (inverted start : ℕ) → List ℕ
-    → (old new : List ℕ) → Answer → Type 0
-TellsRows None atn clock line inverted start bytes old new answer = Refuses 29 old new answer
-TellsRows (Some source) atn clock line inverted start bytes old new answer =
-    (input : TraceInput) × IsInput source atn clock line (is_yes inverted) start input
-    × (told : Told) × GivesRows input bytes old new told × (answer ≡ answer_of told)
+abbrev pub TellsRows :
+    Option Source → (atn clock line : List ℕ) → (inverted start rate : ℕ) → Option Detail → List ℕ → (old new : List ℕ)
+    → Answer → Type 0
+TellsRows None atn clock line inverted start rate detail bytes old new answer = Refuses 29 old new answer
+TellsRows (Some source) atn clock line inverted start rate None bytes old new answer = Refuses 20 old new answer
+TellsRows (Some source) atn clock line inverted start rate (Some detail) bytes old new answer =
+    (input : TraceInput) × IsInput source atn clock line (is_yes inverted) start rate input
+    × (told : Told) × GivesRows input detail bytes old new told × (answer ≡ answer_of told)
 
 -- the bounds of the delays
 abbrev pub TellsBounds : (old new : List ℕ) → Answer → Type 0
@@ -117,18 +123,18 @@ ExplainsStop (Some stop) statement present script old new answer =
 
 -- why a trace is refused
 abbrev pub ExplainsTrace :
-    Option Source → (atn clock line : List ℕ) → (inverted start : ℕ) → List ℕ → (old new : List ℕ)
+    Option Source → (atn clock line : List ℕ) → (inverted start rate : ℕ) → List ℕ → (old new : List ℕ)
     → Answer → Type 0
-ExplainsTrace None atn clock line inverted start bytes old new answer = Refuses 29 old new answer
-ExplainsTrace (Some source) atn clock line inverted start bytes old new answer =
-    (input : TraceInput) × IsInput source atn clock line (is_yes inverted) start input
+ExplainsTrace None atn clock line inverted start rate bytes old new answer = Refuses 29 old new answer
+ExplainsTrace (Some source) atn clock line inverted start rate bytes old new answer =
+    (input : TraceInput) × IsInput source atn clock line (is_yes inverted) start rate input
     × Explains (IsTracePlace input bytes) place_of_trace nowhere old new answer
 
 -- why a recording cannot be read to its end
 abbrev pub ExplainsReading :
-    Option Source → (atn clock line : List ℕ) → (inverted start : ℕ) → List ℕ → (old new : List ℕ)
+    Option Source → (atn clock line : List ℕ) → (inverted start rate : ℕ) → List ℕ → (old new : List ℕ)
     → Answer → Type 0
-ExplainsReading None atn clock line inverted start bytes old new answer = Refuses 29 old new answer
-ExplainsReading (Some source) atn clock line inverted start bytes old new answer =
-    (input : TraceInput) × IsInput source atn clock line (is_yes inverted) start input
+ExplainsReading None atn clock line inverted start rate bytes old new answer = Refuses 29 old new answer
+ExplainsReading (Some source) atn clock line inverted start rate bytes old new answer =
+    (input : TraceInput) × IsInput source atn clock line (is_yes inverted) start rate input
     × Explains (IsReadingPlace input bytes) (λ o. option_map_or number_read o 0) None old new answer

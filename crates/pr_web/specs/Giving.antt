@@ -18,7 +18,9 @@ use Rattle.pr_capture.specs.declared.format.TraceInput.{TraceInput}
 use Rattle.pr_dots.specs.Shapes.{own_shapes}
 use Rattle.pr_recording.specs.Decoded.{AnswersDecode, back_in, stop_at}
 use Rattle.pr_recording.specs.Pages.{AnswersPages, readings_up_to}
-use Rattle.pr_report.specs.declared.reading_line.Preceding.TheVariants.{Nothing}
+use Rattle.pr_recording.specs.declared.wording.Wording.{Wording}
+use Rattle.pr_report.specs.declared.detail.Detail.{Detail}
+use Rattle.pr_report.specs.Contexts.{at_start}
 use Rattle.pr_report.specs.declared.report.Report.{Report}
 use Rattle.pr_web.specs.Answers.{answer_of}
 use Rattle.pr_web.specs.Numbers.{AreLineNumbers, IsFaultRow, edge_numbers, reading_rows}
@@ -61,9 +63,9 @@ Gives made text old new (TooSmall n) =
 Gives made text old new (Refused fault) = (made ≡ Err fault) × (is_of_input fault ≡ false) × (new ≡ old)
 
 -- the buffer gets the lines of a recording
-abbrev pub GivesReadings : TraceInput → List ℕ → (old new : List ℕ) → Told → Type 0
-GivesReadings input bytes old new told =
-    (made : Made) × (text : List ℕ) × AnswersDecode trace_limit input bytes (Some []) (Some text) made
+abbrev pub GivesReadings : TraceInput → Wording → List ℕ → (old new : List ℕ) → Told → Type 0
+GivesReadings input wording bytes old new told =
+    (made : Made) × (text : List ℕ) × AnswersDecode trace_limit wording input bytes (Some []) (Some text) made
     × Gives made text old new told
 
 -- the buffer gets the pages that printers print of a recording
@@ -107,11 +109,11 @@ GivesEdges input bytes old new told =
     ⊎ HasNoMemory old new told
 
 -- the buffer gets a row for each reading of a recording, up to where it stops
-abbrev pub GivesRows : TraceInput → List ℕ → (old new : List ℕ) → Told → Type 0
-GivesRows input bytes old new told =
+abbrev pub GivesRows : TraceInput → Detail → List ℕ → (old new : List ℕ) → Told → Type 0
+GivesRows input detail bytes old new told =
     ((edges : List Edge) × (own : Option CliFault) × Says input bytes edges own
     × Gives (made_of (stop_at (back_in edges) own))
-    (reading_rows Nothing (readings_up_to (stop_at (back_in edges) own) edges)) old new told)
+    (reading_rows detail at_start (readings_up_to (stop_at (back_in edges) own) edges)) old new told)
     ⊎ HasNoMemory old new told
 
 -- the buffer gets the line of each statement of a script

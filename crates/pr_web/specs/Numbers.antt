@@ -12,9 +12,11 @@ use Rattle.pr_decode.specs.declared.reading.FrameEnd.TheVariants as frame
 use Rattle.pr_decode.specs.declared.reading.IncompleteEnd.TheVariants as cut
 use Rattle.pr_decode.specs.declared.reading.Reading.{Reading}
 use Rattle.pr_decode.specs.declared.reading.Reading.TheVariants.{Frame, IncompleteByte}
-use Rattle.pr_report.specs.declared.reading_line.Preceding.{Preceding}
+use Rattle.pr_report.specs.declared.context.Context.{Context}
+use Rattle.pr_report.specs.declared.detail.Detail.{Detail}
 use Rattle.pr_report.specs.Intervals.{longest_answer, transfer_of}
-use Rattle.pr_report.specs.ReadingText.{after_reading, reading_lines}
+use Rattle.pr_report.specs.Contexts.{after_reading}
+use Rattle.pr_report.specs.ReadingText.{reading_lines}
 use Rattle.pr_basic.specs.declared.fault.ScriptFault.{ScriptFault}
 use Rattle.pr_basic.specs.declared.statement.Statement.{Statement}
 use Rattle.pr_basic.specs.FaultPlaces.{IsFirstFaultAt}
@@ -61,13 +63,13 @@ row_with t end lines =
     ∷ t.pull ∷ t.last_pull
     ∷ t.low.shortest ∷ t.low.longest ∷ t.high.shortest ∷ t.high.longest ∷ lines ∷ []
 
-abbrev pub row_of : Preceding → Reading → List ℕ
-row_of before r = row_with (transfer_of r) (end_of r) (length (reading_lines before r))
+abbrev pub row_of : Detail → Context → Reading → List ℕ
+row_of detail before r = row_with (transfer_of r) (end_of r) (length (reading_lines detail before r))
 
 -- a row for each reading
-abbrev pub reading_rows : Preceding → List Reading → List ℕ
-reading_rows before [] = []
-reading_rows before (r ∷ rs) = row_of before r ++ reading_rows (after_reading before r) rs
+abbrev pub reading_rows : Detail → Context → List Reading → List ℕ
+reading_rows detail before [] = []
+reading_rows detail before (r ∷ rs) = row_of detail before r ++ reading_rows detail (after_reading before r) rs
 
 -- Delays.
 

@@ -1,5 +1,5 @@
 -- Trusted: what the numbers and bytes that the page passes mean.
-use Rattle.std.specs.Prelude.{◌≡◌, ℕ, ◌==◌, Bool, true, false, List, if◌then◌else◌, not, Option, Some, None}
+use Rattle.std.specs.Prelude.{◌≡◌, ℕ, ◌==◌, Bool, true, false, List, if◌then◌else◌, not, option_map, Option, Some, None}
 use Rattle.pr_basic.specs.declared.session.StatusMode.{StatusMode}
 use Rattle.pr_basic.specs.declared.session.StatusMode.TheVariants as mode
 use Rattle.pr_channels.specs.declared.faults.Stop.{Stop}
@@ -9,6 +9,10 @@ use Rattle.pr_render.specs.declared.format.Device.{Device}
 use Rattle.pr_render.specs.declared.format.Device.TheVariants.{Four, Five}
 use Rattle.pr_render.specs.declared.format.Format.TheVariants as format
 use Rattle.pr_render.specs.Showing.{showing, whole}
+use Rattle.pr_recording.specs.declared.wording.Wording.{Wording}
+use Rattle.pr_recording.specs.declared.wording.Wording.TheVariants.{Json, Lines}
+use Rattle.pr_report.specs.declared.detail.Bounds.TheVariants.{Guide, Profile}
+use Rattle.pr_report.specs.declared.detail.Detail.{Detail}
 use Rattle.pr_report.specs.declared.report.Report.{Report}
 use Rattle.pr_report.specs.declared.report.Report.TheVariants as report
 use Rattle.pr_capture.specs.declared.format.Source.{Source}
@@ -80,8 +84,25 @@ abbrev pub report_of : (is_story : Bool) → Report
 report_of false = report.Frames
 report_of true = report.Story
 
+-- which intervals of a reading have a line: none, or those outside the bounds of the profile or of the guide
+abbrev pub detail_of : ℕ → Option Detail
+detail_of number =
+    if number == 0 then Some (record { intervals = false; bounds = Profile })
+    else (if number == 1 then Some (record { intervals = true; bounds = Profile })
+    else (if number == 2 then Some (record { intervals = false; bounds = Guide })
+    else (if number == 3 then Some (record { intervals = true; bounds = Guide }) else None)))
+
+-- how what a recording says is written: as lines, or as JSON
+abbrev pub wording_of : ℕ → Option Wording
+wording_of number = if number == 4 then Some Json else option_map (λ detail. Lines detail) (detail_of number)
+
+-- the samples in a second that are said of a table, if they are
+abbrev pub rate_of : ℕ → Option ℕ
+rate_of number = if number == 0 then None else Some number
+
 -- a recording with these names of its signals, with levels as they are or inverted, which starts at this microsecond
-pub record IsInput (source : Source) (atn clock line : List ℕ) (is_inverted : Bool) (start : ℕ)
+-- and has so many samples in a second
+pub record IsInput (source : Source) (atn clock line : List ℕ) (is_inverted : Bool) (start rate : ℕ)
     (input : TraceInput) : Type 0 where
   pub of_source : input.source ≡ source
   pub of_atn : input.signals.atn.now ≡ atn
@@ -89,3 +110,4 @@ pub record IsInput (source : Source) (atn clock line : List ℕ) (is_inverted : 
   pub of_line : input.signals.line.now ≡ line
   pub of_inverted : input.signals.is_inverted ≡ is_inverted
   pub of_start : input.start ≡ start
+  pub of_rate : input.rate ≡ rate_of rate

@@ -28,7 +28,7 @@ pub struct Answer {
     /// 0 done, 2 refused, 3 out of memory, 4 the buffer is too small.
     pub code: usize,
     /// With code 2 the number of the fault: 1 to 7 those of a script, 8 a bad line of a trace text, 9 too
-    /// large, 11 to 16 those of edges (12: an edge is earlier than the one before it), 24, 29 and 30 a
+    /// large, 11 to 16 those of edges (12: an edge is earlier than the one before it), 20, 24, 29 and 30 a
     /// number that means no setting, 31 to 49 and 70 to 77 those of a recording, 50 a sheet that there
     /// is not, 51 a document that is too large. Else 0.
     pub fault: usize,

@@ -158,17 +158,18 @@ pub extern "C" fn print1525_explain_trace(
     line: &[u8],
     inverted: u8,
     start: u64,
+    rate: u64,
     out: &mut [u8],
     answer: &mut Answer,
 )
-    ensures tells { ExplainsTrace (source_of source) atn.now clock.now line.now inverted start bytes.now out.old out.new answer.new }
+    ensures tells { ExplainsTrace (source_of source) atn.now clock.now line.now inverted start rate bytes.now out.old out.new answer.new }
     ensures length { length out.new ≡ length out.old }
 {
     let Some(source) = source_for(source) else {
         *answer = refused(29, 0);
         return;
     };
-    let input = input_for(source, atn, clock, line, inverted != 0, start);
+    let input = input_for(source, atn, clock, line, inverted != 0, start, rate);
     *answer = match explain_trace(alloc, bytes, input) {
         Ok(told) => explained(place_of_trace(told.place), told.text.as_str(), out),
         Err(_) => unexplained(),
@@ -191,17 +192,18 @@ pub extern "C" fn print1525_explain_reading(
     line: &[u8],
     inverted: u8,
     start: u64,
+    rate: u64,
     out: &mut [u8],
     answer: &mut Answer,
 )
-    ensures tells { ExplainsReading (source_of source) atn.now clock.now line.now inverted start bytes.now out.old out.new answer.new }
+    ensures tells { ExplainsReading (source_of source) atn.now clock.now line.now inverted start rate bytes.now out.old out.new answer.new }
     ensures length { length out.new ≡ length out.old }
 {
     let Some(source) = source_for(source) else {
         *answer = refused(29, 0);
         return;
     };
-    let input = input_for(source, atn, clock, line, inverted != 0, start);
+    let input = input_for(source, atn, clock, line, inverted != 0, start, rate);
     *answer = match explain_reading(alloc, bytes, input) {
         Ok(told) => explained(place_of_reading(told.place), told.text.as_str(), out),
         Err(_) => unexplained(),

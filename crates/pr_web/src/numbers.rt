@@ -8,13 +8,14 @@ ghost use Rattle.pr_web.specs.Asked.{TellsBounds, TellsEdges, TellsRows};
 ghost use Rattle.pr_web.specs.Giving.{GivesEdges, GivesRows};
 ghost use Rattle.pr_web.specs.Numbers.{bounds_numbers, edge_numbers, kind_numbers, level_number};
 ghost use Rattle.pr_web.specs.Rows.{EndsRows};
-ghost use Rattle.pr_web.specs.Settings.{source_of};
+ghost use Rattle.pr_web.specs.Settings.{detail_of, source_of};
 
 use crate::answer::{Answer, Told, ended, give, numbered, refused};
 use crate::rows::{Ended, RecordingRows, flag};
-use crate::settings::{input_for, source_for};
+use crate::settings::{detail_for, input_for, source_for};
 use pr_capture::TraceInput;
 use pr_cli::{CliFault, EdgeReader, LastEdges};
+use pr_report::Detail;
 use pr_wire::{Edge, Kind, Levels, NoMemory, bounds};
 use std::alloc::Global;
 
@@ -66,10 +67,15 @@ fn numbers_of(alloc: Global, edges: &[Edge]) -> Result<Vec<u64>, NoMemory>
 }
 
 /// The rows of the readings of edges whose input has this fault, if it has one, and why there are no more.
-fn rows_of(alloc: Global, edges: &[Edge], own: Option<CliFault>) -> Result<Ended, NoMemory>
-    ensures { IfOk result (λ ended. EndsRows edges.now own ended) }
+fn rows_of(
+    alloc: Global,
+    detail: Detail,
+    edges: &[Edge],
+    own: Option<CliFault>,
+) -> Result<Ended, NoMemory>
+    ensures { IfOk result (λ ended. EndsRows detail edges.now own ended) }
 {
-    let mut rows = RecordingRows::new(alloc);
+    let mut rows = RecordingRows::new(alloc, detail);
     rows.take_all(edges)?;
     rows.finish(own)
 }
@@ -89,14 +95,14 @@ fn edges(alloc: Global, bytes: &[u8], input: TraceInput<'_>, out: &mut [u64]) ->
 }
 
 /// Reads a recording, and puts a row for each of its readings at the front of a buffer.
-fn rows(alloc: Global, bytes: &[u8], input: TraceInput<'_>, out: &mut [u64]) -> Told
-    ensures told { GivesRows input.entry bytes.now out.old out.new result }
+fn rows(alloc: Global, bytes: &[u8], input: TraceInput<'_>, detail: Detail, out: &mut [u64]) -> Told
+    ensures told { GivesRows input.entry detail bytes.now out.old out.new result }
     ensures length { length out.new ≡ length out.old }
 {
     let Ok(said) = read_input(alloc, bytes, input) else {
         return Told::Refused(CliFault::NoMemory);
     };
-    let Ok(made) = rows_of(alloc, said.edges.as_slice(), said.fault) else {
+    let Ok(made) = rows_of(alloc, detail, said.edges.as_slice(), said.fault) else {
         return Told::Refused(CliFault::NoMemory);
     };
     give(ended(made.stop), made.rows.as_slice(), out)
@@ -150,23 +156,24 @@ pub extern "C" fn print1525_edges(
     line: &[u8],
     inverted: u8,
     start: u64,
+    rate: u64,
     out: &mut [u64],
     answer: &mut Answer,
 )
-    ensures tells { TellsEdges (source_of source) atn.now clock.now line.now inverted start bytes.now out.old out.new answer.new }
+    ensures tells { TellsEdges (source_of source) atn.now clock.now line.now inverted start rate bytes.now out.old out.new answer.new }
     ensures length { length out.new ≡ length out.old }
 {
     let Some(source) = source_for(source) else {
         *answer = refused(29, 0);
         return;
     };
-    let input = input_for(source, atn, clock, line, inverted != 0, start);
+    let input = input_for(source, atn, clock, line, inverted != 0, start, rate);
     *answer = numbered(edges(alloc, bytes, input, out));
 }
 
 /// Reads a recording, and puts a row of seventeen numbers for each of its readings at the front of
-/// the page's buffer: those readings whose lines [`crate::print1525_readings`] gives. All moments and
-/// lengths are microseconds.
+/// the page's buffer: those readings whose lines [`crate::print1525_readings`] gives, with `detail` as its
+/// `wording` (0 to 3). All moments and lengths are microseconds.
 ///
 /// - What ended the byte: 0 its acknowledgement, 1 that nobody acknowledged it, 2 ATN's pull, 3
 ///   CLOCK's release for too long, 4 the recording's end; and when, or 0 for the recording's end.
@@ -190,18 +197,24 @@ pub extern "C" fn print1525_reading_rows(
     line: &[u8],
     inverted: u8,
     start: u64,
+    rate: u64,
+    detail: u8,
     out: &mut [u64],
     answer: &mut Answer,
 )
-    ensures tells { TellsRows (source_of source) atn.now clock.now line.now inverted start bytes.now out.old out.new answer.new }
+    ensures tells { TellsRows (source_of source) atn.now clock.now line.now inverted start rate (detail_of detail) bytes.now out.old out.new answer.new }
     ensures length { length out.new ≡ length out.old }
 {
     let Some(source) = source_for(source) else {
         *answer = refused(29, 0);
         return;
     };
-    let input = input_for(source, atn, clock, line, inverted != 0, start);
-    *answer = numbered(rows(alloc, bytes, input, out));
+    let Some(detail) = detail_for(detail) else {
+        *answer = refused(20, 0);
+        return;
+    };
+    let input = input_for(source, atn, clock, line, inverted != 0, start, rate);
+    *answer = numbered(rows(alloc, bytes, input, detail, out));
 }
 
 /// Puts the bounds of the profile's delays at the front of the page's buffer, the least and the

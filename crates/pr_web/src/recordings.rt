@@ -3,26 +3,32 @@
 ghost use Rattle.std.specs.Prelude.{◌≡◌, ◌≢◌, length};
 ghost use Rattle.pr_web.specs.Asked.{TellsReadings, TellsReport, TellsReprint};
 ghost use Rattle.pr_web.specs.Giving.{GivesPages, GivesReadings, GivesReport};
-ghost use Rattle.pr_web.specs.Settings.{is_yes, report_of, shown_of, source_of};
+ghost use Rattle.pr_web.specs.Settings.{is_yes, report_of, shown_of, source_of, wording_of};
 
 use crate::answer::{Answer, Told, give, numbered, refused};
-use crate::settings::{input_for, report_for, shown_for, source_for};
+use crate::settings::{input_for, report_for, shown_for, source_for, wording_for};
 use pr_capture::TraceInput;
 use pr_cli::{Watched, check_as_over};
 use pr_dots::Shapes;
-use pr_recording::{decode_over, reprint_over};
+use pr_recording::{Wording, decode_over, reprint_over};
 use pr_render::Format;
 use pr_report::Report;
 use std::alloc::Global;
 
 /// Reads a recording, and puts what it says at the front of a buffer.
-fn readings(alloc: Global, bytes: &[u8], input: TraceInput<'_>, out: &mut [u8]) -> Told
-    ensures told { GivesReadings input.entry bytes.now out.old out.new result }
+fn readings(
+    alloc: Global,
+    bytes: &[u8],
+    input: TraceInput<'_>,
+    wording: Wording,
+    out: &mut [u8],
+) -> Told
+    ensures told { GivesReadings input.entry wording bytes.now out.old out.new result }
     ensures length { length out.new ≡ length out.old }
 {
     let mut reader = Watched::new(bytes);
     let mut output = Watched::new(Vec::new(alloc));
-    let made = decode_over(alloc, &mut reader, &mut output, input);
+    let made = decode_over(alloc, &mut reader, &mut output, input, wording);
     give(made, &output.into_inner(), out)
 }
 
@@ -72,11 +78,13 @@ fn report(
 ///
 /// `source` is 0 for a trace text, 1 for a Value Change Dump, 2 for a table. `atn`, `clock` and
 /// `line` are the names of the signals, `inverted` is whether their levels are inverted (0 for no),
-/// and `start` is the microsecond at which the recording starts.
+/// `start` is the microsecond at which the recording starts, and `rate` is how many samples a table
+/// without times has in a second (0 where it is not said). `wording` is 0 for lines, 1 for lines with
+/// those of intervals outside their bounds, 2 and 3 the same by the bounds of the guide, 4 for JSON.
 ///
 /// It is refused with the faults of [`pr_recording::decode_over`] but for reads and writes, for a
-/// number that means no format, and where the text has more bytes than the buffer has room
-/// for, with their number. Of a recording that cannot be read to its end, the text of what comes
+/// number that means no format or no wording, and where the text has more bytes than the buffer has
+/// room for, with their number. Of a recording that cannot be read to its end, the text of what comes
 /// before the fault is in the buffer, with code 2. With every other refusal the buffer is as it
 /// was.
 #[unsafe(no_mangle)]
@@ -89,18 +97,25 @@ pub extern "C" fn print1525_readings(
     line: &[u8],
     inverted: u8,
     start: u64,
+    rate: u64,
+    wording: u8,
     out: &mut [u8],
     answer: &mut Answer,
 )
-    ensures tells { TellsReadings (source_of source) atn.now clock.now line.now inverted start bytes.now out.old out.new answer.new }
+    ensures tells { TellsReadings (source_of source) atn.now clock.now line.now inverted start rate (wording_of wording) bytes.now out.old out.new
+        answer.new }
     ensures length { length out.new ≡ length out.old }
 {
     let Some(source) = source_for(source) else {
         *answer = refused(29, 0);
         return;
     };
-    let input = input_for(source, atn, clock, line, inverted != 0, start);
-    *answer = numbered(readings(alloc, bytes, input, out));
+    let Some(wording) = wording_for(wording) else {
+        *answer = refused(20, 0);
+        return;
+    };
+    let input = input_for(source, atn, clock, line, inverted != 0, start, rate);
+    *answer = numbered(readings(alloc, bytes, input, wording, out));
 }
 
 /// Reads a recording, and puts the pages that printers 4 and 5 print of it at the front of the
@@ -122,13 +137,14 @@ pub extern "C" fn print1525_reprint(
     line: &[u8],
     inverted: u8,
     start: u64,
+    rate: u64,
     format: u8,
     device: u8,
     sheet: u64,
     out: &mut [u8],
     answer: &mut Answer,
 )
-    ensures tells { TellsReprint (source_of source) atn.now clock.now line.now inverted start (shown_of format device sheet) bytes.now out.old out.new
+    ensures tells { TellsReprint (source_of source) atn.now clock.now line.now inverted start rate (shown_of format device sheet) bytes.now out.old out.new
         answer.new }
     ensures length { length out.new ≡ length out.old }
 {
@@ -140,7 +156,7 @@ pub extern "C" fn print1525_reprint(
         *answer = refused(24, 0);
         return;
     };
-    let input = input_for(source, atn, clock, line, inverted != 0, start);
+    let input = input_for(source, atn, clock, line, inverted != 0, start, rate);
     *answer = numbered(reprint(alloc, bytes, input, format, out));
 }
 
@@ -161,11 +177,12 @@ pub extern "C" fn print1525_report(
     line: &[u8],
     inverted: u8,
     start: u64,
+    rate: u64,
     story: u8,
     out: &mut [u8],
     answer: &mut Answer,
 )
-    ensures tells { TellsReport (source_of source) atn.now clock.now line.now inverted start (report_of (is_yes story)) bytes.now out.old out.new
+    ensures tells { TellsReport (source_of source) atn.now clock.now line.now inverted start rate (report_of (is_yes story)) bytes.now out.old out.new
         answer.new }
     ensures length { length out.new ≡ length out.old }
 {
@@ -173,6 +190,6 @@ pub extern "C" fn print1525_report(
         *answer = refused(29, 0);
         return;
     };
-    let input = input_for(source, atn, clock, line, inverted != 0, start);
+    let input = input_for(source, atn, clock, line, inverted != 0, start, rate);
     *answer = numbered(report(alloc, bytes, input, report_for(story != 0), out));
 }

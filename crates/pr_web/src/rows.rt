@@ -4,6 +4,7 @@ ghost use Rattle.std.specs.Prelude.{◌≡◌, ◌+◌, ◌^◌, ◌<◌, ◌≤
 ghost use Rattle.std.specs.Option.{option_map_or, option_to_list};
 ghost use Rattle.pr_wire.specs.declared.Edge.{Edge};
 ghost use Rattle.pr_decode.specs.declared.reading.Reading.{Reading};
+ghost use Rattle.pr_report.specs.declared.detail.Detail.{Detail};
 ghost use Rattle.pr_report.specs.Intervals.{transfer_of};
 ghost use Rattle.pr_report.specs.ReadingText.{reading_lines};
 ghost use Rattle.pr_recording.specs.Decoded.{stop_at};
@@ -14,7 +15,7 @@ use pr_cli::CliFault;
 use pr_decode::{
     Decoder, FrameEnd, GoesBack, IncompleteEnd, Pulse, Reading, Transfer, readings_add_up,
 };
-use pr_report::{Preceding, push_reading};
+use pr_report::{Context, Detail, push_reading};
 use pr_wire::{Edge, NoMemory, WaveFault};
 use std::alloc::Global;
 
@@ -101,8 +102,10 @@ fn push_row(rows: &mut Vec<u64>, reading: &Reading, lines: u64) -> Result<(), No
 /// The rows of the readings so far.
 #[derive(Drop)]
 pub struct RowLog {
+    /// What is written of a reading.
+    detail: Detail,
     /// What comes before the next reading.
-    before: Preceding,
+    before: Context,
     /// The lines of the last reading, of which the row has the length.
     lines: Vec<u8>,
     rows: Vec<u64>,
@@ -110,11 +113,12 @@ pub struct RowLog {
 
 impl RowLog {
     /// A log of no reading. It takes no memory.
-    fn new(alloc: Global) -> RowLog
-        ensures { HasRows [] result }
+    fn new(alloc: Global, detail: Detail) -> RowLog
+        ensures { HasRows detail [] result }
     {
         RowLog {
-            before: Preceding::Nothing,
+            detail,
+            before: Context::new(),
             lines: Vec::new(alloc),
             rows: Vec::new(alloc),
         }
@@ -122,10 +126,11 @@ impl RowLog {
 
     /// Adds a reading.
     fn push(&mut self, reading: &Reading) -> Result<(), NoMemory>
-        ensures { OnOk result ((given : List Reading) → HasRows given self.old → HasRows (given ++ reading.now ∷ []) self.new) }
+        ensures { OnOk result ((detail : Detail) (given : List Reading) → HasRows detail given self.old →
+            HasRows detail (given ++ reading.now ∷ []) self.new) }
     {
         self.lines.clear();
-        push_reading(&mut self.lines, self.before, reading)?;
+        push_reading(&mut self.lines, self.before, reading, self.detail)?;
         let lines = self.lines.len() as u64;
         push_row(&mut self.rows, reading, lines)?;
         self.before = self.before.after(reading);
@@ -174,13 +179,13 @@ fn stop_at(back: Option<usize>, own: Option<CliFault>) -> Option<CliFault>
 
 impl RecordingRows {
     /// The rows of no edge. It takes no memory.
-    pub fn new(alloc: Global) -> RecordingRows
-        ensures rows { HasTaken [] result }
+    pub fn new(alloc: Global, detail: Detail) -> RecordingRows
+        ensures rows { HasTaken detail [] result }
         ensures edges { result.taken ≡ 0 }
     {
         RecordingRows {
             decoder: Decoder::new(),
-            log: RowLog::new(alloc),
+            log: RowLog::new(alloc, detail),
             taken: 0,
             back: None,
         }
@@ -221,7 +226,8 @@ impl RecordingRows {
     /// Ends the edges of an input with this fault, if it has one. Where nothing stops them, what the
     /// end cuts has its row too.
     pub fn finish(mut self, own: Option<CliFault>) -> Result<Ended, NoMemory>
-        ensures { IfOk result (λ ended. (edges : List Edge) → HasTaken edges self → EndsRows edges own ended) }
+        ensures { IfOk result (λ ended. (detail : Detail) (edges : List Edge) → HasTaken detail edges self →
+            EndsRows detail edges own ended) }
     {
         readings_add_up();
         let stop = stop_at(self.back, own);

@@ -1,13 +1,14 @@
 //! What the numbers and bytes that the page passes mean.
 
 ghost use Rattle.std.specs.Prelude.{◌≡◌};
-ghost use Rattle.pr_web.specs.Settings.{IsInput, device_of, format_of, mode_of, report_of, sheet_of, shown_of, source_of, stop_of};
+ghost use Rattle.pr_web.specs.Settings.{IsInput, detail_of, device_of, format_of, mode_of, rate_of, report_of, sheet_of, shown_of, source_of, stop_of, wording_of};
 
 use pr_basic::StatusMode;
 use pr_capture::{Signals, Source, TraceInput};
 use pr_channels::Stop;
+use pr_recording::Wording;
 use pr_render::{Device, Format, Part};
-use pr_report::Report;
+use pr_report::{Bounds, Detail, Report};
 
 /// The format of a recording: 0 a trace text, 1 a Value Change Dump, 2 a table of comma separated values.
 pub fn source_for(number: u8) -> Option<Source>
@@ -111,8 +112,46 @@ pub fn report_for(is_story: bool) -> Report
     }
 }
 
+/// Which intervals of a reading have a line: 0 and 2 none, 1 those outside the profile's bounds, 3 those outside the guide's;
+/// with 2 and 3 the summary and the verdict are by the guide.
+pub fn detail_for(number: u8) -> Option<Detail>
+    ensures { result ≡ detail_of number }
+{
+    let (intervals, bounds) = match number {
+        0 => (false, Bounds::Profile),
+        1 => (true, Bounds::Profile),
+        2 => (false, Bounds::Guide),
+        3 => (true, Bounds::Guide),
+        _ => return None,
+    };
+    Some(Detail { intervals, bounds })
+}
+
+/// How what a recording says is written: 0 to 3 as lines with this detail, 4 as JSON.
+pub fn wording_for(number: u8) -> Option<Wording>
+    ensures { result ≡ wording_of number }
+{
+    if number == 4 {
+        return Some(Wording::Json);
+    }
+    match detail_for(number) {
+        Some(detail) => Some(Wording::Lines(detail)),
+        None => None,
+    }
+}
+
+/// The samples in a second that are said of a table; 0 where none are.
+fn rate_for(number: u64) -> Option<u64>
+    ensures { result ≡ rate_of number }
+{
+    match number {
+        0 => None,
+        rate => Some(rate),
+    }
+}
+
 /// A recording with these names of its signals, of levels as they are or inverted, which starts at this
-/// microsecond.
+/// microsecond and has so many samples in a second, or says itself how many (0).
 pub fn input_for<'a>(
     source: Source,
     atn: &'a [u8],
@@ -120,8 +159,9 @@ pub fn input_for<'a>(
     line: &'a [u8],
     is_inverted: bool,
     start: u64,
+    rate: u64,
 ) -> TraceInput<'a>
-    ensures { IsInput source atn.now clock.now line.now is_inverted start result }
+    ensures { IsInput source atn.now clock.now line.now is_inverted start rate result }
 {
     TraceInput {
         source,
@@ -132,6 +172,6 @@ pub fn input_for<'a>(
             is_inverted,
         },
         start,
-        rate: None,
+        rate: rate_for(rate),
     }
 }

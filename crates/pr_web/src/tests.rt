@@ -19,7 +19,7 @@ const NOTHING: Answer = Answer {
 };
 
 /// What is answered for a trace text's readings.
-fn read(alloc: Global, text: &[u8], source: u8, out: &mut [u8]) -> Answer {
+fn read(alloc: Global, text: &[u8], source: u8, wording: u8, out: &mut [u8]) -> Answer {
     let mut answer = NOTHING;
     let (atn, clock, line) = NAMES;
     print1525_readings(
@@ -31,6 +31,8 @@ fn read(alloc: Global, text: &[u8], source: u8, out: &mut [u8]) -> Answer {
         line,
         0,
         0,
+        0,
+        wording,
         out,
         &mut answer,
     );
@@ -40,17 +42,23 @@ fn read(alloc: Global, text: &[u8], source: u8, out: &mut [u8]) -> Answer {
 #[test]
 fn readings_of_a_recording(rt: HostRuntime) {
     let mut out = [7u8; 999];
-    let told = read(rt.alloc(), b"0 111\n", 0, &mut out);
+    let told = read(rt.alloc(), b"0 111\n", 0, 0, &mut out);
     assert!(rt; told.code == 0 && told.fault == 0 && told.place == 0);
     assert!(rt; out.starts_with(b"frames: 0\ncommands: 0\ndata bytes: 0\n"));
-    let told = read(rt.alloc(), b"0 111\n", 0, &mut []);
+    let told = read(rt.alloc(), b"0 111\n", 0, 0, &mut []);
     assert!(rt; told.code == 4 && told.length > 99);
-    let told = read(rt.alloc(), b"0 111\n5 11\n", 0, &mut out);
+    let told = read(rt.alloc(), b"0 111\n5 11\n", 0, 0, &mut out);
     assert!(rt; told.code == 2 && told.fault == 8 && told.place == 2 && told.length == 0);
-    let told = read(rt.alloc(), b"Time [s],ATN,DATA\n0,1,1\n", 2, &mut out);
+    let told = read(rt.alloc(), b"Time [s],ATN,DATA\n0,1,1\n", 2, 0, &mut out);
     assert!(rt; told.code == 2 && told.fault == 32 && told.place == 1);
-    let told = read(rt.alloc(), b"0 111\n", 3, &mut out);
+    let told = read(rt.alloc(), b"0 111\n", 3, 0, &mut out);
     assert!(rt; told.code == 2 && told.fault == 29 && told.place == 0);
+    // JSON, and a number that means no wording.
+    let told = read(rt.alloc(), b"0 111\n", 0, 4, &mut out);
+    assert!(rt; told.code == 0);
+    assert!(rt; out.starts_with(b"{"));
+    let told = read(rt.alloc(), b"0 111\n", 0, 5, &mut out);
+    assert!(rt; told.code == 2 && told.fault == 20 && told.place == 0);
 }
 
 #[test]
@@ -65,6 +73,7 @@ fn pages_of_a_recording(rt: HostRuntime) {
         atn,
         clock,
         line,
+        0,
         0,
         0,
         2,
@@ -94,6 +103,7 @@ fn edges_and_readings_as_numbers(rt: HostRuntime) {
         line,
         0,
         0,
+        0,
         &mut out,
         &mut answer,
     );
@@ -108,6 +118,7 @@ fn edges_and_readings_as_numbers(rt: HostRuntime) {
         line,
         0,
         0,
+        0,
         &mut out[..3],
         &mut answer,
     );
@@ -120,6 +131,8 @@ fn edges_and_readings_as_numbers(rt: HostRuntime) {
         atn,
         clock,
         line,
+        0,
+        0,
         0,
         0,
         &mut out,
@@ -153,6 +166,7 @@ fn reports_on_a_trace(rt: HostRuntime) {
         line,
         0,
         0,
+        0,
         1,
         &mut out,
         &mut answer,
@@ -166,6 +180,7 @@ fn reports_on_a_trace(rt: HostRuntime) {
         atn,
         clock,
         line,
+        0,
         0,
         0,
         0,
@@ -246,6 +261,7 @@ fn explanations(rt: HostRuntime) {
         line,
         0,
         0,
+        0,
         &mut out,
         &mut answer,
     );
@@ -258,6 +274,7 @@ fn explanations(rt: HostRuntime) {
         atn,
         clock,
         line,
+        0,
         0,
         0,
         &mut out,
