@@ -2,6 +2,7 @@ pub mod Backs
 pub mod Writing
 pub mod Accounting
 pub mod Heeding
+pub mod ReadMore
 pub mod Coming
 pub mod Noting
 pub mod Answering

@@ -1,5 +1,6 @@
 pub mod Decoded
 pub mod Narrated
+pub mod EdgesRead
 pub mod Pages
 pub mod Copied
 pub mod Copying
