@@ -87,6 +87,11 @@ class Chromium:
         return json.loads(message)
 
 
+def inside(script):
+    """A script that sees what the parts of the page have, which are ES modules (inside.js)."""
+    return f"with (globalThis.inside || {{}}) {{ {script}\n}}"
+
+
 class Waiting:
     """What each browser's page has."""
 
@@ -143,7 +148,7 @@ class Page(Waiting):
 
     def run(self, script):
         """The value of a script; a promise is waited for."""
-        answer = self.send("Runtime.evaluate", expression=script, awaitPromise=True, returnByValue=True)
+        answer = self.send("Runtime.evaluate", expression=inside(script), awaitPromise=True, returnByValue=True)
         if "exceptionDetails" in answer:
             details = answer["exceptionDetails"]
             raise Failed(details.get("exception", {}).get("description") or details["text"])

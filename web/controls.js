@@ -1,7 +1,10 @@
 // The choices, the tabs, the bars and the buttons; and how the page begins.
 
+import './inside.js';
+import './printed.js';
 import { CODES } from './reading.js';
-import { $, all, ask, button, decode, editor, encode, fillReader, fromBase64, hasWebAssembly, notice, paper, print, readers, state, tellFailed, tellOnce, wave } from './page.js';
+import { $, all, button, decode, encode, fromBase64 } from './basics.js';
+import { ask, editor, fillReader, hasWebAssembly, notice, paper, print, readers, state, tellFailed, tellOnce, wave } from './page.js';
 import { cover } from './telling.js';
 import { useBounds } from './wire.js';
 import { keptSource, leaveSource, showFile, takeFile } from './files.js';
@@ -304,7 +307,7 @@ async function begin() {
   if (source) showFile(source);
   if (!hasWebAssembly()) {
     notice('memory', 'This browser has no WebAssembly or cannot inflate it, and the proved code needs both. Chrome and Edge have them from ' +
-      'version 103, Firefox from 113, Safari from 16.4. What you type here is kept all the same.');
+      'version 103, Firefox from 114, Safari from 16.4. What you type here is kept all the same.');
     $('told').textContent = 'Nothing can be printed in this browser.';
     cover('Nothing can be printed in this browser.');
     return;

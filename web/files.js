@@ -1,7 +1,8 @@
 // Files that are dropped or opened: listings in each form, traces, recordings and a printer's bytes.
 
 import { isTextual, looksPetcat, petcatOf, refusalOf } from './listing.js';
-import { $, ask, button, clearPaper, decode, editor, encode, FILE_LIMIT, fromBase64, notice, print, showPaper, state, tellFailed, tellOnce, toBase64, wave } from './page.js';
+import { $, button, decode, encode, fromBase64, toBase64 } from './basics.js';
+import { ask, clearPaper, editor, FILE_LIMIT, notice, print, showPaper, state, tellFailed, tellOnce, wave } from './page.js';
 import { cover, showWire } from './telling.js';
 import { file, keepEarlier, listingChanged } from './kept.js';
 import { ready, showChoices, showTab } from './controls.js';

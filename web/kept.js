@@ -1,6 +1,7 @@
 // What is kept: the listing in this browser and in the address, and the listings before it; and the menu that brings them back.
 
-import { $, decode, EARLIER_LIMIT, editor, encode, fromBase64, LINK_LIMIT, LISTING_LIMIT, notice, print, state, tellOnce, toBase64, wave } from './page.js';
+import { $, decode, encode, fromBase64, toBase64 } from './basics.js';
+import { EARLIER_LIMIT, editor, LINK_LIMIT, LISTING_LIMIT, notice, print, state, tellOnce, wave } from './page.js';
 import { leaveSource, take } from './files.js';
 import { showChoices } from './controls.js';
 

@@ -14,7 +14,7 @@ import tempfile
 import time
 import urllib.request
 
-from chromium import Failed, Waiting
+from chromium import Failed, Waiting, inside
 
 KEYS = {"Enter": "\ue007", "Escape": "\ue00c", "ArrowLeft": "\ue012", "ArrowRight": "\ue014", "ArrowUp": "\ue013", "ArrowDown": "\ue015", "Tab": "\ue004"}
 
@@ -153,7 +153,7 @@ class FirefoxPage(Waiting):
         self.send("browsingContext.reload", wait="complete")
 
     def run(self, script):
-        answer = self.browser.send("script.evaluate", expression=script, target={"context": self.context}, awaitPromise=True, serializationOptions={"maxObjectDepth": 9})
+        answer = self.browser.send("script.evaluate", expression=inside(script), target={"context": self.context}, awaitPromise=True, serializationOptions={"maxObjectDepth": 9})
         if answer["type"] == "exception":
             raise Failed(answer["exceptionDetails"]["text"])
         return value_of(answer["result"])
@@ -287,7 +287,7 @@ class WebkitPage(Waiting):
 
     def run(self, script):
         script = script.strip()
-        made = f"const done = arguments[0]; Promise.resolve().then(() => ({script})).then(value => done([value]), error => done(String(error)));"
+        made = f"const done = arguments[0]; {inside(f'Promise.resolve().then(() => ({script})).then(value => done([value]), error => done(String(error)));')}"
         answer = self.command("POST", "/execute/async", {"script": made, "args": []})
         if isinstance(answer, str):
             raise Failed(answer)

@@ -1,5 +1,6 @@
 // The page: what is typed goes to the worker, and what comes back goes on paper and on the wire.
 
+import { $, button, decode, encode } from './basics.js';
 import { Reader } from './reader.js';
 import { hasTyped } from './listing.js';
 import { partsOf, wordsAt } from './reading.js';
@@ -10,12 +11,6 @@ import { cover, frameChosen, lineChosen, markClicked, showWire, tellUnder, trace
 import { leaveSource, recordingOf, showSource } from './files.js';
 import { listingChanged } from './kept.js';
 import { chooseForm, ready } from './controls.js';
-
-/** @type {(id: string) => any} */
-export const $ = id => document.getElementById(id);
-
-/** @type {(selector: string, root?: ParentNode) => any[]} */
-export const all = (selector, root = document) => [...root.querySelectorAll(selector)];
 
 export const AUTOMATIC = 64 * 1024;       // a longer listing's trace is made only when it is asked for
 export const LINK_LIMIT = 30000;          // characters of an address
@@ -49,16 +44,6 @@ worker.onmessage = ({ data: { number, answer, error } }) => {
   answers.delete(number);
   if (error === undefined) resolve(answer); else reject(new Error(error));
 };
-
-export const decode = bytes => new TextDecoder().decode(bytes);
-export const encode = text => new TextEncoder().encode(text);
-export const fromBase64 = text => Uint8Array.from(atob(text), sign => sign.charCodeAt(0));
-
-export function toBase64(bytes) {
-  let text = '';
-  for (let at = 0; at < bytes.length; at += 8192) text += String.fromCharCode(...bytes.subarray(at, at + 8192));
-  return btoa(text);
-}
 
 // A worker that cannot go on answers nothing more: what it was asked fails.
 worker.onerror = event => {
@@ -105,14 +90,6 @@ export const tellOnce = (name, words) => notice(name, words, [button('Close', ()
 
 /** Says that a call of the module failed. */
 export const tellFailed = error => tellOnce('failed', `The module failed: ${error.message}`);
-
-export function button(words, act) {
-  const made = document.createElement('button');
-  made.type = 'button';
-  made.textContent = words;
-  made.onclick = act;
-  return made;
-}
 
 // printing
 

@@ -1,7 +1,8 @@
 // What a printer of today gets: each sheet of eleven inches on a page of its own, at true size, one printer after the other.
 
 import { LETTER_HEIGHT, MARKS_TOP, SHEET_TOP, STEP } from './sheets.js';
-import { $, paper } from './page.js';
+import { $ } from './basics.js';
+import { paper } from './page.js';
 
 const SHEET_HEIGHT = 13860;    // eleven inches
 const PAGE_WIDTH = 10710;      // eight and a half, with the eight inches of the marks in the middle

@@ -2,7 +2,8 @@
 
 import { intervalsIn } from './wire.js';
 import { hexadecimal, spaced } from './wave.js';
-import { $, all, ask, AUTOMATIC, button, counted, editor, encode, fillReader, LINES_LIMIT, nextText, paper, readers, state, tellFailed, tellOnce, wanted, wave } from './page.js';
+import { $, all, button, encode } from './basics.js';
+import { ask, AUTOMATIC, counted, editor, fillReader, LINES_LIMIT, nextText, paper, readers, state, tellFailed, tellOnce, wanted, wave } from './page.js';
 import { readLists } from './controls.js';
 
 export function cover(words, actions = []) {

@@ -1,0 +1,25 @@
+// Short names for what every part of the page does.
+
+/** @type {(id: string) => any} */
+export const $ = id => document.getElementById(id);
+
+/** @type {(selector: string, root?: ParentNode) => any[]} */
+export const all = (selector, root = document) => [...root.querySelectorAll(selector)];
+
+export const decode = bytes => new TextDecoder().decode(bytes);
+export const encode = text => new TextEncoder().encode(text);
+export const fromBase64 = text => Uint8Array.from(atob(text), sign => sign.charCodeAt(0));
+
+export function toBase64(bytes) {
+  let text = '';
+  for (let at = 0; at < bytes.length; at += 8192) text += String.fromCharCode(...bytes.subarray(at, at + 8192));
+  return btoa(text);
+}
+
+export function button(words, act) {
+  const made = document.createElement('button');
+  made.type = 'button';
+  made.textContent = words;
+  made.onclick = act;
+  return made;
+}
