@@ -18,7 +18,7 @@ use pr_serial::Present;
 use std::alloc::Global;
 
 /// Puts an explanation of this place at the front of a buffer, and answers the place.
-fn explained(place: usize, text: &str, out: &mut [u8]) -> Answer
+pub fn explained(place: usize, text: &str, out: &mut [u8]) -> Answer
     ensures hands { Hands place text.now out.old out.new result }
     ensures length { length out.new ≡ length out.old }
 {
@@ -162,10 +162,10 @@ pub extern "C" fn print1525_explain_trace(
     out: &mut [u8],
     answer: &mut Answer,
 )
-    ensures tells { ExplainsTrace (source_of source) atn.now clock.now line.now inverted start rate bytes.now out.old out.new answer.new }
+    ensures tells { ExplainsTrace (source_of source bytes.now) atn.now clock.now line.now inverted start rate bytes.now out.old out.new answer.new }
     ensures length { length out.new ≡ length out.old }
 {
-    let Some(source) = source_for(source) else {
+    let Some(source) = source_for(source, bytes) else {
         *answer = refused(29, 0);
         return;
     };
@@ -196,10 +196,10 @@ pub extern "C" fn print1525_explain_reading(
     out: &mut [u8],
     answer: &mut Answer,
 )
-    ensures tells { ExplainsReading (source_of source) atn.now clock.now line.now inverted start rate bytes.now out.old out.new answer.new }
+    ensures tells { ExplainsReading (source_of source bytes.now) atn.now clock.now line.now inverted start rate bytes.now out.old out.new answer.new }
     ensures length { length out.new ≡ length out.old }
 {
-    let Some(source) = source_for(source) else {
+    let Some(source) = source_for(source, bytes) else {
         *answer = refused(29, 0);
         return;
     };
