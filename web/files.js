@@ -75,7 +75,7 @@ export function take(bytes, name, kind) {
     tellOnce('lines', words);
     return listingChanged();
   }
-  showFile({ bytes, name, kind, set: 0, names: ['ATN', 'CLOCK', 'DATA'], inverted: false, start: 0 });
+  showFile({ bytes, name, kind, set: 0, names: ['ATN', 'CLOCK', 'DATA'], inverted: false, start: 0, rate: 0 });
 }
 
 /** Shows a file in the place of the listing, which is kept. */
@@ -88,9 +88,9 @@ export function showFile(source) {
 }
 
 /** What the module is asked of a recording. */
-export const recordingOf = ({ bytes, kind, names, inverted, start }) => ({ bytes, input: kind, ...(kind === 'text' ? {} : { names, inverted, start }) });
+export const recordingOf = ({ bytes, kind, names, inverted, start, rate }) => ({ bytes, input: kind, ...(kind === 'text' ? {} : { names, inverted, start, rate: kind === 'csv' ? rate : 0 }) });
 
-/** The signals of a dump or a table: their names, whether their levels are inverted, and where the recording begins. */
+/** The signals of a dump or a table: their names, whether their levels are inverted, where the recording begins, and a table's rate. */
 function signalFields(source) {
   const fields = document.createElement('div'), again = () => { keepSource(); print(); };
   fields.className = 'signals';
@@ -108,6 +108,10 @@ function signalFields(source) {
   field('inverted levels', source.inverted, input => { source.inverted = input.checked; }, 'checkbox');
   field('starts at', source.start, input => { source.start = Math.max(Math.floor(Number(input.value)) || 0, 0); });
   fields.append('µs');
+  // (a table with times of its own has no use for it)
+  if (source.kind === 'csv') {
+    field('samples a second, of a table without times', source.rate || '', input => { source.rate = Math.max(Math.floor(Number(input.value)) || 0, 0); });
+  }
   return fields;
 }
 

@@ -26,7 +26,8 @@ export const state = { form: 'text', printers: 3, status: 0, delays: 'typical', 
 
 const worker = new Worker(URL.createObjectURL(new Blob([$('worker').textContent], { type: 'text/javascript' })));
 const answers = new Map();
-let jobs = 0, onPaper = 0;         // `onPaper`: the number of the print whose sheets are shown
+let jobs = 0;
+export let onPaper = 0;            // the number of the print whose sheets are shown
 
 /**
  * Gives the worker a job, and answers with its answer. `run` says of which run the answer is to be, by the number of its
@@ -94,7 +95,7 @@ export const tellFailed = error => tellOnce('failed', `The module failed: ${erro
 // printing
 
 export let wanted = 0;
-let printed = 0, printing = false;
+export let printed = 0, printing = false;     // (the tests wait for them)
 
 /** Prints what is there now. While the worker prints, only the latest of what comes meanwhile is printed then. */
 export async function print() {

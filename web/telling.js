@@ -56,8 +56,11 @@ function offerWire(isThere) {
   for (const what of ['trace', 'vcd', 'readings']) all(`[data-save=${what}]`)[0].disabled = !isThere;
 }
 
+export let onWire = null;  // what the wire shows and what is said of it, or null (the tests look at it)
+
 /** Shows a trace with what is said of it, or none. */
 export function showWire(answer) {
+  onWire = answer;
   offerWire(Boolean(answer));
   const { times, levels, frames, verdict } = answer || { times: new Float64Array(0), levels: new Uint8Array(0), frames: [], verdict: '' };
   wave.show({ times, levels }, frames);
