@@ -316,6 +316,7 @@ reading_no_write (Err x) f e none is = let k : f ≡ WriteFailed = cc in let P :
 -- a fault that is handed on has the meaning that it had: it is a failed read exactly if the input has failed
 pub failed_read : (v : Result (Unit {0}) CliFault) (r : Result Bool CliFault) (f : CliFault) (b : Type 0) → IsErrAnd v (λ x. x ≡ f) → r ≡ Err f → (IsErrOf r ReadFailed ↔ b) → (IsErrOf v ReadFailed ↔ b)
 failed_read (Ok u) r f b e is k = absurd e
-failed_read (Err x) r f b e is k =
-    (λ h. k.0 (let q : f ≡ ReadFailed = cc (h, e) in is ∙ ap (λ (y : CliFault). Err y) q),
-    λ h. let q : f ≡ ReadFailed = cc (k.1 h, is) in ap (λ (y : CliFault). Err y) (e ∙ q))
+failed_read (Err x) r f b e is k = (
+  λ h. k.0 (let q : f ≡ ReadFailed = cc (h, e) in is ∙ ap (λ (y : CliFault). Err y) q),
+  λ h. let q : f ≡ ReadFailed = cc (k.1 h, is) in ap (λ (y : CliFault). Err y) (e ∙ q),
+)
