@@ -113,6 +113,7 @@ $(MODULE): $(SOURCES) tools/crates.py web/module
 # left in out/web, to be looked at.
 web-test: build
 	@tsc -p web
+	@web/compare $(PROGRAM) web/print1525.html 40
 	@web/test --program $(PROGRAM)
 	@web/compare-node $(PROGRAM)
 

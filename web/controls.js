@@ -133,7 +133,7 @@ function download(bytes, name, type) {
   setTimeout(() => URL.revokeObjectURL(anchor.href), 10000);
 }
 
-const FILES = {
+export const FILES = {
   svg: ['svg', 'image/svg+xml'],
   png: ['png', 'image/png'],
   pdf: ['pdf', 'application/pdf'],

@@ -132,7 +132,7 @@ export function keepEarlier(text = editor.text, form = state.form) {
 
 // the menu
 
-const examples = JSON.parse($('examples').textContent);
+export const examples = JSON.parse($('examples').textContent);
 
 export function fillMenu() {
   const menu = $('menu'), groups = new Map();

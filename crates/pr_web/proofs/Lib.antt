@@ -3,3 +3,5 @@ pub mod Inputs
 pub mod Backs
 pub mod Kept
 pub mod Lines
+pub mod Middles
+pub mod Words

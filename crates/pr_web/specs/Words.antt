@@ -1,5 +1,5 @@
 -- Trusted: the words of a command line, and the task that they ask for, as numbers.
-use Rattle.std.specs.Prelude.{◌≡◌, ◌⊎◌, ◌¬◌, ℕ, ◌==◌, List, [], ◌∷◌, ◌++◌, length, Option, Some, None, Ok}
+use Rattle.std.specs.Prelude.{◌≡◌, ◌⊎◌, ℕ, ◌+◌, ◌==◌, List, [], ◌∷◌, ◌++◌, length, Option, Some, None, Ok}
 use Rattle.std.specs.List.{slice_split}
 use Rattle.std.specs.Option.{unwrap_or}
 use Rattle.std.specs.Str.{IsUtf8}
@@ -28,7 +28,7 @@ use Rattle.pr_report.specs.declared.detail.Detail.{Detail}
 use Rattle.pr_report.specs.declared.report.Report.{Report}
 use Rattle.pr_report.specs.declared.report.Report.TheVariants as report
 use Rattle.pr_web.specs.Answers.{answer_of, plain, refusal}
-use Rattle.pr_web.specs.Giving.{Gives, GivesBus, Hands}
+use Rattle.pr_web.specs.Giving.{Gives, GivesBus}
 use Rattle.pr_web.specs.Numbers.{flag}
 use Rattle.pr_web.specs.declared.answer.Answer.{Answer}
 use Rattle.pr_web.specs.declared.answer.Told.{Told}
@@ -124,7 +124,7 @@ task_numbers task =
 
 -- words that are not UTF-8 are refused, and the buffer is as it was
 abbrev pub RefusesText : (words : List ℕ) → (old new : List ℕ) → Answer → Type 0
-RefusesText words old new answer = ¬ (IsUtf8 words) × (answer ≡ refusal (53, 0) 0) × (new ≡ old)
+RefusesText words old new answer = (IsUtf8 words → ⊥) × (answer ≡ refusal (53, 0) 0) × (new ≡ old)
 
 -- memory was refused, and the buffer is as it was
 abbrev pub WantsMemory : (old new : List ℕ) → Answer → Type 0
@@ -154,7 +154,7 @@ abbrev pub TellsBusAsked : (words script : List ℕ) → (old new : List ℕ) �
 TellsBusAsked words script old new answer =
     ((run : RunView) × (format : TraceFormat) × AsksBus words run format
     × (told : Told) × GivesBus (start_in run) format script old new told × (answer ≡ answer_of told))
-    ⊎ (((run : RunView) (format : TraceFormat) → ¬ (AsksBus words run format))
+    ⊎ (((run : RunView) (format : TraceFormat) → AsksBus words run format → ⊥)
     × (answer ≡ refusal (54, 0) 0) × (new ≡ old))
     ⊎ RefusesText words old new answer
     ⊎ WantsMemory old new answer

@@ -2,13 +2,13 @@ use Rattle.std.proofs.Common.{◌≡◌, ℕ, ◌<◌, ◌≤◌, ◌-◌, true,
 use Rattle.pr_report.specs.Summary.{is_half}
 use Rattle.pr_web.proofs.lengths.middle.Given as goal
 
--- no number below `low` is exceeded by so few, and `high` is
-abbrev pub invariant-loop : goal.invariant-loop
-invariant-loop l = record {
+-- more lengths exceed each number below `low`, and no more exceed `high`
+abbrev pub invariant-loop-low : goal.invariant-loop-low
+invariant-loop-low l = record {
   below : (k : ℕ) → k < l.low → is_half l.lengths k ≡ false;
   half : is_half l.lengths l.high ≡ true;
   order : l.low ≤ l.high;
 }
 
-abbrev pub decreases-loop : goal.decreases-loop
-decreases-loop l = l.high - l.low
+abbrev pub decreases-loop-low : goal.decreases-loop-low
+decreases-loop-low l = l.high - l.low
