@@ -146,9 +146,9 @@ class Page(Waiting):
         self.send("Page.navigate", url=address)
         self.until("document.readyState === 'complete'")
 
-    def run(self, script):
-        """The value of a script; a promise is waited for."""
-        answer = self.send("Runtime.evaluate", expression=inside(script), awaitPromise=True, returnByValue=True)
+    def run(self, script, sees=True):
+        """The value of a script; a promise is waited for. One that is measured does not see the parts of the page, since it is slower then."""
+        answer = self.send("Runtime.evaluate", expression=inside(script) if sees else script, awaitPromise=True, returnByValue=True)
         if "exceptionDetails" in answer:
             details = answer["exceptionDetails"]
             raise Failed(details.get("exception", {}).get("description") or details["text"])

@@ -152,8 +152,8 @@ class FirefoxPage(Waiting):
     def reload(self):
         self.send("browsingContext.reload", wait="complete")
 
-    def run(self, script):
-        answer = self.browser.send("script.evaluate", expression=inside(script), target={"context": self.context}, awaitPromise=True, serializationOptions={"maxObjectDepth": 9})
+    def run(self, script, sees=True):
+        answer = self.browser.send("script.evaluate", expression=inside(script) if sees else script, target={"context": self.context}, awaitPromise=True, serializationOptions={"maxObjectDepth": 9})
         if answer["type"] == "exception":
             raise Failed(answer["exceptionDetails"]["text"])
         return value_of(answer["result"])
@@ -285,9 +285,9 @@ class WebkitPage(Waiting):
         """From here on the page keeps what goes wrong."""
         self.run("window.wrongs = [], ['error', 'unhandledrejection'].forEach(kind => addEventListener(kind, event => wrongs.push(String(event.reason || event.message)))), 0")
 
-    def run(self, script):
-        script = script.strip()
-        made = f"const done = arguments[0]; {inside(f'Promise.resolve().then(() => ({script})).then(value => done([value]), error => done(String(error)));')}"
+    def run(self, script, sees=True):
+        made = f"Promise.resolve().then(() => ({script.strip()})).then(value => done([value]), error => done(String(error)));"
+        made = f"const done = arguments[0]; {inside(made) if sees else made}"
         answer = self.command("POST", "/execute/async", {"script": made, "args": []})
         if isinstance(answer, str):
             raise Failed(answer)

@@ -132,8 +132,7 @@ const jobs = {
     if (pages.code <= 1) answer.svg = picture('script', run, pages);
     answer.milliseconds = performance.now() - began;
     if (pages.code === 1) answer.told = text((await print1525.explainStop({ ...run, stop: pages.fault, statement: pages.statement })).text);
-    if (pages.code !== 2) answer.lines = (await print1525.statementLines({ script })).lines;
-    else {
+    if (pages.code === 2) {
       answer.told = text((await print1525.explainScript({ script })).text);
       answer.place = await print1525.scriptFault({ script });
       if (ask.form === 'petcat' && answer.place) answer.inPetcat = await placeInPetcat(answer.place, ask.script);
@@ -152,10 +151,10 @@ const jobs = {
     return { code: 0, isSame, script: text(saved.text) };
   },
 
-  /** What comes after the sheets of the script that is shown: each statement's status and the screen's bytes. */
+  /** What comes after the sheets of the script that is shown: each statement's line and status, and the screen's bytes. */
   async end() {
     shown.lines = (await print1525.pages({ ...shown.ask, format: 'text' })).text;
-    return endOf(text(shown.lines));
+    return { ...endOf(text(shown.lines)), lines: (await print1525.statementLines(shown.ask)).lines };
   },
 
   /** The trace of a script's run at some delays, and what it says. */

@@ -136,7 +136,8 @@ fn usage_escaped(alloc: Global, words: &[&str]) -> Result<String, AllocError> {
     }
     match read_task(alloc, escaped.as_slice()) {
         Err(JobFault::Line(error)) => usage(alloc, &error),
-        _ => format!(in alloc; "print1525: bad arguments\n"),
+        Err(fault) => format!(in alloc; "print1525: {fault}\n"),
+        Ok(_) => format!(in alloc; "print1525: bad arguments\n"),
     }
 }
 
