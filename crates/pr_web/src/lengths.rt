@@ -190,14 +190,20 @@ impl Measure {
     fn outside(self, lengths: &[u64]) -> u64
         ensures { result ≡ count_by (is_outside Profile (interval_of self)) lengths.now }
     {
-        let (lowest, highest) = (self.lowest(), self.highest());
         let mut count: u64 = 0;
         for length in lengths {
-            if *length < lowest || *length > highest {
+            if self.is_outside(*length) {
                 count += 1;
             }
         }
         count
+    }
+
+    /// Whether a length lies outside its bounds by the profile.
+    fn is_outside(self, length: u64) -> bool
+        ensures { result ≡ is_outside Profile (interval_of self) length }
+    {
+        length < self.lowest() || length > self.highest()
     }
 }
 
@@ -208,7 +214,8 @@ fn least(lengths: &[u64]) -> u64
     let [first, rest @ ..] = lengths else {
         return 0;
     };
-    let mut least = *first;
+    let first = *first;
+    let mut least = first;
     for length in rest {
         least = least.min(*length);
     }
