@@ -4,4 +4,4 @@ pub mod Backs
 pub mod Kept
 pub mod Lines
 pub mod Middles
-pub mod Words
+pub mod CutWords

@@ -4,7 +4,7 @@ use Rattle.std.proofs.lemmas.Iterator.Consumers.{YieldsList-turn, YieldsList-end
 use Rattle.std.proofs.lemmas.Iterator.Splits.{YieldsList-from_str_split}
 use Rattle.std.proofs.lemmas.List.{drop_all, length_push}
 use Rattle.pr_web.specs.Words.{words_in}
-use Rattle.pr_web.proofs.Words.{one_word}
+use Rattle.pr_web.proofs.CutWords.{one_word}
 use Rattle.pr_web.proofs.words.words_in.Goals as goal
 
 pub loop-word-preserved : goal.loop-word-preserved
