@@ -47,7 +47,7 @@ fn push_text(numbers: &mut Vec<u64>, text: &[u8]) -> Result<(), NoMemory>
 
 /// Adds a file's name, if there is one.
 fn push_name(numbers: &mut Vec<u64>, name: Option<&str>) -> Result<(), NoMemory>
-    ensures { OnOk result (numbers.new.items ≡ numbers.old.items ++ name_numbers (option_map (λ text. text.now) name)) }
+    ensures { OnOk result (numbers.new.items ≡ numbers.old.items ++ name_numbers (option_map (λ text. text.now) name.entry)) }
 {
     let Some(name) = name else {
         numbers.push(0)?;
