@@ -22,10 +22,10 @@
  * wraps the calls for C++17; examples/ has wrappers for Python and Rust.
  *
  * The calls are proved: each gives exactly what its definition says (docs/C.md says where the definitions are). Not
- * proved is what stands at the end of this file: the functions that unpack settings, refuse pointers and call them.
+ * proved is the last part of this file: the functions that unpack settings, refuse pointers and call them.
  *
  * ANSWERS. A call returns an exit status of the program print1525 (enum print1525_status), and writes all of its
- * details, unless they are NULL. A text is at the front of the buffer, without a zero byte behind it; the rest of the
+ * details, unless they are NULL. A text is at the front of the buffer, without a zero byte after it; the rest of the
  * buffer stays as it was. With every status but 0 and 1 the whole buffer does. No text is cut: if the buffer is too
  * small, the call fails with PRINT1525_FAULT_TOO_SMALL, and `length` is the size that the text needs. So a caller may
  * ask for the size with a NULL buffer of size 0, or guess, and ask again where `length` is more than the buffer has.
@@ -91,7 +91,7 @@ enum print1525_status {
     PRINT1525_FAILED = 3   /* there is no memory, or no room in the buffer: the fault says which */
 };
 
-/* What a call tells beside its status. */
+/* What a call reports beside its status. */
 typedef struct {
     int32_t status; /* what it returned */
     int32_t fault;  /* one of enum print1525_fault; PRINT1525_FAULT_NONE with status 0 */
@@ -709,7 +709,7 @@ typedef struct {
     uint16_t nothing[1];
 } print1525_own_call;
 
-/* The same for a list of numbers: why a call may not read it is kept, and NULL stands for no numbers. */
+/* The same for a list of numbers: the reason why a call may not read it is kept, and NULL means no numbers. */
 PRINT1525_OWN const void *print1525_own_input(print1525_own_call *call, const void *input, size_t size,
                                               const void *buffer, size_t capacity) {
     if (call->fault == PRINT1525_FAULT_NONE) call->fault = print1525_own_refused(input, size, buffer, capacity);

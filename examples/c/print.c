@@ -30,7 +30,7 @@ static int printer_takes(uint16_t input) {
     return 1;
 }
 
-/* The page of what was received, with a zero byte behind it; NULL where there is none. */
+/* The page of what was received, with a zero byte after it, or NULL if there is none. */
 static char *printer_page(print1525_details *details) {
     print1525_settings settings = PRINT1525_SETTINGS_INIT;
     char *page;

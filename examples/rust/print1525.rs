@@ -215,7 +215,7 @@ pub struct Settings<'a> {
     pub set: Set,
     /// The delay numbers of the computer, of printer 4 and of printer 5.
     pub delays: [&'a [u16]; 3],
-    /// A file of characters; an empty one stands for this project's own.
+    /// A file of characters; empty for this project's own.
     pub characters: &'a [u8],
 }
 
@@ -251,7 +251,7 @@ pub struct Error(pub Details);
 impl fmt::Display for Error {
     fn fmt(&self, f: &mut fmt::Formatter<'_>) -> fmt::Result {
         let mut text = [0u8; 128];
-        // SAFETY: the buffer has as many bytes as the call is told.
+        // SAFETY: the buffer has as many bytes as the call is given.
         let length = unsafe { print1525_message(&self.0, text.as_mut_ptr().cast(), text.len()) };
         f.write_str(std::str::from_utf8(&text[..length.min(text.len() - 1)]).unwrap_or("no message"))
     }
