@@ -3,3 +3,4 @@ pub mod EdgeLemmas
 pub mod StopLemmas
 pub mod BackLemmas
 mod InputLemmas
+mod OddLemmas

@@ -8,11 +8,11 @@
 //! the line and the device of a statement at which a BASIC error stopped a run. [`rows_from`] gives
 //! the rows of the table of lawful traces at a place: an edge is taken there exactly if one of them
 //! has its levels and its time. [`rows_behind`] gives those that an edge after the last one can
-//! still meet.
+//! still meet. [`explain_oddities`] is a text alone, and proved: what is odd about a recording.
 //!
 //! - `rows` has the rows of the table at a place, and those that can follow the last edge.
-//! - `traces`, `scripts` and `stops` are what is explained. `edges` follows edges to the first that
-//!   is not allowed, and `input` reads a trace in any format as `check` reads it.
+//! - `traces`, `oddities`, `scripts` and `stops` are what is explained. `edges` follows edges to the
+//!   first that is not allowed, and `input` reads a trace in any format as `check` reads it.
 //! - The words: `trace_text` and `states` of edges; `faults` and `names` of a line that cannot be
 //!   read, what it should have, and which signals a recording has; `context` and `words` of the
 //!   statement around a place of a script, and of the word that is there. The place's line and its
@@ -28,6 +28,7 @@ mod edges;
 mod faults;
 mod input;
 mod names;
+mod oddities;
 mod rows;
 mod scripts;
 mod states;
@@ -38,6 +39,7 @@ mod traces;
 mod words;
 
 pub use edges::EdgePlace;
+pub use oddities::explain_oddities;
 pub use rows::{Miss, Row, rows_behind, rows_from};
 pub use scripts::{ScriptPlace, explain_script};
 pub use stops::{StopCause, StopPlace, explain_stop};

@@ -137,7 +137,7 @@ pub fn explain_reading(
 }
 
 /// Where edges go back in time, or else the line of the fault after them, if there is one.
-fn place_read(edges: &[Edge], fault: Option<CliFault>) -> Option<ReadingPlace>
+pub fn place_read(edges: &[Edge], fault: Option<CliFault>) -> Option<ReadingPlace>
     requires { IfSome fault IsOwnFault }
     ensures { IsPlaceRead edges.now fault result }
 {

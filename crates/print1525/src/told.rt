@@ -5,9 +5,11 @@ ghost use Rattle.pr_basic.specs.Limits.{statement_limit};
 
 use pr_basic::{Statement, StatusMode, read_script};
 use pr_bus::Delays;
-use pr_capture::TraceInput;
+use pr_capture::{Source, TraceInput};
 use pr_cli::{CliFault, Ending, PictureFault};
-use pr_explain::{explain_reading, explain_script, explain_stop, explain_trace};
+use pr_explain::{
+    explain_oddities, explain_reading, explain_script, explain_stop, explain_trace,
+};
 use pr_listing::{
     ListingFault, ListingForm, TextFault, has_typed_strings, looks_like_disk, looks_like_text,
     looks_saved,
@@ -130,7 +132,7 @@ fn told(
     match (subject, answer) {
         (_, Err(CliFault::Picture(fault))) => sheets_told(rt, fault),
         (Subject::Script(job), _) => run_told(rt, bytes, job, answer),
-        (Subject::Trace(trace), Err(fault)) => trace_told(rt, bytes, trace, fault),
+        (Subject::Trace(trace), _) => trace_told(rt, bytes, trace, answer),
         (Subject::Recording(trace), Err(fault)) => reading_told(rt, bytes, trace, fault),
         (Subject::Bytes, _) | (_, Ok(_)) => Ok(String::new(rt.alloc())),
     }
@@ -282,18 +284,35 @@ fn show(rt: &impl Eprint, lines: Result<String, AllocError>) {
     }
 }
 
-/// What more there is to say of a trace that is refused.
+/// What more there is to say of a trace: why it is refused, if it is, and of a recording what is odd about it. A trace
+/// text has no other signals, nor probes.
 fn trace_told(
     rt: &impl AllocGlobal,
     bytes: &[u8],
     trace: TraceInput<'_>,
-    fault: CliFault,
+    answer: Result<Ending, CliFault>,
 ) -> Result<String, AllocError> {
-    if is_of_input(fault) {
-        Ok(explain_trace(rt.alloc(), bytes, trace)?.text)
-    } else {
-        Ok(String::new(rt.alloc()))
+    let alloc = rt.alloc();
+    let mut text = match answer {
+        Ok(_) => String::new(alloc),
+        Err(fault) if is_of_input(fault) => explain_trace(alloc, bytes, trace)?.text,
+        Err(_) => return Ok(String::new(alloc)),
+    };
+    if trace.source != Source::Text {
+        let oddities = explain_oddities(alloc, bytes, trace)?;
+        push_indented(&mut text, oddities.as_slice())?;
     }
+    Ok(text)
+}
+
+/// Adds lines, each after two blanks.
+fn push_indented(text: &mut String, lines: &[u8]) -> Result<(), AllocError> {
+    if let Ok(lines) = str::from_utf8(lines) {
+        for line in lines.lines() {
+            write!(text, "  {line}\n")?;
+        }
+    }
+    Ok(())
 }
 
 /// Whether a fault is one of what the input says, so that there is more to tell of it.

@@ -1,0 +1,122 @@
+//! What is odd about a recording that can be read to its end.
+
+ghost use Rattle.std.specs.Prelude.{◌≡◌, ◌++◌, ◌∷◌, ◌||◌, [], IfOk, IfSome, List, None};
+ghost use Rattle.std.specs.List.{list_any};
+ghost use Rattle.std.specs.Option.{option_to_list};
+ghost use Rattle.pr_wire.specs.declared.Edge.{Edge};
+ghost use Rattle.pr_decode.specs.Readings.{readings_of};
+ghost use Rattle.pr_decode.specs.Taking.{IsBefore, last_time};
+ghost use Rattle.pr_report.specs.Oddities.{is_acknowledged, oddities_of};
+ghost use Rattle.pr_cli.specs.Report.{IsOwnFault};
+ghost use Rattle.pr_explain.specs.OddLines.{AreOddLines, ComesAfter, HasLooked, IsOddText};
+ghost use Rattle.pr_explain.specs.TracePlaces.{AreInOrder};
+
+use crate::input::read_input;
+use crate::traces::place_read;
+use pr_capture::TraceInput;
+use pr_cli::CliFault;
+use pr_decode::{Decoder, Reading};
+use pr_report::{LinesSeen, Oddities, is_acknowledged, push_oddities};
+use pr_wire::{Edge, NoMemory};
+use std::alloc::Global;
+
+/// What the edges of a recording so far come to.
+#[derive(Drop)]
+pub struct Looked {
+    decoder: Decoder,
+    lines: LinesSeen,
+    /// Some reading is an acknowledged byte.
+    has_byte: bool,
+}
+
+/// Whether an acknowledged byte has come, with one reading more, if there is one.
+fn with_byte(before: bool, reading: Option<Reading>) -> bool
+    ensures { result ≡ (before || list_any is_acknowledged (option_to_list reading)) }
+{
+    match reading {
+        Some(reading) => before || is_acknowledged(&reading),
+        None => before,
+    }
+}
+
+impl Looked {
+    /// No edge was looked at.
+    fn new() -> Looked
+        ensures looked { HasLooked [] result }
+        ensures first { last_time result.decoder ≡ None }
+    {
+        Looked {
+            decoder: Decoder::new(),
+            lines: LinesSeen::new(),
+            has_byte: false,
+        }
+    }
+
+    /// Looks at the next edge, which is not earlier than the one before it.
+    fn take(&mut self, edge: Edge)
+        requires later { IsBefore edge self.old.decoder → ⊥ }
+        ensures looked { (edges : List Edge) → HasLooked edges self.old → HasLooked (edges ++ edge ∷ []) self.new }
+        ensures last { (more : List Edge) → ComesAfter self.old.decoder (edge ∷ more) → ComesAfter self.new.decoder more }
+    {
+        if let Ok(reading) = self.decoder.take(edge) {
+            self.lines.take(edge);
+            self.has_byte = with_byte(self.has_byte, reading);
+        }
+    }
+
+    /// What is odd about the edges.
+    fn finish(self) -> Oddities
+        ensures { (edges : List Edge) → HasLooked edges self → result ≡ oddities_of edges (readings_of edges) }
+    {
+        let cut = self.decoder.finish();
+        let has_byte = with_byte(self.has_byte, cut);
+        self.lines.oddities(has_byte)
+    }
+}
+
+/// What is odd about edges, none of which is earlier than the one before it.
+fn oddities_of(edges: &[Edge]) -> Oddities
+    requires order { AreInOrder edges.now }
+    ensures { result ≡ oddities_of edges.now (readings_of edges.now) }
+{
+    let mut looked = Looked::new();
+    let mut rest = edges;
+    while let [edge, more @ ..] = rest {
+        looked.take(*edge);
+        rest = more;
+    }
+    looked.finish()
+}
+
+/// What is odd about edges of an input that has this fault after them, if it has one.
+fn odd_lines(alloc: Global, edges: &[Edge], own: Option<CliFault>) -> Result<Vec<u8>, NoMemory>
+    requires own { IfSome own IsOwnFault }
+    ensures { IfOk result (λ text. AreOddLines edges.now own text.items) }
+{
+    let mut text = Vec::new(alloc);
+    match place_read(edges, own) {
+        Some(_) => Ok(text),
+        None => {
+            push_oddities(&mut text, oddities_of(edges))?;
+            Ok(text)
+        }
+    }
+}
+
+/// Says what is odd about a recording, in the last lines of `decode`'s report on it: no byte is acknowledged,
+/// attention never comes, a line rests at 0, and what to try. There is no text where nothing is odd, and where
+/// the recording cannot be read to its end. It is read as `decode` reads it.
+///
+/// # Errors
+///
+/// [`NoMemory`] where memory was refused.
+pub fn explain_oddities(
+    alloc: Global,
+    recording: &[u8],
+    input: TraceInput<'_>,
+) -> Result<Vec<u8>, NoMemory>
+    ensures { IfOk result (λ text. IsOddText input.entry recording.now text.items) }
+{
+    let said = read_input(alloc, recording, input)?;
+    odd_lines(alloc, said.edges.as_slice(), said.fault)
+}
