@@ -1,5 +1,6 @@
 -- The report on an input.
-use Rattle.std.proofs.Common.{◌≡◌, ◌<◌, ◌≤◌, ℕ, List, [], length, refl, sym, subst, ◌∙◌, Option, Some, None, Result, Ok, Err}
+use Rattle.std.proofs.Common.{◌≡◌, ◌+◌, ◌<◌, ◌≤◌, ℕ, List, [], ◌∷◌, ◌++◌, append_assoc, ap, get_or, length, refl, sym, subst, take, ◌∙◌, Option, Some, None, Result, Ok, Err}
+use Rattle.std.proofs.lemmas.List.{take_more}
 use Rattle.std.specs.Prelude.{IfSome, IsErrAnd}
 use Rattle.std.specs.Io.KnownBytes.{IsAtEnd}
 use Rattle.std.proofs.KnownBytes.{Appends-nil}
@@ -9,15 +10,16 @@ use Rattle.pr_wire.specs.Table.{fault_of}
 use Rattle.pr_report.specs.declared.report.Report.{Report}
 use Rattle.pr_report.specs.declared.report.Report.TheVariants as report
 use Rattle.pr_capture.specs.declared.format.TraceInput.{TraceInput}
+use Rattle.pr_cli.specs.Begun.{CountsOn}
 use Rattle.pr_cli.specs.Check.{trace_limit}
 use Rattle.pr_cli.specs.Inputs.{fault_read}
 use Rattle.pr_cli.specs.EdgesTaken.{HasTakenAll, HasTakenBefore}
 use Rattle.pr_cli.specs.InputReads.{IsTooLong}
-use Rattle.pr_cli.specs.Report.{IsNoReading, SaysWhole, refusal, AnswersReport, IsReport, IsWhole, MayBeWritten, Reports, WritesReport, IsOwnFault}
-use Rattle.pr_cli.specs.Reported.{AreLines, EndsReport, EndsReported, GivesReport, HasReported, IsRefused, IsReportOf, IsTraceFault, WritesText}
+use Rattle.pr_cli.specs.Report.{IsNoReading, edges_checked, SaysWhole, refusal, AnswersReport, IsReport, IsWhole, MayBeWritten, Reports, WritesReport, IsOwnFault}
+use Rattle.pr_cli.specs.Reported.{AreLines, EndsReport, CountsMore, EndsReported, GivesReport, HasCounted, HasReported, IsRefused, ReportsMore, IsReportOf, IsTraceFault, WritesText}
 use Rattle.pr_cli.specs.declared.input_reader.InputReader.{InputReader}
-use Rattle.pr_cli.specs.declared.reporter.FrameReporter.{FrameReporter}
 use Rattle.pr_cli.specs.declared.reporter.ReportText.{ReportText}
+use Rattle.pr_cli.specs.declared.trace_reporter.TraceReporter.{TraceReporter}
 use Rattle.pr_cli.specs.declared.fault.CliFault.{CliFault}
 use Rattle.pr_cli.specs.declared.fault.CliFault.TheVariants.{Script, Trace, Wave, Capture, Picture, TooLarge, NoMemory, ReadFailed, WriteFailed}
 
@@ -43,18 +45,18 @@ pub record EndsWell (limit : ℕ) (start now : Option (List ℕ)) (input : Trace
   pub refused : IsRefused t
   pub at_end : IsWhole t.refused → IsAtEnd now
 
-pub ends_well : (limit : ℕ) (start now : Option (List ℕ)) (input : TraceInput) (report : Report) (r : InputReader) (frames : FrameReporter) (t : ReportText)
-    → HasTakenBefore limit start now input r (λ edges. HasReported report edges frames) → (fault_read r ≡ None → IsAtEnd now) → EndsReported r frames t → EndsWell limit start now input report t
+pub ends_well : (limit : ℕ) (start now : Option (List ℕ)) (input : TraceInput) (report : Report) (r : InputReader) (frames : TraceReporter) (t : ReportText)
+    → HasTakenBefore limit start now input r (λ edges. HasCounted input.source report edges frames) → (fault_read r ≡ None → IsAtEnd now) → EndsReported r frames t → EndsWell limit start now input report t
 ends_well limit start now input report r frames t h stops ends =
-    let e = ends report limit start now input h.given h.read h.taken in
-    let follows : EndsReport report e.edges e.fault t = e.follows in
+    let e = ends input.source report limit start now input h.given h.read h.taken in
+    let follows : EndsReport report (edges_checked input.source e.edges) e.fault t = e.follows in
     record {
       gives = known start e.edges e.fault e.own follows (e.says stops);
       refused = follows.faults e.own;
-      at_end = λ whole. stops (e.kept (none e.fault (fault_of e.edges) follows.is_refused e.own whole));
+      at_end = λ whole. stops (e.kept (none e.fault (fault_of (edges_checked input.source e.edges)) follows.is_refused e.own whole));
     }
   where
-    known : (start : Option (List ℕ)) (edges : List Edge) (own : Option CliFault) → IfSome own IsOwnFault → EndsReport report edges own t → IfSome start (SaysWhole limit input edges own)
+    known : (start : Option (List ℕ)) (edges : List Edge) (own : Option CliFault) → IfSome own IsOwnFault → EndsReport report (edges_checked input.source edges) own t → IfSome start (SaysWhole limit input edges own)
         → IfSome start (λ text. GivesReport limit input report (Ok t) text)
     known None edges own o e says = tt
     known (Some text) edges own o e says = record { edges = edges; own = own; is_own = o; says = says; ends = e }
@@ -93,7 +95,7 @@ if_known (Some text) P Q h f = f text h
 short_is : (limit : ℕ) (input : TraceInput) (r : Report) (text : List ℕ) (t : ReportText) → IsReportOf limit input r text t → IsWhole t.refused → length text ≤ limit
 short_is limit input r text t h w = h.says.short (by h.own h.is_own (sym h.ends.is_refused) w)
   where
-    by : (own : Option CliFault) → IfSome own IsOwnFault → refusal own (fault_of (h.edges)) ≡ t.refused → IsWhole t.refused → own ≡ None
+    by : (own : Option CliFault) → IfSome own IsOwnFault → refusal own (fault_of (edges_checked input.source h.edges)) ≡ t.refused → IsWhole t.refused → own ≡ None
     by None o e w = refl
     by (Some f) o e w = absurd (not_whole t.refused f (sym e) o w)
 
@@ -108,8 +110,8 @@ reports limit input r text t told h = record {
   is_report = by r t.refused told h.ends.are_lines;
 }
   where
-    by : (r : Report) (v : Option CliFault) → (r ≡ report.Frames → v ≡ None) → AreLines r (h.edges) v t.lines.items
-        → IsReport r (h.edges) v t.lines.items
+    by : (r : Report) (v : Option CliFault) → (r ≡ report.Frames → v ≡ None) → AreLines r (edges_checked input.source h.edges) v t.lines.items
+        → IsReport r (edges_checked input.source h.edges) v t.lines.items
     by report.Frames None n l = l
     by report.Frames (Some f) n l = absurd (let k : Some f ≡ None = n refl in cc)
     by report.Story None n l = l
@@ -192,3 +194,17 @@ pub frames_refused_on : (input : TraceInput) (r : Report) (text : List ℕ) (t :
     → r ≡ report.Frames → t.refused ≡ Some f → IsRefused t → IsReportOf trace_limit input r text t → AnswersReport input r text a a v
 frames_refused_on input r text t f (Ok x) a is frames e refused h = absurd is
 frames_refused_on input r text t f (Err x) a is frames e refused h = let P : CliFault → Type 0 = λ g. AnswersReport input r text a a (Err g) in subst P (sym is) (frames_refused input r text t f a frames e refused h)
+
+-- a reporter has taken an edge more, by how it counts it
+pub counts_more : (e counted : Edge) (old new : TraceReporter) → CountsOn e counted old.beginning new.beginning → ReportsMore (counted ∷ []) old.frames new.frames → CountsMore (e ∷ []) old new
+counts_more e counted old new counts reports = λ source r edges h.
+    let k = counts source edges h.begun in
+    record {
+      begun = k.begun;
+      reported = subst (λ es. HasReported r es new.frames) (sym k.counts) (reports r (edges_checked source edges) h.reported);
+    }
+
+-- the next of a list's elements
+pub more_at : {X : Type 0} (P : List X → Type 0) (before xs : List X) (i : ℕ) (d : X) → i < length xs → P ((before ++ take i xs) ++ get_or xs i d ∷ []) → P (before ++ take (i + 1) xs)
+more_at P before xs i d within p =
+    subst P (append_assoc before (take i xs) (get_or xs i d ∷ []) ∙ ap (λ l. before ++ l) (sym (take_more xs i d within))) p

@@ -1,6 +1,6 @@
 -- Trusted: what `check` answers for an input of any format and for a report of any kind, and what
 -- it leaves in the reader and in the writer.
-use Rattle.std.specs.Prelude.{◌≡◌, ℕ, ◌<◌, ◌≤◌, false, List, [], length, Option, Some, None, option_map, Result, Ok, Err}
+use Rattle.std.specs.Prelude.{◌≡◌, ℕ, ◌<◌, ◌≤◌, false, List, [], ◌∷◌, length, map, Option, Some, None, option_map, Result, Ok, Err}
 use Rattle.std.specs.Io.KnownBytes.{Appends, IsAtEnd, Keeps}
 use Rattle.pr_wire.specs.declared.Edge.{Edge}
 use Rattle.pr_wire.specs.declared.Frame.{Frame}
@@ -13,7 +13,7 @@ use Rattle.pr_wire.specs.TraceText.{SaysEdges}
 use Rattle.pr_capture.specs.declared.fault.CaptureFault.TheVariants as capture
 use Rattle.pr_capture.specs.Csv.{csv_contents}
 use Rattle.pr_capture.specs.Recording.{CaptureContents}
-use Rattle.pr_capture.specs.Samples.{edges_of}
+use Rattle.pr_capture.specs.Samples.{counted_from, edges_of}
 use Rattle.pr_capture.specs.VcdReading.{vcd_contents}
 use Rattle.pr_report.specs.Moments.{timed_frames}
 use Rattle.pr_report.specs.StoryText.{story_lines, story_of}
@@ -47,6 +47,17 @@ abbrev pub edges_made : Source → (start : ℕ) → (samples : List Edge) → L
 edges_made source.Text start samples = samples
 edges_made source.Csv start samples = edges_of start samples
 edges_made source.Vcd start samples = edges_of start samples
+
+-- the edges that `check` holds against the table of lawful traces: those of a trace text as they are; those of a recording
+-- counted from the first, at which the three levels are first known: that is later than the start asked for, or at it
+abbrev pub counted_from_first : List Edge → List Edge
+counted_from_first [] = []
+counted_from_first (e ∷ es) = map (counted_from e.time) (e ∷ es)
+
+abbrev pub edges_checked : Source → List Edge → List Edge
+edges_checked source.Text edges = edges
+edges_checked source.Csv edges = counted_from_first edges
+edges_checked source.Vcd edges = counted_from_first edges
 
 -- the edges of an input up to its fault, and its fault if it has one
 pub record Says (input : TraceInput) (text : List ℕ) (edges : List Edge) (fault : Option CliFault) : Type 0 where
@@ -95,8 +106,8 @@ pub record Reports (input : TraceInput) (r : Report) (text : List ℕ) (refused 
   pub edges : List Edge
   pub fault : Option CliFault
   pub says : Says input text edges fault
-  pub is_refused : refused ≡ refusal fault (fault_of edges)
-  pub is_report : IsReport r edges refused written
+  pub is_refused : refused ≡ refusal fault (fault_of (edges_checked input.source edges))
+  pub is_report : IsReport r (edges_checked input.source edges) refused written
 
 -- the report was written, and this is the fault that refuses the trace, if there is one
 abbrev pub WritesReport : TraceInput → Report → List ℕ → (refused : Option CliFault) → Option (List ℕ)

@@ -13,13 +13,16 @@ use Rattle.pr_report.specs.StoryText.{is_data, story_line, story_lines}
 use Rattle.pr_report.specs.FrameTiming.{HasTold, number_taken}
 use Rattle.pr_report.specs.declared.report.Report.{Report}
 use Rattle.pr_report.specs.declared.report.Report.TheVariants as report
+use Rattle.pr_capture.specs.declared.format.Source.{Source}
 use Rattle.pr_capture.specs.declared.format.TraceInput.{TraceInput}
+use Rattle.pr_cli.specs.Begun.{HasBegun}
 use Rattle.pr_cli.specs.FrameText.{frame_line}
 use Rattle.pr_cli.specs.EdgesTaken.{EndsReading}
-use Rattle.pr_cli.specs.Report.{SaysWhole, refusal, IsReport, IsWhole, IsOwnFault}
+use Rattle.pr_cli.specs.Report.{SaysWhole, edges_checked, refusal, IsReport, IsWhole, IsOwnFault}
 use Rattle.pr_input.specs.PartlyWritten.{AppendsFront}
 use Rattle.pr_cli.specs.declared.reporter.FrameReporter.{FrameReporter}
 use Rattle.pr_cli.specs.declared.reporter.ReportText.{ReportText}
+use Rattle.pr_cli.specs.declared.trace_reporter.TraceReporter.{TraceReporter}
 use Rattle.pr_cli.specs.declared.input_reader.InputReader.{InputReader}
 use Rattle.pr_cli.specs.declared.fault.CliFault.{CliFault}
 use Rattle.pr_cli.specs.declared.fault.CliFault.TheVariants.{Script, Trace, Wave, Capture, Picture, TooLarge, NoMemory, ReadFailed, WriteFailed}
@@ -107,13 +110,28 @@ pub record EndsReport (report : Report) (edges : List Edge) (own : Option CliFau
 
 -- Reports on inputs.
 
+-- a reporter has taken these edges of an input in this format
+pub record HasCounted (source : Source) (report : Report) (edges : List Edge) (r : TraceReporter) : Type 0 where
+  pub begun : HasBegun source edges r.beginning
+  pub reported : HasReported report (edges_checked source edges) r.frames
+
+-- the reporter has taken these edges too
+abbrev pub CountsMore : (more : List Edge) → (old new : TraceReporter) → Type 0
+CountsMore more old new =
+    (source : Source) (report : Report) (edges : List Edge) → HasCounted source report edges old
+    → HasCounted source report (edges ++ more) new
+
+-- how many edges it has taken
+abbrev pub edges_counted : TraceReporter → ℕ
+edges_counted r = edges_taken r.frames
+
 -- the report on an input, whole or up to its fault
 pub record IsReportOf (limit : ℕ) (input : TraceInput) (report : Report) (text : List ℕ) (t : ReportText) : Type 0 where
   pub edges : List Edge
   pub own : Option CliFault
   pub is_own : IfSome own IsOwnFault
   pub says : SaysWhole limit input edges own text
-  pub ends : EndsReport report edges own t
+  pub ends : EndsReport report (edges_checked input.source edges) own t
 
 -- the report on an input of at most this many bytes, or why there is none
 abbrev pub GivesReport : ℕ → TraceInput → Report → Result ReportText CliFault → List ℕ → Type 0
@@ -138,10 +156,10 @@ abbrev pub IsRefused : ReportText → Type 0
 IsRefused t = IfSome t.refused IsTraceFault
 
 -- the report on an input that ends here, or has had its fault, where the lines of the edges before the last block were made
-abbrev pub EndsReported : InputReader → FrameReporter → ReportText → Type 0
+abbrev pub EndsReported : InputReader → TraceReporter → ReportText → Type 0
 EndsReported r frames t =
-    (report : Report)
-    → EndsReading r (λ edges. HasReported report edges frames) (λ edges own. EndsReport report edges own t)
+    (source : Source) (report : Report)
+    → EndsReading r (λ edges. HasCounted source report edges frames) (λ edges own. EndsReport report (edges_checked source edges) own t)
 
 -- what the lines of a report come to that are written
 abbrev pub WritesText : ReportText → Option (List ℕ) → Option (List ℕ) → Result (Unit {0}) CliFault → Type 0

@@ -5,13 +5,14 @@ ghost use Rattle.pr_report.specs.declared.report.Report.{Report};
 ghost use Rattle.pr_cli.specs.Check.{trace_limit};
 ghost use Rattle.pr_cli.specs.Report.{AnswersReport, IsReportFault, ReadsAll, WritesNoReport, IsNoReading};
 ghost use Rattle.pr_cli.specs.Inputs.{edges_read, lines_ahead};
-ghost use Rattle.pr_cli.specs.Reported.{EndsReported, GivesReport, HasReadAll, IsRefused, WritesText, edges_taken};
+ghost use Rattle.pr_cli.specs.Reported.{EndsReported, GivesReport, HasReadAll, IsRefused, WritesText, edges_counted};
 ghost use Rattle.pr_input.specs.Watched.{has_failed, is_flushed, wrapped};
 
 use crate::check::CHECK_LIMIT;
 use crate::fault::CliFault;
 use crate::input_reader::InputReader;
-use crate::reporter::{FrameReporter, ReportText};
+use crate::reporter::ReportText;
+use crate::trace_reporter::TraceReporter;
 use pr_capture::TraceInput;
 use pr_input::{BLOCK, Watched, WriteFault, write_whole};
 use pr_report::Report;
@@ -23,8 +24,8 @@ use std::io::{Read, Write};
 ///
 /// A trace text says its edges. A recording, as a Value Change Dump or as a table of comma separated
 /// values, says samples of the signals with these names, from which the edges are made, counted from
-/// the start asked for (the first of them has to be at the start, with all lines released). A trace is
-/// lawful by this project's profile; recordings of real hardware differ from it. The input is read
+/// the start asked for, or from the first sample where that is later: there the three levels are first
+/// known (and the lines have to be released). A trace is lawful by this project's profile; recordings of real hardware differ from it. The input is read
 /// block by block and not kept, and the whole report is made before the first write.
 ///
 /// # Errors
@@ -126,7 +127,7 @@ pub fn report_input<R: Read>(
     ensures failed { IsErrOf result CliFault.ReadFailed ↔ (has_failed input.new ≡ true) }
 {
     let mut reader = InputReader::new(alloc, trace, limit);
-    let mut frames = FrameReporter::new(alloc, report);
+    let mut frames = TraceReporter::new(alloc, trace.source, report);
     let mut block = [0u8; BLOCK];
     'pieces: loop {
         if !reader.read_block(input, &mut block)? {
@@ -137,9 +138,9 @@ pub fn report_input<R: Read>(
 }
 
 /// Ends an input, and gives the report on it.
-fn last_report(reader: InputReader<'_>, mut frames: FrameReporter) -> Result<ReportText, AllocError>
+fn last_report(reader: InputReader<'_>, mut frames: TraceReporter) -> Result<ReportText, AllocError>
     requires lines { lines_ahead reader + 1 < 2 ^ 64 }
-    requires edges { edges_taken frames + length (edges_read reader) + 3 < 2 ^ 64 }
+    requires edges { edges_counted frames + length (edges_read reader) + 3 < 2 ^ 64 }
     ensures { IfOk result (λ text. EndsReported reader.entry frames text) }
 {
     let last = reader.finish()?;

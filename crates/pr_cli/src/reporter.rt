@@ -61,7 +61,7 @@ impl FrameReporter {
 
     /// Takes the next edge, and adds the lines of the frame that it ends. Behind a fault it takes no
     /// edge.
-    fn take(&mut self, edge: Edge) -> Result<(), AllocError>
+    pub fn take(&mut self, edge: Edge) -> Result<(), AllocError>
         requires few { edges_taken self.old + 1 < 2 ^ 64 }
         ensures reported { OnOk result (ReportsMore (edge ∷ []) self.old self.new) }
         ensures count { OnOk result (edges_taken self.new ≤ edges_taken self.old + 1) }
@@ -77,18 +77,6 @@ impl FrameReporter {
                 Ok(())
             }
         }
-    }
-
-    /// Takes the next edges, in order.
-    pub fn take_all(&mut self, edges: &[Edge]) -> Result<(), AllocError>
-        requires few { edges_taken self.old + length edges.now < 2 ^ 64 }
-        ensures reported { OnOk result (ReportsMore edges.now self.old self.new) }
-        ensures count { OnOk result (edges_taken self.new ≤ edges_taken self.old + length edges.now) }
-    {
-        for edge in edges {
-            self.take(*edge)?;
-        }
-        Ok(())
     }
 
     /// Why the edges are no lawful trace, if they are none.

@@ -17,7 +17,7 @@ use Rattle.pr_wire.specs.Laws.{AllowedIsReached, OneEdgeMore}
 use Rattle.pr_wire.specs.Reached.{Reached, begin, first_step, indexed, led, one_more, onto, reached, step_of}
 use Rattle.pr_wire.specs.Table.{IsAllowed, fault_of, verdict}
 use Rattle.pr_capture.specs.declared.format.TraceInput.{TraceInput}
-use Rattle.pr_cli.specs.Report.{Says}
+use Rattle.pr_cli.specs.Report.{Says, edges_checked}
 use Rattle.pr_cli.specs.declared.fault.CliFault.{CliFault}
 use Rattle.pr_explain.specs.declared.edges.EdgePlace.{EdgePlace}
 use Rattle.pr_explain.specs.declared.edges.Followed.{Followed}
@@ -231,7 +231,7 @@ stops_at_end whole edges r v w rows p allowed all is none h gives are moments ap
     }
 
 -- the place of what an input says
-pub trace_place : (input : TraceInput) (bytes : List ℕ) (edges all : List Edge) (own : Option CliFault) (p : TracePlace) (followed : Followed) → Says input bytes all own → edges ≡ all → Follows edges followed
+pub trace_place : (input : TraceInput) (bytes : List ℕ) (edges all : List Edge) (own : Option CliFault) (p : TracePlace) (followed : Followed) → Says input bytes all own → edges ≡ edges_checked input.source all → Follows edges followed
     → ((es : List Edge) → Follows es followed → IsPlaceOf es own p) → IsTracePlace input bytes p
 trace_place input bytes edges all own p followed says same follows gives =
     record { edges = all; own = own; says = says; is_place = subst (λ l. IsPlaceOf l own p) same (gives edges follows) }

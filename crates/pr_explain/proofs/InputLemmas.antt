@@ -1,10 +1,15 @@
 -- An input that is read whole.
-use Rattle.std.proofs.Common.{◌≡◌, ℕ, List, [], refl, subst, append-nil}
+use Rattle.std.proofs.Common.{◌≡◌, ℕ, ◌+◌, ◌<◌, List, [], ◌∷◌, ◌++◌, get_or, length, take, refl, ap, sym, subst, ◌∙◌, append-nil}
+use Rattle.std.proofs.lemmas.List.{take_more}
 use Rattle.std.specs.Prelude.{IfSome}
+use Rattle.pr_wire.specs.declared.Edge.{Edge}
+use Rattle.pr_capture.specs.declared.format.Source.{Source}
 use Rattle.pr_capture.specs.declared.format.TraceInput.{TraceInput}
+use Rattle.pr_cli.specs.Begun.{CountsOn, HasBegun}
 use Rattle.pr_cli.specs.Inputs.{HasEdges, edges_in}
 use Rattle.pr_cli.specs.InputReads.{GivesEdges, SaysAll}
-use Rattle.pr_cli.specs.Report.{Says, IsOwnFault}
+use Rattle.pr_cli.specs.Report.{Says, IsOwnFault, edges_checked}
+use Rattle.pr_cli.specs.declared.beginning.Beginning.{Beginning}
 use Rattle.pr_cli.specs.declared.edge_reader.EdgeReader.{EdgeReader}
 use Rattle.pr_cli.specs.declared.edge_reader.LastEdges.{LastEdges}
 
@@ -14,3 +19,12 @@ pub said_whole : (input : TraceInput) (bytes : List ℕ) (old new : EdgeReader) 
 said_whole input bytes old new last known none gives says =
     let taken : HasEdges input bytes [] new = subst (λ given. HasEdges input bytes given new) none (gives input [] [] known) in
     subst (λ text. Says input text last.edges.items last.fault × IfSome last.fault IsOwnFault) (append-nil bytes) (says input bytes [] [] taken (λ h. refl))
+
+-- one edge more is counted
+pub counted_more : (source : Source) (edges : List Edge) (i : ℕ) (d counted : Edge) (old new : Beginning) (there : List Edge) → i < length edges → HasBegun source (take i edges) old
+    → there ≡ edges_checked source (take i edges) → CountsOn (get_or edges i d) counted old new
+    → HasBegun source (take (i + 1) edges) new × (there ++ counted ∷ [] ≡ edges_checked source (take (i + 1) edges))
+counted_more source edges i d counted old new there within begun is counts =
+    let k = counts source (take i edges) begun in
+    let more : take (i + 1) edges ≡ take i edges ++ get_or edges i d ∷ [] = take_more edges i d within in
+    (subst (λ es. HasBegun source es new) (sym more) k.begun, ap (λ es. es ++ counted ∷ []) is ∙ (sym k.counts ∙ ap (edges_checked source) (sym more)))

@@ -1,14 +1,12 @@
 -- What is odd about edges that are in order.
-use Rattle.std.proofs.Common.{◌≡◌, ℕ, ◌≤◌, ◌<◌, Bool, true, false, ◌||◌, List, [], ◌∷◌, ◌++◌, take, refl, ap, sym, subst, ◌∙◌, append_assoc, append-nil, arith, Option, Some, None, Result, Ok, Err}
-use Rattle.std.specs.Global.{Global}
-use Rattle.std.specs.Prelude.{zero, suc, IfOk, Vec}
-use Rattle.std.specs.declared.alloc.AllocError.{AllocError}
+use Rattle.std.proofs.Common.{◌≡◌, ℕ, Bool, ◌||◌, List, [], ◌∷◌, ◌++◌, take, refl, ap, sym, subst, ◌∙◌, append_assoc, append-nil, arith, Option, Some, None}
+use Rattle.std.specs.Prelude.{zero, suc}
 use Rattle.std.specs.List.{list_any}
 use Rattle.std.specs.Option.{option_to_list}
 use Rattle.std.proofs.lemmas.List.Folds.{list_any-append}
 use Rattle.pr_wire.specs.declared.Edge.{Edge}
 use Rattle.pr_decode.specs.Readings.{readings_of}
-use Rattle.pr_decode.specs.Taking.{HasReadings, IsBefore, last_time, StandsBefore}
+use Rattle.pr_decode.specs.Taking.{HasReadings, StandsBefore}
 use Rattle.pr_decode.specs.declared.reading.Reading.{Reading}
 use Rattle.pr_report.specs.Oddities.{is_acknowledged, oddities_of, oddities_text}
 use Rattle.pr_report.specs.Taking.{HasSeen}
@@ -16,9 +14,10 @@ use Rattle.pr_report.specs.declared.oddities.Oddities.{Oddities}
 use Rattle.pr_capture.specs.declared.format.TraceInput.{TraceInput}
 use Rattle.pr_cli.specs.Report.{Says}
 use Rattle.pr_cli.specs.declared.fault.CliFault.{CliFault}
-use Rattle.pr_explain.specs.OddLines.{AreInOrderAfter, AreOddLines, ComesAfter, HasLooked, IsOddText}
+use Rattle.pr_explain.specs.OddLines.{AreInOrderAfter, AreOddLines, AreRemarks, HasLooked, first_moment}
 use Rattle.pr_explain.specs.TracePlaces.{AreInOrder, AreInOrderBehind, IsPlaceRead}
 use Rattle.pr_explain.specs.declared.oddities.Looked.{Looked}
+use Rattle.pr_explain.specs.declared.oddities.Remarks.{Remarks}
 use Rattle.pr_explain.specs.declared.traces.ReadingPlace.{ReadingPlace}
 use Rattle.pr_explain.specs.declared.traces.ReadingPlace.TheVariants as read
 
@@ -108,8 +107,13 @@ lines_none edges own v p text is read none = record {
   refused = λ n. none;
 }
 
--- the text of what an input says
-pub odd_text : (input : TraceInput) (bytes : List ℕ) (all edges : List Edge) (own : Option CliFault) (v : Result (Vec ℕ Global) AllocError) → Says input bytes all own → edges ≡ all
-    → IfOk v (λ text. AreOddLines edges own text.items) → IfOk v (λ text. IsOddText input bytes text.items)
-odd_text input bytes all edges own (Ok text) says same lines = record { edges = all; own = own; says = says; are_lines = subst (λ es. AreOddLines es own text.items) same lines }
-odd_text input bytes all edges own (Err e) says same lines = tt
+-- the remarks on what an input says
+pub remarks : (input : TraceInput) (bytes : List ℕ) (all edges : List Edge) (own : Option CliFault) (r : Remarks) → Says input bytes all own → edges ≡ all → r.later ≡ first_moment edges
+    → AreOddLines edges own r.oddities.items → AreRemarks input bytes r
+remarks input bytes all edges own r says same later lines = record {
+  edges = all;
+  own = own;
+  says = says;
+  later = later ∙ ap first_moment same;
+  are_lines = subst (λ es. AreOddLines es own r.oddities.items) same lines;
+}

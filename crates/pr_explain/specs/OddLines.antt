@@ -1,5 +1,5 @@
--- Trusted: what the explanation of a recording says is odd about it. Below come linking words, for proofs.
-use Rattle.std.specs.Prelude.{◌≡◌, ℕ, Bool, ◌≤◌, List, [], ◌∷◌, Option, Some, None}
+-- Trusted: what the explanation of a recording says of where its trace begins, and of what is odd about it. Below come linking words, for proofs.
+use Rattle.std.specs.Prelude.{◌≡◌, ℕ, List, [], ◌∷◌, Option, Some, None}
 use Rattle.std.specs.List.{list_any}
 use Rattle.pr_wire.specs.declared.Edge.{Edge}
 use Rattle.pr_capture.specs.declared.format.TraceInput.{TraceInput}
@@ -13,6 +13,7 @@ use Rattle.pr_report.specs.Oddities.{is_acknowledged, oddities_of, oddities_text
 use Rattle.pr_report.specs.Taking.{HasSeen}
 use Rattle.pr_explain.specs.TracePlaces.{AreInOrder, AreInOrderBehind, IsPlaceRead}
 use Rattle.pr_explain.specs.declared.oddities.Looked.{Looked}
+use Rattle.pr_explain.specs.declared.oddities.Remarks.{Remarks}
 
 -- the text for edges of an input with this fault, if it has one: the last lines of `decode`'s report on them, where the
 -- recording can be read to its end; or else none
@@ -20,11 +21,17 @@ pub record AreOddLines (edges : List Edge) (own : Option CliFault) (text : List 
   pub readable : IsPlaceRead edges own None → text ≡ oddities_text (oddities_of edges (readings_of edges))
   pub refused : (IsPlaceRead edges own None → ⊥) → text ≡ []
 
-pub record IsOddText (input : TraceInput) (bytes text : List ℕ) : Type 0 where
+-- the moment of the first edge: 0, or how much later than at the start asked for the three levels are first known
+abbrev pub first_moment : List Edge → ℕ
+first_moment [] = 0
+first_moment (e ∷ es) = e.time
+
+pub record AreRemarks (input : TraceInput) (bytes : List ℕ) (r : Remarks) : Type 0 where
   pub edges : List Edge
   pub own : Option CliFault
   pub says : Says input bytes edges own
-  pub are_lines : AreOddLines edges own text
+  pub later : r.later ≡ first_moment edges
+  pub are_lines : AreOddLines edges own r.oddities.items
 
 -- Linking words.
 

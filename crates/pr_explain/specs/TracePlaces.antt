@@ -9,7 +9,7 @@ use Rattle.pr_wire.specs.Table.{IsAllowed, differ, fault_of}
 use Rattle.pr_capture.specs.declared.fault.CaptureFault.{CaptureFault}
 use Rattle.pr_capture.specs.declared.fault.CaptureFault.TheVariants as capture
 use Rattle.pr_capture.specs.declared.format.TraceInput.{TraceInput}
-use Rattle.pr_cli.specs.Report.{Says}
+use Rattle.pr_cli.specs.Report.{Says, edges_checked}
 use Rattle.pr_cli.specs.declared.fault.CliFault.{CliFault}
 use Rattle.pr_cli.specs.declared.fault.CliFault.TheVariants.{Trace, Capture}
 use Rattle.pr_explain.specs.Rows.{all_lead_apart, has_moment, takes}
@@ -117,7 +117,7 @@ pub record IsTracePlace (input : TraceInput) (bytes : List ℕ) (p : TracePlace)
   pub edges : List Edge
   pub own : Option CliFault
   pub says : Says input bytes edges own
-  pub is_place : IsPlaceOf edges own p
+  pub is_place : IsPlaceOf (edges_checked input.source edges) own p
 
 -- the place of a lawful trace: none
 abbrev pub nowhere : TracePlace

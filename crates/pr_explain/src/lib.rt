@@ -8,7 +8,8 @@
 //! the line and the device of a statement at which a BASIC error stopped a run. [`rows_from`] gives
 //! the rows of the table of lawful traces at a place: an edge is taken there exactly if one of them
 //! has its levels and its time. [`rows_behind`] gives those that an edge after the last one can
-//! still meet. [`explain_oddities`] is a text alone, and proved: what is odd about a recording.
+//! still meet. [`remark_on`] says of a recording where its trace begins and what is odd about
+//! it, and its text is proved too.
 //!
 //! - `rows` has the rows of the table at a place, and those that can follow the last edge.
 //! - `traces`, `oddities`, `scripts` and `stops` are what is explained. `edges` follows edges to the
@@ -39,7 +40,7 @@ mod traces;
 mod words;
 
 pub use edges::EdgePlace;
-pub use oddities::explain_oddities;
+pub use oddities::{Remarks, remark_on};
 pub use rows::{Miss, Row, rows_behind, rows_from};
 pub use scripts::{ScriptPlace, explain_script};
 pub use stops::{StopCause, StopPlace, explain_stop};

@@ -8,7 +8,7 @@ ghost use Rattle.pr_decode.specs.Readings.{readings_of};
 ghost use Rattle.pr_decode.specs.Taking.{IsBefore, last_time};
 ghost use Rattle.pr_report.specs.Oddities.{is_acknowledged, oddities_of};
 ghost use Rattle.pr_cli.specs.Report.{IsOwnFault};
-ghost use Rattle.pr_explain.specs.OddLines.{AreOddLines, ComesAfter, HasLooked, IsOddText};
+ghost use Rattle.pr_explain.specs.OddLines.{AreOddLines, AreRemarks, ComesAfter, HasLooked, first_moment};
 ghost use Rattle.pr_explain.specs.TracePlaces.{AreInOrder};
 
 use crate::input::read_input;
@@ -19,6 +19,16 @@ use pr_decode::{Decoder, Reading};
 use pr_report::{LinesSeen, Oddities, is_acknowledged, push_oddities};
 use pr_wire::{Edge, NoMemory};
 use std::alloc::Global;
+
+/// What there is to say of a recording that is checked.
+#[derive(Debug, Drop)]
+pub struct Remarks {
+    /// How many microseconds after the start asked for the three levels are first known, so that the trace begins there.
+    pub later: u64,
+    /// The last lines of `decode`'s report: no byte is acknowledged, attention never comes, a line rests at 0, and what to
+    /// try. There are none where nothing is odd, and where the recording cannot be read to its end.
+    pub oddities: Vec<u8>,
+}
 
 /// What the edges of a recording so far come to.
 #[derive(Drop)]
@@ -103,20 +113,32 @@ fn odd_lines(alloc: Global, edges: &[Edge], own: Option<CliFault>) -> Result<Vec
     }
 }
 
-/// Says what is odd about a recording, in the last lines of `decode`'s report on it: no byte is acknowledged,
-/// attention never comes, a line rests at 0, and what to try. There is no text where nothing is odd, and where
-/// the recording cannot be read to its end. It is read as `decode` reads it.
+/// From where on edges count: the moment of the first, 0 where there is none.
+fn first_moment(edges: &[Edge]) -> u64
+    ensures { result ≡ first_moment edges.now }
+{
+    match edges {
+        [first, ..] => first.time,
+        [] => 0,
+    }
+}
+
+/// Says of a recording, lawful or not, how much later than at the start asked for its trace begins, and what is odd
+/// about it. It is read as `check` reads it.
 ///
 /// # Errors
 ///
 /// [`NoMemory`] where memory was refused.
-pub fn explain_oddities(
+pub fn remark_on(
     alloc: Global,
     recording: &[u8],
     input: TraceInput<'_>,
-) -> Result<Vec<u8>, NoMemory>
-    ensures { IfOk result (λ text. IsOddText input.entry recording.now text.items) }
+) -> Result<Remarks, NoMemory>
+    ensures { IfOk result (λ remarks. AreRemarks input.entry recording.now remarks) }
 {
     let said = read_input(alloc, recording, input)?;
-    odd_lines(alloc, said.edges.as_slice(), said.fault)
+    let edges = said.edges.as_slice();
+    let later = first_moment(edges);
+    let oddities = odd_lines(alloc, edges, said.fault)?;
+    Ok(Remarks { later, oddities })
 }

@@ -53,6 +53,16 @@ pub fn start_of(input: TraceInput<'_>) -> u64 {
     }
 }
 
+/// From which microsecond of its recording the times of a trace count, which begins with the first of these edges; 0
+/// for a trace text.
+pub fn trace_start(input: TraceInput<'_>, edges: &[Edge]) -> u64 {
+    let start = start_of(input);
+    match (input.source, edges) {
+        (Source::Vcd | Source::Csv, [first, ..]) => start.saturating_add(first.time),
+        _ => start,
+    }
+}
+
 /// In brackets the recording's own time, where its times count from a later microsecond than 0.
 #[derive(Clone, Copy)]
 struct Recorded {

@@ -3,7 +3,7 @@
 use crate::edges::{EdgePlace, Followed};
 use crate::rows::Miss;
 use crate::states::{LAST_TIME, push_rows, push_state};
-use crate::texts::{Digits, Shown, start_of};
+use crate::texts::{Digits, Shown};
 use pr_capture::{Source, TraceInput};
 use pr_wire::{Edge, Levels, NoMemory, WaveFault};
 
@@ -18,6 +18,8 @@ pub const BRACKETS: &str = "[in brackets: the recording's own time, in microseco
 pub struct TraceSaid<'a> {
     /// How the trace is read.
     pub input: TraceInput<'a>,
+    /// From which microsecond of its recording its times count.
+    pub start: u64,
     /// Its edges, or those before the line that has a fault.
     pub edges: &'a [Edge],
     /// All its edges are known.
@@ -34,7 +36,7 @@ pub fn push_stop(
     let [first, ..] = trace.edges else {
         return push_no_edge(text, trace.input.source);
     };
-    if start_of(trace.input) > 0 {
+    if trace.start > 0 {
         write!(text, "  {BRACKETS}\n")?;
     }
     match place.fault {
@@ -42,13 +44,13 @@ pub fn push_stop(
             push_index(text, index, trace.input.source)?;
             push_bad_start(text, trace, *first)
         }
-        WaveFault::Truncated(_) => push_end(text, followed, place, start_of(trace.input)),
+        WaveFault::Truncated(_) => push_end(text, followed, place, trace.start),
         WaveFault::Order(index)
         | WaveFault::TooEarly(index)
         | WaveFault::TooLate(index)
         | WaveFault::Shape(index) => {
             push_index(text, index, trace.input.source)?;
-            push_refused(text, followed, place, start_of(trace.input))
+            push_refused(text, followed, place, trace.start)
         }
         WaveFault::NoMemory => Ok(()),
     }
@@ -77,7 +79,7 @@ pub fn push_index(text: &mut String, index: usize, source: Source) -> Result<(),
 
 /// Adds a first edge that is not the start of a trace, and where the start may be.
 fn push_bad_start(text: &mut String, trace: TraceSaid<'_>, edge: Edge) -> Result<(), NoMemory> {
-    let start = start_of(trace.input);
+    let start = trace.start;
     write!(text, "{}\n", Shown { edge, start })?;
     write!(text, "  expected {FIRST}\n")?;
     if trace.input.source == Source::Text {
@@ -102,7 +104,7 @@ fn push_bad_start(text: &mut String, trace: TraceSaid<'_>, edge: Edge) -> Result
 
 /// Adds where a recording may have the start of its trace, by its edges from a time on.
 fn push_start(text: &mut String, trace: TraceSaid<'_>) -> Result<(), NoMemory> {
-    let start = start_of(trace.input);
+    let start = trace.start;
     write!(
         text,
         "  --from-time US starts the trace at microsecond US of the recording; "

@@ -10,8 +10,8 @@ ghost use Rattle.pr_explain.specs.TracePlaces.{AreInOrder, GoesBackAt, IsPlaceOf
 use crate::Explanation;
 use crate::edges::{EdgePlace, Followed, follow, place_in};
 use crate::faults::{own_line, push_fault};
-use crate::input::read_input;
-use crate::texts::{Shown, start_of};
+use crate::input::{counted, read_input};
+use crate::texts::{Shown, start_of, trace_start};
 use crate::trace_text::{BRACKETS, TraceSaid, push_index, push_stop};
 use pr_capture::TraceInput;
 use pr_cli::CliFault;
@@ -46,8 +46,8 @@ pub enum ReadingPlace {
 /// The trace is read as `check` reads it.
 ///
 /// The text shows the line and what was expected there; the edge, the edges that were expected, and
-/// by how much this one misses them. Its times count from the start that the input has; the recording's
-/// own microseconds are in brackets where that is not 0. It is tested, not proved.
+/// by how much this one misses them. Its times count from where the trace begins; the recording's own
+/// microseconds are in brackets where that is not 0. It is tested, not proved.
 ///
 /// # Errors
 ///
@@ -62,7 +62,9 @@ pub fn explain_trace(
 {
     let said = read_input(alloc, trace, input)?;
     let fault = said.fault;
-    let edges = said.edges.as_slice();
+    let start = trace_start(input, said.edges.as_slice());
+    let counted = counted(alloc, input.source, said.edges.as_slice())?;
+    let edges = counted.as_slice();
     let followed = follow(edges);
     let place = place_of(&followed, fault);
     let mut text = String::new(alloc);
@@ -75,6 +77,7 @@ pub fn explain_trace(
     if let Some(edge) = place.edge {
         let trace = TraceSaid {
             input,
+            start,
             edges,
             is_whole: fault.is_none(),
         };

@@ -8,7 +8,7 @@ use pr_bus::Delays;
 use pr_capture::{Source, TraceInput};
 use pr_cli::{CliFault, Ending, PictureFault};
 use pr_explain::{
-    explain_oddities, explain_reading, explain_script, explain_stop, explain_trace,
+    explain_reading, explain_script, explain_stop, explain_trace, remark_on,
 };
 use pr_listing::{
     ListingFault, ListingForm, TextFault, has_typed_strings, looks_like_disk, looks_like_text,
@@ -284,8 +284,8 @@ fn show(rt: &impl Eprint, lines: Result<String, AllocError>) {
     }
 }
 
-/// What more there is to say of a trace: why it is refused, if it is, and of a recording what is odd about it. A trace
-/// text has no other signals, nor probes.
+/// What more there is to say of a trace: why it is refused, if it is; and of a recording where its trace begins, if that is
+/// later than asked for, and what is odd about it. A trace text has no other signals, nor probes.
 fn trace_told(
     rt: &impl AllocGlobal,
     bytes: &[u8],
@@ -293,15 +293,23 @@ fn trace_told(
     answer: Result<Ending, CliFault>,
 ) -> Result<String, AllocError> {
     let alloc = rt.alloc();
-    let mut text = match answer {
+    let refusal = match answer {
         Ok(_) => String::new(alloc),
         Err(fault) if is_of_input(fault) => explain_trace(alloc, bytes, trace)?.text,
         Err(_) => return Ok(String::new(alloc)),
     };
-    if trace.source != Source::Text {
-        let oddities = explain_oddities(alloc, bytes, trace)?;
-        push_indented(&mut text, oddities.as_slice())?;
+    if trace.source == Source::Text {
+        return Ok(refusal);
     }
+    let remarks = remark_on(alloc, bytes, trace)?;
+    let mut text = String::new(alloc);
+    if remarks.later > 0 {
+        let begins = trace.start.saturating_add(remarks.later);
+        write!(text, "  the trace begins at microsecond {begins} of the recording, ")?;
+        write!(text, "where the levels of all three lines are first known\n")?;
+    }
+    write!(text, "{refusal}")?;
+    push_indented(&mut text, remarks.oddities.as_slice())?;
     Ok(text)
 }
 

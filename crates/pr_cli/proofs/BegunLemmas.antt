@@ -1,0 +1,49 @@
+-- Edges that are counted from the first.
+use Rattle.std.proofs.Common.{◌≡◌, ℕ, ◌-◌, List, [], ◌∷◌, ◌++◌, refl, ap, arith, sym, ◌∙◌, Some}
+use Rattle.std.specs.Prelude.{unwrap_or}
+use Rattle.std.proofs.lemmas.List.{map-append}
+use Rattle.pr_wire.specs.declared.Edge.{Edge}
+use Rattle.pr_wire.specs.declared.Levels.{Levels}
+use Rattle.pr_capture.specs.Samples.{counted_from}
+use Rattle.pr_capture.specs.declared.format.Source.{Source}
+use Rattle.pr_capture.specs.declared.format.Source.TheVariants as source
+use Rattle.pr_cli.specs.Begun.{CountsOn, HasBegun, HasCountedOn, first_time}
+use Rattle.pr_cli.specs.Report.{counted_from_first}
+use Rattle.pr_cli.specs.declared.beginning.Beginning.{Beginning}
+
+-- one edge more of a recording
+first_more : (edges : List Edge) (e : Edge) → Some (unwrap_or (first_time edges) e.time) ≡ first_time (edges ++ e ∷ [])
+first_more [] e = refl
+first_more (f ∷ edges) e = refl
+
+counted_more : (edges : List Edge) (e : Edge) → counted_from_first (edges ++ e ∷ []) ≡ counted_from_first edges ++ counted_from (unwrap_or (first_time edges) e.time) e ∷ []
+counted_more [] e = refl
+counted_more (f ∷ edges) e = ap (λ l. counted_from f.time f ∷ l) (map-append (counted_from f.time) edges (e ∷ []))
+
+abbrev pub edge_at : ℕ → Levels → Edge
+edge_at t l = record { time = t; levels = l }
+
+-- an edge that counts from 0
+as_it_is : (e : Edge) → counted_from 0 e ≡ e
+as_it_is e = let same : e.time - 0 ≡ e.time = omega (arith) in ap (λ t. edge_at t e.levels) same
+
+pub counts_on : (e : Edge) (t : ℕ) (old new : Beginning) → t ≡ e.time - unwrap_or old.moment e.time → new.moment ≡ Some (unwrap_or old.moment e.time)
+    → CountsOn e (edge_at t e.levels) old new
+counts_on e t old new is was s edges h = by s h
+  where
+    counted : (m : ℕ) → unwrap_or old.moment e.time ≡ m → edge_at t e.levels ≡ counted_from m e
+    counted m k = ap (λ u. edge_at u e.levels) (is ∙ ap (λ n. e.time - n) k)
+
+    by : (s : Source) → HasBegun s edges old → HasCountedOn s edges e (edge_at t e.levels) new
+    by source.Text h = record {
+      begun = was ∙ ap (λ m. Some (unwrap_or m e.time)) h;
+      counts = ap (λ c. edges ++ c ∷ []) (sym (counted 0 (ap (λ m. unwrap_or m e.time) h) ∙ as_it_is e));
+    }
+    by source.Csv h = record {
+      begun = was ∙ (ap (λ m. Some (unwrap_or m e.time)) h ∙ first_more edges e);
+      counts = counted_more edges e ∙ ap (λ c. counted_from_first edges ++ c ∷ []) (sym (counted _ (ap (λ m. unwrap_or m e.time) h)));
+    }
+    by source.Vcd h = record {
+      begun = was ∙ (ap (λ m. Some (unwrap_or m e.time)) h ∙ first_more edges e);
+      counts = counted_more edges e ∙ ap (λ c. counted_from_first edges ++ c ∷ []) (sym (counted _ (ap (λ m. unwrap_or m e.time) h)));
+    }
