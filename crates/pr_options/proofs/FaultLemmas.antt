@@ -16,7 +16,7 @@ use Rattle.pr_options.specs.Given.{file_in, value_in}
 use Rattle.pr_options.specs.Jobs.{◌>>=◌, IsRefused, JobView, RunView, TaskView, asked, decode_output, fitting, heard, is_picture, pages_output, read, shown, unless_found, unmeasured, wanted, wanted_bus, wanted_check, wanted_decode, wanted_detail, wanted_input, wanted_pages, wanted_part, wanted_raw, wanted_run, wanted_task, wants_readings, wants_recording, wants_table}
 use Rattle.pr_options.specs.OptionNames.{ValueOption}
 use Rattle.pr_options.specs.OptionNames as option
-use Rattle.pr_options.specs.Options.{bounds_of, decode_output_of, device_of, form_of, format_of, mode_of, pages_output_of, present_of, rate_of, reading_source_of, report_of, set_of, sheet_of, source_of, start_of, trace_format_of}
+use Rattle.pr_options.specs.Options.{before_of, bounds_of, decode_output_of, device_of, form_of, format_of, from_time_of, mode_of, pages_output_of, present_of, rate_of, reading_source_of, report_of, set_of, sheet_of, source_of, trace_format_of}
 use Rattle.pr_options.specs.SignalNames.{names_of}
 use Rattle.pr_options.specs.Steps.{IsOfClap, Met, wanted_of}
 use Rattle.pr_options.specs.declared.command_line.Task.{Task}
@@ -42,7 +42,7 @@ result_of x = Ok x
 
 abbrev task_with_files : List Row → JobView → TaskView
 task_with_files rows job =
-    record { job = job; input = file_in option.input rows; output = file_in option.output rows; characters = first_of option.characters rows }
+    record { job = job; before = before_of (value_in option.from_time rows); input = file_in option.input rows; output = file_in option.output rows; characters = first_of option.characters rows }
 
 -- none of a value that is read, and of what follows it
 read_no_line : {A B : Type 0} (o : ValueOption) (meaning : Text → Option A) (bad : JobFault) (rows : List Row) (next : A → Result B JobFault)
@@ -80,7 +80,7 @@ fitting_no_line source.Csv rows = tt
 input_no_line : (source : Source) (rows : List Row) → NoLine (wanted_input source rows)
 input_no_line source rows =
     read_no_line option.names names_of fault.BadNames rows _ (λ h. h) (λ names.
-    read_no_line option.from_time start_of fault.BadStart rows _ (λ h. h) (λ start.
+    read_no_line option.from_time from_time_of fault.BadStart rows _ (λ h. h) (λ start.
     read_no_line option.rate rate_of fault.BadRate rows _ (λ h. h) (λ rate.
     then_no_line (fitting source rows) _ (fitting_no_line source rows) (λ fits. tt))))
 

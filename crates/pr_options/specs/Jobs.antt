@@ -26,7 +26,7 @@ use Rattle.pr_options.specs.OptionNames as option
 use Rattle.pr_options.specs.CommandLine.{print1525}
 use Rattle.pr_options.specs.DelayLists.{delays_of}
 use Rattle.pr_options.specs.Given.{file_in, is_given, value_in}
-use Rattle.pr_options.specs.Options.{bounds_of, decode_output_of, device_of, form_of, format_of, mode_of, pages_output_of, present_of, rate_of, reading_source_of, report_of, set_of, sheet_of, source_of, start_of, trace_format_of}
+use Rattle.pr_options.specs.Options.{before_of, bounds_of, decode_output_of, device_of, form_of, format_of, from_time_of, mode_of, pages_output_of, present_of, rate_of, reading_source_of, report_of, set_of, sheet_of, source_of, trace_format_of}
 use Rattle.pr_options.specs.SignalNames.{Names, names_of, names_of_signals}
 use Rattle.pr_options.specs.declared.command_line.Job.{Job}
 use Rattle.pr_options.specs.declared.command_line.Job.TheVariants as job
@@ -60,9 +60,11 @@ pub data JobView : Type 0 where
   Decode : Bool → InputView → DecodeOutput → JobView
   Raw : Bool → Format → JobView
 
--- a job, the file that it reads, the file that it writes and the one of the characters that it draws, where words name them
+-- a job, how long before its recording's own moment 0 the trace starts, if it does, the file that it reads, the file that it
+-- writes and the one of the characters that it draws, where words name them
 pub record TaskView : Type 0 where
   pub job : JobView
+  pub before : Option ℕ
   pub input : Option Text
   pub output : Option Text
   pub characters : Option Text
@@ -96,6 +98,7 @@ job_view (job.Raw lower format) = Raw lower format
 abbrev pub task_view : Task → TaskView
 task_view task = record {
   job = job_view task.job;
+  before = task.before;
   input = option_map (λ name. name.now) task.input;
   output = option_map (λ name. name.now) task.output;
   characters = option_map (λ name. name.now) task.characters;
@@ -140,7 +143,7 @@ fitting source.Csv rows = Ok tt
 abbrev pub wanted_input : Source → List Row → Result InputView JobFault
 wanted_input source rows =
     read option.names names_of fault.BadNames rows >>= λ names.
-    read option.from_time start_of fault.BadStart rows >>= λ start.
+    read option.from_time from_time_of fault.BadStart rows >>= λ start.
     read option.rate rate_of fault.BadRate rows >>= λ rate.
     fitting source rows >>= λ fits.
     Ok (record {
@@ -272,6 +275,7 @@ wanted_task name rows =
     wanted name rows >>= λ job.
     Ok (record {
       job = job;
+      before = before_of (value_in option.from_time rows);
       input = file_in option.input rows;
       output = file_in option.output rows;
       characters = first_of option.characters rows;

@@ -1,6 +1,6 @@
 -- Trusted: the values of the program's options.
 use Rattle.std.specs.Prelude.{ℕ, ◌^◌, ◌==◌, ◌&&◌, ◌∷◌, [], Bool, List, length, nat_lt, Option, Some, None, true, false, codes, if◌then◌else◌, find, option_and_then, option_map}
-use Rattle.std.specs.List.{list_all}
+use Rattle.std.specs.List.{after_first, before_first, list_all}
 use Rattle.std.specs.Str.{bytes_eq}
 use Rattle.clap.specs.Words.{Text}
 use Rattle.pr_base.specs.Digits.{is_digit, number_of}
@@ -108,6 +108,19 @@ abbrev pub start_of : Text → Option ℕ
 start_of text =
     if nat_lt 0 (length text) && (list_all is_digit text && nat_lt (number_of text) (2 ^ 64))
     then Some (number_of text) else None
+
+-- nothing, or a minus in front, before a number of microseconds
+abbrev pub is_back : Text → Bool
+is_back text = length (before_first (λ b. b == 45) text) == 0
+
+-- how long before the recording's own moment 0 a trace starts, where there is a minus
+abbrev pub before_of : Text → Option ℕ
+before_of text = if is_back text then start_of (after_first (λ b. b == 45) text) else None
+
+-- the moment of a recording at which a trace starts: a number as above, or a minus and such a number; for the latter it is
+-- 0, the recording's first moment, until that of its own moment 0 is known
+abbrev pub from_time_of : Text → Option ℕ
+from_time_of text = if is_back text then option_map (λ n. 0) (before_of text) else start_of text
 
 -- the sheet of a number; sheets count from 1
 abbrev pub sheet_numbered : ℕ → Option (Option ℕ)

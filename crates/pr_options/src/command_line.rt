@@ -24,7 +24,7 @@ use crate::options::{
 };
 use crate::outputs::{CheckOutput, DecodeOutput, PagesOutput};
 use crate::values_given::{
-    characters_in, decode_output_in, delays_in, file_in, fitting, form_in, page_as_in,
+    before_in, characters_in, decode_output_in, delays_in, file_in, fitting, form_in, page_as_in,
     pages_output_in, present_in, rate_in, raw_as_in, reading_as_in, reading_source_in, report_in,
     set_in, shown_in, signals_in, source_in, start_in, status_in, trace_format_in, unless_found,
     value_in,
@@ -74,6 +74,9 @@ pub enum Job<'a> {
 #[derive(Drop)]
 pub struct Task<'a> {
     pub job: Job<'a>,
+    /// How long before its recording's own moment 0 the trace starts, in microseconds; None where it starts at the
+    /// moment that the job has, which counts from the recording's first moment.
+    pub before: Option<u64>,
     /// The name of the file that is read; None where standard input is.
     pub input: Option<&'a str>,
     /// The name of the file that is written; None where standard output is.
@@ -113,7 +116,7 @@ pub enum JobFault {
     /// The value of `--names` is not three names, as [`read_signals`] reads them.
     #[error("bad --names")]
     BadNames,
-    /// The value of `--from-time` is no number of microseconds, as [`read_start`] reads it.
+    /// The value of `--from-time` is no number of microseconds, as [`read_from_time`] reads it.
     #[error("bad --from-time")]
     BadStart,
     /// The value of `--rate` is no number of samples in a second, as [`pr_capture::read_rate`] reads it.
@@ -399,6 +402,7 @@ fn task_of<'a>(alloc: Global, matches: &ArgMatches<'a>) -> Result<Task<'a>, JobF
     let job = job_of(alloc, name, options)?;
     Ok(Task {
         job,
+        before: before_in(options),
         input: file_in(options, INPUT),
         output: file_in(options, OUTPUT),
         characters: characters_in(options),

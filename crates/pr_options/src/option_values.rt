@@ -1,7 +1,7 @@
 //! The values of the program's options.
 
 ghost use Rattle.std.specs.Prelude.{◌≡◌, ◌∷◌, [], option_map, IfSome};
-ghost use Rattle.pr_options.specs.Options.{bounds_of, decode_output_of, device_of, form_of, format_of, mode_of, pages_output_of, present_of, rate_of, reading_source_of, report_of, set_of, sheet_numbered, sheet_of, source_of, start_of, trace_format_of};
+ghost use Rattle.pr_options.specs.Options.{before_of, bounds_of, decode_output_of, device_of, form_of, format_of, from_time_of, mode_of, pages_output_of, present_of, rate_of, reading_source_of, report_of, set_of, sheet_numbered, sheet_of, source_of, start_of, trace_format_of};
 ghost use Rattle.pr_options.specs.SignalNames.{are_names, differ, is_clock_twice, is_name, names_of, names_of_signals, three_names};
 
 use crate::outputs::{CheckOutput, DecodeOutput, PagesOutput};
@@ -294,7 +294,7 @@ fn is_clock_twice(a: &str, b: &str) -> bool
     a.eq_ignore_ascii_case("CLOCK") && b.eq_ignore_ascii_case("CLK")
 }
 
-/// The moment at which a trace starts, in microseconds: decimal digits that spell a number below
+/// A moment, in microseconds: decimal digits that spell a number below
 /// 2^64 (profile). None for any other text.
 pub fn read_start(text: &str) -> Option<u64>
     ensures { result ≡ start_of text.now }
@@ -303,4 +303,31 @@ pub fn read_start(text: &str) -> Option<u64>
         return None;
     }
     text.parse().ok()
+}
+
+/// The moment of a recording at which its trace starts, in microseconds: as [`read_start`], or a minus and such a number,
+/// for which it is 0, the recording's first moment, until its own moment 0 is known (profile). None for any other text.
+pub fn read_from_time(text: &str) -> Option<u64>
+    ensures { result ≡ from_time_of text.now }
+{
+    let (front, _) = cut(text, '-');
+    if front.is_empty() {
+        let _before = read_before(text)?;
+        Some(0)
+    } else {
+        read_start(text)
+    }
+}
+
+/// How long before its recording's own moment 0 a trace starts, in microseconds: a minus and a number, as
+/// [`read_start`] reads it (profile). None for any other text.
+pub fn read_before(text: &str) -> Option<u64>
+    ensures { result ≡ before_of text.now }
+{
+    let (front, behind) = cut(text, '-');
+    if front.is_empty() {
+        read_start(behind)
+    } else {
+        None
+    }
 }

@@ -8,7 +8,7 @@ ghost use Rattle.pr_options.specs.DelayLists.{delays_of};
 ghost use Rattle.pr_options.specs.Given.{ending_value, file_in, has_ending, is_given, is_of_words, named, value_by_ending, value_in};
 ghost use Rattle.pr_options.specs.OptionNames as option;
 ghost use Rattle.pr_options.specs.Jobs.{decode_output, drawn, fitting, heard, is_picture, pages_output, read, shown, unless_found, unmeasured, wanted_detail, wanted_part, wants_readings, wants_recording, wants_table};
-ghost use Rattle.pr_options.specs.Options.{bounds_of, decode_output_of, device_of, form_of, format_of, mode_of, pages_output_of, present_of, rate_of, reading_source_of, report_of, set_of, sheet_of, source_of, start_of, trace_format_of};
+ghost use Rattle.pr_options.specs.Options.{before_of, bounds_of, decode_output_of, device_of, form_of, format_of, from_time_of, mode_of, pages_output_of, present_of, rate_of, reading_source_of, report_of, set_of, sheet_of, source_of, trace_format_of};
 ghost use Rattle.pr_options.specs.SignalNames.{names_of};
 ghost use Rattle.pr_options.specs.Steps.{IsFaultIn, signals_result};
 ghost use Rattle.pr_options.specs.Subcommands.{endings_view, option_view};
@@ -16,9 +16,9 @@ ghost use Rattle.pr_options.specs.Subcommands.{endings_view, option_view};
 use crate::command_line::JobFault;
 use crate::delays::read_delays;
 use crate::option_values::{
-    read_bounds, read_decode_output, read_device, read_form, read_format, read_given_rate,
-    read_pages_output, read_present, read_reading_source, read_report, read_set, read_sheet,
-    read_signals, read_source, read_start, read_status, read_trace_format,
+    read_before, read_bounds, read_decode_output, read_device, read_form, read_format,
+    read_from_time, read_given_rate, read_pages_output, read_present, read_reading_source,
+    read_report, read_set, read_sheet, read_signals, read_source, read_status, read_trace_format,
 };
 use crate::options::{
     BOUNDS, CHARACTERS, DELAYS, DEVICE, Ending, FROM, FROM_TIME, FileArgument, INTERVALS, INVERT,
@@ -103,9 +103,16 @@ pub fn signals_in<'a>(options: &ArgMatches<'a>) -> Result<Signals<'a>, JobFault>
 
 /// The moment at which a trace starts.
 pub fn start_in(options: &ArgMatches<'_>) -> Result<u64, JobFault>
-    ensures { result ≡ read option.from_time start_of JobFault.BadStart (rows_of (found_of options.now)) }
+    ensures { result ≡ read option.from_time from_time_of JobFault.BadStart (rows_of (found_of options.now)) }
 {
-    read_start(value_in(options, FROM_TIME)).ok_or(JobFault::BadStart)
+    read_from_time(value_in(options, FROM_TIME)).ok_or(JobFault::BadStart)
+}
+
+/// How long before its recording's own moment 0 a trace starts, if it does.
+pub fn before_in(options: &ArgMatches<'_>) -> Option<u64>
+    ensures { result ≡ before_of (value_in option.from_time (rows_of (found_of options.now))) }
+{
+    read_before(value_in(options, FROM_TIME))
 }
 
 /// The samples in a second of a recording, if words say them.

@@ -42,6 +42,12 @@ abbrev pub found_job : (first : List ℕ) → Job → Job
 found_job first (Decode true input f) = Decode false (record input { source = found_source input.source first }) f
 found_job first job = job
 
+-- a job with another start of its trace, where it reads one; all else of it stays
+abbrev pub restarted_job : (start : ℕ) → Job → Job
+restarted_job start (Check input r) = Check (record input { start = start }) r
+restarted_job start (Decode is_found input f) = Decode is_found (record input { start = start }) f
+restarted_job start job = job
+
 -- what `check` answers: the frames of a trace text, or else a report on an input of any format
 abbrev pub AnswersFrames :
     TraceInput → Source → Report → List ℕ → Option (List ℕ) → Option (List ℕ)

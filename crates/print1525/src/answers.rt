@@ -7,6 +7,7 @@ use crate::characters::shapes_for;
 use crate::jobs::{Answer, do_job, found_job};
 use crate::progress::{Progress, clear};
 use crate::shown::Shown;
+use crate::starts::started_job;
 use crate::statuses::{FAILED, ending_status, fault_status, is_answered, text_status};
 use crate::told::{heard_told, subject_of, tell_listing, tell_more};
 use pr_cli::{CliFault, Ending, SCRIPT_LIMIT, TeeReader, Watched};
@@ -14,7 +15,7 @@ use pr_dots::Shapes;
 use pr_files::{Noting, save};
 use pr_listing::{ListingForm, TextFault, read_text};
 use pr_options::{Job, Task};
-use std::alloc::Global;
+use std::alloc::{AllocError, Global};
 use std::cell::Cell;
 use std::fs::{File, Files};
 use std::io;
@@ -35,6 +36,8 @@ struct Names<'a> {
 #[derive(Drop)]
 struct Work<'a> {
     job: Job<'a>,
+    /// How long before its recording's own moment 0 the trace starts, if it does, in microseconds.
+    before: Option<u64>,
     shapes: &'a Shapes,
 }
 
@@ -69,6 +72,7 @@ pub fn answer_task(
 ) -> u8 {
     let Task {
         job,
+        before,
         input,
         output,
         characters,
@@ -79,6 +83,7 @@ pub fn answer_task(
     };
     let work = Work {
         job,
+        before,
         shapes: &shapes,
     };
     let names = Names {
@@ -155,7 +160,7 @@ fn answer_from<R: Read + Drop>(
 }
 
 /// Does a job over a reader and a writer, and gives the exit status and the writer. A listing in
-/// another form is made a script's text first, and the format of a recording is found first.
+/// another form is made a script's text first, and a recording's format or own moment 0 is found first.
 fn answer_job<R: Read + Drop, W: Write + Drop>(
     rt: &(impl Eprint + AllocGlobal),
     reader: R,
@@ -164,7 +169,7 @@ fn answer_job<R: Read + Drop, W: Write + Drop>(
     work: Work<'_>,
     aside: Aside<'_>,
 ) -> (u8, W) {
-    if is_to_find(&work.job) {
+    if is_to_find(&work.job) || work.before.is_some() {
         return answer_recording(rt, reader, writer, names, work, aside);
     }
     let form = form_of(&work.job);
@@ -179,7 +184,7 @@ fn is_to_find(job: &Job<'_>) -> bool {
     matches!(job, Job::Decode { is_found: true, .. })
 }
 
-/// Does a job of `decode` in the format that the first bytes show.
+/// Does a job in the format, and from the moment, that a recording's first bytes show.
 fn answer_recording<R: Read + Drop, W: Write + Drop>(
     rt: &(impl Eprint + AllocGlobal),
     reader: R,
@@ -191,9 +196,9 @@ fn answer_recording<R: Read + Drop, W: Write + Drop>(
     let mut input = Watched::new(Noting::new(reader));
     match read_first(rt.alloc(), &mut input) {
         Ok(first) => {
-            let work = Work {
-                job: found_job(work.job, first.as_slice()),
-                shapes: work.shapes,
+            let Ok(work) = found_work(rt.alloc(), work, first.as_slice()) else {
+                clear(rt, aside.is_shown);
+                return (tell(rt, CliFault::NoMemory), writer);
             };
             let whole = first.as_slice().chain(input.into_inner());
             answer_over(rt, whole, writer, names, work, aside)
@@ -211,6 +216,25 @@ fn answer_recording<R: Read + Drop, W: Write + Drop>(
             (tell(rt, fault), writer)
         }
     }
+}
+
+/// What is to be done, by the first bytes of a recording.
+fn found_work<'a>(alloc: Global, work: Work<'a>, first: &[u8]) -> Result<Work<'a>, AllocError> {
+    let Work {
+        job,
+        before,
+        shapes,
+    } = work;
+    let job = found_job(job, first);
+    let job = match before {
+        Some(before) => started_job(alloc, job, first, before)?,
+        None => job,
+    };
+    Ok(Work {
+        job,
+        before: None,
+        shapes,
+    })
 }
 
 /// The first bytes of an input: 4096, or all where there are fewer.
@@ -276,7 +300,7 @@ fn answer_over<R: Read + Drop, W: Write + Drop>(
     work: Work<'_>,
     aside: Aside<'_>,
 ) -> (u8, W) {
-    let Work { job, shapes } = work;
+    let Work { job, shapes, .. } = work;
     let subject = subject_of(&job);
     let kept = TeeReader::new(rt.alloc(), reader, aside.is_explained);
     let mut input = Watched::new(Noting::new(kept));

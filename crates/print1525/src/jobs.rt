@@ -4,7 +4,7 @@ ghost use Rattle.std.specs.Prelude.{◌≡◌, ◌↔◌, false, true, IfErr, If
 ghost use Rattle.pr_cli.specs.Pages.{ReadsToEnd, WritesNothing, start_of};
 ghost use Rattle.pr_cli.specs.Report.{IsReportFault, ReadsAll, WritesNoReport};
 ghost use Rattle.pr_input.specs.Watched.{has_failed, wrapped};
-ghost use Rattle.print1525.specs.Jobs.{AnswersFrames, AnswersJob, AnswersRecording, AnswersRun, AnswersTrace, IsJobFault, IsPrintFault, IsRecordingFault, KeepsOutput, KeepsTrace, ReadsInput, ReadsRecording, ReadsTrace, found_job};
+ghost use Rattle.print1525.specs.Jobs.{AnswersFrames, AnswersJob, AnswersRecording, AnswersRun, AnswersTrace, IsJobFault, IsPrintFault, IsRecordingFault, KeepsOutput, KeepsTrace, ReadsInput, ReadsRecording, ReadsTrace, found_job, restarted_job};
 
 use pr_basic::StatusMode;
 use pr_bus::Delays;
@@ -47,6 +47,25 @@ pub fn found_job<'a>(job: Job<'a>, first: &[u8]) -> Job<'a>
                 source: found_source(input.source, first),
                 ..input
             },
+            output,
+        },
+        _ => job,
+    }
+}
+
+/// Returns the job with another start of its trace, where it reads one. All else that the job says stays.
+pub fn restarted_job<'a>(job: Job<'a>, start: u64) -> Job<'a>
+    ensures { result ≡ restarted_job start job.entry }
+{
+    match job {
+        Job::Check(input, report) => Job::Check(TraceInput { start, ..input }, report),
+        Job::Decode {
+            is_found,
+            input,
+            output,
+        } => Job::Decode {
+            is_found,
+            input: TraceInput { start, ..input },
             output,
         },
         _ => job,
