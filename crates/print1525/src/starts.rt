@@ -49,7 +49,7 @@ fn zero_behind(
     mut reader: CsvReader<'_>,
     row: &[u8],
 ) -> Result<u64, AllocError>
-    requires few { line_number reader.entry + 2 < 2 ^ 64 }
+    requires few { line_number reader + 2 < 2 ^ 64 }
 {
     let row = with_zero(alloc, row)?;
     let time = time_of(&mut reader, row.as_slice())?;
