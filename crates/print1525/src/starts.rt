@@ -44,11 +44,7 @@ fn zero_of(alloc: Global, input: TraceInput<'_>, first: &[u8]) -> Result<u64, Al
 
 /// The same after a table's first row. Since times count from that row's, it is the time of a row with 0 in that place; in a
 /// table without times a row more is later.
-fn zero_behind(
-    alloc: Global,
-    mut reader: CsvReader<'_>,
-    row: &[u8],
-) -> Result<u64, AllocError>
+fn zero_behind(alloc: Global, mut reader: CsvReader<'_>, row: &[u8]) -> Result<u64, AllocError>
     requires few { line_number reader + 2 < 2 ^ 64 }
 {
     let row = with_zero(alloc, row)?;

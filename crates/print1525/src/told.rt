@@ -7,9 +7,7 @@ use pr_basic::{Statement, StatusMode, read_script};
 use pr_bus::Delays;
 use pr_capture::{Source, TraceInput};
 use pr_cli::{CliFault, Ending, PictureFault};
-use pr_explain::{
-    explain_reading, explain_script, explain_stop, explain_trace, remark_on,
-};
+use pr_explain::{explain_reading, explain_script, explain_stop, explain_trace, remark_on};
 use pr_listing::{
     ListingFault, ListingForm, TextFault, has_typed_strings, looks_like_disk, looks_like_text,
     looks_saved,
@@ -305,8 +303,14 @@ fn trace_told(
     let mut text = String::new(alloc);
     if remarks.later > 0 {
         let begins = trace.start.saturating_add(remarks.later);
-        write!(text, "  the trace begins at microsecond {begins} of the recording, ")?;
-        write!(text, "where the levels of all three lines are first known\n")?;
+        write!(
+            text,
+            "  the trace begins at microsecond {begins} of the recording, "
+        )?;
+        write!(
+            text,
+            "where the levels of all three lines are first known\n"
+        )?;
     }
     write!(text, "{refusal}")?;
     push_indented(&mut text, remarks.oddities.as_slice())?;
