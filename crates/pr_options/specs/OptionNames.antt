@@ -125,7 +125,7 @@ from_time = plain (codes "from-time") (codes "0")
 
 -- the samples in a second of a recording without times
 abbrev pub rate : ValueOption
-rate = plain (codes "rate") []
+rate = plain (codes "rate") (codes "none")
 
 -- the bounds that the intervals of a recording are measured against
 abbrev pub bounds : ValueOption

@@ -76,9 +76,9 @@ decode_output_of text =
 abbrev pub bounds_of : Text → Option Bounds
 bounds_of = meaning_of ((codes "profile", Profile) ∷ (codes "guide", Guide) ∷ [])
 
--- the samples in a second, as in 4M, or nothing for none
+-- the samples in a second, as in 4M, or none
 abbrev pub rate_of : Text → Option (Option ℕ)
-rate_of text = if length text == 0 then Some None else option_map (λ rate. Some rate) (rate_given text)
+rate_of text = if bytes_eq text (codes "none") then Some None else option_map (λ rate. Some rate) (rate_given text)
 
 -- the printer whose pages are drawn, or whose bytes are written: 4 or 5, or nothing for none
 abbrev pub device_of : Text → Option (Option Device)

@@ -97,9 +97,9 @@ pub const CHECK: HelpText = HelpText {
     more: "\
 Input: a trace as `print1525 bus` writes it, or a recording of one. Only this
 project's timing profile is lawful; use `print1525 decode` for real hardware.
-A table has a row of names, then a row for each sample: its time in seconds
-and a level, 0 or 1, of each signal. A FILE named *.vcd or *.csv is read so
-without --from.
+A table has a row of names, then a row for each sample: its time, in the unit
+of the column's name or in seconds, and a level, 0 or 1, of each signal. A FILE
+named *.vcd or *.csv is read so without --from.
 
 --names, --invert and --from-time go with --from vcd or csv, --rate with csv.
 Case and blanks around a name do not matter. Where no signal is called CLOCK,

@@ -124,15 +124,17 @@ pub fn read_bounds(text: &str) -> Option<Bounds>
     }
 }
 
-/// The samples in a second, as [`read_rate`] reads them, or nothing for none (profile). None for any other text.
+/// The samples in a second, as [`read_rate`] reads them, or `none` (profile). None for any other text.
 pub fn read_given_rate(text: &str) -> Option<Option<u64>>
     ensures { result ≡ rate_of text.now }
 {
-    if text.is_empty() {
-        return Some(None);
+    match text {
+        "none" => Some(None),
+        _ => {
+            let rate = read_rate(text)?;
+            Some(Some(rate))
+        }
     }
-    let rate = read_rate(text)?;
-    Some(Some(rate))
 }
 
 /// The printer whose pages are drawn, or whose bytes are written: `4` or `5`, or nothing for none (profile). None for

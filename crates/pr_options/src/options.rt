@@ -464,17 +464,17 @@ pub const FROM_TIME: ValueOption = ValueOption {
 
 /// What the values of [`RATE`] are.
 const RATE_HELP: &str = "The samples in a second of a table that has no\n\
-     times: a whole number, also with k, M or G\n\
-     [default: what the table's remarks say]";
+     times: a whole number, also with k, M or G, or\n\
+     none, where the table's remarks say it";
 
 /// The values of [`RATE`] in a few words.
-pub const RATE_VALUES: &str = "samples in a second, as in 4M, 500k or 1000000";
+pub const RATE_VALUES: &str = "samples in a second, as in 4M, 500k or 1000000, or none";
 
 /// The samples in a second of a recording.
 pub const RATE: ValueOption = ValueOption {
     name: "rate",
     value: "RATE",
-    default: "",
+    default: "none",
     file: "",
     endings: NO_ENDINGS,
     values: RATE_VALUES,
