@@ -1,6 +1,7 @@
 -- Trusted: the format of a recording by its first bytes, and the value of which a refused command line has a bad one.
-use Rattle.std.specs.Prelude.{◌==◌, ◌||◌, ℕ, Bool, false, List, Option, find, if◌then◌else◌, not, option_and_then, option_map}
+use Rattle.std.specs.Prelude.{◌==◌, ◌||◌, ◌∷◌, [], ℕ, Bool, codes, drop, false, List, Option, find, if◌then◌else◌, nat_eq, not, option_and_then, option_map}
 use Rattle.std.specs.Char.{is_ascii_whitespace}
+use Rattle.std.specs.List.{prefix_len, starts_with}
 use Rattle.std.specs.Option.{option_map_or}
 use Rattle.clap.specs.Words.{Text, subcommand_of}
 use Rattle.pr_capture.specs.declared.format.Source.{Source}
@@ -11,22 +12,45 @@ use Rattle.pr_options.specs.OptionNames.{ValueOption}
 use Rattle.pr_options.specs.Values.{option_of}
 use Rattle.pr_options.specs.declared.command_line.JobFault.{JobFault}
 
--- the first byte that is no blank
+-- the first line is the one that sigrok-cli puts in front of a dump and of a table
+abbrev pub has_meta : List ℕ → Bool
+has_meta bytes = starts_with nat_eq bytes (codes "META samplerate:")
+
+-- a byte is none of a line's end
+abbrev pub is_inner : ℕ → Bool
+is_inner b = not (b == 10)
+
+-- without that line, if it is there
+abbrev pub behind_meta : List ℕ → List ℕ
+behind_meta bytes = if has_meta bytes then drop (prefix_len is_inner bytes) bytes else bytes
+
+-- the first byte after it that is no blank
 abbrev pub front : List ℕ → Option ℕ
-front bytes = find (λ b. not (is_ascii_whitespace b)) bytes
+front bytes = find (λ b. not (is_ascii_whitespace b)) (behind_meta bytes)
 
 -- a dump begins with `$` (36)
 abbrev pub begins_as_dump : List ℕ → Bool
 begins_as_dump bytes = option_map_or (λ b. b == 36) (front bytes) false
 
--- a comma (44) comes before the first line's end
-abbrev pub has_comma : List ℕ → Bool
-has_comma bytes = option_map_or (λ b. b == 44) (find (λ b. b == 44 || b == 10) bytes) false
+-- text of 16 bits a letter (FF FE or FE FF in front) or a zip archive, such as a .sr, .sal or .dsl file (PK, 3, 4)
+abbrev pub is_no_text : List ℕ → Bool
+is_no_text bytes =
+    starts_with nat_eq bytes (255 ∷ 254 ∷ []) || starts_with nat_eq bytes (254 ∷ 255 ∷ [])
+    || starts_with nat_eq bytes (80 ∷ 75 ∷ 3 ∷ 4 ∷ [])
 
--- a table begins with `;` (59) or `#` (35), or has a comma in its first line
+-- a comma (44), a semicolon (59) or a tab (9)
+abbrev pub is_separator : ℕ → Bool
+is_separator b = b == 44 || b == 59 || b == 9
+
+-- one of them comes before the first line's end
+abbrev pub has_separator : List ℕ → Bool
+has_separator bytes = option_map_or is_separator (find (λ b. is_separator b || b == 10) bytes) false
+
+-- a table begins with `;` (59), `#` (35) or sigrok-cli's line, or has a separator in its first line; what is no text is
+-- left to the reader of tables, which refuses it by name
 abbrev pub begins_as_table : List ℕ → Bool
 begins_as_table bytes =
-    option_map_or (λ b. b == 59 || b == 35) (front bytes) false || has_comma bytes
+    is_no_text bytes || has_meta bytes || option_map_or (λ b. b == 59 || b == 35) (front bytes) false || has_separator bytes
 
 -- the format that the first bytes of a recording show, or else this one
 abbrev pub found_source : Source → List ℕ → Source

@@ -35,9 +35,10 @@ by_file file endings name default =
 abbrev pub listing_endings : List (Text × Text)
 listing_endings = (codes ".prg", codes "prg") ∷ (codes ".petcat", codes "petcat") ∷ []
 
--- what the endings of a recording's name say
+-- what the endings of a recording's name say; the reader of tables refuses archives by name
 abbrev pub recording_endings : List (Text × Text)
-recording_endings = (codes ".vcd", codes "vcd") ∷ (codes ".csv", codes "csv") ∷ []
+recording_endings = (codes ".vcd", codes "vcd") ∷ (codes ".csv", codes "csv")
+    ∷ (codes ".sr", codes "csv") ∷ (codes ".sal", codes "csv") ∷ (codes ".dsl", codes "csv") ∷ []
 
 -- what the endings of the name of any recording say
 abbrev pub reading_from_endings : List (Text × Text)

@@ -95,6 +95,18 @@ const RECORDING_ENDINGS: &[Ending] = &[
         ending: ".csv",
         value: "csv",
     },
+    Ending {
+        ending: ".sr",
+        value: "csv",
+    },
+    Ending {
+        ending: ".sal",
+        value: "csv",
+    },
+    Ending {
+        ending: ".dsl",
+        value: "csv",
+    },
 ];
 
 /// What the endings of the name of any recording say.
