@@ -4,14 +4,31 @@ ghost use Rattle.std.specs.Prelude.{◌≡◌, Some};
 ghost use Rattle.pr_cli.specs.Report.{IsOwnFault};
 ghost use Rattle.pr_explain.specs.TracePlaces.{capture_line, fault_line};
 
-use crate::names::{begins_with_number, push_dump_names, push_table_names};
+use crate::names::{
+    first_field, is_number, push_dump_names, push_same_names, push_table_names, separator_of,
+};
 use crate::texts::{Cut, line_with, without_end};
 use pr_capture::{CaptureFault, Signals, Source, TraceInput, Wire};
 use pr_cli::CliFault;
 use pr_wire::{NoMemory, TraceFault};
+use std::alloc::Global;
 
 /// What a message says of a line that begins as those of a dump do.
 const LIKE_DUMP: &str = "this looks like a Value Change Dump: use --from vcd";
+
+/// What a message says of a line that begins as sigrok-cli's first one does.
+const LIKE_SIGROK: &str =
+    "this looks like what sigrok-cli writes: use --from vcd for a dump, --from csv for a table";
+
+/// What a message says of a line with a separator of fields.
+const LIKE_TABLE: &str = "this looks like a table: use --from csv";
+
+/// What a message says of text of 16 bits a letter.
+const WIDE: &str = "this is UTF-16 text: save the recording as UTF-8 text";
+
+/// What a message says of an archive.
+const ARCHIVE: &str =
+    "this is a zip archive, as .sr, .sal and .dsl files are: export the recording as VCD or CSV";
 
 /// The line of a fault of an input, from 1. Other faults have none.
 fn line_of(fault: CliFault) -> Option<usize>
@@ -60,8 +77,20 @@ pub fn own_line(fault: CliFault) -> usize
     }
 }
 
+/// What is to be done with an input that is no text, by its first bytes. None of others.
+fn rule_of_file(bytes: &[u8]) -> Option<&'static str> {
+    if bytes.starts_with(&[255, 254]) || bytes.starts_with(&[254, 255]) {
+        Some(WIDE)
+    } else if bytes.starts_with(&[b'P', b'K', 3, 4]) {
+        Some(ARCHIVE)
+    } else {
+        None
+    }
+}
+
 /// Adds the line of an input, of this number, that has this fault, and what it should have.
 pub fn push_fault(
+    alloc: Global,
     text: &mut String,
     bytes: &[u8],
     input: TraceInput<'_>,
@@ -70,69 +99,85 @@ pub fn push_fault(
 ) -> Result<(), NoMemory> {
     let line = line_with(bytes, number);
     write!(text, "  line {number}: {}\n", Cut(without_end(line)))?;
+    if let Some(rule) = rule_of_file(bytes) {
+        return write!(text, "  {rule}\n");
+    }
     let signals = input.signals;
     match (fault, input.source) {
         (CliFault::Capture(CaptureFault::NoSignal(_, wire)), Source::Vcd) => {
-            push_missing(text, wire, signals, "no 1-bit signal")?;
-            push_dump_names(text, bytes)
+            push_missing(text, wire, signals)?;
+            push_dump_names(alloc, text, bytes)
+        }
+        (CliFault::Capture(CaptureFault::TwoSignals(_, wire)), Source::Vcd) => {
+            let (_, name) = line_and_name(wire, signals);
+            let second = if wire == Wire::Clock {
+                b"CLK".as_slice()
+            } else {
+                name
+            };
+            push_same_names(alloc, text, bytes, name, second)
         }
         (CliFault::Capture(CaptureFault::NoSignal(_, wire)), Source::Csv) => {
             push_columns(text, line, wire, signals)
         }
         (CliFault::Capture(fault), Source::Vcd) => { write!(text, "  {}\n", rule_of_dumps(fault)) }
+        (CliFault::Capture(CaptureFault::NoTime(_)), Source::Csv) => {
+            write!(text, "  {}\n", rule_of_times(line))
+        }
         (CliFault::Capture(fault), Source::Csv) => write!(text, "  {}\n", rule_of_tables(fault)),
         _ => push_text_rule(text, line),
     }
 }
 
-/// Adds which name no signal of a recording has.
-fn push_missing(
-    text: &mut String,
-    wire: Wire,
-    signals: Signals<'_>,
-    no_signal: &str,
-) -> Result<(), NoMemory> {
-    let (line, name) = match wire {
+/// The name of a line of the bus, and that of its signal.
+fn line_and_name<'a>(wire: Wire, signals: Signals<'a>) -> (&'static str, &'a [u8]) {
+    match wire {
         Wire::Atn => ("ATN", signals.atn),
         Wire::Clock => ("CLOCK", signals.clock),
         Wire::Data => ("DATA", signals.line),
-    };
+    }
+}
+
+/// Adds which name no signal of a recording has.
+fn push_missing(text: &mut String, wire: Wire, signals: Signals<'_>) -> Result<(), NoMemory> {
+    let (line, name) = line_and_name(wire, signals);
     write!(
         text,
-        "  found {no_signal} named {} for the {line} line\n",
+        "  found no signal named {} for the {line} line\n",
         Cut(name)
     )
 }
 
-/// Why a line cannot name the columns of a table.
-fn no_names(line: &[u8]) -> Option<&'static str> {
-    if without_end(line).is_empty() {
-        Some("expected column names such as Time,ATN,CLOCK,DATA before the rows, found none")
-    } else if line.starts_with(b"$") {
-        Some(LIKE_DUMP)
-    } else if !line.contains(&b',') {
-        Some(
-            "expected column names separated by commas, semicolons or tabs, such as Time,ATN,CLOCK,DATA",
-        )
-    } else if begins_with_number(line) {
-        Some("expected column names such as Time,ATN,CLOCK,DATA before the rows, found a number")
-    } else {
-        None
-    }
-}
-
-/// Adds which name no column of a table has, and the names that this line gives.
+/// Adds which name no column of a table has, and the names that this line gives, or why it gives none.
 fn push_columns(
     text: &mut String,
     line: &[u8],
     wire: Wire,
     signals: Signals<'_>,
 ) -> Result<(), NoMemory> {
-    if let Some(reason) = no_names(line) {
-        return write!(text, "  {reason}\n");
+    if without_end(line).is_empty() {
+        return write!(
+            text,
+            "  expected column names such as Time,ATN,CLOCK,DATA before the rows, found none\n"
+        );
     }
-    push_missing(text, wire, signals, "no signal")?;
-    push_table_names(text, line)
+    if line.starts_with(b"$") {
+        return write!(text, "  {LIKE_DUMP}\n");
+    }
+    let Some(separator) = separator_of(line) else {
+        return write!(
+            text,
+            "  expected column names separated by commas, semicolons or tabs, such as Time,ATN,CLOCK,DATA\n"
+        );
+    };
+    if is_number(first_field(separator, line)) {
+        return write!(
+            text,
+            "  expected column names such as Time,ATN,CLOCK,DATA before the rows, found a number\n"
+        );
+    }
+    push_missing(text, wire, signals)?;
+    push_table_names(text, separator, line)
 }
 
 /// What a dump has where it has this fault.
@@ -146,9 +191,6 @@ fn rule_of_dumps(fault: CaptureFault) -> &'static str {
         CaptureFault::NoDefinitions(_) => {
             "expected $enddefinitions $end after the header; for a table use --from csv, for a trace text \
              no --from"
-        }
-        CaptureFault::TwoSignals(_, _) => {
-            "two signals have this name; add the scopes in --names, such as bus.ATN"
         }
         CaptureFault::NoTimescale(_) | CaptureFault::BadTimescale(_) => {
             "expected a timescale in the header, such as $timescale 1 us $end: 1, 10 or 100 of s, ms, us, \
@@ -168,12 +210,27 @@ fn rule_of_tables(fault: CaptureFault) -> &'static str {
             "expected a time first, such as 0.000125, -2 or 5e-05, in the unit of its column and below \
              2^64 microseconds"
         }
-        CaptureFault::NoTime(_) => {
-            "expected a first column of times, such as Time [s] or microseconds, or a remark with the \
-             sample rate, such as ; Samplerate: 4 MHz"
-        }
         _ => rule_of_levels(fault),
     }
+}
+
+/// What a table has whose names, in this line, are refused since it has no times.
+fn rule_of_times(line: &[u8]) -> &'static str {
+    let name = first_field(separator_of(line).unwrap_or(b','), line);
+    if is_time_alone(name) {
+        "sigrok-cli writes 0 for all of these times: give the sample rate with --rate, such as --rate 4M"
+    } else {
+        "expected a first column of times, such as Time [s] or microseconds; for a table without times \
+         give the sample rate with --rate, such as --rate 4M, or in a remark such as \
+         ; Samplerate: 4 MHz"
+    }
+}
+
+/// Whether a column has a word for time as its name, without a unit.
+fn is_time_alone(name: &[u8]) -> bool {
+    name.eq_ignore_ascii_case(b"time")
+        || name.eq_ignore_ascii_case(b"timestamp")
+        || name.eq_ignore_ascii_case(b"t")
 }
 
 /// What a recording of any kind has where it has this fault.
@@ -186,10 +243,6 @@ fn rule_of_levels(fault: CaptureFault) -> &'static str {
             "expected level 0 or 1, found z (nothing drives the line); a pull-up makes it 1"
         }
         CaptureFault::BadLevel(_) => "expected level 0, 1, L or H",
-        CaptureFault::WideText => "save the recording as UTF-8 text",
-        CaptureFault::Archive => {
-            ".sr, .sal and .dsl files are archives; export the recording as VCD or CSV"
-        }
         _ => "this is not allowed here",
     }
 }
@@ -202,11 +255,21 @@ fn push_text_rule(text: &mut String, line: &[u8]) -> Result<(), NoMemory> {
         "  expected a time in microseconds, a space, and a digit each for ATN, CLOCK and DATA (1 \
          released, 0 pulled), such as 100 001\n"
     )?;
+    match hint_of(line) {
+        Some(hint) => write!(text, "  {hint}\n"),
+        None => Ok(()),
+    }
+}
+
+/// Which format a line looks like that is none of a trace text's.
+fn hint_of(line: &[u8]) -> Option<&'static str> {
     if line.starts_with(b"$") {
-        write!(text, "  {LIKE_DUMP}\n")
-    } else if line.contains(&b',') {
-        write!(text, "  this looks like a table: use --from csv\n")
+        Some(LIKE_DUMP)
+    } else if line.starts_with(b"META samplerate:") {
+        Some(LIKE_SIGROK)
+    } else if separator_of(line).is_some() {
+        Some(LIKE_TABLE)
     } else {
-        Ok(())
+        None
     }
 }

@@ -15,7 +15,8 @@
 //! - `traces`, `oddities`, `scripts` and `stops` are what is explained. `edges` follows edges to the
 //!   first that is not allowed, and `input` reads a trace in any format as `check` reads it.
 //! - The words: `trace_text` and `states` of edges; `faults` and `names` of a line that cannot be
-//!   read, what it should have, and which signals a recording has; `context` and `words` of the
+//!   read, what it should have, and which signals a recording has, by `declared` those of a dump;
+//!   `context` and `words` of the
 //!   statement around a place of a script, and of the word that is there. The place's line and its
 //!   lexeme are those of pr_basic's `line_at` and `lexeme_at`. `texts` has times, levels and
 //!   escaped bytes.
@@ -25,6 +26,7 @@
 #![tactic(auto)]
 
 mod context;
+mod declared;
 mod edges;
 mod faults;
 mod input;

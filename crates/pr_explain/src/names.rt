@@ -1,18 +1,14 @@
 //! The names of a recording's signals.
 
-ghost use Rattle.std.specs.Prelude.{◌<◌, ◌≤◌, length};
+ghost use Rattle.std.specs.Prelude.{◌<◌, length};
 
-use crate::texts::Cut;
+use crate::declared::{paths_called, paths_in};
+use crate::texts::{Cut, unframed};
 use pr_wire::NoMemory;
+use std::alloc::Global;
 
 /// The most names that are shown (profile).
 const NAMES: usize = 20;
-
-/// Words that begin no section up to the next `$end`: changes are in these as elsewhere.
-const ALONE: [&[u8]; 5] = [b"$end", b"$dumpvars", b"$dumpall", b"$dumpon", b"$dumpoff"];
-
-/// Kinds of signals without levels: numbers, texts and events.
-const WITHOUT_LEVELS: [&[u8]; 4] = [b"real", b"realtime", b"string", b"event"];
 
 /// Adds a name after this many others, unless it is empty or enough are shown, and gives how many
 /// there are with it.
@@ -42,85 +38,85 @@ fn push_names_end(text: &mut String, count: usize, no_signal: &str) -> Result<()
     )
 }
 
-/// Adds the names of a dump's signals of one bit.
-pub fn push_dump_names(text: &mut String, dump: &[u8]) -> Result<(), NoMemory> {
+/// Adds the paths of a dump's signals, and how a bit of one is named, where one has more.
+pub fn push_dump_names(alloc: Global, text: &mut String, dump: &[u8]) -> Result<(), NoMemory> {
+    let paths = paths_in(alloc, dump)?;
     let mut count = 0;
-    let mut rest = dump;
-    while !rest.is_empty() {
-        let (word, more) = split_word(rest);
-        rest = more;
-        if word == b"$enddefinitions".as_slice() {
-            rest = &[];
-        } else if word.starts_with(b"$") && !ALONE.contains(&word) {
-            let (section, more) = split_section(more);
-            rest = more;
-            if word == b"$var".as_slice() {
-                count = push_name(text, count, signal_name(section))?;
-            }
+    let mut has_range = false;
+    for path in &paths {
+        count = push_name(text, count, path.as_slice())?;
+        has_range = has_range || path.as_slice().contains(&b':');
+    }
+    push_names_end(
+        text,
+        count,
+        "no 1-bit signal, and none with a range such as [2:0]",
+    )?;
+    if has_range {
+        write!(
+            text,
+            "  a bit of a signal with a range has its index, such as IEC[0]\n"
+        )?;
+    }
+    Ok(())
+}
+
+/// Adds the paths of the signals of a dump that one name means, or else a second name, and how one of them
+/// is named.
+pub fn push_same_names(
+    alloc: Global,
+    text: &mut String,
+    dump: &[u8],
+    name: &[u8],
+    second: &[u8],
+) -> Result<(), NoMemory> {
+    let paths = paths_in(alloc, dump)?;
+    let first = paths_called(alloc, paths.as_slice(), name)?;
+    if first.len() > 1 {
+        return push_paths(text, first.as_slice(), name);
+    }
+    let others = paths_called(alloc, paths.as_slice(), second)?;
+    push_paths(text, others.as_slice(), second)
+}
+
+/// Adds that these paths are meant by one name, and what to do.
+fn push_paths(text: &mut String, paths: &[&[u8]], name: &[u8]) -> Result<(), NoMemory> {
+    write!(text, "  two signals have the name {}:", Cut(name))?;
+    for (i, path) in paths.iter().enumerate() {
+        if i < NAMES {
+            let comma = if i == 0 { "" } else { "," };
+            write!(text, "{comma} {}", Cut(*path))?;
         }
     }
-    push_names_end(text, count, "no 1-bit signal")
-}
-
-/// The name of the signal that has this section, if it can be a line of the bus: it has levels, and
-/// one bit. Else nothing.
-fn signal_name(section: &[u8]) -> &[u8] {
-    let (kind, rest) = split_word(section);
-    let (size, rest) = split_word(rest);
-    let (_code, rest) = split_word(rest);
-    let (name, _) = split_word(rest);
-    if !WITHOUT_LEVELS.contains(&kind) && size == b"1".as_slice() {
-        name
-    } else {
-        &[]
+    match paths {
+        [first, second, ..] if !first.eq_ignore_ascii_case(*second) => write!(
+            text,
+            "\n  add the scopes in --names, such as {}\n",
+            Cut(*second)
+        ),
+        _ => write!(
+            text,
+            "\n  no scope tells them apart: give one of them another name in the dump\n"
+        ),
     }
 }
 
-/// What is before the first `$end`, and what follows it.
-fn split_section(bytes: &[u8]) -> (&[u8], &[u8])
-    ensures { length result.1.now ≤ length bytes.now }
-{
-    let mut rest = bytes;
-    while !rest.is_empty() {
-        let (word, more) = split_word(rest);
-        if word == b"$end".as_slice() {
-            let len = bytes.len().saturating_sub(rest.len());
-            return (&bytes[..len], more);
+/// What separates the fields of a table, by the line of their names: the first comma, semicolon or tab.
+/// None where it has none.
+pub fn separator_of(line: &[u8]) -> Option<u8> {
+    for byte in line {
+        if matches!(*byte, b',' | b';' | b'\t') {
+            return Some(*byte);
         }
-        rest = more;
     }
-    (bytes, rest)
+    None
 }
 
-/// Whether a byte is white space.
-fn is_space(byte: u8) -> bool {
-    byte == b' ' || (byte >= 9 && byte <= 13)
-}
-
-/// The first word, and what follows it.
-fn split_word(bytes: &[u8]) -> (&[u8], &[u8])
-    ensures within { length result.1.now ≤ length bytes.now }
-    ensures less { 0 < length bytes.now → length result.1.now < length bytes.now }
-{
-    let mut start = 0;
-    for (i, byte) in bytes.iter().enumerate() {
-        if !is_space(*byte) {
-            continue;
-        }
-        if start < i {
-            return (&bytes[start..i], &bytes[i + 1..]);
-        }
-        start = i + 1;
-    }
-    (&bytes[start.min(bytes.len())..], &[])
-}
-
-/// Whether the first field of a line is digits, points, signs and, after a digit, the letter of an
-/// exponent alone, with a digit among them.
-pub fn begins_with_number(line: &[u8]) -> bool {
-    let (field, _) = split_field(line);
+/// Whether a field is digits, points, signs and, after a digit, the letter of an exponent alone, with a
+/// digit among them.
+pub fn is_number(field: &[u8]) -> bool {
     let mut has_digit = false;
-    for byte in unframed(field) {
+    for byte in field {
         if byte.is_ascii_digit() {
             has_digit = true;
         } else if !is_mark_of_number(*byte, has_digit) {
@@ -137,8 +133,8 @@ fn is_mark_of_number(byte: u8, has_digit: bool) -> bool {
 
 /// Adds the name of a table's first column, and the names of the others, by the line of their
 /// names.
-pub fn push_table_names(text: &mut String, line: &[u8]) -> Result<(), NoMemory> {
-    let (time, mut rest) = split_field(line);
+pub fn push_table_names(text: &mut String, separator: u8, line: &[u8]) -> Result<(), NoMemory> {
+    let (time, mut rest) = split_field(separator, line);
     let name = unframed(time);
     if name.is_empty() {
         write!(text, "  the first column has no name\n")?;
@@ -147,21 +143,27 @@ pub fn push_table_names(text: &mut String, line: &[u8]) -> Result<(), NoMemory> 
     }
     let mut count = 0;
     while !rest.is_empty() {
-        let (field, more) = split_field(rest);
+        let (field, more) = split_field(separator, rest);
         rest = more;
         count = push_name(text, count, unframed(field))?;
     }
     push_names_end(text, count, "no named signal")
 }
 
-/// The first field of a line, and what follows its comma; nothing, where it has none. A comma
-/// between quotation marks does not end it.
-fn split_field(line: &[u8]) -> (&[u8], &[u8])
+/// The first field of a line, without what is around it.
+pub fn first_field(separator: u8, line: &[u8]) -> &[u8] {
+    let (field, _) = split_field(separator, line);
+    unframed(field)
+}
+
+/// The first field of a line, and what follows its separator; nothing, where it has none. One between
+/// quotation marks does not end it.
+fn split_field(separator: u8, line: &[u8]) -> (&[u8], &[u8])
     ensures less { 0 < length line.now → length result.1.now < length line.now }
 {
     let mut is_quoted = false;
     for (i, byte) in line.iter().enumerate() {
-        if *byte == b',' && !is_quoted {
+        if *byte == separator && !is_quoted {
             return (&line[..i], &line[i + 1..]);
         }
         if *byte == b'"' {
@@ -169,23 +171,4 @@ fn split_field(line: &[u8]) -> (&[u8], &[u8])
         }
     }
     (line, &[])
-}
-
-/// Whether a byte is around a field and does not belong to it.
-fn is_frame(byte: u8) -> bool {
-    is_space(byte) || byte == b'"'
-}
-
-/// A field without the white space and the quotation marks around it.
-fn unframed(field: &[u8]) -> &[u8] {
-    let mut start = field.len();
-    let mut end = field.len();
-    for (i, byte) in field.iter().enumerate() {
-        if !is_frame(*byte) {
-            start = start.min(i);
-            end = i + 1;
-        }
-    }
-    let end = end.min(field.len());
-    &field[start.min(end)..end]
 }

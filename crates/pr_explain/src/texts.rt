@@ -158,3 +158,27 @@ fn cut_line(text: &[u8]) -> (&[u8], &[u8]) {
     }
     (text, &[])
 }
+
+/// Whether a byte is white space.
+pub fn is_space(byte: u8) -> bool {
+    byte == b' ' || (byte >= 9 && byte <= 13)
+}
+
+/// Whether a byte is around a field and does not belong to it.
+fn is_frame(byte: u8) -> bool {
+    is_space(byte) || byte == b'"'
+}
+
+/// A field without the white space and the quotation marks around it.
+pub fn unframed(field: &[u8]) -> &[u8] {
+    let mut start = field.len();
+    let mut end = field.len();
+    for (i, byte) in field.iter().enumerate() {
+        if !is_frame(*byte) {
+            start = start.min(i);
+            end = i + 1;
+        }
+    }
+    let end = end.min(field.len());
+    &field[start.min(end)..end]
+}

@@ -72,7 +72,7 @@ pub fn explain_trace(
         return Ok(Explanation { place, text });
     }
     if let (Some(fault), Some(number)) = (fault, place.line) {
-        push_fault(&mut text, trace, input, fault, number)?;
+        push_fault(alloc, &mut text, trace, input, fault, number)?;
     }
     if let Some(edge) = place.edge {
         let trace = TraceSaid {
@@ -129,7 +129,7 @@ pub fn explain_reading(
     match (place, fault) {
         (ReadingPlace::Edge(index), _) => push_back(&mut text, edges, index, input)?,
         (ReadingPlace::Line(number), Some(fault)) => {
-            push_fault(&mut text, recording, input, fault, number)?;
+            push_fault(alloc, &mut text, recording, input, fault, number)?;
         }
         (ReadingPlace::Line(_), None) => {}
     }

@@ -1,5 +1,5 @@
 use Rattle.std.proofs.Common.{◌≤◌, length}
-use Rattle.pr_explain.proofs.names.split_section.Given as goal
+use Rattle.pr_explain.proofs.declared.split_section.Given as goal
 
 -- what is left is no longer than all
 abbrev pub invariant-loop-word : goal.invariant-loop-word
