@@ -50,7 +50,8 @@ has_separator bytes = option_map_or is_separator (find (λ b. is_separator b || 
 -- left to the reader of tables, which refuses it by name
 abbrev pub begins_as_table : List ℕ → Bool
 begins_as_table bytes =
-    is_no_text bytes || has_meta bytes || option_map_or (λ b. b == 59 || b == 35) (front bytes) false || has_separator bytes
+    is_no_text bytes || has_meta bytes || option_map_or (λ b. b == 59 || b == 35) (front bytes) false
+    || has_separator bytes
 
 -- the format that the first bytes of a recording show, or else this one
 abbrev pub found_source : Source → List ℕ → Source
