@@ -1,5 +1,5 @@
--- One edge more of the lines.
-use Rattle.std.proofs.Common.{◌≡◌, Bool, true, false, ◌||◌, List, [], ◌∷◌, ◌++◌, Some, refl, sym, ap, ◌∙◌}
+-- Edges more of the lines.
+use Rattle.std.proofs.Common.{◌≡◌, ◌-◌, ◌<◌, Bool, true, false, ◌||◌, List, [], ◌∷◌, ◌++◌, length, get_or, Some, refl, sym, ap, ◌∙◌, arith}
 use Rattle.std.proofs.lemmas.List.Folds.{list_any-append}
 use Rattle.std.specs.Prelude.{not}
 use Rattle.std.specs.List.{list_any}
@@ -40,3 +40,35 @@ seen-more old new e attention first last = λ es h. record {
   first = first ∙ (ap (λ o. Some (first_or o e.levels)) h.first ∙ sym (first-more es e));
   last = last ∙ sym (last-more es e);
 }
+
+-- edges more
+first-many : (es fs : List Edge) (e : Edge) → first_levels (es ++ e ∷ fs) ≡ Some (first_or (first_levels es) e.levels)
+first-many [] fs e = refl
+first-many (x ∷ es) fs e = refl
+
+after-many : (l : Levels) (es fs : List Edge) → levels_after l (es ++ fs) ≡ levels_after (levels_after l es) fs
+after-many l [] fs = refl
+after-many l (x ∷ es) fs = after-many x.levels es fs
+
+last-many : (es fs : List Edge) (e : Edge) → last_levels (es ++ e ∷ fs) ≡ Some (levels_after e.levels fs)
+last-many [] fs e = refl
+last-many (x ∷ es) fs e = ap (λ (l : Levels). Some l) (after-many x.levels es (e ∷ fs))
+
+-- the last of them
+last-at : (e d : Edge) (fs : List Edge) → (get_or (e ∷ fs) (length fs) d).levels ≡ levels_after e.levels fs
+last-at e d [] = refl
+last-at e d (f ∷ fs) = last-at f d fs
+
+pub many-seen : (old new : LinesSeen) (fs : List Edge) (a d : Edge) → 0 < length fs → new.has_attention ≡ (old.has_attention || list_any is_attention fs)
+    → new.first ≡ Some (first_or old.first (get_or fs 0 a).levels) → new.last ≡ Some (get_or fs (length fs - 1) d).levels
+    → (es : List Edge) → HasSeen es old → HasSeen (es ++ fs) new
+many-seen old new [] a d some attention first last = absurd (omega (arith, some))
+many-seen old new (e ∷ fs) a d some attention first last = λ es h.
+    let at : length (e ∷ fs) - 1 ≡ length fs = omega arith in
+    record {
+      attention = attention ∙ (ap (λ b. b || list_any is_attention (e ∷ fs)) h.attention ∙ sym (list_any-append is_attention es (e ∷ fs)));
+      first = first ∙ (ap (λ o. Some (first_or o e.levels)) h.first ∙ sym (first-many es fs e));
+      last = last
+          ∙ (ap (λ i. Some (get_or (e ∷ fs) i d).levels) at
+          ∙ (ap (λ (l : Levels). Some l) (last-at e d fs) ∙ sym (last-many es fs e)));
+    }

@@ -66,6 +66,25 @@ fn first_or(first: Option<Levels>, next: Levels) -> Levels
     }
 }
 
+/// Whether ATN is pulled at one of some edges.
+fn is_called(edges: &[Edge]) -> bool
+    ensures { result ≡ list_any is_attention edges.now }
+{
+    for edge in edges {
+        if !edge.levels.atn {
+            return true;
+        }
+    }
+    false
+}
+
+/// Whether attention has come, with edges more.
+fn with_calls(before: bool, edges: &[Edge]) -> bool
+    ensures { result ≡ (before || list_any is_attention edges.now) }
+{
+    before || is_called(edges)
+}
+
 impl LinesSeen {
     /// No edge was looked at.
     pub fn new() -> LinesSeen
@@ -85,6 +104,18 @@ impl LinesSeen {
         self.has_attention = with_attention(self.has_attention, edge);
         self.first = Some(first_or(self.first, edge.levels));
         self.last = Some(edge.levels);
+    }
+
+    /// Looks at the next edges, in order.
+    pub fn take_all(&mut self, edges: &[Edge])
+        ensures { (before : List Edge) → HasSeen before self.old → HasSeen (before ++ edges.now) self.new }
+    {
+        if edges.is_empty() {
+            return;
+        }
+        self.has_attention = with_calls(self.has_attention, edges);
+        self.first = Some(first_or(self.first, edges[0].levels));
+        self.last = Some(edges[edges.len() - 1].levels);
     }
 
     /// What is odd about the edges, of whose readings some are acknowledged bytes or none is.
