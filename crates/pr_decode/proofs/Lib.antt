@@ -8,3 +8,4 @@ pub mod Taken
 pub mod FrameRead
 pub mod PiecesRead
 pub mod OutlinesRead
+pub mod Passing

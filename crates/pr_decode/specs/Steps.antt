@@ -1,5 +1,5 @@
 -- Machine steps: what a decoder keeps of edges, and what one edge more comes to. No reader needs to believe them.
-use Rattle.std.specs.Prelude.{ℕ, ◌+◌, ◌-◌, ◌==◌, min, max, Bool, not, Option, Some, None, if◌then◌else◌}
+use Rattle.std.specs.Prelude.{ℕ, ◌+◌, ◌-◌, ◌==◌, nat_lt, min, max, Bool, false, not, ◌&&◌, Option, Some, None, if◌then◌else◌}
 use Rattle.pr_wire.specs.declared.Edge.{Edge}
 use Rattle.pr_wire.specs.Table.{same}
 use Rattle.pr_decode.specs.declared.decoder.Decoder.{Decoder}
@@ -161,6 +161,20 @@ kept_of (Some r) t = None
 
 abbrev pub after_edge : Option Transfer → ClockPhase → Edge → Decoder
 after_edge t s e = after (kept_of (ended_by t s e) t) s e
+
+-- two edges are a whole bit of a byte that has begun, after an edge with CLOCK pulled
+abbrev pub is_bit : (last up down : Edge) → Bool
+is_bit last up down =
+    up.levels.clock && not down.levels.clock && not (calls last up) && not (calls up down)
+    && not (nat_lt up.time last.time) && not (nat_lt down.time up.time) && not (is_late up.time down)
+
+-- a decoder in which a byte has begun
+abbrev pub sends : ClockPhase → Transfer → Decoder
+sends s t = record { stretch = Some s; transfer = Some t }
+
+-- the stretch after this many edges of whole bits, by the last of them
+abbrev pub stretch_after : ℕ → ClockPhase → (last : Edge) → ClockPhase
+stretch_after n s last = if n == 0 then s else began false last
 
 -- what the recording's end cuts
 abbrev pub cut_in : Option Transfer → Option Reading

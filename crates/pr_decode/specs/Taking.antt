@@ -132,6 +132,23 @@ StandsBefore t (Some last) = t < last
 abbrev pub IsBefore : Edge → Decoder → Type 0
 IsBefore e d = StandsBefore e.time (last_time d)
 
+-- edges come in time order, after a moment if there is one
+abbrev pub AreInOrder : (last : Option ℕ) → List Edge → Type 0
+AreInOrder last [] = Unit {0}
+AreInOrder last (e ∷ es) = (StandsBefore e.time last → ⊥) × AreInOrder (Some e.time) es
+
+-- the moment of the last of edges, or the one before them
+abbrev pub time_behind : (last : Option ℕ) → List Edge → Option ℕ
+time_behind last [] = last
+time_behind last (e ∷ es) = time_behind (Some e.time) es
+
+-- edges were taken in time order, and settle nothing
+pub record Passes (edges : List Edge) (old new : Decoder) : Type 0 where
+  pub read : (before : List Edge) (given : List Reading) → HasReadings before given old
+      → HasReadings (before ++ edges) given new
+  pub order : AreInOrder (last_time old) edges
+  pub last : last_time new ≡ time_behind (last_time old) edges
+
 -- the readings given are all that the edges taken settle
 abbrev pub GivenAreSettled : Type 0
 GivenAreSettled =

@@ -1,13 +1,13 @@
 //! The decoder: what a recording says, edge by edge.
 
-ghost use Rattle.std.specs.Prelude.{◌≡◌, ◌++◌, ◌∷◌, [], ◌<◌, ◌↔◌, List, OnErr, OnOk, IfOk, IsErr, None, Some};
+ghost use Rattle.std.specs.Prelude.{◌≡◌, ◌++◌, ◌∷◌, [], ◌<◌, ◌≤◌, ◌↔◌, false, length, take, List, OnErr, OnOk, IfOk, IsErr, None, Some};
 ghost use Rattle.std.specs.Option.{option_to_list};
 ghost use Rattle.pr_wire.specs.declared.Edge.{Edge};
 ghost use Rattle.pr_decode.specs.declared.reading.Reading.{Reading};
 ghost use Rattle.pr_decode.specs.declared.reading.Transfer.{Transfer};
 ghost use Rattle.pr_decode.specs.Readings.{readings_of, settled_of};
-ghost use Rattle.pr_decode.specs.Steps.{after, after_edge, ended_as, ended_by, frame_ended, high_ended, low_ended, moved};
-ghost use Rattle.pr_decode.specs.Taking.{HasReadings, IsBefore, last_time};
+ghost use Rattle.pr_decode.specs.Steps.{after, after_edge, ended_as, ended_by, frame_ended, high_ended, is_bit, low_ended, moved, sends, stretch_after};
+ghost use Rattle.pr_decode.specs.Taking.{AreInOrder, HasReadings, IsBefore, Passes, last_time, time_behind};
 
 use crate::clock_phase::{ClockPhase, calls, is_late};
 use crate::reading::{FrameEnd, IncompleteEnd, Reading, Transfer};
@@ -158,6 +158,43 @@ fn step(transfer: &mut Option<Transfer>, stretch: &mut ClockPhase, edge: Edge) -
     reading
 }
 
+/// Whether two edges are a whole bit of a byte that has begun, after an edge with CLOCK pulled: the first releases
+/// CLOCK, the second pulls it again in time, and neither pulls ATN or goes back.
+#[inline(always)]
+fn is_bit(last: Edge, up: Edge, down: Edge) -> bool
+    ensures { result ≡ is_bit last up down }
+{
+    up.levels.clock
+        && !down.levels.clock
+        && !calls(last, up)
+        && !calls(up, down)
+        && last.time <= up.time
+        && up.time <= down.time
+        && !is_late(up.time, down)
+}
+
+/// Takes whole bits from the front of some edges, after an edge with CLOCK pulled, as many as the byte lacks at
+/// most. Gives how many edges they are, and their last one in place of the edge before them.
+#[inline(always)]
+fn push_bits(transfer: &mut Transfer, last: &mut Edge, edges: &[Edge]) -> usize
+    ensures passes { (stretch : ClockPhase) → stretch.first.levels.clock ≡ false → stretch.last ≡ last.old →
+        Passes (take result edges.now) (sends stretch transfer.old) (sends (stretch_after result stretch last.new) transfer.new) }
+    ensures none { result ≡ 0 → transfer.new ≡ transfer.old }
+    ensures within { result ≤ length edges.now }
+{
+    let mut len = 0;
+    while transfer.bits < 8 && len + 1 < edges.len() {
+        let (up, down) = (edges[len], edges[len + 1]);
+        if !is_bit(*last, up, down) {
+            break;
+        }
+        transfer.push_bit(up, down);
+        *last = down;
+        len += 2;
+    }
+    len
+}
+
 impl Decoder {
     /// Makes a decoder that has taken no edge. It takes no memory.
     pub fn new() -> Decoder
@@ -194,6 +231,35 @@ impl Decoder {
             return Err(GoesBack);
         }
         Ok(step(&mut self.transfer, stretch, edge))
+    }
+
+    /// Takes the edges in front that are whole bits of the byte that has begun, as [`Decoder::take`] would take
+    /// them one by one, and faster: none of them settles a reading, and time does not go back. Gives how many they
+    /// are, which may be none; the decoder then stays as it is. It takes no memory.
+    #[inline(always)]
+    pub fn take_bits(&mut self, edges: &[Edge]) -> usize
+        ensures read { (before : List Edge) (given : List Reading) → HasReadings before given self.old →
+            HasReadings (before ++ take result edges.now) given self.new }
+        ensures order { AreInOrder (last_time self.old) (take result edges.now) }
+        ensures last { last_time self.new ≡ time_behind (last_time self.old) (take result edges.now) }
+        ensures within { result ≤ length edges.now }
+        ensures none { result ≡ 0 → self.new ≡ self.old }
+    {
+        let Some(stretch) = &mut self.stretch else {
+            return 0;
+        };
+        let Some(transfer) = &mut self.transfer else {
+            return 0;
+        };
+        if stretch.first.levels.clock {
+            return 0;
+        }
+        let mut last = stretch.last;
+        let len = push_bits(transfer, &mut last, edges);
+        if len > 0 {
+            stretch.begin(false, last);
+        }
+        len
     }
 
     /// Ends the recording, and gives the reading that it cuts, if there is one: a frame that was

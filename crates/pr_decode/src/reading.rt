@@ -104,6 +104,7 @@ fn weight(bits: u8) -> u8
 
 impl Halves {
     /// One half more comes, after those of this many bits.
+    #[inline(always)]
     fn push(&mut self, bits: u8, half: u64)
         ensures { self.new ≡ widened bits self.old half }
     {
@@ -138,6 +139,7 @@ impl Transfer {
     }
 
     /// One bit more comes, by the edges that release CLOCK and pull it again.
+    #[inline(always)]
     pub(crate) fn push_bit(&mut self, up: Edge, down: Edge)
         ensures { self.new ≡ with_bit self.old up down }
     {
