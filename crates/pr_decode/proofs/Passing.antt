@@ -3,7 +3,6 @@ use Rattle.std.proofs.Common.{◌≡◌, ℕ, ◌+◌, ◌<◌, ◌==◌, nat_lt
 use Rattle.std.proofs.lemmas.Bool.{ne_eqb}
 use Rattle.std.proofs.lemmas.Grind.{common_steps}
 use Rattle.std.proofs.lemmas.List.{take_more}
-use Rattle.std.specs.Option.{option_to_list}
 use Rattle.pr_wire.specs.declared.Edge.{Edge}
 use Rattle.pr_decode.specs.declared.decoder.Decoder.{Decoder}
 use Rattle.pr_decode.specs.declared.reading.Reading.{Reading}
@@ -12,7 +11,7 @@ use Rattle.pr_decode.specs.declared.clock_phase.ClockPhase.{ClockPhase}
 use Rattle.pr_decode.specs.ClockPhases.{calls}
 use Rattle.pr_decode.specs.Readings.{is_late}
 use Rattle.pr_decode.specs.Steps.{after, began, ended_by, is_bit, kept_of, sends, stretch_after, with_bit}
-use Rattle.pr_decode.specs.Taking.{AreInOrder, HasReadings, Passes, StandsBefore, last_time, time_behind}
+use Rattle.pr_decode.specs.Taking.{AreInOrder, HasReadings, Passes, last_time, time_behind}
 use Rattle.pr_decode.proofs.Taken.{more-taken}
 
 -- edges in order after others
