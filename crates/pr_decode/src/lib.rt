@@ -12,8 +12,8 @@
 //! `specs/ClockPhases.antt` and `specs/Readings.antt` define the readings over whole phases,
 //! `specs/PieceReadings.antt` what that is on lawful traces. A decoder keeps no history (`HasReadings`):
 //! an edge that settles a byte is taken as if no byte had begun (`proofs/Moving.antt`), each other edge is
-//! one step (`proofs/DecoderSteps.antt`). `proofs/FrameRead.antt` and `PiecesRead.antt` go over the pieces
-//! of lawful traces by the same two.
+//! one step (`proofs/DecoderSteps.antt`); whole bits are such steps two at a time (`proofs/Passing.antt`).
+//! `proofs/FrameRead.antt` and `PiecesRead.antt` go over the pieces of lawful traces by the same two.
 #![tactic(auto)]
 
 mod clock_phase;
