@@ -1,11 +1,11 @@
 -- Where time goes back in edges, as more of them come.
-use Rattle.std.proofs.Common.{◌≡◌, ℕ, ◌+◌, ◌-◌, ◌<◌, ◌≤◌, Bool, true, false, List, [], ◌∷◌, ◌++◌, length, take, refl, ap, sym, ◌∙◌, arith, append-nil, Option, Some, None}
+use Rattle.std.proofs.Common.{◌≡◌, ℕ, ◌+◌, ◌-◌, ◌<◌, ◌≤◌, Bool, true, false, List, [], ◌∷◌, ◌++◌, length, take, refl, ap, sym, subst, ◌∙◌, arith, append-nil, append_assoc, Option, Some, None}
 use Rattle.std.specs.Prelude.{nat_lt, if◌then◌else◌}
 use Rattle.std.proofs.Math.Seq.{take-append-add, take-append_seam}
 use Rattle.std.proofs.lemmas.Grind.{common_steps}
 use Rattle.std.proofs.lemmas.List.{take-append-le}
 use Rattle.pr_wire.specs.declared.Edge.{Edge}
-use Rattle.pr_decode.specs.Taking.{StandsBefore}
+use Rattle.pr_decode.specs.Taking.{AreInOrder, StandsBefore, time_behind}
 use Rattle.pr_recording.specs.Decoded.{back_behind, back_in, in_front}
 use Rattle.pr_recording.specs.Narrated.{time_after, time_of}
 
@@ -111,3 +111,17 @@ front_more es more = by (back_in es) refl
         let f = open_front h (back_in (es ++ more)) refl in
         (f.0, f.1 ∙ sym (ap (λ v. in_front v es ++ f.0) h))
     by (Some n) h = ([], front_stays es more n h ∙ sym (append-nil (in_front (back_in es) es)))
+
+-- edges in order after others
+pub many_on : (es more : List Edge) → back_in es ≡ None → AreInOrder (time_of es) more → back_in (es ++ more) ≡ None
+many_on es [] h order = ap back_in (append-nil es) ∙ h
+many_on es (e ∷ more) h (later, order) =
+    let Q : Option ℕ → Type 0 = λ t. AreInOrder t more in
+    ap back_in (sym (append_assoc es (e ∷ []) more))
+    ∙ many_on (es ++ e ∷ []) more (goes_on es e h later) (subst Q (sym (time_of_one es e)) order)
+
+pub times_many : (es more : List Edge) → time_of (es ++ more) ≡ time_behind (time_of es) more
+times_many es [] = ap time_of (append-nil es)
+times_many es (e ∷ more) =
+    ap time_of (sym (append_assoc es (e ∷ []) more))
+    ∙ (times_many (es ++ e ∷ []) more ∙ ap (λ t. time_behind t more) (time_of_one es e))

@@ -1,5 +1,6 @@
 -- A report, edge by edge.
-use Rattle.std.proofs.Common.{◌≡◌, ℕ, ◌+◌, List, [], ◌∷◌, ◌++◌, refl, ap, sym, subst, ◌∙◌, append-nil, length-append, Bool, true, false, Option, Some, None}
+use Rattle.std.proofs.Common.{◌≡◌, ℕ, ◌+◌, List, [], ◌∷◌, ◌++◌, refl, ap, sym, subst, ◌∙◌, append-nil, length-append, Bool, true, false, Option, Some, None, arith, append_assoc, drop, length, take, take-append-drop}
+use Rattle.std.proofs.lemmas.List.{take_all}
 use Rattle.std.specs.Prelude.{is_some}
 use Rattle.std.specs.Option.{option_to_list}
 use Rattle.pr_wire.specs.declared.Edge.{Edge}
@@ -7,7 +8,7 @@ use Rattle.pr_wire.specs.declared.WaveFault.{WaveFault}
 use Rattle.pr_wire.specs.Table.{fault_of}
 use Rattle.pr_decode.specs.declared.reading.Reading.{Reading}
 use Rattle.pr_decode.specs.Readings.{readings_of}
-use Rattle.pr_decode.specs.Taking.{GivenAreSettled, HasReadings, IsBefore, StandsBefore, last_time}
+use Rattle.pr_decode.specs.Taking.{AreInOrder, GivenAreSettled, HasReadings, IsBefore, StandsBefore, last_time, time_behind}
 use Rattle.pr_report.specs.Taking as survey
 use Rattle.pr_cli.specs.Report.{refusal}
 use Rattle.pr_cli.specs.declared.fault.CliFault.{CliFault}
@@ -17,8 +18,9 @@ use Rattle.pr_recording.specs.declared.decode_report.Ended.{Ended}
 use Rattle.pr_recording.specs.declared.decode_report.DecodeReport.{DecodeReport}
 use Rattle.pr_recording.specs.Decoded.{back_in, in_front, last_lines, readings_text, stop_at, told_of}
 use Rattle.pr_recording.specs.Narrated.{AccountsMore, EndsEdges, HasAccounted, HasHeeded, HasNarrated, IsFollowed, NarratesMore, fault_with, refused_by, refused_for, time_of}
-use Rattle.pr_recording.proofs.Backs.{back_stays, front_back, front_stays, goes_back, goes_on, time_of_one}
+use Rattle.pr_recording.proofs.Backs.{back_stays, front_back, front_stays, goes_back, goes_on, time_of_one, many_on, times_many}
 use Rattle.pr_recording.proofs.Judging.{first_fault}
+use Rattle.pr_recording.specs.EdgesRead.{BeginsBack, ReadsMore}
 
 -- no edge
 pub narrated_none : (w : Wording) (n : DecodeReport) → n.back ≡ None → HasReadings [] [] n.decoder → last_time n.decoder ≡ None → IsFollowed [] n.follower → survey.HasSeen [] n.seen → HasAccounted w [] [] n.log → n.taken ≡ 0 → HasNarrated w [] [] n
@@ -84,31 +86,52 @@ narrates_back old new e was before back d j s a t = λ f edges written h.
       heeded = subst P (sym (front_back edges e none stands)) (heeded_as f (in_front (back_in edges) edges) written old new d j s a t h.heeded);
     }
 
--- an edge is taken
-pub narrates_one : (old new : DecodeReport) (e : Edge) (r : Option Reading) → old.back ≡ None → (IsBefore e old.decoder → ⊥) → new.back ≡ old.back
-    → ((edges : List Edge) (given : List Reading) → HasReadings edges given old.decoder → HasReadings (edges ++ e ∷ []) (given ++ option_to_list r) new.decoder) → last_time new.decoder ≡ Some e.time
-    → ((edges : List Edge) → IsFollowed edges old.follower → IsFollowed (edges ++ e ∷ []) new.follower)
-    → ((edges : List Edge) → survey.HasSeen edges old.seen → survey.HasSeen (edges ++ e ∷ []) new.seen) → AccountsMore (option_to_list r) old.log new.log → new.taken ≡ old.taken + 1
-    → NarratesMore (e ∷ []) old new
-narrates_one old new e r was later same reads last follows sees accounts taken = λ f edges written h.
+-- edges before one at which time goes back are taken
+pub narrates_many : (old new : DecodeReport) (more : List Edge) → old.back ≡ None → new.back ≡ old.back → ReadsMore more old.decoder old.log new.decoder new.log
+    → ((edges : List Edge) → IsFollowed edges old.follower → IsFollowed (edges ++ more) new.follower)
+    → ((edges : List Edge) → survey.HasSeen edges old.seen → survey.HasSeen (edges ++ more) new.seen) → new.taken ≡ old.taken + length more
+    → NarratesMore more old new
+narrates_many old new more was same reads follows sees taken = λ f edges written h.
     let none : back_in edges ≡ None = sym h.back ∙ was in
     let k = of_front f edges written old none h.heeded in
-    let on : StandsBefore e.time (time_of edges) → ⊥ = λ s. later (rw k.last s) in
-    let whole : in_front (back_in (edges ++ e ∷ [])) (edges ++ e ∷ []) ≡ edges ++ e ∷ [] = all_front (edges ++ e ∷ []) (goes_on edges e none on) in
+    let Q : Option ℕ → Type 0 = λ t. AreInOrder t more in
+    let on : back_in (edges ++ more) ≡ None = many_on edges more none (subst Q k.last reads.order) in
+    let r = reads.reads f edges k.given written k.read k.accounted in
     let P : List Edge → Type 0 = λ l. HasHeeded f l written new in
-    let heeds : HasHeeded f (edges ++ e ∷ []) written new = record {
-      given = k.given ++ option_to_list r;
-      read = reads edges k.given k.read;
-      last = last ∙ sym (time_of_one edges e);
+    let heeds : HasHeeded f (edges ++ more) written new = record {
+      given = k.given ++ r.0;
+      read = r.1;
+      last = reads.last ∙ (ap (λ t. time_behind t more) k.last ∙ sym (times_many edges more));
       followed = follows edges k.followed;
       seen = sees edges k.seen;
-      accounted = accounts f k.given written k.accounted;
-      taken = taken ∙ (ap (λ i. i + 1) k.taken ∙ sym (length-append edges (e ∷ [])));
+      accounted = r.2;
+      taken = taken ∙ (ap (λ i. i + length more) k.taken ∙ sym (length-append edges more));
     } in
     record {
-      back = same ∙ (was ∙ sym (goes_on edges e none on));
-      heeded = subst P (sym whole) heeds;
+      back = same ∙ (was ∙ sym on);
+      heeded = subst P (sym (all_front (edges ++ more) on)) heeds;
     }
+
+-- and the edges from that one on
+pub narrates_rest : (old new : DecodeReport) (rest : List Edge) → old.back ≡ None → BeginsBack rest old.decoder → new.back ≡ Some old.taken → new.decoder ≡ old.decoder → new.follower ≡ old.follower → new.seen ≡ old.seen → new.log ≡ old.log
+    → new.taken ≡ old.taken → NarratesMore rest old new
+narrates_rest old new [] was before back d j s a t = absurd before
+narrates_rest old new (e ∷ es) was before back d j s a t = λ f edges written h.
+    let one : HasNarrated f (edges ++ e ∷ []) written new = narrates_back old new e was before back d j s a t f edges written h in
+    let P : List Edge → Type 0 = λ l. HasNarrated f l written new in
+    subst P (append_assoc edges (e ∷ []) es) (narrates_nothing new old.taken es back f (edges ++ e ∷ []) written one)
+
+pub narrates_both : (old mid new : DecodeReport) (n : ℕ) (more : List Edge) → NarratesMore (take n more) old mid → NarratesMore (drop n more) mid new
+    → NarratesMore more old new
+narrates_both old mid new n more first rest = λ f edges written h.
+    let P : List Edge → Type 0 = λ l. HasNarrated f l written new in
+    subst P (append_assoc edges (take n more) (drop n more) ∙ ap (λ l. edges ++ l) (take-append-drop n more))
+    (rest f (edges ++ take n more) written (first f edges written h))
+
+pub narrates_all : (old new : DecodeReport) (n : ℕ) (more : List Edge) → n ≡ length more → NarratesMore (take n more) old new → NarratesMore more old new
+narrates_all old new n more is first =
+    let P : List Edge → Type 0 = λ l. NarratesMore l old new in
+    subst P (take_all n more (omega (arith, is))) first
 
 -- lines are given up
 pub narrated_cleared : (old new : DecodeReport) → new.back ≡ old.back → new.decoder ≡ old.decoder → new.follower ≡ old.follower → new.seen ≡ old.seen → new.taken ≡ old.taken

@@ -3,6 +3,7 @@ pub mod Judging
 pub mod Writing
 pub mod Accounting
 pub mod Heeding
+pub mod ReadMore
 pub mod Coming
 pub mod Noting
 pub mod Answering

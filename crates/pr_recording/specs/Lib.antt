@@ -1,6 +1,7 @@
 pub mod Decoded
 pub mod Checked
 pub mod Narrated
+pub mod EdgesRead
 pub mod Pages
 pub mod Copied
 pub mod Copying

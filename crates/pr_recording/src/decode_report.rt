@@ -1,6 +1,6 @@
 //! What is told of edges that come one by one.
 
-ghost use Rattle.std.specs.Prelude.{◌≡◌, ◌+◌, ◌*◌, ◌^◌, ◌<◌, ◌≤◌, ◌∷◌, ◌++◌, [], List, ℕ, length, IfOk, OnOk};
+ghost use Rattle.std.specs.Prelude.{◌≡◌, ◌+◌, ◌*◌, ◌^◌, ◌<◌, ◌≤◌, ◌∷◌, ◌++◌, [], List, ℕ, drop, length, take, IfOk, OnOk};
 ghost use Rattle.pr_wire.specs.declared.Edge.{Edge};
 ghost use Rattle.pr_wire.specs.declared.Frame.{Frame};
 ghost use Rattle.pr_wire.specs.Following.{HasFollowed};
@@ -8,7 +8,8 @@ ghost use Rattle.pr_cli.specs.Report.{refusal};
 ghost use Rattle.pr_report.specs.Taking.{HasSeen};
 ghost use Rattle.pr_recording.specs.declared.wording.Wording.{Wording};
 ghost use Rattle.pr_recording.specs.Decoded.{stop_at};
-ghost use Rattle.pr_recording.specs.Narrated.{EndsEdges, GivesUp, HasNarrated, IsFollowed, NarratesMore, fault_with, lines_in, load, refused_by};
+ghost use Rattle.pr_recording.specs.Narrated.{EndsEdges, GivesUp, HasNarrated, IsFollowed, NarratesMore, fault_with, lines_in, load, refused_by, readings_told};
+ghost use Rattle.pr_recording.specs.EdgesRead.{BeginsBack, ReadsMore};
 
 use crate::reading_log::ReadingLog;
 use crate::wording::Wording;
@@ -56,38 +57,24 @@ impl DecodeReport {
         })
     }
 
-    /// Takes the next edge. After one at which time goes back it takes none.
-    fn take(&mut self, edge: Edge) -> Result<(), AllocError>
-        requires room { load self.old + 3 < 2 ^ 64 }
-        ensures narrated { OnOk result (NarratesMore (edge ∷ []) self.old self.new) }
-        ensures load { OnOk result (load self.new ≤ load self.old + 3) }
-    {
-        if self.back.is_some() {
-            return Ok(());
-        }
-        match self.decoder.take(edge) {
-            Ok(reading) => {
-                follow(&mut self.follower, edge);
-                see(&mut self.seen, edge);
-                self.taken += 1;
-                self.log.push_if(reading)
-            }
-            Err(GoesBack) => {
-                self.back = Some(self.taken);
-                Ok(())
-            }
-        }
-    }
-
-    /// Takes the next edges, in order.
+    /// Takes the next edges, in order. After one at which time goes back it takes none.
     pub fn take_all(&mut self, edges: &[Edge]) -> Result<(), AllocError>
         requires room { load self.old + 3 * length edges.now < 2 ^ 64 }
         ensures narrated { OnOk result (NarratesMore edges.now self.old self.new) }
         ensures load { OnOk result (load self.new ≤ load self.old + 3 * length edges.now) }
     {
-        for edge in edges {
-            self.take(*edge)?;
+        if self.back.is_some() {
+            return Ok(());
         }
+        let len = read_edges(&mut self.decoder, &mut self.log, edges)?;
+        let taken = &edges[..len];
+        follow_all(&mut self.follower, taken);
+        self.seen.take_all(taken);
+        self.taken += len;
+        if len == edges.len() {
+            return Ok(());
+        }
+        self.back = Some(self.taken);
         Ok(())
     }
 
@@ -128,7 +115,59 @@ impl DecodeReport {
     }
 }
 
+/// Reads edges from the front of some: whole bits of a byte, or else the next edge. Gives how many they are:
+/// none where time goes back at the next one.
+#[inline(always)]
+fn read_front(
+    decoder: &mut Decoder,
+    log: &mut ReadingLog,
+    edges: &[Edge],
+) -> Result<usize, AllocError>
+    requires some { 0 < length edges.now }
+    requires few { readings_told log.old + 1 < 2 ^ 64 }
+    ensures read { IfOk result (λ len. ReadsMore (take len edges.now) decoder.old log.old decoder.new log.new) }
+    ensures within { IfOk result (λ len. len ≤ length edges.now) }
+    ensures back { IfOk result (λ len. len ≡ 0 → BeginsBack edges.now decoder.new) }
+    ensures count { IfOk result (λ len. readings_told log.new ≤ readings_told log.old + len) }
+{
+    let bits = decoder.take_bits(edges);
+    if bits > 0 {
+        return Ok(bits);
+    }
+    match decoder.take(edges[0]) {
+        Ok(reading) => {
+            log.push_if(reading)?;
+            Ok(1)
+        }
+        Err(GoesBack) => Ok(0),
+    }
+}
+
+/// Reads edges, up to one at which time goes back. Gives how many.
+fn read_edges(
+    decoder: &mut Decoder,
+    log: &mut ReadingLog,
+    edges: &[Edge],
+) -> Result<usize, AllocError>
+    requires few { readings_told log.old + length edges.now < 2 ^ 64 }
+    ensures read { IfOk result (λ len. ReadsMore (take len edges.now) decoder.old log.old decoder.new log.new) }
+    ensures within { IfOk result (λ len. len ≤ length edges.now) }
+    ensures back { IfOk result (λ len. len < length edges.now → BeginsBack (drop len edges.now) decoder.new) }
+    ensures count { IfOk result (λ len. readings_told log.new ≤ readings_told log.old + len) }
+{
+    let mut len = 0;
+    while len < edges.len() {
+        let more = read_front(decoder, log, &edges[len..])?;
+        if more == 0 {
+            return Ok(len);
+        }
+        len += more;
+    }
+    Ok(len)
+}
+
 /// Follows the next edge; the follower keeps the first fault for its `finish`.
+#[inline(always)]
 fn follow(follower: &mut TraceFollower, edge: Edge)
     requires few { follower.old.taken + 1 < 2 ^ 64 }
     ensures followed { (edges : List Edge) (frames : List Frame) → HasFollowed edges frames follower.old →
@@ -141,11 +180,34 @@ fn follow(follower: &mut TraceFollower, edge: Edge)
     }
 }
 
-/// Looks at the next edge.
-fn see(seen: &mut LinesSeen, edge: Edge)
-    ensures { (edges : List Edge) → HasSeen edges seen.old → HasSeen (edges ++ edge ∷ []) seen.new }
+/// Follows edges from the front of some: those of a whole frame, or else the next edge. Gives how many they are.
+#[inline(always)]
+fn follow_front(follower: &mut TraceFollower, edges: &[Edge]) -> usize
+    requires some { 0 < length edges.now }
+    requires few { follower.old.taken + length edges.now < 2 ^ 64 }
+    ensures followed { (before : List Edge) → IsFollowed before follower.old →
+        IsFollowed (before ++ take result edges.now) follower.new }
+    ensures some { 0 < result }
+    ensures within { result ≤ length edges.now }
+    ensures count { follower.new.taken ≤ follower.old.taken + result }
 {
-    seen.take(edge);
+    if let Some(whole) = follower.pass_frame(edges) {
+        return whole.len;
+    }
+    follow(follower, edges[0]);
+    1
+}
+
+/// Follows the next edges, in order.
+fn follow_all(follower: &mut TraceFollower, edges: &[Edge])
+    requires few { follower.old.taken + length edges.now < 2 ^ 64 }
+    ensures followed { (before : List Edge) → IsFollowed before follower.old → IsFollowed (before ++ edges.now) follower.new }
+    ensures count { follower.new.taken ≤ follower.old.taken + length edges.now }
+{
+    let mut len = 0;
+    while len < edges.len() {
+        len += follow_front(follower, &edges[len..]);
+    }
 }
 
 /// Why no more is told of edges: time goes back at one of them, or else their input has a fault.

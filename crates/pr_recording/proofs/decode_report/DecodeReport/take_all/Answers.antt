@@ -1,22 +1,32 @@
-use Rattle.std.proofs.Common.{◌++◌, List, arith, subst, take}
-use Rattle.std.proofs.lemmas.List.{take_all}
-use Rattle.pr_wire.specs.declared.Edge.{Edge}
-use Rattle.pr_recording.specs.Narrated.{HasNarrated}
-use Rattle.pr_recording.proofs.Noting.{more_at}
+use Rattle.std.proofs.Common.{◌≡◌, ◌+◌, ◌<◌, arith, false, length, refl, rules, take, true}
+use Rattle.std.specs.Prelude.{is_some}
+use Rattle.pr_recording.specs.declared.decode_report.DecodeReport.{DecodeReport}
+use Rattle.pr_recording.proofs.Heeding.{narrates_all, narrates_both, narrates_many, narrates_rest, narrates_stopped, not_some}
+use Rattle.pr_recording.proofs.ReadMore.{taken_more}
 use Rattle.pr_recording.proofs.decode_report.DecodeReport.take_all.Goals as goal
 
-pub loop-edge-preserved : goal.loop-edge-preserved
-loop-edge-preserved c =
-    let inv = c.loop-edge.invariant in
-    let i = c.loop-edge.edge-index in
-    record {
-      narrated = λ w edges written h.
-          more_at (λ l. HasNarrated w l written c.take.new.self) edges c.args.edges.now i _ c.loop-edge-test.true (c.in_ok-take.ensures.narrated w (edges ++ take i c.args.edges.now) written (inv.narrated w edges written h));
-      load = omega (arith, inv.load, c.in_ok-take.ensures.load);
-    }
+pub returns-then-is_some-clause-narrated : goal.returns-then-is_some-clause-narrated
+returns-then-is_some-clause-narrated c =
+    let some : is_some c.args.self.now.back ≡ true = search rules in
+    narrates_stopped c.args.self.now c.args.edges.now some
+
+pub returns-then-len-edges-clause-narrated : goal.returns-then-len-edges-clause-narrated
+returns-then-len-edges-clause-narrated c =
+    let none : is_some c.args.self.now.back ≡ false = search rules in
+    let old = c.args.self.now in
+    let n = c.in_ok-len.len in
+    narrates_all old _ n c.args.edges.now (omega (arith, c.if-len-edges.true))
+    (narrates_many old _ (take n c.args.edges.now) (not_some old.back none) refl c.in_ok-len.ensures.read c.follow_all.ensures.followed c.take_all.ensures
+    (taken_more old.taken n c.args.edges.now c.in_ok-len.ensures.within))
 
 pub returns-clause-narrated : goal.returns-clause-narrated
-returns-clause-narrated c = λ w edges written h.
-    let all = take_all c.loop-edge.edge-index c.args.edges.now (omega (arith, c.loop-edge-test.false)) in
-    let P : List Edge → Type 0 = λ l. HasNarrated w (edges ++ l) written c.loop-edge.self in
-    subst P all (c.loop-edge.invariant.narrated w edges written h)
+returns-clause-narrated c =
+    let none : is_some c.args.self.now.back ≡ false = search rules in
+    let old = c.args.self.now in
+    let n = c.in_ok-len.len in
+    let fewer : n < length c.args.edges.now = omega (arith, c.in_ok-len.ensures.within, c.if-len-edges.false) in
+    let mid : DecodeReport = record { decoder = c.read_edges.new.decoder; follower = c.follow_all.new.follower; seen = c.take_all.new.self; log = c.read_edges.new.log; taken = old.taken + n; back = old.back } in
+    narrates_both old mid _ n c.args.edges.now
+    (narrates_many old mid (take n c.args.edges.now) (not_some old.back none) refl c.in_ok-len.ensures.read c.follow_all.ensures.followed c.take_all.ensures
+    (taken_more old.taken n c.args.edges.now c.in_ok-len.ensures.within))
+    (narrates_rest mid _ _ (not_some old.back none) (c.in_ok-len.ensures.back fewer) refl refl refl refl refl refl)
