@@ -29,6 +29,7 @@ impl EdgeMaker {
 
     /// Takes the next sample, or the next edge of an input that has edges, and gives the edge that is
     /// known by it, if any. It takes no memory.
+    #[inline(always)]
     pub fn take(&mut self, sample: Edge) -> Option<Edge>
         ensures { MakesMore sample self.old result self.new }
     {
@@ -39,6 +40,7 @@ impl EdgeMaker {
     }
 
     /// Returns the levels of the last sample, if samples that have them make no edge.
+    #[inline(always)]
     pub fn settled(&self) -> Option<Levels>
         ensures { result ≡ settled_in self.now }
     {

@@ -166,6 +166,7 @@ fn take_samples(
 
 /// Takes what is in front of a block and has the levels of the last sample, so that it makes no edge. Gives how
 /// many bytes, which may be none: it is a quick way through tables in which nothing changes.
+#[inline(always)]
 fn skip_repeats(reader: &mut SourceReader<'_>, maker: &mut EdgeMaker, block: &[u8]) -> usize
     requires lines { lines_read reader.old + length block.now + 1 < 2 ^ 64 }
     ensures known { SkipsFront (take result block.now) reader.old maker.old reader.new maker.new }
@@ -183,6 +184,7 @@ fn skip_repeats(reader: &mut SourceReader<'_>, maker: &mut EdgeMaker, block: &[u
 }
 
 /// Adds the edge that is known by a sample, if there is a sample and it makes one known.
+#[inline(always)]
 fn push_sample(
     edges: &mut Vec<Edge>,
     maker: &mut EdgeMaker,

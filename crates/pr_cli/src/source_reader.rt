@@ -37,6 +37,7 @@ impl<'a> SourceReader<'a> {
     ///
     /// The first fault of the input, where these bytes end it, or [`CliFault::NoMemory`]; both come
     /// as with the reader of this format. Nothing is promised of the reader afterwards.
+    #[inline(always)]
     pub fn take_front(&mut self, block: &[u8]) -> Result<(usize, Option<Edge>), CliFault>
         // the caller's part
         requires few { lines_read self.old + 1 < 2 ^ 64 }
@@ -59,6 +60,7 @@ impl<'a> SourceReader<'a> {
     /// Takes the rows in front of a block that go on as the last row of a table does, if that has these levels, as
     /// [`CsvReader::take_repeats`]. Gives how many bytes, at least one, and the last of their samples; None where
     /// there is no such row, and in the other formats. It takes no memory.
+    #[inline(always)]
     pub fn take_repeats(&mut self, block: &[u8], levels: Levels) -> Option<(usize, Edge)>
         // the caller's part
         requires few { lines_read self.old + length block.now + 1 < 2 ^ 64 }
