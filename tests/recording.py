@@ -9,6 +9,7 @@ some talkers set DATA before CLOCK's first pull. The same seed makes the same re
 In some bits CLOCK is released for 18 microseconds; with --guide for 20, as the Programmer's Reference Guide's table of the bus wants
 it, and then all intervals of a byte are within that table's bounds where no byte is given up."""
 
+import os
 import sys
 
 ATN, CLOCK, DATA = range(3)
@@ -286,8 +287,12 @@ class Session:
 
 def main():
     session = Session(int(sys.argv[1]), 20 if "--guide" in sys.argv else 18)
-    for time, levels in session.part(session.run()):
-        print(time, levels)
+    try:
+        for time, levels in session.part(session.run()):
+            print(time, levels)
+        sys.stdout.flush()
+    except BrokenPipeError:  # `head` has what it wants
+        os.dup2(os.open(os.devnull, os.O_WRONLY), sys.stdout.fileno())
 
 
 if __name__ == "__main__":
