@@ -1,7 +1,7 @@
 //! The worked channel calls over a bus without wires.
 
-use crate::refusals::most_refusals;
 use pr_channels::{Channels, Fault, File, FileTable, Stop};
+use pr_refusals::most_refusals;
 use pr_serial::{Direct, Input, NoMemory, Present, Serial};
 use std::process::Abort;
 use std::test::Fail;

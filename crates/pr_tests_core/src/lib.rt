@@ -9,8 +9,6 @@ mod channels;
 #[cfg(test)]
 mod page;
 #[cfg(test)]
-mod refusals;
-#[cfg(test)]
 mod same;
 #[cfg(test)]
 mod serial;

@@ -1,8 +1,8 @@
 //! Pages of inputs, also where a growth of the paper is refused.
 
-use crate::refusals::most_refusals;
 use pr_page::Input::{self, Byte, Select};
 use pr_page::{Mark, Paper, Placed, Printer, Sequence};
+use pr_refusals::most_refusals;
 use std::process::Abort;
 use std::test::Fail;
 

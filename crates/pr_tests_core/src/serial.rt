@@ -1,6 +1,6 @@
 //! What printers answer and hear on a bus without wires.
 
-use crate::refusals::most_refusals;
+use pr_refusals::most_refusals;
 use pr_serial::Input::{self, Byte, Select};
 use pr_serial::{Direct, NoMemory, Present, Serial};
 use std::process::Abort;

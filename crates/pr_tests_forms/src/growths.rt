@@ -2,11 +2,11 @@
 //! memory; if not, the call gives what it gives with ample memory.
 
 use crate::readings::{LISTED, SLOW};
-use crate::refusals::most_refusals;
 use crate::tables::NAMES;
 use crate::written_dumps::HEAD;
 use crate::{dumps, surveys, tables};
 use pr_capture::{CaptureFault, write_vcd};
+use pr_refusals::most_refusals;
 use pr_report::{Context, push_reading};
 use pr_wire::{Edge, Levels};
 use std::process::Abort;

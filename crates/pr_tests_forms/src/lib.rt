@@ -18,8 +18,6 @@ mod picture;
 #[cfg(test)]
 mod readings;
 #[cfg(test)]
-mod refusals;
-#[cfg(test)]
 mod samples;
 #[cfg(test)]
 mod sheets;

@@ -1,9 +1,9 @@
 //! The lines of a story, and a story in want of memory.
 
-use crate::refusals::most_refusals;
 use crate::text::joined;
 use ByteRole::{Data, First, Second};
 use WaveFault::{Start, TooLate, Truncated};
+use pr_refusals::most_refusals;
 use pr_report::{TimedFrame, push_story, push_story_line};
 use pr_wire::example::TRACE_TEXT;
 use pr_wire::{ByteRole, Frame, WaveFault, read_trace};

@@ -1,7 +1,6 @@
 //! Explanations as callers of the library get them: of errors at any statement, of names that are no text, of what has no
 //! fault, and in want of memory. The lines that the program prints are in tests/cases/explained.
 
-use crate::refusals::most_refusals;
 use pr_basic::StatusMode;
 use pr_capture::{Signals, Source, TraceInput};
 use pr_channels::Stop;
@@ -9,6 +8,7 @@ use pr_explain::{
     EdgePlace, Miss, ReadingPlace, Row, ScriptPlace, StopCause, StopPlace, TracePlace,
     explain_reading, explain_script, explain_stop, explain_trace,
 };
+use pr_refusals::most_refusals;
 use pr_serial::Present;
 use pr_wire::example::TRACE_TEXT;
 use pr_wire::{Levels, NoMemory, WaveFault};

@@ -13,6 +13,4 @@ mod files;
 #[cfg(test)]
 mod recordings;
 #[cfg(test)]
-mod refusals;
-#[cfg(test)]
 mod rows;

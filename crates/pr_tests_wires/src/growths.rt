@@ -1,11 +1,11 @@
 //! Each allocation refused in turn: `tests/growths` runs these tests so.
 
-use crate::refusals::most_refusals;
 use crate::reprint::{HELD_H, Said, has_page, reading};
 use crate::traces::{LOWER_CASE_INPUTS, LOWER_CASE_TEXT, SPELLED};
 use pr_base::LISTEN;
 use pr_receiver::replay;
 use pr_recording::PrinterPair;
+use pr_refusals::most_refusals;
 use pr_wire::example::TRACE_TEXT;
 use pr_wire::{Edge, TraceFault, WaveFault, analyse, read_trace, write_trace};
 use std::process::Abort;

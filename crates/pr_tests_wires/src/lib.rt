@@ -8,8 +8,6 @@ mod growths;
 #[cfg(test)]
 mod receiver;
 #[cfg(test)]
-mod refusals;
-#[cfg(test)]
 mod reprint;
 #[cfg(test)]
 mod same;

@@ -1,9 +1,9 @@
 //! Statements over a bus without wires.
 
-use crate::refusals::most_refusals;
 use crate::same::same;
 use pr_basic::{Session, Statement, StatusMode, perform, read_script};
 use pr_channels::{Channels, Stop};
+use pr_refusals::most_refusals;
 use pr_serial::{Direct, Input, Present, Serial};
 use std::process::Abort;
 

@@ -1,8 +1,8 @@
 //! The statements of scripts, and readings of which memory is refused.
 
-use crate::refusals::most_refusals;
 use crate::same::same;
 use pr_basic::{FaultAt, ScriptFault, Statement, read_script, read_script_at};
+use pr_refusals::most_refusals;
 use std::process::Abort;
 
 /// Each script of the rows is read as the statements of this text.

@@ -3,10 +3,10 @@
 ghost use Rattle.std.specs.Prelude.{◌≤◌, length};
 ghost use Rattle.pr_basic.specs.Limits.{statement_limit};
 
-use crate::refusals::most_refusals;
 use crate::system::steps::are_refused;
 use crate::system::two_letters::{BOTH, is_outcome, typical};
 use pr_basic::{Statement, StatusMode, read_script};
+use pr_refusals::most_refusals;
 use pr_system::{Running, run, without_device};
 use std::process::Abort;
 

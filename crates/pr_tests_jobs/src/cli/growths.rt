@@ -1,8 +1,8 @@
 //! Each growth of memory refused in turn.
 
 use crate::cli::calls::{Row, rows};
-use crate::refusals::most_refusals;
 use pr_cli::{BLOCK, CliFault, Ending, Watched};
+use pr_refusals::most_refusals;
 use std::process::Abort;
 
 /// Whether the call is refused memory, or the text to compare it with is. Refused, it says so and has

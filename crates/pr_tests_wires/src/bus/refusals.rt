@@ -1,10 +1,10 @@
 //! A bus on wires in want of memory.
 
 use crate::bus::wires::{BOTH, LISTEN_FIVE, LISTEN_FOUR_SEVENTH, TYPICAL, put, taken, wires};
-use crate::refusals::most_refusals;
 use Input::{Byte, Select};
 use Item::Sent;
 use pr_bus::Wires;
+use pr_refusals::most_refusals;
 use pr_serial::{Input, Item, Serial};
 use pr_wire::Edge;
 use std::process::Abort;

@@ -1,7 +1,7 @@
 //! Room for what printers hear.
 
 use crate::bus::wires::{LISTEN_FOUR, ONLY_FOUR, TYPICAL, put, wires};
-use crate::refusals::most_refusals;
+use pr_refusals::most_refusals;
 use pr_serial::Item::Sent;
 use pr_wire::NoMemory;
 use std::process::Abort;
