@@ -5,4 +5,5 @@ pub mod Refines
 pub mod Columns
 pub mod Striking
 pub mod Making
+pub mod Growing
 pub mod Unique

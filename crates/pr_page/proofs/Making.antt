@@ -1,11 +1,10 @@
 -- A head goes along with a printer that takes the same inputs.
-use Rattle.std.proofs.Common.{◌≡◌, ℕ, Bool, List, [], ◌∷◌, ◌++◌, length, refl, sym, ap, ◌∙◌, subst, arith, ◌+◌, ◌*◌, ◌≤◌, length-append}
+use Rattle.std.proofs.Common.{◌≡◌, ℕ, Bool, List, [], ◌∷◌, ◌++◌, length, refl, sym, ap, ◌∙◌, subst, arith, ◌+◌, length-append}
 use Rattle.std.proofs.lemmas.List.{append-nil}
-use Rattle.pr_page.specs.Lines.{line_dots}
 use Rattle.pr_page.specs.Making.{HasMade}
 use Rattle.pr_page.specs.Marks.{marks_on}
 use Rattle.pr_page.specs.Page.{IsPage}
-use Rattle.pr_page.specs.Steps.{acts_of_tokens, pending_after, settings_of_tokens, sheet_after_all, start, state_after, step, tokens_by}
+use Rattle.pr_page.specs.Steps.{acts_of_tokens, pending_after, settings_of_tokens, start, state_after, step, tokens_by}
 use Rattle.pr_page.specs.Striking.{IsWithin, Makes, StepsWith, carriage_of, head_of, marks_of_sheet}
 use Rattle.pr_page.specs.declared.carriage.Carriage.{Carriage}
 use Rattle.pr_page.specs.declared.carriage.MarkOnPaper.{MarkOnPaper}

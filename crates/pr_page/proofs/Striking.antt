@@ -5,9 +5,9 @@ use Rattle.std.proofs.lemmas.List.{append-nil, map-append, get_or_append_left, g
 use Rattle.std.proofs.lemmas.Grind.{flat_map-append}
 use Rattle.std.proofs.lemmas.Option.{slice_get_past, slice_get_read}
 use Rattle.pr_page.specs.Acts.{Print}
-use Rattle.pr_page.specs.Marks.{in_row, marks_from, marks_on}
+use Rattle.pr_page.specs.Marks.{in_row, marks_from}
 use Rattle.pr_page.specs.Steps.{columns_from, ended, sheet_after_all}
-use Rattle.pr_page.specs.Striking.{Adds, Makes, carriage_of, marks_of_sheet}
+use Rattle.pr_page.specs.Striking.{Adds, Makes, marks_of_sheet}
 use Rattle.pr_page.specs.declared.carriage.Carriage.{Carriage}
 use Rattle.pr_page.specs.declared.carriage.MarkOnPaper.{MarkOnPaper}
 use Rattle.pr_page.specs.declared.paper.Mark.{Mark}

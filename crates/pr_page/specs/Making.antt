@@ -1,6 +1,6 @@
 -- Linking words: what ties a head to the inputs that it has taken and to the marks that it has made. `HeadsMakePages`, the law, is what a
 -- reader believes.
-use Rattle.std.specs.Prelude.{◌≡◌, ℕ, ◌*◌, ◌≤◌, List, length}
+use Rattle.std.specs.Prelude.{◌≡◌, ◌*◌, ◌≤◌, List, ◌∷◌, ◌++◌, length}
 use Rattle.pr_page.specs.Lines.{line_dots}
 use Rattle.pr_page.specs.Marks.{marks_on}
 use Rattle.pr_page.specs.Page.{IsPage}
@@ -10,6 +10,7 @@ use Rattle.pr_page.specs.declared.carriage.MarkOnPaper.{MarkOnPaper}
 use Rattle.pr_page.specs.declared.head.Head.{Head}
 use Rattle.pr_page.specs.declared.input.Input.{Input}
 use Rattle.pr_page.specs.declared.paper.Paper.{Paper}
+use Rattle.pr_page.specs.declared.paper.Row.{Row}
 
 -- the head was new, has taken these inputs and no others, and has made these marks, all in this order
 pub record HasMade (inputs : List Input) (marks : List MarkOnPaper) (head : Head) : Type 0 where
@@ -23,3 +24,10 @@ abbrev pub HeadsMakePages : Type 0
 HeadsMakePages =
     (inputs : List Input) (marks : List MarkOnPaper) (head : Head) (paper : Paper) → HasMade inputs marks head
     → IsPage inputs paper → marks ≡ marks_on paper head.carriage.y
+
+-- a law: whatever inputs follow, the next row to end is where the head is
+abbrev pub NextRowsAreAtHeads : Type 0
+NextRowsAreAtHeads =
+    (inputs more : List Input) (marks : List MarkOnPaper) (head : Head) (before after : Paper) (row : Row) (rows : List Row)
+    → HasMade inputs marks head → IsPage inputs before → IsPage (inputs ++ more) after → after.rows ≡ before.rows ++ row ∷ rows
+    → row.y ≡ head.carriage.y

@@ -1,5 +1,5 @@
 -- Machine steps: what a head does beside a printer that takes the same inputs. No reader needs to believe them.
-use Rattle.std.specs.Prelude.{◌≡◌, ℕ, ◌+◌, ◌≤◌, List, ◌++◌}
+use Rattle.std.specs.Prelude.{◌≡◌, ◌+◌, ◌≤◌, List, ◌++◌}
 use Rattle.pr_page.specs.Acts.{Act}
 use Rattle.pr_page.specs.Lines.{line_dots}
 use Rattle.pr_page.specs.Marks.{marks_on}

@@ -3,7 +3,7 @@
 ghost use Rattle.std.specs.Prelude.{◌≡◌, ◌*◌, ◌+◌, ◌^◌, ◌<◌, ◌≤◌, [], ◌∷◌, ◌++◌, List, length};
 ghost use Rattle.pr_page.specs.Lines.{line_dots};
 ghost use Rattle.pr_page.specs.Marks.{marks_made};
-ghost use Rattle.pr_page.specs.Making.{HasMade, HeadsMakePages};
+ghost use Rattle.pr_page.specs.Making.{HasMade, HeadsMakePages, NextRowsAreAtHeads};
 ghost use Rattle.pr_page.specs.Striking.{head_of, IsInLine, IsWithin, StepsWith};
 ghost use Rattle.pr_page.specs.declared.carriage.MarkOnPaper.{MarkOnPaper};
 ghost use Rattle.pr_page.specs.declared.input.Input.{Input};
@@ -88,7 +88,9 @@ impl Head {
 }
 
 /// A law, with nothing to run: the marks that a head has made are those of the page of the inputs that it has taken,
-/// each with its row's distance from the top, and then those of the line that has not ended, at the head's own.
+/// each with its row's distance from the top, and then those of the line that has not ended, at the head's own; and
+/// the next row to end is at the head's.
 pub fn heads_make_pages()
     ensures pages { HeadsMakePages }
+    ensures next { NextRowsAreAtHeads }
 {}

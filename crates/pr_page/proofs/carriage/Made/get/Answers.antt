@@ -1,4 +1,4 @@
-use Rattle.std.proofs.Common.{◌≡◌, ◌+◌, ◌-◌, ◌<◌, ◌≤◌, sym, arith}
+use Rattle.std.proofs.Common.{◌+◌, ◌-◌, ◌<◌, ◌≤◌, sym, arith}
 use Rattle.pr_page.proofs.Striking.{get_here, get_next, get_none}
 use Rattle.pr_page.proofs.carriage.Made.get.Goals as goal
 

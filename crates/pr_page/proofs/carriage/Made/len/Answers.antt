@@ -1,4 +1,4 @@
-use Rattle.std.proofs.Common.{◌≡◌, refl, arith}
+use Rattle.std.proofs.Common.{refl}
 use Rattle.pr_page.proofs.Striking.{length_both}
 use Rattle.pr_page.proofs.carriage.Made.len.Goals as goal
 

@@ -1,4 +1,4 @@
-use Rattle.std.proofs.Common.{◌≡◌, ◌≤◌, ◌+◌, [], ◌∷◌, ◌++◌, sym, subst, arith}
+use Rattle.std.proofs.Common.{◌≤◌, ◌+◌, [], sym, subst, arith}
 use Rattle.pr_page.specs.Marks.{marks_made}
 use Rattle.pr_page.specs.Striking.{StepsWith}
 use Rattle.pr_page.specs.declared.head.Head.{Head}
