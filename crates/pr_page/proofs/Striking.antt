@@ -5,10 +5,11 @@ use Rattle.std.proofs.lemmas.List.{append-nil, map-append, get_or_append_left, g
 use Rattle.std.proofs.lemmas.Grind.{flat_map-append}
 use Rattle.std.proofs.lemmas.Option.{slice_get_past, slice_get_read}
 use Rattle.pr_page.specs.Acts.{Print}
-use Rattle.pr_page.specs.Marks.{in_row, marks_from}
+use Rattle.pr_page.specs.Marks.{in_row, marks_from, marks_made}
 use Rattle.pr_page.specs.Steps.{columns_from, ended, sheet_after_all}
-use Rattle.pr_page.specs.Striking.{Adds, Makes, marks_of_sheet}
+use Rattle.pr_page.specs.Striking.{Adds, IsInLine, Makes, marks_of_sheet}
 use Rattle.pr_page.specs.declared.carriage.Carriage.{Carriage}
+use Rattle.pr_page.specs.declared.carriage.Made.{Made}
 use Rattle.pr_page.specs.declared.carriage.MarkOnPaper.{MarkOnPaper}
 use Rattle.pr_page.specs.declared.paper.Mark.{Mark}
 use Rattle.pr_page.specs.declared.paper.Mark.TheVariants.{Dots}
@@ -131,3 +132,9 @@ over-makes old dots count room left y position full parts some small at end s e 
     Adds s (sheet_after_all s (replicate count (Print true (Dots dots) 1))) (record { y = y; position = position })
     (marks_from old.y old.position (Dots dots) room ++ marks_from y 0 (Dots dots) left))
     e from full y at
+
+-- there are no more marks than a repeat can ask for
+pub few_marks : (made : Made) → IsInLine made → length (marks_made made) ≤ 255
+few_marks made within =
+    let both = length_both made.y made.x made.count made.next_y made.next_count made.mark in
+    omega (arith, both, within.1)

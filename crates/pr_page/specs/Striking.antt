@@ -43,6 +43,6 @@ StepsWith input old new marks =
 abbrev pub IsWithin : Carriage → Carriage → Type 0
 IsWithin old new = (new.position ≤ line_dots) × (new.y ≤ old.y + 21)
 
--- the marks begin within the line
+-- the marks begin within the line, and are no more than a repeat can ask for
 abbrev pub IsInLine : Made → Type 0
-IsInLine made = made.x ≤ line_dots
+IsInLine made = (made.x ≤ line_dots) × (made.count + made.next_count ≤ 255)

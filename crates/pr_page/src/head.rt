@@ -1,6 +1,6 @@
 //! The print head: all that a printer keeps besides its paper.
 
-ghost use Rattle.std.specs.Prelude.{◌≡◌, ◌*◌, ◌+◌, ◌^◌, ◌<◌, ◌≤◌, [], ◌∷◌, ◌++◌, List, length};
+ghost use Rattle.std.specs.Prelude.{◌≡◌, ◌*◌, ◌+◌, ◌^◌, ◌<◌, ◌≤◌, [], ◌∷◌, ◌++◌, Bool, List, length};
 ghost use Rattle.pr_page.specs.Lines.{line_dots};
 ghost use Rattle.pr_page.specs.Marks.{marks_made};
 ghost use Rattle.pr_page.specs.Making.{HasMade, HeadsMakePages, NextRowsAreAtHeads};
@@ -66,7 +66,9 @@ impl Head {
         made
     }
 
-    /// Takes one more input, of any kind, and returns the marks that it makes. A line that ends makes no mark.
+    /// Takes one more input, of any kind, and returns the marks that it makes: at most 255 of a byte, and none of a
+    /// selection. A line that ends makes no mark.
+    #[tactic(auto, using(crate::proofs::Striking::few_marks))]
     pub fn take(&mut self, input: Input) -> Made
         // the caller's part
         requires y { self.old.carriage.y ≤ 2 ^ 63 }
@@ -74,6 +76,8 @@ impl Head {
         // what it makes
         ensures made { (inputs : List Input) (marks : List MarkOnPaper) → HasMade inputs marks self.old
             → HasMade (inputs ++ input ∷ []) (marks ++ marks_made result) self.new }
+        ensures selects { (lower : Bool) → input ≡ Input.Select lower → marks_made result ≡ [] }
+        ensures few { length (marks_made result) ≤ 255 }
         ensures within { IsWithin self.old.carriage self.new.carriage }
         ensures in_line { IsInLine result }
     {
