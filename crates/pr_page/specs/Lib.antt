@@ -4,7 +4,10 @@ pub mod Modes
 pub mod Acts
 pub mod Lines
 pub mod Page
+pub mod Marks
 pub mod Linked
 pub mod Steps
+pub mod Striking
 pub mod Evaluator
 pub mod Taken
+pub mod Making

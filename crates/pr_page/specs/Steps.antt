@@ -1,5 +1,5 @@
 -- Machine steps: what one input does to what a printer keeps. No reader needs to believe them.
-use Rattle.std.specs.Prelude.{ℕ, zero, suc, ◌+◌, ◌*◌, ◌≤◌, ◌^◌, Bool, true, false, List, [], ◌∷◌, ◌++◌, Some, None, ◌==◌, ◌||◌, ◌&&◌, not, nat_le, if◌then◌else◌}
+use Rattle.std.specs.Prelude.{ℕ, zero, suc, ◌+◌, ◌*◌, ◌≤◌, ◌^◌, Bool, true, false, List, [], ◌∷◌, ◌++◌, Some, None, ◌==◌, ◌||◌, ◌&&◌, not, nat_le, replicate, if◌then◌else◌}
 use Rattle.pr_page.specs.Token.{Token, Column, Repeat, Address, Nothing, Plain}
 use Rattle.pr_page.specs.Acts.{Act, End, Move, Print, acts_in}
 use Rattle.pr_page.specs.Lines.{line_dots, pitch_of}
@@ -12,6 +12,8 @@ use Rattle.pr_page.specs.declared.paper.Mark.TheVariants.{Dots}
 use Rattle.pr_page.specs.declared.paper.Placed.{Placed}
 use Rattle.pr_page.specs.declared.state.PrinterState.{PrinterState}
 use Rattle.pr_page.specs.declared.sheet.Sheet.{Sheet}
+use Rattle.pr_page.specs.declared.work.Work.{Work}
+use Rattle.pr_page.specs.declared.work.Work.TheVariants as work
 use Rattle.pr_page.specs.declared.pending.Pending.{Pending}
 use Rattle.pr_page.specs.declared.pending.Pending.TheVariants.{Idle, ColumnCode, ColumnTens, RepeatCode, RepeatCount, EscapeCode, AddressCode, AddressHigh}
 
@@ -63,6 +65,33 @@ settings_after_token s (Column x y) = s
 settings_after_token s (Repeat x y) = s
 settings_after_token s (Address x y) = s
 settings_after_token s Nothing = s
+
+-- the settings after tokens
+abbrev pub settings_of_tokens : Settings → List Token → Settings
+settings_of_tokens s [] = s
+settings_of_tokens s (t ∷ tokens) = settings_of_tokens (settings_after_token s t) tokens
+
+-- what tokens do, of which there are at most two
+abbrev pub acts_of_tokens : Settings → List Token → List Act
+acts_of_tokens s [] = []
+acts_of_tokens s (t ∷ []) = acts_in (modes_of s) t
+acts_of_tokens s (t ∷ u ∷ tokens) = acts_in (modes_of s) t ++ acts_of_tokens (settings_after_token s t) (u ∷ tokens)
+
+-- what the code has a byte do, as acts
+abbrev pub acts_of_work : Bool → Work → List Act
+acts_of_work graphic work.Nothing = []
+acts_of_work graphic work.EndLine = End graphic ∷ []
+acts_of_work graphic (work.Print mark width) = Print graphic mark width ∷ []
+acts_of_work graphic (work.PrintColumns dots count) = replicate count (Print true (Dots dots) 1)
+acts_of_work graphic (work.MoveTo x) = Move x ∷ []
+
+-- a mark fits a line by itself, and a move stays in the line
+abbrev pub FitsLine : Work → Type 0
+FitsLine work.Nothing = Unit {0}
+FitsLine work.EndLine = Unit {0}
+FitsLine (work.Print mark width) = width ≤ line_dots
+FitsLine (work.PrintColumns dots count) = Unit {0}
+FitsLine (work.MoveTo x) = x ≤ line_dots
 
 -- the line ends, and these marks begin the next one
 abbrev pub ended : Sheet → Bool → List Placed → ℕ → Sheet

@@ -14,7 +14,9 @@
 //! the law that a list has one page.
 #![tactic(auto)]
 
+mod carriage;
 mod codes;
+mod head;
 mod input;
 mod paper;
 mod pending;
@@ -22,9 +24,14 @@ mod printer;
 mod settings;
 mod sheet;
 mod state;
+mod work;
 
+pub use carriage::{Carriage, Made, MarkOnPaper};
+pub use head::{Head, LAST_LINE, heads_make_pages};
 pub use input::Input;
 pub use paper::{Mark, Paper, Placed, Row, Sequence};
+pub use pending::Pending;
 pub use pr_base::NoMemory;
 pub use printer::{Printer, each_list_has_one_page};
-pub use sheet::LINE_DOTS;
+pub use settings::Settings;
+pub use work::LINE_DOTS;

@@ -1,12 +1,13 @@
 //! The bytes of a command that has not all come.
 
 ghost use Rattle.std.specs.Prelude.{◌≡◌};
+ghost use Rattle.std.specs.Prelude.{◌==◌, ◌||◌};
 ghost use Rattle.pr_page.specs.Steps.{pending_after, begun_by};
 
 use crate::codes::{COLUMN, ESCAPE, REPEAT};
 
 /// What has come of a command with parameters.
-#[derive(Clone, Copy)]
+#[derive(Clone, Copy, Debug, PartialEq, Eq)]
 pub enum Pending {
     /// No command is begun.
     Idle,
@@ -21,6 +22,14 @@ pub enum Pending {
     AddressCode,
     /// The same and the dot address's high byte.
     AddressHigh(u8),
+}
+
+/// Whether a byte that no command takes begins one.
+#[inline(always)]
+pub fn begins_command(b: u8) -> bool
+    ensures { result ≡ (b == 16 || (b == 26 || b == 27)) }
+{
+    b == COLUMN || b == REPEAT || b == ESCAPE
 }
 
 impl Pending {

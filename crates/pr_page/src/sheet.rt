@@ -1,32 +1,15 @@
 //! The paper, and where the next mark goes.
 
 ghost use Rattle.std.specs.Prelude.{◌≡◌, ◌+◌, ◌-◌, ◌^◌, ◌<◌, ◌≤◌, [], ◌++◌, OnOk, OnErr, replicate, true};
-ghost use Rattle.pr_page.specs.Token.{Plain};
-ghost use Rattle.pr_page.specs.Acts.{Print, acts_in, is_cell, moves_to_column, moves_to_dot};
-ghost use Rattle.pr_page.specs.Steps.{ended, printed, columns_from, sheet_after_all, GoesOn};
-ghost use Rattle.pr_page.specs.Lines.{line_dots, pitch_of};
-ghost use Rattle.pr_page.specs.Linked.{modes_of};
+ghost use Rattle.pr_page.specs.Acts.{Print};
+ghost use Rattle.pr_page.specs.Steps.{acts_of_work, ended, printed, columns_from, sheet_after_all, FitsLine, GoesOn};
+ghost use Rattle.pr_page.specs.Lines.{line_dots};
 
-use crate::codes::{CARRIAGE_RETURN, LINE_FEED};
+use crate::carriage::pitch;
 use crate::paper::{Mark, Paper, Placed, Row, Sequence};
-use crate::settings::Settings;
+use crate::work::{LINE_DOTS, Work};
 use std::alloc::{AllocError, Global};
 use std::mem;
-
-/// The dot columns of a line (VIC-1525 User's Manual: 480 dots a line, 80 characters of 6).
-pub const LINE_DOTS: u16 = 480;
-
-/// The character columns of a line.
-const LINE_COLUMNS: u16 = 80;
-
-/// The width of a cell, in dots.
-const CELL_DOTS: u16 = 6;
-
-/// How far the paper goes on at a line's end in character mode, in 1/126 inch.
-const CHARACTER_PITCH: u64 = 21;
-
-/// The same in graphic mode.
-const GRAPHIC_PITCH: u64 = 14;
 
 /// The paper, and where the next row and the next mark go.
 #[derive(Drop)]
@@ -63,13 +46,6 @@ fn push_columns(
     Ok(())
 }
 
-/// Whether a code marks a cell in character mode.
-fn marks_a_cell(b: u8) -> bool
-    ensures { result ≡ is_cell b }
-{
-    matches!(b, 32..=127 | 160..=255)
-}
-
 impl Sheet {
     /// Ends the line. The row gets a copy of its marks, so that the room of `held` serves the next
     /// line and a row keeps no room that it does not need: memory grows with the marks alone, and a
@@ -84,7 +60,7 @@ impl Sheet {
         let marks = self.paper.held.copy(alloc)?;
         self.paper.rows.push(Row { y, marks })?;
         self.paper.held.clear();
-        self.y = y + Sheet::pitch(graphic);
+        self.y = y + pitch(graphic);
         self.position = 0;
         Ok(())
     }
@@ -105,7 +81,7 @@ impl Sheet {
         let marks = mem::replace(&mut self.paper.held, next);
         match self.paper.rows.push(Row { y, marks }) {
             Ok(()) => {
-                self.y = y + Sheet::pitch(graphic);
+                self.y = y + pitch(graphic);
                 self.position = position;
                 Ok(())
             }
@@ -113,17 +89,6 @@ impl Sheet {
                 self.paper.held = failed.value.marks;
                 Err(AllocError)
             }
-        }
-    }
-
-    /// How far the paper goes on at a line's end.
-    fn pitch(graphic: bool) -> u64
-        ensures { result ≡ pitch_of graphic }
-    {
-        if graphic {
-            GRAPHIC_PITCH
-        } else {
-            CHARACTER_PITCH
         }
     }
 
@@ -161,7 +126,7 @@ impl Sheet {
 
     /// Makes as many equal columns of dots, as a repeat does in graphic mode.
     #[inline(never)]
-    pub fn print_columns(&mut self, alloc: Global, dots: u8, count: u8) -> Result<(), AllocError>
+    fn print_columns(&mut self, alloc: Global, dots: u8, count: u8) -> Result<(), AllocError>
         requires y { self.old.y < 2 ^ 60 }
         requires position { self.old.position ≤ line_dots }
         ensures ok { OnOk result (self.new ≡ sheet_after_all self.old (replicate count (Print true (Mark.Dots dots) 1))) }
@@ -189,72 +154,25 @@ impl Sheet {
         }
     }
 
-    /// What a byte by itself does under these settings and with this set selected.
+    /// Does what a byte has it do. A repeat asks for at most 255 columns.
     #[inline(always)]
-    pub fn print_plain(
-        &mut self,
-        alloc: Global,
-        settings: Settings,
-        lower: bool,
-        b: u8,
-    ) -> Result<(), AllocError>
+    pub fn perform(&mut self, alloc: Global, graphic: bool, work: Work) -> Result<(), AllocError>
         requires y { self.old.y < 2 ^ 60 }
         requires position { self.old.position ≤ line_dots }
-        ensures ok { OnOk result (self.new ≡ sheet_after_all self.old (acts_in (modes_of settings) (Plain lower b))) }
+        requires fits { FitsLine work }
+        ensures ok { OnOk result (self.new ≡ sheet_after_all self.old (acts_of_work graphic work)) }
         ensures range { OnOk result (GoesOn self.old self.new) }
         ensures err { OnErr result (self.new ≡ self.old) }
     {
-        if b == LINE_FEED || b == CARRIAGE_RETURN {
-            self.end_line(alloc, settings.graphic)
-        } else if settings.graphic {
-            if b >= 128 {
-                self.print(alloc, true, Mark::Dots(b - 128), 1)
-            } else {
+        match work {
+            Work::Nothing => Ok(()),
+            Work::EndLine => self.end_line(alloc, graphic),
+            Work::Print(mark, width) => self.print(alloc, graphic, mark, width),
+            Work::PrintColumns(dots, count) => self.print_columns(alloc, dots, count),
+            Work::MoveTo(x) => {
+                self.position = x;
                 Ok(())
             }
-        } else if marks_a_cell(b) {
-            let cell = Mark::Cell {
-                code: b,
-                lower: settings.override_set.unwrap_or(lower),
-                reverse: settings.reverse,
-                wide: settings.wide,
-            };
-            let width = if settings.wide {
-                2 * CELL_DOTS
-            } else {
-                CELL_DOTS
-            };
-            self.print(alloc, false, cell, width)
-        } else {
-            Ok(())
-        }
-    }
-
-    /// What two bytes after a column code do.
-    #[inline(always)]
-    pub fn move_to_column(&mut self, tens: u8, ones: u8)
-        requires position { self.old.position ≤ line_dots }
-        ensures moved { self.new ≡ sheet_after_all self.old (moves_to_column tens ones) }
-        ensures range { GoesOn self.old self.new }
-    {
-        if tens.is_ascii_digit() && ones.is_ascii_digit() {
-            let column = 10 * u16::from(tens - b'0') + u16::from(ones - b'0');
-            if column < LINE_COLUMNS {
-                self.position = CELL_DOTS * column;
-            }
-        }
-    }
-
-    /// What two bytes of a dot address do.
-    #[inline(always)]
-    pub fn move_to_dot(&mut self, high: u8, low: u8)
-        requires position { self.old.position ≤ line_dots }
-        ensures moved { self.new ≡ sheet_after_all self.old (moves_to_dot high low) }
-        ensures range { GoesOn self.old self.new }
-    {
-        let dot = u16::from_be_bytes([high, low]);
-        if dot < LINE_DOTS {
-            self.position = dot;
         }
     }
 }

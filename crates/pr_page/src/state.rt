@@ -6,12 +6,12 @@ ghost use Rattle.pr_page.specs.Lines.{line_dots};
 ghost use Rattle.pr_page.specs.declared.settings.Settings.{Settings};
 ghost use Rattle.pr_page.specs.Steps.{settings_after, begun_by, completed_by, tokens_by, state_after_tokens, step, start, GoesOn, IsInRange};
 
-use crate::codes::{COLUMN, ESCAPE, REPEAT};
 use crate::input::Input;
 use crate::paper::{Paper, Sequence};
 use crate::pending::Pending;
 use crate::settings::Settings;
 use crate::sheet::Sheet;
+use crate::work::Work;
 use std::alloc::{AllocError, Global};
 
 /// All that the inputs taken have left behind.
@@ -62,23 +62,6 @@ impl PrinterState {
         }
     }
 
-    /// Takes a byte that no command takes.
-    #[inline(always)]
-    fn take_unclaimed(&mut self, alloc: Global, b: u8) -> Result<(), AllocError>
-        requires y { self.old.sheet.y < 2 ^ 60 }
-        requires position { self.old.sheet.position ≤ line_dots }
-        ensures ok { OnOk result (self.new ≡ state_after_tokens self.old (completed_by self.old.lower b)) }
-        ensures range { OnOk result (GoesOn self.old.sheet self.new.sheet) }
-        ensures err { OnErr result (self.new ≡ self.old) }
-    {
-        if b == COLUMN || b == REPEAT || b == ESCAPE {
-            return Ok(());
-        }
-        self.sheet.print_plain(alloc, self.settings, self.lower, b)?;
-        self.settings = self.settings.after(b);
-        Ok(())
-    }
-
     /// Does what the tokens do that a byte completes.
     #[inline(never)]
     fn take_tokens(&mut self, alloc: Global, b: u8) -> Result<(), AllocError>
@@ -88,30 +71,10 @@ impl PrinterState {
         ensures range { OnOk result (GoesOn self.old.sheet self.new.sheet) }
         ensures err { OnErr result (self.new ≡ self.old) }
     {
-        match self.pending {
-            Pending::Idle => self.take_unclaimed(alloc, b),
-            Pending::EscapeCode => {
-                if b == COLUMN {
-                    return Ok(());
-                }
-                self.take_unclaimed(alloc, b)
-            }
-            Pending::RepeatCount(n) => {
-                if self.settings.graphic && b >= 128 {
-                    return self.sheet.print_columns(alloc, b - 128, n);
-                }
-                Ok(())
-            }
-            Pending::ColumnTens(tens) => {
-                self.sheet.move_to_column(tens, b);
-                Ok(())
-            }
-            Pending::AddressHigh(high) => {
-                self.sheet.move_to_dot(high, b);
-                Ok(())
-            }
-            Pending::ColumnCode | Pending::RepeatCode | Pending::AddressCode => Ok(()),
-        }
+        let work = Work::of_byte(self.pending, self.settings, self.lower, b);
+        self.sheet.perform(alloc, self.settings.graphic, work)?;
+        self.settings = self.settings.after_byte(self.pending, b);
+        Ok(())
     }
 
     /// Takes an input. Refused, it leaves all as it was.
@@ -133,7 +96,8 @@ impl PrinterState {
         match x {
             Input::Select(lower) => self.lower = lower,
             Input::Byte(b) if leaves_settings(b) && matches!(self.pending, Pending::Idle) => {
-                self.sheet.print_plain(alloc, self.settings, self.lower, b)?;
+                let work = Work::of_plain(self.settings, self.lower, b);
+                self.sheet.perform(alloc, self.settings.graphic, work)?;
             }
             Input::Byte(b) => {
                 self.take_tokens(alloc, b)?;
