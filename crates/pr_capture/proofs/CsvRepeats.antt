@@ -24,6 +24,7 @@ use Rattle.pr_capture.specs.declared.csv.Scale.{Scale}
 use Rattle.pr_capture.specs.declared.csv.Scale.TheVariants.{Counted, Timed}
 use Rattle.pr_capture.specs.declared.last_row.LastRow.{LastRow}
 use Rattle.pr_capture.specs.declared.fault.CaptureFault.{CaptureFault}
+use Rattle.pr_capture.specs.declared.signals.Signals.{Signals}
 use Rattle.pr_capture.specs.declared.times.Instant.{Instant}
 use Rattle.pr_capture.specs.declared.fault.CaptureFault.TheVariants.{BadLevel, Floating, Unknown}
 use Rattle.pr_capture.specs.declared.fault.Wire.{Wire}
@@ -32,7 +33,6 @@ use Rattle.pr_capture.specs.Csv.{behind_point, csv_contents, field_at, fields_of
 use Rattle.pr_capture.specs.CsvReads.{ReadsMore, SkipsRows, TakesRepeats}
 use Rattle.pr_capture.specs.Gathers.{AllHave}
 use Rattle.pr_capture.specs.CsvSteps.{are_behind, contents_from, decimals_len, field_len, is_inner, line_number, is_plain, tail_at, row_at, row_if, tail_by, with_len, HasLevels, HasReadTable, IsFront, IsPlainTime, IsRepeat, IsRowOf, KnowsLevels}
-use Rattle.pr_capture.specs.Numbers.{decimals_in}
 use Rattle.pr_capture.specs.TableTimes.{instant_in, instant_of, micros_of, time_at_rate}
 use Rattle.pr_capture.specs.Words.{is_space}
 use Rattle.pr_capture.specs.Recording.{◌>>=◌, is_framing, level_in, with_samples, without_front}
@@ -426,14 +426,13 @@ none-begun [] h = refl
 none-begun (b ∷ bs) h = absurd (omega (arith, h))
 
 -- so it is taken
-pub read-repeat : (old new : CsvReader) (bytes : List ℕ) (y : Layout) (m : Moment) (row : Row)
-    → ((inverted : Bool) → KnowsLevels inverted y old.last → IsRepeat inverted y old.number m bytes row)
+pub read-known : (s : Signals) (rate : Option ℕ) (text : List ℕ) (samples : List Edge) (old new : CsvReader) (bytes : List ℕ) (y : Layout) (m : Moment) (row : Row)
+    → HasReadTable s rate text samples old → IsRepeat old.signals.is_inverted y old.number m bytes row
     → old.place ≡ Rows y m → old.line.items ≡ [] → new.place ≡ Rows y row.moment → new.line.items ≡ [] → new.signals ≡ old.signals → new.number ≡ old.number + 1 → new.last ≡ old.last
-    → ReadsMore bytes (Some row.sample) old new
-read-repeat old new bytes y m row repeats p e q d a n l = λ s rate text samples h.
+    → HasReadTable s rate (text ++ bytes) (samples ++ row.sample ∷ []) new
+read-known s rate text samples old new bytes y m row h r p e q d a n l =
     let inverted : Bool = old.signals.is_inverted in
     let known : KnowsLevels inverted y old.last = rw p at h.last in
-    let r = repeats inverted known in
     record {
       signals = a ∙ h.signals;
       inner = rw d refl;
@@ -441,19 +440,27 @@ read-repeat old new bytes y m row repeats p e q d a n l = λ s rate text samples
       told = λ more.
           ap (csv_contents s rate) (append_assoc text bytes more)
           ∙ (h.told (bytes ++ more)
-          ∙ (ap (with_samples samples) (here more r)
+          ∙ (ap (with_samples samples) (here more)
           ∙ (behind-behind samples (row.sample ∷ []) (row_contents y inverted (old.number + 1) row.moment (lines_of more))
           ∙ ap (with_samples (samples ++ row.sample ∷ [])) (rw (a, q, d, n) refl))));
     }
   where
-    here : (more : List ℕ) → IsRepeat old.signals.is_inverted y old.number m bytes row
+    here : (more : List ℕ)
         → contents_from old.signals old.place old.number (lines_of (old.line.items ++ (bytes ++ more)))
         ≡ with_samples (row.sample ∷ []) (row_contents y old.signals.is_inverted (old.number + 1) row.moment (lines_of more))
-    here more r =
+    here more =
         let lines : lines_of (old.line.items ++ (bytes ++ more)) ≡ r.line ∷ lines_of more =
         ap (λ v. lines_of (v ++ (bytes ++ more))) e
         ∙ (ap (λ v. lines_of (v ++ more)) r.ends ∙ (ap lines_of (append_assoc r.line (10 ∷ []) more) ∙ inner-line r.line more r.inner)) in
         ap (contents_from old.signals old.place old.number) lines ∙ rw (p, r.loud, r.reads) refl
+
+pub read-repeat : (old new : CsvReader) (bytes : List ℕ) (y : Layout) (m : Moment) (row : Row)
+    → ((inverted : Bool) → KnowsLevels inverted y old.last → IsRepeat inverted y old.number m bytes row)
+    → old.place ≡ Rows y m → old.line.items ≡ [] → new.place ≡ Rows y row.moment → new.line.items ≡ [] → new.signals ≡ old.signals → new.number ≡ old.number + 1 → new.last ≡ old.last
+    → ReadsMore bytes (Some row.sample) old new
+read-repeat old new bytes y m row repeats p e q d a n l = λ s rate text samples h.
+    let known : KnowsLevels old.signals.is_inverted y old.last = rw p at h.last in
+    read-known s rate text samples old new bytes y m row h (repeats old.signals.is_inverted known) p e q d a n l
 
 -- Several rows.
 

@@ -5,6 +5,7 @@ pub mod DigitLemmas
 pub mod CsvReading
 pub mod CsvTimes
 pub mod CsvRepeats
+pub mod CsvCopies
 pub mod VcdWords
 pub mod VcdTelling
 pub mod VcdReadLines

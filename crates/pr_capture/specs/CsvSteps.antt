@@ -1,6 +1,6 @@
 -- Linking words: what a reader of comma separated values has taken. The clauses of `CsvReader` say all that a caller needs of
 -- them. No reader needs to believe them.
-use Rattle.std.specs.Prelude.{◌≡◌, ℕ, ◌+◌, ◌<◌, ◌==◌, ◌&&◌, ◌||◌, Bool, true, false, not, List, [], ◌∷◌, ◌++◌, drop, length, nat_lt, if◌then◌else◌, IfSome, Option, Some, None, Result, Ok, Err}
+use Rattle.std.specs.Prelude.{◌≡◌, ℕ, zero, suc, ◌+◌, ◌*◌, ◌/◌, ◌<◌, ◌≤◌, ◌==◌, ◌&&◌, ◌||◌, Bool, true, false, not, List, [], ◌∷◌, ◌++◌, drop, length, nat_lt, if◌then◌else◌, IfSome, Option, Some, None, Result, Ok, Err}
 use Rattle.std.specs.List.{list_all, prefix_len}
 use Rattle.pr_wire.specs.declared.Edge.{Edge}
 use Rattle.pr_wire.specs.declared.Levels.{Levels}
@@ -21,7 +21,7 @@ use Rattle.pr_capture.specs.declared.fault.CaptureFault.{CaptureFault}
 use Rattle.pr_capture.specs.declared.signals.Signals.{Signals}
 use Rattle.pr_capture.specs.Csv.{csv_contents, field_at, fields_of, first_contents, is_silent, line_contents, row_contents, row_of, sample_of}
 use Rattle.pr_capture.specs.declared.times.Instant.{Instant}
-use Rattle.pr_capture.specs.TableTimes.{instant_in, instant_of, micros_of}
+use Rattle.pr_capture.specs.TableTimes.{instant_in, instant_of, micros_of, time_at_rate}
 use Rattle.pr_capture.specs.Recording.{ended, refused, with_samples, without_front, CaptureContents}
 use Rattle.pr_capture.specs.Samples.{listed}
 
@@ -158,6 +158,33 @@ pub record IsRepeat (inverted : Bool) (y : Layout) (number : ℕ) (m : Moment) (
   pub inner : list_all is_inner line ≡ true
   pub loud : is_silent line ≡ false
   pub reads : row_of y inverted number m (fields_of y.separator false line) ≡ Ok row
+
+-- these bytes so many times, one after the other
+abbrev pub copies : ℕ → List ℕ → List ℕ
+copies zero bytes = []
+copies (suc n) bytes = bytes ++ copies n bytes
+
+-- the moment after one row more at a rate, and after so many
+abbrev pub moment_beyond : (rate : ℕ) → Moment → Moment
+moment_beyond rate m = record { start = m.start; before = m.count * 1000000 / rate; count = m.count + 1 }
+
+abbrev pub moment_after : (rate : ℕ) → Moment → (rows : ℕ) → Moment
+moment_after rate m zero = m
+moment_after rate m (suc n) = moment_after rate (moment_beyond rate m) n
+
+-- each of these rows has a time, none before that of an earlier one
+abbrev pub AreTimed : (rate : ℕ) → Moment → (rows : ℕ) → Type 0
+AreTimed rate m zero = Unit {0}
+AreTimed rate m (suc n) =
+    (time_at_rate rate m.count ≡ Some (m.count * 1000000 / rate)) × (m.before ≤ m.count * 1000000 / rate) × AreTimed rate (moment_beyond rate m) n
+
+-- these bytes are such rows with the levels of the last, so many, which makes this of a moment
+abbrev pub IsRun : (inverted : Bool) → Layout → (number : ℕ) → Moment → (bytes : List ℕ) → (count : ℕ) → (last : Row) → Type 0
+IsRun inverted y number m bytes zero last = ⊥
+IsRun inverted y number m bytes (suc zero) last = IsRepeat inverted y number m bytes last
+IsRun inverted y number m bytes (suc (suc n)) last =
+    (first : Row) × (front : List ℕ) × (rest : List ℕ) × (bytes ≡ front ++ rest) × IsRepeat inverted y number m front first
+    × (first.sample.levels ≡ last.sample.levels) × IsRun inverted y (number + 1) first.moment rest (suc n) last
 
 -- what is told yet, if a text goes on so
 abbrev pub contents_left : CsvReader → (more : List ℕ) → CaptureContents

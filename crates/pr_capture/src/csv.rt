@@ -8,7 +8,7 @@ ghost use Rattle.std.specs.Prelude.{◌≡◌, ◌+◌, ◌^◌, ◌<◌, ◌≤
 ghost use Rattle.std.specs.List.{list_all, prefix_len};
 ghost use Rattle.pr_capture.specs.Csv.{behind_point, clock_column, column_of, columns_in, field_at, fields_of, first_moment, is_archive, is_in_front, is_separator, is_silent, is_wide, layout_by, layout_of, level_of, level_or, moment_at, moment_next, moment_of, opened, rate_beside, row_of, sample_of, separator_of, without_space, without_zeros};
 ghost use Rattle.pr_capture.specs.CsvReads.{EndsText, FaultsIn, ReadsMore, RefusesTable, SkipsRows, TakesRepeats};
-ghost use Rattle.pr_capture.specs.CsvSteps.{field_len, fields_left, is_inner, line_number, with_len, AnswersEnd, HasNoRows, HasReadTable, HoldsMore, IsRowOf, NamesAreRefused, NamesLeadTo, ReadsLine};
+ghost use Rattle.pr_capture.specs.CsvSteps.{field_len, fields_left, is_inner, line_number, moment_after, with_len, AreTimed, AnswersEnd, HasNoRows, HasReadTable, HoldsMore, IsRowOf, NamesAreRefused, NamesLeadTo, ReadsLine};
 ghost use Rattle.pr_capture.specs.TableTimes.{time_at_rate};
 ghost use Rattle.pr_capture.specs.declared.fault.CaptureFault.TheVariants.{NoMemory};
 
@@ -374,6 +374,13 @@ fn sample_of(
     Ok(Edge { time, levels })
 }
 
+/// How many rows there were after so many more.
+fn with_rows(count: u64, rows: usize) -> Option<u64>
+    ensures { IfSome result (λ n. n ≡ count + rows) }
+{
+    count.checked_add(u64::try_from(rows).ok()?)
+}
+
 impl Moment {
     /// That of the first row.
     fn first() -> Moment
@@ -417,6 +424,25 @@ impl Moment {
             start: self.start,
             before: last,
             count: self.count + 1,
+        })
+    }
+
+    /// That of the row after so many more at a rate, if each of them has a time.
+    pub fn skip(self, rate: u64, rows: usize) -> Option<Moment>
+        ensures after { IfSome result (λ m. m ≡ moment_after rate self rows) }
+        ensures timed { IfSome result (λ m. AreTimed rate self rows) }
+    {
+        if rows == 0 {
+            return Some(self);
+        }
+        if time_at_rate(rate, self.count)? < self.before {
+            return None;
+        }
+        let count = with_rows(self.count, rows)?;
+        Some(Moment {
+            start: self.start,
+            before: time_at_rate(rate, count - 1)?,
+            count,
         })
     }
 
@@ -672,6 +698,35 @@ impl<'a> CsvReader<'a> {
         }
     }
 
+    /// Takes the rows in front of a block that are the last row byte for byte, if no line has begun and a row is a
+    /// sample: a quick way through tables in which nothing changes. It takes no memory.
+    fn take_copies(&mut self, block: &[u8]) -> Option<(usize, Edge)>
+        // the caller's part
+        requires few { line_number self.old + length block.now + 1 < 2 ^ 64 }
+        // what it gives
+        ensures read { IfSome result (λ r. SkipsRows (take r.0 block.now) r.1 self.old self.new) }
+        ensures some { IfSome result (λ r. 0 < r.0) }
+        ensures within { IfSome result (λ r. r.0 ≤ length block.now) }
+        ensures number { IfSome result (λ r. line_number self.new ≤ line_number self.old + r.0) }
+        ensures levels { IfSome result (λ r. self.old.last.levels ≡ Some r.1.levels) }
+        // what stays the same, and what it leaves where it gives nothing
+        ensures last { self.new.last ≡ self.old.last }
+        ensures same { result ≡ None → self.new ≡ self.old }
+    {
+        if !self.line.is_empty() {
+            return None;
+        }
+        match &mut self.place {
+            RowPlace::First(_) | RowPlace::Names(_) => None,
+            RowPlace::Rows(layout, moment) => {
+                let copies = self.last.copies(*layout, *moment, self.number, block)?;
+                *moment = copies.row.moment;
+                self.number += copies.count;
+                Some((copies.len, copies.row.sample))
+            }
+        }
+    }
+
     /// Takes the rows in front of a block that go on as the last row does, which has these levels.
     fn take_rows(&mut self, block: &[u8], levels: Levels) -> Option<(usize, Edge)>
         requires few { line_number self.old + length block.now + 1 < 2 ^ 64 }
@@ -739,8 +794,8 @@ impl<'a> CsvReader<'a> {
         Ok((len + 1, sample))
     }
 
-    /// Takes the rows in front of a block that go on as the last row does, as many as are whole there, if that row
-    /// has these levels. Gives how many bytes, at least one, and the last of their samples: all have these levels.
+    /// Takes rows in front of a block that go on as the last row does, if that row has these levels and one is whole there:
+    /// those that are the last row byte for byte by doubling, so that some may be left, or else all. Gives how many bytes, at least one, and the last of their samples: all have these levels.
     /// None where there is no such row; then nothing was taken. It takes no memory.
     ///
     /// It is a quick way for a caller to whom only the last of such samples counts, as [`EdgeDetector::skip`]; rows
@@ -760,7 +815,10 @@ impl<'a> CsvReader<'a> {
         if !self.last.has_levels(levels) {
             return None;
         }
-        self.take_rows(block, levels)
+        match self.take_copies(block) {
+            Some(taken) => Some(taken),
+            None => self.take_rows(block, levels),
+        }
     }
 
     /// Ends the text, whose last line may lack its end, and gives the sample of that line, if it

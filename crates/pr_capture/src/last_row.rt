@@ -1,9 +1,9 @@
 //! The last row of a table, by which rows are read that have its levels, as most have where nothing changes: it
 //! is enough that their bytes after the time are its own.
 
-ghost use Rattle.std.specs.Prelude.{◌≡◌, ◌+◌, ◌<◌, ◌≤◌, ◌∷◌, ◌++◌, [], Bool, None, IfSome, Some, IsTrue, length, take, true};
+ghost use Rattle.std.specs.Prelude.{◌≡◌, ◌+◌, ◌*◌, ◌<◌, ◌≤◌, ◌∷◌, ◌++◌, [], Bool, None, IfSome, Some, IsTrue, length, take, true};
 ghost use Rattle.std.specs.List.{list_all};
-ghost use Rattle.pr_capture.specs.CsvSteps.{IsRepeat, IsRowOf, KnowsLast, KnowsLevels, are_behind, is_inner, row_if, tail_at};
+ghost use Rattle.pr_capture.specs.CsvSteps.{IsRepeat, IsRowOf, IsRun, KnowsLast, KnowsLevels, are_behind, copies, is_inner, row_if, tail_at};
 
 use crate::csv::{Columns, Layout, Moment, Row, RowPlace, Scale, field_len};
 use crate::entries::is_word;
@@ -23,6 +23,37 @@ pub struct LastRow {
     from: usize,
     /// Its levels; None where the last line was no row, or where the levels need more than these bytes.
     levels: Option<Levels>,
+}
+
+/// Rows that are the last row byte for byte.
+#[derive(Clone, Copy)]
+pub struct Copies {
+    /// How many bytes they have, with the ends of their lines.
+    pub len: usize,
+    /// How many they are.
+    pub count: usize,
+    /// The last of them.
+    pub row: Row,
+}
+
+/// How often the first `len` bytes of a text come, one after the other: 1, 2, 4, .., the greatest of these that holds.
+fn copies_in(text: &[u8], len: usize) -> usize
+    requires some { 0 < len }
+    requires within { len ≤ length text.now }
+    ensures copies { take (result * len) text.now ≡ copies result (take len text.now) }
+    ensures some { 0 < result }
+    ensures within { result * len ≤ length text.now }
+{
+    let mut count = 1;
+    let mut end = len;
+    while end <= text.len() - end {
+        if !is_word(&text[end..end + end], &text[..end]) {
+            return count;
+        }
+        count += count;
+        end += end;
+    }
+    count
 }
 
 /// Whether no column is the first.
@@ -159,5 +190,40 @@ impl LastRow {
                 Some((time.len + tail.len() + 1, row))
             }
         }
+    }
+
+    /// The rows in front of a block that are the last row byte for byte, if a row is a sample and one is whole there. They are
+    /// found by doubling, so some may be left.
+    pub fn copies(
+        &self,
+        layout: Layout,
+        moment: Moment,
+        number: usize,
+        block: &[u8],
+    ) -> Option<Copies>
+        ensures rows { (inverted : Bool) → KnowsLevels inverted layout self.now →
+            IfSome result (λ c. IsRun inverted layout number moment (take c.len block.now) c.count c.row) }
+        ensures some { IfSome result (λ c. 0 < c.count) }
+        ensures count { IfSome result (λ c. c.count ≤ c.len) }
+        ensures within { IfSome result (λ c. c.len ≤ length block.now) }
+        ensures levels { IfSome result (λ c. self.now.levels ≡ Some c.row.sample.levels) }
+    {
+        let Scale::Counted(rate) = layout.scale else {
+            return None;
+        };
+        let (len, row) = self.repeat(layout, moment, number, block)?;
+        let count = copies_in(block, len);
+        if count == 1 {
+            return Some(Copies { len, count, row });
+        }
+        let moment = row.moment.skip(rate, count - 1)?;
+        let time = moment.before;
+        let levels = row.sample.levels;
+        let sample = Edge { time, levels };
+        Some(Copies {
+            len: count * len,
+            count,
+            row: Row { sample, moment },
+        })
     }
 }
