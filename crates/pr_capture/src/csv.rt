@@ -698,10 +698,10 @@ impl<'a> CsvReader<'a> {
         }
     }
 
-    /// Takes the rows in front of a block that are the last row byte for byte, if no line has begun and a row is a
-    /// sample: a quick way through tables in which nothing changes. It takes no memory.
+    /// Takes the rows in front of a block that are the last row byte for byte, if a row is a sample: a quick way through tables in which nothing changes. It takes no memory.
     fn take_copies(&mut self, block: &[u8]) -> Option<(usize, Edge)>
         // the caller's part
+        requires whole { self.old.line.items ≡ [] }
         requires few { line_number self.old + length block.now + 1 < 2 ^ 64 }
         // what it gives
         ensures read { IfSome result (λ r. SkipsRows (take r.0 block.now) r.1 self.old self.new) }
@@ -713,9 +713,6 @@ impl<'a> CsvReader<'a> {
         ensures last { self.new.last ≡ self.old.last }
         ensures same { result ≡ None → self.new ≡ self.old }
     {
-        if !self.line.is_empty() {
-            return None;
-        }
         match &mut self.place {
             RowPlace::First(_) | RowPlace::Names(_) => None,
             RowPlace::Rows(layout, moment) => {
@@ -815,10 +812,12 @@ impl<'a> CsvReader<'a> {
         if !self.last.has_levels(levels) {
             return None;
         }
-        match self.take_copies(block) {
-            Some(taken) => Some(taken),
-            None => self.take_rows(block, levels),
+        if self.line.is_empty() {
+            if let Some(taken) = self.take_copies(block) {
+                return Some(taken);
+            }
         }
+        self.take_rows(block, levels)
     }
 
     /// Ends the text, whose last line may lack its end, and gives the sample of that line, if it

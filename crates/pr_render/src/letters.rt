@@ -9,6 +9,7 @@ ghost use Rattle.pr_render.specs.Strips.{HasTakenMark};
 ghost use Rattle.pr_render.specs.Svg.{cells_width, character_text, characters_svg, escaped, has_cells, joins, lengthened, no_strip, shows, stands_for_itself, strip_of, strip_svg, strips_svg};
 
 use crate::adding::{is_blank, push_small};
+use crate::block::{put, put_small};
 use crate::characters::character;
 use crate::parts::{letters_fitted, letters_width, text_end};
 use pr_page::{Mark, Placed};
@@ -39,10 +40,11 @@ fn push_escaped(text: &mut Vec<u8>, character: char) -> Result<(), AllocError>
         text.push(character as u8)?;
         return Ok(());
     }
-    text.extend_from_slice(b"&#")?;
-    push_small(text, u64::from(u32::from(character)))?;
-    text.push(b';')?;
-    Ok(())
+    let mut block = [0u8; 23];
+    let at = put(&mut block, 0, b"&#");
+    let at = put_small(&mut block, at, u64::from(u32::from(character)));
+    let end = put(&mut block, at, b";");
+    text.extend_from_slice(&block[..end])
 }
 
 /// Adds the character of a cell.

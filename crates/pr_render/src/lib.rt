@@ -12,6 +12,7 @@
 #![tactic(auto)]
 
 mod adding;
+mod block;
 mod characters;
 mod columns;
 mod defined;

@@ -4,7 +4,7 @@
 //! are unfolded in every goal, and two proofs then find no way through. The paper is a pattern half
 //! an inch long, so its size does not grow with the page.
 
-ghost use Rattle.std.specs.Prelude.{◌≡◌};
+ghost use Rattle.std.specs.Prelude.{◌≡◌, ◌≤◌, length};
 ghost use Rattle.pr_render.specs.Parts.{definitions_begin, definitions_end, desk, document_about, document_begin, height_begin, held_begin, held_note, ink_begin, letters_fitted, letters_width, mark_begin, mark_path, notes_begin, paper_folds, paper_piece, row_begin, sheet_end, sheet_marks, sheet_name, sheet_paper, single_begin, single_end, single_marks, single_paper, single_size, status_begin, stop_begin, text_end, units_begin, units_between, use_begin, use_end, use_place};
 
 /// The document's first tag, up to its width.
@@ -138,7 +138,8 @@ pub fn held_begin() -> &'static [u8]
 /// The use of a mark, up to its name.
 #[tactic(auto, unfolding(crate::specs::Parts::use_begin))]
 pub fn use_begin() -> &'static [u8]
-    ensures { result.now ≡ use_begin }
+    ensures text { result.now ≡ use_begin }
+    ensures short { length result.now ≤ 12 }
 {
     b"<use href=\"#"
 }
@@ -146,7 +147,8 @@ pub fn use_begin() -> &'static [u8]
 /// Between its name and its place.
 #[tactic(auto, unfolding(crate::specs::Parts::use_place))]
 pub fn use_place() -> &'static [u8]
-    ensures { result.now ≡ use_place }
+    ensures text { result.now ≡ use_place }
+    ensures short { length result.now ≤ 12 }
 {
     b"\" x=\""
 }
@@ -154,7 +156,8 @@ pub fn use_place() -> &'static [u8]
 /// The end of a use or of a definition.
 #[tactic(auto, unfolding(crate::specs::Parts::use_end))]
 pub fn use_end() -> &'static [u8]
-    ensures { result.now ≡ use_end }
+    ensures text { result.now ≡ use_end }
+    ensures short { length result.now ≤ 12 }
 {
     b"\"/>\n"
 }

@@ -1,19 +1,24 @@
 //! Marks by their names: where each is defined, and where it is used.
 
-ghost use Rattle.std.specs.Prelude.{◌≡◌, ◌*◌, ◌<◌, ◌≤◌, ◌++◌, flat_map, length, map, OnOk};
+ghost use Rattle.std.specs.Prelude.{◌≡◌, ◌*◌, ◌+◌, ◌<◌, ◌≤◌, ◌++◌, flat_map, length, map, take, OnOk};
 ghost use Rattle.pr_dots.specs.Dots.{bit_dots, column_dots, columns_dots};
 ghost use Rattle.pr_render.specs.Svg.{definition_svg, disc_of, disc_svg, name_svg, number_of, use_svg};
 
-use crate::adding::{push_if, push_small};
+use crate::adding::{either, push_small};
+use crate::block::{put, put_if, put_small};
 use crate::parts::{mark_begin, mark_path, use_begin, use_end, use_place};
 use pr_dots::{Shapes, columns};
 use pr_page::{Mark, Placed};
 use std::alloc::AllocError;
 
-/// Adds a mark's name.
+/// Puts a mark's name into a block, at most 23 bytes.
+#[inline(always)]
 #[tactic(auto, unfolding(crate::specs::Svg::name_svg))]
-fn push_name(text: &mut Vec<u8>, mark: Mark) -> Result<(), AllocError>
-    ensures { OnOk result (text.new.items ≡ text.old.items ++ name_svg mark) }
+fn put_name(block: &mut [u8], at: usize, mark: Mark) -> usize
+    requires { at + 23 ≤ length block.old }
+    ensures text { take result block.new ≡ take at block.old ++ name_svg mark }
+    ensures within { result ≤ at + 23 }
+    ensures length { length block.new ≡ length block.old }
 {
     match mark {
         Mark::Cell {
@@ -22,16 +27,25 @@ fn push_name(text: &mut Vec<u8>, mark: Mark) -> Result<(), AllocError>
             reverse,
             wide,
         } => {
-            text.push(if lower { b'l' } else { b'u' })?;
-            push_if(text, reverse, b"r")?;
-            push_if(text, wide, b"w")?;
-            push_small(text, u64::from(code))
+            let at = put(block, at, either(lower, b"l", b"u"));
+            let at = put_if(block, at, reverse, b"r");
+            let at = put_if(block, at, wide, b"w");
+            put_small(block, at, u64::from(code))
         }
         Mark::Dots(value) => {
-            text.push(b'd')?;
-            push_small(text, u64::from(value))
+            let at = put(block, at, b"d");
+            put_small(block, at, u64::from(value))
         }
     }
+}
+
+/// Adds a mark's name.
+fn push_name(text: &mut Vec<u8>, mark: Mark) -> Result<(), AllocError>
+    ensures { OnOk result (text.new.items ≡ text.old.items ++ name_svg mark) }
+{
+    let mut block = [0u8; 23];
+    let end = put_name(&mut block, 0, mark);
+    text.extend_from_slice(&block[..end])
 }
 
 /// Adds the disc of a dot.
@@ -127,16 +141,18 @@ fn across(x: u16) -> u64
     21 * u64::from(x)
 }
 
-/// Adds a mark at a dot column.
+/// Adds a mark at a dot column: at most 80 bytes, which are added by one copy.
 #[tactic(auto, unfolding(crate::specs::Svg::use_svg))]
 fn push_use(text: &mut Vec<u8>, x: u16, mark: Mark) -> Result<(), AllocError>
     ensures { OnOk result (text.new.items ≡ text.old.items ++ use_svg (record { x = x; mark = mark })) }
 {
-    text.extend_from_slice(use_begin())?;
-    push_name(text, mark)?;
-    text.extend_from_slice(use_place())?;
-    push_small(text, across(x))?;
-    text.extend_from_slice(use_end())
+    let mut block = [0u8; 80];
+    let at = put(&mut block, 0, use_begin());
+    let at = put_name(&mut block, at, mark);
+    let at = put(&mut block, at, use_place());
+    let at = put_small(&mut block, at, across(x));
+    let end = put(&mut block, at, use_end());
+    text.extend_from_slice(&block[..end])
 }
 
 /// Adds the marks of a line.
