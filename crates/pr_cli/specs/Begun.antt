@@ -29,3 +29,11 @@ pub record HasCountedOn (source : Source) (edges : List Edge) (e counted : Edge)
 
 abbrev pub CountsOn : (e counted : Edge) → (old new : Beginning) → Type 0
 CountsOn e counted old new = (source : Source) (edges : List Edge) → HasBegun source edges old → HasCountedOn source edges e counted new
+
+-- edges more count with the times that they have
+pub record HasKept (source : Source) (edges more : List Edge) (b : Beginning) : Type 0 where
+  pub begun : HasBegun source (edges ++ more) b
+  pub counts : edges_checked source (edges ++ more) ≡ edges_checked source edges ++ more
+
+abbrev pub KeepsTimes : Beginning → Type 0
+KeepsTimes b = (source : Source) (edges more : List Edge) → HasBegun source edges b → HasKept source edges more b

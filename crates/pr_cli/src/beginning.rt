@@ -1,7 +1,7 @@
 //! Where the trace of an input begins.
 
-ghost use Rattle.pr_cli.specs.Begun.{CountsOn, HasBegun};
-ghost use Rattle.std.specs.Prelude.{[]};
+ghost use Rattle.pr_cli.specs.Begun.{CountsOn, HasBegun, KeepsTimes};
+ghost use Rattle.std.specs.Prelude.{◌≡◌, [], true};
 
 use pr_capture::Source;
 use pr_wire::Edge;
@@ -36,5 +36,12 @@ impl Beginning {
             time: edge.time.saturating_sub(moment),
             levels: edge.levels,
         }
+    }
+    /// Whether the edges that follow count with the times that they have. It is known once an edge has come, and of
+    /// a trace text from the start.
+    pub fn keeps_times(&self) -> bool
+        ensures { result ≡ true → KeepsTimes self.now }
+    {
+        self.moment == Some(0)
     }
 }

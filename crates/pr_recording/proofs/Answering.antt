@@ -10,11 +10,12 @@ use Rattle.pr_wire.specs.declared.text.TraceFault.TheVariants as trace
 use Rattle.pr_wire.specs.Table.{fault_of}
 use Rattle.pr_capture.specs.declared.fault.CaptureFault.{CaptureFault}
 use Rattle.pr_capture.specs.declared.fault.CaptureFault.TheVariants as capture
+use Rattle.pr_capture.specs.declared.format.Source.{Source}
 use Rattle.pr_capture.specs.declared.format.TraceInput.{TraceInput}
 use Rattle.pr_input.specs.PartlyWritten.{AppendsFront}
 use Rattle.pr_cli.specs.Inputs.{EachTextSaysEdges, HasReadEdges, ReadEdgesComeFirst, SaysFirst, edges_read, fault_read}
 use Rattle.pr_cli.specs.EdgesTaken.{HasTakenAll, HasTakenBefore}
-use Rattle.pr_cli.specs.Report.{IsNoReading, IsOwnFault, IsReportFault, SaysWhole, refusal}
+use Rattle.pr_cli.specs.Report.{IsNoReading, IsOwnFault, IsReportFault, SaysWhole, edges_checked}
 use Rattle.pr_cli.specs.Report as report
 use Rattle.pr_cli.specs.Check.{trace_limit}
 use Rattle.pr_report.specs.declared.report.Report.TheVariants.{Story}
@@ -36,56 +37,56 @@ use Rattle.pr_recording.proofs.Judging.{no_memory}
 use Rattle.pr_recording.proofs.Writing.{front_behind, front_none, whole_behind}
 
 -- these edges were told, and what was given up was written
-pub record HasWritten (w : Wording) (old now : Option (List ℕ)) (n : DecodeReport) (edges : List Edge) : Type 0 where
+pub record HasWritten (s : Source) (w : Wording) (old now : Option (List ℕ)) (n : DecodeReport) (edges : List Edge) : Type 0 where
   pub written : List ℕ
-  pub narrated : HasNarrated w edges written n
+  pub narrated : HasNarrated s w edges written n
   pub wrote : Appends old now written
 
 -- before the first block
-pub told_none : (w : Wording) (limit : ℕ) (start old : Option (List ℕ)) (input : TraceInput) (r : InputReader) (n : DecodeReport) → HasReadEdges limit start start input [] r → edges_read r ≡ [] → HasNarrated w [] [] n
-    → HasTakenAll limit start start input r (HasWritten w old old n)
+pub told_none : (w : Wording) (limit : ℕ) (start old : Option (List ℕ)) (input : TraceInput) (r : InputReader) (n : DecodeReport) → HasReadEdges limit start start input [] r → edges_read r ≡ [] → HasNarrated input.source w [] [] n
+    → HasTakenAll limit start start input r (HasWritten input.source w old old n)
 told_none w limit start old input r n read none h = record { given = []; read = read; taken = rw none (record { written = []; narrated = h; wrote = Appends-nil old }) }
 
 -- a block was read
-pub told_before : (w : Wording) (limit : ℕ) (start a b old now : Option (List ℕ)) (input : TraceInput) (r s : InputReader) (n : DecodeReport) → HasTakenAll limit start a input r (HasWritten w old now n) → ReadsEdges a b r s
-    → HasTakenBefore limit start b input s (HasWritten w old now n)
+pub told_before : (w : Wording) (limit : ℕ) (start a b old now : Option (List ℕ)) (input : TraceInput) (r s : InputReader) (n : DecodeReport) → HasTakenAll limit start a input r (HasWritten input.source w old now n) → ReadsEdges a b r s
+    → HasTakenBefore limit start b input s (HasWritten input.source w old now n)
 told_before w limit start a b old now input r s n h reads = record { given = h.given ++ edges_read r; read = reads limit start input h.given h.read; taken = h.taken }
 
 -- its edges were told
-pub told_all : (w : Wording) (limit : ℕ) (start now old out : Option (List ℕ)) (input : TraceInput) (r : InputReader) (n m : DecodeReport) → HasTakenBefore limit start now input r (HasWritten w old out n)
-    → NarratesMore (edges_read r) n m → HasTakenAll limit start now input r (HasWritten w old out m)
+pub told_all : (w : Wording) (limit : ℕ) (start now old out : Option (List ℕ)) (input : TraceInput) (r : InputReader) (n m : DecodeReport) → HasTakenBefore limit start now input r (HasWritten input.source w old out n)
+    → NarratesMore (edges_read r) n m → HasTakenAll limit start now input r (HasWritten input.source w old out m)
 told_all w limit start now old out input r n m h narrates = record {
   given = h.given;
   read = h.read;
-  taken = record { written = h.taken.written; narrated = narrates w h.given h.taken.written h.taken.narrated; wrote = h.taken.wrote };
+  taken = record { written = h.taken.written; narrated = narrates input.source w h.given h.taken.written h.taken.narrated; wrote = h.taken.wrote };
 }
 
 -- and its lines were written
-pub told_written : (w : Wording) (limit : ℕ) (start a old now new : Option (List ℕ)) (input : TraceInput) (r : InputReader) (n m : DecodeReport) → HasTakenAll limit start a input r (HasWritten w old now n)
-    → Appends now new (lines_in n) → GivesUp n m → HasTakenAll limit start a input r (HasWritten w old new m)
+pub told_written : (w : Wording) (limit : ℕ) (start a old now new : Option (List ℕ)) (input : TraceInput) (r : InputReader) (n m : DecodeReport) → HasTakenAll limit start a input r (HasWritten input.source w old now n)
+    → Appends now new (lines_in n) → GivesUp n m → HasTakenAll limit start a input r (HasWritten input.source w old new m)
 told_written w limit start a old now new input r n m h k up = record {
   given = h.given;
   read = h.read;
   taken = record {
     written = h.taken.written ++ lines_in n;
-    narrated = up w (h.given ++ edges_read r) h.taken.written h.taken.narrated;
+    narrated = up input.source w (h.given ++ edges_read r) h.taken.written h.taken.narrated;
     wrote = Appends-trans old now new h.taken.written (lines_in n) h.taken.wrote k;
   };
 }
 
 -- a beginning was written of what is told of edges that come first
 begins : Laws → (w : Wording) (limit : ℕ) (checked : Bool) (input : TraceInput) (text : List ℕ) (edges : List Edge) (n : DecodeReport) (old now new : Option (List ℕ)) (v : Result (Unit {0}) CliFault) → SaysFirst input text edges
-    → HasWritten w old now n edges → AppendsFront now new (lines_in n) → ((stop : Option CliFault) (told : List ℕ) → AppendsFront old new told → Leaves limit (length text) stop told old new v)
+    → HasWritten input.source w old now n edges → AppendsFront now new (lines_in n) → ((stop : Option CliFault) (told : List ℕ) → AppendsFront old new told → Leaves limit (length text) stop told old new v)
     → AnswersTold limit w checked input text old new v
 begins laws w limit checked input text edges n old now new v f h short leaves =
-    let P : List Edge → Type 0 = λ l. (rest : List ℕ) × (told_of w (stop_at (back_in l) f.fault) l ≡ (h.written ++ lines_in n) ++ rest) in
-    let k = subst P (sym f.first) (coming laws w edges f.later h.written n f.fault h.narrated) in
-    let told = told_of w (stop_at (back_in f.edges) f.fault) f.edges in
+    let P : List Edge → Type 0 = λ l. (rest : List ℕ) × (told_of w input.source (stop_at (back_in l) f.fault) l ≡ (h.written ++ lines_in n) ++ rest) in
+    let k = subst P (sym f.first) (coming laws input.source w edges f.later h.written n f.fault h.narrated) in
+    let told = told_of w input.source (stop_at (back_in f.edges) f.fault) f.edges in
     record {
       edges = f.edges;
       own = f.fault;
       says = f.says;
-      leaves = leaves (refused_for checked f.edges f.fault) told (front_behind old now new h.written (lines_in n) told k.0 k.1 h.wrote short);
+      leaves = leaves (refused_for checked input.source f.edges f.fault) told (front_behind old now new h.written (lines_in n) told k.0 k.1 h.wrote short);
     }
 
 -- what holds of known bytes
@@ -95,7 +96,7 @@ if_known (Some text) P Q h f = f text h
 
 -- the answer where no more is read, or written
 pub partly : Laws → ReadEdgesComeFirst → (w : Wording) (limit : ℕ) (checked : Bool) (start now old mid new : Option (List ℕ)) (input : TraceInput) (r : InputReader) (n : DecodeReport) (v : Result (Unit {0}) CliFault) (f : CliFault)
-    → HasTakenAll limit start now input r (HasWritten w old mid n) → IsErrAnd v (λ x. x ≡ f) → f ≡ WriteFailed → AppendsFront mid new (lines_in n)
+    → HasTakenAll limit start now input r (HasWritten input.source w old mid n) → IsErrAnd v (λ x. x ≡ f) → f ≡ WriteFailed → AppendsFront mid new (lines_in n)
     → IfSome start (λ text. AnswersTold limit w checked input text old new v)
 partly laws first w limit checked start now old mid new input r n (Ok u) f h e failed k = absurd e
 partly laws first w limit checked start now old mid new input r n (Err x) f h e failed k =
@@ -104,7 +105,7 @@ partly laws first w limit checked start now old mid new input r n (Err x) f h e 
 
 -- the answer where nothing more is written
 pub unwritten : Laws → ReadEdgesComeFirst → (w : Wording) (limit : ℕ) (checked : Bool) (start now old mid : Option (List ℕ)) (input : TraceInput) (r : InputReader) (n : DecodeReport) (v : Result (Unit {0}) CliFault) (f : CliFault)
-    → HasTakenAll limit start now input r (HasWritten w old mid n) → IsErrAnd v (λ x. x ≡ f) → IsNoReading f → (f ≡ TooLarge → IsTooLong now r)
+    → HasTakenAll limit start now input r (HasWritten input.source w old mid n) → IsErrAnd v (λ x. x ≡ f) → IsNoReading f → (f ≡ TooLarge → IsTooLong now r)
     → IfSome start (λ text. AnswersTold limit w checked input text old mid v)
 unwritten laws first w limit checked start now old mid input r n (Ok u) f h e none long = absurd e
 unwritten laws first w limit checked start now old mid input r n (Err x) f h e none long =
@@ -138,7 +139,7 @@ unwritten laws first w limit checked start now old mid input r n (Err x) f h e n
 
 -- the answer where memory was refused
 pub refused : Laws → ReadEdgesComeFirst → (w : Wording) (limit : ℕ) (checked : Bool) (start now old mid : Option (List ℕ)) (input : TraceInput) (r : InputReader) (n : DecodeReport) (v : Result (Unit {0}) CliFault)
-    → HasTakenAll limit start now input r (HasWritten w old mid n) → IsErrAnd v (λ x. x ≡ NoMemory) → IfSome start (λ text. AnswersTold limit w checked input text old mid v)
+    → HasTakenAll limit start now input r (HasWritten input.source w old mid n) → IsErrAnd v (λ x. x ≡ NoMemory) → IfSome start (λ text. AnswersTold limit w checked input text old mid v)
 refused laws first w limit checked start now old mid input r n v h e = unwritten laws first w limit checked start now old mid input r n v NoMemory h e tt (λ is. absurd (cc))
 
 -- before anything was read
@@ -146,7 +147,7 @@ first_refused : EachTextSaysEdges → (w : Wording) (limit : ℕ) (checked : Boo
 first_refused some w limit checked None old input = tt
 first_refused some w limit checked (Some text) old input =
     let s = some input text in
-    record { edges = s.edges; own = s.fault; says = s.says; leaves = front_none old (told_of w (stop_at (back_in s.edges) s.fault) s.edges) }
+    record { edges = s.edges; own = s.fault; says = s.says; leaves = front_none old (told_of w input.source (stop_at (back_in s.edges) s.fault) s.edges) }
 
 pub at_first : EachTextSaysEdges → (w : Wording) (limit : ℕ) (checked : Bool) (a old : Option (List ℕ)) (input : TraceInput) (v : Result (Unit {0}) CliFault) → IsErrAnd v (λ f. f ≡ NoMemory)
     → IfSome a (λ text. AnswersTold limit w checked input text old old v)
@@ -215,10 +216,10 @@ own_refuses NoMemory h = h
 own_refuses ReadFailed h = h
 own_refuses WriteFailed h = h
 
-refuses : (checked : Bool) (edges : List Edge) (own : Option CliFault) → IfSome own IsOwnFault → IfSome (refused_for checked edges own) (Refuses checked)
-refuses false edges own h = is_stop (back_in edges) own h
-refuses true edges None h = edge_fault (fault_of edges) (no_memory edges)
-refuses true edges (Some f) h = own_refuses f h
+refuses : (checked : Bool) (s : Source) (edges : List Edge) (own : Option CliFault) → IfSome own IsOwnFault → IfSome (refused_for checked s edges own) (Refuses checked)
+refuses false s edges own h = is_stop (back_in edges) own h
+refuses true s edges None h = edge_fault (fault_of (edges_checked s edges)) (no_memory (edges_checked s edges))
+refuses true s edges (Some f) h = own_refuses f h
 
 -- that is a fault of a recording that is checked or not
 refusal_fault : (checked : Bool) (f : CliFault) → Refuses checked f → IsRefusal checked f
@@ -262,32 +263,32 @@ no_own None own h = h
 no_own (Some n) own h = absurd (cc)
 
 -- where nothing is refused, the input has no fault
-no_own_fault : (checked : Bool) (edges : List Edge) (own : Option CliFault) → refused_for checked edges own ≡ None → own ≡ None
-no_own_fault false edges own h = no_own (back_in edges) own h
-no_own_fault true edges None h = refl
-no_own_fault true edges (Some f) h = absurd (cc)
+no_own_fault : (checked : Bool) (s : Source) (edges : List Edge) (own : Option CliFault) → refused_for checked s edges own ≡ None → own ≡ None
+no_own_fault false s edges own h = no_own (back_in edges) own h
+no_own_fault true s edges None h = refl
+no_own_fault true s edges (Some f) h = absurd (cc)
 
 -- nor where its edges are refused for more than that time goes back
-no_fault_beside : (edges : List Edge) (own : Option CliFault) (f : WaveFault) → IfSome own IsOwnFault → refused_for true edges own ≡ Some (Wave f) → own ≡ None
-no_fault_beside edges None f h is = refl
-no_fault_beside edges (Some x) f h is = absurd (by x (cc) h)
+no_fault_beside : (s : Source) (edges : List Edge) (own : Option CliFault) (f : WaveFault) → IfSome own IsOwnFault → refused_for true s edges own ≡ Some (Wave f) → own ≡ None
+no_fault_beside s edges None f h is = refl
+no_fault_beside s edges (Some x) f h is = absurd (by x (cc) h)
   where
     by : (x : CliFault) → x ≡ Wave f → IsOwnFault x → ⊥
     by x e h = let P : CliFault → Type 0 = λ y. IsOwnFault y in subst P e h
 
 -- what is left where the end was written
-leaves_end : (w : Wording) (limit len : ℕ) (checked : Bool) (edges : List Edge) (written : List ℕ) (own : Option CliFault) (e : Ended) (old now new : Option (List ℕ)) (v : Result (Unit {0}) CliFault) → (own ≡ None → len ≤ limit)
-    → EndsEdges w checked edges written own e → IfSome own IsOwnFault → Appends old now written → WritesEnd e now new v → Leaves limit len (refused_for checked edges own) (told_of w (stop_at (back_in edges) own) edges) old new v
-leaves_end w limit len checked edges written own e old now new v short ends is_own wrote writes = by v writes
+leaves_end : (s : Source) (w : Wording) (limit len : ℕ) (checked : Bool) (edges : List Edge) (written : List ℕ) (own : Option CliFault) (e : Ended) (old now new : Option (List ℕ)) (v : Result (Unit {0}) CliFault) → (own ≡ None → len ≤ limit)
+    → EndsEdges s w checked edges written own e → IfSome own IsOwnFault → Appends old now written → WritesEnd e now new v → Leaves limit len (refused_for checked s edges own) (told_of w s (stop_at (back_in edges) own) edges) old new v
+leaves_end s w limit len checked edges written own e old now new v short ends is_own wrote writes = by v writes
   where
-    all : Appends now new e.lines.items → Appends old new (told_of w (stop_at (back_in edges) own) edges)
-    all k = whole_behind old now new written e.lines.items (told_of w (stop_at (back_in edges) own) edges) ends.lines wrote k
+    all : Appends now new e.lines.items → Appends old new (told_of w s (stop_at (back_in edges) own) edges)
+    all k = whole_behind old now new written e.lines.items (told_of w s (stop_at (back_in edges) own) edges) ends.lines wrote k
 
     known : (f : CliFault) → e.refused ≡ Some f → Refuses checked f
-    known f is = known_refusal checked (refused_for checked edges own) f (sym ends.refused ∙ is) (refuses checked edges own is_own)
+    known f is = known_refusal checked (refused_for checked s edges own) f (sym ends.refused ∙ is) (refuses checked s edges own is_own)
 
-    by : (v : Result (Unit {0}) CliFault) → WritesEnd e now new v → Leaves limit len (refused_for checked edges own) (told_of w (stop_at (back_in edges) own) edges) old new v
-    by (Ok u) w = (short (no_own_fault checked edges own (sym ends.refused ∙ w.0)), sym ends.refused ∙ w.0, all w.1)
+    by : (v : Result (Unit {0}) CliFault) → WritesEnd e now new v → Leaves limit len (refused_for checked s edges own) (told_of w s (stop_at (back_in edges) own) edges) old new v
+    by (Ok u) w = (short (no_own_fault checked s edges own (sym ends.refused ∙ w.0)), sym ends.refused ∙ w.0, all w.1)
     by (Err (Script x)) w = absurd (no_script checked x (known (Script x) w.0))
     by (Err (Trace x)) w = (sym ends.refused ∙ w.0, all w.1)
     by (Err (Wave x)) w = (sym ends.refused ∙ w.0, all w.1)
@@ -297,7 +298,7 @@ leaves_end w limit len checked edges written own e old now new v short ends is_o
     by (Err NoMemory) w = absurd ((no_other checked).1 (known NoMemory w.0))
     by (Err ReadFailed) w = absurd ((no_other checked).2 (known ReadFailed w.0))
     by (Err WriteFailed) k =
-        front_behind old now new written e.lines.items (told_of w (stop_at (back_in edges) own) edges) [] (sym ends.lines ∙ sym (append-nil (written ++ e.lines.items))) wrote k
+        front_behind old now new written e.lines.items (told_of w s (stop_at (back_in edges) own) edges) [] (sym ends.lines ∙ sym (append-nil (written ++ e.lines.items))) wrote k
 
 -- a refusal is no failed write
 pub no_write : (checked : Bool) (v : Option CliFault) → IfSome v (Refuses checked) → v ≡ Some WriteFailed → ⊥
@@ -335,17 +336,17 @@ own_fault checked e now new (Err f) h w = by f w
     by WriteFailed w = (any_fault checked).3
 
 -- how far the input has been read where the end is written
-read_to : (checked : Bool) (edges : List Edge) (own : Option CliFault) (e : Ended) (now new left : Option (List ℕ)) (v : Result (Unit {0}) CliFault) → e.refused ≡ refused_for checked edges own → IfSome own IsOwnFault
+read_to : (checked : Bool) (s : Source) (edges : List Edge) (own : Option CliFault) (e : Ended) (now new left : Option (List ℕ)) (v : Result (Unit {0}) CliFault) → e.refused ≡ refused_for checked s edges own → IfSome own IsOwnFault
     → (own ≡ None → IsAtEnd left) → WritesEnd e now new v → HasReadTo checked left v
-read_to true edges own e now new left (Ok u) is h at_end w = at_end (no_own_fault true edges own (sym is ∙ w.0))
-read_to false edges own e now new left (Ok u) is h at_end w = at_end (no_own_fault false edges own (sym is ∙ w.0))
-read_to false edges own e now new left (Err f) is h at_end w = tt
-read_to true edges own e now new left (Err f) is h at_end w = by f w
+read_to true s edges own e now new left (Ok u) is h at_end w = at_end (no_own_fault true s edges own (sym is ∙ w.0))
+read_to false s edges own e now new left (Ok u) is h at_end w = at_end (no_own_fault false s edges own (sym is ∙ w.0))
+read_to false s edges own e now new left (Err f) is h at_end w = tt
+read_to true s edges own e now new left (Err f) is h at_end w = by f w
   where
     by : (f : CliFault) → WritesEnd e now new (Err f) → report.ReadsAll Story left (Err f)
     by (Script x) w = tt
     by (Trace x) w = tt
-    by (Wave x) w = at_end (no_fault_beside edges own x h (sym is ∙ w.0))
+    by (Wave x) w = at_end (no_fault_beside s edges own x h (sym is ∙ w.0))
     by (Capture x) w = tt
     by (Picture x) w = tt
     by TooLarge w = tt
@@ -361,35 +362,35 @@ pub record AnswersLast (w : Wording) (limit : ℕ) (checked : Bool) (start left 
   pub reading : v ≡ Err ReadFailed → ⊥
 
 -- why it is refused there
-pub last_refusal : (w : Wording) (limit : ℕ) (checked : Bool) (start left old now : Option (List ℕ)) (input : TraceInput) (r : InputReader) (n : DecodeReport) (e : Ended) → HasTakenBefore limit start left input r (HasWritten w old now n)
+pub last_refusal : (w : Wording) (limit : ℕ) (checked : Bool) (start left old now : Option (List ℕ)) (input : TraceInput) (r : InputReader) (n : DecodeReport) (e : Ended) → HasTakenBefore limit start left input r (HasWritten input.source w old now n)
     → EndsNarrated checked r n e → IfSome e.refused (Refuses checked)
 last_refusal w limit checked start left old now input r n e h ends =
-    let k = ends w h.taken.written limit start left input h.given h.read h.taken.narrated in
-    let follows : EndsEdges w checked k.edges h.taken.written k.fault e = k.follows in
+    let k = ends input.source w h.taken.written limit start left input h.given h.read h.taken.narrated in
+    let follows : EndsEdges input.source w checked k.edges h.taken.written k.fault e = k.follows in
     let P : Option CliFault → Type 0 = λ v. IfSome v (Refuses checked) in
-    subst P (sym follows.refused) (refuses checked k.edges k.fault k.own)
+    subst P (sym follows.refused) (refuses checked input.source k.edges k.fault k.own)
 
 pub at_last : (w : Wording) (limit : ℕ) (checked : Bool) (start left old now new : Option (List ℕ)) (input : TraceInput) (r : InputReader) (n : DecodeReport) (e : Ended) (v : Result (Unit {0}) CliFault)
-    → HasTakenBefore limit start left input r (HasWritten w old now n) → (fault_read r ≡ None → IsAtEnd left) → EndsNarrated checked r n e → WritesEnd e now new v → AnswersLast w limit checked start left old new input e v
+    → HasTakenBefore limit start left input r (HasWritten input.source w old now n) → (fault_read r ≡ None → IsAtEnd left) → EndsNarrated checked r n e → WritesEnd e now new v → AnswersLast w limit checked start left old new input e v
 at_last w limit checked start left old now new input r n e v h stops ends writes =
-    let k = ends w h.taken.written limit start left input h.given h.read h.taken.narrated in
-    let follows : EndsEdges w checked k.edges h.taken.written k.fault e = k.follows in
+    let k = ends input.source w h.taken.written limit start left input h.given h.read h.taken.narrated in
+    let follows : EndsEdges input.source w checked k.edges h.taken.written k.fault e = k.follows in
     let refused = last_refusal w limit checked start left old now input r n e h ends in
     record {
       told = known start k.edges k.fault k.own follows (k.says stops);
-      at_end = read_to checked k.edges k.fault e now new left v follows.refused k.own (λ none. stops (k.kept none)) writes;
+      at_end = read_to checked input.source k.edges k.fault e now new left v follows.refused k.own (λ none. stops (k.kept none)) writes;
       own = own_fault checked e now new v refused writes;
       reading = no_read checked e now new v refused writes;
     }
   where
-    known : (start : Option (List ℕ)) (edges : List Edge) (own : Option CliFault) → IfSome own IsOwnFault → EndsEdges w checked edges h.taken.written own e → IfSome start (SaysWhole limit input edges own)
+    known : (start : Option (List ℕ)) (edges : List Edge) (own : Option CliFault) → IfSome own IsOwnFault → EndsEdges input.source w checked edges h.taken.written own e → IfSome start (SaysWhole limit input edges own)
         → IfSome start (λ text. AnswersTold limit w checked input text old new v)
     known None edges own o k says = tt
     known (Some text) edges own o k says = record {
       edges = edges;
       own = own;
       says = says.says;
-      leaves = leaves_end w limit (length text) checked edges h.taken.written own e old now new v says.short k o h.taken.wrote writes;
+      leaves = leaves_end input.source w limit (length text) checked edges h.taken.written own e old now new v says.short k o h.taken.wrote writes;
     }
 
 -- a fault of reading is one of a recording

@@ -4,6 +4,7 @@ pub mod Writing
 pub mod Accounting
 pub mod Heeding
 pub mod ReadMore
+pub mod Judges
 pub mod Coming
 pub mod Noting
 pub mod Answering

@@ -1,18 +1,15 @@
--- Edges that are read one after another, and followed.
+-- Edges that are read one after another.
 use Rattle.std.proofs.Common.{◌≡◌, ℕ, ◌+◌, ◌<◌, ◌≤◌, List, [], ◌∷◌, ◌++◌, length, take, drop, get_or, refl, ap, sym, subst, ◌∙◌, arith, append-nil, append_assoc, Option, Some}
 use Rattle.std.proofs.Math.Seq.{take-add}
 use Rattle.std.proofs.lemmas.List.{length-take-le}
 use Rattle.std.specs.Option.{option_to_list}
 use Rattle.pr_wire.specs.declared.Edge.{Edge}
-use Rattle.pr_wire.specs.declared.Frame.{Frame}
-use Rattle.pr_wire.specs.declared.follower.TraceFollower.{TraceFollower}
-use Rattle.pr_wire.specs.Following.{HasFollowed, TakesFrame, outcome, refused_at, where_led}
 use Rattle.pr_decode.specs.declared.decoder.Decoder.{Decoder}
 use Rattle.pr_decode.specs.declared.reading.Reading.{Reading}
 use Rattle.pr_decode.specs.Taking.{AreInOrder, HasReadings, IsBefore, last_time, time_behind}
 use Rattle.pr_recording.specs.declared.reading_log.ReadingLog.{ReadingLog}
 use Rattle.pr_recording.specs.EdgesRead.{BeginsBack, ReadsMore}
-use Rattle.pr_recording.specs.Narrated.{AccountsMore, HasAccounted, IsFollowed}
+use Rattle.pr_recording.specs.Narrated.{AccountsMore, HasAccounted}
 
 -- times in order after others
 in_order : (last : Option ℕ) (es fs : List Edge) → AreInOrder last es → AreInOrder (time_behind last es) fs → AreInOrder last (es ++ fs)
@@ -103,37 +100,6 @@ first_read (y ∷ edges) x r d mid e a b same some later reads last accounts =
 pub first_back : (edges : List Edge) (x : Edge) (mid d : Decoder) → d ≡ mid → 0 < length edges → IsBefore (get_or edges 0 x) mid → BeginsBack edges d
 first_back [] x mid d same some before = absurd (omega (arith, some))
 first_back (y ∷ edges) x mid d same some before = let P : Decoder → Type 0 = λ z. IsBefore y z in subst P (sym same) before
-
--- a whole frame is followed, and one edge
-pub frame_followed : (old new : TraceFollower) (edges : List Edge) (n : ℕ) (frame : Frame) → TakesFrame old edges n frame new
-    → (before : List Edge) → IsFollowed before old → IsFollowed (before ++ take n edges) new
-frame_followed old new edges n frame takes before (frames, h) = (
-  frames ++ frame ∷ [],
-  takes.accepted before frames (h ∙ ap (λ v. outcome (refused_at v old.taken) (where_led old frames)) takes.works)
-      ∙ sym (ap (λ v. outcome (refused_at v new.taken) (where_led new (frames ++ frame ∷ []))) takes.stays),
-)
-
-pub first_followed : (old mid new : TraceFollower) (edges : List Edge) (x : Edge) → mid ≡ old → 0 < length edges
-    → ((before : List Edge) (frames : List Frame) → HasFollowed before frames mid → IsFollowed (before ++ get_or edges 0 x ∷ []) new)
-    → (before : List Edge) → IsFollowed before old → IsFollowed (before ++ take 1 edges) new
-first_followed old mid new [] x same some follows before h = absurd (omega (arith, some))
-first_followed old mid new (y ∷ edges) x same some follows before (frames, h) =
-    let P : TraceFollower → Type 0 = λ f. HasFollowed before frames f in
-    follows before frames (subst P (sym same) h)
-
--- edges were followed from the first on
-abbrev pub Follows : List Edge → TraceFollower → TraceFollower → Type 0
-Follows more old new = (before : List Edge) → IsFollowed before old → IsFollowed (before ++ more) new
-
-pub follows_none : (f : TraceFollower) → Follows [] f f
-follows_none f = λ before h. let P : List Edge → Type 0 = λ l. IsFollowed l f in subst P (sym (append-nil before)) h
-
-pub follows_front : (n m : ℕ) (edges : List Edge) (old mid new : TraceFollower) → Follows (take n edges) old mid → Follows (take m (drop n edges)) mid new
-    → Follows (take (n + m) edges) old new
-follows_front n m edges old mid new h k = λ before f.
-    let P : List Edge → Type 0 = λ l. IsFollowed l new in
-    subst P (append_assoc before (take n edges) (take m (drop n edges)) ∙ ap (λ l. before ++ l) (sym (take-add n m edges)))
-    (k (before ++ take n edges) (h before f))
 
 -- edges are counted with those before
 pub taken_more : (k n : ℕ) (edges : List Edge) → n ≤ length edges → k + n ≡ k + length (take n edges)

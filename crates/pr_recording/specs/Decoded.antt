@@ -15,9 +15,10 @@ use Rattle.pr_report.specs.ReadingText.{all_lines}
 use Rattle.pr_report.specs.Summary.{summary}
 use Rattle.pr_report.specs.Outside.{conclusion}
 use Rattle.pr_report.specs.Oddities.{oddities_of, oddities_text}
+use Rattle.pr_capture.specs.declared.format.Source.{Source}
 use Rattle.pr_capture.specs.declared.format.TraceInput.{TraceInput}
 use Rattle.pr_input.specs.PartlyWritten.{AppendsFront}
-use Rattle.pr_cli.specs.Report.{Says}
+use Rattle.pr_cli.specs.Report.{Says, edges_checked}
 use Rattle.pr_recording.specs.declared.wording.Wording.{Wording}
 use Rattle.pr_recording.specs.declared.wording.Wording.TheVariants.{Json, Lines}
 use Rattle.pr_cli.specs.declared.fault.CliFault.{CliFault}
@@ -58,11 +59,11 @@ last_lines (Lines d) fault edges rs =
     summary d.bounds rs ++ (conclusion d.bounds fault rs ++ oddities_text (oddities_of edges rs))
 last_lines Json fault edges rs = json_verdict fault
 
--- for a whole recording both; for any other the text of what its edges settle up to where it stops
-abbrev pub told_of : Wording → (stop : Option CliFault) → List Edge → List ℕ
-told_of w None edges =
-    readings_text w (readings_of edges) ++ last_lines w (fault_of edges) edges (readings_of edges)
-told_of w (Some fault) edges = readings_text w (settled_of (in_front (back_in edges) edges))
+-- for a whole recording both, with the fault that `check` finds; for any other the text of what its edges settle up to where it stops
+abbrev pub told_of : Wording → Source → (stop : Option CliFault) → List Edge → List ℕ
+told_of w s None edges =
+    readings_text w (readings_of edges) ++ last_lines w (fault_of (edges_checked s edges)) edges (readings_of edges)
+told_of w s (Some fault) edges = readings_text w (settled_of (in_front (back_in edges) edges))
 
 -- what the writer holds with each answer, by the limit and the length of the input, why it stops, and the text for it
 abbrev pub Leaves :
@@ -87,7 +88,7 @@ pub record AnswersDecode (limit : ℕ) (w : Wording) (input : TraceInput) (text 
   pub own : Option CliFault
   pub says : Says input text edges own
   pub leaves : Leaves limit (length text) (stop_at (back_in edges) own)
-      (told_of w (stop_at (back_in edges) own) edges) old new result
+      (told_of w input.source (stop_at (back_in edges) own) edges) old new result
 
 -- the input has been read to its end where all of it is answered
 abbrev pub ReadsAll : Option (List ℕ) → Result (Unit {0}) CliFault → Type 0

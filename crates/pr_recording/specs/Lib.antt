@@ -1,5 +1,6 @@
 pub mod Decoded
 pub mod Checked
+pub mod Judged
 pub mod Narrated
 pub mod EdgesRead
 pub mod Pages

@@ -3,12 +3,10 @@ use Rattle.std.specs.Prelude.{◌≡◌, ℕ, ◌+◌, Bool, true, false, List, 
 use Rattle.std.specs.Io.KnownBytes.{Appends}
 use Rattle.std.specs.List.{list_any}
 use Rattle.pr_wire.specs.declared.Edge.{Edge}
-use Rattle.pr_wire.specs.declared.Frame.{Frame}
 use Rattle.pr_wire.specs.declared.WaveFault.{WaveFault}
 use Rattle.pr_wire.specs.declared.WaveFault.TheVariants as wave
-use Rattle.pr_wire.specs.declared.follower.TraceFollower.{TraceFollower}
-use Rattle.pr_wire.specs.Following.{HasFollowed}
 use Rattle.pr_wire.specs.Table.{fault_of}
+use Rattle.pr_capture.specs.declared.format.Source.{Source}
 use Rattle.pr_capture.specs.declared.format.TraceInput.{TraceInput}
 use Rattle.pr_decode.specs.declared.reading.Reading.{Reading}
 use Rattle.pr_decode.specs.Taking.{HasReadings, last_time}
@@ -23,7 +21,7 @@ use Rattle.pr_report.specs.Taking as survey
 use Rattle.pr_report.specs.declared.report.Report.TheVariants.{Story}
 use Rattle.pr_input.specs.PartlyWritten.{AppendsFront}
 use Rattle.pr_cli.specs.EdgesTaken.{EndsReading}
-use Rattle.pr_cli.specs.Report.{IsOwnFault, IsReportFault, Says, refusal}
+use Rattle.pr_cli.specs.Report.{IsOwnFault, IsReportFault, Says, edges_checked, refusal}
 use Rattle.pr_cli.specs.Report as report
 use Rattle.pr_cli.specs.declared.fault.CliFault.{CliFault}
 use Rattle.pr_cli.specs.declared.fault.CliFault.TheVariants.{Wave, WriteFailed}
@@ -33,30 +31,20 @@ use Rattle.pr_recording.specs.declared.wording.Wording.TheVariants.{Json, Lines}
 use Rattle.pr_recording.specs.declared.reading_log.ReadingLog.{ReadingLog}
 use Rattle.pr_recording.specs.declared.decode_report.Ended.{Ended}
 use Rattle.pr_recording.specs.declared.decode_report.DecodeReport.{DecodeReport}
+use Rattle.pr_recording.specs.Judged.{HasJudged, edges_judged}
 use Rattle.pr_recording.specs.Decoded.{IsDecodeFault, Leaves, ReadsAll, back_in, in_front, readings_text, stop_at, told_of}
 
 -- Verdicts.
 
--- the first fault of edges, by where time goes back and by that of the edges before it
-abbrev pub fault_with : (back : Option ℕ) → Option WaveFault → Option WaveFault
-fault_with None fault = fault
-fault_with (Some n) None = Some (wave.Order n)
-fault_with (Some n) (Some (wave.Truncated count)) = Some (wave.Order n)
-fault_with (Some n) (Some fault) = Some fault
-
--- why a recording is refused that is checked or not, by this, and by a fault of its own
+-- why a recording is refused that is checked or not, by where time goes back, by a fault of its own, and by the first fault of its
+-- edges
 abbrev pub refused_by : (checked : Bool) → (back : Option ℕ) → (own : Option CliFault) → Option WaveFault → Option CliFault
-refused_by true back own fault = refusal own (fault_with back fault)
+refused_by true back own fault = refusal own fault
 refused_by false back own fault = stop_at back own
 
--- the same, by its edges
-abbrev pub refused_for : (checked : Bool) → List Edge → (own : Option CliFault) → Option CliFault
-refused_for true edges own = refusal own (fault_of edges)
-refused_for false edges own = stop_at (back_in edges) own
-
--- a follower was given these edges
-abbrev pub IsFollowed : (edges : List Edge) → TraceFollower → Type 0
-IsFollowed edges f = (frames : List Frame) × HasFollowed edges frames f
+-- the same, by its format and its edges
+abbrev pub refused_for : (checked : Bool) → Source → List Edge → (own : Option CliFault) → Option CliFault
+refused_for checked s edges own = refused_by checked (back_in edges) own (fault_of (edges_checked s edges))
 
 -- Logs of readings.
 
@@ -103,30 +91,40 @@ pub record HasHeeded (w : Wording) (edges : List Edge) (written : List ℕ) (n :
   pub given : List Reading
   pub read : HasReadings edges given n.decoder
   pub last : last_time n.decoder ≡ time_of edges
-  pub followed : IsFollowed edges n.follower
   pub seen : survey.HasSeen edges n.seen
   pub accounted : HasAccounted w given written n.log
   pub taken : n.taken ≡ length edges
 
 -- edges were taken, up to where time goes back
-pub record HasNarrated (w : Wording) (edges : List Edge) (written : List ℕ) (n : DecodeReport) : Type 0 where
+pub record HasTold (w : Wording) (edges : List Edge) (written : List ℕ) (n : DecodeReport) : Type 0 where
   pub back : n.back ≡ back_in edges
   pub heeded : HasHeeded w (in_front (back_in edges) edges) written n
 
+-- with more edges
+abbrev pub TellsMore : List Edge → (old new : DecodeReport) → Type 0
+TellsMore more old new =
+    (w : Wording) (edges : List Edge) (written : List ℕ) → HasTold w edges written old → HasTold w (edges ++ more) written new
+
+-- edges of an input in this format were taken up to where time goes back, and all were judged
+pub record HasNarrated (s : Source) (w : Wording) (edges : List Edge) (written : List ℕ) (n : DecodeReport) : Type 0 where
+  pub judged : HasJudged s edges n.judge
+  pub told : HasTold w edges written n
+
 -- how many edges and readings were taken, by all that count them
 abbrev pub load : DecodeReport → ℕ
-load n = n.taken + (n.follower.taken + readings_told n.log)
+load n = n.taken + (edges_judged n.judge + readings_told n.log)
 
 -- with more edges
 abbrev pub NarratesMore : List Edge → (old new : DecodeReport) → Type 0
 NarratesMore more old new =
-    (w : Wording) (edges : List Edge) (written : List ℕ) → HasNarrated w edges written old
-    → HasNarrated w (edges ++ more) written new
+    (s : Source) (w : Wording) (edges : List Edge) (written : List ℕ) → HasNarrated s w edges written old
+    → HasNarrated s w (edges ++ more) written new
 
 -- the end of edges whose input has this fault, if it has one: why they are refused, and the lines that were not given up before
-pub record EndsEdges (w : Wording) (checked : Bool) (edges : List Edge) (written : List ℕ) (own : Option CliFault) (t : Ended) : Type 0 where
-  pub refused : t.refused ≡ refused_for checked edges own
-  pub lines : written ++ t.lines.items ≡ told_of w (stop_at (back_in edges) own) edges
+pub record EndsEdges (s : Source) (w : Wording) (checked : Bool) (edges : List Edge) (written : List ℕ) (own : Option CliFault)
+    (t : Ended) : Type 0 where
+  pub refused : t.refused ≡ refused_for checked s edges own
+  pub lines : written ++ t.lines.items ≡ told_of w s (stop_at (back_in edges) own) edges
 
 -- the lines that were not given up yet
 abbrev pub lines_in : DecodeReport → List ℕ
@@ -135,14 +133,14 @@ lines_in n = n.log.lines.items
 -- the lines so far are given up
 abbrev pub GivesUp : (old new : DecodeReport) → Type 0
 GivesUp old new =
-    (w : Wording) (edges : List Edge) (written : List ℕ) → HasNarrated w edges written old
-    → HasNarrated w edges (written ++ lines_in old) new
+    (s : Source) (w : Wording) (edges : List Edge) (written : List ℕ) → HasNarrated s w edges written old
+    → HasNarrated s w edges (written ++ lines_in old) new
 
 -- the end of an input of which the edges before the last block were told
 abbrev pub EndsNarrated : (checked : Bool) → InputReader → DecodeReport → Ended → Type 0
 EndsNarrated c r n e =
-    (w : Wording) (written : List ℕ)
-    → EndsReading r (λ edges. HasNarrated w edges written n) (λ edges own. EndsEdges w c edges written own e)
+    (s : Source) (w : Wording) (written : List ℕ)
+    → EndsReading r (λ edges. HasNarrated s w edges written n) (λ edges own. EndsEdges s w c edges written own e)
 
 -- What is answered.
 
@@ -174,7 +172,8 @@ pub record AnswersTold (limit : ℕ) (w : Wording) (checked : Bool) (input : Tra
   pub edges : List Edge
   pub own : Option CliFault
   pub says : Says input text edges own
-  pub leaves : Leaves limit (length text) (refused_for checked edges own) (told_of w (stop_at (back_in edges) own) edges) old new result
+  pub leaves : Leaves limit (length text) (refused_for checked input.source edges own)
+      (told_of w input.source (stop_at (back_in edges) own) edges) old new result
 
 -- how far the input has been read where it is answered
 abbrev pub HasReadTo : (checked : Bool) → Option (List ℕ) → Result (Unit {0}) CliFault → Type 0

@@ -127,7 +127,7 @@ pub(crate) fn tell_input<R: Read, W: Write>(
     readings_add_up();
     read_edges_come_first();
     let mut reader = InputReader::new(alloc, trace, limit);
-    let mut report = DecodeReport::new(alloc, wording)?;
+    let mut report = DecodeReport::new(alloc, trace.source, wording)?;
     let mut block = [0u8; BLOCK];
     'pieces: loop {
         if !reader.read_block(input, &mut block)? {

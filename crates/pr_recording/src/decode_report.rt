@@ -1,22 +1,22 @@
 //! What is told of edges that come one by one.
 
-ghost use Rattle.std.specs.Prelude.{◌≡◌, ◌+◌, ◌*◌, ◌^◌, ◌<◌, ◌≤◌, ◌∷◌, ◌++◌, [], List, ℕ, drop, length, take, IfOk, OnOk};
+ghost use Rattle.std.specs.Prelude.{◌≡◌, ◌+◌, ◌*◌, ◌^◌, ◌<◌, ◌≤◌, [], List, ℕ, drop, length, take, IfOk, OnOk};
 ghost use Rattle.pr_wire.specs.declared.Edge.{Edge};
-ghost use Rattle.pr_wire.specs.declared.Frame.{Frame};
-ghost use Rattle.pr_wire.specs.Following.{HasFollowed};
+ghost use Rattle.pr_capture.specs.declared.format.Source.{Source};
 ghost use Rattle.pr_cli.specs.Report.{refusal};
-ghost use Rattle.pr_report.specs.Taking.{HasSeen};
 ghost use Rattle.pr_recording.specs.declared.wording.Wording.{Wording};
 ghost use Rattle.pr_recording.specs.Decoded.{stop_at};
-ghost use Rattle.pr_recording.specs.Narrated.{EndsEdges, GivesUp, HasNarrated, IsFollowed, NarratesMore, fault_with, lines_in, load, refused_by, readings_told};
+ghost use Rattle.pr_recording.specs.Narrated.{EndsEdges, GivesUp, HasNarrated, NarratesMore, lines_in, load, refused_by, readings_told};
 ghost use Rattle.pr_recording.specs.EdgesRead.{BeginsBack, ReadsMore};
 
+use crate::judge::Judge;
 use crate::reading_log::ReadingLog;
 use crate::wording::Wording;
+use pr_capture::Source;
 use pr_cli::CliFault;
 use pr_decode::{Decoder, GoesBack, readings_add_up};
 use pr_report::LinesSeen;
-use pr_wire::{Edge, TraceFollower, WaveFault};
+use pr_wire::{Edge, WaveFault};
 use std::alloc::{AllocError, Global};
 
 /// The last of what is told of a recording, and why it is refused, if it is.
@@ -26,30 +26,30 @@ pub struct Ended {
     pub refused: Option<CliFault>,
 }
 
-/// Makes the lines of the edges of a recording, up to where time goes back.
+/// Makes the lines of the edges of a recording, up to where time goes back, and judges all of them.
 #[derive(Drop)]
 pub struct DecodeReport {
     decoder: Decoder,
-    /// Whether the edges taken are a lawful trace.
-    follower: TraceFollower,
+    /// Whether the edges are a lawful trace.
+    judge: Judge,
     /// What the edges taken say of the lines.
     seen: LinesSeen,
     log: ReadingLog,
-    /// How many edges were taken.
+    /// How many edges were taken, those after time has gone back not counted.
     taken: usize,
     /// The index of the edge at which time goes back.
     back: Option<usize>,
 }
 
 impl DecodeReport {
-    /// A report that has taken no edge, and writes readings so.
-    pub fn new(alloc: Global, wording: Wording) -> Result<DecodeReport, AllocError>
-        ensures narrated { IfOk result (λ report. HasNarrated wording [] [] report) }
+    /// A report that has taken no edge of an input in this format, and writes readings so.
+    pub fn new(alloc: Global, source: Source, wording: Wording) -> Result<DecodeReport, AllocError>
+        ensures narrated { IfOk result (λ report. HasNarrated source wording [] [] report) }
         ensures load { IfOk result (λ report. load report ≡ 0) }
     {
         Ok(DecodeReport {
             decoder: Decoder::new(),
-            follower: TraceFollower::new(),
+            judge: Judge::new(source),
             seen: LinesSeen::new(),
             log: ReadingLog::new(alloc, wording)?,
             taken: 0,
@@ -57,19 +57,18 @@ impl DecodeReport {
         })
     }
 
-    /// Takes the next edges, in order. After one at which time goes back it takes none.
+    /// Takes the next edges, in order. After one at which time goes back it only judges them.
     pub fn take_all(&mut self, edges: &[Edge]) -> Result<(), AllocError>
         requires room { load self.old + 3 * length edges.now < 2 ^ 64 }
         ensures narrated { OnOk result (NarratesMore edges.now self.old self.new) }
         ensures load { OnOk result (load self.new ≤ load self.old + 3 * length edges.now) }
     {
+        self.judge.take_all(edges);
         if self.back.is_some() {
             return Ok(());
         }
         let len = read_edges(&mut self.decoder, &mut self.log, edges)?;
-        let taken = &edges[..len];
-        follow_all(&mut self.follower, taken);
-        self.seen.take_all(taken);
+        self.seen.take_all(&edges[..len]);
         self.taken += len;
         if len == edges.len() {
             return Ok(());
@@ -98,11 +97,11 @@ impl DecodeReport {
     /// anything else only where it stops.
     pub fn finish(mut self, own: Option<CliFault>, is_checked: bool) -> Result<Ended, AllocError>
         requires room { load self + 3 < 2 ^ 64 }
-        ensures { IfOk result (λ ended. (wording : Wording) (edges : List Edge) (written : List ℕ) →
-            HasNarrated wording edges written self → EndsEdges wording is_checked edges written own ended) }
+        ensures { IfOk result (λ ended. (source : Source) (wording : Wording) (edges : List Edge) (written : List ℕ) →
+            HasNarrated source wording edges written self → EndsEdges source wording is_checked edges written own ended) }
     {
         readings_add_up();
-        let fault = self.follower.finish().err();
+        let fault = self.judge.finish();
         let refused = refused_by(is_checked, self.back, own, fault);
         if stop_at(self.back, own).is_some() {
             let lines = self.log.into_lines();
@@ -166,50 +165,6 @@ fn read_edges(
     Ok(len)
 }
 
-/// Follows the next edge; the follower keeps the first fault for its `finish`.
-#[inline(always)]
-fn follow(follower: &mut TraceFollower, edge: Edge)
-    requires few { follower.old.taken + 1 < 2 ^ 64 }
-    ensures followed { (edges : List Edge) (frames : List Frame) → HasFollowed edges frames follower.old →
-        IsFollowed (edges ++ edge ∷ []) follower.new }
-    ensures count { follower.new.taken ≤ follower.old.taken + 1 }
-{
-    match follower.take(edge) {
-        Ok(_) => {}
-        Err(_) => {}
-    }
-}
-
-/// Follows edges from the front of some: those of a whole frame, or else the next edge. Gives how many they are.
-#[inline(always)]
-fn follow_front(follower: &mut TraceFollower, edges: &[Edge]) -> usize
-    requires some { 0 < length edges.now }
-    requires few { follower.old.taken + length edges.now < 2 ^ 64 }
-    ensures followed { (before : List Edge) → IsFollowed before follower.old →
-        IsFollowed (before ++ take result edges.now) follower.new }
-    ensures some { 0 < result }
-    ensures within { result ≤ length edges.now }
-    ensures count { follower.new.taken ≤ follower.old.taken + result }
-{
-    if let Some(whole) = follower.pass_frame(edges) {
-        return whole.len;
-    }
-    follow(follower, edges[0]);
-    1
-}
-
-/// Follows the next edges, in order.
-fn follow_all(follower: &mut TraceFollower, edges: &[Edge])
-    requires few { follower.old.taken + length edges.now < 2 ^ 64 }
-    ensures followed { (before : List Edge) → IsFollowed before follower.old → IsFollowed (before ++ edges.now) follower.new }
-    ensures count { follower.new.taken ≤ follower.old.taken + length edges.now }
-{
-    let mut len = 0;
-    while len < edges.len() {
-        len += follow_front(follower, &edges[len..]);
-    }
-}
-
 /// Why no more is told of edges: time goes back at one of them, or else their input has a fault.
 pub fn stop_at(back: Option<usize>, own: Option<CliFault>) -> Option<CliFault>
     ensures { result ≡ stop_at back own }
@@ -217,16 +172,6 @@ pub fn stop_at(back: Option<usize>, own: Option<CliFault>) -> Option<CliFault>
     match back {
         Some(index) => Some(CliFault::Wave(WaveFault::Order(index))),
         None => own,
-    }
-}
-
-/// The first fault of edges, by the index at which time goes back and by the fault of the edges before it.
-fn fault_with(back: Option<usize>, fault: Option<WaveFault>) -> Option<WaveFault>
-    ensures { result ≡ fault_with back fault }
-{
-    match (back, fault) {
-        (Some(index), None | Some(WaveFault::Truncated(_))) => Some(WaveFault::Order(index)),
-        _ => fault,
     }
 }
 
@@ -241,7 +186,7 @@ fn refusal(own: Option<CliFault>, fault: Option<WaveFault>) -> Option<CliFault>
     }
 }
 
-/// Why a recording is refused, by the fault of the edges before the one at which time goes back.
+/// Why a recording is refused, by the first fault of its edges.
 fn refused_by(
     is_checked: bool,
     back: Option<usize>,
@@ -251,7 +196,7 @@ fn refused_by(
     ensures { result ≡ refused_by is_checked back own fault }
 {
     if is_checked {
-        refusal(own, fault_with(back, fault))
+        refusal(own, fault)
     } else {
         stop_at(back, own)
     }

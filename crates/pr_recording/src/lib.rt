@@ -7,8 +7,8 @@
 //! (`specs/Bytes.antt`). [`run_bytes_over`] writes those of a script's run (`specs/RunBytes.antt`).
 //!
 //! - `decode` reads block by block, and writes what a block settles before it reads the next.
-//!   `decode_report` takes the edges that pr_cli's `InputReader` gives up to where time goes back,
-//!   and hands each to a decoder and to pr_wire's follower, which says whether they are a lawful trace;
+//!   `decode_report` takes the edges that pr_cli's `InputReader` gives, and hands those up to where time goes
+//!   back to a decoder, and all to `judge`, which says whether they are a lawful trace, as `check` counts them;
 //!   `reading_log` has the lines that are not written yet, and a survey of all readings. `checked` does the
 //!   same in JSON, and refuses a trace that is not lawful ([`check_json_over`], `specs/Checked.antt`).
 //! - `pages` has the same loop, with `capture_printer` in the report's place: it prints what the decoder
@@ -33,6 +33,7 @@ mod decode_report;
 mod device_capture;
 mod device_log;
 mod frame;
+mod judge;
 mod laws;
 mod pages;
 mod printer_pair;

@@ -8,12 +8,12 @@ pub returns-then-is_some : goal.returns-then-is_some
 returns-then-is_some c =
     let some : is_some c.stop_at.result ≡ true = search rules in
     let ended : Ended = record { lines = c.into_lines-lines.result; refused = c.refused_by-refused.result } in
-    ends_told c.readings_add_up.ensures.given c.args.is_checked c.args.self c.args.own c.stop_at.result c.err-fault.result ended c.stop_at.ensures some c.refused_by-refused.ensures
-    (λ es k. c.err-fault.ensures.value ∙ c.finish.ensures.fault es k.0 k.1) c.into_lines-lines.ensures
+    ends_told c.readings_add_up.ensures.given c.args.is_checked c.args.self c.args.own c.stop_at.result c.finish-fault.result ended c.stop_at.ensures some c.refused_by-refused.ensures
+    c.finish-fault.ensures c.into_lines-lines.ensures
 
 pub returns : goal.returns
 returns c =
     let none : is_some c.stop_at.result ≡ false = search rules in
     let ended : Ended = record { lines = c.in_ok-lines.lines; refused = c.refused_by-refused.result } in
-    ends_whole c.args.is_checked c.args.self c.args.own c.finish-cut.result c.push_if.new.self c.err-fault.result ended (sym c.stop_at.ensures ∙ not_some c.stop_at.result none) c.refused_by-refused.ensures c.finish-cut.ensures.read
-    (λ es k. c.err-fault.ensures.value ∙ c.finish.ensures.fault es k.0 k.1) c.in_ok-push_if.ensures.accounted c.in_ok-lines.ensures
+    ends_whole c.args.is_checked c.args.self c.args.own c.finish-cut.result c.push_if.new.self c.finish-fault.result ended (sym c.stop_at.ensures ∙ not_some c.stop_at.result none) c.refused_by-refused.ensures c.finish-cut.ensures.read
+    c.finish-fault.ensures c.in_ok-push_if.ensures.accounted c.in_ok-lines.ensures
