@@ -115,6 +115,12 @@ abbrev pub read : {A : Type 0} → ValueOption → (Text → Option A) → JobFa
     → Result A JobFault
 read option meaning bad rows = ok_or (meaning (value_in option rows)) bad
 
+-- the same of an option that words may leave out
+abbrev pub read_if_given : {A : Type 0} → ValueOption → (Text → Option A) → JobFault → List Row
+    → Result (Option A) JobFault
+read_if_given option meaning bad rows =
+    if is_given option.name rows then (read option meaning bad rows >>= λ value. Ok (Some value)) else Ok None
+
 -- how a script is to be run
 abbrev pub wanted_run : List Row → Result RunView JobFault
 wanted_run rows =
@@ -157,8 +163,8 @@ wanted_input source rows =
 -- what of the pages is shown
 abbrev pub wanted_part : List Row → Result Part JobFault
 wanted_part rows =
-    read option.device device_of fault.BadDevice rows >>= λ device.
-    read option.sheet sheet_of fault.BadSheet rows >>= λ sheet.
+    read_if_given option.device device_of fault.BadDevice rows >>= λ device.
+    read_if_given option.sheet sheet_of fault.BadSheet rows >>= λ sheet.
     Ok (record { device = device; sheet = sheet })
 
 -- pages in this format are drawn

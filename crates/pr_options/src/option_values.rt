@@ -137,27 +137,21 @@ pub fn read_given_rate(text: &str) -> Option<Option<u64>>
     }
 }
 
-/// The printer whose pages are drawn, or whose bytes are written: `4` or `5`, or nothing for none (profile). None for
-/// any other text.
-pub fn read_device(text: &str) -> Option<Option<Device>>
+/// The printer whose pages are drawn, or whose bytes are written: `4` or `5` (profile). None for any other text.
+pub fn read_device(text: &str) -> Option<Device>
     ensures { result ≡ device_of text.now }
 {
     match text {
-        "" => Some(None),
-        "4" => Some(Some(Device::Four)),
-        "5" => Some(Some(Device::Five)),
+        "4" => Some(Device::Four),
+        "5" => Some(Device::Five),
         _ => None,
     }
 }
 
-/// The sheet that is drawn: decimal digits that spell a number from 1, below 2^64, or nothing for none
-/// (profile). None for any other text.
-pub fn read_sheet(text: &str) -> Option<Option<u64>>
+/// The sheet that is drawn: decimal digits that spell a number from 1, below 2^64 (profile). None for any other text.
+pub fn read_sheet(text: &str) -> Option<u64>
     ensures { result ≡ sheet_of text.now }
 {
-    if text.is_empty() {
-        return Some(None);
-    }
     match read_start(text) {
         Some(n) => sheet_numbered(n),
         None => None,
@@ -165,10 +159,10 @@ pub fn read_sheet(text: &str) -> Option<Option<u64>>
 }
 
 /// The sheet of a number; sheets count from 1.
-fn sheet_numbered(n: u64) -> Option<Option<u64>>
+fn sheet_numbered(n: u64) -> Option<u64>
     ensures { result ≡ sheet_numbered n }
 {
-    if n == 0 { None } else { Some(Some(n)) }
+    if n == 0 { None } else { Some(n) }
 }
 
 /// The format of a run's trace: `text` or `vcd` (profile). None for any other text.
