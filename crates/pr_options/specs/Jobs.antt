@@ -1,5 +1,5 @@
 -- Trusted: the job that a command line asks for, with clap's reading of the words.
-use Rattle.std.specs.Prelude.{◌≡◌, ◌≢◌, ◌||◌, ⊤, ℕ, Bool, true, false, not, List, Option, Some, None, Result, Ok, Err, [], codes, is_none, is_some, ok_or, option_map, unwrap_or, if◌then◌else◌}
+use Rattle.std.specs.Prelude.{◌≡◌, ◌≢◌, ◌||◌, ⊤, ℕ, Bool, true, false, List, Option, Some, None, Result, Ok, Err, [], codes, is_none, is_some, ok_or, option_map, unwrap_or, if◌then◌else◌}
 use Rattle.std.specs.Str.{bytes_eq}
 use Rattle.clap.specs.Words.{IsAmong, Row, Text, fault_of, first_of, kind_of, subcommand_of, takes}
 use Rattle.clap.specs.declared.error.kind.ErrorKind.TheVariants.{OutOfMemory}
@@ -60,8 +60,8 @@ pub data JobView : Type 0 where
   Decode : Bool → InputView → DecodeOutput → JobView
   Raw : Bool → Format → JobView
 
--- a job, how long before its recording's own moment 0 the trace starts, if it does, the file that it reads, the file that it
--- writes and the one of the characters that it draws, where words name them
+-- a job, how long before its recording's own moment 0 the trace starts, if it does, the file that it reads, the file
+-- that it writes and the one of the characters that it draws, where words name them
 pub record TaskView : Type 0 where
   pub job : JobView
   pub before : Option ℕ

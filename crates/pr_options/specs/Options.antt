@@ -117,8 +117,8 @@ is_back text = length (before_first (λ b. b == 45) text) == 0
 abbrev pub before_of : Text → Option ℕ
 before_of text = if is_back text then start_of (after_first (λ b. b == 45) text) else None
 
--- the moment of a recording at which a trace starts: a number as above, or a minus and such a number; for the latter it is
--- 0, the recording's first moment, until that of its own moment 0 is known
+-- the moment of a recording at which a trace starts: a number as above, or a minus and such a number; for the latter
+-- it is 0, the recording's first moment, until that of its own moment 0 is known
 abbrev pub from_time_of : Text → Option ℕ
 from_time_of text = if is_back text then option_map (λ n. 0) (before_of text) else start_of text
 

@@ -301,8 +301,9 @@ pub fn read_start(text: &str) -> Option<u64>
     text.parse().ok()
 }
 
-/// The moment of a recording at which its trace starts, in microseconds: as [`read_start`], or a minus and such a number,
-/// for which it is 0, the recording's first moment, until its own moment 0 is known (profile). None for any other text.
+/// The moment of a recording at which its trace starts, in microseconds: as [`read_start`], or a minus and such a
+/// number, for which it is 0, the recording's first moment, until its own moment 0 is known (profile). None for any
+/// other text.
 pub fn read_from_time(text: &str) -> Option<u64>
     ensures { result ≡ from_time_of text.now }
 {
