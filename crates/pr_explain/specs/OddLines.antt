@@ -1,4 +1,5 @@
--- Trusted: what the explanation of a recording says of where its trace begins, and of what is odd about it. Below come linking words, for proofs.
+-- Trusted: what the explanation of a recording says of where its trace begins, and of what is odd about it. Below come
+-- linking words, for proofs.
 use Rattle.std.specs.Prelude.{◌≡◌, ℕ, List, [], ◌∷◌, Option, Some, None}
 use Rattle.std.specs.List.{list_any}
 use Rattle.pr_wire.specs.declared.Edge.{Edge}

@@ -5,7 +5,8 @@ ghost use Rattle.pr_cli.specs.Report.{IsOwnFault};
 ghost use Rattle.pr_explain.specs.TracePlaces.{capture_line, fault_line};
 
 use crate::names::{
-    first_field, is_number, push_dump_names, push_same_names, push_table_names, separator_of,
+    first_field, has_units, is_number, push_dump_names, push_same_names, push_table_names,
+    separator_of,
 };
 use crate::texts::{Cut, line_with, without_end};
 use pr_capture::{CaptureFault, Signals, Source, TraceInput, Wire};
@@ -22,6 +23,10 @@ const LIKE_SIGROK: &str =
 
 /// What a message says of a line with a separator of fields.
 const LIKE_TABLE: &str = "this looks like a table: use --from csv";
+
+/// What a message says of a table in which sigrok-cli calls each signal `logic`.
+const UNITS: &str =
+    "sigrok-cli writes units in place of names: write the table with -O csv:label=channel";
 
 /// What a message says of text of 16 bits a letter.
 const WIDE: &str = "this is UTF-16 text: save the recording as UTF-8 text";
@@ -176,6 +181,9 @@ fn push_columns(
             "  expected column names such as Time,ATN,CLOCK,DATA before the rows, found a number\n"
         );
     }
+    if has_units(separator, line) {
+        return write!(text, "  {UNITS}\n");
+    }
     push_missing(text, wire, signals)?;
     push_table_names(text, separator, line)
 }
@@ -218,7 +226,8 @@ fn rule_of_tables(fault: CaptureFault) -> &'static str {
 fn rule_of_times(line: &[u8]) -> &'static str {
     let name = first_field(separator_of(line).unwrap_or(b','), line);
     if is_time_alone(name) {
-        "sigrok-cli writes 0 for all of these times: give the sample rate with --rate, such as --rate 4M"
+        "sigrok-cli writes 0 for all of these times: give the sample rate with --rate, such as --rate 4M, \
+         unless dedup=true left out rows"
     } else {
         "expected a first column of times, such as Time [s] or microseconds; for a table without times \
          give the sample rate with --rate, such as --rate 4M, or in a remark such as \

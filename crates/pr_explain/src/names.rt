@@ -150,6 +150,24 @@ pub fn push_table_names(text: &mut String, separator: u8, line: &[u8]) -> Result
     push_names_end(text, count, "no named signal")
 }
 
+/// Whether two columns of a table are called `logic`, by the line of their names: sigrok-cli writes this unit
+/// where it is not asked for the names of channels.
+pub fn has_units(separator: u8, line: &[u8]) -> bool {
+    let mut has_one = false;
+    let mut rest = line;
+    while !rest.is_empty() {
+        let (field, more) = split_field(separator, rest);
+        rest = more;
+        if unframed(field) == b"logic".as_slice() {
+            if has_one {
+                return true;
+            }
+            has_one = true;
+        }
+    }
+    false
+}
+
 /// The first field of a line, without what is around it.
 pub fn first_field(separator: u8, line: &[u8]) -> &[u8] {
     let (field, _) = split_field(separator, line);

@@ -23,10 +23,10 @@ use std::alloc::Global;
 /// What there is to say of a recording that is checked.
 #[derive(Debug, Drop)]
 pub struct Remarks {
-    /// How many microseconds after the start asked for the three levels are first known, so that the trace begins there.
+    /// How many microseconds after the start asked for the three levels are first known: the trace begins there.
     pub later: u64,
-    /// The last lines of `decode`'s report: no byte is acknowledged, attention never comes, a line rests at 0, and what to
-    /// try. There are none where nothing is odd, and where the recording cannot be read to its end.
+    /// The last lines of `decode`'s report: no byte is acknowledged, attention never comes, a line rests at 0, and
+    /// what to try. There are none where nothing is odd, and where the recording cannot be read to its end.
     pub oddities: Vec<u8>,
 }
 

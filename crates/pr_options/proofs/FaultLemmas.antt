@@ -12,8 +12,8 @@ use Rattle.pr_render.specs.declared.format.Format.{Format}
 use Rattle.pr_render.specs.declared.format.Format.TheVariants as format
 use Rattle.pr_options.specs.CommandLine.{print1525}
 use Rattle.pr_options.specs.DelayLists.{delays_of}
-use Rattle.pr_options.specs.Given.{file_in, value_in}
-use Rattle.pr_options.specs.Jobs.{◌>>=◌, IsRefused, JobView, RunView, TaskView, asked, decode_output, fitting, heard, is_picture, pages_output, read, shown, unless_found, unmeasured, wanted, wanted_bus, wanted_check, wanted_decode, wanted_detail, wanted_input, wanted_pages, wanted_part, wanted_raw, wanted_run, wanted_task, wants_readings, wants_recording, wants_table}
+use Rattle.pr_options.specs.Given.{file_in, is_given, value_in}
+use Rattle.pr_options.specs.Jobs.{◌>>=◌, IsRefused, JobView, RunView, TaskView, asked, decode_output, fitting, heard, is_picture, pages_output, read, read_if_given, shown, unless_found, unmeasured, wanted, wanted_bus, wanted_check, wanted_decode, wanted_detail, wanted_input, wanted_pages, wanted_part, wanted_raw, wanted_run, wanted_task, wants_readings, wants_recording, wants_table}
 use Rattle.pr_options.specs.OptionNames.{ValueOption}
 use Rattle.pr_options.specs.OptionNames as option
 use Rattle.pr_options.specs.Options.{before_of, bounds_of, decode_output_of, device_of, form_of, format_of, from_time_of, mode_of, pages_output_of, present_of, rate_of, reading_source_of, report_of, set_of, sheet_of, source_of, trace_format_of}
@@ -63,6 +63,13 @@ if_no_line : {A : Type 0} (b : Bool) (r s : Result A JobFault) → NoLine r → 
 if_no_line true r s h k = h
 if_no_line false r s h k = k
 
+-- none of a value that is read where words give it, and of what follows it
+given_no_line : {A B : Type 0} (o : ValueOption) (meaning : Text → Option A) (bad : JobFault) (rows : List Row) (next : Option A → Result B JobFault)
+    → ¬ IsLine bad → ((x : Option A) → NoLine (next x)) → NoLine (read_if_given o meaning bad rows >>= next)
+given_no_line o meaning bad rows next h k =
+    then_no_line (read_if_given o meaning bad rows) next
+    (if_no_line (is_given o.name rows) _ _ (read_no_line o meaning bad rows _ h (λ x. tt)) tt) k
+
 -- none of how a script is run
 run_no_line : (rows : List Row) → NoLine (wanted_run rows)
 run_no_line rows =
@@ -92,8 +99,8 @@ shows_no_line (Some x) next k = k x
 -- none of what of the pages is shown
 part_no_line : (rows : List Row) → NoLine (wanted_part rows)
 part_no_line rows =
-    read_no_line option.device device_of fault.BadDevice rows _ (λ h. h) (λ device.
-    read_no_line option.sheet sheet_of fault.BadSheet rows _ (λ h. h) (λ sheet. tt))
+    given_no_line option.device device_of fault.BadDevice rows _ (λ h. h) (λ device.
+    given_no_line option.sheet sheet_of fault.BadSheet rows _ (λ h. h) (λ sheet. tt))
 
 shown_no_line : (format : Format) (rows : List Row) → NoLine (shown format rows)
 shown_no_line format rows =

@@ -1,5 +1,5 @@
 -- Trusted: the job that a command line asks for, with clap's reading of the words.
-use Rattle.std.specs.Prelude.{◌≡◌, ◌≢◌, ◌||◌, ⊤, ℕ, Bool, true, false, not, List, Option, Some, None, Result, Ok, Err, [], codes, is_none, is_some, ok_or, option_map, unwrap_or, if◌then◌else◌}
+use Rattle.std.specs.Prelude.{◌≡◌, ◌≢◌, ◌||◌, ⊤, ℕ, Bool, true, false, List, Option, Some, None, Result, Ok, Err, [], codes, is_none, is_some, ok_or, option_map, unwrap_or, if◌then◌else◌}
 use Rattle.std.specs.Str.{bytes_eq}
 use Rattle.clap.specs.Words.{IsAmong, Row, Text, fault_of, first_of, kind_of, subcommand_of, takes}
 use Rattle.clap.specs.declared.error.kind.ErrorKind.TheVariants.{OutOfMemory}
@@ -60,8 +60,8 @@ pub data JobView : Type 0 where
   Decode : Bool → InputView → DecodeOutput → JobView
   Raw : Bool → Format → JobView
 
--- a job, how long before its recording's own moment 0 the trace starts, if it does, the file that it reads, the file that it
--- writes and the one of the characters that it draws, where words name them
+-- a job, how long before its recording's own moment 0 the trace starts, if it does, the file that it reads, the file
+-- that it writes and the one of the characters that it draws, where words name them
 pub record TaskView : Type 0 where
   pub job : JobView
   pub before : Option ℕ
@@ -115,6 +115,12 @@ abbrev pub read : {A : Type 0} → ValueOption → (Text → Option A) → JobFa
     → Result A JobFault
 read option meaning bad rows = ok_or (meaning (value_in option rows)) bad
 
+-- the same of an option that words may leave out
+abbrev pub read_if_given : {A : Type 0} → ValueOption → (Text → Option A) → JobFault → List Row
+    → Result (Option A) JobFault
+read_if_given option meaning bad rows =
+    if is_given option.name rows then (read option meaning bad rows >>= λ value. Ok (Some value)) else Ok None
+
 -- how a script is to be run
 abbrev pub wanted_run : List Row → Result RunView JobFault
 wanted_run rows =
@@ -157,8 +163,8 @@ wanted_input source rows =
 -- what of the pages is shown
 abbrev pub wanted_part : List Row → Result Part JobFault
 wanted_part rows =
-    read option.device device_of fault.BadDevice rows >>= λ device.
-    read option.sheet sheet_of fault.BadSheet rows >>= λ sheet.
+    read_if_given option.device device_of fault.BadDevice rows >>= λ device.
+    read_if_given option.sheet sheet_of fault.BadSheet rows >>= λ sheet.
     Ok (record { device = device; sheet = sheet })
 
 -- pages in this format are drawn

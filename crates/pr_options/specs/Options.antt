@@ -80,9 +80,9 @@ bounds_of = meaning_of ((codes "profile", Profile) ∷ (codes "guide", Guide) �
 abbrev pub rate_of : Text → Option (Option ℕ)
 rate_of text = if bytes_eq text (codes "none") then Some None else option_map (λ rate. Some rate) (rate_given text)
 
--- the printer whose pages are drawn, or whose bytes are written: 4 or 5, or nothing for none
-abbrev pub device_of : Text → Option (Option Device)
-device_of = meaning_of (([], None) ∷ (codes "4", Some device.Four) ∷ (codes "5", Some device.Five) ∷ [])
+-- the printer whose pages are drawn, or whose bytes are written: 4 or 5
+abbrev pub device_of : Text → Option Device
+device_of = meaning_of ((codes "4", device.Four) ∷ (codes "5", device.Five) ∷ [])
 
 -- the format of a run's trace: text or vcd
 abbrev pub trace_format_of : Text → Option TraceFormat
@@ -117,16 +117,15 @@ is_back text = length (before_first (λ b. b == 45) text) == 0
 abbrev pub before_of : Text → Option ℕ
 before_of text = if is_back text then start_of (after_first (λ b. b == 45) text) else None
 
--- the moment of a recording at which a trace starts: a number as above, or a minus and such a number; for the latter it is
--- 0, the recording's first moment, until that of its own moment 0 is known
+-- the moment of a recording at which a trace starts: a number as above, or a minus and such a number; for the latter
+-- it is 0, the recording's first moment, until that of its own moment 0 is known
 abbrev pub from_time_of : Text → Option ℕ
 from_time_of text = if is_back text then option_map (λ n. 0) (before_of text) else start_of text
 
 -- the sheet of a number; sheets count from 1
-abbrev pub sheet_numbered : ℕ → Option (Option ℕ)
-sheet_numbered n = if n == 0 then None else Some (Some n)
+abbrev pub sheet_numbered : ℕ → Option ℕ
+sheet_numbered n = if n == 0 then None else Some n
 
--- the sheet that is drawn: decimal digits that spell a number from 1, below 2^64, or nothing for none
-abbrev pub sheet_of : Text → Option (Option ℕ)
-sheet_of text =
-    if length text == 0 then Some None else option_and_then sheet_numbered (start_of text)
+-- the sheet that is drawn: decimal digits that spell a number from 1, below 2^64
+abbrev pub sheet_of : Text → Option ℕ
+sheet_of text = option_and_then sheet_numbered (start_of text)

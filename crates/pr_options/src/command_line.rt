@@ -81,8 +81,8 @@ pub struct Task<'a> {
     pub input: Option<&'a str>,
     /// The name of the file that is written; None where standard output is.
     pub output: Option<&'a str>,
-    /// The name of the file that has the shapes of characters; None where the project's own are drawn. Only a job that draws
-    /// characters has one.
+    /// The name of the file that has the shapes of characters; None where the project's own are drawn. Only a job that
+    /// draws characters has one.
     pub characters: Option<&'a str>,
 }
 

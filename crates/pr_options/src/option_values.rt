@@ -137,27 +137,21 @@ pub fn read_given_rate(text: &str) -> Option<Option<u64>>
     }
 }
 
-/// The printer whose pages are drawn, or whose bytes are written: `4` or `5`, or nothing for none (profile). None for
-/// any other text.
-pub fn read_device(text: &str) -> Option<Option<Device>>
+/// The printer whose pages are drawn, or whose bytes are written: `4` or `5` (profile). None for any other text.
+pub fn read_device(text: &str) -> Option<Device>
     ensures { result ≡ device_of text.now }
 {
     match text {
-        "" => Some(None),
-        "4" => Some(Some(Device::Four)),
-        "5" => Some(Some(Device::Five)),
+        "4" => Some(Device::Four),
+        "5" => Some(Device::Five),
         _ => None,
     }
 }
 
-/// The sheet that is drawn: decimal digits that spell a number from 1, below 2^64, or nothing for none
-/// (profile). None for any other text.
-pub fn read_sheet(text: &str) -> Option<Option<u64>>
+/// The sheet that is drawn: decimal digits that spell a number from 1, below 2^64 (profile). None for any other text.
+pub fn read_sheet(text: &str) -> Option<u64>
     ensures { result ≡ sheet_of text.now }
 {
-    if text.is_empty() {
-        return Some(None);
-    }
     match read_start(text) {
         Some(n) => sheet_numbered(n),
         None => None,
@@ -165,10 +159,10 @@ pub fn read_sheet(text: &str) -> Option<Option<u64>>
 }
 
 /// The sheet of a number; sheets count from 1.
-fn sheet_numbered(n: u64) -> Option<Option<u64>>
+fn sheet_numbered(n: u64) -> Option<u64>
     ensures { result ≡ sheet_numbered n }
 {
-    if n == 0 { None } else { Some(Some(n)) }
+    if n == 0 { None } else { Some(n) }
 }
 
 /// The format of a run's trace: `text` or `vcd` (profile). None for any other text.
@@ -307,8 +301,9 @@ pub fn read_start(text: &str) -> Option<u64>
     text.parse().ok()
 }
 
-/// The moment of a recording at which its trace starts, in microseconds: as [`read_start`], or a minus and such a number,
-/// for which it is 0, the recording's first moment, until its own moment 0 is known (profile). None for any other text.
+/// The moment of a recording at which its trace starts, in microseconds: as [`read_start`], or a minus and such a
+/// number, for which it is 0, the recording's first moment, until its own moment 0 is known (profile). None for any
+/// other text.
 pub fn read_from_time(text: &str) -> Option<u64>
     ensures { result ≡ from_time_of text.now }
 {

@@ -459,10 +459,11 @@ pub const NAMES: ValueOption = ValueOption {
 
 /// What the values of [`FROM_TIME`] are.
 const FROM_TIME_HELP: &str = "The time of the recording at which the trace\n\
-     starts, a whole number below 2^64";
+     starts, a whole number below 2^64; =-500 is\n\
+     before the table's own moment 0";
 
 /// The values of [`FROM_TIME`] in a few words.
-pub const FROM_TIME_VALUES: &str = "a whole number below 2^64";
+pub const FROM_TIME_VALUES: &str = "a whole number below 2^64, also with a minus";
 
 pub const FROM_TIME: ValueOption = ValueOption {
     name: "from-time",
@@ -477,7 +478,7 @@ pub const FROM_TIME: ValueOption = ValueOption {
 /// What the values of [`RATE`] are.
 const RATE_HELP: &str = "The samples in a second of a table that has no\n\
      times: a whole number, also with k, M or G, or\n\
-     none, where the table's remarks say it";
+     none (its remarks say it)";
 
 /// The values of [`RATE`] in a few words.
 pub const RATE_VALUES: &str = "samples in a second, as in 4M, 500k or 1000000, or none";

@@ -7,7 +7,7 @@ ghost use Rattle.pr_bus.specs.DelaysLeft.{numbers_left};
 ghost use Rattle.pr_options.specs.DelayLists.{delays_of};
 ghost use Rattle.pr_options.specs.Given.{ending_value, file_in, has_ending, is_given, is_of_words, named, value_by_ending, value_in};
 ghost use Rattle.pr_options.specs.OptionNames as option;
-ghost use Rattle.pr_options.specs.Jobs.{decode_output, drawn, fitting, heard, is_picture, pages_output, read, shown, unless_found, unmeasured, wanted_detail, wanted_part, wants_readings, wants_recording, wants_table};
+ghost use Rattle.pr_options.specs.Jobs.{decode_output, drawn, fitting, heard, is_picture, pages_output, read, read_if_given, shown, unless_found, unmeasured, wanted_detail, wanted_part, wants_readings, wants_recording, wants_table};
 ghost use Rattle.pr_options.specs.Options.{before_of, bounds_of, decode_output_of, device_of, form_of, format_of, from_time_of, mode_of, pages_output_of, present_of, rate_of, reading_source_of, report_of, set_of, sheet_of, source_of, trace_format_of};
 ghost use Rattle.pr_options.specs.SignalNames.{names_of};
 ghost use Rattle.pr_options.specs.Steps.{IsFaultIn, signals_result};
@@ -215,18 +215,26 @@ fn part_in(options: &ArgMatches<'_>) -> Result<Part, JobFault>
     Ok(Part { device, sheet })
 }
 
-/// The printer whose pages are shown.
+/// The printer whose pages are shown, if words name one.
 fn device_in(options: &ArgMatches<'_>) -> Result<Option<Device>, JobFault>
-    ensures { result ≡ read option.device device_of JobFault.BadDevice (rows_of (found_of options.now)) }
+    ensures { result ≡ read_if_given option.device device_of JobFault.BadDevice (rows_of (found_of options.now)) }
 {
-    read_device(value_in(options, DEVICE)).ok_or(JobFault::BadDevice)
+    if !is_given(options, DEVICE.name) {
+        return Ok(None);
+    }
+    let device = read_device(value_in(options, DEVICE)).ok_or(JobFault::BadDevice)?;
+    Ok(Some(device))
 }
 
-/// The sheet that is shown.
+/// The sheet that is shown, if words name one.
 fn sheet_in(options: &ArgMatches<'_>) -> Result<Option<u64>, JobFault>
-    ensures { result ≡ read option.sheet sheet_of JobFault.BadSheet (rows_of (found_of options.now)) }
+    ensures { result ≡ read_if_given option.sheet sheet_of JobFault.BadSheet (rows_of (found_of options.now)) }
 {
-    read_sheet(value_in(options, SHEET)).ok_or(JobFault::BadSheet)
+    if !is_given(options, SHEET.name) {
+        return Ok(None);
+    }
+    let sheet = read_sheet(value_in(options, SHEET)).ok_or(JobFault::BadSheet)?;
+    Ok(Some(sheet))
 }
 
 /// The format of a run's trace.

@@ -389,7 +389,7 @@ fn rates_of_recordings(rt: HostRuntime) {
             Some(1_000_000),
         ),
         (
-            &["print1525", "check", "--from=csv", "--rate="],
+            &["print1525", "check", "--from=csv", "--rate=none"],
             Source::Csv,
             None,
         ),
@@ -405,6 +405,48 @@ fn refuses<'a>(rt: &(impl Abort + AllocGlobal), words: &'a [&'a str], wanted: &s
         Ok(_task) => assert!(rt; false, "{words:?}"),
         Err(fault) => tells(rt, &fault, wanted),
     }
+}
+
+/// An empty value is none that an option has.
+#[test]
+fn empty_values(rt: HostRuntime) {
+    const ROWS: [(&[&str], &str); 4] = [
+        (
+            &["print1525", "check", "--from=csv", "--rate="],
+            "bad --rate",
+        ),
+        (
+            &["print1525", "pages", "--as=svg", "--device="],
+            "bad --device",
+        ),
+        (
+            &["print1525", "raw", "--sheet", "", "--as=png"],
+            "bad --sheet",
+        ),
+        (&["print1525", "decode", "--from-time="], "bad --from-time"),
+    ];
+    for (words, wanted) in ROWS {
+        refuses(&rt, words, wanted);
+    }
+}
+
+/// How long before its own moment 0 words have a recording's trace start.
+fn before_of<'a>(alloc: Global, words: &'a [&'a str]) -> Option<u64> {
+    match read_task(alloc, words) {
+        Ok(task) => task.before,
+        Err(_fault) => None,
+    }
+}
+
+/// Starts before a recording's own moment 0.
+#[test]
+fn starts_before_moment_0(rt: HostRuntime) {
+    const BACK: [&str; 4] = ["print1525", "decode", "--from-time=-500", "a.csv"];
+    const ZERO: [&str; 3] = ["print1525", "decode", "--from-time=-0"];
+    const LATER: [&str; 4] = ["print1525", "check", "--from-time=500", "a.vcd"];
+    assert!(rt; before_of(rt.alloc(), &BACK) == Some(500));
+    assert!(rt; before_of(rt.alloc(), &ZERO) == Some(0));
+    assert!(rt; before_of(rt.alloc(), &LATER).is_none());
 }
 
 /// Options that do not go with what is read or written.
@@ -525,7 +567,8 @@ fn bad_values(rt: HostRuntime) {
     assert!(rt; JobFault::BadPageAs.good_values() == Some("list, text, svg, png, pdf or bytes"));
     assert!(rt; JobFault::BadRawAs.good_values() == Some("list, text, svg, png or pdf"));
     assert!(rt;
-        JobFault::BadRate.good_values() == Some("samples in a second, as in 4M, 500k or 1000000")
+        JobFault::BadRate.good_values()
+            == Some("samples in a second, as in 4M, 500k or 1000000, or none")
     );
     assert!(rt; JobFault::BadPresent.good_values().is_none());
 }
@@ -540,4 +583,9 @@ fn found_sources(rt: HostRuntime) {
     assert!(rt; found_source(Source::Text, b"\n; table") == Source::Csv);
     assert!(rt; found_source(Source::Text, b"Time,ATN\n") == Source::Csv);
     assert!(rt; found_source(Source::Csv, b"0 111") == Source::Csv);
+    assert!(rt; found_source(Source::Text, b"t;ATN") == Source::Csv);
+    assert!(rt; found_source(Source::Text, b"META samplerate: 1\n$date") == Source::Vcd);
+    assert!(rt; found_source(Source::Text, b"META samplerate: 1\nATN") == Source::Csv);
+    assert!(rt; found_source(Source::Text, &[254, 255, 0, b't']) == Source::Csv);
+    assert!(rt; found_source(Source::Text, &[b'P', b'K', 3, 4]) == Source::Csv);
 }

@@ -1,5 +1,5 @@
 use Rattle.std.proofs.Common.{ap₂, refl, ◌∙◌}
-use Rattle.clap.specs.Words.{app_of, with_rule}
+use Rattle.clap.specs.Words.{with_rule}
 use Rattle.pr_options.proofs.clap_command.with_part.Goals as goal
 
 pub returns-clause-app : goal.returns-clause-app

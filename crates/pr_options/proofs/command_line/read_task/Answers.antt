@@ -1,6 +1,5 @@
 use Rattle.std.proofs.Common.{◌≡◌, ◌⊎◌, ap, ◌∙◌, map, subst, IfErr, IfOk, Some, Ok, Err}
-use Rattle.clap.specs.Words.{App, subcommand_of, subcommand_rows_of, takes}
-use Rattle.pr_options.specs.CommandLine.{print1525}
+use Rattle.clap.specs.Words.{App, takes}
 use Rattle.pr_options.specs.Jobs.{task_view}
 use Rattle.pr_options.specs.Steps.{Met, wanted_of}
 use Rattle.pr_options.specs.declared.command_line.JobFault.TheVariants as fault
