@@ -5,3 +5,4 @@ pub mod StrictReceivers
 pub mod DecodersStored
 pub mod Decoded
 pub mod Receivers
+pub mod Printers

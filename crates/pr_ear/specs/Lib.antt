@@ -8,3 +8,6 @@ pub mod ReceiverLeft
 pub mod Numbers
 pub mod Taken
 pub mod Strict
+pub mod PrinterNumbers
+pub mod Printing
+pub mod PrintingSteps

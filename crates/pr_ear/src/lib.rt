@@ -30,6 +30,8 @@ ghost use Rattle.pr_ear.specs.declared.Told.TheVariants.{Unlawful};
 mod decoder_numbers;
 mod decoding;
 mod numbers;
+mod printer_numbers;
+mod printing;
 mod receiving;
 mod standing;
 mod strict;
@@ -43,6 +45,11 @@ pub use numbers::{PlaceNumbers, StrictReceiver, standings_come_back};
 use pr_page::Input;
 use pr_receiver::{Receiver, inputs_add_up, traces_give_what_is_heard};
 use pr_wire::{Edge, Levels, WaveFault, allowed_traces, lawful_traces};
+pub use printer_numbers::{WireMark, WirePrinter, printers_come_back};
+pub use printing::{
+    Printed, Run, print_byte, print_bytes, print1525_printer_begin, print1525_printer_byte,
+    print1525_printer_bytes, print1525_printer_select, printers_print_pages, select_set,
+};
 pub use receiving::{
     Received, WireReceived, WireReceiver, begin_receiver, print1525_receiver_begin,
     print1525_receiver_edge, receive_edge, receivers_hear_what_is_printed,
