@@ -6,3 +6,4 @@ pub mod DecodersStored
 pub mod Decoded
 pub mod Receivers
 pub mod Printers
+pub mod Inked

@@ -141,24 +141,25 @@ pub bytes-more : (inputs : List Input) (marks made : List MarkOnPaper) (bytes : 
     i < length bytes → length inputs + length bytes < 2 ^ 58 →
     HasPrinted (inputs ++ map Byte (take i bytes)) (marks ++ made) w → IsLaid made first out → n ≡ length made →
     ((inputs : List Input) (marks laid : List MarkOnPaper) (first : List WireMark) → length inputs < 2 ^ 58 → HasPrinted inputs marks w → n ≡ length laid → IsLaid laid first out →
-        IsPrintedAt inputs marks laid first (get_or bytes i d) (Marks count) w w' out out') →
+    IsPrintedAt inputs marks laid first (get_or bytes i d) (Marks count) w w' out out') →
     (made : List MarkOnPaper) × HasPrinted (inputs ++ map Byte (take (i + 1) bytes)) (marks ++ made) w' × IsLaid made first out' × (n + count ≡ length made)
 bytes-more inputs marks made bytes i d n count w w' first out out' inside few h laid at prints =
     let within : i ≤ length bytes = omega (arith, inside) in
     let next = prints (inputs ++ map Byte (take i bytes)) (marks ++ made) made first (few-inputs inputs bytes i within few) h at laid in
-    let total = length-append made next.0 in
-    (made ++ next.0,
-    subst (λ inputs. HasPrinted inputs (marks ++ (made ++ next.0)) w') (next-bytes inputs bytes i d inside)
-    (subst (λ marks. HasPrinted ((inputs ++ map Byte (take i bytes)) ++ Byte (get_or bytes i d) ∷ []) marks w') (append_assoc marks made next.0) next.1),
-    next.2,
-    omega (arith, at, next.3, total))
+    let total = length-append made next.0 in (
+      made ++ next.0,
+      subst (λ inputs. HasPrinted inputs (marks ++ (made ++ next.0)) w') (next-bytes inputs bytes i d inside)
+          (subst (λ marks. HasPrinted ((inputs ++ map Byte (take i bytes)) ++ Byte (get_or bytes i d) ∷ []) marks w') (append_assoc marks made next.0) next.1),
+      next.2,
+      omega (arith, at, next.3, total),
+    )
 
 -- a byte more has no room
 pub bytes-stop : (inputs : List Input) (marks made : List MarkOnPaper) (bytes : List ℕ) (i d count : ℕ) (run : Run) (w w' : WirePrinter) (first out out' : List WireMark) →
     i < length bytes → length inputs + length bytes < 2 ^ 58 → run.taken ≡ i →
     HasPrinted (inputs ++ map Byte (take i bytes)) (marks ++ made) w → IsLaid made first out → run.marks ≡ length made →
     ((inputs : List Input) (marks laid : List MarkOnPaper) (first : List WireMark) → length inputs < 2 ^ 58 → HasPrinted inputs marks w → run.marks ≡ length laid → IsLaid laid first out →
-        IsPrintedAt inputs marks laid first (get_or bytes i d) (TooSmall count) w w' out out') →
+    IsPrintedAt inputs marks laid first (get_or bytes i d) (TooSmall count) w w' out out') →
     ArePrinted inputs marks bytes run w' first out'
 bytes-stop inputs marks made bytes i d count run w w' first out out' inside few taken h laid at prints =
     let within : i ≤ length bytes = omega (arith, inside) in
@@ -170,7 +171,7 @@ bytes-stop inputs marks made bytes i d count run w w' first out out' inside few 
       made = made;
       few = omega (arith, taken, inside);
       printed = subst (λ w. HasPrinted (inputs ++ map Byte (take run.taken bytes)) (marks ++ made) w) (sym next.4)
-      (subst (λ i. HasPrinted (inputs ++ map Byte (take i bytes)) (marks ++ made) w) (sym taken) h);
+          (subst (λ i. HasPrinted (inputs ++ map Byte (take i bytes)) (marks ++ made) w) (sym taken) h);
       laid = subst (λ out. IsLaid made first out) (sym next.5) laid;
       count = at;
       most = λ ne. (

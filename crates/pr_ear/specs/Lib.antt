@@ -11,3 +11,5 @@ pub mod Strict
 pub mod PrinterNumbers
 pub mod Printing
 pub mod PrintingSteps
+pub mod Drawing
+pub mod Inking

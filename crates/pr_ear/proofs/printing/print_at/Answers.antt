@@ -28,7 +28,7 @@ returns-clause-printed c =
     λ inputs marks laid first few h at is_laid. (
       marks_made c.take-made.result,
       printed-more inputs marks (Byte c.args.byte) c.args.printer.now c.store.result c.restore-head.result c.take-made.new.self
-      (marks_made c.take-made.result) few h c.restore-head.ensures.value c.store.ensures c.take-made.ensures.made,
+          (marks_made c.take-made.result) few h c.restore-head.ensures.value c.store.ensures c.take-made.ensures.made,
       c.put.ensures.laid laid first at is_laid,
       count,
     )

@@ -12,10 +12,10 @@ loop-index-preserved c =
     let inside : i < length made = omega (arith, c.loop-index-test.true, c.len-index-end.ensures) in
     let room : c.args.at + length made ≤ length c.loop-index.out = omega (arith, c.requires.room, c.loop-index.auto.out) in
     λ marks first at laid.
-        let before = c.loop-index.invariant marks first at laid in
-        elim c.match-get.branch [
-          | in-Some w ↦
-              subst (λ out. IsLaid (marks ++ take (i + 1) made) first out) (sym w.out-is)
-              (laid-next marks made first _ c.args.at i _ _ _ at room (sym c.get.ensures ∙ w.in-Some.is) (ap (λ n. c.args.at + n) w.from.ensures) w.numbers_of_mark.ensures before)
-          | in_default w ↦ absurd (no_mark made i inside (sym c.get.ensures ∙ w.in_default.is))
-        ]
+    let before = c.loop-index.invariant marks first at laid in
+    elim c.match-get.branch [
+      | in-Some w ↦
+          subst (λ out. IsLaid (marks ++ take (i + 1) made) first out) (sym w.out-is)
+          (laid-next marks made first _ c.args.at i _ _ _ at room (sym c.get.ensures ∙ w.in-Some.is) (ap (λ n. c.args.at + n) w.from.ensures) w.numbers_of_mark.ensures before)
+      | in_default w ↦ absurd (no_mark made i inside (sym c.get.ensures ∙ w.in_default.is))
+    ]
