@@ -502,9 +502,9 @@ typedef struct {
     uint8_t wide;    /* 1: a cell of double width */
 } print1525_mark;
 
-/* A printer: what the library keeps of one between two bytes. It keeps no marks: the caller keeps those that it wants to
- * draw again. The numbers are the library's own, to be read; copy, save and load them freely, and each copy goes on by
- * itself. All numbers mean some printer: an `x` above 480 is 480, a `y` above 2^63 is 2^63, and a number that means
+/* A printer: what the library keeps of one between two bytes. It keeps no marks: the caller keeps those that it wants
+ * to draw again. The numbers are the library's own, to be read; copy, save and load them freely, and each copy goes on
+ * by itself. All numbers mean some printer: an `x` above 480 is 480, a `y` above 2^63 is 2^63, and a number that means
  * nothing is 0. */
 typedef struct {
     uint64_t y;           /* the line's distance from the top, in 1/126 inch: its marks have it too */
@@ -534,9 +534,9 @@ PRINT1525_CALL int print1525_printer_select(print1525_printer *printer, uint8_t 
  * print1525_print makes of the same inputs, row by row in order, and then those of the line that has not ended.
  *
  * Reads: a printer that was begun.
- * Gives: the marks, `length` of them, at the front of `marks`: none, one, or those of a repeat. `capacity` counts marks;
- * PRINT1525_MARKS_OF_A_BYTE are room enough for any byte. Where the line ends, the printer's `y` grows.
- * Refuses, with the printer and the marks as they were: NULL (80); and a buffer that is too small (82), with `length`. */
+ * Gives: the marks, `length` of them, at the front of `marks`: none, one, or those of a repeat. `capacity` counts
+ * marks; PRINT1525_MARKS_OF_A_BYTE have room for those of any byte. Where the line ends, the printer's `y` grows.
+ * Refuses: NULL (80). Where the buffer is too small (91) the byte is not taken, and the printer is as it was. */
 PRINT1525_CALL int print1525_printer_byte(print1525_printer *printer, uint8_t byte, print1525_mark *marks,
                                           size_t capacity, print1525_details *details);
 
@@ -544,14 +544,14 @@ PRINT1525_CALL int print1525_printer_byte(print1525_printer *printer, uint8_t by
  *
  * Reads: a printer that was begun.
  * Gives: in `taken` how many bytes it has taken; their marks, `length` of them, as print1525_printer_byte. Give it the
- * rest again, with an empty buffer: each call takes a byte at least where `capacity` is PRINT1525_MARKS_OF_A_BYTE or
+ * rest again once the marks are used: each call takes a byte at least where `capacity` is PRINT1525_MARKS_OF_A_BYTE or
  * more.
  * Refuses, with all as it was: NULL (80) and OVERLAP (81). */
 PRINT1525_CALL int print1525_printer_bytes(print1525_printer *printer, const void *bytes, size_t length, size_t *taken,
                                            print1525_mark *marks, size_t capacity, print1525_details *details);
 
-/* A region of the page in pixels, 120 to the inch across and 126 down, as in a PNG file: a dot is two by two, so the mark
- * (x, y) begins in column 2x of line y. The page is 960 columns wide, and a row 14 lines high. */
+/* A region of the page in pixels, 120 to the inch across and 126 down, as in a PNG file: a dot is two by two, so the
+ * mark (x, y) begins in column 2x of line y. The page is 960 columns wide, and a row 14 lines high. */
 typedef struct {
     uint64_t x;    /* the first column */
     uint64_t y;    /* the first line, from the top of the paper: sheet n, from 0, begins at 1386 n */
@@ -559,16 +559,21 @@ typedef struct {
     size_t height; /* how many lines */
 } print1525_region;
 
-/* Gives the pixels of a region of the page with some marks. A window that has drawn a page wants those of the rows that
- * have changed alone: only the marks of a row have dots in its 14 lines.
+/* Gives the pixels of a region of the page with some marks.
  *
  * Reads: marks, in any order; a region, also beyond the page.
- * Gives: `length` pixels, width * height, a byte each, line by line: 0 where a dot is, else 255. With all marks of a page
- * whose lines have ended they are the pixels of its PNG file. Characters are this project's own. `capacity` counts
+ * Gives: `length` pixels, width * height, a byte each, line by line: 0 where a dot is, else 255. With all marks of a
+ * page whose lines have ended they are the pixels of its PNG file. Characters are this project's own. `capacity` counts
  * pixels. It takes time for the marks and the pixels.
- * Refuses, with the pixels as they were: NULL (80) and OVERLAP (81); a region of 2^64 pixels or more (9); and a buffer
- * that is too small (82), with `length`. */
+ * Refuses: NULL (80), OVERLAP (81), and a region of 2^64 pixels or more (9). */
 PRINT1525_CALL int print1525_printer_page(const print1525_mark *marks, size_t length, const print1525_region *region,
+                                          uint8_t *pixels, size_t capacity, print1525_details *details);
+
+/* Draws marks over the pixels of a region: those where a dot is become 0, all others stay as they were. So a window
+ * draws the marks of each byte as they come, over a region that began with all pixels 255, and renders nothing again.
+ *
+ * Reads, gives and refuses: as print1525_printer_page. It takes time for the marks alone. */
+PRINT1525_CALL int print1525_printer_draw(const print1525_mark *marks, size_t length, const print1525_region *region,
                                           uint8_t *pixels, size_t capacity, print1525_details *details);
 
 /* ------------------------------------------------------------------------------------------------------------ */
@@ -655,6 +660,8 @@ void print1525_plain_printer_byte(print1525_printer *printer, uint8_t byte, prin
 void print1525_plain_printer_bytes(print1525_printer *printer, const uint8_t *bytes, size_t bytes_length,
                                    print1525_mark *marks, size_t capacity, print1525_plain_run *run);
 void print1525_plain_printer_page(const print1525_mark *marks, size_t marks_length, const print1525_region *region,
+                                  uint8_t *pixels, size_t capacity, print1525_plain_answer *answer);
+void print1525_plain_printer_draw(const print1525_mark *marks, size_t marks_length, const print1525_region *region,
                                   uint8_t *pixels, size_t capacity, print1525_plain_answer *answer);
 
 #ifdef __cplusplus
@@ -1105,8 +1112,10 @@ PRINT1525_CALL int print1525_printer_bytes(print1525_printer *printer, const voi
     return print1525_own_tell(details, PRINT1525_DONE, PRINT1525_FAULT_NONE, 0, 0, run.marks);
 }
 
-PRINT1525_CALL int print1525_printer_page(const print1525_mark *marks, size_t length, const print1525_region *region,
-                                          uint8_t *pixels, size_t capacity, print1525_details *details) {
+/* Marks as pixels, over those of the buffer or over paper. */
+PRINT1525_OWN int print1525_own_pixels(int over, const print1525_mark *marks, size_t length,
+                                       const print1525_region *region, uint8_t *pixels, size_t capacity,
+                                       print1525_details *details) {
     const int fault = print1525_own_refused(marks, length * sizeof *marks, pixels, capacity);
     print1525_region read;
     print1525_mark no_mark = {0, 0, 0, 0, 0, 0, 0};
@@ -1115,9 +1124,23 @@ PRINT1525_CALL int print1525_printer_page(const print1525_mark *marks, size_t le
     if (region == NULL) return print1525_own_refuse(details, PRINT1525_FAULT_NULL_POINTER);
     if (fault != PRINT1525_FAULT_NONE) return print1525_own_refuse(details, fault);
     read = *region;
-    print1525_plain_printer_page(marks == NULL ? &no_mark : marks, length, &read, pixels == NULL ? nothing : pixels,
-                                 capacity, &answer);
+    if (marks == NULL) marks = &no_mark;
+    if (pixels == NULL) pixels = nothing;
+    if (over)
+        print1525_plain_printer_draw(marks, length, &read, pixels, capacity, &answer);
+    else
+        print1525_plain_printer_page(marks, length, &read, pixels, capacity, &answer);
     return print1525_own_answer(details, answer);
+}
+
+PRINT1525_CALL int print1525_printer_page(const print1525_mark *marks, size_t length, const print1525_region *region,
+                                          uint8_t *pixels, size_t capacity, print1525_details *details) {
+    return print1525_own_pixels(0, marks, length, region, pixels, capacity, details);
+}
+
+PRINT1525_CALL int print1525_printer_draw(const print1525_mark *marks, size_t length, const print1525_region *region,
+                                          uint8_t *pixels, size_t capacity, print1525_details *details) {
+    return print1525_own_pixels(1, marks, length, region, pixels, capacity, details);
 }
 
 #ifdef __cplusplus
