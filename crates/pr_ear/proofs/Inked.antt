@@ -1,6 +1,6 @@
 -- Dots in the bitmap of a region.
 use Rattle.std.proofs.Common.{◌≡◌, ◌≢◌, ℕ, zero, suc, ◌+◌, ◌-◌, ◌*◌, ◌/◌, ◌%◌, ◌<◌, ◌≤◌, Bool, true, false, List, [], ◌∷◌, ◌++◌, length, drop, map, inl, inr, refl, sym, ap, ◌∙◌, arith, append-nil, length-append}
-use Rattle.std.specs.Prelude.{◌==◌, ◌&&◌, ◌||◌, flat_map, nat_le, nat_lt, replicate, slice_index_or, slice_set, if◌then◌else◌}
+use Rattle.std.specs.Prelude.{◌==◌, ◌&&◌, ◌||◌, flat_map, replicate, slice_index_or, slice_set, if◌then◌else◌}
 use Rattle.std.specs.List.{list_any, range_with_len}
 use Rattle.std.proofs.Math.Nat.{mul-le-mul_right, add-mul, mul_comm}
 use Rattle.std.proofs.Math.Seq.{drop-append_seam}
@@ -11,13 +11,12 @@ use Rattle.std.proofs.lemmas.List.{drop-set-lt, get_or-replicate, get_or-set_oth
 use Rattle.std.proofs.lemmas.List.Folds.{flat_map-map}
 use Rattle.std.proofs.lemmas.Nat.{div-mul-add, mod-mul-add}
 use Rattle.pr_page.specs.Marks.{in_row, marks_on}
-use Rattle.pr_page.specs.declared.carriage.MarkOnPaper.{MarkOnPaper}
 use Rattle.pr_page.specs.declared.paper.Paper.{Paper}
 use Rattle.pr_page.specs.declared.paper.Placed.{Placed}
 use Rattle.pr_page.specs.declared.paper.Row.{Row}
 use Rattle.pr_dots.specs.Dots.{Dot, bit_dots, dots_of, is_at, row_dots}
 use Rattle.pr_dots.specs.declared.character_sets.Shapes.{Shapes}
-use Rattle.pr_ear.specs.Drawing.{ShowsRegion, dots_of_marks, is_dark, mark_dots, paper, pixels_in}
+use Rattle.pr_ear.specs.Drawing.{ShowsRegion, dots_of_marks, mark_dots, paper, pixels_in}
 use Rattle.pr_ear.specs.Inking.{has_pixel, inked, inked_dot, inked_dots, place_in}
 use Rattle.pr_ear.specs.declared.drawing.Region.{Region}
 

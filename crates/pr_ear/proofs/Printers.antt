@@ -1,6 +1,6 @@
 -- A printer comes back from its numbers, and its marks are put into a buffer one after another.
-use Rattle.std.proofs.Common.{◌≡◌, ℕ, suc, inl, inr, ◌+◌, ◌*◌, ◌^◌, ◌<◌, ◌≤◌, Bool, true, false, List, [], ◌∷◌, ◌++◌, length, map, take, drop, get_or, add-one, Option, Some, None, refl, sym, ap, ◌∙◌, subst, arith, append_assoc, append-nil, length-append}
-use Rattle.std.specs.Prelude.{◌==◌, min, slice_get, slice_set}
+use Rattle.std.proofs.Common.{◌≡◌, ℕ, inl, inr, ◌+◌, ◌^◌, ◌<◌, ◌≤◌, Bool, true, false, List, [], ◌∷◌, ◌++◌, length, map, take, drop, get_or, add-one, Option, Some, None, refl, sym, ap, ◌∙◌, subst, arith, append_assoc, length-append}
+use Rattle.std.specs.Prelude.{min, slice_get, slice_set}
 use Rattle.std.proofs.Math.Seq.{set-append_seam, take-suc}
 use Rattle.std.proofs.lemmas.List.{drop_more, length-drop, length-map, length-take-le, map-append}
 use Rattle.std.proofs.lemmas.Option.{get_or_from_slice_get, none-some, slice_get_cases, slice_get_within}
@@ -14,7 +14,8 @@ use Rattle.pr_page.specs.declared.pending.Pending.{Pending}
 use Rattle.pr_page.specs.declared.pending.Pending.TheVariants.{Idle, ColumnCode, ColumnTens, RepeatCode, RepeatCount, EscapeCode, AddressCode, AddressHigh}
 use Rattle.pr_ear.specs.declared.printer_numbers.WireMark.{WireMark}
 use Rattle.pr_ear.specs.declared.printer_numbers.WirePrinter.{WirePrinter}
-use Rattle.pr_ear.specs.PrinterNumbers.{head_by, mark_numbers, override_by, override_number, parameter_of, pending_by, pending_number, stored}
+use Rattle.pr_ear.specs.MarkNumbers.{mark_numbers}
+use Rattle.pr_ear.specs.PrinterNumbers.{head_by, override_by, override_number, parameter_of, pending_by, pending_number, stored}
 use Rattle.pr_ear.specs.Printing.{ArePrinted, HasPrinted, IsLaid, IsPrinted, NextRowsAreAtPrinters, PrintersPrintPages}
 use Rattle.pr_ear.specs.PrintingSteps.{IsPrintedAt}
 use Rattle.pr_ear.specs.declared.printing.Printed.{Printed}

@@ -5,7 +5,7 @@ ghost use Rattle.pr_dots.specs.Dots.{bit_dots, column_dots};
 ghost use Rattle.pr_dots.specs.Shapes.{own_shapes};
 ghost use Rattle.pr_ear.specs.Drawing.{IsDrawn, MarksHaveThePagesDots, dots_of_marks, drawn_answer, mark_dots, paper, pixels_in};
 ghost use Rattle.pr_ear.specs.Inking.{HasRoom, has_pixel, inked, inked_dots, place_in};
-ghost use Rattle.pr_ear.specs.PrinterNumbers.{mark_by};
+ghost use Rattle.pr_ear.specs.MarkNumbers.{mark_by};
 ghost use Rattle.pr_ear.specs.declared.drawing.Drawn.{Drawn};
 
 use crate::printer_numbers::{WireMark, mark_for};

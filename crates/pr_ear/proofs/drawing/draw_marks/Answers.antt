@@ -1,6 +1,6 @@
 use Rattle.std.proofs.Common.{◌*◌, ◌≤◌, length, map, subst, arith}
 use Rattle.pr_ear.specs.Drawing.{ShowsRegion, dots_of_marks, pixels_in}
-use Rattle.pr_ear.specs.PrinterNumbers.{mark_by}
+use Rattle.pr_ear.specs.MarkNumbers.{mark_by}
 use Rattle.pr_ear.proofs.Inked.{shows-marks}
 use Rattle.pr_ear.proofs.drawing.draw_marks.Goals as goal
 

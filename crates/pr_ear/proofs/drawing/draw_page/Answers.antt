@@ -1,6 +1,6 @@
 use Rattle.std.proofs.Common.{map, subst}
 use Rattle.pr_ear.specs.Drawing.{ShowsRegion, dots_of_marks, paper}
-use Rattle.pr_ear.specs.PrinterNumbers.{mark_by}
+use Rattle.pr_ear.specs.MarkNumbers.{mark_by}
 use Rattle.pr_ear.proofs.Inked.{shows-page}
 use Rattle.pr_ear.proofs.drawing.draw_page.Goals as goal
 

@@ -1,7 +1,7 @@
 use Rattle.std.proofs.Common.{◌≡◌, drop, map}
 use Rattle.pr_ear.specs.Drawing.{dots_of_marks}
 use Rattle.pr_ear.specs.Inking.{inked_dots}
-use Rattle.pr_ear.specs.PrinterNumbers.{mark_by}
+use Rattle.pr_ear.specs.MarkNumbers.{mark_by}
 use Rattle.pr_ear.proofs.drawing.ink_marks.Given as goal
 
 -- the bitmap so far with the marks that are left is the bitmap with all marks

@@ -1,4 +1,4 @@
-use Rattle.std.proofs.Common.{◌≡◌, ◌++◌, ◌+◌, ◌<◌, [], ◌∷◌, length, refl, sym, ap, ◌∙◌, arith}
+use Rattle.std.proofs.Common.{◌≡◌, length, refl, ◌∙◌, arith}
 use Rattle.pr_page.specs.Marks.{marks_made}
 use Rattle.pr_page.specs.declared.input.Input.TheVariants.{Byte}
 use Rattle.pr_ear.specs.PrinterNumbers.{stored}

@@ -1,4 +1,4 @@
-use Rattle.std.proofs.Common.{◌≡◌, ◌+◌, ◌≤◌, ◌<◌, length, arith, ap}
+use Rattle.std.proofs.Common.{◌≡◌, ◌+◌, length, arith, ap}
 use Rattle.pr_ear.proofs.Printers.{bytes-all, bytes-more, bytes-stop}
 use Rattle.pr_ear.proofs.printing.print_bytes.Goals as goal
 

@@ -2,7 +2,6 @@ use Rattle.std.proofs.Common.{◌≡◌, ◌+◌, ◌^◌, ◌<◌, ◌≤◌, �
 use Rattle.pr_page.specs.declared.carriage.MarkOnPaper.{MarkOnPaper}
 use Rattle.pr_page.specs.declared.input.Input.{Input}
 use Rattle.pr_page.specs.declared.input.Input.TheVariants.{Byte}
-use Rattle.pr_ear.specs.declared.printer_numbers.WireMark.{WireMark}
 use Rattle.pr_ear.specs.Printing.{HasPrinted, IsLaid}
 use Rattle.pr_ear.proofs.printing.print_bytes.Given as goal
 

@@ -1,4 +1,4 @@
-use Rattle.std.proofs.Common.{◌≡◌, ◌++◌, ◌+◌, ◌<◌, ◌≤◌, length, take, sym, ap, ◌∙◌, subst, arith}
+use Rattle.std.proofs.Common.{◌++◌, ◌+◌, ◌<◌, ◌≤◌, length, take, sym, ap, ◌∙◌, subst, arith}
 use Rattle.pr_page.specs.Marks.{marks_made}
 use Rattle.pr_ear.specs.Printing.{IsLaid}
 use Rattle.pr_ear.proofs.Printers.{laid-next, no_mark}

@@ -1,4 +1,4 @@
-use Rattle.std.proofs.Common.{◌≡◌, ◌++◌, [], ◌∷◌, append-nil, refl, ap, ◌∙◌, subst}
+use Rattle.std.proofs.Common.{◌++◌, [], ◌∷◌, append-nil, refl, ap, ◌∙◌, subst}
 use Rattle.pr_page.specs.Marks.{marks_made}
 use Rattle.pr_page.specs.declared.input.Input.TheVariants.{Select}
 use Rattle.pr_ear.specs.Printing.{HasPrinted}
