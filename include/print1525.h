@@ -13,6 +13,9 @@
  *     print1525_receiver_..       what comes to a device on any bus, edge by edge
  *     print1525_strict_..         the same by this project's own timing alone, edge by edge, or in a list
  *
+ *     A printer that is watched; these calls take no memory
+ *     print1525_printer_..        the marks of each byte as it comes, and the pixels of a part of the page
+ *
  *     Words
  *     print1525_strerror          what a fault says, as the program says it
  *     print1525_message           the same with its place: `line 3, column 9: unknown name`
@@ -43,10 +46,10 @@
  *
  * WHAT A CALLER CARRIES.
  * - Threads: no call keeps any state, so several threads may make calls at once.
- * - Stack: a call for texts takes up to PRINT1525_STACK bytes of it, a call for edges or words 4096.
+ * - Stack: a call for texts takes up to PRINT1525_STACK bytes of it, every other call 4096.
  * - Memory: malloc, realloc and free of one allocator, aligned as C demands. Where they give none, a call fails with
  *   PRINT1525_FAULT_NO_MEMORY and has freed what it took.
- * - Signal handlers: the calls for edges and words, which take no memory, and no others.
+ * - Signal handlers: the calls for edges, watched printers and words, which take no memory, and no others.
  * - fork: a child may make calls where it may call malloc.
  * - No call touches files, streams, locales, the time or the state of floating point; errno only where malloc does.
  *
@@ -477,6 +480,102 @@ PRINT1525_CALL int print1525_strict_end(const print1525_strict *strict, print152
 PRINT1525_CALL int print1525_strict_edges(uint8_t device, const print1525_edge *edges, size_t length, uint16_t *inputs,
                                           size_t capacity, print1525_details *details);
 
+/* -------------------------------------------------------------------------------- printers that are watched -- */
+
+/* As many marks at most as a byte makes: the columns of dots of a repeat. */
+#define PRINT1525_MARKS_OF_A_BYTE 255
+
+/* `kind` of a mark. */
+enum print1525_mark_kind {
+    PRINT1525_CELL = 0, /* a character, 6 dots wide, or 12 if `wide` */
+    PRINT1525_DOTS = 1  /* a column of seven dots */
+};
+
+/* A mark on the paper. All numbers mean some mark: a `kind` that is not 1 is a cell, and a flag that is not 1 is 0. */
+typedef struct {
+    uint64_t y;      /* its row's distance from the top, in 1/126 inch */
+    uint16_t x;      /* the dot column at which it begins, 0 to 479, in 1/60 inch */
+    uint8_t kind;    /* one of enum print1525_mark_kind */
+    uint8_t value;   /* a cell's code; or the dots of a column, bit 0 at the top */
+    uint8_t lower;   /* 1: a cell of the lower/upper case set */
+    uint8_t reverse; /* 1: a cell white on black */
+    uint8_t wide;    /* 1: a cell of double width */
+} print1525_mark;
+
+/* A printer: what the library keeps of one between two bytes. It keeps no marks: the caller keeps those that it wants
+ * to draw again. The numbers are the library's own, to be read; copy, save and load them freely, and each copy goes on
+ * by itself. All numbers mean some printer: an `x` above 480 is 480, a `y` above 2^63 is 2^63, and a number that means
+ * nothing is 0. */
+typedef struct {
+    uint64_t y;           /* the line's distance from the top, in 1/126 inch: its marks have it too */
+    uint16_t x;           /* the dot column to which the next mark goes, at most 480 */
+    uint8_t graphic;      /* 1: graphic mode */
+    uint8_t wide;         /* 1: double width */
+    uint8_t reverse;      /* 1: reverse printing */
+    uint8_t override_set; /* which set overrides the selected one: 0 none, 1 graphic/upper case, 2 lower/upper case */
+    uint8_t lower;        /* 1: the lower/upper case set is selected */
+    uint8_t pending;      /* what has come of a command: 0 nothing, 1 code 16, 2 and its first digit, 3 code 26, 4 and
+                           * its count, 5 code 27, 6 and code 16, 7 and the first byte of the address */
+    uint8_t parameter;    /* with 2, 4 and 7 the parameter that has come */
+} print1525_printer;
+
+/* Begins a printer at dot 0 of the first line, in character mode, with the graphic/upper case set selected.
+ *
+ * Refuses: NULL. */
+PRINT1525_CALL int print1525_printer_begin(print1525_printer *printer);
+
+/* Selects a character set of a printer, one of enum print1525_set, as secondary addresses do (print1525_print). A
+ * selection makes no mark.
+ *
+ * Refuses, with the printer as it was: NULL, and any other set. */
+PRINT1525_CALL int print1525_printer_select(print1525_printer *printer, uint8_t set);
+
+/* Gives a printer a byte, and answers with the marks that it makes. All marks so far are those of the page that
+ * print1525_print makes of the same inputs, row by row in order, and then those of the line that has not ended.
+ *
+ * Reads: a printer that was begun.
+ * Gives: the marks, `length` of them, at the front of `marks`: none, one, or those of a repeat. `capacity` counts
+ * marks; PRINT1525_MARKS_OF_A_BYTE have room for those of any byte. Where the line ends, the printer's `y` grows.
+ * Refuses: NULL (80). Where the buffer is too small (91) the byte is not taken, and the printer is as it was. */
+PRINT1525_CALL int print1525_printer_byte(print1525_printer *printer, uint8_t byte, print1525_mark *marks,
+                                          size_t capacity, print1525_details *details);
+
+/* Gives a printer bytes, until the marks of one more have no room.
+ *
+ * Reads: a printer that was begun.
+ * Gives: in `taken` how many bytes it has taken; their marks, `length` of them, as print1525_printer_byte. Give it the
+ * rest again once the marks are used: each call takes a byte at least where `capacity` is PRINT1525_MARKS_OF_A_BYTE or
+ * more.
+ * Refuses, with all as it was: NULL (80) and OVERLAP (81). */
+PRINT1525_CALL int print1525_printer_bytes(print1525_printer *printer, const void *bytes, size_t length, size_t *taken,
+                                           print1525_mark *marks, size_t capacity, print1525_details *details);
+
+/* A region of the page in pixels, 120 to the inch across and 126 down, as in a PNG file: a dot is two by two, so the
+ * mark (x, y) begins in column 2x of line y. The page is 960 columns wide, and a row 14 lines high. */
+typedef struct {
+    uint64_t x;    /* the first column */
+    uint64_t y;    /* the first line, from the top of the paper: sheet n, from 0, begins at 1386 n */
+    size_t width;  /* how many columns */
+    size_t height; /* how many lines */
+} print1525_region;
+
+/* Gives the pixels of a region of the page with some marks.
+ *
+ * Reads: marks, in any order; a region, also beyond the page.
+ * Gives: `length` pixels, width * height, a byte each, line by line: 0 where a dot is, else 255. With all marks of a
+ * page whose lines have ended they are the pixels of its PNG file. Characters are this project's own. `capacity` counts
+ * pixels. It takes time for the marks and the pixels.
+ * Refuses: NULL (80), OVERLAP (81), and a region of 2^64 pixels or more (9). */
+PRINT1525_CALL int print1525_printer_page(const print1525_mark *marks, size_t length, const print1525_region *region,
+                                          uint8_t *pixels, size_t capacity, print1525_details *details);
+
+/* Draws marks over the pixels of a region: those where a dot is become 0, all others stay as they were. So a window
+ * draws the marks of each byte as they come, over a region that began with all pixels 255, and renders nothing again.
+ *
+ * Reads, gives and refuses: as print1525_printer_page. It takes time for the marks alone. */
+PRINT1525_CALL int print1525_printer_draw(const print1525_mark *marks, size_t length, const print1525_region *region,
+                                          uint8_t *pixels, size_t capacity, print1525_details *details);
+
 /* ------------------------------------------------------------------------------------------------------------ */
 /* The header's own code. No caller has to read on.                                                             */
 /* ------------------------------------------------------------------------------------------------------------ */
@@ -500,6 +599,9 @@ PRINT1525_OWN_SIZE(print1525_received, 3);
 PRINT1525_OWN_SIZE(print1525_receiver, 200);
 PRINT1525_OWN_SIZE(print1525_strict_place, 24);
 PRINT1525_OWN_SIZE(print1525_strict, 56);
+PRINT1525_OWN_SIZE(print1525_mark, 16);
+PRINT1525_OWN_SIZE(print1525_printer, 24);
+PRINT1525_OWN_SIZE(print1525_region, 32);
 #undef PRINT1525_OWN_SIZE
 
 /* The proved calls, as the library names them (tools/archive). Each slice is a pointer, which is not NULL, and a
@@ -544,6 +646,23 @@ void print1525_plain_decode_edge(print1525_decoder *decoder, const print1525_edg
                                  print1525_plain_answer *answer);
 void print1525_plain_decode_end(const print1525_decoder *decoder, print1525_reading *reading,
                                 print1525_plain_answer *answer);
+
+/* How many of some bytes a printer has taken, and how many marks they make. */
+typedef struct {
+    size_t taken;
+    size_t marks;
+} print1525_plain_run;
+
+void print1525_plain_printer_begin(print1525_printer *printer);
+void print1525_plain_printer_select(print1525_printer *printer, uint8_t set, print1525_plain_answer *answer);
+void print1525_plain_printer_byte(print1525_printer *printer, uint8_t byte, print1525_mark *marks, size_t capacity,
+                                  print1525_plain_answer *answer);
+void print1525_plain_printer_bytes(print1525_printer *printer, const uint8_t *bytes, size_t bytes_length,
+                                   print1525_mark *marks, size_t capacity, print1525_plain_run *run);
+void print1525_plain_printer_page(const print1525_mark *marks, size_t marks_length, const print1525_region *region,
+                                  uint8_t *pixels, size_t capacity, print1525_plain_answer *answer);
+void print1525_plain_printer_draw(const print1525_mark *marks, size_t marks_length, const print1525_region *region,
+                                  uint8_t *pixels, size_t capacity, print1525_plain_answer *answer);
 
 #ifdef __cplusplus
 #define PRINT1525_OWN inline
@@ -948,6 +1067,80 @@ PRINT1525_CALL int print1525_strict_edges(uint8_t device, const print1525_edge *
     print1525_plain_receive(device, edges == NULL ? &no_edge : edges, length, inputs == NULL ? nothing : inputs,
                             capacity, &answer);
     return print1525_own_answer(details, answer);
+}
+
+PRINT1525_CALL int print1525_printer_begin(print1525_printer *printer) {
+    if (printer == NULL) return PRINT1525_REFUSED;
+    print1525_plain_printer_begin(printer);
+    return PRINT1525_DONE;
+}
+
+PRINT1525_CALL int print1525_printer_select(print1525_printer *printer, uint8_t set) {
+    print1525_plain_answer answer;
+    if (printer == NULL) return PRINT1525_REFUSED;
+    print1525_plain_printer_select(printer, set, &answer);
+    return print1525_own_answer(NULL, answer);
+}
+
+PRINT1525_CALL int print1525_printer_byte(print1525_printer *printer, uint8_t byte, print1525_mark *marks,
+                                          size_t capacity, print1525_details *details) {
+    print1525_printer kept;
+    print1525_mark nothing[1];
+    print1525_plain_answer answer;
+    if (printer == NULL || (marks == NULL && capacity > 0))
+        return print1525_own_refuse(details, PRINT1525_FAULT_NULL_POINTER);
+    kept = *printer;
+    print1525_plain_printer_byte(&kept, byte, marks == NULL ? nothing : marks, capacity, &answer);
+    *printer = kept;
+    return print1525_own_answer(details, answer);
+}
+
+PRINT1525_CALL int print1525_printer_bytes(print1525_printer *printer, const void *bytes, size_t length, size_t *taken,
+                                           print1525_mark *marks, size_t capacity, print1525_details *details) {
+    const int fault = print1525_own_refused(bytes, length, marks, capacity * sizeof *marks);
+    print1525_printer kept;
+    print1525_mark nothing[1];
+    uint8_t no_byte = 0;
+    print1525_plain_run run;
+    if (printer == NULL || taken == NULL) return print1525_own_refuse(details, PRINT1525_FAULT_NULL_POINTER);
+    if (fault != PRINT1525_FAULT_NONE) return print1525_own_refuse(details, fault);
+    kept = *printer;
+    print1525_plain_printer_bytes(&kept, bytes == NULL ? &no_byte : PRINT1525_OWN_AS(const uint8_t *, bytes), length,
+                                  marks == NULL ? nothing : marks, capacity, &run);
+    *printer = kept;
+    *taken = run.taken;
+    return print1525_own_tell(details, PRINT1525_DONE, PRINT1525_FAULT_NONE, 0, 0, run.marks);
+}
+
+/* Marks as pixels, over those of the buffer or over paper. */
+PRINT1525_OWN int print1525_own_pixels(int over, const print1525_mark *marks, size_t length,
+                                       const print1525_region *region, uint8_t *pixels, size_t capacity,
+                                       print1525_details *details) {
+    const int fault = print1525_own_refused(marks, length * sizeof *marks, pixels, capacity);
+    print1525_region read;
+    print1525_mark no_mark = {0, 0, 0, 0, 0, 0, 0};
+    uint8_t nothing[1];
+    print1525_plain_answer answer;
+    if (region == NULL) return print1525_own_refuse(details, PRINT1525_FAULT_NULL_POINTER);
+    if (fault != PRINT1525_FAULT_NONE) return print1525_own_refuse(details, fault);
+    read = *region;
+    if (marks == NULL) marks = &no_mark;
+    if (pixels == NULL) pixels = nothing;
+    if (over)
+        print1525_plain_printer_draw(marks, length, &read, pixels, capacity, &answer);
+    else
+        print1525_plain_printer_page(marks, length, &read, pixels, capacity, &answer);
+    return print1525_own_answer(details, answer);
+}
+
+PRINT1525_CALL int print1525_printer_page(const print1525_mark *marks, size_t length, const print1525_region *region,
+                                          uint8_t *pixels, size_t capacity, print1525_details *details) {
+    return print1525_own_pixels(0, marks, length, region, pixels, capacity, details);
+}
+
+PRINT1525_CALL int print1525_printer_draw(const print1525_mark *marks, size_t length, const print1525_region *region,
+                                          uint8_t *pixels, size_t capacity, print1525_details *details) {
+    return print1525_own_pixels(1, marks, length, region, pixels, capacity, details);
 }
 
 #ifdef __cplusplus

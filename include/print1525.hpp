@@ -145,6 +145,38 @@ private:
     print1525_receiver state{};
 };
 
+// A printer that is watched: the marks that bytes make, as they come.
+class watched_printer {
+public:
+    void select(print1525_set set) { print1525_printer_select(&kept, static_cast<std::uint8_t>(set)); }
+    std::vector<print1525_mark> print(std::string_view bytes) {
+        std::vector<print1525_mark> marks;
+        print1525_mark made[PRINT1525_MARKS_OF_A_BYTE];
+        while (!bytes.empty()) {
+            print1525_details details{};
+            std::size_t taken = 0;
+            print1525_printer_bytes(&kept, bytes.data(), bytes.size(), &taken, made, PRINT1525_MARKS_OF_A_BYTE,
+                                    &details);
+            marks.insert(marks.end(), made, made + details.length);
+            bytes.remove_prefix(taken);
+        }
+        return marks;
+    }
+    const print1525_printer &state() const { return kept; }
+
+private:
+    print1525_printer kept{}; // a printer just begun
+};
+
+// The pixels of a region of the page with these marks, a byte each: 0 where a dot is, else 255.
+inline std::vector<std::uint8_t> pixels(const std::vector<print1525_mark> &marks, const print1525_region &region) {
+    std::vector<std::uint8_t> made(region.width * region.height);
+    print1525_details details{};
+    if (print1525_printer_page(marks.data(), marks.size(), &region, made.data(), made.size(), &details) != PRINT1525_DONE)
+        throw error(details);
+    return made;
+}
+
 } // namespace print1525
 
 #endif

@@ -79,9 +79,24 @@ static void recordings() {
     CHECK(message_of([&] { decoder.edge({0, 1, 1, 1}); }) == "time goes back");
 }
 
+static void watched_printers() {
+    print1525::watched_printer printer;
+    printer.select(PRINT1525_SET_LOWER);
+    std::vector<print1525_mark> marks = printer.print("A");
+    CHECK(marks.size() == 1 && marks[0].kind == PRINT1525_CELL && marks[0].value == 65 && marks[0].lower == 1 && marks[0].x == 0);
+    print1525::watched_printer copy = printer;
+    CHECK(printer.print("\r").empty() && printer.state().y == 21 && copy.state().y == 0);
+    marks = printer.print("\b\x1a\xff\x81\x1a\xff\x81");
+    CHECK(marks.size() == 510 && marks[479].x == 479 && marks[480].x == 0 && marks[480].y == 35 && marks[509].value == 1);
+    const std::vector<std::uint8_t> pixels = print1525::pixels(marks, {959, 21, 2, 3});
+    CHECK((pixels == std::vector<std::uint8_t>{0, 255, 0, 255, 255, 255}));
+    CHECK(message_of([&] { print1525::pixels(marks, {0, 0, SIZE_MAX, SIZE_MAX}); }) == print1525_strerror(PRINT1525_FAULT_TOO_LARGE));
+}
+
 int main(int, char **words) {
     texts();
     printers(words[1]);
     recordings();
+    watched_printers();
     return failed;
 }

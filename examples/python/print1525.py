@@ -161,6 +161,55 @@ def decode(edges):
         yield KINDS[reading.kind], reading
 
 
+class Mark(Structure):
+    """A mark on the paper: its row's distance from the top in 1/126 inch, its first dot column, and what it is."""
+
+    _fields_ = [("y", c_uint64), ("x", c_uint16)]
+    _fields_ += [(name, c_uint8) for name in ("kind", "value", "lower", "reverse", "wide")]
+
+
+class WatchedState(Structure):
+    _fields_ = [("y", c_uint64), ("x", c_uint16)]
+    _fields_ += [(name, c_uint8) for name in ("graphic", "wide", "reverse", "override_set", "lower", "pending", "parameter")]
+
+
+class Region(Structure):
+    _fields_ = [("x", c_uint64), ("y", c_uint64), ("width", c_size_t), ("height", c_size_t)]
+
+
+MARKS_OF_A_BYTE = 255
+_LIBRARY.print1525_printer_byte.argtypes = [POINTER(WatchedState), c_uint8, c_void_p, c_size_t, POINTER(Details)]
+_LIBRARY.print1525_printer_page.argtypes = [c_void_p, c_size_t, POINTER(Region), c_void_p, c_size_t, POINTER(Details)]
+
+
+class WatchedPrinter:
+    """A printer that is watched: the marks that bytes make, as they come."""
+
+    def __init__(self):
+        self.state = WatchedState()
+        _LIBRARY.print1525_printer_begin(byref(self.state))
+
+    def select(self, lower):
+        """Selects the lower/upper case set, or else the graphic/upper case set."""
+        _LIBRARY.print1525_printer_select(byref(self.state), c_uint8(bool(lower)))
+
+    def print(self, data):
+        """Gives the marks of each byte, in order."""
+        made, details = (Mark * MARKS_OF_A_BYTE)(), Details()
+        for byte in data:
+            _LIBRARY.print1525_printer_byte(byref(self.state), byte, made, MARKS_OF_A_BYTE, byref(details))
+            yield from (Mark.from_buffer_copy(it) for it in made[: details.length])
+
+
+def pixels(marks, x, y, width, height):
+    """The pixels of a region of the page with these marks, a byte each: 0 where a dot is, else 255."""
+    given, made, details = (Mark * len(marks))(*marks), ctypes.create_string_buffer(width * height), Details()
+    region = Region(x, y, width, height)
+    if _LIBRARY.print1525_printer_page(given, len(marks), byref(region), made, len(made), byref(details)):
+        raise ValueError(_message(details))
+    return made.raw
+
+
 def main(words):
     """The calls as commands."""
     calls = {"pages": pages, "bus": bus, "listing": listing, "raw": raw, "check": check}

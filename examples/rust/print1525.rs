@@ -350,3 +350,84 @@ impl Printer {
         text_of(print1525_print, &self.inputs, settings).map(|it| it.text)
     }
 }
+
+/// A mark on the paper: its row's distance from the top in 1/126 inch, its first dot column, and what it is.
+#[repr(C)]
+#[derive(Clone, Copy, Debug, Default, PartialEq, Eq)]
+pub struct Mark {
+    pub y: u64,
+    pub x: u16,
+    /// 0 a cell, 1 a column of dots.
+    pub kind: u8,
+    /// The code of a cell, or the dots of a column.
+    pub value: u8,
+    pub lower: u8,
+    pub reverse: u8,
+    pub wide: u8,
+}
+
+/// A printer that is watched: it gives the marks of each byte as it comes. Its default is a printer just begun.
+#[repr(C)]
+#[derive(Clone, Copy, Debug, Default, PartialEq, Eq)]
+pub struct WatchedPrinter {
+    /// The distance of its line from the top, in 1/126 inch.
+    pub y: u64,
+    /// The dot column to which the next mark goes.
+    pub x: u16,
+    modes: [u8; 7],
+}
+
+/// A region of the page in pixels: 120 to the inch across, 126 down.
+#[repr(C)]
+#[derive(Clone, Copy, Debug, PartialEq, Eq)]
+pub struct Region {
+    pub x: u64,
+    pub y: u64,
+    pub width: usize,
+    pub height: usize,
+}
+
+/// As many marks at most as a byte makes.
+pub const MARKS_OF_A_BYTE: usize = 255;
+
+const _: () = assert!(size_of::<Mark>() == 16 && size_of::<WatchedPrinter>() == 24 && size_of::<Region>() == 32);
+
+unsafe extern "C" {
+    fn print1525_printer_select(printer: *mut WatchedPrinter, set: u8) -> c_int;
+    fn print1525_printer_byte(p: *mut WatchedPrinter, byte: u8, to: *mut Mark, room: usize, d: *mut Details) -> c_int;
+    fn print1525_printer_draw(
+        marks: *const Mark,
+        length: usize,
+        region: *const Region,
+        pixels: *mut u8,
+        room: usize,
+        d: *mut Details,
+    ) -> c_int;
+}
+
+impl WatchedPrinter {
+    pub fn select(&mut self, set: Set) {
+        // SAFETY: the printer lives as long as the call.
+        unsafe { print1525_printer_select(self, set as u8) };
+    }
+
+    /// Prints a byte, and adds the marks that it makes.
+    pub fn print(&mut self, byte: u8, marks: &mut Vec<Mark>) {
+        let (mut made, mut details) = ([Mark::default(); MARKS_OF_A_BYTE], Details::default());
+        // SAFETY: the printer and the buffer live as long as the call, which writes no more marks than it is told.
+        unsafe { print1525_printer_byte(self, byte, made.as_mut_ptr(), made.len(), &mut details) };
+        marks.extend_from_slice(&made[..details.length]);
+    }
+}
+
+/// Draws marks over the pixels of a region, a byte each: 0 where a dot is; all others stay as they were.
+pub fn draw(marks: &[Mark], region: &Region, pixels: &mut [u8]) -> Result<(), Error> {
+    let mut details = Details::default();
+    // SAFETY: the slices live as long as the call, with these lengths.
+    match unsafe {
+        print1525_printer_draw(marks.as_ptr(), marks.len(), region, pixels.as_mut_ptr(), pixels.len(), &mut details)
+    } {
+        0 => Ok(()),
+        _ => Err(Error(details)),
+    }
+}

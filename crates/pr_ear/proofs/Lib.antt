@@ -5,3 +5,5 @@ pub mod StrictReceivers
 pub mod DecodersStored
 pub mod Decoded
 pub mod Receivers
+pub mod Printers
+pub mod Inked

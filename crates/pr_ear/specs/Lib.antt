@@ -8,3 +8,9 @@ pub mod ReceiverLeft
 pub mod Numbers
 pub mod Taken
 pub mod Strict
+pub mod MarkNumbers
+pub mod PrinterNumbers
+pub mod Printing
+pub mod PrintingSteps
+pub mod Drawing
+pub mod Inking

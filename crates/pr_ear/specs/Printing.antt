@@ -16,7 +16,8 @@ use Rattle.pr_ear.specs.declared.printer_numbers.WirePrinter.{WirePrinter}
 use Rattle.pr_ear.specs.declared.printing.Printed.{Printed}
 use Rattle.pr_ear.specs.declared.printing.Printed.TheVariants.{Marks, TooSmall}
 use Rattle.pr_ear.specs.declared.printing.Run.{Run}
-use Rattle.pr_ear.specs.PrinterNumbers.{mark_numbers, stored}
+use Rattle.pr_ear.specs.MarkNumbers.{mark_numbers}
+use Rattle.pr_ear.specs.PrinterNumbers.{stored}
 
 -- the printer was begun, has taken these inputs and no others, and has made these marks, all in this order
 pub record HasPrinted (inputs : List Input) (marks : List MarkOnPaper) (w : WirePrinter) : Type 0 where

@@ -1,4 +1,4 @@
-//! What a device hears of a bus, for C programs: over the caller's memory alone.
+//! What a device hears of a bus, and what a printer makes of each byte, for C programs: over the caller's memory alone.
 //!
 //! A [`WireReceiver`] takes the edges of any bus as they come, and lies in the caller's memory between
 //! two edges; the headline is on [`print1525_receiver_edge`]. [`print1525_receive`] takes a whole
@@ -11,6 +11,8 @@
 //!   `decoder_numbers`, since no enum crosses to C. `receiving` is a device over it.
 //! - `strict` is a device on a bus that is lawful by the profile; `numbers` stores and restores its
 //!   `standing`.
+//! - `printing` is a printer that is watched: each byte brings the marks that it makes. `printer_numbers` stores and
+//!   restores it, and has marks as numbers. `drawing` makes pixels of marks.
 //!
 //! All numbers mean some state, so nothing that a caller has saved is refused. What is stored is what is
 //! restored.
@@ -29,7 +31,10 @@ ghost use Rattle.pr_ear.specs.declared.Told.TheVariants.{Unlawful};
 
 mod decoder_numbers;
 mod decoding;
+mod drawing;
 mod numbers;
+mod printer_numbers;
+mod printing;
 mod receiving;
 mod standing;
 mod strict;
@@ -39,10 +44,19 @@ pub use decoding::{
     begin_decoder, decode_edge, end_decoder, print1525_decode_begin, print1525_decode_edge,
     print1525_decode_end,
 };
+pub use drawing::{
+    Drawn, Region, draw_marks, draw_page, marks_have_the_pages_dots, print1525_printer_draw,
+    print1525_printer_page,
+};
 pub use numbers::{PlaceNumbers, StrictReceiver, standings_come_back};
 use pr_page::Input;
 use pr_receiver::{Receiver, inputs_add_up, traces_give_what_is_heard};
 use pr_wire::{Edge, Levels, WaveFault, allowed_traces, lawful_traces};
+pub use printer_numbers::{WireMark, WirePrinter, printers_come_back};
+pub use printing::{
+    Printed, Run, print_byte, print_bytes, print1525_printer_begin, print1525_printer_byte,
+    print1525_printer_bytes, print1525_printer_select, printers_print_pages, select_set,
+};
 pub use receiving::{
     Received, WireReceived, WireReceiver, begin_receiver, print1525_receiver_begin,
     print1525_receiver_edge, receive_edge, receivers_hear_what_is_printed,

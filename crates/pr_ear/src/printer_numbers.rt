@@ -2,7 +2,8 @@
 
 ghost use Rattle.std.specs.Prelude.{◌≡◌, ◌≤◌, ◌^◌, Bool, Option};
 ghost use Rattle.pr_page.specs.declared.pending.Pending.{Pending};
-ghost use Rattle.pr_ear.specs.PrinterNumbers.{PrintersComeBack, head_by, mark_by, mark_numbers, override_by, override_number, parameter_of, pending_by, pending_number, stored};
+ghost use Rattle.pr_ear.specs.MarkNumbers.{mark_by, mark_numbers};
+ghost use Rattle.pr_ear.specs.PrinterNumbers.{PrintersComeBack, head_by, override_by, override_number, parameter_of, pending_by, pending_number, stored};
 
 use crate::numbers::bit;
 use pr_page::{Carriage, Head, LAST_LINE, LINE_DOTS, Mark, MarkOnPaper, Pending, Settings};

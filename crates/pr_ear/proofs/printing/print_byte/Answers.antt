@@ -1,0 +1,7 @@
+use Rattle.std.proofs.Common.{[], refl}
+use Rattle.pr_ear.proofs.Printers.{laid-none, printed-first}
+use Rattle.pr_ear.proofs.printing.print_byte.Goals as goal
+
+pub returns-clause-printed : goal.returns-clause-printed
+returns-clause-printed c =
+    λ inputs marks few h. printed-first inputs marks c.args.byte c.print_at.result _ _ _ _ (c.print_at.ensures.printed inputs marks [] c.args.out.now few h refl (laid-none c.args.out.now))

@@ -1,0 +1,27 @@
+-- Machine steps: marks that are put after others. No reader needs to believe them.
+use Rattle.std.specs.Prelude.{◌≡◌, ℕ, ◌+◌, ◌<◌, ◌≤◌, List, [], ◌∷◌, ◌++◌, length}
+use Rattle.pr_page.specs.declared.carriage.MarkOnPaper.{MarkOnPaper}
+use Rattle.pr_page.specs.declared.input.Input.{Input}
+use Rattle.pr_page.specs.declared.input.Input.TheVariants.{Byte}
+use Rattle.pr_ear.specs.declared.printer_numbers.WireMark.{WireMark}
+use Rattle.pr_ear.specs.declared.printer_numbers.WirePrinter.{WirePrinter}
+use Rattle.pr_ear.specs.declared.printing.Printed.{Printed}
+use Rattle.pr_ear.specs.declared.printing.Printed.TheVariants.{Marks, TooSmall}
+use Rattle.pr_ear.specs.Printing.{HasPrinted, IsLaid, Makes}
+
+-- a byte was taken, and its marks put after others; or the buffer is too small, and all is as it was
+abbrev pub IsPrintedAt :
+    List Input → (marks laid : List MarkOnPaper) → List WireMark → ℕ → Printed → (old new : WirePrinter)
+    → (before after : List WireMark) → Type 0
+IsPrintedAt inputs marks laid first b (Marks n) old new before after =
+    (made : List MarkOnPaper) × HasPrinted (inputs ++ Byte b ∷ []) (marks ++ made) new
+    × IsLaid (laid ++ made) first after × (n ≡ length made)
+IsPrintedAt inputs marks laid first b (TooSmall n) old new before after =
+    (made : List MarkOnPaper) × Makes inputs (Byte b ∷ []) marks made × (n ≡ length made)
+    × (length before < length laid + n) × (new ≡ old) × (after ≡ before)
+
+-- whatever numbers a printer has: the marks have room, or all is as it was; a byte makes at most 255 marks
+abbrev pub IsAnyPrinted : ℕ → Printed → (old new : WirePrinter) → (before after : List WireMark) → Type 0
+IsAnyPrinted at (Marks n) old new before after = (n ≤ 255) × (at + n ≤ length before)
+IsAnyPrinted at (TooSmall n) old new before after =
+    (n ≤ 255) × (length before < at + n) × (new ≡ old) × (after ≡ before)
