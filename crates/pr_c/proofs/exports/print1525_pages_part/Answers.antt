@@ -1,0 +1,4 @@
+use Rattle.pr_c.proofs.exports.print1525_pages_part.Goals as goal
+
+pub returns-clause-tells : goal.returns-clause-tells
+returns-clause-tells c = (c.shapes_for-shapes.result, c.shapes_for-shapes.ensures, c.tell_pages.ensures.tells)
