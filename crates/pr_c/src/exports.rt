@@ -346,9 +346,9 @@ pub extern "C" fn print1525_raw_part(
         TellsRaw (lower_of set) (shown_of format device sheet) shapes bytes.now out.old out.new answer.new) }
     ensures length { length out.new ≡ length out.old }
 {
-    let shown = shown_for(format, device, sheet);
+    let part = shown_for(format, device, sheet);
     let shapes = shapes_for(characters);
-    tell_raw(alloc, bytes, set, shown, shapes, out, answer);
+    tell_raw(alloc, bytes, set, part, shapes, out, answer);
 }
 
 /// Puts the page of a printer's inputs at the front of the caller's buffer, in plain numbers.
@@ -434,9 +434,9 @@ pub extern "C" fn print1525_print_part(
         TellsPrint (shown_of format device sheet) shapes inputs.now out.old out.new answer.new) }
     ensures length { length out.new ≡ length out.old }
 {
-    let shown = shown_for(format, device, sheet);
+    let part = shown_for(format, device, sheet);
     let shapes = shapes_for(characters);
-    tell_print(alloc, inputs, shown, shapes, out, answer);
+    tell_print(alloc, inputs, part, shapes, out, answer);
 }
 
 /// Puts the frames that a trace text spells at the front of the caller's buffer.
